@@ -1,0 +1,7 @@
+pub mod BegunLemmas
+pub mod CountLemmas
+pub mod DateLemmas
+pub mod DayTextLemmas
+pub mod MonthLemmas
+pub mod NumberLemmas
+pub mod RateFacts

@@ -1,0 +1,4 @@
+pub mod Calendar
+pub mod Numbers
+pub mod Rates
+pub mod Texts
