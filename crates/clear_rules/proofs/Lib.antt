@@ -1,0 +1,6 @@
+pub mod JudgedLemmas
+pub mod KeyedLemmas
+pub mod LimitLemmas
+pub mod ListLemmas
+pub mod StandsLemmas
+pub mod TwiceLemmas

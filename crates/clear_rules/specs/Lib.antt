@@ -1,0 +1,12 @@
+pub mod Accounts
+pub mod Book
+pub mod Decisions
+pub mod Judge
+pub mod Keyed
+pub mod Laws
+pub mod Machine
+pub mod Ranges
+pub mod RequestNos
+pub mod Rules
+pub mod Tables
+pub mod Texts

@@ -1,0 +1,24 @@
+-- The values that requests may hold.
+use Rattle.std.specs.Prelude.{◌<◌, ◌^◌}
+use Rattle.std.specs.List.{AllByRecursion}
+use Rattle.clear_money.specs.Calendar.{IsMonth}
+use Rattle.clear_money.specs.Numbers.{IsEmployerNo, IsWorkerNo}
+use Rattle.clear_rules.specs.RequestNos.{IsRequestNo}
+use Rattle.clear_rules.specs.Texts.{IsName}
+use Rattle.clear_rules.specs.declared.texts.WageLine.{WageLine}
+use Rattle.clear_rules.specs.declared.calls.Command.{Command}
+use Rattle.clear_rules.specs.declared.calls.Command.TheVariants.{Register, Report}
+use Rattle.clear_rules.specs.declared.calls.Call.{Call}
+use Rattle.clear_rules.specs.declared.calls.Call.TheVariants.{Do, Ask}
+
+-- any gross amount of 64 bits may be asked
+abbrev pub IsWageLine : WageLine → Type 0
+IsWageLine line = IsWorkerNo line.worker × (line.gross < 2 ^ 64)
+
+abbrev pub IsCommand : Command → Type 0
+IsCommand (Register r) = IsEmployerNo r.employer × IsName r.name × IsMonth r.start
+IsCommand (Report r) = IsEmployerNo r.employer × IsMonth r.month × AllByRecursion IsWageLine r.lines
+
+abbrev pub IsCall : Call → Type 0
+IsCall (Do caller number day command) = IsRequestNo number × IsCommand command
+IsCall (Ask caller day query) = Unit {0}

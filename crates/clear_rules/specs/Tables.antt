@@ -1,0 +1,89 @@
+-- The tables that stand for a book: rows by their keys.
+use Rattle.std.specs.Prelude.{◌≡◌, ℕ, ◌+◌, List, [], ◌∷◌, Option, Some, None, ◌==◌, if◌then◌else◌, length}
+use Rattle.std.specs.Option.{option_map}
+use Rattle.clear_money.specs.Rates.{Rate}
+use Rattle.clear_rules.specs.declared.texts.WageLine.{WageLine}
+use Rattle.clear_rules.specs.declared.rows.EmployerRow.{EmployerRow}
+use Rattle.clear_rules.specs.declared.rows.ReportRow.{ReportRow}
+use Rattle.clear_rules.specs.declared.rows.WageRow.{WageRow}
+use Rattle.clear_rules.specs.declared.rows.Change.{Change}
+use Rattle.clear_rules.specs.declared.rows.Change.TheVariants.{AddEmployer, AddReport}
+use Rattle.clear_rules.specs.Book.{Book, Entry, Member, rates_of, ledger_day, member_of, employer_count, latest_lines, version_of}
+use Rattle.clear_rules.specs.Keyed.{find_row, with_row, AreInOrder}
+
+-- each table but the rates in the order of its keys
+pub record Tables : Type 0 where
+  pub rates : List Rate
+  pub employers : List EmployerRow
+  pub reports : List ReportRow
+  pub wages : List WageRow
+  pub day : Option ℕ
+  pub entries : ℕ
+
+-- ---- keys
+
+abbrev pub employer_key : EmployerRow → List ℕ
+employer_key row = row.employer ∷ []
+
+abbrev pub report_key : ReportRow → List ℕ
+report_key row = row.employer ∷ row.month ∷ []
+
+abbrev pub wage_key : WageRow → List ℕ
+wage_key row = row.employer ∷ row.month ∷ row.worker ∷ []
+
+-- ---- look-ups
+
+abbrev pub member_at : List EmployerRow → ℕ → Option Member
+member_at rows e = option_map (λ row. record { name = row.name; start = row.start }) (find_row employer_key rows (e ∷ []))
+
+-- the version of a month's latest report
+abbrev pub version_at : List ReportRow → ℕ → ℕ → Option ℕ
+version_at rows e m = option_map (λ row. row.version) (find_row report_key rows (e ∷ m ∷ []))
+
+abbrev pub reported_version : List Entry → ℕ → ℕ → Option ℕ
+reported_version xs e m = option_map (λ lines. version_of xs e m) (latest_lines xs e m)
+
+-- the gross amount of a worker in a month's latest report
+abbrev pub gross_at : List WageRow → ℕ → ℕ → ℕ → Option ℕ
+gross_at rows e m w = option_map (λ row. row.gross) (find_row wage_key rows (e ∷ m ∷ w ∷ []))
+
+-- the gross amount of a worker's line
+abbrev pub gross_of : List WageLine → ℕ → Option ℕ
+gross_of [] w = None
+gross_of (line ∷ lines) w = if line.worker == w then Some line.gross else gross_of lines w
+
+abbrev pub reported_gross : Option (List WageLine) → ℕ → Option ℕ
+reported_gross None w = None
+reported_gross (Some lines) w = gross_of lines w
+
+-- ---- the tables of a book, row by row
+
+pub record Stands (b : Book) (t : Tables) : Type 0 where
+  pub rates : t.rates ≡ rates_of b
+  pub day : t.day ≡ ledger_day b.entries
+  pub entries : t.entries ≡ length b.entries
+  pub employers : (e : ℕ) → member_at t.employers e ≡ member_of b.entries e
+  pub employer_rows : length t.employers ≡ employer_count b.entries
+  pub employers_in_order : AreInOrder employer_key t.employers
+  pub reports : (e m : ℕ) → version_at t.reports e m ≡ reported_version b.entries e m
+  pub reports_in_order : AreInOrder report_key t.reports
+  pub wages : (e m w : ℕ) → gross_at t.wages e m w ≡ reported_gross (latest_lines b.entries e m) w
+  pub wages_in_order : AreInOrder wage_key t.wages
+
+-- ---- changes
+
+-- the wage rows and one for each line of a month's report
+abbrev pub with_wages : ℕ → ℕ → List WageLine → List WageRow → List WageRow
+with_wages e m [] rows = rows
+with_wages e m (line ∷ lines) rows =
+    with_wages e m lines (with_row wage_key rows (record { employer = e; month = m; worker = line.worker; gross = line.gross }))
+
+-- what a decision changes
+abbrev pub changed : Change → Tables → Tables
+changed (AddEmployer row) t = record t { employers = with_row employer_key t.employers row }
+changed (AddReport row lines) t =
+    record t { reports = with_row report_key t.reports row; wages = with_wages row.employer row.month lines t.wages }
+
+-- what is noted of each accepted request besides: its day, and that it is one more
+abbrev pub noted : ℕ → Tables → Tables
+noted day t = record t { day = Some day; entries = t.entries + 1 }
