@@ -5,3 +5,5 @@ pub mod DayTextLemmas
 pub mod MonthLemmas
 pub mod NumberLemmas
 pub mod RateFacts
+pub mod RateFileLemmas
+pub mod WrittenRateLemmas

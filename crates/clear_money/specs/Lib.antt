@@ -1,4 +1,6 @@
 pub mod Calendar
 pub mod Numbers
+pub mod RateFile
 pub mod Rates
 pub mod Texts
+pub mod WrittenRate

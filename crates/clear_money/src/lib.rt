@@ -9,4 +9,7 @@
 pub mod days;
 pub mod months;
 pub mod numbers;
+pub mod rate_file;
 pub mod rates;
+#[cfg(test)]
+mod tests;

@@ -16,7 +16,7 @@ use Rattle.clear_rules.specs.declared.outcomes.Rule.TheVariants.{Memory, OverLim
 use Rattle.clear_rules.specs.declared.outcomes.Outcome.{Outcome}
 use Rattle.clear_rules.specs.declared.outcomes.Outcome.TheVariants.{Replied, Answered, Refused}
 use Rattle.clear_rules.specs.Accounts.{Charge, base_of, charge_at, charge_of, charged_for, charge_in, charged, months}
-use Rattle.clear_rules.specs.Book.{Book, Entry, rates_of, newer, reported_by, latest_lines, member_of, start_of, version_of}
+use Rattle.clear_rules.specs.Book.{Book, Entry, rates_of, newer, reported_by, latest_lines, member_of, start_of, reported_version}
 use Rattle.clear_rules.specs.Judge.{first_of, when, judge, most_entries, own_rule, own_report, month_rule, lines_rule, twice_rule, worker_twice, most_lines, most_gross}
 use Rattle.clear_rules.specs.Laws.{AreFew, IsSmall}
 use Rattle.clear_rules.specs.Machine.{AreJudged, IsLawful, AreRates, after, step, is_allowed, Takes, Runs}
@@ -53,7 +53,7 @@ none_large (l ∷ ls) h =
 at_most : (n : ℕ) → nat_lt 500 n ≡ false → n ≤ 500
 at_most n h = grind (arith, nat_tests)
 
-few_lines : (start : Option ℕ) (version t m : ℕ) (lines : List WageLine) → own_report start version t m lines ≡ None → AreFew lines
+few_lines : (start version : Option ℕ) (t m : ℕ) (lines : List WageLine) → own_report start version t m lines ≡ None → AreFew lines
 few_lines start version t m lines h =
     let rule = second (month_rule start version t m) (lines_rule lines) h in
     let k = last_two (twice_rule (worker_twice [] lines)) (nat_lt most_lines (length lines)) (list_any (λ line. nat_lt most_gross line.gross) lines) (OverLimit Lines) (OverLimit Gross) rule in
@@ -61,21 +61,21 @@ few_lines start version t m lines h =
 
 -- ---- each latest report of a lawful book is within the limits
 
-latest_means : (o old : Option (List WageLine)) (lines : List WageLine) → newer o old ≡ Some lines → (o ≡ Some lines) ⊎ (old ≡ Some lines)
+pub latest_means : (o old : Option (List WageLine)) (lines : List WageLine) → newer o old ≡ Some lines → (o ≡ Some lines) ⊎ (old ≡ Some lines)
 latest_means None old lines h = inr h
 latest_means (Some x) old lines h = inl h
 
 reported_few : (b : Book) (t : ℕ) (command : Command) (e m : ℕ) (lines : List WageLine) → own_rule b t command ≡ None → reported_by command e m ≡ Some lines → AreFew lines
 reported_few b t (Register r) e m lines own h = absurd (cc)
 reported_few b t (Report r) e m lines own h =
-    chosen ((r.employer == e) && (r.month == m)) h (few_lines (start_of (member_of b.entries r.employer)) (version_of b.entries r.employer r.month) t r.month r.lines own)
+    chosen ((r.employer == e) && (r.month == m)) h (few_lines (start_of (member_of b.entries r.employer)) (reported_version b.entries r.employer r.month) t r.month r.lines own)
   where
     chosen : (b : Bool) → cond b (Some r.lines) None ≡ Some lines → AreFew r.lines → AreFew lines
     chosen true h few = subst AreFew (cc) few
     chosen false h few = absurd (cc)
 
 -- no check applies to an entry of a lawful book
-accepted : (rates : List Rate) (x : Entry) (xs : List Entry) → AreJudged rates (x ∷ xs) → (nat_le most_entries (length xs) ≡ false) × (own_rule (record { opening = rates; entries = xs }) x.day x.command ≡ None)
+pub accepted : (rates : List Rate) (x : Entry) (xs : List Entry) → AreJudged rates (x ∷ xs) → (nat_le most_entries (length xs) ≡ false) × (own_rule (record { opening = rates; entries = xs }) x.day x.command ≡ None)
 accepted rates x xs h =
     let b : Book = record { opening = rates; entries = xs } in
     unrefused b x.caller x.number x.day x.command x.reply h.3
@@ -151,10 +151,10 @@ charge_small b e m c low is = told (latest_lines b.entries e m) low is
     told : (o : Option (List WageLine)) → ((lines : List WageLine) → o ≡ Some lines → charge_at (rate_in_force b.opening m) lines ≤ 5000000000) → charged_for b m o ≡ Some c → c.cents ≤ 5000000000
     told None low is = absurd (cc)
     told (Some lines) low is =
-        let same : charge_of (rates_of b) m lines ≡ c = cc in
+        let same : charge_of (rates_of b) m (base_of lines) ≡ c = cc in
         subst (λ (k : Charge). k.cents ≤ 5000000000) same (low lines refl)
 
-months_are : (n : ℕ) → n ≡ 2400 → months ≡ range_with_len 24000 n
+pub months_are : (n : ℕ) → n ≡ 2400 → months ≡ range_with_len 24000 n
 unfolding months
 months_are n e = subst (λ (k : ℕ). months ≡ range_with_len 24000 k) (sym e) refl
 

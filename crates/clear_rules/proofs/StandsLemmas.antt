@@ -22,8 +22,8 @@ use Rattle.clear_rules.specs.declared.rows.EmployerRow.{EmployerRow}
 use Rattle.clear_rules.specs.declared.rows.ReportRow.{ReportRow}
 use Rattle.clear_rules.specs.declared.rows.WageRow.{WageRow}
 use Rattle.clear_rules.specs.declared.rows.Change.TheVariants.{AddEmployer, AddReport}
-use Rattle.clear_rules.specs.Book.{Book, Entry, Member, start_of, newer, registered_by, member_of, is_registration, reported_by, latest_lines, is_report_of, version_of}
-use Rattle.clear_rules.specs.Judge.{judge, own_register, own_report, month_rule, lines_rule, first_of, when, is_outside, twice_rule, worker_twice, most_lines, most_gross}
+use Rattle.clear_rules.specs.Book.{Book, Entry, Member, start_of, newer, registered_by, member_of, is_registration, reported_by, latest_lines, is_report_of, version_of, reported_version}
+use Rattle.clear_rules.specs.Judge.{judge, own_register, own_report, month_rule, lines_rule, first_of, when, is_outside, twice_rule, exists_rule, worker_twice, most_lines, most_gross}
 use Rattle.clear_rules.specs.Keyed.{is_key, find_row, with_row, AreInOrder}
 use Rattle.clear_rules.specs.Machine.{step, after, appended}
 use Rattle.clear_rules.specs.Tables.{Tables, Stands, employer_key, report_key, wage_key, gross_at, gross_of, reported_gross, with_wages, changed, noted}
@@ -56,20 +56,10 @@ no_report (Report r) e m h = ap (λ b. cond b (Some r.lines) None) h
 
 a_report : (command : Command) (e m : ℕ) → is_report_of e m command ≡ true → reported_by command e m ≡ None → ⊥
 a_report (Register r) e m h n = cc
-a_report (Report r) e m h n = cc (ap (λ b. cond b (Some r.lines) None) h)
+a_report (Report r) e m h n = cc
 
--- a month of version 0 has no report, and a month without one is of version 0
-pub latest_lines-none : (xs : List Entry) (e m : ℕ) → version_of xs e m ≡ 0 → latest_lines xs e m ≡ None
-latest_lines-none [] e m h = refl
-latest_lines-none (x ∷ xs) e m h = told (latest_lines-none xs e m) (is_report_of e m x.command) refl
-  where
-    told : (version_of xs e m ≡ 0 → latest_lines xs e m ≡ None) → (b : Bool) → is_report_of e m x.command ≡ b → latest_lines (x ∷ xs) e m ≡ None
-    told rest true is = absurd (omega (arith, version_of-more xs x e m is))
-    told rest false is =
-        ap (λ (o : Option (List WageLine)). newer o (latest_lines xs e m)) (no_report x.command e m is)
-        ∙ rest (sym (version_of-other xs x e m is) ∙ h)
-
-pub version_of-none : (xs : List Entry) (e m : ℕ) → latest_lines xs e m ≡ None → version_of xs e m ≡ 0
+-- a month without a report is of version 0
+version_of-none : (xs : List Entry) (e m : ℕ) → latest_lines xs e m ≡ None → version_of xs e m ≡ 0
 version_of-none [] e m h = refl
 version_of-none (x ∷ xs) e m h = told (version_of-none xs e m) (is_report_of e m x.command) refl
   where
@@ -131,7 +121,7 @@ module _ (b : Book) (t : Tables) (stands : Stands b t) (caller : Caller) (number
 
 -- ---- a report's lines, each for a worker of its own
 
-abbrev AreDistinct : List WageLine → Type 0
+abbrev pub AreDistinct : List WageLine → Type 0
 AreDistinct [] = Unit {0}
 AreDistinct (line ∷ lines) = (gross_of lines line.worker ≡ None) × AreDistinct lines
 
@@ -161,10 +151,10 @@ last_in w (y ∷ xs) x h = told (last_in w xs x h) (is_worker w y)
     told rest true = refl
     told rest false = rest
 
-same_worker : (a b : ℕ) → a == b ≡ true → a ≡ b
+pub same_worker : (a b : ℕ) → a == b ≡ true → a ≡ b
 same_worker a b h = grind (arith, nat_tests)
 
-itself : (w : ℕ) → w == w ≡ true
+pub itself : (w : ℕ) → w == w ≡ true
 itself w = grind (arith, nat_tests)
 
 -- no line is for a worker of an earlier one
@@ -178,7 +168,7 @@ gross_of-earlier w earlier (line ∷ lines) h there =
     told true is apart rest = absurd (cc (subst (λ (v : ℕ). list_any (is_worker v) earlier ≡ true) (sym (same_worker line.worker w is)) there))
     told false is apart rest = ap (λ b. cond b (Some line.gross) (gross_of lines w)) is ∙ rest
 
-distinct : (earlier lines : List WageLine) → worker_twice earlier lines ≡ None → AreDistinct lines
+pub distinct : (earlier lines : List WageLine) → worker_twice earlier lines ≡ None → AreDistinct lines
 distinct earlier [] h = tt
 distinct earlier (line ∷ lines) h =
     let parts = untwice earlier line lines h in
@@ -243,12 +233,12 @@ module _ (e m : ℕ) where
 
 -- ---- a report
 
-fourth : (x y z : Option Rule) (b : Bool) (r : Rule) → first_of (x ∷ y ∷ z ∷ when b r ∷ []) ≡ None → b ≡ false
-fourth None None None false r h = refl
-fourth None None None true r h = absurd (cc)
-fourth None None (Some z) b r h = absurd (cc)
-fourth None (Some y) z b r h = absurd (cc)
-fourth (Some x) y z b r h = absurd (cc)
+fourth : (x y z : Option Rule) (version : Option ℕ) → first_of (x ∷ y ∷ z ∷ exists_rule version ∷ []) ≡ None → version ≡ None
+fourth None None None None h = refl
+fourth None None None (Some v) h = absurd (cc)
+fourth None None (Some z) v h = absurd (cc)
+fourth None (Some y) z v h = absurd (cc)
+fourth (Some x) y z v h = absurd (cc)
 
 both : (x y : Option Rule) → first_of (x ∷ y ∷ []) ≡ None → (x ≡ None) × (y ≡ None)
 both None None h = (refl, refl)
@@ -263,15 +253,12 @@ not_twice : (o : Option ℕ) → twice_rule o ≡ None → o ≡ None
 not_twice None h = refl
 not_twice (Some w) h = absurd (cc)
 
-pub unreported : (start : Option ℕ) (version t m : ℕ) (lines : List WageLine) → own_report start version t m lines ≡ None → version ≡ 0
+pub unreported : (start version : Option ℕ) (t m : ℕ) (lines : List WageLine) → own_report start version t m lines ≡ None → version ≡ None
 unreported start version t m lines h =
-    let month = (both (month_rule start version t m) (lines_rule lines) h).0 in
-    none version (fourth (when (not (is_some start)) UnknownEmployer) (when (is_outside start m) MonthOutside) (when (nat_lt (month_of t) m) MonthAhead) (nat_lt 0 version) (ReportExists version) month)
-  where
-    none : (n : ℕ) → nat_lt 0 n ≡ false → n ≡ 0
-    none n k = grind (arith, nat_tests)
+    fourth (when (not (is_some start)) UnknownEmployer) (when (is_outside start m) MonthOutside) (when (nat_lt (month_of t) m) MonthAhead) version
+    (both (month_rule start version t m) (lines_rule lines) h).0
 
-untwiced : (start : Option ℕ) (version t m : ℕ) (lines : List WageLine) → own_report start version t m lines ≡ None → worker_twice [] lines ≡ None
+pub untwiced : (start version : Option ℕ) (t m : ℕ) (lines : List WageLine) → own_report start version t m lines ≡ None → worker_twice [] lines ≡ None
 untwiced start version t m lines h =
     let rule = (both (month_rule start version t m) (lines_rule lines) h).1 in
     not_twice (worker_twice [] lines) (first (twice_rule (worker_twice [] lines)) (when (nat_lt most_lines (length lines)) (OverLimit Lines)) (when (list_any (λ line. nat_lt most_gross line.gross) lines) (OverLimit Gross)) rule)
@@ -279,7 +266,7 @@ untwiced start version t m lines h =
 abbrev version_in : ReportRow → ℕ
 version_in row = row.version
 
-key_is : (a b c d : ℕ) → (a == b) && (c == d) ≡ true → (a ≡ b) × (c ≡ d)
+pub key_is : (a b c d : ℕ) → (a == b) && (c == d) ≡ true → (a ≡ b) × (c ≡ d)
 key_is a b c d h = (grind (arith, nat_tests), grind (arith, nat_tests))
 
 module _ (b : Book) (t : Tables) (stands : Stands b t) (caller : Caller) (number day : ℕ) where
@@ -290,17 +277,17 @@ module _ (b : Book) (t : Tables) (stands : Stands b t) (caller : Caller) (number
     abbrev report : Entry
     report = record { caller = caller; number = number; day = day; command = Report r; reply = reply }
 
-    version_none : version_of b.entries r.employer r.month ≡ 0
-    version_none = unreported (start_of (member_of b.entries r.employer)) (version_of b.entries r.employer r.month) day r.month r.lines (unrefused b caller number day (Report r) reply judged).1
-
     no_lines : latest_lines b.entries r.employer r.month ≡ None
-    no_lines = latest_lines-none b.entries r.employer r.month version_none
+    no_lines = no_map _ _ (unreported (start_of (member_of b.entries r.employer)) (reported_version b.entries r.employer r.month) day r.month r.lines (unrefused b caller number day (Report r) reply judged).1)
+
+    version_none : version_of b.entries r.employer r.month ≡ 0
+    version_none = version_of-none b.entries r.employer r.month no_lines
 
     no_report_row : find_row report_key t.reports (r.employer ∷ r.month ∷ []) ≡ None
     no_report_row = no_map version_in _ (stands.reports r.employer r.month ∙ ap (option_map (λ lines. version_of b.entries r.employer r.month)) no_lines)
 
     lines_distinct : AreDistinct r.lines
-    lines_distinct = distinct [] r.lines (untwiced (start_of (member_of b.entries r.employer)) (version_of b.entries r.employer r.month) day r.month r.lines (unrefused b caller number day (Report r) reply judged).1)
+    lines_distinct = distinct [] r.lines (untwiced (start_of (member_of b.entries r.employer)) (reported_version b.entries r.employer r.month) day r.month r.lines (unrefused b caller number day (Report r) reply judged).1)
 
     lines_new : AreNew r.employer r.month t.wages r.lines
     lines_new = all_new r.employer r.month t.wages r.lines (λ w. stands.wages r.employer r.month w ∙ ap (λ (o : Option (List WageLine)). reported_gross o w) no_lines)

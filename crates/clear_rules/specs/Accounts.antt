@@ -10,9 +10,12 @@ use Rattle.clear_rules.specs.Book.{Book, rates_of, latest_lines}
 abbrev pub base_of : List WageLine → ℕ
 base_of lines = sum_by (λ line. line.gross) lines
 
--- the contribution for a report's lines at a rate row, and 0 where none is in force
+-- the contribution for a base at a rate row, and 0 where none is in force
+abbrev pub charge_on : Option Rate → ℕ → ℕ
+charge_on rate base = option_map_or (λ r. contribution_of base r.contribution) rate 0
+
 abbrev pub charge_at : Option Rate → List WageLine → ℕ
-charge_at rate lines = option_map_or (λ r. contribution_of (base_of lines) r.contribution) rate 0
+charge_at rate lines = charge_on rate (base_of lines)
 
 -- a month's contribution, with the day on which it is due
 pub record Charge : Type 0 where
@@ -20,13 +23,16 @@ pub record Charge : Type 0 where
   pub due : ℕ
   pub cents : ℕ
 
-abbrev pub charge_of : List Rate → ℕ → List WageLine → Charge
-charge_of rates m lines =
-    record { month = m; due = option_map_or (due_day_of m) (rate_in_force rates m) 0; cents = charge_at (rate_in_force rates m) lines }
+-- the day on which a month's contribution is due
+abbrev pub due_at : List Rate → ℕ → ℕ
+due_at rates m = option_map_or (due_day_of m) (rate_in_force rates m) 0
+
+abbrev pub charge_of : List Rate → ℕ → ℕ → Charge
+charge_of rates m base = record { month = m; due = due_at rates m; cents = charge_on (rate_in_force rates m) base }
 
 abbrev pub charged_for : Book → ℕ → Option (List WageLine) → Option Charge
 charged_for b m None = None
-charged_for b m (Some lines) = Some (charge_of (rates_of b) m lines)
+charged_for b m (Some lines) = Some (charge_of (rates_of b) m (base_of lines))
 
 -- the contribution of an employer's month, if it has a report
 abbrev pub charge_in : Book → ℕ → ℕ → Option Charge
@@ -40,10 +46,17 @@ months = range_with_len 24000 2400
 abbrev pub charges_of : Book → ℕ → List Charge
 charges_of b e = filter_map (charge_in b e) months
 
+abbrev pub cents_of : List Charge → ℕ
+cents_of charges = sum_by (λ c. c.cents) charges
+
+-- those that were due before a day
+abbrev pub due_before : ℕ → List Charge → List Charge
+due_before t charges = filter (λ c. nat_lt c.due t) charges
+
 -- the sum of all contributions of an employer
 abbrev pub charged : Book → ℕ → ℕ
-charged b e = sum_by (λ c. c.cents) (charges_of b e)
+charged b e = cents_of (charges_of b e)
 
 -- the contributions that were due before a day; no payment stands against them yet
 abbrev pub arrears_of : Book → ℕ → ℕ → ℕ
-arrears_of b e t = sum_by (λ c. c.cents) (filter (λ c. nat_lt c.due t) (charges_of b e))
+arrears_of b e t = cents_of (due_before t (charges_of b e))

@@ -1,5 +1,6 @@
 -- The book: the opening rates and the accepted requests, and what is read off it.
 use Rattle.std.specs.Prelude.{ℕ, List, [], ◌∷◌, Option, Some, None, Bool, true, false, ◌&&◌, ◌==◌, if◌then◌else◌, count_by}
+use Rattle.std.specs.Option.{option_map}
 use Rattle.clear_money.specs.Rates.{Rate}
 use Rattle.clear_rules.specs.declared.texts.WageLine.{WageLine}
 use Rattle.clear_rules.specs.declared.calls.Caller.{Caller}
@@ -75,6 +76,10 @@ abbrev pub is_report_of : ℕ → ℕ → Command → Bool
 is_report_of e m (Register r) = false
 is_report_of e m (Report r) = (r.employer == e) && (r.month == m)
 
--- the version of a month's report: how many there were, 0 before the first
+-- how many reports of a month there were
 abbrev pub version_of : List Entry → ℕ → ℕ → ℕ
 version_of xs e m = count_by (λ x. is_report_of e m x.command) xs
+
+-- the version of a month's latest report: how many there were
+abbrev pub reported_version : List Entry → ℕ → ℕ → Option ℕ
+reported_version xs e m = option_map (λ lines. version_of xs e m) (latest_lines xs e m)

@@ -12,7 +12,7 @@ use Rattle.clear_rules.specs.declared.outcomes.Rule.{Rule}
 use Rattle.clear_rules.specs.declared.outcomes.Rule.TheVariants.{Memory}
 use Rattle.clear_rules.specs.declared.outcomes.Outcome.TheVariants.{Replied}
 use Rattle.clear_rules.specs.declared.rows.Decision.{Decision}
-use Rattle.clear_rules.specs.Book.{Book, rates_of, member_of, start_of, employer_count, version_of}
+use Rattle.clear_rules.specs.Book.{Book, rates_of, member_of, start_of, employer_count, reported_version}
 use Rattle.clear_rules.specs.Judge.{judge, own_rule, reply_to}
 use Rattle.clear_rules.specs.Machine.{step, IsLawful}
 use Rattle.clear_rules.specs.Tables.{Tables, Stands, changed, noted}
@@ -48,5 +48,5 @@ pub record IsRegisterView (b : Book) (r : Registration) (view : RegisterView) : 
 
 pub record IsReportView (b : Book) (r : WageReport) (view : ReportView) : Type 0 where
   pub start_is : view.start ≡ start_of (member_of b.entries r.employer)
-  pub version_is : view.version ≡ version_of b.entries r.employer r.month
+  pub version_is : view.version ≡ reported_version b.entries r.employer r.month
   pub row_is : view.row ≡ rate_in_force (rates_of b) r.month

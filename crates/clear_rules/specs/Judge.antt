@@ -21,7 +21,7 @@ use Rattle.clear_rules.specs.declared.outcomes.Rule.{Rule}
 use Rattle.clear_rules.specs.declared.outcomes.Rule.TheVariants.{NotYours, DayBack, UnknownEmployer, EmployerExists, MonthOutside, MonthAhead, ReportExists, WorkerTwice, OverLimit, NoRate}
 use Rattle.clear_rules.specs.declared.outcomes.Outcome.{Outcome}
 use Rattle.clear_rules.specs.declared.outcomes.Outcome.TheVariants.{Replied, Answered, Refused}
-use Rattle.clear_rules.specs.Book.{Book, rates_of, ledger_day, member_of, start_of, employer_count, version_of}
+use Rattle.clear_rules.specs.Book.{Book, rates_of, ledger_day, member_of, start_of, employer_count, reported_version}
 use Rattle.clear_rules.specs.Accounts.{charge_at, charged, arrears_of}
 
 -- the rule, where its test holds
@@ -91,13 +91,17 @@ abbrev pub twice_rule : Option ℕ → Option Rule
 twice_rule None = None
 twice_rule (Some worker) = Some (WorkerTwice worker)
 
+abbrev pub exists_rule : Option ℕ → Option Rule
+exists_rule None = None
+exists_rule (Some version) = Some (ReportExists version)
+
 -- the rules on the month, from the employer's first member month, the version of the month's report and the day
-abbrev pub month_rule : Option ℕ → ℕ → ℕ → ℕ → Option Rule
+abbrev pub month_rule : Option ℕ → Option ℕ → ℕ → ℕ → Option Rule
 month_rule start version t m = first_of (
     when (not (is_some start)) UnknownEmployer
     ∷ when (is_outside start m) MonthOutside
     ∷ when (nat_lt (month_of t) m) MonthAhead
-    ∷ when (nat_lt 0 version) (ReportExists version)
+    ∷ exists_rule version
     ∷ [])
 
 -- the rules on the lines
@@ -109,7 +113,7 @@ lines_rule lines = first_of (
     ∷ [])
 
 -- the own rules: those on the month, then those on the lines
-abbrev pub own_report : Option ℕ → ℕ → ℕ → ℕ → List WageLine → Option Rule
+abbrev pub own_report : Option ℕ → Option ℕ → ℕ → ℕ → List WageLine → Option Rule
 own_report start version t m lines = first_of (month_rule start version t m ∷ lines_rule lines ∷ [])
 
 -- ---- all requests
@@ -117,7 +121,7 @@ own_report start version t m lines = first_of (month_rule start version t m ∷ 
 -- the first of a command's own rules that applies
 abbrev pub own_rule : Book → ℕ → Command → Option Rule
 own_rule b t (Register r) = own_register (is_some (member_of b.entries r.employer)) (employer_count b.entries) (is_some (rate_in_force (rates_of b) r.start))
-own_rule b t (Report r) = own_report (start_of (member_of b.entries r.employer)) (version_of b.entries r.employer r.month) t r.month r.lines
+own_rule b t (Report r) = own_report (start_of (member_of b.entries r.employer)) (reported_version b.entries r.employer r.month) t r.month r.lines
 
 -- the reply to a command that no rule refuses
 abbrev pub reply_to : Book → Command → Reply

@@ -5,6 +5,7 @@ pub mod Judge
 pub mod Keyed
 pub mod Laws
 pub mod Machine
+pub mod Offices
 pub mod Ranges
 pub mod RequestNos
 pub mod Rules

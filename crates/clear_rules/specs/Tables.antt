@@ -1,5 +1,5 @@
 -- The tables that stand for a book: rows by their keys.
-use Rattle.std.specs.Prelude.{◌≡◌, ℕ, ◌+◌, List, [], ◌∷◌, Option, Some, None, ◌==◌, if◌then◌else◌, length}
+use Rattle.std.specs.Prelude.{◌≡◌, ℕ, ◌+◌, List, [], ◌∷◌, Option, Some, None, ◌&&◌, ◌==◌, if◌then◌else◌, length, sum_by, map, filter}
 use Rattle.std.specs.Option.{option_map}
 use Rattle.clear_money.specs.Rates.{Rate}
 use Rattle.clear_rules.specs.declared.texts.WageLine.{WageLine}
@@ -8,7 +8,8 @@ use Rattle.clear_rules.specs.declared.rows.ReportRow.{ReportRow}
 use Rattle.clear_rules.specs.declared.rows.WageRow.{WageRow}
 use Rattle.clear_rules.specs.declared.rows.Change.{Change}
 use Rattle.clear_rules.specs.declared.rows.Change.TheVariants.{AddEmployer, AddReport}
-use Rattle.clear_rules.specs.Book.{Book, Entry, Member, rates_of, ledger_day, member_of, employer_count, latest_lines, version_of}
+use Rattle.clear_rules.specs.Accounts.{Charge, charge_of}
+use Rattle.clear_rules.specs.Book.{Book, Member, rates_of, ledger_day, member_of, employer_count, latest_lines, reported_version}
 use Rattle.clear_rules.specs.Keyed.{find_row, with_row, AreInOrder}
 
 -- each table but the rates in the order of its keys
@@ -40,9 +41,6 @@ member_at rows e = option_map (λ row. record { name = row.name; start = row.sta
 abbrev pub version_at : List ReportRow → ℕ → ℕ → Option ℕ
 version_at rows e m = option_map (λ row. row.version) (find_row report_key rows (e ∷ m ∷ []))
 
-abbrev pub reported_version : List Entry → ℕ → ℕ → Option ℕ
-reported_version xs e m = option_map (λ lines. version_of xs e m) (latest_lines xs e m)
-
 -- the gross amount of a worker in a month's latest report
 abbrev pub gross_at : List WageRow → ℕ → ℕ → ℕ → Option ℕ
 gross_at rows e m w = option_map (λ row. row.gross) (find_row wage_key rows (e ∷ m ∷ w ∷ []))
@@ -69,6 +67,19 @@ pub record Stands (b : Book) (t : Tables) : Type 0 where
   pub reports_in_order : AreInOrder report_key t.reports
   pub wages : (e m w : ℕ) → gross_at t.wages e m w ≡ reported_gross (latest_lines b.entries e m) w
   pub wages_in_order : AreInOrder wage_key t.wages
+
+-- ---- what the tables say of an account
+
+-- the base of a month: the sum of its wage rows
+abbrev pub base_at : List WageRow → ℕ → ℕ → ℕ
+base_at rows e m = sum_by (λ row. if (row.employer == e) && (row.month == m) then row.gross else 0) rows
+
+abbrev pub charge_for : Tables → ReportRow → Charge
+charge_for t row = charge_of t.rates row.month (base_at t.wages row.employer row.month)
+
+-- the contributions of an employer's report rows
+abbrev pub charges_at : Tables → ℕ → List Charge
+charges_at t e = map (charge_for t) (filter (λ row. row.employer == e) t.reports)
 
 -- ---- changes
 

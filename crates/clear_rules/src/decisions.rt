@@ -39,8 +39,8 @@ pub struct RegisterView {
 pub struct ReportView {
     /// The employer's first member month, if it is registered.
     pub start: Option<Month>,
-    /// The version of the month's report, 0 before the first.
-    pub version: u32,
+    /// The version of the month's report, if it has one.
+    pub version: Option<u32>,
     /// The rate row in force for the month.
     pub row: Option<RateRow>,
 }
@@ -56,6 +56,7 @@ pub fn decide_register(
     // The change takes the tables of a lawful book to those of the next.
     ensures change { IfOk result (TakesTables day (DoRegister registration.now)) }
     ensures rule { Refuses result (own_register view.now.registered view.now.employers view.now.has_rate) }
+    ensures made { IfOk result (λ decision. decision.change ≡ Change.AddEmployer (record { employer = registration.now.employer; name = registration.now.name; start = registration.now.start })) }
 {
     if view.registered {
         return Err(Rule::EmployerExists);
@@ -88,6 +89,9 @@ pub fn decide_report(day: Day, report: &WageReport, view: &ReportView) -> Result
     // The change takes the tables of a lawful book to those of the next.
     ensures change { IfOk result (TakesTables day (DoReport report.now)) }
     ensures rule { Refuses result (own_report view.now.start view.now.version day report.now.month report.now.lines) }
+    ensures made { IfOk result (λ decision. decision.change ≡ Change.AddReport (record { employer = report.now.employer; month = report.now.month; version = 1 }) report.now.lines) }
+    ensures few { OnOk result (length report.now.lines ≤ 500) }
+    ensures small { OnOk result (All (λ line. line.gross ≤ 10_000_000) report.now.lines) }
 {
     let lines = report.lines.as_slice();
     check_month(day, report.month, view)?;
@@ -150,8 +154,8 @@ fn check_month(day: Day, month: Month, view: &ReportView) -> Result<(), Rule>
     if day.month_number() < month.number() {
         return Err(Rule::MonthAhead);
     }
-    if view.version > 0 {
-        return Err(Rule::ReportExists(view.version));
+    if let Some(version) = view.version {
+        return Err(Rule::ReportExists(version));
     }
     Ok(())
 }

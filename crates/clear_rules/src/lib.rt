@@ -15,3 +15,5 @@ pub mod outcomes;
 pub mod ranges;
 pub mod rows;
 pub mod texts;
+#[cfg(test)]
+mod tests;

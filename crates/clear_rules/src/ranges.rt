@@ -22,8 +22,8 @@ pub fn call_in_range(call: &Call)
     }
 }
 
-// The same of a command.
-fn command_in_range(command: &Command)
+/// The values of the command lie in their ranges.
+pub fn command_in_range(command: &Command)
     ensures { IsCommand command.now }
 {
     match command {

@@ -1,0 +1,2 @@
+pub mod BoundLemmas
+pub mod TotalLemmas

@@ -1,0 +1,138 @@
+//! Rows in lists, in the order of their keys.
+ghost use Rattle.std.specs.Prelude.{◌≡◌, ◌≤◌, ◌∷◌, [], length, insert, is_ok, IfOk, if◌then◌else◌, option_copied};
+ghost use Rattle.clear_rules.specs.Keyed.{find_row, with_row};
+ghost use Rattle.clear_rules.specs.Tables.{employer_key, report_key, with_wages, base_at};
+
+use clear_money::months::Month;
+use clear_money::numbers::EmployerNo;
+use clear_rules::rows::{EmployerRow, ReportRow, WageRow};
+use clear_rules::texts::WageLine;
+use std::alloc::AllocError;
+
+/// A row with a key.
+pub trait Keyed {
+    ghost use Rattle.std.specs.Prelude.{ℕ, List, ◌≡◌};
+    ghost use Rattle.clear_rules.specs.Keyed.{is_before};
+
+    ghost key: { Self → List ℕ };
+
+    /// Whether the key comes before that of another row.
+    fn is_before(&self, other: &Self) -> bool
+        ensures { result ≡ is_before (key self.now) (key other.now) };
+}
+
+impl Keyed for EmployerRow {
+    ghost use Rattle.clear_rules.specs.Tables.{employer_key};
+
+    ghost key = { employer_key };
+
+    fn is_before(&self, other: &EmployerRow) -> bool {
+        self.employer < other.employer
+    }
+}
+
+impl Keyed for ReportRow {
+    ghost use Rattle.clear_rules.specs.Tables.{report_key};
+
+    ghost key = { report_key };
+
+    fn is_before(&self, other: &ReportRow) -> bool {
+        self.employer < other.employer
+            || self.employer == other.employer && self.month < other.month
+    }
+}
+
+impl Keyed for WageRow {
+    ghost use Rattle.clear_rules.specs.Tables.{wage_key};
+
+    ghost key = { wage_key };
+
+    fn is_before(&self, other: &WageRow) -> bool {
+        if self.employer != other.employer {
+            return self.employer < other.employer;
+        }
+        self.month < other.month || self.month == other.month && self.worker < other.worker
+    }
+}
+
+// Where a row goes.
+fn place_of<R: Keyed>(rows: &[R], row: &R) -> usize
+    ensures within { result ≤ length rows.now }
+    ensures place { insert rows.now result row.now ≡ with_row R.key rows.now row.now }
+{
+    for (i, other) in rows.iter().enumerate() {
+        if row.is_before(other) {
+            return i;
+        }
+    }
+    rows.len()
+}
+
+/// Puts a row at its place. Where there is no memory for it, the rows are left.
+pub fn insert_row<R: Keyed + Drop>(rows: &mut Vec<R>, row: R) -> Result<(), AllocError>
+    ensures { rows.new.items ≡ (if is_ok result then with_row R.key rows.old.items row else rows.old.items) }
+{
+    let place = place_of(rows.as_slice(), &row);
+    rows.insert(place, row)?;
+    Ok(())
+}
+
+/// The row of an employer.
+pub fn find_employer(rows: &[EmployerRow], employer: EmployerNo) -> Option<&EmployerRow>
+    ensures { option_copied result ≡ find_row employer_key rows.now (employer ∷ []) }
+{
+    for row in rows {
+        if row.employer == employer {
+            return Some(row);
+        }
+    }
+    None
+}
+
+/// The row of a month's report.
+pub fn find_report(rows: &[ReportRow], employer: EmployerNo, month: Month) -> Option<&ReportRow>
+    ensures { option_copied result ≡ find_row report_key rows.now (employer ∷ month ∷ []) }
+{
+    for row in rows {
+        if row.employer == employer && row.month == month {
+            return Some(row);
+        }
+    }
+    None
+}
+
+/// The wage rows and one for each line of a month's report.
+pub fn add_wages(
+    rows: &Vec<WageRow>,
+    employer: EmployerNo,
+    month: Month,
+    lines: &[WageLine],
+) -> Result<Vec<WageRow>, AllocError>
+    ensures { IfOk result (λ new. new.items ≡ with_wages employer month lines.now rows.now.items) }
+{
+    let mut new = rows.clone()?;
+    for line in lines {
+        let row = WageRow {
+            employer,
+            month,
+            worker: line.worker,
+            gross: line.gross,
+        };
+        insert_row(&mut new, row)?;
+    }
+    Ok(new)
+}
+
+/// The base of a month: the sum of its wage rows, in cents.
+pub fn base_of_rows(rows: &[WageRow], employer: EmployerNo, month: Month) -> u64
+    requires { base_at rows.now employer month ≤ 5_000_000_000 }
+    ensures { result ≡ base_at rows.now employer month }
+{
+    let mut base = 0;
+    for row in rows {
+        if row.employer == employer && row.month == month {
+            base += row.gross;
+        }
+    }
+    base
+}

@@ -1,0 +1,339 @@
+//! The bytes of an answer.
+ghost use Rattle.std.specs.Prelude.{◌≡◌, ◌++◌, flat_map, string_bytes, IfOk, is_ok, if◌then◌else◌};
+ghost use Rattle.clear_rules.specs.declared.outcomes.Rule.TheVariants.{Memory, Failed};
+ghost use Rattle.clear_http.specs.Answer.{status_of_stream, status_of_rule, status_of, name_of, number_of, detail_of, body_of, key_field, close_field, sent_body, answer_of, refused_by};
+
+use crate::rule::{FramingStatus, StreamRule};
+use clear_rules::outcomes::{Answer, Reply, Rule};
+use std::alloc::{AllocError, Global};
+
+/// Why a request isn't done.
+#[derive(Clone, Copy, Debug, PartialEq, Eq)]
+pub enum Refusal {
+    /// Rules 1 to 3: the stream ends.
+    Stream(StreamRule),
+    /// Rule 4: the office has no such path.
+    NoRoute,
+    /// Rule 6: the key is missing, stands twice, or is nobody's.
+    UnknownKey,
+    /// Rule 8: the request's number or its body isn't what the path wants.
+    BadBody,
+    /// Rule 7 and the rules from 9 on: the office refuses the call.
+    Office(Rule),
+}
+
+/// What is said to a request.
+#[derive(Clone, Copy, Debug, PartialEq, Eq)]
+pub enum Said {
+    Reply(Reply),
+    Answer(Answer),
+    Refused(Refusal),
+}
+
+impl Refusal {
+    /// The number of the rule.
+    pub fn number(self) -> u8
+        ensures { result ≡ number_of self }
+    {
+        match self {
+            Refusal::Stream(StreamRule::BadHead) => 1,
+            Refusal::Stream(StreamRule::TooLarge) => 2,
+            Refusal::Stream(StreamRule::BadFraming(_)) => 3,
+            Refusal::NoRoute => 4,
+            Refusal::UnknownKey => 6,
+            Refusal::BadBody => 8,
+            Refusal::Office(rule) => rule.number(),
+        }
+    }
+
+    /// The name of the rule.
+    pub fn name(self) -> &'static str
+        ensures { result.now ≡ name_of self }
+    {
+        match self {
+            Refusal::Stream(StreamRule::BadHead) => "BadHead",
+            Refusal::Stream(StreamRule::TooLarge) => "TooLarge",
+            Refusal::Stream(StreamRule::BadFraming(_)) => "BadFraming",
+            Refusal::NoRoute => "NoRoute",
+            Refusal::UnknownKey => "UnknownKey",
+            Refusal::BadBody => "BadBody",
+            Refusal::Office(rule) => rule.name(),
+        }
+    }
+}
+
+fn status_of_stream(rule: StreamRule) -> &'static [u8]
+    ensures { result.now ≡ status_of_stream rule }
+{
+    match rule {
+        StreamRule::BadHead => b"400 Bad Request",
+        StreamRule::TooLarge => b"413 Content Too Large",
+        StreamRule::BadFraming(FramingStatus::NotImplemented) => b"501 Not Implemented",
+        StreamRule::BadFraming(FramingStatus::ExpectationFailed) => b"417 Expectation Failed",
+        StreamRule::BadFraming(FramingStatus::LengthRequired) => b"411 Length Required",
+        StreamRule::BadFraming(FramingStatus::BadRequest) => b"400 Bad Request",
+    }
+}
+
+fn status_of_rule(rule: Rule) -> &'static [u8]
+    ensures { result.now ≡ status_of_rule rule }
+{
+    match rule {
+        Rule::NotYours => b"403 Forbidden",
+        Rule::DayBack(_)
+        | Rule::UnknownEmployer
+        | Rule::EmployerExists
+        | Rule::MonthOutside
+        | Rule::MonthAhead
+        | Rule::ReportExists(_)
+        | Rule::WorkerTwice(_)
+        | Rule::OverLimit(_)
+        | Rule::NoRate => b"409 Conflict",
+        Rule::Memory => b"503 Service Unavailable",
+        Rule::Store(_) | Rule::Failed => b"500 Internal Server Error",
+    }
+}
+
+fn status_of(said: Said) -> &'static [u8]
+    ensures { result.now ≡ status_of said }
+{
+    match said {
+        Said::Reply(_) | Said::Answer(_) => b"200 OK",
+        Said::Refused(Refusal::Stream(rule)) => status_of_stream(rule),
+        Said::Refused(Refusal::NoRoute) => b"404 Not Found",
+        Said::Refused(Refusal::UnknownKey) => b"401 Unauthorized",
+        Said::Refused(Refusal::BadBody) => b"400 Bad Request",
+        Said::Refused(Refusal::Office(rule)) => status_of_rule(rule),
+    }
+}
+
+/// The parts, one after another.
+fn joined(alloc: Global, parts: &[&[u8]]) -> Result<Vec<u8>, AllocError>
+    ensures { IfOk result (λ text. text.items ≡ flat_map (λ part. part.now) parts.now) }
+{
+    let mut text = Vec::new(alloc);
+    for part in parts {
+        text.extend_from_slice(part)?;
+    }
+    Ok(text)
+}
+
+/// What a rule of the office carries.
+fn rule_detail(alloc: Global, rule: Rule) -> Result<Vec<u8>, AllocError>
+    ensures { IfOk result (λ detail. detail.items ≡ rule_detail rule) }
+{
+    match rule {
+        Rule::DayBack(day) => Vec::from_slice(alloc, day.text().as_slice()),
+        Rule::ReportExists(version) => {
+            Vec::from_slice(alloc, version.to_string(alloc)?.as_bytes())
+        }
+        Rule::WorkerTwice(worker) => {
+            Vec::from_slice(alloc, worker.number().to_string(alloc)?.as_bytes())
+        }
+        Rule::OverLimit(limit) => Vec::from_slice(alloc, limit.word().as_bytes()),
+        Rule::NotYours
+        | Rule::UnknownEmployer
+        | Rule::EmployerExists
+        | Rule::MonthOutside
+        | Rule::MonthAhead
+        | Rule::NoRate
+        | Rule::Memory
+        | Rule::Store(_)
+        | Rule::Failed => Ok(Vec::new(alloc)),
+    }
+}
+
+/// What a rule carries.
+fn detail_of(alloc: Global, refusal: Refusal) -> Result<Vec<u8>, AllocError>
+    ensures { IfOk result (λ detail. detail.items ≡ detail_of refusal) }
+{
+    match refusal {
+        Refusal::BadBody => Vec::from_slice(alloc, b"body"),
+        Refusal::Office(rule) => rule_detail(alloc, rule),
+        Refusal::Stream(_) | Refusal::NoRoute | Refusal::UnknownKey => Ok(Vec::new(alloc)),
+    }
+}
+
+#[tactic(auto, unfolding(crate::specs::Answer::refused_body))]
+fn refused_body(alloc: Global, refusal: Refusal) -> Result<Vec<u8>, AllocError>
+    ensures { IfOk result (λ body. body.items ≡ refused_body refusal) }
+{
+    let detail = detail_of(alloc, refusal)?;
+    let number = refusal.number().to_string(alloc)?;
+    joined(
+        alloc,
+        &[
+            b"{\"detail\":\"",
+            detail.as_slice(),
+            b"\",\"name\":\"",
+            refusal.name().as_bytes(),
+            b"\",\"rule\":",
+            number.as_bytes(),
+            b"}",
+        ],
+    )
+}
+
+#[tactic(auto, unfolding(crate::specs::Answer::reply_body))]
+fn reply_body(alloc: Global, reply: Reply) -> Result<Vec<u8>, AllocError>
+    ensures { IfOk result (λ body. body.items ≡ reply_body reply) }
+{
+    match reply {
+        Reply::Done => Vec::from_slice(alloc, b"{\"done\":true}"),
+        Reply::Reported { version, charge } => {
+            let charge = charge.to_string(alloc)?;
+            let version = version.to_string(alloc)?;
+            joined(
+                alloc,
+                &[
+                    b"{\"charge\":",
+                    charge.as_bytes(),
+                    b",\"version\":",
+                    version.as_bytes(),
+                    b"}",
+                ],
+            )
+        }
+    }
+}
+
+#[tactic(auto, unfolding(crate::specs::Answer::owed_body))]
+fn owed_body(
+    alloc: Global,
+    arrears: u64,
+    charged: u64,
+    credited: u64,
+    prepaid: u64,
+) -> Result<Vec<u8>, AllocError>
+    ensures { IfOk result (λ body. body.items ≡ owed_body arrears charged credited prepaid) }
+{
+    let arrears = arrears.to_string(alloc)?;
+    let charged = charged.to_string(alloc)?;
+    let credited = credited.to_string(alloc)?;
+    let prepaid = prepaid.to_string(alloc)?;
+    joined(
+        alloc,
+        &[
+            b"{\"arrears\":",
+            arrears.as_bytes(),
+            b",\"charged\":",
+            charged.as_bytes(),
+            b",\"credited\":",
+            credited.as_bytes(),
+            b",\"prepaid\":",
+            prepaid.as_bytes(),
+            b"}",
+        ],
+    )
+}
+
+fn body_of(alloc: Global, said: Said) -> Result<Vec<u8>, AllocError>
+    ensures { IfOk result (λ body. body.items ≡ body_of said) }
+{
+    match said {
+        Said::Reply(reply) => reply_body(alloc, reply),
+        Said::Answer(Answer::Owed {
+            charged,
+            credited,
+            arrears,
+            prepaid,
+        }) => owed_body(alloc, arrears, charged, credited, prepaid),
+        Said::Refused(refusal) => refused_body(alloc, refusal),
+    }
+}
+
+/// The field that asks for a key.
+fn key_field(said: Said) -> &'static [u8]
+    ensures { result.now ≡ key_field said }
+{
+    match said {
+        Said::Refused(Refusal::UnknownKey) => b"WWW-Authenticate: Office-Key\r\n",
+        Said::Refused(Refusal::Stream(_))
+        | Said::Refused(Refusal::NoRoute)
+        | Said::Refused(Refusal::BadBody)
+        | Said::Refused(Refusal::Office(_))
+        | Said::Reply(_)
+        | Said::Answer(_) => b"",
+    }
+}
+
+fn close_field(close: bool) -> &'static [u8]
+    ensures { result.now ≡ close_field close }
+{
+    if close { b"Connection: close\r\n" } else { b"" }
+}
+
+fn sent_body(bare: bool, body: &[u8]) -> &[u8]
+    ensures { result.now ≡ sent_body bare body.now }
+{
+    if bare { b"" } else { body }
+}
+
+#[tactic(auto, unfolding(crate::specs::Answer::answer_of))]
+fn answer_of(alloc: Global, said: Said, close: bool, bare: bool) -> Result<Vec<u8>, AllocError>
+    ensures { IfOk result (λ text. text.items ≡ answer_of said close bare) }
+{
+    let body = body_of(alloc, said)?;
+    let length = body.len().to_string(alloc)?;
+    joined(
+        alloc,
+        &[
+            b"HTTP/1.1 ",
+            status_of(said),
+            b"\r\nContent-Type: application/json\r\nContent-Length: ",
+            length.as_bytes(),
+            b"\r\n",
+            key_field(said),
+            close_field(close),
+            b"\r\n",
+            sent_body(bare, body.as_slice()),
+        ],
+    )
+}
+
+/// Appends the answer. `close`: the answer says that the stream ends. `bare`: it has no body. An
+/// `Err` leaves the bytes as they were.
+pub fn answer_bytes(
+    said: &Said,
+    close: bool,
+    bare: bool,
+    out: &mut Vec<u8>,
+) -> Result<(), AllocError>
+    ensures { out.new.items
+        ≡ (if is_ok result then out.old.items ++ answer_of said.now close bare else out.old.items) }
+{
+    let text = answer_of(*out.allocator(), *said, close, bare)?;
+    out.extend_from_slice(text.as_slice())
+}
+
+/// The answer for want of memory, as a fixed text, which takes none.
+pub fn memory_text(close: bool, bare: bool) -> &'static [u8]
+    ensures { result.now ≡ answer_of (refused_by Memory) close bare }
+{
+    match (close, bare) {
+        (false, false) =>
+            b"HTTP/1.1 503 Service Unavailable\r\nContent-Type: application/json\r\nContent-Length: 39\r\n\r\n{\"detail\":\"\",\"name\":\"Memory\",\"rule\":40}",
+        (false, true) =>
+            b"HTTP/1.1 503 Service Unavailable\r\nContent-Type: application/json\r\nContent-Length: 39\r\n\r\n",
+        (true, false) =>
+            b"HTTP/1.1 503 Service Unavailable\r\nContent-Type: application/json\r\nContent-Length: 39\r\nConnection: close\r\n\r\n{\"detail\":\"\",\"name\":\"Memory\",\"rule\":40}",
+        (true, true) =>
+            b"HTTP/1.1 503 Service Unavailable\r\nContent-Type: application/json\r\nContent-Length: 39\r\nConnection: close\r\n\r\n",
+    }
+}
+
+/// The answer of an office that has failed, as a fixed text, which takes no memory.
+pub fn failed_text(close: bool, bare: bool) -> &'static [u8]
+    ensures { result.now ≡ answer_of (refused_by Failed) close bare }
+{
+    match (close, bare) {
+        (false, false) =>
+            b"HTTP/1.1 500 Internal Server Error\r\nContent-Type: application/json\r\nContent-Length: 39\r\n\r\n{\"detail\":\"\",\"name\":\"Failed\",\"rule\":42}",
+        (false, true) =>
+            b"HTTP/1.1 500 Internal Server Error\r\nContent-Type: application/json\r\nContent-Length: 39\r\n\r\n",
+        (true, false) =>
+            b"HTTP/1.1 500 Internal Server Error\r\nContent-Type: application/json\r\nContent-Length: 39\r\nConnection: close\r\n\r\n{\"detail\":\"\",\"name\":\"Failed\",\"rule\":42}",
+        (true, true) =>
+            b"HTTP/1.1 500 Internal Server Error\r\nContent-Type: application/json\r\nContent-Length: 39\r\nConnection: close\r\n\r\n",
+    }
+}

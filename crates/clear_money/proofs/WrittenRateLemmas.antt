@@ -1,0 +1,235 @@
+-- Which month a text spells, what a written row means, and the names of a table's members.
+use Rattle.std.proofs.Common.{◌≡◌, ◌≢◌, ℕ, zero, suc, ℤ, pos, negsuc, ◌+◌, ◌/◌, ◌%◌, ◌<◌, ◌≤◌, ◌^◌, ◌⊎◌, ⊎_elim, Bool, true, false, ◌&&◌, ◌||◌, cond, String, Global, string_bytes, Bor, map, List, [], ◌∷◌, Option, Some, None, option_and_then, option_map, Result, Ok, Err, nat_le, unsigned_abs, find, IsSome, IfSome, ◌↔◌, SFits, w64, to_z, of_z, refl, sym, ap, ◌∙◌, subst, arith}
+use Rattle.std.proofs.lemmas.Bool.{false≢true, cases_order}
+use Rattle.std.proofs.lemmas.Bool.Decides.{nat_tests}
+use Rattle.std.proofs.lemmas.Int.{to_z-of_z}
+use Rattle.std.proofs.lemmas.Slice.Eq.{bytes_eq-Decides}
+use Rattle.std.specs.Int.{FitsUnsignedBits}
+use Rattle.std.specs.List.{range_with_len, list_any}
+use Rattle.std.specs.Prelude.{bytes_eq}
+use Rattle.std.specs.Result.{OkIff, result_ok}
+use Rattle.toml.proofs.Views.{Entry}
+use Rattle.toml.specs.View.{members_view}
+use Rattle.toml.specs.declared.value.Value.{Value}
+use Rattle.clear_money.specs.Calendar.{IsMonth}
+use Rattle.clear_money.specs.Rates.{Rate, IsRate}
+use Rattle.clear_money.specs.Texts.{month_text}
+use Rattle.clear_money.specs.WrittenRate.{Written, month_spelled, within, rate_meant, has_only}
+
+-- ---- months
+
+-- a month that is found passes, and lies in the range
+found_at : (p : ℕ → Bool) (a n m : ℕ) → find p (range_with_len a n) ≡ Some m → (a ≤ m) × (m < a + n) × (p m ≡ true)
+found_at p a zero m e = absurd (cc)
+found_at p a (suc n) m e = found_first (p a) (find p (range_with_len (a + 1) n)) refl e (found_at p (a + 1) n m)
+  where
+    found_first : (b : Bool) (o : Option ℕ) → p a ≡ b → cond b (Some a) o ≡ Some m → (o ≡ Some m → (a + 1 ≤ m) × (m < a + 1 + n) × (p m ≡ true)) → (a ≤ m) × (m < a + suc n) × (p m ≡ true)
+    found_first true o q e more = let same : a ≡ m = cc in (omega arith, omega arith, subst (λ (k : ℕ). p k ≡ true) same q)
+    found_first false o q e more = let k = more e in (omega (arith, k.0), omega (arith, k.1), k.2)
+
+-- where none is found, none in the range passes
+none_at : (p : ℕ → Bool) (a n m : ℕ) → find p (range_with_len a n) ≡ None → a ≤ m → m < a + n → p m ≡ true → ⊥
+none_at p a zero m e low high t = omega arith
+none_at p a (suc n) m e low high t = none_first (p a) (find p (range_with_len (a + 1) n)) refl e (none_at p (a + 1) n m)
+  where
+    none_first : (b : Bool) (o : Option ℕ) → p a ≡ b → cond b (Some a) o ≡ None → (o ≡ None → a + 1 ≤ m → m < a + 1 + n → p m ≡ true → ⊥) → ⊥
+    none_first true o q e more = cc
+    none_first false o q e more =
+        ⊎_elim (λ (same : a ≡ m). false≢true (sym q ∙ ap p same ∙ t)) (λ (h : (a < m) ⊎ (m < a)). ⊎_elim (λ (lt : a < m). more e (omega arith) (omega arith) t) (λ (gt : m < a). absurd (omega arith)) h) (cases_order a m)
+
+-- a text spells one month at most
+month_text-one : (m n : ℕ) → IsMonth m → IsMonth n → month_text m ≡ month_text n → m ≡ n
+month_text-one m n hm hn e =
+    let a : 48 + m / 12 / 1000 ≡ 48 + n / 12 / 1000 = cc in
+    let b : 48 + m / 12 / 100 % 10 ≡ 48 + n / 12 / 100 % 10 = cc in
+    let d : 48 + m / 12 / 10 % 10 ≡ 48 + n / 12 / 10 % 10 = cc in
+    let f : 48 + m / 12 % 10 ≡ 48 + n / 12 % 10 = cc in
+    let g : 48 + (m % 12 + 1) / 10 ≡ 48 + (n % 12 + 1) / 10 = cc in
+    let h : 48 + (m % 12 + 1) % 10 ≡ 48 + (n % 12 + 1) % 10 = cc in
+    omega arith
+
+abbrev spells : List ℕ → ℕ → Bool
+spells text m = bytes_eq (month_text m) text
+
+-- the months are kept as a range of n, since 2,400 of them would be computed
+spelled-list : (text : List ℕ) (n : ℕ) → n ≡ 2400 → month_spelled text ≡ find (spells text) (range_with_len 24000 n)
+unfolding month_spelled
+spelled-list text n e = subst (λ (k : ℕ). month_spelled text ≡ find (spells text) (range_with_len 24000 k)) (sym e) refl
+
+spelled_from : (text : List ℕ) (m n : ℕ) → n ≡ 2400 → month_spelled text ≡ Some m → IsMonth m × (text ≡ month_text m)
+spelled_from text m n e found =
+    let f = found_at (spells text) 24000 n m (sym (spelled-list text n e) ∙ found) in
+    ((f.0, omega (arith, f.1)), sym (pointwise_is f.2))
+  where
+    pointwise_is : bytes_eq (month_text m) text ≡ true → month_text m ≡ text
+    pointwise_is t = (bytes_eq-Decides (month_text m) text).0 t
+
+spelled_none : (text : List ℕ) (n : ℕ) → n ≡ 2400 → month_spelled text ≡ None → (m : ℕ) → IsMonth m → text ≢ month_text m
+spelled_none text n e none m month same =
+    none_at (spells text) 24000 n m (sym (spelled-list text n e) ∙ none) month.0 (omega arith) ((bytes_eq-Decides (month_text m) text).1 (sym same))
+
+-- the month that a text spells
+month_spelled-back : (text : List ℕ) (m : ℕ) → month_spelled text ≡ Some m → IsMonth m × (text ≡ month_text m)
+month_spelled-back text m e = spelled_from text m 2400 refl e
+
+month_spelled-some : (text : List ℕ) (m : ℕ) → IsMonth m → text ≡ month_text m → month_spelled text ≡ Some m
+month_spelled-some text m month e = at (month_spelled text) refl
+  where
+    at : (o : Option ℕ) → month_spelled text ≡ o → o ≡ Some m
+    at None q = absurd (spelled_none text 2400 refl q m month e)
+    at (Some n) q =
+        let back = month_spelled-back text n q in
+        ap Some (month_text-one n m back.0 month (sym back.1 ∙ e))
+
+-- a text that is no month's spelling
+pub month_spelled-none : (text : List ℕ) → ((m : ℕ) → IsMonth m → text ≢ month_text m) → month_spelled text ≡ None
+month_spelled-none text only = at (month_spelled text) refl
+  where
+    at : (o : Option ℕ) → month_spelled text ≡ o → o ≡ None
+    at None q = refl
+    at (Some n) q = let back = month_spelled-back text n q in absurd (only n back.0 back.1)
+
+-- ---- the numbers of a row
+
+within-some : (low high n : ℕ) → low ≤ n → n ≤ high → within low high (pos n) ≡ Some n
+within-some low high n a b = grind (arith, nat_tests)
+
+within-back : (low high : ℕ) (z : ℤ) (n : ℕ) → within low high z ≡ Some n → (z ≡ pos n) × (low ≤ n) × (n ≤ high)
+within-back low high (pos k) n e = at (nat_le low k && nat_le k high) refl e
+  where
+    at : (b : Bool) → (nat_le low k && nat_le k high) ≡ b → cond b (Some k) None ≡ Some n → (pos k ≡ pos n) × (low ≤ n) × (n ≤ high)
+    at true q same = let s : k ≡ n = cc in (ap pos s, grind (arith, nat_tests), grind (arith, nat_tests))
+    at false q same = absurd (cc)
+within-back low high (negsuc k) n e = absurd (cc)
+
+-- a number that a narrower type takes, and one that it refuses
+pub narrow-some : {E : Type 0} (k : ℕ) (z : ℤ) (r : Result ℕ E) (x : ℕ) → SFits w64 z → OkIff r (FitsUnsignedBits k (to_z w64 (of_z w64 z))) (unsigned_abs (to_z w64 (of_z w64 z))) → Some x ≡ result_ok r → z ≡ pos x
+narrow-some k z r x range taken e = at z r (rw (to_z-of_z w64 z range) at taken) e
+  where
+    at : {E : Type 0} (z : ℤ) (r : Result ℕ E) → OkIff r (FitsUnsignedBits k z) (unsigned_abs z) → Some x ≡ result_ok r → z ≡ pos x
+    at (pos n) (Ok y) h e = let same = h.1 in let s : n ≡ x = cc in ap pos s
+    at (negsuc n) (Ok y) h e = absurd h.0
+    at z (Err d) h e = absurd (cc)
+
+pub narrow-none : {E : Type 0} (k n : ℕ) (z : ℤ) (r : Result ℕ E) → SFits w64 z → OkIff r (FitsUnsignedBits k (to_z w64 (of_z w64 z))) (unsigned_abs (to_z w64 (of_z w64 z))) → None ≡ result_ok r → n < 2 ^ k → z ≢ pos n
+narrow-none k n z (Ok y) range taken e small = absurd (cc)
+narrow-none k n z (Err d) range taken e small = λ same. taken (subst (FitsUnsignedBits k) (sym (to_z-of_z w64 z range ∙ same)) small)
+
+-- ---- the rate that is meant
+
+-- a rate is what a row writes
+pub record Means (w : Written) (r : Rate) : Type 0 where
+  pub from : w.from ≡ month_text r.first
+  pub contribution : w.contribution ≡ pos r.contribution
+  pub report_day : w.report_day ≡ pos r.report_day
+  pub due_day : w.due_day ≡ pos r.due_day
+  pub interest : w.interest ≡ pos r.interest
+  pub entitlement : w.entitlement ≡ pos r.entitlement
+  pub rate : IsRate r
+
+-- the rate of six parts, if each is there
+abbrev of_parts : (first contribution report_day due_day interest entitlement : Option ℕ) → Option Rate
+of_parts o p q s t u =
+    option_and_then (λ first. option_and_then (λ contribution. option_and_then (λ report_day. option_and_then (λ due_day. option_and_then (λ interest. option_and_then (λ entitlement.
+    Some (record { first = first; contribution = contribution; report_day = report_day; due_day = due_day; interest = interest; entitlement = entitlement })) u) t) s) q) p) o
+
+record Parts (o p q s t u : Option ℕ) (r : Rate) : Type 0 where
+  first : o ≡ Some r.first
+  contribution : p ≡ Some r.contribution
+  report_day : q ≡ Some r.report_day
+  due_day : s ≡ Some r.due_day
+  interest : t ≡ Some r.interest
+  entitlement : u ≡ Some r.entitlement
+
+-- where the rate is there, so is each part
+parts_there : (o p q s t u : Option ℕ) (r : Rate) → of_parts o p q s t u ≡ Some r → Parts o p q s t u r
+parts_there None p q s t u r e = absurd (cc)
+parts_there (Some a) None q s t u r e = absurd (cc)
+parts_there (Some a) (Some b) None s t u r e = absurd (cc)
+parts_there (Some a) (Some b) (Some c) None t u r e = absurd (cc)
+parts_there (Some a) (Some b) (Some c) (Some d) None u r e = absurd (cc)
+parts_there (Some a) (Some b) (Some c) (Some d) (Some f) None r e = absurd (cc)
+parts_there (Some a) (Some b) (Some c) (Some d) (Some f) (Some g) r e =
+    record { first = ap (option_map (λ x. x.first)) e; contribution = ap (option_map (λ x. x.contribution)) e; report_day = ap (option_map (λ x. x.report_day)) e; due_day = ap (option_map (λ x. x.due_day)) e; interest = ap (option_map (λ x. x.interest)) e; entitlement = ap (option_map (λ x. x.entitlement)) e }
+
+parts_meant : (w : Written) (first contribution report_day due_day interest entitlement : ℕ) → month_spelled w.from ≡ Some first → within 0 10000 w.contribution ≡ Some contribution
+    → within 1 28 w.report_day ≡ Some report_day → within 1 28 w.due_day ≡ Some due_day → within 0 1000 w.interest ≡ Some interest → within 0 10000 w.entitlement ≡ Some entitlement
+    → rate_meant w ≡ Some (record { first = first; contribution = contribution; report_day = report_day; due_day = due_day; interest = interest; entitlement = entitlement })
+unfolding rate_meant
+parts_meant w first contribution report_day due_day interest entitlement a b c d e f = rw (a, b, c, d, e, f)
+
+part : (low high n : ℕ) (z : ℤ) → z ≡ pos n → low ≤ n → n ≤ high → within low high z ≡ Some n
+part low high n z e a b = ap (within low high) e ∙ within-some low high n a b
+
+-- a rate that a row writes is the one that it means
+pub rate_meant-some : (w : Written) (r : Rate) → Means w r → rate_meant w ≡ Some r
+rate_meant-some w r m =
+    let q = m.rate in
+    parts_meant w r.first r.contribution r.report_day r.due_day r.interest r.entitlement (month_spelled-some w.from r.first q.first m.from) (part 0 10000 _ _ m.contribution (omega arith) q.contribution)
+    (part 1 28 _ _ m.report_day q.report_day.0 q.report_day.1) (part 1 28 _ _ m.due_day q.due_day.0 q.due_day.1) (part 0 1000 _ _ m.interest (omega arith) q.interest)
+    (part 0 10000 _ _ m.entitlement (omega arith) q.entitlement)
+
+rate_meant-parts : (w : Written) (r : Rate) → rate_meant w ≡ Some r → Parts (month_spelled w.from) (within 0 10000 w.contribution) (within 1 28 w.report_day) (within 1 28 w.due_day) (within 0 1000 w.interest) (within 0 10000 w.entitlement) r
+unfolding rate_meant
+rate_meant-parts w r e = parts_there _ _ _ _ _ _ r e
+
+rate_meant-back : (w : Written) (r : Rate) → rate_meant w ≡ Some r → Means w r
+rate_meant-back w r e =
+    let p = rate_meant-parts w r e in
+    let first = month_spelled-back w.from r.first p.first in
+    let contribution = within-back 0 10000 w.contribution r.contribution p.contribution in
+    let report_day = within-back 1 28 w.report_day r.report_day p.report_day in
+    let due_day = within-back 1 28 w.due_day r.due_day p.due_day in
+    let interest = within-back 0 1000 w.interest r.interest p.interest in
+    let entitlement = within-back 0 10000 w.entitlement r.entitlement p.entitlement in
+    record {
+      from = first.1;
+      contribution = contribution.0;
+      report_day = report_day.0;
+      due_day = due_day.0;
+      interest = interest.0;
+      entitlement = entitlement.0;
+      rate = record { first = first.0; contribution = contribution.2; report_day = (report_day.1, report_day.2); due_day = (due_day.1, due_day.2); interest = interest.2; entitlement = entitlement.2 };
+    }
+
+-- a row that writes no rate means none
+pub rate_meant-none : (w : Written) → ((r : Rate) → Means w r → ⊥) → rate_meant w ≡ None
+rate_meant-none w never = at (rate_meant w) refl
+  where
+    at : (o : Option Rate) → rate_meant w ≡ o → o ≡ None
+    at None q = refl
+    at (Some r) q = absurd (never r (rate_meant-back w r q))
+
+-- what RateRow::new answers at the parts of a row is the rate that is meant
+pub rate_meant-made : (w : Written) (o : Option Rate) (r : Rate) → IsMonth r.first → w.from ≡ month_text r.first → w.contribution ≡ pos r.contribution → w.report_day ≡ pos r.report_day
+    → w.due_day ≡ pos r.due_day → w.interest ≡ pos r.interest → w.entitlement ≡ pos r.entitlement → IsSome o ↔ IsRate r → IfSome o (λ q. q ≡ r) → o ≡ rate_meant w
+rate_meant-made w None r month from contribution report_day due_day interest entitlement some value =
+    sym (rate_meant-none w (λ q m.
+    let a : q.contribution ≡ r.contribution = same (sym m.contribution ∙ contribution) in
+    let b : q.report_day ≡ r.report_day = same (sym m.report_day ∙ report_day) in
+    let c : q.due_day ≡ r.due_day = same (sym m.due_day ∙ due_day) in
+    let d : q.interest ≡ r.interest = same (sym m.interest ∙ interest) in
+    let e : q.entitlement ≡ r.entitlement = same (sym m.entitlement ∙ entitlement) in
+    let k = m.rate in
+    false≢true (some.1 (record { first = month; contribution = omega arith; report_day = (omega arith, omega arith); due_day = (omega arith, omega arith); interest = omega arith; entitlement = omega arith }))))
+  where
+    same : {m n : ℕ} → pos m ≡ pos n → m ≡ n
+    same e = cc
+rate_meant-made w (Some q) r month from contribution report_day due_day interest entitlement some value =
+    ap Some value ∙ sym (rate_meant-some w r (record { from = from; contribution = contribution; report_day = report_day; due_day = due_day; interest = interest; entitlement = entitlement; rate = some.0 refl }))
+
+-- ---- names of members
+
+-- the names behind references, and the names
+any_of : (name : List ℕ) (names : List (Bor (List ℕ))) → list_any (λ other. bytes_eq name other.now) names ≡ list_any (bytes_eq name) (map (λ other. other.now) names)
+any_of name [] = refl
+any_of name (x ∷ xs) = ap (λ b. bytes_eq name x.now || b) (any_of name xs)
+
+-- the names of the members from one on
+pub has_only-step : (names : List (Bor (List ℕ))) (name : List ℕ) (b : Bool) (es rest : List Entry) (k : String Global) (v : Value) → es ≡ (k, v) ∷ rest → name ≡ string_bytes k
+    → b ≡ list_any (λ other. bytes_eq name other.now) names
+    → has_only (map (λ other. other.now) names) (members_view es) ≡ (b && has_only (map (λ other. other.now) names) (members_view rest))
+has_only-step names name b es rest k v e same known =
+    let only = λ (es : List Entry). has_only (map (λ (other : Bor (List ℕ)). other.now) names) (members_view es) in
+    let here : list_any (bytes_eq (string_bytes k)) (map (λ (other : Bor (List ℕ)). other.now) names) ≡ b = sym (any_of (string_bytes k) names) ∙ ap (λ (n : List ℕ). list_any (λ (other : Bor (List ℕ)). bytes_eq n other.now) names) (sym same) ∙ sym known in
+    ap only e ∙ ap (λ (b : Bool). b && only rest) here
