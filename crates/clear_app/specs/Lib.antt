@@ -1,1 +1,5 @@
+pub mod Desk
 pub mod Office
+pub mod Samples
+pub mod Serve
+pub mod Served

@@ -1,5 +1,7 @@
 -- What the office over lists keeps of its tables.
-use Rattle.std.specs.Prelude.{◌≡◌, ℕ, ◌≤◌, List, [], ◌∷◌, None, length, All, map, filter, ◌==◌}
+use Rattle.std.specs.Prelude.{Bool, true, false, ◌≡◌, ℕ, ◌≤◌, List, [], ◌∷◌, None, length, All, map, filter, ◌==◌}
+use Rattle.clear_rules.specs.declared.outcomes.Outcome.{Outcome}
+use Rattle.clear_rules.specs.declared.outcomes.Outcome.TheVariants.{Replied, Answered, Refused}
 use Rattle.clear_rules.specs.declared.rows.ReportRow.{ReportRow}
 use Rattle.clear_rules.specs.Accounts.{Charge, cents_of, due_before}
 use Rattle.clear_rules.specs.declared.rows.Change.{Change}
@@ -31,3 +33,9 @@ charged_in t e rows = cents_of (charges_in t e rows)
 
 abbrev pub arrears_in : Tables → ℕ → ℕ → List ReportRow → ℕ
 arrears_in t e day rows = cents_of (due_before day (charges_in t e rows))
+
+-- an outcome by which something was done
+abbrev pub is_reply : Outcome → Bool
+is_reply (Replied reply) = true
+is_reply (Answered answer) = false
+is_reply (Refused rule) = false

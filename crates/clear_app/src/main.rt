@@ -1,11 +1,72 @@
-//! The program of the clearing office, and the office over lists that it serves.
+//! The clearing office between building firms and their holiday fund, as a program.
 //!
-//! The office keeps its records in lists. Its calls carry the clearing theorem: whatever lawful book its tables stand
-//! for, the outcomes of a run are those of the clearing machine over that book, and its tables then stand for the book
-//! that the machine leaves. A refused call leaves the office as it was, and access is judged before any table is read.
+//! Without words it serves the requests on standard input over a new office with the sample rates, the sample callers
+//! and the day 2024-04-30, and writes their answers to standard output.
 #![tactic(auto)]
 
-pub mod office;
-pub mod rows;
+mod desk;
+mod office;
+mod rows;
+mod samples;
+mod serve;
 
-fn main() {}
+use clear_http::callers::Directory;
+use clear_http::counted::Counted;
+use clear_http::routes::Routes;
+use desk::{Desk, serve};
+use office::Office;
+use samples::{sample_day, sample_rates};
+use serve::{Fault, Served};
+use std::alloc::Global;
+use std::process::ExitCode;
+use std::rt::Env;
+use std::{env, io};
+
+/// Serves standard input. With any word the command line is at fault, and the status is 2; a stream that isn't served to
+/// its end gives status 3.
+fn main(rt: HostRuntime) -> ExitCode {
+    match has_words(&rt) {
+        Ok(false) => match serve_sample(&rt) {
+            Ok(_) => ExitCode::SUCCESS,
+            Err(Fault::Memory) => end(&rt, "rule 40 Memory", 3),
+            Err(_) => end(&rt, "fault stream", 3),
+        },
+        Ok(true) => end(&rt, "fault command line", 2),
+        Err(_) => end(&rt, "rule 40 Memory", 3),
+    }
+}
+
+// Whether the program was given words.
+fn has_words(rt: &(impl Env + Alloc)) -> io::Result<bool> {
+    let mut words = env::args(rt)?;
+    let _program = words.next();
+    Ok(words.next().is_some())
+}
+
+// Says why the program ends, and gives the status.
+fn end(rt: &impl Eprint, why: &str, status: u8) -> ExitCode {
+    let _ = eprintln!(rt; "{why}");
+    ExitCode::from(status)
+}
+
+// The desk of the sample. None where there is no memory for it.
+fn sample_desk(alloc: Global) -> Option<Desk> {
+    let rates = sample_rates(alloc).ok()?;
+    let directory = Directory::sample(alloc).ok()?;
+    let routes = Routes::new(alloc).ok()?;
+    let day = sample_day()?;
+    let office = Office::new(alloc, rates);
+    Some(Desk::new(alloc, office, directory, routes, day))
+}
+
+fn serve_sample(rt: &HostRuntime) -> Result<Served, Fault> {
+    let Some(mut desk) = sample_desk(rt.alloc()) else {
+        return Err(Fault::Memory);
+    };
+    let mut reader = Counted::new(rt.reader());
+    let mut writer = Counted::new(io::writer(rt));
+    match serve(&mut desk, &mut reader, &mut writer) {
+        Ok(served) => Ok(served),
+        Err(stopped) => Err(stopped.fault),
+    }
+}

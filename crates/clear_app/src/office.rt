@@ -10,7 +10,7 @@ ghost use Rattle.clear_rules.specs.Keyed.{find_row};
 ghost use Rattle.clear_rules.specs.Machine.{IsLawful};
 ghost use Rattle.clear_rules.specs.Offices.{replied, answered, Steps, RunsTables};
 ghost use Rattle.clear_rules.specs.Tables.{Tables, Stands, member_at, version_at, charge_for, charges_at, changed, noted, report_key};
-ghost use Rattle.clear_app.specs.Office.{Fits, charged_in, arrears_in};
+ghost use Rattle.clear_app.specs.Office.{Fits, charged_in, arrears_in, is_reply};
 
 use crate::rows::{add_wages, base_of_rows, find_employer, find_report, insert_row};
 use clear_money::days::{Day, due_day};
@@ -252,9 +252,11 @@ impl Office {
         Ok(outcomes)
     }
 
-    // One call.
-    fn take(&mut self, call: &Call) -> Outcome
-        ensures { Steps self.old call.now result self.new }
+    /// Takes one call.
+    pub fn take(&mut self, call: &Call) -> Outcome
+        // Whatever lawful book the tables stand for, this is a step of the machine over it.
+        ensures step { Steps self.old call.now result self.new }
+        ensures kept { is_reply result ≡ false → self.new ≡ self.old }
     {
         match call {
             Call::Do {
@@ -369,3 +371,6 @@ fn employer_of(query: &Query) -> EmployerNo
     let Query::Owed { employer } = query;
     *employer
 }
+
+#[cfg(test)]
+mod tests;

@@ -4,3 +4,6 @@ pub mod LinesLemmas
 pub mod StreamLemmas
 pub mod NextLemmas
 pub mod CutLemmas
+pub mod PartLemmas
+pub mod RouteLemmas
+pub mod JsonLemmas

@@ -1,7 +1,6 @@
 -- The bytes of an answer.
-use Rattle.std.specs.Prelude.{ℕ, Bool, List, [], ◌∷◌, ◌++◌, length, if◌then◌else◌, codes}
+use Rattle.std.specs.Prelude.{ℕ, Bool, List, [], ◌++◌, length, if◌then◌else◌, codes}
 use Rattle.std.specs.Fmt.{decimal}
-use Rattle.std.specs.List.{concat}
 use Rattle.clear_money.specs.Texts.{day_text}
 use Rattle.clear_rules.specs.Rules.{number_of as rule_number, name_of as rule_name, word_of}
 use Rattle.clear_rules.specs.declared.outcomes.Reply.{Reply}
@@ -95,30 +94,31 @@ detail_of BadBody = codes "body"
 detail_of (Office rule) = rule_detail rule
 
 unfoldable pub refused_body : Refusal → List ℕ
-refused_body refusal = concat (
-    codes "{\"detail\":\"" ∷ detail_of refusal
-    ∷ codes "\",\"name\":\"" ∷ name_of refusal
-    ∷ codes "\",\"rule\":" ∷ decimal (number_of refusal)
-    ∷ codes "}" ∷ [])
+refused_body refusal =
+    codes "{\"detail\":\"" ++ detail_of refusal
+    ++ codes "\",\"name\":\"" ++ name_of refusal
+    ++ codes "\",\"rule\":" ++ decimal (number_of refusal)
+    ++ codes "}"
 
 unfoldable pub reply_body : Reply → List ℕ
 reply_body Done = codes "{\"done\":true}"
-reply_body (Reported version charge) = concat (
-    codes "{\"charge\":" ∷ decimal charge ∷ codes ",\"version\":" ∷ decimal version ∷ codes "}" ∷ [])
+reply_body (Reported version charge) =
+    codes "{\"charge\":" ++ decimal charge
+    ++ codes ",\"version\":" ++ decimal version
+    ++ codes "}"
 
-unfoldable pub owed_body : ℕ → ℕ → ℕ → ℕ → List ℕ
-owed_body arrears charged credited prepaid = concat (
-    codes "{\"arrears\":" ∷ decimal arrears
-    ∷ codes ",\"charged\":" ∷ decimal charged
-    ∷ codes ",\"credited\":" ∷ decimal credited
-    ∷ codes ",\"prepaid\":" ∷ decimal prepaid
-    ∷ codes "}" ∷ [])
+unfoldable pub query_body : Answer → List ℕ
+query_body (Owed charged credited arrears prepaid) =
+    codes "{\"arrears\":" ++ decimal arrears
+    ++ codes ",\"charged\":" ++ decimal charged
+    ++ codes ",\"credited\":" ++ decimal credited
+    ++ codes ",\"prepaid\":" ++ decimal prepaid
+    ++ codes "}"
 
 -- compact JSON, members in the order of their bytes
 abbrev pub body_of : Said → List ℕ
 body_of (said.Reply reply) = reply_body reply
-body_of (said.Answer (Owed charged credited arrears prepaid)) =
-    owed_body arrears charged credited prepaid
+body_of (said.Answer answer) = query_body answer
 body_of (said.Refused refusal) = refused_body refusal
 
 -- the field that asks for a key
@@ -137,14 +137,20 @@ close_field close = if close then codes "Connection: close\r\n" else []
 abbrev pub sent_body : Bool → List ℕ → List ℕ
 sent_body bare body = if bare then [] else body
 
--- a status line, the fields, and the body unless the answer is bare
+-- the lines up to the length of the body
+unfoldable pub first_lines : Said → ℕ → List ℕ
+first_lines said len =
+    codes "HTTP/1.1 " ++ status_of said
+    ++ codes "\r\nContent-Type: application/json\r\n"
+    ++ codes "Content-Length: " ++ decimal len
+    ++ codes "\r\n"
+
+-- a status line, the fields, an empty line, and the body unless the answer is bare
 unfoldable pub answer_of : Said → Bool → Bool → List ℕ
-answer_of said close bare = concat (
-    codes "HTTP/1.1 " ∷ status_of said
-    ∷ codes "\r\nContent-Type: application/json\r\nContent-Length: " ∷ decimal (length (body_of said))
-    ∷ codes "\r\n" ∷ key_field said ∷ close_field close
-    ∷ codes "\r\n" ∷ sent_body bare (body_of said)
-    ∷ [])
+answer_of said close bare =
+    first_lines said (length (body_of said))
+    ++ key_field said ++ close_field close
+    ++ codes "\r\n" ++ sent_body bare (body_of said)
 
 -- what is said where the office refuses a call by this rule
 abbrev pub refused_by : Rule → Said

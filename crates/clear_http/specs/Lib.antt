@@ -13,3 +13,7 @@ pub mod Input
 pub mod Request
 pub mod Callers
 pub mod Answer
+pub mod Parts
+pub mod Routes
+pub mod Bodies
+pub mod Reading

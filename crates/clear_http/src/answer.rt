@@ -1,7 +1,8 @@
 //! The bytes of an answer.
-ghost use Rattle.std.specs.Prelude.{◌≡◌, ◌++◌, flat_map, string_bytes, IfOk, is_ok, if◌then◌else◌};
+ghost use Rattle.std.specs.Prelude.{◌≡◌, ◌++◌, IfOk, is_ok, if◌then◌else◌};
+ghost use Rattle.std.specs.Fmt.{decimal};
 ghost use Rattle.clear_rules.specs.declared.outcomes.Rule.TheVariants.{Memory, Failed};
-ghost use Rattle.clear_http.specs.Answer.{status_of_stream, status_of_rule, status_of, name_of, number_of, detail_of, body_of, key_field, close_field, sent_body, answer_of, refused_by};
+ghost use Rattle.clear_http.specs.Answer.{status_of_stream, status_of_rule, status_of, name_of, number_of, rule_detail, detail_of, refused_body, reply_body, query_body, body_of, key_field, close_field, sent_body, first_lines, answer_of, refused_by};
 
 use crate::rule::{FramingStatus, StreamRule};
 use clear_rules::outcomes::{Answer, Reply, Rule};
@@ -32,8 +33,8 @@ pub enum Said {
 
 impl Refusal {
     /// The number of the rule.
-    pub fn number(self) -> u8
-        ensures { result ≡ number_of self }
+    pub fn number(&self) -> u8
+        ensures { result ≡ number_of self.now }
     {
         match self {
             Refusal::Stream(StreamRule::BadHead) => 1,
@@ -47,8 +48,8 @@ impl Refusal {
     }
 
     /// The name of the rule.
-    pub fn name(self) -> &'static str
-        ensures { result.now ≡ name_of self }
+    pub fn name(&self) -> &'static str
+        ensures { result.now ≡ name_of self.now }
     {
         match self {
             Refusal::Stream(StreamRule::BadHead) => "BadHead",
@@ -94,28 +95,27 @@ fn status_of_rule(rule: Rule) -> &'static [u8]
     }
 }
 
-fn status_of(said: Said) -> &'static [u8]
-    ensures { result.now ≡ status_of said }
+fn status_of(said: &Said) -> &'static [u8]
+    ensures { result.now ≡ status_of said.now }
 {
     match said {
         Said::Reply(_) | Said::Answer(_) => b"200 OK",
-        Said::Refused(Refusal::Stream(rule)) => status_of_stream(rule),
+        Said::Refused(Refusal::Stream(rule)) => status_of_stream(*rule),
         Said::Refused(Refusal::NoRoute) => b"404 Not Found",
         Said::Refused(Refusal::UnknownKey) => b"401 Unauthorized",
         Said::Refused(Refusal::BadBody) => b"400 Bad Request",
-        Said::Refused(Refusal::Office(rule)) => status_of_rule(rule),
+        Said::Refused(Refusal::Office(rule)) => status_of_rule(*rule),
     }
 }
 
-/// The parts, one after another.
-fn joined(alloc: Global, parts: &[&[u8]]) -> Result<Vec<u8>, AllocError>
-    ensures { IfOk result (λ text. text.items ≡ flat_map (λ part. part.now) parts.now) }
+/// Appends a text, and a number in decimal.
+fn append_number(text: &mut Vec<u8>, before: &[u8], number: u64) -> Result<(), AllocError>
+    ensures { IfOk result (λ _. text.new.items
+        ≡ text.old.items ++ before.now ++ decimal number) }
 {
-    let mut text = Vec::new(alloc);
-    for part in parts {
-        text.extend_from_slice(part)?;
-    }
-    Ok(text)
+    let digits = number.to_string(*text.allocator())?;
+    text.extend_from_slice(before)?;
+    text.extend_from_slice(digits.as_bytes())
 }
 
 /// What a rule of the office carries.
@@ -144,34 +144,28 @@ fn rule_detail(alloc: Global, rule: Rule) -> Result<Vec<u8>, AllocError>
 }
 
 /// What a rule carries.
-fn detail_of(alloc: Global, refusal: Refusal) -> Result<Vec<u8>, AllocError>
-    ensures { IfOk result (λ detail. detail.items ≡ detail_of refusal) }
+fn detail_of(alloc: Global, refusal: &Refusal) -> Result<Vec<u8>, AllocError>
+    ensures { IfOk result (λ detail. detail.items ≡ detail_of refusal.now) }
 {
     match refusal {
         Refusal::BadBody => Vec::from_slice(alloc, b"body"),
-        Refusal::Office(rule) => rule_detail(alloc, rule),
+        Refusal::Office(rule) => rule_detail(alloc, *rule),
         Refusal::Stream(_) | Refusal::NoRoute | Refusal::UnknownKey => Ok(Vec::new(alloc)),
     }
 }
 
 #[tactic(auto, unfolding(crate::specs::Answer::refused_body))]
-fn refused_body(alloc: Global, refusal: Refusal) -> Result<Vec<u8>, AllocError>
-    ensures { IfOk result (λ body. body.items ≡ refused_body refusal) }
+fn refused_body(alloc: Global, refusal: &Refusal) -> Result<Vec<u8>, AllocError>
+    ensures { IfOk result (λ body. body.items ≡ refused_body refusal.now) }
 {
     let detail = detail_of(alloc, refusal)?;
-    let number = refusal.number().to_string(alloc)?;
-    joined(
-        alloc,
-        &[
-            b"{\"detail\":\"",
-            detail.as_slice(),
-            b"\",\"name\":\"",
-            refusal.name().as_bytes(),
-            b"\",\"rule\":",
-            number.as_bytes(),
-            b"}",
-        ],
-    )
+    let mut body = Vec::from_slice(alloc, b"{\"detail\":\"")?;
+    body.extend_from_slice(detail.as_slice())?;
+    body.extend_from_slice(b"\",\"name\":\"")?;
+    body.extend_from_slice(refusal.name().as_bytes())?;
+    append_number(&mut body, b"\",\"rule\":", u64::from(refusal.number()))?;
+    body.extend_from_slice(b"}")?;
+    Ok(body)
 }
 
 #[tactic(auto, unfolding(crate::specs::Answer::reply_body))]
@@ -181,70 +175,47 @@ fn reply_body(alloc: Global, reply: Reply) -> Result<Vec<u8>, AllocError>
     match reply {
         Reply::Done => Vec::from_slice(alloc, b"{\"done\":true}"),
         Reply::Reported { version, charge } => {
-            let charge = charge.to_string(alloc)?;
-            let version = version.to_string(alloc)?;
-            joined(
-                alloc,
-                &[
-                    b"{\"charge\":",
-                    charge.as_bytes(),
-                    b",\"version\":",
-                    version.as_bytes(),
-                    b"}",
-                ],
-            )
+            let mut body = Vec::new(alloc);
+            append_number(&mut body, b"{\"charge\":", charge)?;
+            append_number(&mut body, b",\"version\":", u64::from(version))?;
+            body.extend_from_slice(b"}")?;
+            Ok(body)
         }
     }
 }
 
-#[tactic(auto, unfolding(crate::specs::Answer::owed_body))]
-fn owed_body(
-    alloc: Global,
-    arrears: u64,
-    charged: u64,
-    credited: u64,
-    prepaid: u64,
-) -> Result<Vec<u8>, AllocError>
-    ensures { IfOk result (λ body. body.items ≡ owed_body arrears charged credited prepaid) }
+#[tactic(auto, unfolding(crate::specs::Answer::query_body))]
+fn query_body(alloc: Global, answer: Answer) -> Result<Vec<u8>, AllocError>
+    ensures { IfOk result (λ body. body.items ≡ query_body answer) }
 {
-    let arrears = arrears.to_string(alloc)?;
-    let charged = charged.to_string(alloc)?;
-    let credited = credited.to_string(alloc)?;
-    let prepaid = prepaid.to_string(alloc)?;
-    joined(
-        alloc,
-        &[
-            b"{\"arrears\":",
-            arrears.as_bytes(),
-            b",\"charged\":",
-            charged.as_bytes(),
-            b",\"credited\":",
-            credited.as_bytes(),
-            b",\"prepaid\":",
-            prepaid.as_bytes(),
-            b"}",
-        ],
-    )
+    let Answer::Owed {
+        charged,
+        credited,
+        arrears,
+        prepaid,
+    } = answer;
+    let mut body = Vec::new(alloc);
+    append_number(&mut body, b"{\"arrears\":", arrears)?;
+    append_number(&mut body, b",\"charged\":", charged)?;
+    append_number(&mut body, b",\"credited\":", credited)?;
+    append_number(&mut body, b",\"prepaid\":", prepaid)?;
+    body.extend_from_slice(b"}")?;
+    Ok(body)
 }
 
-fn body_of(alloc: Global, said: Said) -> Result<Vec<u8>, AllocError>
-    ensures { IfOk result (λ body. body.items ≡ body_of said) }
+fn body_of(alloc: Global, said: &Said) -> Result<Vec<u8>, AllocError>
+    ensures { IfOk result (λ body. body.items ≡ body_of said.now) }
 {
     match said {
-        Said::Reply(reply) => reply_body(alloc, reply),
-        Said::Answer(Answer::Owed {
-            charged,
-            credited,
-            arrears,
-            prepaid,
-        }) => owed_body(alloc, arrears, charged, credited, prepaid),
+        Said::Reply(reply) => reply_body(alloc, *reply),
+        Said::Answer(answer) => query_body(alloc, *answer),
         Said::Refused(refusal) => refused_body(alloc, refusal),
     }
 }
 
 /// The field that asks for a key.
-fn key_field(said: Said) -> &'static [u8]
-    ensures { result.now ≡ key_field said }
+fn key_field(said: &Said) -> &'static [u8]
+    ensures { result.now ≡ key_field said.now }
 {
     match said {
         Said::Refused(Refusal::UnknownKey) => b"WWW-Authenticate: Office-Key\r\n",
@@ -269,26 +240,30 @@ fn sent_body(bare: bool, body: &[u8]) -> &[u8]
     if bare { b"" } else { body }
 }
 
+/// The lines up to the length of the body.
+#[tactic(auto, unfolding(crate::specs::Answer::first_lines))]
+fn first_lines(alloc: Global, said: &Said, length: usize) -> Result<Vec<u8>, AllocError>
+    ensures { IfOk result (λ text. text.items ≡ first_lines said.now length) }
+{
+    let mut text = Vec::from_slice(alloc, b"HTTP/1.1 ")?;
+    text.extend_from_slice(status_of(said))?;
+    text.extend_from_slice(b"\r\nContent-Type: application/json\r\n")?;
+    append_number(&mut text, b"Content-Length: ", length as u64)?;
+    text.extend_from_slice(b"\r\n")?;
+    Ok(text)
+}
+
 #[tactic(auto, unfolding(crate::specs::Answer::answer_of))]
-fn answer_of(alloc: Global, said: Said, close: bool, bare: bool) -> Result<Vec<u8>, AllocError>
-    ensures { IfOk result (λ text. text.items ≡ answer_of said close bare) }
+fn answer_of(alloc: Global, said: &Said, close: bool, bare: bool) -> Result<Vec<u8>, AllocError>
+    ensures { IfOk result (λ text. text.items ≡ answer_of said.now close bare) }
 {
     let body = body_of(alloc, said)?;
-    let length = body.len().to_string(alloc)?;
-    joined(
-        alloc,
-        &[
-            b"HTTP/1.1 ",
-            status_of(said),
-            b"\r\nContent-Type: application/json\r\nContent-Length: ",
-            length.as_bytes(),
-            b"\r\n",
-            key_field(said),
-            close_field(close),
-            b"\r\n",
-            sent_body(bare, body.as_slice()),
-        ],
-    )
+    let mut text = first_lines(alloc, said, body.len())?;
+    text.extend_from_slice(key_field(said))?;
+    text.extend_from_slice(close_field(close))?;
+    text.extend_from_slice(b"\r\n")?;
+    text.extend_from_slice(sent_body(bare, body.as_slice()))?;
+    Ok(text)
 }
 
 /// Appends the answer. `close`: the answer says that the stream ends. `bare`: it has no body. An
@@ -302,7 +277,7 @@ pub fn answer_bytes(
     ensures { out.new.items
         ≡ (if is_ok result then out.old.items ++ answer_of said.now close bare else out.old.items) }
 {
-    let text = answer_of(*out.allocator(), *said, close, bare)?;
+    let text = answer_of(*out.allocator(), said, close, bare)?;
     out.extend_from_slice(text.as_slice())
 }
 

@@ -146,7 +146,7 @@ module _ (e m : ℕ) where
       told : (p q : Bool) → row.employer == e ≡ p → row.month == m ≡ q → ((ls : List WageLine) → AreDistinct ls → ((w : ℕ) → gross_at rows e m w ≡ gross_of ls w) → base_at rows e m ≡ base_of ls) → base_at (row ∷ rows) e m ≡ base_of lines
       told true true h k rest =
           let found : gross_of lines row.worker ≡ Some row.gross =
-            sym (same row.worker) ∙ gross_in_row row rows row.worker ∙ (λ i. cond (h i && (k i && (itself row.worker i && true))) (Some row.gross) (gross_at rows e m row.worker)) in
+          sym (same row.worker) ∙ gross_in_row row rows row.worker ∙ (λ i. cond (h i && (k i && (itself row.worker i && true))) (Some row.gross) (gross_at rows e m row.worker)) in
           let left : base_at rows e m ≡ base_of (without row.worker lines) = rest (without row.worker lines) (still_distinct row.worker lines apart) (λ w. others w (w == row.worker) refl) in
           let here : weight row ≡ row.gross = (λ i. cond (h i && k i) row.gross 0) in
           omega (arith, sum_by-cons weight row rows, here, left, base_of-without row.worker lines apart, ap amount found)
@@ -207,15 +207,15 @@ module _ (charge : ReportRow → Charge) where
   by_months h a (suc n) (row ∷ rows) from below gives =
       ⊎_elim
       (λ (e : a ≡ row.month).
-        let rest = by_months h (a + 1) n rows (later_from (a + 1) (row.month + 1) rows (omega arith) from.1) (ends (a + suc n) (a + 1 + n) rows (omega arith) below.1)
-          (λ m low high. gives m (omega arith) (omega arith) ∙ ap (λ b. cond b (Some (charge row)) (given rows m)) (apart row.month m (omega arith))) in
-        let here : h a ≡ Some (charge row) = gives a (omega arith) (omega arith) ∙ ap (λ b. cond b (Some (charge row)) (given rows a)) (same row.month a (sym e)) in
-        (λ i. cons_option (here i) (rest i)))
+      let rest = by_months h (a + 1) n rows (later_from (a + 1) (row.month + 1) rows (omega arith) from.1) (ends (a + suc n) (a + 1 + n) rows (omega arith) below.1)
+      (λ m low high. gives m (omega arith) (omega arith) ∙ ap (λ b. cond b (Some (charge row)) (given rows m)) (apart row.month m (omega arith))) in
+      let here : h a ≡ Some (charge row) = gives a (omega arith) (omega arith) ∙ ap (λ b. cond b (Some (charge row)) (given rows a)) (same row.month a (sym e)) in
+      (λ i. cons_option (here i) (rest i)))
       (λ (o : (a < row.month) ⊎ (row.month < a)).
-        let later : a < row.month = ⊎_elim (λ (lt : a < row.month). lt) (λ (gt : row.month < a). absurd (omega (arith, from.0))) o in
-        let rest = by_months h (a + 1) n (row ∷ rows) (omega arith, from.1) (omega (arith, below.0), ends (a + suc n) (a + 1 + n) rows (omega arith) below.1) (λ m low high. gives m (omega arith) (omega arith)) in
-        let here : h a ≡ None = gives a (omega arith) (omega arith) ∙ not_yet (a + 1) a (row ∷ rows) (omega arith) (omega arith, from.1) in
-        (λ i. cons_option (here i) (rest i)))
+      let later : a < row.month = ⊎_elim (λ (lt : a < row.month). lt) (λ (gt : row.month < a). absurd (omega (arith, from.0))) o in
+      let rest = by_months h (a + 1) n (row ∷ rows) (omega arith, from.1) (omega (arith, below.0), ends (a + suc n) (a + 1 + n) rows (omega arith) below.1) (λ m low high. gives m (omega arith) (omega arith)) in
+      let here : h a ≡ None = gives a (omega arith) (omega arith) ∙ not_yet (a + 1) a (row ∷ rows) (omega arith) (omega arith, from.1) in
+      (λ i. cons_option (here i) (rest i)))
       (cases_order a row.month)
     where
       same : (k m : ℕ) → k ≡ m → k == m ≡ true
@@ -366,9 +366,9 @@ module _ (b : Book) (t : Tables) (lawful : IsLawful b) (stands : Stands b t) (e 
   over_range : (n : ℕ) → n ≡ 2400 → charges_at t e ≡ filter_map (charge_in b e) (range_with_len 24000 n)
   over_range n is =
       sym (by_months (charge_for t) (charge_in b e) 24000 n (filter (is_of e) t.reports)
-        (starts e 24000 t.reports stands.reports_in_order (λ m h. (month_in_range m h).0))
-        (stays_below e (24000 + n) t.reports (λ m h. let last = (month_in_range m h).1 in omega arith))
-        (λ m low high. charge_in-given m))
+      (starts e 24000 t.reports stands.reports_in_order (λ m h. (month_in_range m h).0))
+      (stays_below e (24000 + n) t.reports (λ m h. let last = (month_in_range m h).1 in omega arith))
+      (λ m low high. charge_in-given m))
 
   -- the contributions of the tables are those of the book
   pub charges_at-charges_of : charges_at t e ≡ charges_of b e

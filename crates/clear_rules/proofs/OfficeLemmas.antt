@@ -71,7 +71,7 @@ module _ (t : Tables) (caller : Caller) (number day : ℕ) (command : Command) w
             ⊎_elim
             (λ (m : r ≡ Memory). subst (λ (q : Rule). (next : Book) × Takes b this_call (Refused q) next × IsLawful next × Stands next new) (sym m) (memory new same b lawful stands))
             (λ (o : own_rule b day command ≡ Some r).
-              (b, judged.refused b caller number day command r (judged.own_refused b caller number day command r may (ledger b stands None back) (room b stands few) o), lawful, subst (Stands b) (sym same) stands))
+            (b, judged.refused b caller number day command r (judged.own_refused b caller number day command r may (ledger b stands None back) (room b stands few) o), lawful, subst (Stands b) (sym same) stands))
             (own b stands)
 
         -- a decision whose change was made is a step

@@ -4,7 +4,8 @@
 //! machine that goes from call to call, and the tables that stand for a book. A decision of this crate answers the own
 //! rules of its request as the judge has them, and its change takes the tables of a lawful book to those of the next
 //! one. The laws in `laws` follow from the definitions alone: runs keep a book lawful, and no sum over a lawful book
-//! leaves its type.
+//! leaves its type. A decision may always answer that there is no memory, so a body that answers nothing else meets its
+//! contract too; that a decision with memory at hand succeeds is shown by tests.
 #![tactic(auto)]
 
 pub mod access;
@@ -14,6 +15,6 @@ pub mod laws;
 pub mod outcomes;
 pub mod ranges;
 pub mod rows;
-pub mod texts;
 #[cfg(test)]
 mod tests;
+pub mod texts;

@@ -11,7 +11,7 @@ loop-call-preserved c =
     let before = take c.loop-call.call-index c.args.calls.now in
     let calls = take_more c.args.calls.now c.loop-call.call-index c.call-item.result (omega arith) in
     let taken = calls ∙ ap (λ (k : Call). before ++ k ∷ []) (sym c.call-item.is) in
-    let more = RunsTables-more c.args.self.now c.loop-call.self c.take-outcome.new.self before c.loop-call.outcomes.items c.call-item.result c.take-outcome.result c.loop-call.invariant.runs c.take-outcome.ensures in
+    let more = RunsTables-more c.args.self.now c.loop-call.self c.take-outcome.new.self before c.loop-call.outcomes.items c.call-item.result c.take-outcome.result c.loop-call.invariant.runs c.take-outcome.ensures.step in
     record {
       room = omega arith;
       count = omega arith;

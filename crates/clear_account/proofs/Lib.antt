@@ -1,0 +1,9 @@
+pub mod StretchLemmas
+pub mod WeightLemmas
+pub mod QueueLemmas
+pub mod AccountLemmas
+pub mod PlaceLemmas
+pub mod ShareLemmas
+pub mod OpenLemmas
+pub mod LawLemmas
+pub mod PieceLemmas

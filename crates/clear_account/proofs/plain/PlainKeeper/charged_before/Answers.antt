@@ -1,0 +1,6 @@
+use Rattle.std.proofs.Common.{arith}
+use Rattle.clear_account.proofs.AccountLemmas.{charged-le}
+use Rattle.clear_account.proofs.plain.PlainKeeper.charged_before.Goals as goal
+
+pub add_due-requires : goal.add_due-requires
+add_due-requires c = rw c.as_slice.ensures.value (omega (arith, charged-le c.self.inside.charges.items c.self.inside.credits.items c.self.invariant))

@@ -1,0 +1,5 @@
+pub mod Account
+pub mod Allocation
+pub mod Arrears
+pub mod Interest
+pub mod Laws

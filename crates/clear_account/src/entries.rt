@@ -1,0 +1,58 @@
+//! What an account holds, and what is paid of it.
+use clear_money::days::Day;
+use clear_money::months::Month;
+use clear_money::numbers::Amount;
+
+/// The contribution that a firm owes for a month.
+#[derive(Clone, Copy, Debug, PartialEq, Eq)]
+pub struct Charge {
+    pub month: Month,
+    /// The day on which it is due.
+    pub due: Day,
+    /// 0 to `MAX_CENTS`.
+    pub cents: u64,
+}
+
+impl Charge {
+    /// The greatest contribution for a month.
+    pub const MAX_CENTS: u64 = 5_000_000_000;
+}
+
+/// What a firm has paid, or what was set off for it.
+#[derive(Clone, Copy, Debug, PartialEq, Eq)]
+pub struct Credit {
+    /// The day from which it counts as paid.
+    pub day: Day,
+    /// Its number in the whole office; an account has no two credits of one serial.
+    pub serial: u64,
+    pub cents: Amount,
+}
+
+impl Credit {
+    ghost use Rattle.std.specs.Prelude.{◌≡◌};
+    ghost use Rattle.clear_account.specs.Account.{comes_before};
+
+    /// By day, and on one day by serial.
+    pub fn is_before(&self, other: &Credit) -> bool
+        ensures { result ≡ comes_before self.now other.now }
+    {
+        self.day < other.day || (self.day == other.day && self.serial < other.serial)
+    }
+}
+
+/// What a credit pays of the charge of a month: 1 cent or more.
+#[derive(Clone, Copy, Debug, PartialEq, Eq)]
+pub struct Piece {
+    pub month: Month,
+    /// The serial of the credit.
+    pub serial: u64,
+    pub cents: u64,
+}
+
+/// Why an account is not changed.
+#[derive(Clone, Copy, Debug, PartialEq, Eq)]
+pub enum AccountFault {
+    /// It has `MAX_CREDITS` credits.
+    OverLimit,
+    Memory,
+}

@@ -1,0 +1,27 @@
+//! Laws of accounts, over the definitions alone. Each function does nothing: its contract is the law.
+ghost use Rattle.clear_account.specs.Laws.{CreditsKept, OnePiece, PiecesSum, SharesSum, WeightByPieces};
+
+/// The shares of a charge sum to what the credits reach of it.
+pub fn shares_sum()
+    ensures { SharesSum }
+{}
+
+/// The pieces sum to the lesser of all charges and all credits.
+pub fn pieces_sum()
+    ensures { PiecesSum }
+{}
+
+/// The pieces and what is prepaid sum to the credits.
+pub fn credits_kept()
+    ensures { CreditsKept }
+{}
+
+/// The weight month by month is the weight piece by piece, and that of the open part.
+pub fn weight_by_pieces()
+    ensures { WeightByPieces }
+{}
+
+/// Each charge and each credit with a share have one piece, and no other piece names the two.
+pub fn one_piece()
+    ensures { OnePiece }
+{}

@@ -1,0 +1,22 @@
+-- What is said of conflicts over all earlier lines.
+use Rattle.std.specs.Prelude.{◌≡◌, Bool, not, ◌&&◌, List, map}
+use Rattle.std.specs.List.{find, enumerate_from, list_any, IsDistinct}
+use Rattle.std.specs.Str.{bytes_eq}
+use Rattle.clear_bank.specs.Lines.{same_content}
+use Rattle.clear_bank.specs.Newness.{Placed, lines_before, first_conflict}
+use Rattle.clear_bank.specs.declared.lines.BankLine.{BankLine}
+
+-- no reference stands in two of the lines
+abbrev pub HasNoReferenceTwice : List BankLine → Type 0
+HasNoReferenceTwice lines = IsDistinct bytes_eq (map (λ line. line.reference) lines)
+
+-- some earlier line, whichever it is, has the line's reference and another content
+abbrev pub differs_earlier : List BankLine → List BankLine → Placed → Bool
+differs_earlier known lines p =
+    list_any (λ earlier. bytes_eq p.1.reference earlier.reference && not (same_content earlier p.1)) (lines_before known lines p.0)
+
+-- where no two known lines have one reference, the first conflict is the first line that differs from any earlier one
+abbrev pub ConflictsAreWithAny : Type 0
+ConflictsAreWithAny =
+    (known lines : List BankLine) → HasNoReferenceTwice known
+    → first_conflict known lines ≡ find (differs_earlier known lines) (enumerate_from 0 lines)

@@ -1,0 +1,7 @@
+pub mod Answers
+pub mod Files
+pub mod Index
+pub mod Laws
+pub mod Lines
+pub mod Newness
+pub mod Texts
