@@ -26,6 +26,7 @@ impl Model for EmployerNo {
 }
 
 impl EmployerNo {
+    /// The greatest number of an employer.
     pub const MAX: u64 = 99_999_999;
 
     /// None outside 1 to 99,999,999.
@@ -41,6 +42,7 @@ impl EmployerNo {
         })
     }
 
+    /// The number, 1 to 99,999,999.
     pub fn number(self) -> u32
         ensures value { result ≡ self }
         ensures range { IsEmployerNo result }
@@ -70,6 +72,7 @@ impl Model for WorkerNo {
 }
 
 impl WorkerNo {
+    /// The greatest number of a worker.
     pub const MAX: u64 = 999_999_999;
 
     /// None outside 1 to 999,999,999.
@@ -85,6 +88,7 @@ impl WorkerNo {
         })
     }
 
+    /// The number, 1 to 999,999,999.
     pub fn number(self) -> u32
         ensures value { result ≡ self }
         ensures range { IsWorkerNo result }
@@ -114,6 +118,7 @@ impl Model for Amount {
 }
 
 impl Amount {
+    /// The greatest amount in cents.
     pub const MAX: u64 = 100_000_000_000;
 
     /// None outside 1 to 100,000,000,000 cents.

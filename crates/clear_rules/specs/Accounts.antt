@@ -14,6 +14,7 @@ base_of lines = sum_by (λ line. line.gross) lines
 abbrev pub charge_on : Option Rate → ℕ → ℕ
 charge_on rate base = option_map_or (λ r. contribution_of base r.contribution) rate 0
 
+-- the contribution for the lines of a report
 abbrev pub charge_at : Option Rate → List WageLine → ℕ
 charge_at rate lines = charge_on rate (base_of lines)
 
@@ -27,9 +28,11 @@ pub record Charge : Type 0 where
 abbrev pub due_at : List Rate → ℕ → ℕ
 due_at rates m = option_map_or (due_day_of m) (rate_in_force rates m) 0
 
+-- the contribution of a month for a base
 abbrev pub charge_of : List Rate → ℕ → ℕ → Charge
 charge_of rates m base = record { month = m; due = due_at rates m; cents = charge_on (rate_in_force rates m) base }
 
+-- the contribution of a month for its latest lines, if there are any
 abbrev pub charged_for : Book → ℕ → Option (List WageLine) → Option Charge
 charged_for b m None = None
 charged_for b m (Some lines) = Some (charge_of (rates_of b) m (base_of lines))
@@ -46,6 +49,7 @@ months = range_with_len 24000 2400
 abbrev pub charges_of : Book → ℕ → List Charge
 charges_of b e = filter_map (charge_in b e) months
 
+-- their sum
 abbrev pub cents_of : List Charge → ℕ
 cents_of charges = sum_by (λ c. c.cents) charges
 

@@ -40,6 +40,7 @@ pub record Member : Type 0 where
   pub name : List ℕ
   pub start : ℕ
 
+-- the first member month
 abbrev pub start_of : Option Member → Option ℕ
 start_of None = None
 start_of (Some member) = Some member.start
@@ -54,6 +55,7 @@ abbrev pub member_of : List Entry → ℕ → Option Member
 member_of [] e = None
 member_of (x ∷ xs) e = newer (registered_by x.command e) (member_of xs e)
 
+-- a command that registers an employer
 abbrev pub is_registration : Command → Bool
 is_registration (Register r) = true
 is_registration (Report r) = false
@@ -72,6 +74,7 @@ abbrev pub latest_lines : List Entry → ℕ → ℕ → Option (List WageLine)
 latest_lines [] e m = None
 latest_lines (x ∷ xs) e m = newer (reported_by x.command e m) (latest_lines xs e m)
 
+-- a command that reports for the employer and the month
 abbrev pub is_report_of : ℕ → ℕ → Command → Bool
 is_report_of e m (Register r) = false
 is_report_of e m (Report r) = (r.employer == e) && (r.month == m)

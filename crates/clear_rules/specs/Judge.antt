@@ -41,6 +41,7 @@ may_do Clerk command = true
 may_do (Firm e) (Register r) = false
 may_do (Firm e) (Report r) = e == r.employer
 
+-- and so with queries
 abbrev pub may_query : Caller → Query → Bool
 may_query Clerk query = true
 may_query (Firm e) (AskOwed employer) = e == employer
@@ -56,6 +57,7 @@ most_entries = 50000000
 
 -- ---- Register
 
+-- there are at most so many employers
 abbrev pub most_employers : ℕ
 most_employers = 10000
 
@@ -69,10 +71,11 @@ own_register registered employers has_rate = first_of (
 
 -- ---- Report
 
+-- a report has at most so many lines
 abbrev pub most_lines : ℕ
 most_lines = 500
 
--- cents
+-- a line has at most so much gross, in cents
 abbrev pub most_gross : ℕ
 most_gross = 10000000
 
@@ -87,10 +90,12 @@ worker_twice earlier [] = None
 worker_twice earlier (line ∷ lines) =
     if list_any (λ k. k.worker == line.worker) earlier then Some line.worker else worker_twice (earlier ++ line ∷ []) lines
 
+-- the rule on a worker in two lines, with that worker
 abbrev pub twice_rule : Option ℕ → Option Rule
 twice_rule None = None
 twice_rule (Some worker) = Some (WorkerTwice worker)
 
+-- the rule on a month that has a report, with its version
 abbrev pub exists_rule : Option ℕ → Option Rule
 exists_rule None = None
 exists_rule (Some version) = Some (ReportExists version)

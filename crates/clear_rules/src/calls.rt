@@ -35,6 +35,7 @@ impl Model for RequestNo {
 }
 
 impl RequestNo {
+    /// The greatest number of a request.
     pub const MAX: u64 = 999_999_999_999_999_999;
 
     /// None outside 1 to 999,999,999,999,999,999.
@@ -48,6 +49,7 @@ impl RequestNo {
         Some(RequestNo { number })
     }
 
+    /// The number, 1 to 999,999,999,999,999,999.
     pub fn number(self) -> u64
         ensures value { result ≡ self }
         ensures range { IsRequestNo result }

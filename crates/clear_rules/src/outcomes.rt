@@ -25,7 +25,7 @@ pub enum Answer {
     },
 }
 
-/// What there may be only so many of.
+/// What a limit is set on.
 #[derive(Clone, Copy, Debug, PartialEq, Eq)]
 pub enum Limit {
     /// 50,000,000 accepted requests.
@@ -55,7 +55,9 @@ pub enum Rule {
     NotYours,
     /// The day lies before the ledger day, which stands here.
     DayBack(Day),
+    /// No employer of that number is registered.
     UnknownEmployer,
+    /// The employer is registered already.
     EmployerExists,
     /// The month is no member month.
     MonthOutside,
@@ -65,6 +67,7 @@ pub enum Rule {
     ReportExists(u32),
     /// The worker stands in an earlier line too.
     WorkerTwice(WorkerNo),
+    /// There would be more than may be.
     OverLimit(Limit),
     /// The membership would begin before the first rate row.
     NoRate,

@@ -35,6 +35,7 @@ pub struct WageRow {
 /// What an accepted command changes.
 #[derive(Debug, Drop)]
 pub enum Change {
+    /// An employer that was not there.
     AddEmployer(EmployerRow),
     /// A first report, with a wage row for each of its lines.
     AddReport(ReportRow, WageLines),

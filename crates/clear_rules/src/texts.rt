@@ -88,12 +88,14 @@ impl Model for WageLines {
 }
 
 impl WageLines {
+    /// These lines, whatever they are: a report's rules judge them.
     pub fn new(lines: Vec<WageLine>) -> WageLines
         ensures { result ≡ lines.items }
     {
         WageLines { lines }
     }
 
+    /// The lines in their order.
     pub fn as_slice(&self) -> &[WageLine]
         ensures { result.now ≡ self.now }
     {
