@@ -4,20 +4,10 @@
 //! and the day 2024-04-30, and writes their answers to standard output.
 #![tactic(auto)]
 
-mod desk;
-mod office;
-mod rows;
-mod samples;
-mod serve;
-
-use clear_http::callers::Directory;
+use clear_desk::desk::serve;
+use clear_desk::samples::sample_desk;
+use clear_desk::serve::{Fault, Served};
 use clear_http::counted::Counted;
-use clear_http::routes::Routes;
-use desk::{Desk, serve};
-use office::Office;
-use samples::{sample_day, sample_rates};
-use serve::{Fault, Served};
-use std::alloc::Global;
 use std::process::ExitCode;
 use std::rt::Env;
 use std::{env, io};
@@ -47,16 +37,6 @@ fn has_words(rt: &(impl Env + Alloc)) -> io::Result<bool> {
 fn end(rt: &impl Eprint, why: &str, status: u8) -> ExitCode {
     let _ = eprintln!(rt; "{why}");
     ExitCode::from(status)
-}
-
-// The desk of the sample. None where there is no memory for it.
-fn sample_desk(alloc: Global) -> Option<Desk> {
-    let rates = sample_rates(alloc).ok()?;
-    let directory = Directory::sample(alloc).ok()?;
-    let routes = Routes::new(alloc).ok()?;
-    let day = sample_day()?;
-    let office = Office::new(alloc, rates);
-    Some(Desk::new(alloc, office, directory, routes, day))
 }
 
 fn serve_sample(rt: &HostRuntime) -> Result<Served, Fault> {

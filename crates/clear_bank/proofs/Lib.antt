@@ -1,3 +1,4 @@
+pub mod AmountLemmas
 pub mod AnswerLemmas
 pub mod ConflictLemmas
 pub mod FieldLemmas

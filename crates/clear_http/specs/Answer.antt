@@ -4,11 +4,11 @@ use Rattle.std.specs.Fmt.{decimal}
 use Rattle.clear_money.specs.Texts.{day_text}
 use Rattle.clear_rules.specs.Rules.{number_of as rule_number, name_of as rule_name, word_of}
 use Rattle.clear_rules.specs.declared.outcomes.Reply.{Reply}
-use Rattle.clear_rules.specs.declared.outcomes.Reply.TheVariants.{Done, Reported}
+use Rattle.clear_rules.specs.declared.outcomes.Reply.TheVariants.{Done, Reported, Imported}
 use Rattle.clear_rules.specs.declared.outcomes.Answer.{Answer}
 use Rattle.clear_rules.specs.declared.outcomes.Answer.TheVariants.{Owed}
 use Rattle.clear_rules.specs.declared.outcomes.Rule.{Rule}
-use Rattle.clear_rules.specs.declared.outcomes.Rule.TheVariants.{NotYours, DayBack, UnknownEmployer, EmployerExists, MonthOutside, MonthAhead, ReportExists, WorkerTwice, OverLimit, NoRate, Memory, Store, Failed}
+use Rattle.clear_rules.specs.declared.outcomes.Rule.TheVariants.{NotYours, DayBack, UnknownEmployer, EmployerExists, MonthOutside, MonthAhead, ReportExists, WorkerTwice, OverLimit, BadCsv, RefConflict, ValueAhead, NoRate, Memory, Store, Failed}
 use Rattle.clear_http.specs.declared.rule.StreamRule.{StreamRule}
 use Rattle.clear_http.specs.declared.rule.StreamRule.TheVariants.{BadHead, TooLarge, BadFraming}
 use Rattle.clear_http.specs.declared.rule.FramingStatus.TheVariants.{NotImplemented, ExpectationFailed, LengthRequired, BadRequest}
@@ -37,6 +37,9 @@ status_of_rule MonthAhead = codes "409 Conflict"
 status_of_rule (ReportExists version) = codes "409 Conflict"
 status_of_rule (WorkerTwice worker) = codes "409 Conflict"
 status_of_rule (OverLimit limit) = codes "409 Conflict"
+status_of_rule (BadCsv line field) = codes "409 Conflict"
+status_of_rule (RefConflict line) = codes "409 Conflict"
+status_of_rule (ValueAhead line) = codes "409 Conflict"
 status_of_rule NoRate = codes "409 Conflict"
 status_of_rule Memory = codes "503 Service Unavailable"
 status_of_rule (Store cause) = codes "500 Internal Server Error"
@@ -69,7 +72,8 @@ name_of UnknownKey = codes "UnknownKey"
 name_of BadBody = codes "BadBody"
 name_of (Office rule) = rule_name rule
 
--- what a rule of the office carries: a day, a number in decimal, or the limit's word
+-- what a rule of the office carries: a day, a number in decimal, the limit's word, or a line and its
+-- field
 abbrev pub rule_detail : Rule → List ℕ
 rule_detail NotYours = []
 rule_detail (DayBack ledger) = day_text ledger
@@ -80,6 +84,9 @@ rule_detail MonthAhead = []
 rule_detail (ReportExists version) = decimal version
 rule_detail (WorkerTwice worker) = decimal worker
 rule_detail (OverLimit limit) = word_of limit
+rule_detail (BadCsv line field) = decimal line ++ codes ":" ++ decimal field
+rule_detail (RefConflict line) = decimal line
+rule_detail (ValueAhead line) = decimal line
 rule_detail NoRate = []
 rule_detail Memory = []
 rule_detail (Store cause) = []
@@ -105,6 +112,10 @@ reply_body Done = codes "{\"done\":true}"
 reply_body (Reported version charge) =
     codes "{\"charge\":" ++ decimal charge
     ++ codes ",\"version\":" ++ decimal version
+    ++ codes "}"
+reply_body (Imported new repeats) =
+    codes "{\"new\":" ++ decimal new
+    ++ codes ",\"repeats\":" ++ decimal repeats
     ++ codes "}"
 
 unfoldable pub query_body : Answer → List ℕ

@@ -13,7 +13,7 @@ use Rattle.clear_rules.specs.declared.texts.WageLine.{WageLine}
 use Rattle.clear_http.specs.declared.answer.Refusal.{Refusal}
 use Rattle.clear_http.specs.declared.answer.Refusal.TheVariants.{Stream, NoRoute, UnknownKey, BadBody, Office}
 use Rattle.clear_http.specs.declared.routes.Route.{Route}
-use Rattle.clear_http.specs.declared.routes.Route.TheVariants.{Employers, Report, Owed}
+use Rattle.clear_http.specs.declared.routes.Route.TheVariants.{Employers, Report, Owed, Bank}
 use Rattle.clear_http.specs.Bodies.{Registers, lines_of}
 use Rattle.clear_http.specs.Callers.{KeyOf, caller_of}
 use Rattle.clear_http.specs.Head.{Heading}
@@ -42,6 +42,8 @@ Asks (Report employer month) caller day heading body call =
     × (call ≡ Do caller number day
     (command.Report (record { employer = employer; month = month; lines = lines })))
 Asks (Owed employer) caller day heading body call = call ≡ Ask caller day (query.Owed employer)
+Asks Bank caller day heading body call =
+    (number : ℕ) × IsNumber heading number × (call ≡ Do caller number day (command.ImportBank body))
 
 -- that call, or a refusal where there is none
 abbrev pub AsksBy : Route → Caller → ℕ → Heading → List ℕ → Result Call Refusal → Type 0

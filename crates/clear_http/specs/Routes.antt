@@ -18,7 +18,7 @@ use Rattle.clear_http.specs.declared.method.Method.TheVariants.{Get, Post}
 use Rattle.clear_http.specs.declared.routes.Path.{Path}
 use Rattle.clear_http.specs.declared.routes.Path.TheVariants as path
 use Rattle.clear_http.specs.declared.routes.Route.{Route}
-use Rattle.clear_http.specs.declared.routes.Route.TheVariants.{Employers, Report, Owed}
+use Rattle.clear_http.specs.declared.routes.Route.TheVariants.{Employers, Report, Owed, Bank}
 
 -- the paths, with their parameters open
 abbrev pub paths : List (List ℕ × Path)
@@ -26,6 +26,7 @@ paths =
     (codes "/employers", path.Employers)
     ∷ (codes "/employers/{e}/reports/{m}", path.Report)
     ∷ (codes "/employers/{e}/owed", path.Owed)
+    ∷ (codes "/bank", path.Bank)
     ∷ []
 
 abbrev pub Rows : Type 0
@@ -59,12 +60,14 @@ abbrev pub path_for : Route → Path
 path_for Employers = path.Employers
 path_for (Report employer month) = path.Report
 path_for (Owed employer) = path.Owed
+path_for Bank = path.Bank
 
 -- the method of a route
 abbrev pub method_for : Route → Method
 method_for Employers = Post
 method_for (Report employer month) = Post
 method_for (Owed employer) = Get
+method_for Bank = Post
 
 -- the parameters of a route stand in the target: behind its second slash an employer's number in
 -- decimal, and behind its fourth one a month
@@ -73,6 +76,7 @@ HasParameters Employers target = ⊤
 HasParameters (Report employer month) target =
     (part 2 target ≡ Some (decimal employer)) × (part 4 target ≡ Some (month_text month))
 HasParameters (Owed employer) target = part 2 target ≡ Some (decimal employer)
+HasParameters Bank target = ⊤
 
 -- the target is the route's path with the route's parameters
 abbrev pub IsTargetOf : Route → List ℕ → Type 0
@@ -83,3 +87,4 @@ abbrev pub IsRoute : Route → Type 0
 IsRoute Employers = ⊤
 IsRoute (Report employer month) = IsEmployerNo employer × IsMonth month
 IsRoute (Owed employer) = IsEmployerNo employer
+IsRoute Bank = ⊤

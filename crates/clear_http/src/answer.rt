@@ -1,5 +1,5 @@
 //! The bytes of an answer.
-ghost use Rattle.std.specs.Prelude.{◌≡◌, ◌++◌, IfOk, is_ok, if◌then◌else◌};
+ghost use Rattle.std.specs.Prelude.{◌≡◌, ◌++◌, codes, IfOk, is_ok, if◌then◌else◌};
 ghost use Rattle.std.specs.Fmt.{decimal};
 ghost use Rattle.clear_rules.specs.declared.outcomes.Rule.TheVariants.{Memory, Failed};
 ghost use Rattle.clear_http.specs.Answer.{status_of_stream, status_of_rule, status_of, name_of, number_of, rule_detail, detail_of, refused_body, reply_body, query_body, body_of, key_field, close_field, sent_body, first_lines, answer_of, refused_by};
@@ -89,6 +89,9 @@ fn status_of_rule(rule: Rule) -> &'static [u8]
         | Rule::ReportExists(_)
         | Rule::WorkerTwice(_)
         | Rule::OverLimit(_)
+        | Rule::BadCsv { .. }
+        | Rule::RefConflict(_)
+        | Rule::ValueAhead(_)
         | Rule::NoRate => b"409 Conflict",
         Rule::Memory => b"503 Service Unavailable",
         Rule::Store(_) | Rule::Failed => b"500 Internal Server Error",
@@ -118,6 +121,16 @@ fn append_number(text: &mut Vec<u8>, before: &[u8], number: u64) -> Result<(), A
     text.extend_from_slice(digits.as_bytes())
 }
 
+/// A line of a file and its field.
+fn place_text(alloc: Global, line: u64, field: u8) -> Result<Vec<u8>, AllocError>
+    ensures { IfOk result (λ text. text.items ≡ decimal line ++ codes ":" ++ decimal field) }
+{
+    let mut text = Vec::new(alloc);
+    append_number(&mut text, b"", line)?;
+    append_number(&mut text, b":", u64::from(field))?;
+    Ok(text)
+}
+
 /// What a rule of the office carries.
 fn rule_detail(alloc: Global, rule: Rule) -> Result<Vec<u8>, AllocError>
     ensures { IfOk result (λ detail. detail.items ≡ rule_detail rule) }
@@ -131,6 +144,9 @@ fn rule_detail(alloc: Global, rule: Rule) -> Result<Vec<u8>, AllocError>
             Vec::from_slice(alloc, worker.number().to_string(alloc)?.as_bytes())
         }
         Rule::OverLimit(limit) => Vec::from_slice(alloc, limit.word().as_bytes()),
+        Rule::BadCsv { line, field } => place_text(alloc, line, field),
+        Rule::RefConflict(line) => Vec::from_slice(alloc, line.to_string(alloc)?.as_bytes()),
+        Rule::ValueAhead(line) => Vec::from_slice(alloc, line.to_string(alloc)?.as_bytes()),
         Rule::NotYours
         | Rule::UnknownEmployer
         | Rule::EmployerExists
@@ -178,6 +194,13 @@ fn reply_body(alloc: Global, reply: Reply) -> Result<Vec<u8>, AllocError>
             let mut body = Vec::new(alloc);
             append_number(&mut body, b"{\"charge\":", charge)?;
             append_number(&mut body, b",\"version\":", u64::from(version))?;
+            body.extend_from_slice(b"}")?;
+            Ok(body)
+        }
+        Reply::Imported { new, repeats } => {
+            let mut body = Vec::new(alloc);
+            append_number(&mut body, b"{\"new\":", new)?;
+            append_number(&mut body, b",\"repeats\":", repeats)?;
             body.extend_from_slice(b"}")?;
             Ok(body)
         }

@@ -1,6 +1,6 @@
 //! What a request calls for.
 ghost use Rattle.std.specs.Prelude.{◌≡◌, ℕ, IfSome, IfNone};
-ghost use Rattle.clear_http.specs.declared.routes.Route.TheVariants.{Employers, Report};
+ghost use Rattle.clear_http.specs.declared.routes.Route.TheVariants.{Employers, Report, Bank};
 ghost use Rattle.clear_http.specs.Judged.{heading};
 ghost use Rattle.clear_http.specs.Reading.{caller_at, IsNumber, AsksBy, Reads};
 
@@ -14,6 +14,7 @@ use clear_money::days::Day;
 use clear_money::months::Month;
 use clear_money::numbers::{EmployerNo, read_number};
 use clear_rules::calls::{Call, Caller, Command, Query, RequestNo, WageReport};
+use clear_rules::files::BankFile;
 use clear_rules::outcomes::Rule;
 use std::alloc::Global;
 
@@ -113,6 +114,24 @@ fn report(
     }
 }
 
+/// The import of the bank file that the request gives: its body, whatever it is.
+fn import_bank(alloc: Global, caller: Caller, day: Day, request: &Request) -> Result<Call, Refusal>
+    ensures { AsksBy Bank caller day (heading request.now.head) request.now.body.items result }
+{
+    let Some(number) = number_of(&request.head) else {
+        return Err(Refusal::BadBody);
+    };
+    match Vec::from_slice(alloc, request.body.as_slice()) {
+        Ok(bytes) => Ok(Call::Do {
+            caller,
+            number,
+            day,
+            command: Command::ImportBank(BankFile::new(bytes)),
+        }),
+        Err(_) => Err(Refusal::Office(Rule::Memory)),
+    }
+}
+
 /// What a request of this route and this caller calls for.
 fn call_by(
     alloc: Global,
@@ -135,5 +154,6 @@ fn call_by(
                 employer: *employer,
             },
         }),
+        Route::Bank => import_bank(alloc, caller, day, request),
     }
 }

@@ -24,6 +24,8 @@ pub enum Route {
     Report { employer: EmployerNo, month: Month },
     /// `GET /employers/{e}/owed`
     Owed { employer: EmployerNo },
+    /// `POST /bank`
+    Bank,
 }
 
 /// A path with its parameters open.
@@ -32,6 +34,7 @@ enum Path {
     Employers,
     Report,
     Owed,
+    Bank,
 }
 
 /// The router over all paths.
@@ -41,13 +44,14 @@ pub struct Routes {
     ghost whole: { router ≡ table },
 }
 
-fn all_paths() -> [(&'static str, Path); 3]
+fn all_paths() -> [(&'static str, Path); 4]
     ensures { map (λ entry. (entry.0.now, entry.1)) result ≡ paths }
 {
     [
         ("/employers", Path::Employers),
         ("/employers/{e}/reports/{m}", Path::Report),
         ("/employers/{e}/owed", Path::Owed),
+        ("/bank", Path::Bank),
     ]
 }
 
@@ -102,7 +106,7 @@ impl Route {
         ensures { result ≡ method_for self.now }
     {
         match self {
-            Route::Employers | Route::Report { .. } => Method::Post,
+            Route::Employers | Route::Report { .. } | Route::Bank => Method::Post,
             Route::Owed { .. } => Method::Get,
         }
     }
@@ -158,6 +162,7 @@ impl Routes {
                 };
                 Some(Route::Owed { employer })
             }
+            Path::Bank => Some(Route::Bank),
         }
     }
 

@@ -20,6 +20,8 @@ const REGISTRATION: &str = "{\"employer\":1001,\"name\":\"Bau Nord\",\"start\":\
 
 const LINES: &str = "{\"lines\":[{\"gross\":1000000,\"worker\":7}]}";
 
+const BANK_FILE: &str = "not even a \"header\r\n";
+
 /// Whether the answer is the status, the further field and the body, with the body's length.
 fn is_answered(
     alloc: Global,
@@ -52,6 +54,7 @@ fn answers_as_the_first_run(rt: HostRuntime) -> Result<(), Fail> {
         version: 1,
         charge: 200_000,
     });
+    let imported = Said::Reply(Reply::Imported { new: 2, repeats: 0 });
     let owed = Said::Answer(Answer::Owed {
         charged: 200_000,
         credited: 0,
@@ -61,6 +64,7 @@ fn answers_as_the_first_run(rt: HostRuntime) -> Result<(), Fail> {
     for (said, length, body) in [
         (Said::Reply(Reply::Done), "13", "{\"done\":true}"),
         (reported, "29", "{\"charge\":200000,\"version\":1}"),
+        (imported, "21", "{\"new\":2,\"repeats\":0}"),
         (
             owed,
             "60",
@@ -150,6 +154,38 @@ fn answers_refusals(rt: HostRuntime) -> Result<(), Fail> {
 }
 
 #[test]
+fn answers_refused_files(rt: HostRuntime) -> Result<(), Fail> {
+    for (said, length, body) in [
+        (
+            refused(Rule::OverLimit(Limit::File)),
+            "46",
+            "{\"detail\":\"file\",\"name\":\"OverLimit\",\"rule\":18}",
+        ),
+        (
+            refused(Rule::BadCsv { line: 2, field: 4 }),
+            "42",
+            "{\"detail\":\"2:4\",\"name\":\"BadCsv\",\"rule\":20}",
+        ),
+        (
+            refused(Rule::RefConflict(4)),
+            "45",
+            "{\"detail\":\"4\",\"name\":\"RefConflict\",\"rule\":21}",
+        ),
+        (
+            refused(Rule::ValueAhead(2)),
+            "44",
+            "{\"detail\":\"2\",\"name\":\"ValueAhead\",\"rule\":22}",
+        ),
+    ] {
+        assert!(rt;
+            is_answered(rt.alloc(), said, "409 Conflict", "", length, body)?,
+            "{body}"
+        );
+    }
+    Ok(())
+}
+
+#[test]
 fn asks_for_a_key(rt: HostRuntime) -> Result<(), Fail> {
     assert!(rt;
         is_answered(
@@ -225,6 +261,7 @@ fn finds_routes(rt: HostRuntime) -> Result<(), Fail> {
             "/employers/1001/owed",
             Some(Route::Owed { employer }),
         ),
+        (Method::Post, "/bank", Some(Route::Bank)),
         (Method::Get, "/employers", None),
         (Method::Post, "/employers/1001/owed", None),
         (Method::Post, "/employers/", None),
@@ -309,6 +346,14 @@ const OWED: Sent<'static> = Sent {
     body: "anything",
 };
 
+const BANK: Sent<'static> = Sent {
+    method: Method::Post,
+    target: "/bank",
+    key: Some("desk"),
+    number: Some("1"),
+    body: BANK_FILE,
+};
+
 fn is_firm(caller: &Caller, number: u32) -> bool {
     match caller {
         Caller::Firm(firm) => firm.number() == number,
@@ -356,6 +401,19 @@ fn is_report(call: &Call) -> bool {
                 && report.month.number() == 24_288
                 && is_line(report.lines.as_slice(), 7, 1_000_000)
         }
+        _ => false,
+    }
+}
+
+/// Whether the clerk gives the bank file above.
+fn is_import(call: &Call) -> bool {
+    match call {
+        Call::Do {
+            caller: Caller::Clerk,
+            number,
+            command: Command::ImportBank(file),
+            ..
+        } => number.number() == 1 && file.as_slice() == BANK_FILE.as_bytes(),
         _ => false,
     }
 }
@@ -433,6 +491,26 @@ fn refuses_in_its_order(rt: HostRuntime) -> Result<(), Fail> {
         (numbered_badly, 8),
         (too_great, 8),
     ] {
+        assert_eq!(rt; rule_against(rt.alloc(), sent)?, rule);
+    }
+    Ok(())
+}
+
+#[test]
+fn reads_bank_files(rt: HostRuntime) -> Result<(), Fail> {
+    match &call_of(rt.alloc(), BANK)? {
+        Some(Ok(call)) => assert!(rt; is_import(call)),
+        _ => panic!(rt; "no import"),
+    }
+    let asked = Sent {
+        method: Method::Get,
+        ..BANK
+    };
+    let unnumbered = Sent {
+        number: None,
+        ..BANK
+    };
+    for (sent, rule) in [(asked, 4), (unnumbered, 8)] {
         assert_eq!(rt; rule_against(rt.alloc(), sent)?, rule);
     }
     Ok(())

@@ -106,7 +106,8 @@ impl Day {
 
 /// The day on which the contribution of a month is due, at the month's rate row.
 pub fn due_day(month: Month, row: &RateRow) -> Day
-    ensures { result ≡ due_day_of month row.now }
+    ensures value { result ≡ due_day_of month row.now }
+    ensures place { day_of_month result ≤ 28 }
 {
     day_at(month.number() + 1, row.due_day())
 }
@@ -164,7 +165,8 @@ fn read_date(bytes: &[u8]) -> Option<WrittenDate>
 fn day_at(month: u16, day: u8) -> Day
     requires month { (24000 ≤ month) × (month ≤ 26400) }
     requires day { IsDayOfEachMonth day }
-    ensures { result ≡ day_in month day }
+    ensures value { result ≡ day_in month day }
+    ensures place { day_of_month result ≡ day }
 {
     match Date::new((month / 12) as i16, (month % 12 + 1) as i8, day as i8) {
         Ok(date) => {

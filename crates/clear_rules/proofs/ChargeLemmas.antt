@@ -1,54 +1,28 @@
 -- The contributions that the tables hold are those of the book.
-use Rattle.std.proofs.Common.{◌≡◌, ◌≢◌, ℕ, zero, suc, ◌+◌, ◌<◌, ◌≤◌, ◌⊎◌, ⊎_elim, List, [], ◌∷◌, Option, Some, None, Bool, true, false, not, cond, ◌&&◌, ◌||◌, ◌==◌, nat_lt, is_some, sum_by, map, filter, refl, sym, ap, ◌∙◌, subst, arith}
+use Rattle.std.proofs.Common.{◌≡◌, ℕ, zero, suc, ◌+◌, ◌<◌, ◌≤◌, ◌⊎◌, ⊎_elim, List, [], ◌∷◌, Option, Some, None, Bool, true, false, cond, ◌&&◌, ◌||◌, ◌==◌, nat_lt, is_some, map, filter, refl, sym, ap, ◌∙◌, subst, arith}
 use Rattle.std.proofs.lemmas.Bool.{cases_order}
-use Rattle.std.proofs.lemmas.Bool.Decides.{nat_tests, eqb_tells}
+use Rattle.std.proofs.lemmas.Bool.Decides.{nat_tests}
 use Rattle.std.proofs.lemmas.List.Sums.{sum_by-cons}
 use Rattle.std.specs.Option.{option_map}
 use Rattle.std.specs.List.{range_with_len, filter_map, cons_option}
+use Rattle.clear_account.specs.declared.entries.Charge.{Charge}
 use Rattle.clear_money.specs.Calendar.{IsMonth}
 use Rattle.clear_money.specs.Rates.{Rate}
 use Rattle.clear_rules.specs.declared.texts.WageLine.{WageLine}
 use Rattle.clear_rules.specs.declared.calls.Command.{Command}
-use Rattle.clear_rules.specs.declared.calls.Command.TheVariants.{Register, Report}
+use Rattle.clear_rules.specs.declared.calls.Command.TheVariants.{Register, Report, ImportBank}
 use Rattle.clear_rules.specs.declared.rows.ReportRow.{ReportRow}
 use Rattle.clear_rules.specs.declared.rows.WageRow.{WageRow}
-use Rattle.clear_rules.specs.Accounts.{Charge, base_of, charge_of, charged_for, charge_in, charges_of, months}
+use Rattle.clear_rules.specs.Accounts.{base_of, charge_of, charged_for, charge_in, charges_of}
 use Rattle.clear_rules.specs.Book.{Book, Entry, rates_of, member_of, start_of, reported_by, latest_lines, version_of, reported_version}
 use Rattle.clear_rules.specs.Judge.{own_rule}
 use Rattle.clear_rules.specs.Ranges.{IsCommand}
-use Rattle.clear_rules.specs.Keyed.{is_key, is_before, find_row, AllBehind, AreInOrder}
+use Rattle.clear_rules.specs.Keyed.{is_before, find_row, AllBehind, AreInOrder}
 use Rattle.clear_rules.specs.Machine.{AreJudged, IsLawful}
-use Rattle.clear_rules.specs.Tables.{Tables, Stands, report_key, wage_key, version_at, gross_at, gross_of, reported_gross, base_at, charge_for, charges_at}
-use Rattle.clear_rules.proofs.KeyedLemmas.{is_key-refl, is_key-true}
+use Rattle.clear_rules.specs.Tables.{Tables, Stands, report_key, wage_key, gross_at, gross_of, reported_gross, base_at, charge_for, charges_at}
+use Rattle.clear_rules.proofs.KeyedLemmas.{none_behind, found_key}
 use Rattle.clear_rules.proofs.LimitLemmas.{months_are, accepted, latest_means}
 use Rattle.clear_rules.proofs.StandsLemmas.{AreDistinct, distinct, untwiced, key_is, same_worker, itself}
-
--- ---- keys that come before are others
-
-before_is_other : (k l : List ℕ) → is_before k l ≡ true → is_key l k ≡ false
-before_is_other k l h = told (is_key l k) refl
-  where
-    never : (m : List ℕ) → is_before m m ≡ true → ⊥
-    never [] g = cc
-    never (a ∷ m) g = step (nat_lt a a) (a == a) (is_before m m) (strict a) (never m) g
-      where
-        strict : (n : ℕ) → nat_lt n n ≡ false
-        strict n = grind (arith, nat_tests)
-
-        step : (p q r : Bool) → p ≡ false → (r ≡ true → ⊥) → p || (q && r) ≡ true → ⊥
-        step true q r e rest g = cc
-        step false true true e rest g = rest refl
-        step false true false e rest g = cc
-        step false false r e rest g = cc
-
-    told : (b : Bool) → is_key l k ≡ b → is_key l k ≡ false
-    told false e = e
-    told true e = absurd (never k (subst (λ (m : List ℕ). is_before k m ≡ true) (is_key-true l k e) h))
-
-none_behind : {Row : Type 0} (key : Row → List ℕ) (k : List ℕ) (rows : List Row) → AllBehind key k rows → find_row key rows k ≡ None
-none_behind key k [] all = refl
-none_behind key k (row ∷ rows) all =
-    ap (λ b. cond b (Some row) (find_row key rows k)) (before_is_other k (key row) all.0) ∙ none_behind key k rows all.1
 
 -- ---- the base: wage rows in order with the gross amounts of distinct lines have their sum
 
@@ -230,23 +204,23 @@ module _ (charge : ReportRow → Charge) where
 -- ---- the rows of an employer
 
 module _ (e : ℕ) where
-  abbrev is_of : ReportRow → Bool
+  abbrev pub is_of : ReportRow → Bool
   is_of row = row.employer == e
 
-  abbrev is_found : List ReportRow → ℕ → Type 0
+  abbrev pub is_found : List ReportRow → ℕ → Type 0
   is_found rows m = is_some (find_row report_key rows (e ∷ m ∷ [])) ≡ true
 
   abbrev report_here : ReportRow → ℕ → Bool
   report_here row m = (row.employer == e) && ((row.month == m) && true)
 
-  found_behind : (row : ReportRow) (rows : List ReportRow) (m : ℕ) → is_found rows m → is_found (row ∷ rows) m
+  pub found_behind : (row : ReportRow) (rows : List ReportRow) (m : ℕ) → is_found rows m → is_found (row ∷ rows) m
   found_behind row rows m h = told (report_here row m)
     where
       told : (b : Bool) → is_some (cond b (Some row) (find_row report_key rows (e ∷ m ∷ []))) ≡ true
       told true = refl
       told false = h
 
-  found_first : (row : ReportRow) (rows : List ReportRow) → is_of row ≡ true → is_found (row ∷ rows) row.month
+  pub found_first : (row : ReportRow) (rows : List ReportRow) → is_of row ≡ true → is_found (row ∷ rows) row.month
   found_first row rows h = (λ i. is_some (cond (h i && (itself row.month i && true)) (Some row) (find_row report_key rows (e ∷ row.month ∷ []))))
 
   next_month : (k : ℕ) (row : ReportRow) → is_of row ≡ true → is_before (e ∷ k ∷ []) (report_key row) ≡ true → k < row.month
@@ -294,14 +268,6 @@ module _ (e : ℕ) where
       told true false is rest = ap (λ b. cond b (Some (charge row)) (given charge (filter is_of rows) m)) is ∙ rest
       told false q is rest = rest
 
-found_key : {Row : Type 0} (key : Row → List ℕ) (rows : List Row) (k : List ℕ) (row : Row) → find_row key rows k ≡ Some row → key row ≡ k
-found_key key [] k row h = absurd (cc)
-found_key {Row = Row} key (first ∷ rows) k row h = told (is_key (key first) k) refl h (found_key key rows k row)
-  where
-    told : (b : Bool) → is_key (key first) k ≡ b → cond b (Some first) (find_row key rows k) ≡ Some row → (find_row key rows k ≡ Some row → key row ≡ k) → key row ≡ k
-    told true is g rest = let same : first ≡ row = cc in subst (λ (r : Row). key r ≡ k) same (is_key-true (key first) k is)
-    told false is g rest = rest g
-
 -- ---- a lawful book's reports have distinct lines, and months of the calendar
 
 abbrev IsRight : ℕ → List WageLine → Type 0
@@ -309,6 +275,7 @@ IsRight m lines = AreDistinct lines × IsMonth m
 
 reported_right : (b : Book) (t : ℕ) (command : Command) (e m : ℕ) (lines : List WageLine) → own_rule b t command ≡ None → IsCommand command → reported_by command e m ≡ Some lines → IsRight m lines
 reported_right b t (Register r) e m lines own in_range h = absurd (cc)
+reported_right b t (ImportBank file) e m lines own in_range h = absurd (cc)
 reported_right b t (Report r) e m lines own in_range h =
     told ((r.employer == e) && (r.month == m)) refl h (distinct [] r.lines (untwiced (start_of (member_of b.entries r.employer)) (reported_version b.entries r.employer r.month) t r.month r.lines own)) in_range.1
   where
@@ -330,7 +297,7 @@ lawful_right rates (x ∷ xs) h e m lines is =
 
 module _ (b : Book) (t : Tables) (lawful : IsLawful b) (stands : Stands b t) (e : ℕ) where
   -- a found row tells of a report
-  reported : (m : ℕ) → is_found e t.reports m → (lines : List WageLine) × (latest_lines b.entries e m ≡ Some lines)
+  pub reported : (m : ℕ) → is_found e t.reports m → (lines : List WageLine) × (latest_lines b.entries e m ≡ Some lines)
   reported m h = told (find_row report_key t.reports (e ∷ m ∷ [])) (latest_lines b.entries e m) refl h (stands.reports e m)
     where
       told : (o : Option ReportRow) (latest : Option (List WageLine)) → latest_lines b.entries e m ≡ latest → is_some o ≡ true → option_map (λ (row : ReportRow). row.version) o ≡ option_map (λ (lines : List WageLine). version_of b.entries e m) latest → (lines : List WageLine) × (latest_lines b.entries e m ≡ Some lines)

@@ -49,16 +49,16 @@ first_less a b k l h = grind (arith, nat_tests)
 first_same : (a : ℕ) (k l : List ℕ) → is_before k l ≡ true → is_before (a ∷ k) (a ∷ l) ≡ true
 first_same a k l h = grind (arith, nat_tests)
 
--- of two keys of one length the first that differs tells, so one comes before the other
-pub is_before-total : (k l : List ℕ) → length k ≡ length l → is_key k l ≡ false → is_before k l ≡ false → is_before l k ≡ true
-is_before-total [] [] len differ not = absurd (cc)
-is_before-total [] (b ∷ l) len differ not = absurd (omega arith)
-is_before-total (a ∷ k) [] len differ not = absurd (omega arith)
-is_before-total (a ∷ k) (b ∷ l) len differ not =
+-- of two keys that differ one comes before the other
+pub is_before-total : (k l : List ℕ) → is_key k l ≡ false → is_before k l ≡ false → is_before l k ≡ true
+is_before-total [] [] differ not = absurd (cc)
+is_before-total [] (b ∷ l) differ not = absurd (cc)
+is_before-total (a ∷ k) [] differ not = refl
+is_before-total (a ∷ k) (b ∷ l) differ not =
     ⊎_elim
     (λ (e : a ≡ b).
     let parts = subst (λ (n : ℕ). (is_key (n ∷ k) (b ∷ l) ≡ false) × (is_before (n ∷ k) (b ∷ l) ≡ false)) e (differ, not) in
-    let rest = is_before-total k l (omega arith) (tail_differs b k l parts.0) (tail_not b k l parts.1) in
+    let rest = is_before-total k l (tail_differs b k l parts.0) (tail_not b k l parts.1) in
     subst (λ (n : ℕ). is_before (b ∷ l) (n ∷ k) ≡ true) (sym e) (first_same b l k rest))
     (λ (o : (a < b) ⊎ (b < a)).
     ⊎_elim (λ (lt : a < b). absurd (cc (first_less a b k l lt))) (first_less b a l k) o)
@@ -78,7 +78,9 @@ before_parts a b k l h =
     (either (nat_lt a b) ((a == b) && is_before k l) h)
 
 pub is_before-trans : (k l m : List ℕ) → is_before k l ≡ true → is_before l m ≡ true → is_before k m ≡ true
-is_before-trans [] l m h g = absurd (cc)
+is_before-trans [] [] m h g = absurd (cc)
+is_before-trans [] (b ∷ l) [] h g = absurd (cc)
+is_before-trans [] (b ∷ l) (c ∷ m) h g = refl
 is_before-trans (a ∷ k) [] m h g = absurd (cc)
 is_before-trans (a ∷ k) (b ∷ l) [] h g = absurd (cc)
 is_before-trans (a ∷ k) (b ∷ l) (c ∷ m) h g =
@@ -92,15 +94,52 @@ is_before-trans (a ∷ k) (b ∷ l) (c ∷ m) h g =
     (before_parts b c l m g))
     (before_parts a b k l h)
 
+-- a key that another comes before is not that other
+pub before_is_other : (k l : List ℕ) → is_before k l ≡ true → is_key l k ≡ false
+before_is_other k l h = told (is_key l k) refl
+  where
+    never : (m : List ℕ) → is_before m m ≡ true → ⊥
+    never [] g = cc
+    never (a ∷ m) g = step (nat_lt a a) (a == a) (is_before m m) (strict a) (never m) g
+      where
+        strict : (n : ℕ) → nat_lt n n ≡ false
+        strict n = grind (arith, nat_tests)
+
+        step : (p q r : Bool) → p ≡ false → (r ≡ true → ⊥) → p || (q && r) ≡ true → ⊥
+        step true q r e rest g = cc
+        step false true true e rest g = rest refl
+        step false true false e rest g = cc
+        step false false r e rest g = cc
+
+    told : (b : Bool) → is_key l k ≡ b → is_key l k ≡ false
+    told false e = e
+    told true e = absurd (never k (subst (λ (m : List ℕ). is_before k m ≡ true) (is_key-true l k e) h))
+
 -- ---- tables
 
 module _ {Row : Type 0} (key : Row → List ℕ) where
-  other_row : (row : Row) (rows : List Row) (k : List ℕ) → find_row key (row ∷ rows) k ≡ None → (is_key (key row) k ≡ false) × (find_row key rows k ≡ None)
+  -- a key that rows lack is not that of the first, and the others lack it
+  pub other_row : (row : Row) (rows : List Row) (k : List ℕ) → find_row key (row ∷ rows) k ≡ None → (is_key (key row) k ≡ false) × (find_row key rows k ≡ None)
   other_row row rows k h = told (is_key (key row) k) h
     where
       told : (b : Bool) → cond b (Some row) (find_row key rows k) ≡ None → (b ≡ false) × (find_row key rows k ≡ None)
       told true h = absurd (cc)
       told false h = (refl, h)
+
+  -- a found row has the key
+  pub found_key : (rows : List Row) (k : List ℕ) (row : Row) → find_row key rows k ≡ Some row → key row ≡ k
+  found_key [] k row h = absurd (cc)
+  found_key (first ∷ rows) k row h = told (is_key (key first) k) refl h (found_key rows k row)
+    where
+      told : (b : Bool) → is_key (key first) k ≡ b → cond b (Some first) (find_row key rows k) ≡ Some row → (find_row key rows k ≡ Some row → key row ≡ k) → key row ≡ k
+      told true is g rest = let same : first ≡ row = cc in subst (λ (r : Row). key r ≡ k) same (is_key-true (key first) k is)
+      told false is g rest = rest g
+
+  -- a key that comes before those of the rows is none of theirs
+  pub none_behind : (k : List ℕ) (rows : List Row) → AllBehind key k rows → find_row key rows k ≡ None
+  none_behind k [] all = refl
+  none_behind k (row ∷ rows) all =
+      ap (λ b. cond b (Some row) (find_row key rows k)) (before_is_other k (key row) all.0) ∙ none_behind k rows all.1
 
   -- a row with a new key is found by it, and the others as before
   pub find_row-with_row : (rows : List Row) (new : Row) (k : List ℕ) → find_row key rows (key new) ≡ None → find_row key (with_row key rows new) k ≡ cond (is_key (key new) k) (Some new) (find_row key rows k)
@@ -126,7 +165,7 @@ module _ {Row : Type 0} (key : Row → List ℕ) where
       placed true rest = omega arith
       placed false rest = omega arith
 
-  behind_all : (k l : List ℕ) (rows : List Row) → is_before k l ≡ true → AllBehind key l rows → AllBehind key k rows
+  pub behind_all : (k l : List ℕ) (rows : List Row) → is_before k l ≡ true → AllBehind key l rows → AllBehind key k rows
   behind_all k l [] h all = tt
   behind_all k l (row ∷ rows) h all = (is_before-trans k l (key row) h all.0, behind_all k l rows h all.1)
 
@@ -138,16 +177,15 @@ module _ {Row : Type 0} (key : Row → List ℕ) where
       placed true rest = (h, all)
       placed false rest = (all.0, rest)
 
-  module _ (width : ℕ) (wide : (row : Row) → length (key row) ≡ width) where
-    -- the rows stay in order
-    pub AreInOrder-with_row : (rows : List Row) (new : Row) → AreInOrder key rows → find_row key rows (key new) ≡ None → AreInOrder key (with_row key rows new)
-    AreInOrder-with_row [] new order none = (tt, tt)
-    AreInOrder-with_row (row ∷ rows) new order none =
-        let other = other_row row rows (key new) none in
-        placed (is_before (key new) (key row)) refl other.0 (AreInOrder-with_row rows new order.1 other.1)
-      where
-        placed : (before : Bool) → is_before (key new) (key row) ≡ before → is_key (key row) (key new) ≡ false → AreInOrder key (with_row key rows new) → AreInOrder key (cond before (new ∷ row ∷ rows) (row ∷ with_row key rows new))
-        placed true is apart rest = ((is, behind_all (key new) (key row) rows is order.0), order)
-        placed false is apart rest =
-            let ahead = is_before-total (key new) (key row) (wide new ∙ sym (wide row)) (is_key-sym (key row) (key new) apart) is in
-            (behind_with (key row) rows new order.0 ahead, rest)
+  -- the rows stay in order
+  pub AreInOrder-with_row : (rows : List Row) (new : Row) → AreInOrder key rows → find_row key rows (key new) ≡ None → AreInOrder key (with_row key rows new)
+  AreInOrder-with_row [] new order none = (tt, tt)
+  AreInOrder-with_row (row ∷ rows) new order none =
+      let other = other_row row rows (key new) none in
+      placed (is_before (key new) (key row)) refl other.0 (AreInOrder-with_row rows new order.1 other.1)
+    where
+      placed : (before : Bool) → is_before (key new) (key row) ≡ before → is_key (key row) (key new) ≡ false → AreInOrder key (with_row key rows new) → AreInOrder key (cond before (new ∷ row ∷ rows) (row ∷ with_row key rows new))
+      placed true is apart rest = ((is, behind_all (key new) (key row) rows is order.0), order)
+      placed false is apart rest =
+          let ahead = is_before-total (key new) (key row) (is_key-sym (key row) (key new) apart) is in
+          (behind_with (key row) rows new order.0 ahead, rest)

@@ -1,8 +1,16 @@
+pub mod BankLemmas
 pub mod ChargeLemmas
+pub mod CreditLemmas
+pub mod ImportLemmas
+pub mod ImportedLemmas
 pub mod JudgedLemmas
 pub mod KeyedLemmas
 pub mod LimitLemmas
 pub mod ListLemmas
 pub mod OfficeLemmas
+pub mod PaymentLemmas
+pub mod RatedLemmas
+pub mod RowsLemmas
+pub mod SmallLemmas
 pub mod StandsLemmas
 pub mod TwiceLemmas

@@ -4,10 +4,12 @@ use Rattle.std.proofs.lemmas.Bool.Decides.{nat_tests}
 use Rattle.std.proofs.lemmas.List.Sums.{sum_by-cons}
 use Rattle.std.specs.Option.{option_map_or}
 use Rattle.std.specs.List.{AllByRecursion, list_any, range_with_len, filter_map, cons_option}
+use Rattle.clear_account.specs.Account.{charged}
+use Rattle.clear_account.specs.declared.entries.Charge.{Charge}
 use Rattle.clear_money.specs.Rates.{Rate, IsRate, rate_in_force, later_row, contribution_of}
 use Rattle.clear_rules.specs.declared.texts.WageLine.{WageLine}
 use Rattle.clear_rules.specs.declared.calls.Command.{Command}
-use Rattle.clear_rules.specs.declared.calls.Command.TheVariants.{Register, Report}
+use Rattle.clear_rules.specs.declared.calls.Command.TheVariants.{Register, Report, ImportBank}
 use Rattle.clear_rules.specs.declared.calls.Call.{Call}
 use Rattle.clear_rules.specs.declared.calls.Call.TheVariants.{Do, Ask}
 use Rattle.clear_rules.specs.declared.outcomes.Limit.TheVariants.{Lines, Gross}
@@ -15,10 +17,10 @@ use Rattle.clear_rules.specs.declared.outcomes.Rule.{Rule}
 use Rattle.clear_rules.specs.declared.outcomes.Rule.TheVariants.{Memory, OverLimit}
 use Rattle.clear_rules.specs.declared.outcomes.Outcome.{Outcome}
 use Rattle.clear_rules.specs.declared.outcomes.Outcome.TheVariants.{Replied, Answered, Refused}
-use Rattle.clear_rules.specs.Accounts.{Charge, base_of, charge_at, charge_of, charged_for, charge_in, charged, months}
+use Rattle.clear_rules.specs.Accounts.{base_of, charge_at, charge_of, charged_for, charge_in, charges_of, months}
 use Rattle.clear_rules.specs.Book.{Book, Entry, rates_of, newer, reported_by, latest_lines, member_of, start_of, reported_version}
 use Rattle.clear_rules.specs.Judge.{first_of, when, judge, most_entries, own_rule, own_report, month_rule, lines_rule, twice_rule, worker_twice, most_lines, most_gross}
-use Rattle.clear_rules.specs.Laws.{AreFew, IsSmall}
+use Rattle.clear_rules.specs.Laws.{AreFew}
 use Rattle.clear_rules.specs.Machine.{AreJudged, IsLawful, AreRates, after, step, is_allowed, Takes, Runs}
 use Rattle.clear_rules.specs.Ranges.{IsCall}
 use Rattle.clear_rules.proofs.JudgedLemmas.{unrefused}
@@ -67,6 +69,7 @@ latest_means (Some x) old lines h = inl h
 
 reported_few : (b : Book) (t : ℕ) (command : Command) (e m : ℕ) (lines : List WageLine) → own_rule b t command ≡ None → reported_by command e m ≡ Some lines → AreFew lines
 reported_few b t (Register r) e m lines own h = absurd (cc)
+reported_few b t (ImportBank file) e m lines own h = absurd (cc)
 reported_few b t (Report r) e m lines own h =
     chosen ((r.employer == e) && (r.month == m)) h (few_lines (start_of (member_of b.entries r.employer)) (reported_version b.entries r.employer r.month) t r.month r.lines own)
   where
@@ -145,7 +148,7 @@ chosen_sum g k a (suc n) h = one (g a) (h a) (chosen_sum g k (a + 1) n h)
     one None low rest = omega arith
     one (Some c) low rest = omega (arith, low c refl, sum_by-cons (λ (x : Charge). x.cents) c (filter_map g (range_with_len (a + 1) n)))
 
-charge_small : (b : Book) (e m : ℕ) (c : Charge) → ((lines : List WageLine) → latest_lines b.entries e m ≡ Some lines → charge_at (rate_in_force b.opening m) lines ≤ 5000000000) → charge_in b e m ≡ Some c → c.cents ≤ 5000000000
+pub charge_small : (b : Book) (e m : ℕ) (c : Charge) → ((lines : List WageLine) → latest_lines b.entries e m ≡ Some lines → charge_at (rate_in_force b.opening m) lines ≤ 5000000000) → charge_in b e m ≡ Some c → c.cents ≤ 5000000000
 charge_small b e m c low is = told (latest_lines b.entries e m) low is
   where
     told : (o : Option (List WageLine)) → ((lines : List WageLine) → o ≡ Some lines → charge_at (rate_in_force b.opening m) lines ≤ 5000000000) → charged_for b m o ≡ Some c → c.cents ≤ 5000000000
@@ -158,24 +161,10 @@ pub months_are : (n : ℕ) → n ≡ 2400 → months ≡ range_with_len 24000 n
 unfolding months
 months_are n e = subst (λ (k : ℕ). months ≡ range_with_len 24000 k) (sym e) refl
 
-charged_small : (b : Book) (e n : ℕ) → n ≡ 2400 → ((m : ℕ) (c : Charge) → charge_in b e m ≡ Some c → c.cents ≤ 5000000000) → charged b e ≤ 12000000000000
+pub charged_small : (b : Book) (e n : ℕ) → n ≡ 2400 → ((m : ℕ) (c : Charge) → charge_in b e m ≡ Some c → c.cents ≤ 5000000000) → charged (charges_of b e) ≤ 12000000000000
 charged_small b e n is low =
     let all = chosen_sum (charge_in b e) 5000000000 24000 n low in
     subst (λ (ms : List ℕ). sum_by (λ c. c.cents) (filter_map (charge_in b e) ms) ≤ 12000000000000) (sym (months_are n is)) (omega arith)
-
--- no sum over a lawful book goes beyond these
-pub lawful_small : (b : Book) → IsLawful b → IsSmall b
-lawful_small b h =
-    let few = lawful_few b.opening b.entries h in
-    let rates = (lawful_rates b.opening b.entries h).ranges in
-    let charge = λ (e m : ℕ) (lines : List WageLine) (is : latest_lines b.entries e m ≡ Some lines). few_charge b.opening m lines rates (few e m lines is) in
-    record {
-      entries = lawful_entries b.opening b.entries h;
-      lines = few;
-      base = λ e m lines is. few_base lines (few e m lines is);
-      charge = charge;
-      total = λ e. charged_small b e 2400 refl (λ m c is. charge_small b e m c (charge e m) is);
-    }
 
 -- ---- steps and runs
 

@@ -1,5 +1,5 @@
 -- How the parts of an office make the steps and runs of the machine.
-use Rattle.std.proofs.Common.{◌≡◌, ℕ, ◌<◌, ◌≤◌, ◌⊎◌, ⊎_elim, inl, inr, List, [], ◌∷◌, ◌++◌, length, Option, Some, None, Result, Ok, Err, Bool, true, false, not, nat_le, is_some, refl, sym, ap, ◌∙◌, subst, arith}
+use Rattle.std.proofs.Common.{◌≡◌, ℕ, ◌<◌, ◌≤◌, ⊎_elim, inl, inr, List, [], ◌∷◌, ◌++◌, length, Option, Some, None, Ok, Err, true, false, not, nat_le, is_some, refl, sym, ap, ◌∙◌, subst, arith}
 use Rattle.std.proofs.lemmas.Bool.Decides.{nat_tests}
 use Rattle.clear_rules.specs.declared.calls.Caller.{Caller}
 use Rattle.clear_rules.specs.declared.calls.Command.{Command}
@@ -8,24 +8,22 @@ use Rattle.clear_rules.specs.declared.calls.Query.TheVariants.{Owed as AskOwed}
 use Rattle.clear_rules.specs.declared.calls.Call.{Call}
 use Rattle.clear_rules.specs.declared.calls.Call.TheVariants.{Do, Ask}
 use Rattle.clear_rules.specs.declared.outcomes.Answer.{Answer}
-use Rattle.clear_rules.specs.declared.outcomes.Answer.TheVariants.{Owed}
-use Rattle.clear_rules.specs.declared.outcomes.Reply.{Reply}
 use Rattle.clear_rules.specs.declared.outcomes.Limit.TheVariants.{Book as BookLimit}
 use Rattle.clear_rules.specs.declared.outcomes.Rule.{Rule}
 use Rattle.clear_rules.specs.declared.outcomes.Rule.TheVariants.{NotYours, OverLimit, Memory, UnknownEmployer}
 use Rattle.clear_rules.specs.declared.outcomes.Outcome.{Outcome}
 use Rattle.clear_rules.specs.declared.outcomes.Outcome.TheVariants.{Replied, Answered, Refused}
 use Rattle.clear_rules.specs.declared.rows.Decision.{Decision}
-use Rattle.clear_rules.specs.Accounts.{cents_of, due_before}
 use Rattle.clear_rules.specs.Book.{Book, ledger_day}
 use Rattle.clear_rules.specs.Decisions.{IsJudged, TakesTables}
-use Rattle.clear_rules.specs.Judge.{judge, may_do, may_query, day_back, own_rule, own_query, reply_to, most_entries, when}
-use Rattle.clear_rules.specs.Machine.{IsLawful, Takes, Runs, appended, after, step}
-use Rattle.clear_rules.specs.Offices.{Steps, RunsTables, answered}
-use Rattle.clear_rules.specs.Ranges.{IsCall, IsCommand}
+use Rattle.clear_rules.specs.Judge.{judge, may_do, may_query, day_back, own_rule, most_entries, owed_by, when}
+use Rattle.clear_rules.specs.Machine.{IsLawful, Takes, Runs, appended, after}
+use Rattle.clear_rules.specs.Offices.{Steps, RunsTables}
+use Rattle.clear_rules.specs.Ranges.{IsCommand}
 use Rattle.clear_rules.specs.RequestNos.{IsRequestNo}
-use Rattle.clear_rules.specs.Tables.{Tables, Stands, changed, noted, member_at, charges_at}
+use Rattle.clear_rules.specs.Tables.{Tables, Stands, changed, noted, member_at, charges_at, credits_at}
 use Rattle.clear_rules.proofs.ChargeLemmas.{charges_at-charges_of}
+use Rattle.clear_rules.proofs.CreditLemmas.{credits_at-credits_of}
 use Rattle.clear_rules.proofs.JudgedLemmas as judged
 use Rattle.clear_rules.proofs.LimitLemmas.{takes_lawful}
 
@@ -75,13 +73,13 @@ module _ (t : Tables) (caller : Caller) (number day : ℕ) (command : Command) w
             (own b stands)
 
         -- a decision whose change was made is a step
-        pub decided : (d : Decision) (new : Tables) → IsRequestNo number → IsCommand command → ((b : Book) → Stands b t → IsJudged b day command (Ok d)) → TakesTables day command d → new ≡ noted day (changed d.change t) → Steps t this_call (Replied d.reply) new
+        pub decided : (d : Decision) (new : Tables) → IsRequestNo number → IsCommand command → ((b : Book) → Stands b t → IsJudged b day command (Ok d)) → ((b : Book) → Stands b t → TakesTables b day command d) → new ≡ noted day (changed d.change t) → Steps t this_call (Replied d.reply) new
         decided d new numbered in_range own takes is b lawful stands =
             let answer = own b stands in
             let said : judge b this_call ≡ Replied d.reply = judged.accepted b caller number day command may (ledger b stands None back) (room b stands few) answer.0 ∙ ap Replied (sym answer.1) in
             let next = appended b (record { caller = caller; number = number; day = day; command = command; reply = d.reply }) in
             let taken = judged.taken b caller number day command d.reply said in
-            let there = takes b t caller number lawful stands said in
+            let there = takes b stands t caller number lawful stands said in
             (next, taken, takes_lawful b this_call (Replied d.reply) next taken (numbered, in_range) lawful, subst (λ (p : Outcome × Tables). Stands (after b this_call p.0) p.1) (λ i. (said i, sym is i)) there)
 
 -- ---- one query
@@ -93,25 +91,33 @@ module _ (t : Tables) (caller : Caller) (day : ℕ) where
   ledger_at : (b : Book) → Stands b t → (o : Option Rule) → day_back t.day day ≡ o → day_back (ledger_day b.entries) day ≡ o
   ledger_at b stands o h = subst (λ (d : Option ℕ). day_back d day ≡ o) stands.day h
 
-  pub ask_not_yours : (query : Query) → may_query caller query ≡ false → (b : Book) → IsLawful b → Stands b t → Refused NotYours ≡ judge b (ask query)
-  ask_not_yours query may b lawful stands = sym (judged.ask_not_yours b caller day query may)
+  -- an answer of the judge is a step that leaves the book
+  pub asked : (query : Query) (outcome : Outcome) → ((b : Book) → IsLawful b → Stands b t → outcome ≡ judge b (ask query)) → (b : Book) → IsLawful b → Stands b t → Takes b (ask query) outcome b
+  asked query outcome is b lawful stands = inl (is b lawful stands, refl)
 
-  pub ask_back : (query : Query) (r : Rule) → may_query caller query ≡ true → day_back t.day day ≡ Some r → (b : Book) → IsLawful b → Stands b t → Refused r ≡ judge b (ask query)
-  ask_back query r may back b lawful stands = sym (judged.ask_back b caller day query r may (ledger_at b stands (Some r) back))
+  -- and so is want of memory
+  pub ask_memory : (query : Query) → may_query caller query ≡ true → (b : Book) → IsLawful b → Stands b t → Takes b (ask query) (Refused Memory) b
+  ask_memory query may b lawful stands = inr (refl, may, refl)
+
+  pub ask_not_yours : (query : Query) → may_query caller query ≡ false → (b : Book) → IsLawful b → Stands b t → Takes b (ask query) (Refused NotYours) b
+  ask_not_yours query may = asked query (Refused NotYours) (λ b lawful stands. sym (judged.ask_not_yours b caller day query may))
+
+  pub ask_back : (query : Query) (r : Rule) → may_query caller query ≡ true → day_back t.day day ≡ Some r → (b : Book) → IsLawful b → Stands b t → Takes b (ask query) (Refused r) b
+  ask_back query r may back = asked query (Refused r) (λ b lawful stands. sym (judged.ask_back b caller day query r may (ledger_at b stands (Some r) back)))
 
   module _ (e : ℕ) (may : may_query caller (AskOwed e) ≡ true) (back : day_back t.day day ≡ None) where
-    pub owed_unknown : is_some (member_at t.employers e) ≡ false → (b : Book) → IsLawful b → Stands b t → Refused UnknownEmployer ≡ judge b (ask (AskOwed e))
-    owed_unknown none b lawful stands =
-        sym (judged.ask_own b caller day (AskOwed e) UnknownEmployer may (ledger_at b stands None back) (ap (λ k. when (not k) UnknownEmployer) (ap is_some (sym (stands.employers e)) ∙ none)))
+    pub owed_unknown : is_some (member_at t.employers e) ≡ false → (b : Book) → IsLawful b → Stands b t → Takes b (ask (AskOwed e)) (Refused UnknownEmployer) b
+    owed_unknown none =
+        asked (AskOwed e) (Refused UnknownEmployer) (λ b lawful stands. sym (judged.ask_own b caller day (AskOwed e) UnknownEmployer may (ledger_at b stands None back) (ap (λ k. when (not k) UnknownEmployer) (ap is_some (sym (stands.employers e)) ∙ none))))
 
-    pub owed_known : (answer : Answer) → is_some (member_at t.employers e) ≡ true → answer ≡ Owed (cents_of (charges_at t e)) 0 (cents_of (due_before day (charges_at t e))) 0 → (b : Book) → IsLawful b → Stands b t → Answered answer ≡ judge b (ask (AskOwed e))
-    owed_known answer some is b lawful stands =
-        ap Answered (is ∙ ap (λ cs. Owed (cents_of cs) 0 (cents_of (due_before day cs)) 0) (charges_at-charges_of b t lawful stands e))
-        ∙ sym (judged.answered b caller day (AskOwed e) may (ledger_at b stands None back) (ap (λ k. when (not k) UnknownEmployer) (ap is_some (sym (stands.employers e)) ∙ some)))
+    pub owed_known : (answer : Answer) → is_some (member_at t.employers e) ≡ true → answer ≡ owed_by day (charges_at t e) (credits_at t e) → (b : Book) → IsLawful b → Stands b t → Takes b (ask (AskOwed e)) (Answered answer) b
+    owed_known answer some is = asked (AskOwed e) (Answered answer) (λ b lawful stands.
+        ap Answered (is ∙ (λ i. owed_by day (charges_at-charges_of b t lawful stands e i) (credits_at-credits_of b t stands e i)))
+        ∙ sym (judged.answered b caller day (AskOwed e) may (ledger_at b stands None back) (ap (λ k. when (not k) UnknownEmployer) (ap is_some (sym (stands.employers e)) ∙ some))))
 
 -- a query leaves the book
-pub asks : (t : Tables) (caller : Caller) (day : ℕ) (query : Query) (outcome : Outcome) → ((b : Book) → IsLawful b → Stands b t → outcome ≡ judge b (Ask caller day query)) → Steps t (Ask caller day query) outcome t
-asks t caller day query outcome said b lawful stands = (b, inl (said b lawful stands, refl), lawful, stands)
+pub asks : (t : Tables) (caller : Caller) (day : ℕ) (query : Query) (outcome : Outcome) → ((b : Book) → IsLawful b → Stands b t → Takes b (Ask caller day query) outcome b) → Steps t (Ask caller day query) outcome t
+asks t caller day query outcome said b lawful stands = (b, said b lawful stands, lawful, stands)
 
 -- ---- runs
 

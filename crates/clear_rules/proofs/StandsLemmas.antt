@@ -1,6 +1,7 @@
 -- The tables of a book, after a request more.
 use Rattle.std.proofs.Common.{◌≡◌, ℕ, ◌+◌, List, [], ◌∷◌, ◌++◌, length, Option, Some, None, Bool, true, false, not, cond, ◌&&◌, ◌||◌, ◌==◌, nat_lt, is_some, refl, sym, ap, ◌∙◌, subst, arith}
 use Rattle.std.proofs.lemmas.Bool.Decides.{nat_tests}
+use Rattle.std.proofs.lemmas.List.{append-nil}
 use Rattle.std.proofs.lemmas.List.Sums.{sum_by-cons}
 use Rattle.std.specs.Option.{option_map}
 use Rattle.std.specs.List.{list_any}
@@ -8,25 +9,28 @@ use Rattle.clear_money.specs.Calendar.{month_of}
 use Rattle.clear_rules.specs.declared.texts.WageLine.{WageLine}
 use Rattle.clear_rules.specs.declared.calls.Caller.{Caller}
 use Rattle.clear_rules.specs.declared.calls.Command.{Command}
-use Rattle.clear_rules.specs.declared.calls.Command.TheVariants.{Register, Report}
+use Rattle.clear_rules.specs.declared.calls.Command.TheVariants.{Register, Report, ImportBank}
 use Rattle.clear_rules.specs.declared.calls.Call.TheVariants.{Do}
 use Rattle.clear_rules.specs.declared.calls.Registration.{Registration}
 use Rattle.clear_rules.specs.declared.calls.WageReport.{WageReport}
 use Rattle.clear_rules.specs.declared.outcomes.Reply.{Reply}
 use Rattle.clear_rules.specs.declared.outcomes.Limit.TheVariants.{Lines, Gross}
 use Rattle.clear_rules.specs.declared.outcomes.Rule.{Rule}
-use Rattle.clear_rules.specs.declared.outcomes.Rule.TheVariants.{OverLimit, UnknownEmployer, MonthOutside, MonthAhead, ReportExists}
+use Rattle.clear_rules.specs.declared.outcomes.Rule.TheVariants.{OverLimit, UnknownEmployer, MonthOutside, MonthAhead}
 use Rattle.clear_rules.specs.declared.outcomes.Outcome.{Outcome}
 use Rattle.clear_rules.specs.declared.outcomes.Outcome.TheVariants.{Replied}
+use Rattle.clear_rules.specs.declared.rows.BankRow.{BankRow}
 use Rattle.clear_rules.specs.declared.rows.EmployerRow.{EmployerRow}
 use Rattle.clear_rules.specs.declared.rows.ReportRow.{ReportRow}
 use Rattle.clear_rules.specs.declared.rows.WageRow.{WageRow}
 use Rattle.clear_rules.specs.declared.rows.Change.TheVariants.{AddEmployer, AddReport}
 use Rattle.clear_rules.specs.Book.{Book, Entry, Member, start_of, newer, registered_by, member_of, is_registration, reported_by, latest_lines, is_report_of, version_of, reported_version}
+use Rattle.clear_rules.specs.Accounts.{credit_key}
+use Rattle.clear_rules.specs.Lines.{lines_seen, credit_rows}
 use Rattle.clear_rules.specs.Judge.{judge, own_register, own_report, month_rule, lines_rule, first_of, when, is_outside, twice_rule, exists_rule, worker_twice, most_lines, most_gross}
 use Rattle.clear_rules.specs.Keyed.{is_key, find_row, with_row, AreInOrder}
 use Rattle.clear_rules.specs.Machine.{step, after, appended}
-use Rattle.clear_rules.specs.Tables.{Tables, Stands, employer_key, report_key, wage_key, gross_at, gross_of, reported_gross, with_wages, changed, noted}
+use Rattle.clear_rules.specs.Tables.{Tables, Stands, employer_key, report_key, wage_key, bank_key, gross_at, gross_of, reported_gross, with_wages, changed, noted}
 use Rattle.clear_rules.proofs.JudgedLemmas.{unrefused}
 use Rattle.clear_rules.proofs.KeyedLemmas.{find_row-with_row, length-with_row, AreInOrder-with_row}
 
@@ -40,7 +44,7 @@ no_map f (Some x) h = absurd (cc)
 
 -- ---- versions
 
-version_of-other : (xs : List Entry) (x : Entry) (e m : ℕ) → is_report_of e m x.command ≡ false → version_of (x ∷ xs) e m ≡ version_of xs e m
+pub version_of-other : (xs : List Entry) (x : Entry) (e m : ℕ) → is_report_of e m x.command ≡ false → version_of (x ∷ xs) e m ≡ version_of xs e m
 version_of-other xs x e m h =
     let none : cond {A = ℕ} (is_report_of e m x.command) 1 0 ≡ 0 = ap (λ b. cond {A = ℕ} b 1 0) h in
     omega (arith, none, sum_by-cons (λ (y : Entry). cond {A = ℕ} (is_report_of e m y.command) 1 0) x xs)
@@ -52,10 +56,12 @@ version_of-more xs x e m h =
 
 no_report : (command : Command) (e m : ℕ) → is_report_of e m command ≡ false → reported_by command e m ≡ None
 no_report (Register r) e m h = refl
+no_report (ImportBank file) e m h = refl
 no_report (Report r) e m h = ap (λ b. cond b (Some r.lines) None) h
 
 a_report : (command : Command) (e m : ℕ) → is_report_of e m command ≡ true → reported_by command e m ≡ None → ⊥
 a_report (Register r) e m h n = cc
+a_report (ImportBank file) e m h n = cc
 a_report (Report r) e m h n = cc
 
 -- a month without a report is of version 0
@@ -108,11 +114,16 @@ module _ (b : Book) (t : Tables) (stands : Stands b t) (caller : Caller) (number
           ∙ found_member (r.employer == e) registration_row (find_row employer_key t.employers (e ∷ []))
           ∙ ap (newer (registered_by (Register r) e)) (stands.employers e);
       employer_rows = omega (arith, length-with_row employer_key t.employers registration_row, stands.employer_rows, sum_by-cons (λ (x : Entry). cond {A = ℕ} (is_registration x.command) 1 0) registration b.entries);
-      employers_in_order = AreInOrder-with_row employer_key 1 (λ row. refl) t.employers registration_row stands.employers_in_order no_row;
+      employers_in_order = AreInOrder-with_row employer_key t.employers registration_row stands.employers_in_order no_row;
       reports = λ e m. stands.reports e m ∙ ap (λ (n : ℕ). option_map (λ lines. n) (latest_lines b.entries e m)) (sym (version_of-other b.entries registration e m refl));
       reports_in_order = stands.reports_in_order;
       wages = λ e m w. stands.wages e m w;
       wages_in_order = stands.wages_in_order;
+      bank = λ reference. stands.bank reference ∙ ap (λ rows. find_row bank_key rows reference) (sym (append-nil (lines_seen b.entries)));
+      bank_in_order = stands.bank_in_order;
+      credits = λ k. stands.credits k ∙ ap (λ rows. find_row credit_key (credit_rows rows) k) (sym (append-nil (lines_seen b.entries)));
+      credits_in_order = stands.credits_in_order;
+      serial = stands.serial ∙ ap (λ (rows : List BankRow). length rows) (sym (append-nil (lines_seen b.entries)));
     }
 
     pub Stands-registered : (name : List ℕ) → name ≡ r.name → Stands (step b (Do caller number day (Register r))) (noted day (changed (AddEmployer (record { employer = r.employer; name = name; start = r.start })) t))
@@ -204,7 +215,7 @@ module _ (e m : ℕ) where
   wages_in_order : (rows : List WageRow) (lines : List WageLine) → AreInOrder wage_key rows → AreNew rows lines → AreDistinct lines → AreInOrder wage_key (with_wages e m lines rows)
   wages_in_order rows [] order new apart = order
   wages_in_order rows (line ∷ lines) order new apart =
-      wages_in_order (with_row wage_key rows (row_of line)) lines (AreInOrder-with_row wage_key 3 (λ row. refl) rows (row_of line) order new.0) (still_new rows line lines new.0 apart.0 new.1) apart.1
+      wages_in_order (with_row wage_key rows (row_of line)) lines (AreInOrder-with_row wage_key rows (row_of line) order new.0) (still_new rows line lines new.0 apart.0 new.1) apart.1
 
   abbrev gross_in : WageRow → ℕ
   gross_in row = row.gross
@@ -319,12 +330,17 @@ module _ (b : Book) (t : Tables) (stands : Stands b t) (caller : Caller) (number
       reports = λ e m.
           ap (option_map version_in) (find_row-with_row report_key t.reports report_row (e ∷ m ∷ []) no_report_row)
           ∙ version_found (r.employer == e) (r.month == m) e m (find_row report_key t.reports (e ∷ m ∷ [])) (latest_lines b.entries e m) (version_of b.entries e m) (version_of (report ∷ b.entries) e m) (stands.reports e m) (first_version e m) (version_of-other b.entries report e m);
-      reports_in_order = AreInOrder-with_row report_key 2 (λ row. refl) t.reports report_row stands.reports_in_order no_report_row;
+      reports_in_order = AreInOrder-with_row report_key t.reports report_row stands.reports_in_order no_report_row;
       wages = λ e m w.
           gross_at-with_wages r.employer r.month r.lines t.wages e m w lines_new lines_distinct
           ∙ ap (newer (cond ((r.employer == e) && (r.month == m)) (gross_of r.lines w) None)) (stands.wages e m w)
           ∙ gross_found ((r.employer == e) && (r.month == m)) (gross_of r.lines w) (latest_lines b.entries e m) w refl (λ is. let same = key_is r.employer e r.month m is in subst (λ (p : ℕ × ℕ). latest_lines b.entries p.0 p.1 ≡ None) (λ i. (same.0 i, same.1 i)) no_lines);
       wages_in_order = wages_in_order r.employer r.month t.wages r.lines stands.wages_in_order lines_new lines_distinct;
+      bank = λ reference. stands.bank reference ∙ ap (λ rows. find_row bank_key rows reference) (sym (append-nil (lines_seen b.entries)));
+      bank_in_order = stands.bank_in_order;
+      credits = λ k. stands.credits k ∙ ap (λ rows. find_row credit_key (credit_rows rows) k) (sym (append-nil (lines_seen b.entries)));
+      credits_in_order = stands.credits_in_order;
+      serial = stands.serial ∙ ap (λ (rows : List BankRow). length rows) (sym (append-nil (lines_seen b.entries)));
     }
 
     pub Stands-reported : (lines : List WageLine) → lines ≡ r.lines → Stands (step b (Do caller number day (Report r))) (noted day (changed (AddReport report_row lines) t))

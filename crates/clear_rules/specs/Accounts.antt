@@ -1,10 +1,17 @@
--- What a firm owes: the contributions for its latest reports.
-use Rattle.std.specs.Prelude.{ℕ, List, Option, Some, None, nat_lt, sum_by, filter}
+-- What a firm owes: the contributions for its latest reports, and what it has paid.
+use Rattle.std.specs.Prelude.{ℕ, List, [], ◌∷◌, Option, Some, None, sum_by, filter, map}
 use Rattle.std.specs.Option.{option_map_or}
 use Rattle.std.specs.List.{filter_map, range_with_len}
 use Rattle.clear_money.specs.Rates.{Rate, rate_in_force, contribution_of, due_day_of}
+use Rattle.clear_account.specs.declared.entries.Charge.{Charge}
+use Rattle.clear_account.specs.declared.entries.Credit.{Credit}
+use Rattle.clear_bank.specs.declared.lines.Purpose.{Purpose}
+use Rattle.clear_bank.specs.declared.lines.Purpose.TheVariants.{Contribution, Interest}
+use Rattle.clear_rules.specs.declared.rows.CreditRow.{CreditRow}
 use Rattle.clear_rules.specs.declared.texts.WageLine.{WageLine}
-use Rattle.clear_rules.specs.Book.{Book, rates_of, latest_lines}
+use Rattle.clear_rules.specs.Book.{Book, Entry, rates_of, latest_lines}
+use Rattle.clear_rules.specs.Keyed.{in_key_order}
+use Rattle.clear_rules.specs.Lines.{lines_standing, credit_rows, is_credit_of}
 
 -- the base of a report: the sum of its gross amounts
 abbrev pub base_of : List WageLine → ℕ
@@ -17,12 +24,6 @@ charge_on rate base = option_map_or (λ r. contribution_of base r.contribution) 
 -- the contribution for the lines of a report
 abbrev pub charge_at : Option Rate → List WageLine → ℕ
 charge_at rate lines = charge_on rate (base_of lines)
-
--- a month's contribution, with the day on which it is due
-pub record Charge : Type 0 where
-  pub month : ℕ
-  pub due : ℕ
-  pub cents : ℕ
 
 -- the day on which a month's contribution is due
 abbrev pub due_at : List Rate → ℕ → ℕ
@@ -49,18 +50,29 @@ months = range_with_len 24000 2400
 abbrev pub charges_of : Book → ℕ → List Charge
 charges_of b e = filter_map (charge_in b e) months
 
--- their sum
-abbrev pub cents_of : List Charge → ℕ
-cents_of charges = sum_by (λ c. c.cents) charges
+-- the rank of a purpose in the order of payments
+abbrev pub rank_of : Purpose → ℕ
+rank_of Contribution = 0
+rank_of Interest = 1
 
--- those that were due before a day
-abbrev pub due_before : ℕ → List Charge → List Charge
-due_before t charges = filter (λ c. nat_lt c.due t) charges
+-- payments come in the order of firm, purpose, day and serial
+abbrev pub credit_key : CreditRow → List ℕ
+credit_key row = row.employer ∷ rank_of row.purpose ∷ row.day ∷ row.serial ∷ []
 
--- the sum of all contributions of an employer
-abbrev pub charged : Book → ℕ → ℕ
-charged b e = cents_of (charges_of b e)
+abbrev pub credit_of : CreditRow → Credit
+credit_of row = record { day = row.day; serial = row.serial; cents = row.cents }
 
--- the contributions that were due before a day; no payment stands against them yet
-abbrev pub arrears_of : Book → ℕ → ℕ → ℕ
-arrears_of b e t = cents_of (due_before t (charges_of b e))
+-- the payments of all firms: the standing lines that are not in suspense
+abbrev pub payments : List Entry → List CreditRow
+payments xs = in_key_order credit_key (credit_rows (lines_standing xs))
+
+-- the credits of a firm among payments, for a purpose
+abbrev pub credits_among : List CreditRow → ℕ → Purpose → List Credit
+credits_among rows e purpose = map credit_of (filter (is_credit_of e purpose) rows)
+
+-- a firm's payments of contributions, and those of interest, by day, and on one day by serial
+abbrev pub credits_of : Book → ℕ → List Credit
+credits_of b e = credits_among (payments b.entries) e Contribution
+
+abbrev pub interest_credits_of : Book → ℕ → List Credit
+interest_credits_of b e = credits_among (payments b.entries) e Interest

@@ -5,7 +5,7 @@ use Rattle.clear_money.specs.Rates.{Rate}
 use Rattle.clear_rules.specs.declared.texts.WageLine.{WageLine}
 use Rattle.clear_rules.specs.declared.calls.Caller.{Caller}
 use Rattle.clear_rules.specs.declared.calls.Command.{Command}
-use Rattle.clear_rules.specs.declared.calls.Command.TheVariants.{Register, Report}
+use Rattle.clear_rules.specs.declared.calls.Command.TheVariants.{Register, Report, ImportBank}
 use Rattle.clear_rules.specs.declared.outcomes.Reply.{Reply}
 
 -- an accepted request with its reply
@@ -49,6 +49,7 @@ start_of (Some member) = Some member.start
 abbrev pub registered_by : Command → ℕ → Option Member
 registered_by (Register r) e = if r.employer == e then Some (record { name = r.name; start = r.start }) else None
 registered_by (Report r) e = None
+registered_by (ImportBank file) e = None
 
 -- an employer, if it is registered
 abbrev pub member_of : List Entry → ℕ → Option Member
@@ -59,6 +60,7 @@ member_of (x ∷ xs) e = newer (registered_by x.command e) (member_of xs e)
 abbrev pub is_registration : Command → Bool
 is_registration (Register r) = true
 is_registration (Report r) = false
+is_registration (ImportBank file) = false
 
 -- how many employers there are
 abbrev pub employer_count : List Entry → ℕ
@@ -68,6 +70,7 @@ employer_count xs = count_by (λ x. is_registration x.command) xs
 abbrev pub reported_by : Command → ℕ → ℕ → Option (List WageLine)
 reported_by (Register r) e m = None
 reported_by (Report r) e m = if (r.employer == e) && (r.month == m) then Some r.lines else None
+reported_by (ImportBank file) e m = None
 
 -- the lines of the last report of an employer and a month
 abbrev pub latest_lines : List Entry → ℕ → ℕ → Option (List WageLine)
@@ -78,6 +81,7 @@ latest_lines (x ∷ xs) e m = newer (reported_by x.command e m) (latest_lines xs
 abbrev pub is_report_of : ℕ → ℕ → Command → Bool
 is_report_of e m (Register r) = false
 is_report_of e m (Report r) = (r.employer == e) && (r.month == m)
+is_report_of e m (ImportBank file) = false
 
 -- how many reports of a month there were
 abbrev pub version_of : List Entry → ℕ → ℕ → ℕ

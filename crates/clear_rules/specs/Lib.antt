@@ -4,6 +4,7 @@ pub mod Decisions
 pub mod Judge
 pub mod Keyed
 pub mod Laws
+pub mod Lines
 pub mod Machine
 pub mod Offices
 pub mod Ranges

@@ -1,5 +1,5 @@
 -- What an office owes over the tables that it keeps, whatever lawful book they stand for.
-use Rattle.std.specs.Prelude.{ℕ, List, Result, Ok, Err}
+use Rattle.std.specs.Prelude.{List, Result, Ok, Err}
 use Rattle.clear_rules.specs.declared.calls.Call.{Call}
 use Rattle.clear_rules.specs.declared.outcomes.Answer.{Answer}
 use Rattle.clear_rules.specs.declared.outcomes.Reply.{Reply}

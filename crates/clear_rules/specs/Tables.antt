@@ -6,34 +6,52 @@ use Rattle.clear_rules.specs.declared.texts.WageLine.{WageLine}
 use Rattle.clear_rules.specs.declared.rows.EmployerRow.{EmployerRow}
 use Rattle.clear_rules.specs.declared.rows.ReportRow.{ReportRow}
 use Rattle.clear_rules.specs.declared.rows.WageRow.{WageRow}
+use Rattle.clear_account.specs.declared.entries.Charge.{Charge}
+use Rattle.clear_account.specs.declared.entries.Credit.{Credit}
+use Rattle.clear_bank.specs.declared.lines.Purpose.TheVariants.{Contribution}
+use Rattle.clear_rules.specs.declared.rows.BankRow.{BankRow}
+use Rattle.clear_rules.specs.declared.rows.CreditRow.{CreditRow}
 use Rattle.clear_rules.specs.declared.rows.Change.{Change}
-use Rattle.clear_rules.specs.declared.rows.Change.TheVariants.{AddEmployer, AddReport}
-use Rattle.clear_rules.specs.Accounts.{Charge, charge_of}
+use Rattle.clear_rules.specs.declared.rows.Change.TheVariants.{AddEmployer, AddReport, AddBankLines}
+use Rattle.clear_rules.specs.Accounts.{charge_of, credit_key, credits_among}
 use Rattle.clear_rules.specs.Book.{Book, Member, rates_of, ledger_day, member_of, employer_count, latest_lines, reported_version}
-use Rattle.clear_rules.specs.Keyed.{find_row, with_row, AreInOrder}
+use Rattle.clear_rules.specs.Keyed.{find_row, with_row, with_rows, AreInOrder}
+use Rattle.clear_rules.specs.Lines.{lines_seen, lines_standing, credit_rows}
 
--- each table but the rates in the order of its keys
+-- each table but the rates in the order of its keys; the day of the last accepted request, how many there were, and the
+-- last serial that was given
 pub record Tables : Type 0 where
   pub rates : List Rate
   pub employers : List EmployerRow
   pub reports : List ReportRow
   pub wages : List WageRow
+  pub bank : List BankRow
+  pub credits : List CreditRow
   pub day : Option ℕ
   pub entries : ℕ
+  pub serial : ℕ
 
 -- ---- keys
 
+-- an employer's number
 abbrev pub employer_key : EmployerRow → List ℕ
 employer_key row = row.employer ∷ []
 
+-- an employer and a month
 abbrev pub report_key : ReportRow → List ℕ
 report_key row = row.employer ∷ row.month ∷ []
 
+-- an employer, a month and a worker
 abbrev pub wage_key : WageRow → List ℕ
 wage_key row = row.employer ∷ row.month ∷ row.worker ∷ []
 
+-- the reference of a bank line
+abbrev pub bank_key : BankRow → List ℕ
+bank_key row = row.line.reference
+
 -- ---- look-ups
 
+-- an employer, if it is registered
 abbrev pub member_at : List EmployerRow → ℕ → Option Member
 member_at rows e = option_map (λ row. record { name = row.name; start = row.start }) (find_row employer_key rows (e ∷ []))
 
@@ -50,6 +68,7 @@ abbrev pub gross_of : List WageLine → ℕ → Option ℕ
 gross_of [] w = None
 gross_of (line ∷ lines) w = if line.worker == w then Some line.gross else gross_of lines w
 
+-- and in a report, if there is one
 abbrev pub reported_gross : Option (List WageLine) → ℕ → Option ℕ
 reported_gross None w = None
 reported_gross (Some lines) w = gross_of lines w
@@ -67,6 +86,11 @@ pub record Stands (b : Book) (t : Tables) : Type 0 where
   pub reports_in_order : AreInOrder report_key t.reports
   pub wages : (e m w : ℕ) → gross_at t.wages e m w ≡ reported_gross (latest_lines b.entries e m) w
   pub wages_in_order : AreInOrder wage_key t.wages
+  pub bank : (reference : List ℕ) → find_row bank_key t.bank reference ≡ find_row bank_key (lines_standing b.entries) reference
+  pub bank_in_order : AreInOrder bank_key t.bank
+  pub credits : (k : List ℕ) → find_row credit_key t.credits k ≡ find_row credit_key (credit_rows (lines_standing b.entries)) k
+  pub credits_in_order : AreInOrder credit_key t.credits
+  pub serial : t.serial ≡ length (lines_seen b.entries)
 
 -- ---- what the tables say of an account
 
@@ -74,12 +98,17 @@ pub record Stands (b : Book) (t : Tables) : Type 0 where
 abbrev pub base_at : List WageRow → ℕ → ℕ → ℕ
 base_at rows e m = sum_by (λ row. if (row.employer == e) && (row.month == m) then row.gross else 0) rows
 
+-- the contribution for a report row
 abbrev pub charge_for : Tables → ReportRow → Charge
 charge_for t row = charge_of t.rates row.month (base_at t.wages row.employer row.month)
 
 -- the contributions of an employer's report rows
 abbrev pub charges_at : Tables → ℕ → List Charge
 charges_at t e = map (charge_for t) (filter (λ row. row.employer == e) t.reports)
+
+-- the payments of contributions that an employer's credit rows are
+abbrev pub credits_at : Tables → ℕ → List Credit
+credits_at t e = credits_among t.credits e Contribution
 
 -- ---- changes
 
@@ -94,6 +123,8 @@ abbrev pub changed : Change → Tables → Tables
 changed (AddEmployer row) t = record t { employers = with_row employer_key t.employers row }
 changed (AddReport row lines) t =
     record t { reports = with_row report_key t.reports row; wages = with_wages row.employer row.month lines t.wages }
+changed (AddBankLines rows) t =
+    record t { bank = with_rows bank_key t.bank rows; credits = with_rows credit_key t.credits (credit_rows rows); serial = t.serial + length rows }
 
 -- what is noted of each accepted request besides: its day, and that it is one more
 abbrev pub noted : ℕ → Tables → Tables

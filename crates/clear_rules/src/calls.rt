@@ -2,6 +2,7 @@
 ghost use Rattle.std.specs.Prelude.{◌≡◌, ◌↔◌, IsSome, IfSome};
 ghost use Rattle.clear_rules.specs.RequestNos.{IsRequestNo};
 
+use crate::files::BankFile;
 use crate::texts::{Name, WageLines};
 use clear_money::days::Day;
 use clear_money::months::Month;
@@ -79,6 +80,7 @@ pub struct WageReport {
 pub enum Command {
     Register(Registration),
     Report(WageReport),
+    ImportBank(BankFile),
 }
 
 /// What is only asked.

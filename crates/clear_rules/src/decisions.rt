@@ -53,8 +53,8 @@ pub fn decide_register(
 ) -> Result<Decision, Rule>
     // The answer is the judge's, where the view is the book's, but for want of memory.
     ensures judged { (b : Book) → IsRegisterView b registration.now view.now → IsJudged b day (DoRegister registration.now) result }
-    // The change takes the tables of a lawful book to those of the next.
-    ensures change { IfOk result (TakesTables day (DoRegister registration.now)) }
+    // Where the judge gives the reply, the change takes the tables of a lawful book to those of the next.
+    ensures change { (b : Book) → IfOk result (TakesTables b day (DoRegister registration.now)) }
     ensures rule { Refuses result (own_register view.now.registered view.now.employers view.now.has_rate) }
     ensures made { IfOk result (λ decision. decision.change ≡ Change.AddEmployer (record { employer = registration.now.employer; name = registration.now.name; start = registration.now.start })) }
 {
@@ -86,8 +86,8 @@ pub fn decide_register(
 pub fn decide_report(day: Day, report: &WageReport, view: &ReportView) -> Result<Decision, Rule>
     // The answer is the judge's, where the view is the book's, but for want of memory.
     ensures judged { (b : Book) → IsReportView b report.now view.now → IsJudged b day (DoReport report.now) result }
-    // The change takes the tables of a lawful book to those of the next.
-    ensures change { IfOk result (TakesTables day (DoReport report.now)) }
+    // Where the judge gives the reply, the change takes the tables of a lawful book to those of the next.
+    ensures change { (b : Book) → IfOk result (TakesTables b day (DoReport report.now)) }
     ensures rule { Refuses result (own_report view.now.start view.now.version day report.now.month report.now.lines) }
     ensures made { IfOk result (λ decision. decision.change ≡ Change.AddReport (record { employer = report.now.employer; month = report.now.month; version = 1 }) report.now.lines) }
     ensures few { OnOk result (length report.now.lines ≤ 500) }

@@ -3,12 +3,13 @@ ghost use Rattle.std.specs.Prelude.{◌≡◌, ℕ, List};
 ghost use Rattle.std.specs.List.{AllByRecursion};
 ghost use Rattle.clear_rules.specs.declared.calls.Call.{Call};
 ghost use Rattle.clear_rules.specs.declared.outcomes.Outcome.{Outcome};
-ghost use Rattle.clear_rules.specs.Accounts.{charges_of};
+ghost use Rattle.clear_rules.specs.Accounts.{charges_of, credit_key, credits_of, payments};
 ghost use Rattle.clear_rules.specs.Book.{Book};
-ghost use Rattle.clear_rules.specs.Laws.{IsSmall};
+ghost use Rattle.clear_rules.specs.Laws.{AreCounted, AreSorted, IsSmall};
+ghost use Rattle.clear_rules.specs.Lines.{credit_rows, lines_seen, lines_standing};
 ghost use Rattle.clear_rules.specs.Machine.{IsLawful, Runs};
 ghost use Rattle.clear_rules.specs.Ranges.{IsCall};
-ghost use Rattle.clear_rules.specs.Tables.{Tables, Stands, charges_at};
+ghost use Rattle.clear_rules.specs.Tables.{Tables, Stands, charges_at, credits_at};
 
 /// A run over calls whose values lie in their ranges leads from a lawful book to a lawful one.
 pub fn law_lawful()
@@ -16,7 +17,9 @@ pub fn law_lawful()
 {}
 
 /// A lawful book has at most 50,000,000 entries, its reports at most 500 lines of at most 10,000,000 cents, a base of at
-/// most 5,000,000,000 cents, and the charges of a firm come to at most 12,000,000,000,000 cents: no sum leaves its type.
+/// most 5,000,000,000 cents; the charges of a firm come to at most 12,000,000,000,000 cents; a firm has at most 100,000
+/// payments for each purpose, of at most 10,000,000,000,000,000 cents, and 100,000 lines are in suspense: no sum leaves its
+/// type.
 pub fn law_small()
     ensures { (b : Book) → IsLawful b → IsSmall b }
 {}
@@ -24,4 +27,19 @@ pub fn law_small()
 /// The contributions that the tables of a lawful book hold for an employer are those of the book, the months rising.
 pub fn law_charges()
     ensures { (b : Book) (t : Tables) (e : ℕ) → IsLawful b → Stands b t → charges_at t e ≡ charges_of b e }
+{}
+
+/// The bank lines of a book have the serials 1, 2, 3, .. in the order in which they came, and no reference stands twice.
+pub fn law_bank_lines()
+    ensures { (b : Book) → AreCounted (lines_seen b.entries) }
+{}
+
+/// The payments of a book are those of its standing lines, in the strict order of firm, purpose, day and serial.
+pub fn law_payments()
+    ensures { (b : Book) → AreSorted credit_key (payments b.entries) (credit_rows (lines_standing b.entries)) }
+{}
+
+/// The payments of contributions that the tables hold for an employer are those of the book, by day, then serial.
+pub fn law_credits()
+    ensures { (b : Book) (t : Tables) (e : ℕ) → Stands b t → credits_at t e ≡ credits_of b e }
 {}

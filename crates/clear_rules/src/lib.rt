@@ -11,6 +11,8 @@
 pub mod access;
 pub mod calls;
 pub mod decisions;
+pub mod files;
+pub mod imports;
 pub mod laws;
 pub mod outcomes;
 pub mod ranges;

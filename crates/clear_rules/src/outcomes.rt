@@ -11,6 +11,8 @@ pub enum Reply {
     Done,
     /// The version of the month's report, and the month's contribution in cents.
     Reported { version: u32, charge: u64 },
+    /// How many lines of a bank file were new, and how many repeat an earlier one.
+    Imported { new: u64, repeats: u64 },
 }
 
 /// What a query is answered, in cents.
@@ -36,6 +38,12 @@ pub enum Limit {
     Lines,
     /// 10,000,000 cents gross in a line.
     Gross,
+    /// 10,000 data records in a bank file.
+    File,
+    /// 100,000 lines in suspense.
+    Suspense,
+    /// 100,000 payments of a firm for contributions, and as many for interest.
+    Credits,
 }
 
 /// Why the records could not be read or written.
@@ -69,6 +77,13 @@ pub enum Rule {
     WorkerTwice(WorkerNo),
     /// There would be more than may be.
     OverLimit(Limit),
+    /// A record of a bank file that is not as it should be, numbered from 1 with the header, and its first bad field, or
+    /// 0 for another number of fields.
+    BadCsv { line: u64, field: u8 },
+    /// The record of a bank file whose reference stands earlier with another content.
+    RefConflict(u64),
+    /// The record of a bank file that is new and has a value date after the request's day.
+    ValueAhead(u64),
     /// The membership would begin before the first rate row.
     NoRate,
     /// There was no memory. Nothing was changed, and the office goes on.
@@ -94,6 +109,9 @@ impl Rule {
             Rule::ReportExists(_) => 15,
             Rule::WorkerTwice(_) => 17,
             Rule::OverLimit(_) => 18,
+            Rule::BadCsv { .. } => 20,
+            Rule::RefConflict(_) => 21,
+            Rule::ValueAhead(_) => 22,
             Rule::NoRate => 32,
             Rule::Memory => 40,
             Rule::Store(_) => 41,
@@ -115,6 +133,9 @@ impl Rule {
             Rule::ReportExists(_) => "ReportExists",
             Rule::WorkerTwice(_) => "WorkerTwice",
             Rule::OverLimit(_) => "OverLimit",
+            Rule::BadCsv { .. } => "BadCsv",
+            Rule::RefConflict(_) => "RefConflict",
+            Rule::ValueAhead(_) => "ValueAhead",
             Rule::NoRate => "NoRate",
             Rule::Memory => "Memory",
             Rule::Store(_) => "Store",
@@ -133,6 +154,9 @@ impl Limit {
             Limit::Employers => "employers",
             Limit::Lines => "lines",
             Limit::Gross => "gross",
+            Limit::File => "file",
+            Limit::Suspense => "suspense",
+            Limit::Credits => "credits",
         }
     }
 }

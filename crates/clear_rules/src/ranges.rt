@@ -37,6 +37,7 @@ pub fn command_in_range(command: &Command)
             let _month = report.month.number();
             lines_in_range(report.lines.as_slice());
         }
+        Command::ImportBank(_) => {}
     }
 }
 

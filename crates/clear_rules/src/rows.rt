@@ -1,9 +1,13 @@
 //! The rows of the tables, and what a decision changes in them.
 
+use crate::files::BankRows;
 use crate::outcomes::Reply;
 use crate::texts::{Name, WageLines};
+use clear_bank::lines::{BankLine, Purpose};
+use clear_bank::texts::Reference;
+use clear_money::days::Day;
 use clear_money::months::Month;
-use clear_money::numbers::{EmployerNo, WorkerNo};
+use clear_money::numbers::{Amount, EmployerNo, WorkerNo};
 
 /// A registered employer.
 #[derive(Debug, Drop)]
@@ -32,6 +36,28 @@ pub struct WageRow {
     pub gross: u64,
 }
 
+/// A bank line that stands.
+#[derive(Debug, Drop)]
+pub struct BankRow {
+    pub line: BankLine,
+    /// Its number among all bank lines of the office, from 1.
+    pub serial: u64,
+    /// The firm that it is for. None while it is in suspense.
+    pub employer: Option<EmployerNo>,
+}
+
+/// A payment of a firm: a bank line that is for it.
+#[derive(Debug, Drop)]
+pub struct CreditRow {
+    pub employer: EmployerNo,
+    pub purpose: Purpose,
+    /// The day from which it counts as paid: the line's value date.
+    pub day: Day,
+    pub serial: u64,
+    pub cents: Amount,
+    pub reference: Reference,
+}
+
 /// What an accepted command changes.
 #[derive(Debug, Drop)]
 pub enum Change {
@@ -39,6 +65,8 @@ pub enum Change {
     AddEmployer(EmployerRow),
     /// A first report, with a wage row for each of its lines.
     AddReport(ReportRow, WageLines),
+    /// The new lines of a bank file, each with the credit that it is for its firm.
+    AddBankLines(BankRows),
 }
 
 /// What is changed, and what is replied.

@@ -1,6 +1,7 @@
 use crate::access::{may, may_ask};
 use crate::calls::{Call, Caller, Command, Query, Registration, RequestNo, WageReport};
 use crate::decisions::{RegisterView, ReportView, charge, decide_register, decide_report};
+use crate::files::BankFile;
 use crate::laws::{law_charges, law_lawful, law_small};
 use crate::outcomes::{Limit, Reply, Rule, StoreCause};
 use crate::ranges::call_in_range;
@@ -131,6 +132,7 @@ fn callers(rt: HostRuntime) -> Result<(), Fail> {
     let alloc = rt.alloc();
     let register = Command::Register(registration(alloc, month("2024-01")?)?);
     let report = Command::Report(report(alloc, month("2024-01")?, &[])?);
+    let import = Command::ImportBank(BankFile::new(Vec::new(alloc)));
     let owed = Query::Owed {
         employer: employer(1001)?,
     };
@@ -142,6 +144,7 @@ fn callers(rt: HostRuntime) -> Result<(), Fail> {
     for (caller, may_register, may_report, may_ask_owed) in cases {
         assert_eq!(rt; may(caller, &register), may_register, "{caller:?}");
         assert_eq!(rt; may(caller, &report), may_report, "{caller:?}");
+        assert_eq!(rt; may(caller, &import), may_register, "{caller:?}");
         assert_eq!(rt; may_ask(caller, &owed), may_ask_owed, "{caller:?}");
     }
     Ok(())
@@ -159,6 +162,9 @@ fn rules(rt: HostRuntime) -> Result<(), Fail> {
         (Rule::ReportExists(1), 15, "ReportExists"),
         (Rule::WorkerTwice(worker(7)?), 17, "WorkerTwice"),
         (Rule::OverLimit(Limit::Book), 18, "OverLimit"),
+        (Rule::BadCsv { line: 2, field: 4 }, 20, "BadCsv"),
+        (Rule::RefConflict(4), 21, "RefConflict"),
+        (Rule::ValueAhead(2), 22, "ValueAhead"),
         (Rule::NoRate, 32, "NoRate"),
         (Rule::Memory, 40, "Memory"),
         (Rule::Store(StoreCause::Row), 41, "Store"),
@@ -178,6 +184,9 @@ fn words(rt: HostRuntime) {
         (Limit::Employers, "employers"),
         (Limit::Lines, "lines"),
         (Limit::Gross, "gross"),
+        (Limit::File, "file"),
+        (Limit::Suspense, "suspense"),
+        (Limit::Credits, "credits"),
     ];
     for (limit, word) in limits {
         assert!(rt; limit.word() == word, "{word}");
@@ -238,7 +247,7 @@ fn adds_the_employer(rt: HostRuntime) -> Result<(), Fail> {
             assert!(rt; row.name.as_str() == "Bau Nord");
             assert_eq!(rt; row.start, month("2024-01")?);
         }
-        Change::AddReport(_, _) => panic!(rt; "a report"),
+        Change::AddReport(_, _) | Change::AddBankLines(_) => panic!(rt; "no employer"),
     }
     Ok(())
 }
@@ -369,7 +378,7 @@ fn adds_the_report(rt: HostRuntime) -> Result<(), Fail> {
             assert_eq!(rt; row, expected);
             assert!(rt; lines.as_slice() == report.lines.as_slice());
         }
-        Change::AddEmployer(_) => panic!(rt; "an employer"),
+        Change::AddEmployer(_) | Change::AddBankLines(_) => panic!(rt; "an employer"),
     }
     Ok(())
 }

@@ -10,7 +10,7 @@ unfolding table
 returns c =
     let shown : Bor (List ℕ) × Path → List ℕ × Path = λ entry. (entry.0.now, entry.1) in
     let items = c.all_paths-text-items.result in
-    let count : length items ≡ 3 = sym (length-map items shown) ∙ ap length c.all_paths-text-items.ensures in
+    let count : length items ≡ 4 = sym (length-map items shown) ∙ ap length c.all_paths-text-items.ensures in
     c.loop-text.invariant
     ∙ ap (λ (l : List (Bor (List ℕ) × Path)). fold add [] (map shown l)) (take_all c.loop-text.text-index items (omega arith))
     ∙ ap (fold add []) c.all_paths-text-items.ensures

@@ -2,8 +2,8 @@ use Rattle.std.proofs.Common.{◌≡◌, ℕ, ◌+◌, ◌/◌, ◌%◌, ◌∙�
 use Rattle.std.proofs.lemmas.Int.{ints}
 use Rattle.jiff_core.specs.Calendar.{days_from_civil}
 use Rattle.jiff.specs.Words.{epoch_day}
-use Rattle.clear_money.specs.Calendar.{IsDay, day_in}
-use Rattle.clear_money.proofs.MonthLemmas.{days_from_civil-day_in, day_in-is_day, month_length_bounds}
+use Rattle.clear_money.specs.Calendar.{IsDay, day_in, day_of_month}
+use Rattle.clear_money.proofs.MonthLemmas.{days_from_civil-day_in, day_in-is_day, day_of_month-day_in, month_length_bounds}
 use Rattle.clear_money.proofs.DateLemmas.{cast_day}
 use Rattle.clear_money.proofs.days.day_at.Goals as goal
 use Rattle.clear_money.proofs.days.day_at.Goals.{After-to_unix_epoch_day-number}
@@ -29,5 +29,10 @@ overflow_cast-result c = let day = is_day c in rw (found c) (tt, omega arith)
 pub invariant_of-result : goal.invariant_of-result
 invariant_of-result c = rw (found c) (is_day c)
 
-pub returns : goal.returns
-returns c = ap unsigned_abs (found c)
+pub returns-clause-value : goal.returns-clause-value
+returns-clause-value c = ap unsigned_abs (found c)
+
+pub returns-clause-place : goal.returns-clause-place
+returns-clause-place c =
+    ap day_of_month (ap unsigned_abs (found c))
+    ∙ day_of_month-day_in c.args.month c.args.day c.requires.month.0 (omega arith) c.requires.day.0 (omega (arith, (month_length_bounds c.args.month).0))

@@ -1,6 +1,0 @@
-use Rattle.std.proofs.Common.{◌≡◌, take}
-use Rattle.clear_rules.specs.Tables.{base_at}
-use Rattle.clear_app.proofs.rows.base_of_rows.Given as goal
-
-abbrev pub invariant-loop-row : goal.invariant-loop-row
-invariant-loop-row l = l.base ≡ base_at (take l.row-index l.rows) l.employer l.month

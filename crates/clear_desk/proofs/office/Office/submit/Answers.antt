@@ -1,0 +1,15 @@
+use Rattle.std.proofs.Common.{◌≡◌, ◌<◌, None, sym, ◌∙◌, subst}
+use Rattle.clear_rules.specs.Judge.{day_back}
+use Rattle.clear_rules.specs.RequestNos.{IsRequestNo}
+use Rattle.clear_rules.specs.Tables.{Tables}
+use Rattle.clear_rules.proofs.OfficeLemmas.{decided}
+use Rattle.clear_desk.proofs.office.Office.submit.Goals as goal
+
+pub returns-in-Ok-clause-step : goal.returns-in-Ok-clause-step
+returns-in-Ok-clause-step c =
+    let back = subst (λ (x : Tables). day_back x.day c.args.day ≡ None) c.self.view_is c.in_ok-check_day.ensures in
+    let few = subst (λ (x : Tables). x.entries < 50000000) c.self.view_is c.if-self-ge-MAX_ENTRIES.false in
+    let may = sym c.may.ensures ∙ c.if-not-may.false in
+    let ensured = c.in_ok-decision.ensures in
+    decided c.args.self.now c.args.caller c.args.number c.args.day c.args.command.now may back few c.in_ok-decision.decision c.put.new.self
+    (subst IsRequestNo c.number-number.ensures.value c.number-number.ensures.range) c.command_in_range.ensures ensured.judged ensured.change c.in-Ok.ensures.ok

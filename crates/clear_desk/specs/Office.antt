@@ -1,0 +1,75 @@
+-- What the office over lists keeps of its tables.
+use Rattle.std.specs.Prelude.{Bool, true, false, ◌≡◌, ℕ, ◌+◌, ◌*◌, ◌≤◌, List, [], ◌∷◌, None, length, All, IsSome, count_by, map}
+use Rattle.std.specs.List.{AllByRecursion, range_with_len}
+use Rattle.clear_account.specs.declared.entries.Charge.{Charge}
+use Rattle.clear_account.specs.declared.entries.Credit.{Credit}
+use Rattle.clear_account.specs.Account.{with_charge, with_credit}
+use Rattle.clear_bank.specs.declared.lines.Purpose.TheVariants.{Contribution, Interest}
+use Rattle.clear_money.specs.Rates.{rate_in_force}
+use Rattle.clear_rules.specs.declared.imports.FirmCredits.{FirmCredits}
+use Rattle.clear_rules.specs.declared.outcomes.Outcome.{Outcome}
+use Rattle.clear_rules.specs.declared.outcomes.Outcome.TheVariants.{Replied, Answered, Refused}
+use Rattle.clear_rules.specs.declared.rows.BankRow.{BankRow}
+use Rattle.clear_rules.specs.declared.rows.CreditRow.{CreditRow}
+use Rattle.clear_rules.specs.declared.rows.EmployerRow.{EmployerRow}
+use Rattle.clear_rules.specs.declared.rows.Change.{Change}
+use Rattle.clear_rules.specs.declared.rows.Change.TheVariants.{AddEmployer, AddReport, AddBankLines}
+use Rattle.clear_rules.specs.Keyed.{find_row, AreOnce}
+use Rattle.clear_rules.specs.Lines.{is_credit_of}
+use Rattle.clear_rules.specs.Tables.{Tables, report_key, base_at}
+
+-- a payment by its serial
+abbrev pub credit_serial : CreditRow → List ℕ
+credit_serial row = row.serial ∷ []
+
+-- few requests, small bases, and serials that were given once: no sum over the tables leaves its type
+pub record AreBounded (t : Tables) : Type 0 where
+  pub entries : t.entries ≤ 50000000
+  pub bases : (e m : ℕ) → base_at t.wages e m ≤ 5000000000
+  pub unreported : (e m : ℕ) → find_row report_key t.reports (e ∷ m ∷ []) ≡ None → base_at t.wages e m ≡ 0
+  pub serial : t.serial ≤ 10000 * t.entries
+  pub given : AllByRecursion (λ row. row.serial ≤ t.serial) t.credits
+  pub once : AreOnce credit_serial t.credits
+
+-- the rows take the serials behind the last one
+abbrev pub AreNumbered : ℕ → List BankRow → Type 0
+AreNumbered last rows = map (λ row. row.serial) rows ≡ range_with_len (last + 1) (length rows)
+
+-- a change that keeps them so: a report within the limits, of a month that has none, or lines of a file
+abbrev pub Fits : Change → Tables → Type 0
+Fits (AddEmployer row) t = Unit {0}
+Fits (AddReport row lines) t =
+    (length lines ≤ 500) × All (λ line. line.gross ≤ 10000000) lines
+    × (find_row report_key t.reports (report_key row) ≡ None)
+Fits (AddBankLines rows) t = (length rows ≤ 10000) × AreNumbered t.serial rows
+
+-- ---- views
+
+-- each employer with its numbers of payments
+abbrev pub firms_at : List EmployerRow → List CreditRow → List FirmCredits
+firms_at employers credits =
+    map (λ row. record { employer = row.employer; contributions = count_by (is_credit_of row.employer Contribution) credits; interest = count_by (is_credit_of row.employer Interest) credits }) employers
+
+-- ---- accounts
+
+-- the account with these charges, one after another
+abbrev pub with_charges : List Charge → List Charge → List Charge
+with_charges [] held = held
+with_charges (c ∷ cs) held = with_charges cs (with_charge c held)
+
+-- and with these credits
+abbrev pub with_credits : List Credit → List Credit → List Credit
+with_credits [] held = held
+with_credits (k ∷ ks) held = with_credits ks (with_credit k held)
+
+-- a rate is in force for each month that the employer has reported
+abbrev pub AreRated : Tables → ℕ → Type 0
+AreRated t e = All (λ row. row.employer ≡ e → IsSome (rate_in_force t.rates row.month)) t.reports
+
+-- ---- outcomes
+
+-- an outcome by which something was done
+abbrev pub is_reply : Outcome → Bool
+is_reply (Replied reply) = true
+is_reply (Answered answer) = false
+is_reply (Refused rule) = false

@@ -1,0 +1,303 @@
+//! The office over lists.
+ghost use Rattle.std.specs.Prelude.{◌≡◌, ℕ, ◌+◌, ◌<◌, ◌≤◌, ◌++◌, ◌∷◌, [], length, vec_len, vec_capacity, None, Err, false, true, All, IfOk, OnOk, OnErr};
+ghost use Rattle.clear_rules.specs.Book.{Book};
+ghost use Rattle.clear_rules.specs.Decisions.{IsJudged, TakesTables, Obeys};
+ghost use Rattle.clear_rules.specs.Judge.{may_do, may_query, day_back};
+ghost use Rattle.clear_rules.specs.Machine.{IsLawful, Takes};
+ghost use Rattle.clear_rules.specs.Offices.{replied, answered, Steps, RunsTables};
+ghost use Rattle.clear_rules.specs.Tables.{Tables, Stands, changed, noted};
+ghost use Rattle.clear_desk.specs.Office.{Fits, is_reply};
+
+mod account;
+mod views;
+
+use crate::rows::{add_wages, credits_of_rows, insert_row, insert_rows};
+use clear_money::days::Day;
+use clear_money::numbers::EmployerNo;
+use clear_money::rates::RateTable;
+use clear_rules::access::{may, may_ask};
+use clear_rules::calls::{Call, Caller, Command, Query, RequestNo};
+use clear_rules::decisions::{decide_register, decide_report};
+use clear_rules::files::BankRows;
+use clear_rules::imports::decide_import;
+use clear_rules::outcomes::{Answer, Limit, Outcome, Reply, Rule};
+use clear_rules::ranges::command_in_range;
+use clear_rules::rows::{BankRow, Change, CreditRow, Decision, EmployerRow, ReportRow, WageRow};
+use clear_rules::texts::WageLines;
+use std::alloc::{AllocError, Global};
+use std::marker::Model;
+
+/// The accepted requests that the office may have.
+const MAX_ENTRIES: u64 = 50_000_000;
+
+/// The office over lists. A contract sees its tables.
+#[derive(Debug, Drop)]
+pub struct Office {
+    alloc: Global,
+    rates: RateTable,
+    employers: Vec<EmployerRow>,
+    reports: Vec<ReportRow>,
+    wages: Vec<WageRow>,
+    bank: Vec<BankRow>,
+    credits: Vec<CreditRow>,
+    day: Option<Day>,
+    entries: u64,
+    serial: u64,
+}
+
+impl Model for Office {
+    ghost use Rattle.clear_rules.specs.Tables.{Tables};
+    ghost use Rattle.clear_desk.specs.Office.{AreBounded};
+
+    ghost Value = { Tables };
+
+    ghost view = { λ a. record { rates = a.rates; employers = a.employers.items; reports = a.reports.items; wages = a.wages.items; bank = a.bank.items; credits = a.credits.items; day = a.day; entries = a.entries; serial = a.serial } };
+
+    ghost invariant = { λ a. AreBounded (record { rates = a.rates; employers = a.employers.items; reports = a.reports.items; wages = a.wages.items; bank = a.bank.items; credits = a.credits.items; day = a.day; entries = a.entries; serial = a.serial }) };
+}
+
+impl Office {
+    /// An office without requests. Its tables stand for the book without entries.
+    pub fn new(alloc: Global, rates: RateTable) -> Office
+        ensures tables { result ≡ record { rates = rates; employers = []; reports = []; wages = []; bank = []; credits = []; day = None; entries = 0; serial = 0 } }
+        ensures stands { Stands (record { opening = rates; entries = [] }) result }
+    {
+        Office {
+            alloc,
+            rates,
+            employers: Vec::new(alloc),
+            reports: Vec::new(alloc),
+            wages: Vec::new(alloc),
+            bank: Vec::new(alloc),
+            credits: Vec::new(alloc),
+            day: None,
+            entries: 0,
+            serial: 0,
+        }
+    }
+
+    // The own rules of a command, and what it changes.
+    fn decide(&self, day: Day, command: &Command) -> Result<Decision, Rule>
+        ensures judged { (b : Book) → Stands b self.now → IsJudged b day command.now result }
+        ensures change { (b : Book) → Stands b self.now → IfOk result (TakesTables b day command.now) }
+        ensures fits { IfOk result (λ decision. Fits decision.change self.now) }
+    {
+        match command {
+            Command::Register(registration) => {
+                let view = self.register_view(registration);
+                decide_register(day, registration, &view)
+            }
+            Command::Report(report) => {
+                let view = self.report_view(report);
+                decide_report(day, report, &view)
+            }
+            Command::ImportBank(file) => {
+                let Ok(view) = self.import_view() else {
+                    return Err(Rule::Memory);
+                };
+                decide_import(self.alloc, day, file, &view)
+            }
+        }
+    }
+
+    // Makes a change on a day. An `Err` is for memory, and leaves the tables.
+    fn put(&mut self, day: Day, change: Change) -> Result<(), AllocError>
+        requires room { self.old.entries < 50_000_000 }
+        requires fits { Fits change self.old }
+        ensures ok { OnOk result (self.new ≡ noted day (changed change self.old)) }
+        ensures err { OnErr result (self.new ≡ self.old) }
+    {
+        match change {
+            Change::AddEmployer(row) => self.add_employer(day, row),
+            Change::AddReport(row, lines) => self.add_report(day, row, &lines),
+            Change::AddBankLines(rows) => self.add_bank_lines(day, rows),
+        }
+    }
+
+    fn add_employer(&mut self, day: Day, row: EmployerRow) -> Result<(), AllocError>
+        requires { self.old.entries < 50_000_000 }
+        ensures ok { OnOk result (self.new ≡ noted day (changed (Change.AddEmployer row) self.old)) }
+        ensures err { OnErr result (self.new ≡ self.old) }
+    {
+        match insert_row(&mut self.employers, row) {
+            Ok(()) => {
+                self.day = Some(day);
+                self.entries += 1;
+                Ok(())
+            }
+            Err(error) => Err(error),
+        }
+    }
+
+    fn add_report(&mut self, day: Day, row: ReportRow, lines: &WageLines) -> Result<(), AllocError>
+        requires room { self.old.entries < 50_000_000 }
+        requires fits { Fits (Change.AddReport row lines.now) self.old }
+        ensures ok { OnOk result (self.new ≡ noted day (changed (Change.AddReport row lines.now) self.old)) }
+        ensures err { OnErr result (self.new ≡ self.old) }
+    {
+        let wages = match add_wages(&self.wages, row.employer, row.month, lines.as_slice()) {
+            Ok(wages) => wages,
+            Err(error) => return Err(error),
+        };
+        match insert_row(&mut self.reports, row) {
+            Ok(()) => {
+                self.wages = wages;
+                self.day = Some(day);
+                self.entries += 1;
+                Ok(())
+            }
+            Err(error) => Err(error),
+        }
+    }
+
+    // Room is taken first, so that the rows are put in together or not at all.
+    fn add_bank_lines(&mut self, day: Day, rows: BankRows) -> Result<(), AllocError>
+        requires room { self.old.entries < 50_000_000 }
+        requires fits { Fits (Change.AddBankLines rows) self.old }
+        ensures ok { OnOk result (self.new ≡ noted day (changed (Change.AddBankLines rows) self.old)) }
+        ensures err { OnErr result (self.new ≡ self.old) }
+    {
+        let credits = credits_of_rows(self.alloc, rows.as_slice())?;
+        let rows = rows.into_vec();
+        self.bank.reserve(rows.len())?;
+        self.credits.reserve(credits.len())?;
+        self.serial += rows.len() as u64;
+        insert_rows(&mut self.bank, rows);
+        insert_rows(&mut self.credits, credits);
+        self.day = Some(day);
+        self.entries += 1;
+        Ok(())
+    }
+
+    /// Judges a command of a caller, and carries it out if no rule applies.
+    ///
+    /// Access is judged first, then the day, the limit of the book and the command's own rules. A refusal leaves the
+    /// office as it was.
+    pub fn submit(
+        &mut self,
+        caller: Caller,
+        number: RequestNo,
+        day: Day,
+        command: &Command,
+    ) -> Result<Reply, Rule>
+        // Whatever lawful book the tables stand for, this is a step of the machine over it.
+        ensures step { Steps self.old (Call.Do caller number day command.now) (replied result) self.new }
+        // Whatever the tables are.
+        ensures access { may_do caller command.now ≡ false → result ≡ Err Rule.NotYours }
+        ensures err { OnErr result (self.new ≡ self.old) }
+    {
+        if !may(caller, command) {
+            return Err(Rule::NotYours);
+        }
+        check_day(self.day, day)?;
+        if self.entries >= MAX_ENTRIES {
+            return Err(Rule::OverLimit(Limit::Book));
+        }
+        let _number = number.number();
+        command_in_range(command);
+        let decision = self.decide(day, command)?;
+        let reply = decision.reply;
+        match self.put(day, decision.change) {
+            Ok(()) => Ok(reply),
+            Err(_) => Err(Rule::Memory),
+        }
+    }
+
+    /// Answers a query of a caller.
+    ///
+    /// Access is judged first, then the day and the query's own rules. `Store(Row)` comes only where the tables are those of
+    /// no lawful book.
+    pub fn ask(&self, caller: Caller, day: Day, query: &Query) -> Result<Answer, Rule>
+        // Whatever lawful book the tables stand for, this is a step of the machine over it, which leaves the book.
+        ensures answer { (b : Book) → IsLawful b → Stands b self.now → Takes b (Call.Ask caller day query.now) (answered result) b }
+        // Whatever the tables are.
+        ensures access { may_query caller query.now ≡ false → result ≡ Err Rule.NotYours }
+    {
+        if !may_ask(caller, query) {
+            return Err(Rule::NotYours);
+        }
+        check_day(self.day, day)?;
+        let employer = employer_of(query);
+        if self.start_of(employer).is_none() {
+            return Err(Rule::UnknownEmployer);
+        }
+        self.owed(day, employer)
+    }
+
+    /// Takes calls one after another, as a list of outcomes, one for each.
+    ///
+    /// Room for all outcomes is taken first: an `Err` means that there was no memory for it, and nothing was done.
+    pub fn run(&mut self, alloc: Global, calls: &[Call]) -> Result<Vec<Outcome>, AllocError>
+        // The clearing theorem: whatever lawful book the tables stand for, the outcomes are those of the machine over
+        // it, and the tables then stand for the lawful book that it leaves.
+        ensures runs { IfOk result (λ outcomes. RunsTables self.old calls.now outcomes.items self.new) }
+        ensures err { OnErr result (self.new ≡ self.old) }
+    {
+        let mut outcomes = Vec::with_capacity(alloc, calls.len())?;
+        for call in calls {
+            let outcome = self.take(call);
+            put_outcome(&mut outcomes, outcome);
+        }
+        Ok(outcomes)
+    }
+
+    /// Takes one call.
+    pub fn take(&mut self, call: &Call) -> Outcome
+        // Whatever lawful book the tables stand for, this is a step of the machine over it.
+        ensures step { Steps self.old call.now result self.new }
+        ensures kept { is_reply result ≡ false → self.new ≡ self.old }
+    {
+        match call {
+            Call::Do {
+                caller,
+                number,
+                day,
+                command,
+            } => match self.submit(*caller, *number, *day, command) {
+                Ok(reply) => Outcome::Replied(reply),
+                Err(rule) => Outcome::Refused(rule),
+            },
+            Call::Ask { caller, day, query } => match self.ask(*caller, *day, query) {
+                Ok(answer) => Outcome::Answered(answer),
+                Err(rule) => Outcome::Refused(rule),
+            },
+        }
+    }
+}
+
+// Adds an outcome where there is room.
+fn put_outcome(outcomes: &mut Vec<Outcome>, outcome: Outcome)
+    requires { vec_len outcomes.old < vec_capacity outcomes.old }
+    ensures items { outcomes.new.items ≡ outcomes.old.items ++ outcome ∷ [] }
+    ensures len { vec_len outcomes.new ≡ vec_len outcomes.old + 1 }
+    ensures capacity { vec_capacity outcomes.old ≤ vec_capacity outcomes.new }
+{
+    // Names a type inside an outcome: without it this kit can't prove a push of outcomes.
+    let _rule: Option<Rule> = None;
+    if outcomes.push(outcome).is_err() {
+        unreachable!();
+    }
+}
+
+// The day isn't before the ledger day.
+fn check_day(ledger: Option<Day>, day: Day) -> Result<(), Rule>
+    ensures { Obeys result (day_back ledger day) }
+{
+    if let Some(ledger) = ledger
+        && day < ledger
+    {
+        return Err(Rule::DayBack(ledger));
+    }
+    Ok(())
+}
+
+// The employer that a query names.
+fn employer_of(query: &Query) -> EmployerNo
+    ensures { query.now ≡ Query.Owed result }
+{
+    let Query::Owed { employer } = query;
+    *employer
+}
+
+#[cfg(test)]
+mod tests;

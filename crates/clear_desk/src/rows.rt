@@ -1,0 +1,212 @@
+//! Rows in lists, in the order of their keys.
+ghost use Rattle.std.specs.Prelude.{◌≡◌, ◌+◌, ◌<◌, ◌≤◌, ◌∷◌, [], length, insert, is_ok, vec_capacity, vec_len, IfOk, if◌then◌else◌, option_copied, true};
+ghost use Rattle.clear_rules.specs.Accounts.{rank_of};
+ghost use Rattle.clear_rules.specs.Keyed.{find_row, with_row, with_rows};
+ghost use Rattle.clear_rules.specs.Lines.{credit_rows};
+ghost use Rattle.clear_rules.specs.Tables.{employer_key, report_key, with_wages, base_at};
+
+use clear_bank::lines::Purpose;
+use clear_money::months::Month;
+use clear_money::numbers::EmployerNo;
+use clear_rules::rows::{BankRow, CreditRow, EmployerRow, ReportRow, WageRow};
+use clear_rules::texts::WageLine;
+use std::alloc::{AllocError, Global};
+
+/// A row with a key.
+pub trait Keyed {
+    ghost use Rattle.std.specs.Prelude.{ℕ, List, ◌≡◌};
+    ghost use Rattle.clear_rules.specs.Keyed.{is_before};
+
+    ghost key: { Self → List ℕ };
+
+    /// Whether the key comes before that of another row.
+    fn is_before(&self, other: &Self) -> bool
+        ensures { result ≡ is_before (key self.now) (key other.now) };
+}
+
+impl Keyed for EmployerRow {
+    ghost use Rattle.clear_rules.specs.Tables.{employer_key};
+
+    ghost key = { employer_key };
+
+    fn is_before(&self, other: &EmployerRow) -> bool {
+        self.employer < other.employer
+    }
+}
+
+impl Keyed for ReportRow {
+    ghost use Rattle.clear_rules.specs.Tables.{report_key};
+
+    ghost key = { report_key };
+
+    fn is_before(&self, other: &ReportRow) -> bool {
+        self.employer < other.employer
+            || self.employer == other.employer && self.month < other.month
+    }
+}
+
+impl Keyed for WageRow {
+    ghost use Rattle.clear_rules.specs.Tables.{wage_key};
+
+    ghost key = { wage_key };
+
+    fn is_before(&self, other: &WageRow) -> bool {
+        if self.employer != other.employer {
+            return self.employer < other.employer;
+        }
+        self.month < other.month || self.month == other.month && self.worker < other.worker
+    }
+}
+
+impl Keyed for BankRow {
+    ghost use Rattle.clear_rules.specs.Tables.{bank_key};
+
+    ghost key = { bank_key };
+
+    fn is_before(&self, other: &BankRow) -> bool {
+        self.line.reference.as_str() < other.line.reference.as_str()
+    }
+}
+
+impl Keyed for CreditRow {
+    ghost use Rattle.clear_rules.specs.Accounts.{credit_key};
+
+    ghost key = { credit_key };
+
+    fn is_before(&self, other: &CreditRow) -> bool {
+        if self.employer != other.employer {
+            return self.employer < other.employer;
+        }
+        if self.purpose != other.purpose {
+            return rank_of(self.purpose) < rank_of(other.purpose);
+        }
+        self.day < other.day || self.day == other.day && self.serial < other.serial
+    }
+}
+
+// The rank of a purpose in the order of payments.
+fn rank_of(purpose: Purpose) -> u8
+    ensures { result ≡ rank_of purpose }
+{
+    match purpose {
+        Purpose::Contribution => 0,
+        Purpose::Interest => 1,
+    }
+}
+
+// Where a row goes.
+fn place_of<R: Keyed>(rows: &[R], row: &R) -> usize
+    ensures within { result ≤ length rows.now }
+    ensures place { insert rows.now result row.now ≡ with_row R.key rows.now row.now }
+{
+    for (i, other) in rows.iter().enumerate() {
+        if row.is_before(other) {
+            return i;
+        }
+    }
+    rows.len()
+}
+
+/// Puts a row at its place. Where there is no memory for it, the rows are left.
+pub fn insert_row<R: Keyed + Drop>(rows: &mut Vec<R>, row: R) -> Result<(), AllocError>
+    ensures items { rows.new.items ≡ (if is_ok result then with_row R.key rows.old.items row else rows.old.items) }
+    ensures len { vec_len rows.new ≡ (if is_ok result then vec_len rows.old + 1 else vec_len rows.old) }
+    ensures capacity { vec_capacity rows.old ≤ vec_capacity rows.new }
+    ensures room { vec_len rows.old < vec_capacity rows.old → is_ok result ≡ true }
+{
+    let place = place_of(rows.as_slice(), &row);
+    rows.insert(place, row)?;
+    Ok(())
+}
+
+/// Puts rows at their places, one after another, where there is room for them.
+pub fn insert_rows<R: Keyed + Drop>(rows: &mut Vec<R>, news: Vec<R>)
+    requires { vec_len rows.old + length news.items ≤ vec_capacity rows.old }
+    ensures { rows.new.items ≡ with_rows R.key rows.old.items news.items }
+{
+    for row in news {
+        if insert_row(rows, row).is_err() {
+            unreachable!();
+        }
+    }
+}
+
+/// The payments that bank lines are for their firms.
+pub fn credits_of_rows(alloc: Global, rows: &[BankRow]) -> Result<Vec<CreditRow>, AllocError>
+    ensures { IfOk result (λ credits. credits.items ≡ credit_rows rows.now) }
+{
+    let mut credits = Vec::new(alloc);
+    for row in rows {
+        if let Some(employer) = row.employer {
+            credits.push(CreditRow {
+                employer,
+                purpose: row.line.purpose,
+                day: row.line.value,
+                serial: row.serial,
+                cents: row.line.cents,
+                reference: row.line.reference.copied()?,
+            })?;
+        }
+    }
+    Ok(credits)
+}
+
+/// The row of an employer.
+pub fn find_employer(rows: &[EmployerRow], employer: EmployerNo) -> Option<&EmployerRow>
+    ensures { option_copied result ≡ find_row employer_key rows.now (employer ∷ []) }
+{
+    for row in rows {
+        if row.employer == employer {
+            return Some(row);
+        }
+    }
+    None
+}
+
+/// The row of a month's report.
+pub fn find_report(rows: &[ReportRow], employer: EmployerNo, month: Month) -> Option<&ReportRow>
+    ensures { option_copied result ≡ find_row report_key rows.now (employer ∷ month ∷ []) }
+{
+    for row in rows {
+        if row.employer == employer && row.month == month {
+            return Some(row);
+        }
+    }
+    None
+}
+
+/// The wage rows and one for each line of a month's report.
+pub fn add_wages(
+    rows: &Vec<WageRow>,
+    employer: EmployerNo,
+    month: Month,
+    lines: &[WageLine],
+) -> Result<Vec<WageRow>, AllocError>
+    ensures { IfOk result (λ new. new.items ≡ with_wages employer month lines.now rows.now.items) }
+{
+    let mut new = rows.clone()?;
+    for line in lines {
+        let row = WageRow {
+            employer,
+            month,
+            worker: line.worker,
+            gross: line.gross,
+        };
+        insert_row(&mut new, row)?;
+    }
+    Ok(new)
+}
+
+/// The base of a month: the sum of its wage rows, in cents.
+pub fn base_of_rows(rows: &[WageRow], employer: EmployerNo, month: Month) -> u64
+    requires { base_at rows.now employer month ≤ 5_000_000_000 }
+    ensures { result ≡ base_at rows.now employer month }
+{
+    let mut base = 0;
+    for row in rows {
+        if row.employer == employer && row.month == month {
+            base += row.gross;
+        }
+    }
+    base
+}

@@ -1,0 +1,83 @@
+//! The sample that the program serves: its rates, its callers and its day, and a desk with them.
+ghost use Rattle.std.specs.Prelude.{◌≡◌, ◌+◌, ◌*◌, ◌≤◌, [], codes, IfOk, IfSome};
+ghost use Rattle.clear_money.specs.Calendar.{IsMonth};
+ghost use Rattle.clear_money.specs.Rates.{IsRate};
+ghost use Rattle.clear_money.specs.Texts.{day_text};
+ghost use Rattle.clear_rules.specs.Tables.{Stands};
+ghost use Rattle.clear_http.specs.Callers.{sample_keys};
+ghost use Rattle.clear_desk.specs.Samples.{sample_rates};
+
+use crate::desk::Desk;
+use crate::office::Office;
+use clear_http::callers::Directory;
+use clear_http::routes::Routes;
+use clear_money::days::Day;
+use clear_money::months::Month;
+use clear_money::rates::{PushFault, RateRow, RateTable};
+use std::alloc::{AllocError, Global};
+
+/// The rates: 20 per cent from 2024-01 on, and 19 per cent from 2025-01 on.
+pub fn sample_rates(alloc: Global) -> Result<RateTable, AllocError>
+    ensures { IfOk result (λ table. table ≡ sample_rates) }
+{
+    let mut table = RateTable::first(alloc, rate(month(2024, 1), 2_000, 100))?;
+    match table.push(rate(month(2025, 1), 1_900, 90)) {
+        Ok(()) => Ok(table),
+        Err(PushFault::Memory) => Err(AllocError),
+        Err(PushFault::RateOrder) => unreachable!(),
+    }
+}
+
+/// The day on which the sample is served, 2024-04-30.
+pub fn sample_day() -> Option<Day>
+    ensures { IfSome result (λ day. day_text day ≡ codes "2024-04-30") }
+{
+    Day::read(b"2024-04-30")
+}
+
+/// A desk over an office without requests, with the sample's rates, callers and day. None where there is no memory for it.
+pub fn sample_desk(alloc: Global) -> Option<Desk>
+    ensures tables { IfSome result (λ desk. Stands (record { opening = sample_rates; entries = [] }) desk.tables) }
+    ensures keys { IfSome result (λ desk. desk.keys ≡ sample_keys) }
+    ensures day { IfSome result (λ desk. day_text desk.day ≡ codes "2024-04-30") }
+{
+    let Ok(rates) = sample_rates(alloc) else {
+        return None;
+    };
+    let Ok(directory) = Directory::sample(alloc) else {
+        return None;
+    };
+    let Ok(routes) = Routes::new(alloc) else {
+        return None;
+    };
+    let Some(day) = sample_day() else {
+        return None;
+    };
+    let office = Office::new(alloc, rates);
+    Some(Desk::new(alloc, office, directory, routes, day))
+}
+
+// A month of a year.
+fn month(year: u16, month: u16) -> Month
+    requires year { (2000 ≤ year) × (year ≤ 2199) }
+    requires month { (1 ≤ month) × (month ≤ 12) }
+    ensures { result + 1 ≡ 12 * year + month }
+{
+    match Month::new(year, month) {
+        Some(month) => month,
+        None => unreachable!(),
+    }
+}
+
+// A row of the sample: reports by the 15th, payments by the 20th, and an entitlement of 14.25 per cent.
+fn rate(first: Month, contribution: u16, interest: u16) -> RateRow
+    requires contribution { contribution ≤ 10_000 }
+    requires interest { interest ≤ 1_000 }
+    ensures { result ≡ record { first = first; contribution = contribution; report_day = 15; due_day = 20; interest = interest; entitlement = 1425 } }
+{
+    let _number = first.number();
+    match RateRow::new(first, contribution, 15, 20, interest, 1_425) {
+        Some(row) => row,
+        None => unreachable!(),
+    }
+}
