@@ -115,7 +115,7 @@ impl Office {
     }
 
     fn add_employer(&mut self, day: Day, row: EmployerRow) -> Result<(), AllocError>
-        requires { self.old.entries < 50_000_000 }
+        requires room { self.old.entries < 50_000_000 }
         ensures ok { OnOk result (self.new ≡ noted day (changed (Change.AddEmployer row) self.old)) }
         ensures err { OnErr result (self.new ≡ self.old) }
     {
@@ -182,7 +182,7 @@ impl Office {
     ) -> Result<Reply, Rule>
         // Whatever lawful book the tables stand for, this is a step of the machine over it.
         ensures step { Steps self.old (Call.Do caller number day command.now) (replied result) self.new }
-        // Whatever the tables are.
+        // This holds even for tables of no lawful book.
         ensures access { may_do caller command.now ≡ false → result ≡ Err Rule.NotYours }
         ensures err { OnErr result (self.new ≡ self.old) }
     {
@@ -193,6 +193,7 @@ impl Office {
         if self.entries >= MAX_ENTRIES {
             return Err(Rule::OverLimit(Limit::Book));
         }
+        // No effect at run time: the proof reads the ranges of the values from these two calls.
         let _number = number.number();
         command_in_range(command);
         let decision = self.decide(day, command)?;
@@ -210,7 +211,7 @@ impl Office {
     pub fn ask(&self, caller: Caller, day: Day, query: &Query) -> Result<Answer, Rule>
         // Whatever lawful book the tables stand for, this is a step of the machine over it, which leaves the book.
         ensures answer { (b : Book) → IsLawful b → Stands b self.now → Takes b (Call.Ask caller day query.now) (answered result) b }
-        // Whatever the tables are.
+        // This holds even for tables of no lawful book.
         ensures access { may_query caller query.now ≡ false → result ≡ Err Rule.NotYours }
     {
         if !may_ask(caller, query) {
@@ -272,7 +273,7 @@ fn put_outcome(outcomes: &mut Vec<Outcome>, outcome: Outcome)
     ensures len { vec_len outcomes.new ≡ vec_len outcomes.old + 1 }
     ensures capacity { vec_capacity outcomes.old ≤ vec_capacity outcomes.new }
 {
-    // Names a type inside an outcome: without it this kit can't prove a push of outcomes.
+    // No effect at run time: a push of outcomes is proved only where a type inside them is named.
     let _rule: Option<Rule> = None;
     if outcomes.push(outcome).is_err() {
         unreachable!();

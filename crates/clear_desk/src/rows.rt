@@ -94,7 +94,7 @@ fn rank_of(purpose: Purpose) -> u8
     }
 }
 
-// Where a row goes.
+// The place of a row among rows: before the first that it comes before.
 fn place_of<R: Keyed>(rows: &[R], row: &R) -> usize
     ensures within { result ≤ length rows.now }
     ensures place { insert rows.now result row.now ≡ with_row R.key rows.now row.now }
@@ -175,7 +175,7 @@ pub fn find_report(rows: &[ReportRow], employer: EmployerNo, month: Month) -> Op
     None
 }
 
-/// The wage rows and one for each line of a month's report.
+/// A copy of the wage rows, with one more for each line of a month's report.
 pub fn add_wages(
     rows: &Vec<WageRow>,
     employer: EmployerNo,

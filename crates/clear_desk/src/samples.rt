@@ -75,6 +75,7 @@ fn rate(first: Month, contribution: u16, interest: u16) -> RateRow
     requires interest { interest ≤ 1_000 }
     ensures { result ≡ record { first = first; contribution = contribution; report_day = 15; due_day = 20; interest = interest; entitlement = 1425 } }
 {
+    // No effect at run time: the proof reads the month's range from this call.
     let _number = first.number();
     match RateRow::new(first, contribution, 15, 20, interest, 1_425) {
         Some(row) => row,

@@ -29,7 +29,7 @@ use Rattle.clear_rules.specs.declared.rows.BankRow.{BankRow}
 use Rattle.clear_rules.specs.declared.rows.CreditRow.{CreditRow}
 use Rattle.clear_rules.specs.Book.{Book, Member, member_of}
 use Rattle.clear_rules.specs.Decisions.{IsImportView, payments_of, credits_viewed, is_viewed, rows_viewed, import_rule}
-use Rattle.clear_rules.specs.Judge.{own_rule, reply_to, is_over, most_credits, most_suspense, first_of, fault_rule, ahead_rule, when}
+use Rattle.clear_rules.specs.Judge.{own_rule, reply_to, is_over, most_credits, most_suspense, first_of, fault_rule, ahead_rule, when, limit_rules}
 use Rattle.clear_rules.specs.Lines.{most_records, lines_in, lines_or_none, new_lines, firm_of_line, rows_from, lines_of_rows, rows_brought, lines_seen, lines_standing, credit_in, credit_rows, credit_count, suspense_count}
 use Rattle.clear_rules.proofs.BankLemmas.{length-rows_from}
 
@@ -348,11 +348,8 @@ skip-none : (rule : Option Rule) (rules : List (Option Rule)) → rule ≡ None 
 skip-none rule rules e = ap (λ (o : Option Rule). first_of (o ∷ rules)) e
 
 -- the rules on what stands after some rows
-abbrev pub limit_rules : ImportView → List BankRow → List (Option Rule)
-limit_rules view rows =
-    when (nat_lt most_suspense (view.suspense + suspense_count rows)) (OverLimit Suspense)
-    ∷ when (list_any (is_over (credits_viewed view) rows) (credit_rows rows)) (OverLimit Credits)
-    ∷ []
+abbrev pub limits_viewed : ImportView → List BankRow → List (Option Rule)
+limits_viewed view rows = limit_rules view.suspense (credits_viewed view) rows
 
 -- the rule on the new lines' values
 abbrev pub values_rule : ImportView → ℕ → List BankLine → Option Rule
@@ -363,15 +360,15 @@ abbrev pub rows_of_new : ImportView → List BankLine → List BankRow
 rows_of_new view lines = rows_from (is_viewed view) view.serials (new_lines view.known.items lines)
 
 module _ (view : ImportView) (day : ℕ) (file : List ℕ) (lines : List BankLine) (are : lines ≡ lines_in file) (read : fault_rule (file_lines most_records file) ≡ None) where
-  after-file : import_rule view day file ≡ first_of (fault_rule (judgement view.known.items lines) ∷ values_rule view day lines ∷ limit_rules view (rows_of_new view lines))
+  after-file : import_rule view day file ≡ first_of (fault_rule (judgement view.known.items lines) ∷ values_rule view day lines ∷ limits_viewed view (rows_of_new view lines))
   after-file =
       skip-none (fault_rule (file_lines most_records file))
-      (fault_rule (judgement view.known.items (lines_in file)) ∷ values_rule view day (lines_in file) ∷ limit_rules view (rows_viewed view file)) read
-      ∙ ap (λ (ls : List BankLine). first_of (fault_rule (judgement view.known.items ls) ∷ values_rule view day ls ∷ limit_rules view (rows_of_new view ls))) (sym are)
+      (fault_rule (judgement view.known.items (lines_in file)) ∷ values_rule view day (lines_in file) ∷ limits_viewed view (rows_viewed view file)) read
+      ∙ ap (λ (ls : List BankLine). first_of (fault_rule (judgement view.known.items ls) ∷ values_rule view day ls ∷ limits_viewed view (rows_of_new view ls))) (sym are)
 
   -- the rules on the new lines
-  pub ruled_new : fault_rule (judgement view.known.items lines) ≡ None → import_rule view day file ≡ first_of (values_rule view day lines ∷ limit_rules view (rows_of_new view lines))
-  ruled_new none = after-file ∙ skip-none (fault_rule (judgement view.known.items lines)) (values_rule view day lines ∷ limit_rules view (rows_of_new view lines)) none
+  pub ruled_new : fault_rule (judgement view.known.items lines) ≡ None → import_rule view day file ≡ first_of (values_rule view day lines ∷ limits_viewed view (rows_of_new view lines))
+  ruled_new none = after-file ∙ skip-none (fault_rule (judgement view.known.items lines)) (values_rule view day lines ∷ limits_viewed view (rows_of_new view lines)) none
 
 -- two rules that are equal refuse alike
 pub refused_as : (r : Rule) (a b : Option Rule) → a ≡ b → RefusedBy r b → RefusedBy r a

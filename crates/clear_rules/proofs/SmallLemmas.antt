@@ -23,5 +23,6 @@ lawful_small b h =
       payments = λ e. lawful_payments b.opening b.entries h e Contribution;
       interest_payments = λ e. lawful_payments b.opening b.entries h e Interest;
       paid = λ e. lawful_paid e Contribution b.opening b.entries h;
+      interest_paid = λ e. lawful_paid e Interest b.opening b.entries h;
       suspense = (lawful_within b.opening b.entries h).0;
     }

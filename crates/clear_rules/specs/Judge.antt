@@ -167,16 +167,21 @@ abbrev pub is_over : (ℕ → Purpose → ℕ) → List BankRow → CreditRow �
 is_over credits rows row =
     nat_lt most_credits (credits row.employer row.purpose + credit_count rows row.employer row.purpose)
 
+-- the rules on the limits, judged on what stands after these rows
+abbrev pub limit_rules : ℕ → (ℕ → Purpose → ℕ) → List BankRow → List (Option Rule)
+limit_rules suspense credits rows =
+    when (nat_lt most_suspense (suspense + suspense_count rows)) (OverLimit Suspense)
+    ∷ when (list_any (is_over credits rows) (credit_rows rows)) (OverLimit Credits)
+    ∷ []
+
 -- the own rules, from the lines seen so far, the rows that the file brings, how many lines are in suspense, and how many
--- payments each firm has for each purpose; the limits are judged on what stands after the file
+-- payments each firm has for each purpose
 abbrev pub own_import : List BankLine → List BankRow → ℕ → (ℕ → Purpose → ℕ) → ℕ → List ℕ → Option Rule
 own_import known rows suspense credits t file = first_of (
     fault_rule (file_lines most_records file)
     ∷ fault_rule (judgement known (lines_in file))
     ∷ ahead_rule (find (λ p. nat_lt t p.1.value) (new_lines known (lines_in file)))
-    ∷ when (nat_lt most_suspense (suspense + suspense_count rows)) (OverLimit Suspense)
-    ∷ when (list_any (is_over credits rows) (credit_rows rows)) (OverLimit Credits)
-    ∷ [])
+    ∷ limit_rules suspense credits rows)
 
 -- how many lines are new, and how many of the others repeat an earlier one
 abbrev pub imported : List BankRow → List ℕ → Reply

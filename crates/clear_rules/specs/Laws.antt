@@ -26,6 +26,7 @@ pub record IsSmall (b : Book) : Type 0 where
   pub payments : (e : ℕ) → length (credits_of b e) ≤ 100000
   pub interest_payments : (e : ℕ) → length (interest_credits_of b e) ≤ 100000
   pub paid : (e : ℕ) → credited (credits_of b e) ≤ 10000000000000000
+  pub interest_paid : (e : ℕ) → credited (interest_credits_of b e) ≤ 10000000000000000
   pub suspense : suspense_count (lines_standing b.entries) ≤ 100000
 
 -- the bank lines of a book: the first takes serial 1 and each further one the next, and no reference stands twice

@@ -4,7 +4,7 @@ ghost use Rattle.std.specs.Prelude.{◌≡◌};
 use crate::rows::BankRow;
 use std::marker::Model;
 
-/// The bytes of a bank file as they came in, whatever they are: its request's rules judge them. A contract sees a list.
+/// The bytes of a bank file as they came in, whatever they are: they are judged with the request. A contract sees a list.
 #[derive(Debug, Drop)]
 pub struct BankFile {
     bytes: Vec<u8>,
@@ -34,7 +34,7 @@ impl BankFile {
     }
 }
 
-/// The rows of new lines in the order of their file. A contract sees a list.
+/// Rows of bank lines, whatever they are. A contract sees a list.
 #[derive(Debug, Drop)]
 pub struct BankRows {
     rows: Vec<BankRow>,
@@ -64,7 +64,7 @@ impl BankRows {
         self.rows.as_slice()
     }
 
-    /// The rows in their order, to be moved.
+    /// The rows themselves, in their order.
     pub fn into_vec(self) -> Vec<BankRow>
         ensures { result.items ≡ self }
     {

@@ -1,5 +1,5 @@
 //! The decision on a bank file.
-ghost use Rattle.std.specs.Prelude.{◌≡◌, ◌≤◌, ◌<◌, ◌+◌, ◌-◌, ◌↔◌, [], ◌∷◌, All, IfOk, IfSome, IsSome, List, OnOk, false, length, nat_lt};
+ghost use Rattle.std.specs.Prelude.{◌≡◌, ◌≤◌, ◌<◌, ◌-◌, ◌↔◌, ◌∷◌, All, IfOk, IfSome, IsSome, List, OnOk, false, length, nat_lt};
 ghost use Rattle.std.specs.List.{find, list_any};
 ghost use Rattle.std.specs.Option.{option_map_or};
 ghost use Rattle.clear_bank.specs.Files.{file_lines};
@@ -9,7 +9,7 @@ ghost use Rattle.clear_rules.specs.declared.calls.Command.TheVariants.{ImportBan
 ghost use Rattle.clear_rules.specs.declared.rows.BankRow.{BankRow};
 ghost use Rattle.clear_rules.specs.Book.{Book};
 ghost use Rattle.clear_rules.specs.Decisions.{Refuses, Obeys, IsJudged, TakesTables, IsImportView, firm_under, credits_viewed, import_rule, is_viewed, rows_viewed};
-ghost use Rattle.clear_rules.specs.Judge.{ahead_rule, fault_rule, first_of, is_over, most_suspense, rule_of, when};
+ghost use Rattle.clear_rules.specs.Judge.{ahead_rule, fault_rule, first_of, imported, is_over, limit_rules, rule_of};
 ghost use Rattle.clear_rules.specs.Lines.{credit_count, credit_in, credit_rows, firm_of_line, is_credit_of, lines_in, most_records, new_lines, rows_from, suspense_count};
 
 use crate::files::{BankFile, BankRows};
@@ -24,22 +24,26 @@ use clear_money::numbers::EmployerNo;
 use std::alloc::{AllocError, Global};
 use std::marker::Model;
 
+/// Data records of a bank file.
 const MAX_RECORDS: usize = 10_000;
 
+/// Lines in suspense.
 const MAX_SUSPENSE: u64 = 100_000;
 
+/// Payments of a firm for one purpose.
 const MAX_CREDITS: u64 = 100_000;
 
 /// How many payments a registered firm has.
 #[derive(Clone, Copy, Debug, PartialEq, Eq)]
 pub struct FirmCredits {
     pub employer: EmployerNo,
+    /// The number of its payments of contributions, not their cents.
     pub contributions: u64,
+    /// The number of its payments of interest.
     pub interest: u64,
 }
 
-/// How many serials were given, 0 to 500,000,000,000: the accepted requests that there may be, each with the records that
-/// a bank file may have.
+/// How many serials were given, 0 to 500,000,000,000: 50,000,000 requests of 10,000 records each take no more.
 #[derive(Clone, Copy, Debug, PartialEq, Eq)]
 pub struct SerialCount {
     count: u64,
@@ -84,9 +88,9 @@ impl SerialCount {
 /// What a bank file is judged by.
 #[derive(Debug, Drop)]
 pub struct ImportView {
-    /// The lines seen so far: under each reference the one that stands.
+    /// The lines seen so far, in any order: only what is found under a reference counts.
     pub known: Vec<BankLine>,
-    /// The registered firms, each once.
+    /// The registered firms, in any order.
     pub firms: Vec<FirmCredits>,
     /// How many lines are in suspense.
     pub suspense: u64,
@@ -94,9 +98,12 @@ pub struct ImportView {
     pub serials: SerialCount,
 }
 
-/// Decides on a bank file: `OverLimit` of 10,000 data records, `BadCsv`, `RefConflict`, `ValueAhead`, `OverLimit` of 100,000
-/// lines in suspense, `OverLimit` of 100,000 payments of a firm for one purpose, in this order. The last two are judged on
-/// what stands after the file.
+/// Decides on a bank file on the request's day: `OverLimit` above 10,000 data records, `BadCsv`, `RefConflict`, `ValueAhead`,
+/// `OverLimit` above 100,000 lines in suspense, `OverLimit` above 100,000 payments of a firm for one purpose, in this order.
+/// The last two are judged on what stands after the file. A file that doesn't begin with the letter r is `BadCsv` (1, 1)
+/// before all else. `Memory` may stand in place of any answer.
+///
+/// An accepted file adds a row for each of its new lines, and is answered how many there are and how many repeat a line.
 pub fn decide_import(
     alloc: Global,
     day: Day,
@@ -109,6 +116,7 @@ pub fn decide_import(
     ensures change { (b : Book) → IsImportView b view.now → IfOk result (TakesTables b day (DoImport file.now)) }
     ensures rule { Refuses result (import_rule view.now day file.now) }
     ensures made { IfOk result (λ decision. decision.change ≡ Change.AddBankLines (rows_viewed view.now file.now)) }
+    ensures reply { IfOk result (λ decision. decision.reply ≡ imported (rows_viewed view.now file.now) file.now) }
     ensures few { OnOk result (length (rows_viewed view.now file.now) ≤ 10_000) }
 {
     let NewRows { rows, repeats } = match import_rows(alloc, day, file.as_slice(), view) {
@@ -193,9 +201,7 @@ fn check_new(
     ensures rule { (rows : List BankRow) → rows ≡ rows_from (is_viewed view.now) view.now.serials (new_lines view.now.known.items lines.now)
         → Refuses result (first_of (
         ahead_rule (find (λ p. nat_lt day p.1.value) (new_lines view.now.known.items lines.now))
-        ∷ when (nat_lt most_suspense (view.now.suspense + suspense_count rows)) (Rule.OverLimit Limit.Suspense)
-        ∷ when (list_any (is_over (credits_viewed view.now) rows) (credit_rows rows)) (Rule.OverLimit Limit.Credits)
-        ∷ [])) }
+        ∷ limit_rules view.now.suspense (credits_viewed view.now) rows)) }
     ensures rows { IfOk result (λ rows. rows.items ≡ rows_from (is_viewed view.now) view.now.serials (new_lines view.now.known.items lines.now)) }
 {
     if let Err(rule) = check_values(day, lines, places) {
@@ -268,10 +274,7 @@ fn new_rows(
 
 // The limits on what stands after these rows.
 fn check_limits(view: &ImportView, rows: &[BankRow]) -> Result<(), Rule>
-    ensures { Obeys result (first_of (
-        when (nat_lt most_suspense (view.now.suspense + suspense_count rows.now)) (Rule.OverLimit Limit.Suspense)
-        ∷ when (list_any (is_over (credits_viewed view.now) rows.now) (credit_rows rows.now)) (Rule.OverLimit Limit.Credits)
-        ∷ [])) }
+    ensures { Obeys result (first_of (limit_rules view.now.suspense (credits_viewed view.now) rows.now)) }
 {
     if view.suspense.saturating_add(count_waiting(rows)) > MAX_SUSPENSE {
         return Err(Rule::OverLimit(Limit::Suspense));
@@ -369,6 +372,7 @@ impl ImportView {
         }
     }
 
+    // What the view has of a firm, if it is registered.
     fn find_firm(&self, employer: EmployerNo) -> Option<FirmCredits>
         ensures { result ≡ firm_under self.now.firms.items employer }
     {

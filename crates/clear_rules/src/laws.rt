@@ -18,8 +18,8 @@ pub fn law_lawful()
 
 /// A lawful book has at most 50,000,000 entries, its reports at most 500 lines of at most 10,000,000 cents, a base of at
 /// most 5,000,000,000 cents; the charges of a firm come to at most 12,000,000,000,000 cents; a firm has at most 100,000
-/// payments for each purpose, of at most 10,000,000,000,000,000 cents, and 100,000 lines are in suspense: no sum leaves its
-/// type.
+/// payments for each purpose, together at most 10,000,000,000,000,000 cents, and at most 100,000 lines are in suspense: no
+/// sum leaves its type.
 pub fn law_small()
     ensures { (b : Book) → IsLawful b → IsSmall b }
 {}

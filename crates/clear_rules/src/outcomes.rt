@@ -67,7 +67,7 @@ pub enum Rule {
     UnknownEmployer,
     /// The employer is registered already.
     EmployerExists,
-    /// The month is no member month.
+    /// The month lies before the first member month.
     MonthOutside,
     /// The month lies after the month of the request's day.
     MonthAhead,
@@ -75,14 +75,14 @@ pub enum Rule {
     ReportExists(u32),
     /// The worker stands in an earlier line too.
     WorkerTwice(WorkerNo),
-    /// There would be more than may be.
+    /// A limit would be passed.
     OverLimit(Limit),
-    /// A record of a bank file that is not as it should be, numbered from 1 with the header, and its first bad field, or
-    /// 0 for another number of fields.
+    /// A record of a bank file is not as it should be. `line` is its number from 1, the header being 1, and `field` its
+    /// first bad field from 1 to 6, or 0 for another number of fields.
     BadCsv { line: u64, field: u8 },
-    /// The record of a bank file whose reference stands earlier with another content.
+    /// The reference of the record of this number stands earlier with another content.
     RefConflict(u64),
-    /// The record of a bank file that is new and has a value date after the request's day.
+    /// The record of this number is new and has a value date after the request's day.
     ValueAhead(u64),
     /// The membership would begin before the first rate row.
     NoRate,

@@ -36,7 +36,7 @@ pub struct WageRow {
     pub gross: u64,
 }
 
-/// A bank line that stands.
+/// A bank line that came in, and counts.
 #[derive(Debug, Drop)]
 pub struct BankRow {
     pub line: BankLine,
@@ -53,8 +53,10 @@ pub struct CreditRow {
     pub purpose: Purpose,
     /// The day from which it counts as paid: the line's value date.
     pub day: Day,
+    /// The serial of the bank line.
     pub serial: u64,
     pub cents: Amount,
+    /// The reference of the bank line.
     pub reference: Reference,
 }
 
@@ -65,7 +67,7 @@ pub enum Change {
     AddEmployer(EmployerRow),
     /// A first report, with a wage row for each of its lines.
     AddReport(ReportRow, WageLines),
-    /// The new lines of a bank file, each with the credit that it is for its firm.
+    /// The new lines of a bank file; each that has a firm is a payment of it.
     AddBankLines(BankRows),
 }
 

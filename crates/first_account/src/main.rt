@@ -1,5 +1,5 @@
-//! The example `examples/first-account.http`, served as the program `clearing` serves it: `stdin` is the example, and
-//! `stdout` its answers, `examples/first-account.answers`.
+//! The example `examples/first-account.http`, served as the program `clearing` serves it. `stdin` is a copy of it, and
+//! `stdout` one of its answers, `examples/first-account.answers`.
 #![tactic(auto)]
 
 use clear_desk::desk::serve;

@@ -1,11 +1,8 @@
 //! Streams as clients send them, over the desk of the sample, and what is written to them.
 
-use super::{Desk, serve};
-use crate::office::Office;
-use crate::samples::{sample_day, sample_rates};
-use clear_http::callers::Directory;
+use super::serve;
+use crate::samples::sample_desk;
 use clear_http::counted::Counted;
-use clear_http::routes::Routes;
 use std::alloc::{AllocError, Global};
 use std::io;
 use std::io::Read;
@@ -92,17 +89,9 @@ impl Read for Halves<'_> {
     }
 }
 
-fn sample_desk(alloc: Global) -> Result<Desk, Fail> {
-    let rates = sample_rates(alloc)?;
-    let directory = Directory::sample(alloc)?;
-    let routes = Routes::new(alloc).ok().ok_or("no routes")?;
-    let day = sample_day().ok_or("no day")?;
-    Ok(Desk::new(alloc, Office::new(alloc, rates), directory, routes, day))
-}
-
 // What a new desk writes to the bytes of a reader.
 fn written<R: Read + Drop>(alloc: Global, reader: R) -> Result<Vec<u8>, Fail> {
-    let mut desk = sample_desk(alloc)?;
+    let mut desk = sample_desk(alloc).ok_or("no desk")?;
     let mut reader = Counted::new(reader);
     let mut writer = Counted::new(Vec::new(alloc));
     serve(&mut desk, &mut reader, &mut writer)

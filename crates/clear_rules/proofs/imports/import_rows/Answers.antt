@@ -3,7 +3,7 @@ use Rattle.clear_bank.specs.Newness.{judgement, new_places}
 use Rattle.clear_bank.specs.declared.lines.BankLine.{BankLine}
 use Rattle.clear_rules.specs.Decisions.{import_rule}
 use Rattle.clear_rules.specs.Judge.{fault_rule, first_of}
-use Rattle.clear_rules.proofs.ImportLemmas.{values_rule, limit_rules, rows_of_new, refused_as, ruled_new, new_repeats, new_few}
+use Rattle.clear_rules.proofs.ImportLemmas.{values_rule, limits_viewed, rows_of_new, refused_as, ruled_new, new_repeats, new_few}
 use Rattle.clear_rules.proofs.imports.import_rows.Goals as goal
 
 pub returns-in-Err-check_new-clause-rule : goal.returns-in-Err-check_new-clause-rule
@@ -13,7 +13,7 @@ returns-in-Err-check_new-clause-rule c =
     let known_is : view.known.items ≡ c.as_slice-2.result.now = sym c.as_slice-2.ensures.value in
     let lines_is : lines ≡ c.as_slice.result.now = c.as_slice-3.ensures.value ∙ sym c.as_slice.ensures.value in
     let none : fault_rule (judgement view.known.items lines) ≡ None = (λ i. fault_rule (judgement (known_is i) (lines_is i))) ∙ c.in-Ok-find_new.ensures.rule in
-    refused_as c.in-Err-check_new.rule (import_rule view c.args.day c.args.file.now) (first_of (values_rule view c.args.day lines ∷ limit_rules view (rows_of_new view lines)))
+    refused_as c.in-Err-check_new.rule (import_rule view c.args.day c.args.file.now) (first_of (values_rule view c.args.day lines ∷ limits_viewed view (rows_of_new view lines)))
     (ruled_new view c.args.day c.args.file.now lines (c.as_slice-3.ensures.value ∙ c.in-Ok.ensures.lines) c.in-Ok.ensures.rule none)
     (c.in-Err-check_new.ensures.rule (rows_of_new view lines) refl)
 
