@@ -1,46 +1,56 @@
 -- Laws that the definitions of an account keep.
-use Rattle.std.specs.Prelude.{◌≡◌, ℕ, ◌+◌, ◌-◌, ◌*◌, ◌<◌, ◌≤◌, ◌==◌, ◌&&◌, Bool, List, All, filter, length, min, sum_by}
+use Rattle.std.specs.Prelude.{◌≡◌, ℕ, ◌+◌, ◌-◌, ◌*◌, ◌<◌, ◌≤◌, ◌==◌, ◌&&◌, Bool, List, All, filter}
+use Rattle.std.specs.Prelude.{length, min, sum_by}
 use Rattle.clear_money.specs.Calendar.{begun_months}
 use Rattle.clear_account.specs.declared.entries.Charge.{Charge}
 use Rattle.clear_account.specs.declared.entries.Credit.{Credit}
 use Rattle.clear_account.specs.declared.entries.Piece.{Piece}
-use Rattle.clear_account.specs.Account.{IsAccount, charge_at, charged, charged_up_to, credit_at, credited, places}
-use Rattle.clear_account.specs.Allocation.{open_part, paid_of, piece_of, prepaid, right_pieces, share}
+use Rattle.clear_account.specs.Account.{IsAccount, charge_at, charged, charged_up_to, credit_at}
+use Rattle.clear_account.specs.Account.{credited, places}
+use Rattle.clear_account.specs.Allocation.{open_part, paid_of, piece_of, prepaid, right_pieces}
+use Rattle.clear_account.specs.Allocation.{share}
 use Rattle.clear_account.specs.Interest.{weight_on}
 
--- the shares of a charge sum to what the credits reach of it
+-- the shares of a charge sum to what the payments reach of it
 abbrev pub SharesSum : Type 0
 SharesSum = (charges : List Charge) (credits : List Credit) (i : ℕ) → i < length charges →
-    paid_of charges credits i ≡ min (charge_at charges i).cents (credited credits - charged_up_to charges i)
+    paid_of charges credits i
+    ≡ min (charge_at charges i).cents (credited credits - charged_up_to charges i)
 
--- the pieces sum to the lesser of the charges and the credits
+-- the pieces sum to the lesser of the charges and the payments
 abbrev pub PiecesSum : Type 0
 PiecesSum = (charges : List Charge) (credits : List Credit) →
-    sum_by (λ (p : Piece). p.cents) (right_pieces charges credits) ≡ min (charged charges) (credited credits)
+    sum_by (λ (p : Piece). p.cents) (right_pieces charges credits)
+    ≡ min (charged charges) (credited credits)
 
--- no cent of the credits is lost: it is in a piece or prepaid
+-- no cent of the payments is lost: it is in a piece or prepaid
 abbrev pub CreditsKept : Type 0
 CreditsKept = (charges : List Charge) (credits : List Credit) →
-    sum_by (λ (p : Piece). p.cents) (right_pieces charges credits) + prepaid charges credits ≡ credited credits
+    sum_by (λ (p : Piece). p.cents) (right_pieces charges credits) + prepaid charges credits
+    ≡ credited credits
 
--- each share of charge i, once for each month begun until it was paid
+-- the share of payment j in charge i, once for each month begun until it was paid
+abbrev pub late_share : List Charge → List Credit → ℕ → ℕ → ℕ
+late_share charges credits i j =
+    share charges credits i j * begun_months (charge_at charges i).due (credit_at credits j).day
+
+-- the late shares of charge i, summed
 abbrev pub late_shares : List Charge → List Credit → ℕ → ℕ
-late_shares charges credits i =
-    let due = (charge_at charges i).due in
-    sum_by (λ j. share charges credits i j * begun_months due (credit_at credits j).day) (places credits)
+late_shares charges credits i = sum_by (λ j. late_share charges credits i j) (places credits)
 
 -- the weight, month by month, is the late shares and the open part, once for each month begun
 abbrev pub WeightByPieces : Type 0
 WeightByPieces = (charges : List Charge) (credits : List Credit) (i day : ℕ) →
     IsAccount charges credits → i < length charges → All (λ k. k.day ≤ day) credits →
     weight_on charges credits i day
-    ≡ late_shares charges credits i + open_part charges credits i * begun_months (charge_at charges i).due day
+    ≡ late_shares charges credits i
+    + open_part charges credits i * begun_months (charge_at charges i).due day
 
--- a piece of the charge's month and the credit's serial
+-- a piece of the charge's month and the payment's serial
 abbrev pub is_of : Charge → Credit → Piece → Bool
 is_of c k p = p.month == c.month && p.serial == k.serial
 
--- the pieces of a charge and a credit are the one of their share, and none where the share is 0
+-- the pieces of a charge and a payment are the one of their share, and none where the share is 0
 abbrev pub OnePiece : Type 0
 OnePiece = (charges : List Charge) (credits : List Credit) (i j : ℕ) →
     IsAccount charges credits → i < length charges → j < length credits →

@@ -6,9 +6,10 @@ ghost use Rattle.clear_account.specs.Allocation.{piece_of, right_pieces};
 use crate::entries::{Charge, Credit, Piece};
 use std::alloc::{AllocError, Global};
 
-/// What each credit pays of each charge, in order of charge, then credit.
+/// What each payment pays of each charge, in order of charge, then payment.
 ///
-/// The charge and the credit at the front of their queues meet; the one that ends first makes room for the next.
+/// The charge and the payment at the front of their queues meet; the one that ends first makes
+/// room for the next.
 pub(crate) fn allocate(
     alloc: Global,
     charges: &[Charge],
@@ -41,14 +42,15 @@ pub(crate) fn allocate(
     Ok(pieces)
 }
 
-// Adds what a credit pays of a charge, if it is more than 0.
+// Adds what a payment pays of a charge, if it is more than 0.
 fn add_piece(
     pieces: &mut Vec<Piece>,
     charge: &Charge,
     credit: &Credit,
     cents: u64,
 ) -> Result<(), AllocError>
-    ensures { OnOk result (pieces.new.items ≡ pieces.old.items ++ piece_of charge.now credit.now cents) }
+    ensures { OnOk result
+        (pieces.new.items ≡ pieces.old.items ++ piece_of charge.now credit.now cents) }
 {
     if cents > 0 {
         pieces.push(Piece {

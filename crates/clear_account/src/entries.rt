@@ -18,12 +18,12 @@ impl Charge {
     pub const MAX_CENTS: u64 = 5_000_000_000;
 }
 
-/// What a firm has paid, or what was set off for it.
+/// A payment of a firm, or what was set off for it.
 #[derive(Clone, Copy, Debug, PartialEq, Eq)]
 pub struct Credit {
     /// The day from which it counts as paid.
     pub day: Day,
-    /// Its number in the whole office; an account has no two credits of one serial.
+    /// Its number in the whole office; an account has no two payments of one serial.
     pub serial: u64,
     pub cents: Amount,
 }
@@ -40,11 +40,11 @@ impl Credit {
     }
 }
 
-/// What a credit pays of the charge of a month: 1 cent or more.
+/// What a payment pays of the charge of a month: 1 cent or more.
 #[derive(Clone, Copy, Debug, PartialEq, Eq)]
 pub struct Piece {
     pub month: Month,
-    /// The serial of the credit.
+    /// The serial of the payment.
     pub serial: u64,
     pub cents: u64,
 }
@@ -52,7 +52,7 @@ pub struct Piece {
 /// Why an account is not changed.
 #[derive(Clone, Copy, Debug, PartialEq, Eq)]
 pub enum AccountFault {
-    /// It has `MAX_CREDITS` credits.
+    /// It has `MAX_CREDITS` payments.
     OverLimit,
     Memory,
 }

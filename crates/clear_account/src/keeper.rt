@@ -1,10 +1,12 @@
 //! What keeps an account.
-ghost use Rattle.std.specs.Prelude.{◌≡◌, ◌≢◌, ◌≤◌, ◌↔◌, Err, IfOk, IfSome, IsTrue, List, OnErr, OnOk, length};
+ghost use Rattle.std.specs.Prelude.{◌≡◌, ◌≢◌, ◌≤◌, ◌↔◌, Err, IfOk, IfSome, IsTrue, List, OnErr};
+ghost use Rattle.std.specs.Prelude.{OnOk, length};
 ghost use Rattle.std.specs.List.{slice_get};
 ghost use Rattle.clear_money.specs.Calendar.{day_of_month};
 ghost use Rattle.clear_account.specs.declared.entries.Charge.{Charge as AnyCharge};
 ghost use Rattle.clear_account.specs.declared.entries.Credit.{Credit as AnyCredit};
-ghost use Rattle.clear_account.specs.Account.{HoldsSerial, IsAccount, charged, credited, last_day, with_charge, with_credit};
+ghost use Rattle.clear_account.specs.Account.{HoldsSerial, IsAccount, charged, credited, last_day};
+ghost use Rattle.clear_account.specs.Account.{with_charge, with_credit};
 ghost use Rattle.clear_account.specs.Allocation.{open_of, prepaid, right_pieces};
 ghost use Rattle.clear_account.specs.Arrears.{charged_before};
 ghost use Rattle.clear_account.specs.Interest.{weight_of};
@@ -14,19 +16,21 @@ use clear_money::days::Day;
 use clear_money::months::Month;
 use std::alloc::Global;
 
-/// The most credits that an account has.
+/// The most payments that an account has.
 pub const MAX_CREDITS: usize = 100_000;
 
-/// Keeps an account, which a contract sees as its charges in month order and its credits in order of day and serial.
+/// Keeps an account, which a contract sees as its charges in month order and its credits, the
+/// payments, in order of day and serial.
 ///
-/// Amounts are in cents. Only what grows a list takes memory, and whatever is refused leaves the account as it was.
+/// Amounts are in cents. Only what grows a list takes memory, and whatever is refused leaves the
+/// account as it was.
 pub trait Keeper {
     ghost charges: { Self → List AnyCharge };
 
     ghost credits: { Self → List AnyCredit };
 
-    /// Adds the charge, or puts it in the place of its month's. It is at most `Charge::MAX_CENTS` and due on a day
-    /// of month of at most 28.
+    /// Adds the charge, or puts it in the place of its month's. It is at most `Charge::MAX_CENTS`
+    /// and due on a day of month of at most 28.
     fn set_charge(&mut self, charge: Charge) -> Result<(), AccountFault>
         requires cents { charge.cents ≤ Charge.MAX_CENTS }
         requires due { day_of_month charge.due ≤ 28 }
@@ -36,39 +40,42 @@ pub trait Keeper {
         ensures never_over { result ≢ Err AccountFault.OverLimit }
         ensures credits { credits self.new ≡ credits self.old };
 
-    /// Adds the credit in its place. Its serial must not be held yet.
+    /// Adds the payment in its place. Its serial must not be held yet.
     fn add_credit(&mut self, credit: Credit) -> Result<(), AccountFault>
         requires { ¬ HoldsSerial (credits self.old) credit.serial }
         ensures ok { OnOk result (credits self.new ≡ with_credit credit (credits self.old)) }
         ensures err { OnErr result (credits self.new ≡ credits self.old) }
-        ensures limit { (result ≡ Err AccountFault.OverLimit) ↔ (MAX_CREDITS ≤ length (credits self.old)) }
+        ensures limit { (result ≡ Err AccountFault.OverLimit)
+            ↔ (MAX_CREDITS ≤ length (credits self.old)) }
         ensures charges { charges self.new ≡ charges self.old };
 
-    /// Whether a credit has the serial.
+    /// Whether a payment has the serial.
     fn holds(&self, serial: u64) -> bool
         ensures { IsTrue result ↔ HoldsSerial (credits self.now) serial };
 
-    /// What each credit pays of each charge, in order of month, then credit.
+    /// What each payment pays of each charge, in order of month, then payment.
     fn pieces(&self, alloc: Global) -> Result<Vec<Piece>, AccountFault>
-        ensures right { IfOk result (λ pieces. pieces.items ≡ right_pieces (charges self.now) (credits self.now)) }
+        ensures right { IfOk result (λ pieces.
+            pieces.items ≡ right_pieces (charges self.now) (credits self.now)) }
         ensures never_over { result ≢ Err AccountFault.OverLimit };
 
     /// What is open of a month's charge. None for a month without one.
     fn open_of(&self, month: Month) -> Option<u64>
         ensures { result ≡ open_of (charges self.now) (credits self.now) month };
 
-    /// The open parts of a month's charge on the days due, due plus 1 month, due plus 2 months, .. strictly before a
-    /// day, summed. The day is not before the last credit's. None for a month without a charge.
+    /// The open parts of a month's charge on the days due, due plus 1 month, due plus 2 months, ..
+    /// strictly before a day, summed. The day is not before the last payment's. None for a month
+    /// without a charge.
     fn weight_of(&self, month: Month, day: Day) -> Option<u64>
         requires { last_day (credits self.now) ≤ day }
         ensures value { result ≡ weight_of (charges self.now) (credits self.now) month day }
         ensures range { IfSome result (λ weight. weight ≤ 12_060_000_000_000) };
 
-    /// The day of the last credit, or 2000-01-01 without one.
+    /// The day of the last payment, or 2000-01-01 without one.
     fn last_day(&self) -> Day
         ensures { result ≡ last_day (credits self.now) };
 
-    /// The credits that no charge reaches.
+    /// The part of the payments that no charge reaches.
     fn prepaid(&self) -> u64
         ensures { result ≡ prepaid (charges self.now) (credits self.now) };
 
@@ -76,7 +83,7 @@ pub trait Keeper {
     fn charged(&self) -> u64
         ensures { result ≡ charged (charges self.now) };
 
-    /// All credits.
+    /// All payments.
     fn credited(&self) -> u64
         ensures { result ≡ credited (credits self.now) };
 

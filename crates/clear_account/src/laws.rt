@@ -1,17 +1,19 @@
-//! Laws of accounts, over the definitions alone. Each function does nothing: its contract is the law.
-ghost use Rattle.clear_account.specs.Laws.{CreditsKept, OnePiece, PiecesSum, SharesSum, WeightByPieces};
+//! Laws of accounts, over the definitions alone. Each function does nothing: its contract is the
+//! law.
+ghost use Rattle.clear_account.specs.Laws.{CreditsKept, OnePiece, PiecesSum, SharesSum};
+ghost use Rattle.clear_account.specs.Laws.{WeightByPieces};
 
-/// The shares of a charge sum to what the credits reach of it.
+/// The shares of a charge sum to what the payments reach of it.
 pub fn shares_sum()
     ensures { SharesSum }
 {}
 
-/// The pieces sum to the lesser of all charges and all credits.
+/// The pieces sum to the lesser of all charges and all payments.
 pub fn pieces_sum()
     ensures { PiecesSum }
 {}
 
-/// The pieces and what is prepaid sum to the credits.
+/// The pieces and what is prepaid sum to the payments.
 pub fn credits_kept()
     ensures { CreditsKept }
 {}
@@ -21,7 +23,7 @@ pub fn weight_by_pieces()
     ensures { WeightByPieces }
 {}
 
-/// Each charge and each credit with a share have one piece, and no other piece names the two.
+/// Each charge and each payment with a share have one piece, and no other piece names the two.
 pub fn one_piece()
     ensures { OnePiece }
 {}

@@ -1,9 +1,11 @@
-//! A firm's account: what it owes for each month, what it has paid, and which payment pays which month.
+//! A firm's account: what it owes for each month, what it has paid, and which payment pays which
+//! month.
 //!
-//! Credits in order of day and serial pay charges in month order, each cent of the credits the cent of the charges at
-//! the same place. A keeper is seen as its two lists; its pieces, open parts, weights and sums are the definitions of
-//! `specs/` over these lists, whatever it keeps besides. Only what grows a list takes memory, and a refusal leaves the
-//! keeper as it was. That a call with memory at hand succeeds is shown by tests.
+//! Payments in order of day and serial pay charges in month order, each cent of the payments the
+//! cent of the charges at the same place. A keeper is seen as its two lists; its pieces, open
+//! parts, weights and sums are the definitions of `specs/` over these lists, whatever it keeps
+//! besides. Only what grows a list takes memory, and a refusal leaves the keeper as it was. That a
+//! call with memory at hand succeeds is shown by tests.
 #![tactic(auto)]
 
 mod allocation;

@@ -1,6 +1,8 @@
-//! Charges in month order and credits in order of day and serial, as lists.
-ghost use Rattle.std.specs.Prelude.{◌≡◌, ◌<◌, ◌≤◌, ◌^◌, ◌↔◌, All, AllPairs, IsTrue, OnOk, OnErr, drop, length, take, true, false};
-ghost use Rattle.clear_account.specs.Account.{HoldsSerial, IsAccount, charged, comes_before, credited, place_of, with_charge, with_credit};
+//! Charges in month order and payments in order of day and serial, as lists.
+ghost use Rattle.std.specs.Prelude.{◌≡◌, ◌<◌, ◌≤◌, ◌^◌, ◌↔◌, All, AllPairs, IsTrue, OnOk, OnErr};
+ghost use Rattle.std.specs.Prelude.{drop, length, take, true, false};
+ghost use Rattle.clear_account.specs.Account.{HoldsSerial, IsAccount, charged, comes_before};
+ghost use Rattle.clear_account.specs.Account.{credited, place_of, with_charge, with_credit};
 ghost use Rattle.clear_account.specs.Allocation.{open_part};
 ghost use Rattle.clear_account.specs.Arrears.{charged_before};
 
@@ -34,7 +36,7 @@ fn months_before(charges: &[Charge], month: Month) -> usize
     charges.partition_point(|c| c.month < month)
 }
 
-/// Adds the credit in its place.
+/// Adds the payment in its place.
 pub(crate) fn put_credit(credits: &mut Vec<Credit>, credit: Credit) -> Result<(), AllocError>
     requires rise { AllPairs (λ k l. IsTrue (comes_before k l)) credits.old.items }
     requires fresh { ¬ HoldsSerial credits.old.items credit.serial }
@@ -46,7 +48,7 @@ pub(crate) fn put_credit(credits: &mut Vec<Credit>, credit: Credit) -> Result<()
     Ok(())
 }
 
-// How many credits come before one.
+// How many payments come before one.
 fn credits_before(credits: &[Credit], credit: &Credit) -> usize
     requires { AllPairs (λ k l. IsTrue (comes_before k l)) credits.now }
     ensures bound { result ≤ length credits.now }
@@ -56,7 +58,7 @@ fn credits_before(credits: &[Credit], credit: &Credit) -> usize
     credits.partition_point(|k| k.is_before(credit))
 }
 
-/// Whether a credit has the serial.
+/// Whether a payment has the serial.
 pub(crate) fn find_serial(credits: &[Credit], serial: u64) -> bool
     ensures { IsTrue result ↔ HoldsSerial credits.now serial }
 {
@@ -78,7 +80,7 @@ pub(crate) fn add_charges(charges: &[Charge]) -> u64
     charges.iter().map(|c| c.cents).sum()
 }
 
-/// All credits, in cents.
+/// All payments, in cents.
 pub(crate) fn add_credits(credits: &[Credit]) -> u64
     requires { credited credits.now < 2 ^ 64 }
     ensures { result ≡ credited credits.now }

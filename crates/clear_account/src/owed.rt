@@ -8,7 +8,7 @@ use crate::keeper::Keeper;
 use clear_money::days::Day;
 use clear_money::rates::RateTable;
 
-/// The contributions due before a day, less all credits, at least 0, in cents.
+/// The contributions due before a day, less all payments, at least 0, in cents.
 pub fn arrears<K: Keeper>(keeper: &K, day: Day) -> u64
     ensures { result ≡ arrears_on (K.charges keeper.now) (K.credits keeper.now) day }
 {
@@ -30,11 +30,13 @@ pub fn has_rates<K: Keeper>(keeper: &K, rates: &RateTable) -> bool
     true
 }
 
-/// The interest of all contributions on a day, in cents, that of each rounded down once at the rate of its own month.
+/// The interest of all contributions on a day, in cents, that of each rounded down once at the
+/// rate of its own month.
 pub fn interest<K: Keeper>(keeper: &K, rates: &RateTable, day: Day) -> u64
     requires rates { HasRates rates.now (K.charges keeper.now) }
     requires day { last_day (K.credits keeper.now) ≤ day }
-    ensures { result ≡ all_interest_on rates.now (K.charges keeper.now) (K.credits keeper.now) day }
+    ensures { result
+        ≡ all_interest_on rates.now (K.charges keeper.now) (K.credits keeper.now) day }
 {
     let mut total = 0;
     for index in 0..keeper.charge_count() {
@@ -49,7 +51,8 @@ fn interest_of_charge<K: Keeper>(keeper: &K, rates: &RateTable, index: usize, da
     requires index { index < length (K.charges keeper.now) }
     requires rates { HasRates rates.now (K.charges keeper.now) }
     requires day { last_day (K.credits keeper.now) ≤ day }
-    ensures value { result ≡ interest_on rates.now (K.charges keeper.now) (K.credits keeper.now) index day }
+    ensures value { result
+        ≡ interest_on rates.now (K.charges keeper.now) (K.credits keeper.now) index day }
     ensures range { result ≤ 1_206_000_000_000 }
 {
     let Some(charge) = keeper.charge_at(index) else {
@@ -61,5 +64,5 @@ fn interest_of_charge<K: Keeper>(keeper: &K, rates: &RateTable, index: usize, da
     let Some(row) = rates.in_force(charge.month) else {
         unreachable!()
     };
-    weight * u64::from(row.interest()) / 10_000
+    weight * u64::from(row.interest_rate()) / 10_000
 }

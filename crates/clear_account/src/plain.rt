@@ -31,7 +31,7 @@ impl Model for Plain {
 impl Plain {
     ghost use Rattle.std.specs.Prelude.{◌≡◌, []};
 
-    /// An account without charges and credits.
+    /// An account without charges and payments.
     pub fn new(alloc: Global) -> Plain
         ensures { result ≡ record { charges = []; credits = [] } }
     {

@@ -243,7 +243,7 @@ fn the_largest_weight(rt: HostRuntime) -> Result<(), Fail> {
     Ok(())
 }
 
-// An account of 100,000 credits of so many cents, with the serials 0, 1, ..
+// An account of 100,000 payments of so many cents, with the serials 0, 1, ..
 fn longest_account(alloc: Global, cents: u64) -> Result<Plain, Fail> {
     let day = day("2024-02-20")?;
     let cents = Amount::new(cents).ok_or("cents")?;
@@ -254,7 +254,8 @@ fn longest_account(alloc: Global, cents: u64) -> Result<Plain, Fail> {
     Ok(account)
 }
 
-// 100,000 credits of 100 cents and 2,400 charges of 4,166, so that most charges end within a credit.
+// 100,000 payments of 100 cents and 2,400 charges of 4,166, so that most charges end within a
+// payment.
 #[test]
 fn the_longest_lists(rt: HostRuntime) -> Result<(), Fail> {
     let alloc = rt.alloc();
@@ -272,7 +273,7 @@ fn the_longest_lists(rt: HostRuntime) -> Result<(), Fail> {
     Ok(())
 }
 
-// 100,000 credits of the largest amount, and one more.
+// 100,000 payments of the largest amount, and one more.
 #[test]
 fn the_largest_credits(rt: HostRuntime) -> Result<(), Fail> {
     let mut account = longest_account(rt.alloc(), 100_000_000_000)?;

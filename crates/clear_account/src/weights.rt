@@ -1,5 +1,6 @@
 //! How much is open of a charge, and for how many months.
 ghost use Rattle.std.specs.Prelude.{◌≡◌, ◌-◌, ◌*◌, ◌<◌, ◌≤◌, All, length, max, min};
+ghost use Rattle.clear_money.specs.Limits.{most_base};
 ghost use Rattle.clear_money.specs.Calendar.{begun_months, day_of_month};
 ghost use Rattle.clear_account.specs.Account.{IsAccount};
 ghost use Rattle.clear_account.specs.Interest.{weight_on};
@@ -8,8 +9,9 @@ use crate::entries::{Charge, Credit};
 use crate::lists::{add_charges, open_cents};
 use clear_money::days::{Day, begun_months};
 
-/// The open parts of the charge at a place on the days due, due plus 1 month, .. strictly before a day, in cents,
-/// summed. That is each paid part times the months begun until it was paid, and what is open times all months begun.
+/// The open parts of the charge at a place on the days due, due plus 1 month, .. strictly before a
+/// day, in cents, summed. That is each paid part times the months begun until it was paid, and
+/// what is open times all months begun.
 pub(crate) fn weigh(charges: &[Charge], credits: &[Credit], place: usize, day: Day) -> u64
     requires account { IsAccount charges.now credits.now }
     requires place { place < length charges.now }
@@ -25,7 +27,8 @@ pub(crate) fn weigh(charges: &[Charge], credits: &[Credit], place: usize, day: D
     for credit in credits {
         let credit_end = credit_start + credit.cents.cents();
         let share = common(start, end, credit_start, credit_end);
-        weight += weigh_part(share, charge.due, credit.day);
+        let part = weigh_part(share, charge.due, credit.day);
+        weight += part;
         credit_start = credit_end;
     }
     weight + weigh_part(open_cents(charges, credits, place), charge.due, day)
@@ -40,7 +43,7 @@ fn common(start: u64, end: u64, other_start: u64, other_end: u64) -> u64
 
 // Some cents, once for each month begun from the due day to a day.
 fn weigh_part(cents: u64, due: Day, day: Day) -> u64
-    requires cents { cents ≤ 5_000_000_000 }
+    requires cents { cents ≤ most_base }
     requires due { day_of_month due ≤ 28 }
     ensures { result ≡ cents * begun_months due day }
 {

@@ -1,19 +1,19 @@
 //! The clearing office between building firms and their holiday fund, as a program.
 //!
-//! Without words it serves the requests on standard input over a new office with the sample rates, the sample callers
-//! and the day 2024-04-30, and writes their answers to standard output.
+//! Without words it serves the requests on standard input over a new office with the sample rates,
+//! the sample callers and the day 2024-04-30, and writes their answers to standard output.
 #![tactic(auto)]
 
 use clear_desk::desk::serve;
 use clear_desk::samples::sample_desk;
-use clear_desk::serve::{Fault, Served};
 use clear_http::counted::Counted;
+use clear_http::serve::{Fault, Served};
 use std::process::ExitCode;
 use std::rt::Env;
 use std::{env, io};
 
-/// Serves standard input. With any word the command line is at fault, and the status is 2; a stream that isn't served to
-/// its end gives status 3.
+/// Serves standard input. With any word the command line is at fault, and the status is 2; a stream
+/// that isn't served to its end gives status 3.
 fn main(rt: HostRuntime) -> ExitCode {
     match has_words(&rt) {
         Ok(false) => match serve_sample(&rt) {

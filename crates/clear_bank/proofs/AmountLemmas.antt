@@ -4,7 +4,7 @@ use Rattle.std.specs.List.{AllByRecursion, find, filter_map, cons_option, enumer
 use Rattle.std.specs.Result.{result_ok, result_err}
 use Rattle.csv.specs.Reading.{strip_bom}
 use Rattle.clear_money.specs.Numbers.{IsAmount}
-use Rattle.clear_bank.specs.Files.{Fields, numbers, reference_in, value_in, employer_in, cents_in, purpose_in, note_in, from_field, line_of, header_fault, rows_read, unless_faulty, all_lines, after_header, record_lines, begins_with_r, is_over, records_of, file_lines}
+use Rattle.clear_bank.specs.Files.{Fields, numbers, reference_in, value_in, employer_in, cents_in, purpose_in, note_in, or_bad, ◌>>=◌, line_of, header_fault, rows_read, unless_faulty, all_lines, after_header, record_lines, begins_with_r, is_over, records_of, file_lines}
 use Rattle.clear_bank.specs.declared.fault.BankFault.{BankFault}
 use Rattle.clear_bank.specs.declared.fault.BankFault.TheVariants.{OverLimit, BadCsv}
 use Rattle.clear_bank.specs.declared.lines.BankLine.{BankLine}
@@ -29,7 +29,7 @@ abbrev HasAmount : Result BankLine BankFault → Type 0
 HasAmount (Ok line) = IsAmount line.cents
 HasAmount (Err fault) = Unit {0}
 
-on_field : {A : Type 0} (n field : ℕ) (o : Option A) (next : A → Result BankLine BankFault) → ((x : A) → o ≡ Some x → HasAmount (next x)) → HasAmount (from_field n field o next)
+on_field : {A : Type 0} (n field : ℕ) (o : Option A) (next : A → Result BankLine BankFault) → ((x : A) → o ≡ Some x → HasAmount (next x)) → HasAmount (or_bad n field o >>= next)
 on_field n field None next h = tt
 on_field n field (Some x) next h = h x refl
 

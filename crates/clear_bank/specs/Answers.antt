@@ -1,7 +1,8 @@
 -- What an answer says of the one that was to be given.
 use Rattle.std.specs.Prelude.{◌≡◌, ⊤, Result, Ok, Err}
 use Rattle.clear_bank.specs.declared.fault.BankFault.{BankFault}
-use Rattle.clear_bank.specs.declared.fault.BankFault.TheVariants.{OverLimit, BadCsv, RefConflict, Memory}
+use Rattle.clear_bank.specs.declared.fault.BankFault.TheVariants.{OverLimit, BadCsv, RefConflict}
+use Rattle.clear_bank.specs.declared.fault.BankFault.TheVariants.{Memory}
 
 -- a fault is the one that was to be found; want of memory may stand in place of any answer
 abbrev pub Fails : {A : Type 0} → BankFault → Result A BankFault → Type 0

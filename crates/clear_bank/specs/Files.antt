@@ -1,5 +1,7 @@
 -- What the bytes of a bank file say.
-use Rattle.std.specs.Prelude.{ℕ, ◌+◌, ◌-◌, Bool, false, not, ◌==◌, ◌||◌, nat_lt, if◌then◌else◌, List, [], ◌∷◌, length, codes, map, Option, Some, None, option_map, Result, Ok, Err}
+use Rattle.std.specs.Prelude.{ℕ, ◌+◌, ◌-◌, Bool, false, not, ◌==◌, ◌||◌, nat_lt, if◌then◌else◌}
+use Rattle.std.specs.Prelude.{List, [], ◌∷◌, length, codes, map, Option, Some, None, option_map}
+use Rattle.std.specs.Prelude.{Result, Ok, Err}
 use Rattle.std.specs.Fmt.{decimal}
 use Rattle.std.specs.List.{find, filter_map, enumerate_from, range_with_len, zip}
 use Rattle.std.specs.Result.{result_ok, result_err}
@@ -40,7 +42,8 @@ employer_in (b ∷ bs) = option_map Some (written decimal 1 99999999 (b ∷ bs))
 abbrev pub cents_in : List ℕ → Option ℕ
 cents_in field = written decimal 1 100000000000 field
 
--- an empty field means a contribution
+-- what a payment is for: C is a contribution and I is interest; an empty field means a
+-- contribution
 abbrev pub purpose_in : List ℕ → Option Purpose
 purpose_in field =
     if bytes_eq field [] || bytes_eq field (codes "C") then Some Contribution
@@ -57,27 +60,60 @@ note_in field = if is_note field then Some field else None
 abbrev pub Fields : Type 0
 Fields = List (List ℕ)
 
--- what follows from the value of a field, or else the fault of the field in the record of a number
-abbrev pub from_field : {A B : Type 0} → ℕ → ℕ → Option A → (A → Result B BankFault) → Result B BankFault
-from_field number field None next = Err (BadCsv number field)
-from_field number field (Some value) next = next value
+-- the value of a field in the record of a number, or the fault that it is none
+abbrev pub or_bad : {A : Type 0} → ℕ → ℕ → Option A → Result A BankFault
+or_bad number field None = Err (BadCsv number field)
+or_bad number field (Some value) = Ok value
 
--- the line that the record of a number says, or its first bad field, 0 for another number of fields
+infixl 10 ◌>>=◌
+-- what follows from the value, or its fault
+abbrev pub ◌>>=◌ : {A B : Type 0}
+    → Result A BankFault → (A → Result B BankFault) → Result B BankFault
+(Ok x) >>= f = f x
+(Err fault) >>= f = Err fault
+
+-- the line that the record of a number says, or its first bad field, 0 for another number of
+-- fields
 abbrev pub line_of : ℕ → Fields → Result BankLine BankFault
-line_of n (a ∷ b ∷ c ∷ d ∷ e ∷ f ∷ []) =
-    from_field n 1 (reference_in a) (λ reference. from_field n 2 (value_in b) (λ value. from_field n 3 (employer_in c) (λ employer.
-    from_field n 4 (cents_in d) (λ cents. from_field n 5 (purpose_in e) (λ purpose. from_field n 6 (note_in f) (λ note.
-    Ok (record { reference = reference; value = value; employer = employer; cents = cents; purpose = purpose; note = note })))))))
+line_of n (a ∷ b ∷ c ∷ d ∷ e ∷ f ∷ []) = do
+  reference ← or_bad n 1 (reference_in a)
+  value ← or_bad n 2 (value_in b)
+  employer ← or_bad n 3 (employer_in c)
+  cents ← or_bad n 4 (cents_in d)
+  purpose ← or_bad n 5 (purpose_in e)
+  note ← or_bad n 6 (note_in f)
+  Ok (record {
+    reference = reference;
+    value = value;
+    employer = employer;
+    cents = cents;
+    purpose = purpose;
+    note = note;
+  })
 line_of n _ = Err (BadCsv n 0)
 
 -- the names in the header
 abbrev pub header_names : Fields
-header_names = codes "reference" ∷ codes "value_date" ∷ codes "employer" ∷ codes "cents" ∷ codes "purpose" ∷ codes "note" ∷ []
+header_names =
+    codes "reference" ∷ codes "value_date" ∷ codes "employer" ∷ codes "cents" ∷ codes "purpose"
+    ∷ codes "note" ∷ []
+
+-- a field of the header, and the name that it ought to be
+abbrev pub Named : Type 0
+Named = List ℕ × List ℕ
+
+-- the field is not its name
+abbrev pub is_misnamed : Named → Bool
+is_misnamed named = not (bytes_eq named.0 named.1)
+
+-- the number of the first field that is not its name
+abbrev pub first_misnamed : List (ℕ × Named) → Option ℕ
+first_misnamed numbered = option_map (λ p. p.0) (find (λ p. is_misnamed p.1) numbered)
 
 -- the first field of a header that is not its name, 0 for another number of fields
 abbrev pub header_fault : Fields → Option ℕ
 header_fault fields =
-    if length fields == 6 then option_map (λ p. p.0) (find (λ p. not (bytes_eq p.1.0 p.1.1)) (enumerate_from 1 (zip fields header_names)))
+    if length fields == 6 then first_misnamed (enumerate_from 1 (zip fields header_names))
     else Some 0
 
 -- ---- what a file says
@@ -96,11 +132,13 @@ abbrev pub all_lines : List (Result BankLine BankFault) → Result (List BankLin
 all_lines results = unless_faulty (filter_map result_err results) (filter_map result_ok results)
 
 -- a fault of the header comes before those of the data records
-abbrev pub after_header : Option ℕ → Result (List BankLine) BankFault → Result (List BankLine) BankFault
+abbrev pub after_header : Option ℕ
+    → Result (List BankLine) BankFault → Result (List BankLine) BankFault
 after_header None lines = lines
 after_header (Some field) lines = Err (BadCsv 1 field)
 
--- the lines of a file's records, of which the first is the header, or the first fault; a file that begins with r has one
+-- the lines of a file's records, of which the first is the header, or the first fault; a file that
+-- begins with r has a header
 abbrev pub record_lines : List Fields → Result (List BankLine) BankFault
 record_lines [] = Err (BadCsv 1 1)
 record_lines (header ∷ rows) = after_header (header_fault header) (all_lines (rows_read rows))
@@ -109,16 +147,18 @@ record_lines (header ∷ rows) = after_header (header_fault header) (all_lines (
 abbrev pub is_over : ℕ → List Fields → Bool
 is_over limit rows = nat_lt limit (length rows - 1)
 
--- the letter r, which is 114, stands first
+-- whether the letter r, which is 114, stands first
 abbrev pub begins_with_r : List ℕ → Bool
 begins_with_r [] = false
 begins_with_r (b ∷ bs) = b == 114
 
--- the records of a text as the grammar of `csv` reads them: commas, quotes as by default, blank lines passed over
+-- the records of a text as the grammar of `csv` reads them: commas, quotes as by default, blank
+-- lines passed over
 abbrev pub records_of : List ℕ → List Fields
 records_of text = records default_config text
 
--- the lines of a file of at most `limit` data records, or its first fault; one byte order mark at the beginning is dropped
+-- the lines of a file of at most `limit` data records, or its first fault; one byte order mark at
+-- the beginning is dropped
 abbrev pub file_lines : ℕ → List ℕ → Result (List BankLine) BankFault
 file_lines limit file =
     if not (begins_with_r (strip_bom file)) then Err (BadCsv 1 1)
@@ -127,4 +167,5 @@ file_lines limit file =
 
 -- the records of a text, if they are within the limit
 abbrev pub limited_records : ℕ → List ℕ → Result (List Fields) BankFault
-limited_records limit text = if is_over limit (records_of text) then Err OverLimit else Ok (records_of text)
+limited_records limit text =
+    if is_over limit (records_of text) then Err OverLimit else Ok (records_of text)

@@ -10,4 +10,6 @@ use Rattle.clear_bank.specs.Newness.{line_under}
 
 -- under each reference the index has the first line that bears it
 abbrev pub Indexes : BTreeMap (Bor (List ℕ)) (Bor BankLine) → List BankLine → Type 0
-Indexes index lines = (reference : List ℕ) → option_map (λ line. line.now) (tree.get_by (λ key. slice_cmp nat_cmp reference key.now) index) ≡ line_under reference lines
+Indexes index lines = (reference : List ℕ) →
+    option_map (λ line. line.now) (tree.get_by (λ key. slice_cmp nat_cmp reference key.now) index)
+    ≡ line_under reference lines

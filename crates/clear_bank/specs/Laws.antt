@@ -10,12 +10,18 @@ use Rattle.clear_bank.specs.declared.lines.BankLine.{BankLine}
 abbrev pub HasNoReferenceTwice : List BankLine → Type 0
 HasNoReferenceTwice lines = IsDistinct bytes_eq (map (λ line. line.reference) lines)
 
+-- a line and an earlier one have one reference and differ in content
+abbrev pub is_at_odds : BankLine → BankLine → Bool
+is_at_odds line earlier =
+    bytes_eq line.reference earlier.reference && not (same_content earlier line)
+
 -- some earlier line, whichever it is, has the line's reference and another content
 abbrev pub differs_earlier : List BankLine → List BankLine → Placed → Bool
 differs_earlier known lines p =
-    list_any (λ earlier. bytes_eq p.1.reference earlier.reference && not (same_content earlier p.1)) (lines_before known lines p.0)
+    list_any (λ earlier. is_at_odds p.1 earlier) (lines_before known lines p.0)
 
--- where no two known lines have one reference, the first conflict is the first line that differs from any earlier one
+-- where no two known lines have one reference, the first conflict is the first line that differs
+-- from any earlier one
 abbrev pub ConflictsAreWithAny : Type 0
 ConflictsAreWithAny =
     (known lines : List BankLine) → HasNoReferenceTwice known

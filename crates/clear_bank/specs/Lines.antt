@@ -16,4 +16,5 @@ same_purpose Interest Interest = true
 -- whether the values of two lines are equal, their references aside
 abbrev pub same_content : BankLine → BankLine → Bool
 same_content a b =
-    (a.value == b.value) && option_eq nat_eq a.employer b.employer && (a.cents == b.cents) && same_purpose a.purpose b.purpose && bytes_eq a.note b.note
+    (a.value == b.value) && option_eq nat_eq a.employer b.employer && (a.cents == b.cents)
+    && same_purpose a.purpose b.purpose && bytes_eq a.note b.note

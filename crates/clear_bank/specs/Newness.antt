@@ -1,5 +1,6 @@
 -- Which lines of a file are new, which repeat an earlier one, and which are in conflict with one.
-use Rattle.std.specs.Prelude.{ℕ, ◌+◌, ◌-◌, Bool, false, not, is_none, List, ◌++◌, length, take, map, filter, Option, Some, None, Result, Ok, Err}
+use Rattle.std.specs.Prelude.{ℕ, ◌+◌, ◌-◌, Bool, false, not, is_none, List, ◌++◌, length, take}
+use Rattle.std.specs.Prelude.{map, filter, Option, Some, None, Result, Ok, Err}
 use Rattle.std.specs.List.{find, enumerate_from}
 use Rattle.std.specs.Str.{bytes_eq}
 use Rattle.clear_bank.specs.Lines.{same_content}
@@ -15,7 +16,8 @@ line_under reference lines = find (λ line. bytes_eq reference line.reference) l
 abbrev pub Placed : Type 0
 Placed = ℕ × BankLine
 
--- the lines that stand before a place of a file: those accepted before the file, and the file's own
+-- the lines that stand before a place of a file: those accepted before the file, and the file's
+-- own
 abbrev pub lines_before : List BankLine → List BankLine → ℕ → List BankLine
 lines_before known lines place = known ++ take place lines
 
@@ -44,7 +46,8 @@ new_places known lines = map (λ p. p.0) (filter (is_new known lines) (enumerate
 abbrev pub first_conflict : List BankLine → List BankLine → Option Placed
 first_conflict known lines = find (is_conflict known lines) (enumerate_from 0 lines)
 
--- the conflict, or else the new places and how many lines are repeats; the line at place 0 is the record 2
+-- the conflict, or else the new places and how many lines are repeats; the line at place 0 is the
+-- record 2
 abbrev pub unless_conflict : Option Placed → List ℕ → ℕ → Result (List ℕ × ℕ) BankFault
 unless_conflict None new repeats = Ok (new, repeats)
 unless_conflict (Some p) new repeats = Err (RefConflict (p.0 + 2))
@@ -52,4 +55,7 @@ unless_conflict (Some p) new repeats = Err (RefConflict (p.0 + 2))
 -- what a file adds to the lines accepted before it
 abbrev pub judgement : List BankLine → List BankLine → Result (List ℕ × ℕ) BankFault
 judgement known lines =
-    unless_conflict (first_conflict known lines) (new_places known lines) (length lines - length (new_places known lines))
+    unless_conflict
+    (first_conflict known lines)
+    (new_places known lines)
+    (length lines - length (new_places known lines))

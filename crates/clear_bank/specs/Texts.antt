@@ -9,7 +9,8 @@ is_visible b = nat_le 0x21 b && nat_le b 0x7E
 
 -- 1 to 35 visible bytes
 abbrev pub is_reference : List ℕ → Bool
-is_reference bytes = nat_le 1 (length bytes) && nat_le (length bytes) 35 && list_all is_visible bytes
+is_reference bytes =
+    nat_le 1 (length bytes) && nat_le (length bytes) 35 && list_all is_visible bytes
 
 -- a byte from 0x20 on, but not 0x7F
 abbrev pub is_printable : ℕ → Bool

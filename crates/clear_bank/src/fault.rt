@@ -9,7 +9,8 @@ pub const FIRST_ROW: usize = 2;
 pub enum BankFault {
     /// More data records than the limit.
     OverLimit,
-    /// A record that is not as it should be, with its first bad field, or 0 for another number of fields.
+    /// A record that is not as it should be, with its first bad field, or 0 for another number of
+    /// fields.
     BadCsv { line: usize, field: u8 },
     /// A record whose reference stands earlier with another content.
     RefConflict { line: usize },

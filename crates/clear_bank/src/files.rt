@@ -13,9 +13,9 @@ use std::alloc::Global;
 
 /// The lines of a file, in order.
 ///
-/// BadCsv (1, 1) if the file, one byte order mark at its beginning aside, does not begin with the letter r. OverLimit if
-/// it has more data records than `limit`, whatever they hold. Else BadCsv with the first bad record and its first bad
-/// field.
+/// BadCsv (1, 1) if the file, one byte order mark at its beginning aside, does not begin with the
+/// letter r. OverLimit if it has more data records than `limit`, whatever they hold. Else BadCsv
+/// with the first bad record and its first bad field.
 pub fn read_file(alloc: Global, bytes: &[u8], limit: usize) -> Result<Vec<BankLine>, BankFault>
     ensures { Gives (λ lines. lines.items) result (file_lines limit bytes.now) }
 {
@@ -42,7 +42,10 @@ fn read_table(alloc: Global, records: &[ByteRecord]) -> Result<Vec<BankLine>, Ba
 
 // The records of a text, if they are within the limit.
 fn read_records(alloc: Global, text: &[u8], limit: usize) -> Result<Vec<ByteRecord>, BankFault>
-    ensures { Gives (λ rows. map fields_of rows.items) result (limited_records limit (strip_bom text.now)) }
+    ensures { Gives
+        (λ rows. map fields_of rows.items)
+        result
+        (limited_records limit (strip_bom text.now)) }
 {
     let reader = ReaderBuilder::new()
         .has_headers(false)
@@ -62,7 +65,7 @@ fn read_records(alloc: Global, text: &[u8], limit: usize) -> Result<Vec<ByteReco
     Ok(rows)
 }
 
-// Why a reader stopped: over bytes that stand in memory, only for want of it.
+// Why a reader stopped: over bytes that stand in memory, only for want of memory.
 fn read_fault(error: Error) -> BankFault
     requires { stops_reader (error_kind error) ≡ true }
     ensures { result ≡ BankFault.Memory }

@@ -20,8 +20,9 @@ pub struct Judged {
     pub repeats: usize,
 }
 
-/// Tells the new lines of a file from those that are equal to an earlier line of the file or to a line that is known.
-/// RefConflict at the first line whose reference stands earlier with another content.
+/// Tells the new lines of a file from those that are equal to an earlier line of the file or to a
+/// line that is known. RefConflict at the first line whose reference stands earlier with another
+/// content.
 pub fn judge_file(
     alloc: Global,
     lines: &[BankLine],
@@ -58,13 +59,15 @@ fn index_lines<'a>(
     Ok(index)
 }
 
-// The line that stands under the reference of a line; if there is none, this line stands there from now on.
+// The line that stands under the reference of a line; if there is none, this line stands there
+// from now on.
 fn enter<'a>(
     index: &mut BTreeMap<&'a str, &'a BankLine>,
     line: &'a BankLine,
 ) -> Result<Option<&'a BankLine>, AllocError>
     ensures earlier { (before : List BankLine) → Indexes index.old before
-        → IfOk result (λ earlier. option_copied earlier ≡ line_under line.entry.now.reference before) }
+        → IfOk result (λ earlier.
+        option_copied earlier ≡ line_under line.entry.now.reference before) }
     ensures index { (before : List BankLine) → Indexes index.old before
         → OnOk result (Indexes index.new (before ++ line.entry.now ∷ [])) }
 {

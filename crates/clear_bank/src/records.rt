@@ -24,8 +24,9 @@ struct Row<'a> {
 
 // None for a record with another number of fields.
 fn split(row: &ByteRecord) -> Option<Row<'_>>
-    ensures { MatchOption result (length (fields_of row.now) ≢ 6)
-        (λ r. fields_of row.now ≡ r.reference.now ∷ r.value.now ∷ r.employer.now ∷ r.cents.now ∷ r.purpose.now ∷ r.note.now ∷ []) }
+    ensures { MatchOption result (length (fields_of row.now) ≢ 6) (λ r. fields_of row.now
+        ≡ r.reference.now ∷ r.value.now ∷ r.employer.now ∷ r.cents.now ∷ r.purpose.now
+        ∷ r.note.now ∷ []) }
 {
     if row.len() != 6 {
         return None;
@@ -81,7 +82,10 @@ pub(crate) fn wrong_name(header: &ByteRecord) -> Option<u8>
 
 // The lines of the data records, or the first fault.
 pub(crate) fn read_lines(alloc: Global, rows: &[ByteRecord]) -> Result<Vec<BankLine>, BankFault>
-    ensures { Gives (λ lines. lines.items) result (all_lines (rows_read (map fields_of rows.now))) }
+    ensures { Gives
+        (λ lines. lines.items)
+        result
+        (all_lines (rows_read (map fields_of rows.now))) }
 {
     let mut lines = Vec::new(alloc);
     for (place, row) in rows.iter().enumerate() {

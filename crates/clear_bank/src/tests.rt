@@ -11,8 +11,9 @@ use std::test::Fail;
 const HEADER: &str = "reference,value_date,employer,cents,purpose,note\n";
 
 // A file of two payments.
-const PAYMENTS: &str =
-    "reference,value_date,employer,cents,purpose,note\nB1,2024-02-25,1001,150000,C,\nB2,2024-04-21,1001,200000,,January rest\n";
+const PAYMENTS: &str = "reference,value_date,employer,cents,purpose,note\n\
+    B1,2024-02-25,1001,150000,C,\n\
+    B2,2024-04-21,1001,200000,,January rest\n";
 
 const LIMIT: usize = 10_000;
 

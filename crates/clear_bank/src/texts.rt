@@ -4,7 +4,8 @@ ghost use Rattle.std.specs.Cmp.{partial_equiv_from_equiv};
 ghost use Rattle.std.specs.Cmp.Lexicographic.{nat_list_eq_equiv, pointwise};
 ghost use Rattle.std.specs.List.{list_all};
 ghost use Rattle.std.specs.Str.{is_utf8};
-ghost use Rattle.clear_bank.specs.Texts.{is_visible, is_reference, is_printable, is_plain_text, is_note};
+ghost use Rattle.clear_bank.specs.Texts.{is_visible, is_reference, is_printable, is_plain_text};
+ghost use Rattle.clear_bank.specs.Texts.{is_note};
 
 use std::alloc::{AllocError, Global};
 use std::marker::Model;

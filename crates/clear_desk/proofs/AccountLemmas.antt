@@ -12,29 +12,31 @@ use Rattle.clear_bank.specs.declared.lines.Purpose.{Purpose}
 use Rattle.clear_bank.specs.declared.lines.Purpose.TheVariants.{Contribution, Interest}
 use Rattle.clear_bank.specs.Lines.{same_purpose}
 use Rattle.clear_money.specs.Rates.{Rate, rate_in_force}
-use Rattle.clear_rules.specs.declared.calls.Caller.{Caller}
-use Rattle.clear_rules.specs.declared.calls.Query.TheVariants.{Owed as AskOwed}
-use Rattle.clear_rules.specs.declared.calls.Call.TheVariants.{Ask}
-use Rattle.clear_rules.specs.declared.outcomes.Answer.{Answer}
-use Rattle.clear_rules.specs.declared.outcomes.Rule.{Rule}
-use Rattle.clear_rules.specs.declared.outcomes.Rule.TheVariants.{Memory}
-use Rattle.clear_rules.specs.declared.outcomes.Outcome.TheVariants.{Refused}
-use Rattle.clear_rules.specs.declared.rows.CreditRow.{CreditRow}
-use Rattle.clear_rules.specs.declared.rows.ReportRow.{ReportRow}
-use Rattle.clear_rules.specs.Accounts.{rank_of, credit_key, credit_of, credits_among}
-use Rattle.clear_rules.specs.Book.{Book}
-use Rattle.clear_rules.specs.Judge.{may_query, day_back, owed_by}
-use Rattle.clear_rules.specs.Keyed.{is_before, find_row, AllBehind, AreInOrder, AreOnce}
-use Rattle.clear_rules.specs.Lines.{is_credit_of}
-use Rattle.clear_rules.specs.Machine.{IsLawful, Takes}
-use Rattle.clear_rules.specs.Offices.{answered}
-use Rattle.clear_rules.specs.Tables.{Tables, Stands, report_key, member_at, charge_for, charges_at, credits_at}
-use Rattle.clear_rules.proofs.ChargeLemmas.{is_found, found_behind, found_first, reported}
-use Rattle.clear_rules.proofs.CreditLemmas.{credits_at-credits_of}
-use Rattle.clear_rules.proofs.KeyedLemmas.{other_row}
-use Rattle.clear_rules.proofs.OfficeLemmas.{owed_known, ask_memory}
-use Rattle.clear_rules.proofs.PaymentLemmas.{lawful_payments}
-use Rattle.clear_rules.proofs.RatedLemmas.{lawful_rated}
+use Rattle.clear_book.specs.declared.calls.Caller.{Caller}
+use Rattle.clear_book.specs.declared.calls.Query.TheVariants.{Owed as AskOwed}
+use Rattle.clear_book.specs.declared.calls.Call.TheVariants.{Ask}
+use Rattle.clear_book.specs.declared.outcomes.Answer.{Answer}
+use Rattle.clear_book.specs.declared.rules.Rule.{Rule}
+use Rattle.clear_book.specs.declared.rules.Rule.TheVariants.{Memory}
+use Rattle.clear_book.specs.declared.outcomes.Outcome.TheVariants.{Refused}
+use Rattle.clear_book.specs.declared.rows.CreditRow.{CreditRow}
+use Rattle.clear_book.specs.declared.rows.ReportRow.{ReportRow}
+use Rattle.clear_book.specs.Accounts.{rank_of, credit_key, row_credit, credits_under}
+use Rattle.clear_book.specs.Book.{Book}
+use Rattle.clear_book.specs.Access.{may_query}
+use Rattle.clear_book.specs.Judge.{day_back}
+use Rattle.clear_book.specs.Own.Owed.{owed_by}
+use Rattle.clear_book.specs.Keyed.{is_before, find_row, AllBehind, AreInOrder, AreOnce}
+use Rattle.clear_book.specs.Lines.{is_credit_of}
+use Rattle.clear_book.specs.Machine.{IsLawful, Takes}
+use Rattle.clear_book.specs.Offices.{answered}
+use Rattle.clear_book.specs.Tables.{Tables, Stands, report_key, member_at, row_charge, table_charges, table_credits}
+use Rattle.clear_book.proofs.ChargesLemmas.{is_found, found_behind, found_first, reported}
+use Rattle.clear_book.proofs.CreditsLemmas.{table_credits-credits_of}
+use Rattle.clear_book.proofs.KeyedLemmas.{other_row}
+use Rattle.clear_rules.proofs.OfficesLemmas.{owed_known, ask_memory}
+use Rattle.clear_book.proofs.AccountLimitLemmas.{lawful_credit_count}
+use Rattle.clear_book.proofs.RatesLemmas.{lawful_rated}
 use Rattle.clear_desk.specs.Office.{credit_serial, with_charges, with_credits, AreRated}
 
 -- ---- what is put at its place behind all others comes last
@@ -124,7 +126,7 @@ credits_rise (k ∷ ks) held rise before =
     ∙ append_assoc held (k ∷ []) ks
 
 -- the reports of one employer are in order of their months
-later_month : (e : ℕ) (t : Tables) (r s : ReportRow) → r.employer == e ≡ true → s.employer == e ≡ true → is_before (report_key r) (report_key s) ≡ true → IsLess month_before (charge_for t r) (charge_for t s)
+later_month : (e : ℕ) (t : Tables) (r s : ReportRow) → r.employer == e ≡ true → s.employer == e ≡ true → is_before (report_key r) (report_key s) ≡ true → IsLess month_before (row_charge t r) (row_charge t s)
 later_month e t r s of also before = (first r.employer r.month s.employer s.month of also before, second r.employer r.month s.employer s.month of also before)
   where
     first : (a m b n : ℕ) → a == e ≡ true → b == e ≡ true → nat_lt a b || ((a == b) && (nat_lt m n || ((m == n) && false))) ≡ true → nat_lt m n ≡ true
@@ -134,7 +136,7 @@ later_month e t r s of also before = (first r.employer r.month s.employer s.mont
     second a m b n h k before = grind (arith, nat_tests)
 
 -- the payments of one employer for one purpose are in order of day and serial
-later_credit : (e : ℕ) (r s : CreditRow) → is_credit_of e Contribution r ≡ true → is_credit_of e Contribution s ≡ true → is_before (credit_key r) (credit_key s) ≡ true → IsLess comes_before (credit_of r) (credit_of s)
+later_credit : (e : ℕ) (r s : CreditRow) → is_credit_of e Contribution r ≡ true → is_credit_of e Contribution s ≡ true → is_before (credit_key r) (credit_key s) ≡ true → IsLess comes_before (row_credit r) (row_credit s)
 later_credit e r s of also before = told r.purpose s.purpose of also before
   where
     first : (a b x y m n : ℕ) → a == e ≡ true → b == e ≡ true → nat_lt a b || ((a == b) && (nat_lt x y || ((x == y) && (nat_lt m n || ((m == n) && false))))) ≡ true → nat_lt x y || ((x == y) && nat_lt m n) ≡ true
@@ -151,7 +153,7 @@ later_credit e r s of also before = told r.purpose s.purpose of also before
     never true h = absurd (cc)
     never false h = absurd (cc)
 
-    told : (p q : Purpose) → (r.employer == e) && same_purpose p Contribution ≡ true → (s.employer == e) && same_purpose q Contribution ≡ true → is_before (r.employer ∷ rank_of p ∷ r.day ∷ r.serial ∷ []) (s.employer ∷ rank_of q ∷ s.day ∷ s.serial ∷ []) ≡ true → IsLess comes_before (credit_of r) (credit_of s)
+    told : (p q : Purpose) → (r.employer == e) && same_purpose p Contribution ≡ true → (s.employer == e) && same_purpose q Contribution ≡ true → is_before (r.employer ∷ rank_of p ∷ r.day ∷ r.serial ∷ []) (s.employer ∷ rank_of q ∷ s.day ∷ s.serial ∷ []) ≡ true → IsLess comes_before (row_credit r) (row_credit s)
     told Interest q h k before = absurd (never (r.employer == e) h)
     told Contribution Interest h k before = absurd (never (s.employer == e) k)
     told Contribution Contribution h k before =
@@ -161,17 +163,17 @@ later_credit e r s of also before = told r.purpose s.purpose of also before
 -- ---- what an account was filled with
 
 module _ (b : Book) (t : Tables) (lawful : IsLawful b) (stands : Stands b t) (e : ℕ) where
-  pub charges_filled : with_charges (charges_at t e) [] ≡ charges_at t e
+  pub charges_filled : with_charges (table_charges t e) [] ≡ table_charges t e
   charges_filled =
-      charges_rise (charges_at t e) []
-      (rising report_key (λ row. row.employer == e) (charge_for t) month_before (later_month e t) t.reports stands.reports_in_order)
-      (precede_none month_before (charges_at t e))
+      charges_rise (table_charges t e) []
+      (rising report_key (λ row. row.employer == e) (row_charge t) month_before (later_month e t) t.reports stands.reports_in_order)
+      (precede_none month_before (table_charges t e))
 
-  pub credits_filled : with_credits (credits_at t e) [] ≡ credits_at t e
+  pub credits_filled : with_credits (table_credits t e) [] ≡ table_credits t e
   credits_filled =
-      credits_rise (credits_at t e) []
-      (rising credit_key (is_credit_of e Contribution) credit_of comes_before (later_credit e) t.credits stands.credits_in_order)
-      (precede_none comes_before (credits_at t e))
+      credits_rise (table_credits t e) []
+      (rising credit_key (is_credit_of e Contribution) row_credit comes_before (later_credit e) t.credits stands.credits_in_order)
+      (precede_none comes_before (table_credits t e))
 
   -- a rate is in force for each month that the employer has reported
   pub tables_rated : AreRated t e
@@ -191,8 +193,8 @@ module _ (b : Book) (t : Tables) (lawful : IsLawful b) (stands : Stands b t) (e 
           (λ is. each row.month (found_first e row rows (same row.employer is)), rated rows (λ m h. each m (found_behind e row rows m h)))
 
   -- there are not too many payments
-  pub few_credits : length (credits_at t e) ≤ 100000
-  few_credits = subst (λ (ks : List Credit). length ks ≤ 100000) (sym (credits_at-credits_of b t stands e)) (lawful_payments b.opening b.entries lawful e Contribution)
+  pub few_credits : length (table_credits t e) ≤ 100000
+  few_credits = subst (λ (ks : List Credit). length ks ≤ 100000) (sym (table_credits-credits_of b t stands e)) (lawful_credit_count b.opening b.entries lawful e Contribution)
 
 -- ---- the loops over the rows
 
@@ -203,15 +205,15 @@ drop_more xs i x within is =
 
 -- what the account will hold once the charges of these report rows are added too
 abbrev pub charged_with : Tables → ℕ → List ReportRow → List Charge → List Charge
-charged_with t e rows held = with_charges (map (charge_for t) (filter (λ row. row.employer == e) rows)) held
+charged_with t e rows held = with_charges (map (row_charge t) (filter (λ row. row.employer == e) rows)) held
 
 module _ (t : Tables) (e : ℕ) (rows : List ReportRow) (i : ℕ) (row : ReportRow) (held : List Charge) (within : i < length rows) (is : row ≡ get_or rows i row) where
-  next_charge : (b : Bool) → row.employer == e ≡ b → charged_with t e (drop i rows) held ≡ with_charges (map (charge_for t) (cond b (row ∷ filter (λ row. row.employer == e) (drop (i + 1) rows)) (filter (λ row. row.employer == e) (drop (i + 1) rows)))) held
+  next_charge : (b : Bool) → row.employer == e ≡ b → charged_with t e (drop i rows) held ≡ with_charges (map (row_charge t) (cond b (row ∷ filter (λ row. row.employer == e) (drop (i + 1) rows)) (filter (λ row. row.employer == e) (drop (i + 1) rows)))) held
   next_charge b h =
       ap (λ (rs : List ReportRow). charged_with t e rs held) (drop_more rows i row within is)
-      ∙ ap (λ b. with_charges (map (charge_for t) (cond b (row ∷ filter (λ row. row.employer == e) (drop (i + 1) rows)) (filter (λ row. row.employer == e) (drop (i + 1) rows)))) held) h
+      ∙ ap (λ b. with_charges (map (row_charge t) (cond b (row ∷ filter (λ row. row.employer == e) (drop (i + 1) rows)) (filter (λ row. row.employer == e) (drop (i + 1) rows)))) held) h
 
-  pub charge_added : row.employer == e ≡ true → charged_with t e (drop (i + 1) rows) (with_charge (charge_for t row) held) ≡ charged_with t e (drop i rows) held
+  pub charge_added : row.employer == e ≡ true → charged_with t e (drop (i + 1) rows) (with_charge (row_charge t row) held) ≡ charged_with t e (drop i rows) held
   charge_added h = sym (next_charge true h)
 
   pub charge_skipped : row.employer == e ≡ false → charged_with t e (drop (i + 1) rows) held ≡ charged_with t e (drop i rows) held
@@ -266,26 +268,26 @@ at_most_one_more k held =
 
 -- the account holds the payments of the rows before these, so that with those of these rows it will hold all
 pub record IsGoing (e : ℕ) (rows : List CreditRow) (held all : List Credit) : Type 0 where
-  pub rest : with_credits (credits_among rows e Contribution) held ≡ with_credits all []
-  pub few : length held + length (credits_among rows e Contribution) ≤ length all
+  pub rest : with_credits (credits_under rows e Contribution) held ≡ with_credits all []
+  pub few : length held + length (credits_under rows e Contribution) ≤ length all
   pub free : AreFree rows held
   pub once : AreOnce credit_serial rows
 
 module _ (e : ℕ) where
   abbrev found_in : Bool → CreditRow → List CreditRow → List Credit
-  found_in b row rows = map credit_of (cond b (row ∷ filter (is_credit_of e Contribution) rows) (filter (is_credit_of e Contribution) rows))
+  found_in b row rows = map row_credit (cond b (row ∷ filter (is_credit_of e Contribution) rows) (filter (is_credit_of e Contribution) rows))
 
-  pub going_first : (rows : List CreditRow) → AreOnce credit_serial rows → IsGoing e rows [] (credits_among rows e Contribution)
+  pub going_first : (rows : List CreditRow) → AreOnce credit_serial rows → IsGoing e rows [] (credits_under rows e Contribution)
   going_first rows once = record { rest = refl; few = omega arith; free = free_none rows; once = once }
 
   -- a payment of the employer is added, and any other row is passed by
-  pub going_on : (row : CreditRow) (rows : List CreditRow) (held all : List Credit) → is_credit_of e Contribution row ≡ true → IsGoing e (row ∷ rows) held all → IsGoing e rows (with_credit (credit_of row) held) all
+  pub going_on : (row : CreditRow) (rows : List CreditRow) (held all : List Credit) → is_credit_of e Contribution row ≡ true → IsGoing e (row ∷ rows) held all → IsGoing e rows (with_credit (row_credit row) held) all
   going_on row rows held all is h =
       let few = subst (λ (b : Bool). length held + length (found_in b row rows) ≤ length all) is h.few in
       record {
         rest = sym (ap (λ b. with_credits (found_in b row rows) held) is) ∙ h.rest;
-        few = omega (arith, few, at_most_one_more (credit_of row) held);
-        free = free_with rows (credit_of row) held h.once.0 h.free.1;
+        few = omega (arith, few, at_most_one_more (row_credit row) held);
+        free = free_with rows (row_credit row) held h.once.0 h.free.1;
         once = h.once.1;
       }
 
@@ -301,9 +303,9 @@ module _ (e : ℕ) where
 -- ---- what an office answers with an account filled so
 
 module _ (t : Tables) (caller : Caller) (day e : ℕ) (may : may_query caller (AskOwed e) ≡ true) (back : day_back t.day day ≡ None) (some : is_some (member_at t.employers e) ≡ true) where
-  pub owed_answered : (result : Result Answer Rule) → IfOk result (λ answer. answer ≡ owed_by day (with_charges (charges_at t e) []) (with_credits (credits_at t e) [])) → (AreRated t e → length (credits_at t e) ≤ 100000 → IfErr result (λ rule. rule ≡ Memory)) → (b : Book) → IsLawful b → Stands b t → Takes b (Ask caller day (AskOwed e)) (answered result) b
+  pub owed_answered : (result : Result Answer Rule) → IfOk result (λ answer. answer ≡ owed_by day (with_charges (table_charges t e) []) (with_credits (table_credits t e) [])) → (AreRated t e → length (table_credits t e) ≤ 100000 → IfErr result (λ rule. rule ≡ Memory)) → (b : Book) → IsLawful b → Stands b t → Takes b (Ask caller day (AskOwed e)) (answered result) b
   owed_answered (Ok answer) ok err b lawful stands =
-      let is : answer ≡ owed_by day (charges_at t e) (credits_at t e) = ok ∙ (λ i. owed_by day (charges_filled b t lawful stands e i) (credits_filled b t lawful stands e i)) in
+      let is : answer ≡ owed_by day (table_charges t e) (table_credits t e) = ok ∙ (λ i. owed_by day (charges_filled b t lawful stands e i) (credits_filled b t lawful stands e i)) in
       owed_known t caller day e may back answer some is b lawful stands
   owed_answered (Err rule) ok err b lawful stands =
       let memory : rule ≡ Memory = err (tables_rated b t lawful stands e) (few_credits b t lawful stands e) in

@@ -4,18 +4,18 @@ use Rattle.std.specs.Prelude.{All}
 use Rattle.std.specs.List.{AllByRecursion, range_with_len, cons_option}
 use Rattle.std.proofs.lemmas.Bool.Decides.{nat_tests}
 use Rattle.std.proofs.lemmas.List.Sums.{sum_by-cons, sum_by-le}
-use Rattle.clear_rules.specs.declared.texts.WageLine.{WageLine}
-use Rattle.clear_rules.specs.declared.rows.BankRow.{BankRow}
-use Rattle.clear_rules.specs.declared.rows.CreditRow.{CreditRow}
-use Rattle.clear_rules.specs.declared.rows.ReportRow.{ReportRow}
-use Rattle.clear_rules.specs.declared.rows.WageRow.{WageRow}
-use Rattle.clear_rules.specs.declared.rows.Change.TheVariants.{AddReport, AddBankLines}
-use Rattle.clear_rules.specs.Accounts.{base_of, credit_key}
-use Rattle.clear_rules.specs.Keyed.{is_key, is_before, find_row, with_row, with_rows, AreOnce}
-use Rattle.clear_rules.specs.Lines.{credit_in, credit_rows}
-use Rattle.clear_rules.specs.Tables.{Tables, bank_key, report_key, wage_key, base_at, with_wages, changed, noted}
-use Rattle.clear_rules.proofs.KeyedLemmas.{is_key-sym, other_row, find_row-with_row}
-use Rattle.clear_rules.proofs.StandsLemmas.{key_is}
+use Rattle.clear_book.specs.declared.texts.WageLine.{WageLine}
+use Rattle.clear_book.specs.declared.rows.BankRow.{BankRow}
+use Rattle.clear_book.specs.declared.rows.CreditRow.{CreditRow}
+use Rattle.clear_book.specs.declared.rows.ReportRow.{ReportRow}
+use Rattle.clear_book.specs.declared.rows.WageRow.{WageRow}
+use Rattle.clear_book.specs.declared.rows.Change.TheVariants.{AddReport, AddBankLines}
+use Rattle.clear_book.specs.Accounts.{base_of, credit_key}
+use Rattle.clear_book.specs.Keyed.{is_key, is_before, find_row, with_row, with_rows, AreOnce}
+use Rattle.clear_book.specs.Lines.{credit_of_line, credits_of_lines}
+use Rattle.clear_book.specs.Tables.{Tables, bank_key, report_key, wage_key, table_base, with_wages, changed, noted}
+use Rattle.clear_book.proofs.KeyedLemmas.{is_key-sym, other_row, find_row-with_row}
+use Rattle.clear_book.proofs.TablesLemmas.{key_is}
 use Rattle.clear_desk.specs.Office.{AreBounded, Fits, credit_serial}
 
 sum_by-with_row : {Row : Type 0} (key : Row → List ℕ) (f : Row → ℕ) (rows : List Row) (new : Row) → sum_by f (with_row key rows new) ≡ f new + sum_by f rows
@@ -31,19 +31,19 @@ module _ (e m f n : ℕ) where
   weight row = cond ((row.employer == f) && (row.month == n)) row.gross 0
 
   -- the wage rows of a report add its base to that of its month
-  pub base_at-with_wages : (lines : List WageLine) (rows : List WageRow) → base_at (with_wages e m lines rows) f n ≡ cond ((e == f) && (m == n)) (base_of lines) 0 + base_at rows f n
-  base_at-with_wages [] rows = nothing ((e == f) && (m == n))
+  pub table_base-with_wages : (lines : List WageLine) (rows : List WageRow) → table_base (with_wages e m lines rows) f n ≡ cond ((e == f) && (m == n)) (base_of lines) 0 + table_base rows f n
+  table_base-with_wages [] rows = nothing ((e == f) && (m == n))
     where
-      nothing : (b : Bool) → base_at rows f n ≡ cond b 0 0 + base_at rows f n
+      nothing : (b : Bool) → table_base rows f n ≡ cond b 0 0 + table_base rows f n
       nothing true = omega arith
       nothing false = omega arith
-  base_at-with_wages (line ∷ lines) rows =
+  table_base-with_wages (line ∷ lines) rows =
       let new : WageRow = record { employer = e; month = m; worker = line.worker; gross = line.gross } in
-      let rest = base_at-with_wages lines (with_row wage_key rows new) in
+      let rest = table_base-with_wages lines (with_row wage_key rows new) in
       let here = sum_by-with_row wage_key weight rows new in
-      more ((e == f) && (m == n)) (base_at (with_wages e m lines (with_row wage_key rows new)) f n) (base_at (with_row wage_key rows new) f n) rest here
+      more ((e == f) && (m == n)) (table_base (with_wages e m lines (with_row wage_key rows new)) f n) (table_base (with_row wage_key rows new) f n) rest here
     where
-      more : (b : Bool) (all mid : ℕ) → all ≡ cond b (base_of lines) 0 + mid → mid ≡ cond b line.gross 0 + base_at rows f n → all ≡ cond b (base_of (line ∷ lines)) 0 + base_at rows f n
+      more : (b : Bool) (all mid : ℕ) → all ≡ cond b (base_of lines) 0 + mid → mid ≡ cond b line.gross 0 + table_base rows f n → all ≡ cond b (base_of (line ∷ lines)) 0 + table_base rows f n
       more true all mid rest here = omega (arith, rest, here, sum_by-cons (λ (l : WageLine). l.gross) line lines)
       more false all mid rest here = omega (arith, rest, here)
 
@@ -67,18 +67,18 @@ bounded_report t day row lines h few fits =
       serial = omega (arith, h.serial);
       given = h.given;
       once = h.once;
-      bases = λ e m. based e m ((row.employer == e) && (row.month == m)) refl (base_at-with_wages row.employer row.month e m lines t.wages);
+      bases = λ e m. based e m ((row.employer == e) && (row.month == m)) refl (table_base-with_wages row.employer row.month e m lines t.wages);
       unreported = λ e m none.
           let apart = not_found (is_key (report_key row) (e ∷ m ∷ [])) row (find_row report_key t.reports (e ∷ m ∷ [])) (sym (find_row-with_row report_key t.reports row (e ∷ m ∷ []) fits.2) ∙ none) in
           let other : (row.employer == e) && (row.month == m) ≡ false = sym (trues (row.employer == e) (row.month == m)) ∙ apart.0 in
-          base_at-with_wages row.employer row.month e m lines t.wages
+          table_base-with_wages row.employer row.month e m lines t.wages
           ∙ (λ i. cond (other i) (base_of lines) 0 + h.unreported e m apart.1 i);
     }
   where
-    based : (e m : ℕ) (b : Bool) → (row.employer == e) && (row.month == m) ≡ b → base_at (with_wages row.employer row.month lines t.wages) e m ≡ cond ((row.employer == e) && (row.month == m)) (base_of lines) 0 + base_at t.wages e m → base_at (with_wages row.employer row.month lines t.wages) e m ≤ 5000000000
+    based : (e m : ℕ) (b : Bool) → (row.employer == e) && (row.month == m) ≡ b → table_base (with_wages row.employer row.month lines t.wages) e m ≡ cond ((row.employer == e) && (row.month == m)) (base_of lines) 0 + table_base t.wages e m → table_base (with_wages row.employer row.month lines t.wages) e m ≤ 5000000000
     based e m true is sum =
         let same = key_is row.employer e row.month m is in
-        let none : base_at t.wages e m ≡ 0 = h.unreported e m (subst (λ (p : ℕ × ℕ). find_row report_key t.reports (p.0 ∷ p.1 ∷ []) ≡ None) (λ i. (same.0 i, same.1 i)) fits.2) in
+        let none : table_base t.wages e m ≡ 0 = h.unreported e m (subst (λ (p : ℕ × ℕ). find_row report_key t.reports (p.0 ∷ p.1 ∷ []) ≡ None) (λ i. (same.0 i, same.1 i)) fits.2) in
         let whole : cond ((row.employer == e) && (row.month == m)) (base_of lines) 0 ≡ base_of lines = ap (λ b. cond b (base_of lines) 0) is in
         omega (arith, sum, none, whole, base_small lines fits.0 fits.1)
     based e m false is sum =
@@ -159,14 +159,14 @@ first_and_rest : (a b : ℕ) (xs ys : List ℕ) → a ∷ xs ≡ b ∷ ys → (a
 first_and_rest a b xs ys e = (cc e, cc e)
 
 -- the payments of numbered rows have rising serials
-credits_rise : (low high a n : ℕ) (rows : List BankRow) → low < a → a + n ≤ high + 1 → map (λ (row : BankRow). row.serial) rows ≡ range_with_len a n → AreRising low high (credit_rows rows)
+credits_rise : (low high a n : ℕ) (rows : List BankRow) → low < a → a + n ≤ high + 1 → map (λ (row : BankRow). row.serial) rows ≡ range_with_len a n → AreRising low high (credits_of_lines rows)
 credits_rise low high a n [] above below is = omega (arith, above, below)
 credits_rise low high a zero (row ∷ rows) above below is = absurd (cc is)
 credits_rise low high a (suc n) (row ∷ rows) above below is =
     let parts = first_and_rest row.serial a (map (λ (r : BankRow). r.serial) rows) (range_with_len (a + 1) n) is in
     told row.employer parts.0 (λ later under. credits_rise later high (a + 1) n rows under (omega (arith, below)) parts.1)
   where
-    told : (firm : Option ℕ) → row.serial ≡ a → ((later : ℕ) → later < a + 1 → AreRising later high (credit_rows rows)) → AreRising low high (cons_option (credit_in row firm) (credit_rows rows))
+    told : (firm : Option ℕ) → row.serial ≡ a → ((later : ℕ) → later < a + 1 → AreRising later high (credits_of_lines rows)) → AreRising low high (cons_option (credit_of_line row firm) (credits_of_lines rows))
     told None same rest = rest low (omega (arith, above))
     told (Some f) same rest = (omega (arith, same, above), rest row.serial (omega (arith, same)))
 
@@ -175,10 +175,10 @@ pub bounded_lines : (t : Tables) (day : ℕ) (rows : List BankRow) → AreBounde
 bounded_lines t day rows h few fits =
     let most = fits.0 in
     let rise = credits_rise t.serial (t.serial + length rows) (t.serial + 1) (length rows) rows (omega arith) (omega arith) fits.1 in
-    let kept = rising_rows t.serial (t.serial + length rows) t.credits (credit_rows rows) h.given h.once rise in
+    let kept = rising_rows t.serial (t.serial + length rows) t.credits (credits_of_lines rows) h.given h.once rise in
     record { entries = omega arith; bases = h.bases; unreported = h.unreported; serial = omega (arith, h.serial, most); given = kept.0; once = kept.1 }
 
 -- the same of tables whose lines, payments and last serial are those
-pub bounded_lines_with : (t : Tables) (day : ℕ) (rows bank : List BankRow) (credits : List CreditRow) (serial : ℕ) → bank ≡ with_rows bank_key t.bank rows → credits ≡ with_rows credit_key t.credits (credit_rows rows) → serial ≡ t.serial + length rows → AreBounded t → t.entries < 50000000 → Fits (AddBankLines rows) t → AreBounded (record { rates = t.rates; employers = t.employers; reports = t.reports; wages = t.wages; bank = bank; credits = credits; day = Some day; entries = t.entries + 1; serial = serial })
+pub bounded_lines_with : (t : Tables) (day : ℕ) (rows bank : List BankRow) (credits : List CreditRow) (serial : ℕ) → bank ≡ with_rows bank_key t.bank rows → credits ≡ with_rows credit_key t.credits (credits_of_lines rows) → serial ≡ t.serial + length rows → AreBounded t → t.entries < 50000000 → Fits (AddBankLines rows) t → AreBounded (record { rates = t.rates; employers = t.employers; reports = t.reports; wages = t.wages; bank = bank; credits = credits; day = Some day; entries = t.entries + 1; serial = serial })
 bounded_lines_with t day rows bank credits serial is also last h few fits =
     subst (λ (p : List BankRow × List CreditRow × ℕ). AreBounded (record { rates = t.rates; employers = t.employers; reports = t.reports; wages = t.wages; bank = p.0; credits = p.1; day = Some day; entries = t.entries + 1; serial = p.2 })) (λ i. (sym is i, sym also i, sym last i)) (bounded_lines t day rows h few fits)

@@ -2,6 +2,5 @@ pub mod AccountLemmas
 pub mod BoundLemmas
 pub mod DeskLemmas
 pub mod RowLemmas
-pub mod ServeLemmas
 pub mod ServedLemmas
 pub mod ViewLemmas

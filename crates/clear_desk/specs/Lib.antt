@@ -1,5 +1,4 @@
 pub mod Desk
 pub mod Office
 pub mod Samples
-pub mod Serve
 pub mod Served

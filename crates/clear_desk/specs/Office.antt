@@ -1,33 +1,37 @@
 -- What the office over lists keeps of its tables.
-use Rattle.std.specs.Prelude.{Bool, true, false, ◌≡◌, ℕ, ◌+◌, ◌*◌, ◌≤◌, List, [], ◌∷◌, None, length, All, IsSome, count_by, map}
+use Rattle.std.specs.Prelude.{Bool, true, false, ◌≡◌, ℕ, ◌+◌, ◌*◌, ◌≤◌, List, [], ◌∷◌, None, length}
+use Rattle.std.specs.Prelude.{All, IsSome, count_by, map}
 use Rattle.std.specs.List.{AllByRecursion, range_with_len}
 use Rattle.clear_account.specs.declared.entries.Charge.{Charge}
 use Rattle.clear_account.specs.declared.entries.Credit.{Credit}
 use Rattle.clear_account.specs.Account.{with_charge, with_credit}
 use Rattle.clear_bank.specs.declared.lines.Purpose.TheVariants.{Contribution, Interest}
 use Rattle.clear_money.specs.Rates.{rate_in_force}
-use Rattle.clear_rules.specs.declared.imports.FirmCredits.{FirmCredits}
-use Rattle.clear_rules.specs.declared.outcomes.Outcome.{Outcome}
-use Rattle.clear_rules.specs.declared.outcomes.Outcome.TheVariants.{Replied, Answered, Refused}
-use Rattle.clear_rules.specs.declared.rows.BankRow.{BankRow}
-use Rattle.clear_rules.specs.declared.rows.CreditRow.{CreditRow}
-use Rattle.clear_rules.specs.declared.rows.EmployerRow.{EmployerRow}
-use Rattle.clear_rules.specs.declared.rows.Change.{Change}
-use Rattle.clear_rules.specs.declared.rows.Change.TheVariants.{AddEmployer, AddReport, AddBankLines}
-use Rattle.clear_rules.specs.Keyed.{find_row, AreOnce}
-use Rattle.clear_rules.specs.Lines.{is_credit_of}
-use Rattle.clear_rules.specs.Tables.{Tables, report_key, base_at}
+use Rattle.clear_rules.specs.declared.decide.import.EmployerCredits.{EmployerCredits}
+use Rattle.clear_book.specs.declared.outcomes.Outcome.{Outcome}
+use Rattle.clear_book.specs.declared.outcomes.Outcome.TheVariants.{Replied, Answered, Refused}
+use Rattle.clear_book.specs.declared.rows.BankRow.{BankRow}
+use Rattle.clear_book.specs.declared.rows.CreditRow.{CreditRow}
+use Rattle.clear_book.specs.declared.rows.EmployerRow.{EmployerRow}
+use Rattle.clear_book.specs.declared.rows.Change.{Change}
+use Rattle.clear_book.specs.declared.rows.Change.TheVariants.{AddEmployer, AddReport, AddBankLines}
+use Rattle.clear_book.specs.Keyed.{find_row, AreOnce}
+use Rattle.clear_book.specs.Limits.{most_entries, most_base, most_lines, most_gross, most_records}
+use Rattle.clear_book.specs.Lines.{is_credit_of}
+use Rattle.clear_book.specs.Tables.{Tables, report_key, table_base}
 
--- a payment by its serial
+-- a credit by its serial
 abbrev pub credit_serial : CreditRow → List ℕ
 credit_serial row = row.serial ∷ []
 
--- few requests, small bases, and serials that were given once: no sum over the tables leaves its type
+-- few requests, small bases, and serials that were given once: no sum over the tables leaves its
+-- type
 pub record AreBounded (t : Tables) : Type 0 where
-  pub entries : t.entries ≤ 50000000
-  pub bases : (e m : ℕ) → base_at t.wages e m ≤ 5000000000
-  pub unreported : (e m : ℕ) → find_row report_key t.reports (e ∷ m ∷ []) ≡ None → base_at t.wages e m ≡ 0
-  pub serial : t.serial ≤ 10000 * t.entries
+  pub entries : t.entries ≤ most_entries
+  pub bases : (e m : ℕ) → table_base t.wages e m ≤ most_base
+  pub unreported : (e m : ℕ) → find_row report_key t.reports (e ∷ m ∷ []) ≡ None
+      → table_base t.wages e m ≡ 0
+  pub serial : t.serial ≤ most_records * t.entries
   pub given : AllByRecursion (λ row. row.serial ≤ t.serial) t.credits
   pub once : AreOnce credit_serial t.credits
 
@@ -35,20 +39,29 @@ pub record AreBounded (t : Tables) : Type 0 where
 abbrev pub AreNumbered : ℕ → List BankRow → Type 0
 AreNumbered last rows = map (λ row. row.serial) rows ≡ range_with_len (last + 1) (length rows)
 
--- a change that keeps them so: a report within the limits, of a month that has none, or lines of a file
+-- a change that keeps them so: a report within the limits, of a month that has none, or lines of a
+-- file
 abbrev pub Fits : Change → Tables → Type 0
 Fits (AddEmployer row) t = Unit {0}
 Fits (AddReport row lines) t =
-    (length lines ≤ 500) × All (λ line. line.gross ≤ 10000000) lines
+    (length lines ≤ most_lines) × All (λ line. line.gross ≤ most_gross) lines
     × (find_row report_key t.reports (report_key row) ≡ None)
-Fits (AddBankLines rows) t = (length rows ≤ 10000) × AreNumbered t.serial rows
+Fits (AddBankLines rows) t = (length rows ≤ most_records) × AreNumbered t.serial rows
 
 -- ---- views
 
--- each employer with its numbers of payments
-abbrev pub firms_at : List EmployerRow → List CreditRow → List FirmCredits
-firms_at employers credits =
-    map (λ row. record { employer = row.employer; contributions = count_by (is_credit_of row.employer Contribution) credits; interest = count_by (is_credit_of row.employer Interest) credits }) employers
+-- the numbers of an employer's credits among rows
+abbrev pub credits_counted_of : List CreditRow → ℕ → EmployerCredits
+credits_counted_of credits e = record {
+  employer = e;
+  contribution_count = count_by (is_credit_of e Contribution) credits;
+  interest_count = count_by (is_credit_of e Interest) credits;
+}
+
+-- each employer with its numbers of credits
+abbrev pub employers_counted : List EmployerRow → List CreditRow → List EmployerCredits
+employers_counted employers credits =
+    map (λ row. credits_counted_of credits row.employer) employers
 
 -- ---- accounts
 
@@ -57,7 +70,7 @@ abbrev pub with_charges : List Charge → List Charge → List Charge
 with_charges [] held = held
 with_charges (c ∷ cs) held = with_charges cs (with_charge c held)
 
--- and with these credits
+-- the account with these credits, one after another
 abbrev pub with_credits : List Credit → List Credit → List Credit
 with_credits [] held = held
 with_credits (k ∷ ks) held = with_credits ks (with_credit k held)

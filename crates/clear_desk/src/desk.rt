@@ -1,29 +1,31 @@
-//! The desk: an office with the keys of its callers, on one day. It answers the requests of a stream.
-ghost use Rattle.std.specs.Prelude.{◌≡◌, false, true, Ok, IfOk, IfErr};
-ghost use Rattle.clear_rules.specs.Book.{Book};
-ghost use Rattle.clear_rules.specs.Machine.{IsLawful};
-ghost use Rattle.clear_rules.specs.Tables.{Stands};
-ghost use Rattle.clear_http.specs.Counted.{inner, has_failed};
-ghost use Rattle.clear_http.specs.Reading.{Reads};
-ghost use Rattle.clear_desk.specs.Office.{is_reply};
-ghost use Rattle.clear_desk.specs.Served.{CallSteps, IsServed, IsServedPart, said_of};
+//! The desk: an office with the keys of its callers, on one day. It answers the requests of a
+//! stream.
+ghost use Rattle.std.specs.Prelude.{◌≡◌, ◌≢◌, ◌+◌, false, true, Ok, IfOk, IfErr};
+ghost use Rattle.clear_book.specs.Book.{Book};
+ghost use Rattle.clear_book.specs.Machine.{IsLawful};
+ghost use Rattle.clear_book.specs.Tables.{Stands};
+ghost use Rattle.clear_wire.specs.Counted.{inner, has_failed, reads_of};
+ghost use Rattle.clear_wire.specs.Limits.{read_limit};
+ghost use Rattle.clear_routes.specs.Reading.{Reads};
+ghost use Rattle.clear_http.specs.Serve.{was_done};
+ghost use Rattle.clear_desk.specs.Served.{CallSteps, IsServed, IsServedPart};
 
 use crate::office::Office;
-use crate::serve::{Fault, Responder, Response, ServeFault, Served, serve_stream};
-use clear_http::answer::{Refusal, Said};
-use clear_http::callers::Directory;
-use clear_http::counted::Counted;
-use clear_http::reading::read_call;
-use clear_http::request::Request;
-use clear_http::routes::Routes;
+use clear_answers::said::{Refused, Said};
+use clear_book::calls::Call;
+use clear_http::serve::{Fault, Responder, ServeFault, Served, serve_stream};
 use clear_money::days::Day;
-use clear_rules::calls::Call;
-use clear_rules::outcomes::Outcome;
+use clear_routes::callers::Directory;
+use clear_routes::reading::read_call;
+use clear_routes::routes::Routes;
+use clear_wire::counted::Counted;
+use clear_wire::request::Request;
 use std::alloc::Global;
 use std::io::{Read, Write};
 use std::marker::Model;
 
-/// An office, the keys of its callers, and the day on which it is asked. A contract sees the tables, the keys and the day.
+/// An office, the keys of its callers, and the day on which it is asked. A contract sees the
+/// tables, the keys and the day.
 #[derive(Drop)]
 pub struct Desk {
     alloc: Global,
@@ -42,17 +44,14 @@ impl Model for Desk {
 }
 
 impl Responder for Desk {
-    ghost use Rattle.clear_desk.specs.Desk.{Says};
+    ghost use Rattle.clear_desk.specs.Desk.{MaySay};
 
-    ghost responds = { Says };
+    ghost responds = { MaySay };
 
-    fn respond(&mut self, request: &Request) -> Response {
+    fn respond(&mut self, request: &Request) -> Said {
         match read_call(self.alloc, &self.routes, &self.directory, self.day, request) {
             Ok(call) => self.take(&call),
-            Err(refusal) => Response {
-                said: Said::Refused(refusal),
-                taken: false,
-            },
+            Err(rule) => Said::No(Refused::by(rule)),
         }
     }
 }
@@ -77,44 +76,34 @@ impl Desk {
         }
     }
 
+    /// From now on it is another day.
+    pub fn set_day(&mut self, day: Day)
+        ensures { self.new ≡ record self.old { day = day } }
+    {
+        self.day = day;
+    }
+
     // Takes a call to the office.
-    fn take(&mut self, call: &Call) -> Response
-        ensures said { CallSteps (Reads self.old.keys self.old.day) (Ok call.now) self.old.tables result.said self.new.tables }
-        ensures refused { result.taken ≡ false → self.new.tables ≡ self.old.tables }
+    fn take(&mut self, call: &Call) -> Said
+        ensures said { CallSteps (Reads self.old.keys self.old.day) (Ok call.now) self.old.tables
+            result self.new.tables }
+        ensures undone { was_done result ≡ false → self.new.tables ≡ self.old.tables }
         ensures keys { self.new.keys ≡ self.old.keys }
         ensures day { self.new.day ≡ self.old.day }
     {
         let outcome = self.office.take(call);
-        response_of(outcome)
-    }
-}
-
-// What is said of an outcome.
-fn response_of(outcome: Outcome) -> Response
-    ensures said { result.said ≡ said_of outcome }
-    ensures taken { result.taken ≡ is_reply outcome }
-{
-    match outcome {
-        Outcome::Replied(reply) => Response {
-            said: Said::Reply(reply),
-            taken: true,
-        },
-        Outcome::Answered(answer) => Response {
-            said: Said::Answer(answer),
-            taken: false,
-        },
-        Outcome::Refused(rule) => Response {
-            said: Said::Refused(Refusal::Office(rule)),
-            taken: false,
-        },
+        Said::of(outcome)
     }
 }
 
 /// Serves the requests in the bytes of a reader: their answers are written, one after another.
 ///
-/// Whatever lawful book the tables stand for, the answers are those of the clearing machine over that book, and the
-/// tables then stand for the book that it leaves. `Read` and `Write` come only where a call of this reader or writer
-/// failed; after a fault, what was written is a front of the answers.
+/// Whatever lawful book the tables stand for, the answers are those of the clearing machine over
+/// that book, and the tables then stand for the book that it leaves. After a fault, what was
+/// written is the answers to the first requests, so many as the fault says, and a front of the next
+/// one's that isn't all of it. `Read` and `Write` come only where a call of this reader or writer
+/// failed, `Reads` only after 1,000,000 reads of this reader, and the other faults only where no
+/// call failed.
 pub fn serve<R: Read, W: Write>(
     desk: &mut Desk,
     reader: &mut Counted<R>,
@@ -124,12 +113,22 @@ pub fn serve<R: Read, W: Write>(
     requires write { has_failed writer.old ≡ false }
     ensures served { IfOk result (λ served. (b : Book) → IsLawful b → Stands b desk.old.tables
         → IsServed (Reads desk.old.keys desk.old.day) b (R.remaining (inner reader.old))
-        (W.contents (inner writer.old)) (W.contents (inner writer.new)) desk.new.tables served.requests) }
+        (W.contents (inner writer.old)) (W.contents (inner writer.new))
+        desk.new.tables served.requests) }
     ensures fault { IfErr result (λ fault. (b : Book) → IsLawful b → Stands b desk.old.tables
         → IsServedPart (Reads desk.old.keys desk.old.day) b (R.remaining (inner reader.old))
-        (W.contents (inner writer.old)) (W.contents (inner writer.new)) desk.new.tables fault.answered) }
-    ensures read_failed { IfErr result (λ fault. fault.fault ≡ Fault.Read → has_failed reader.new ≡ true) }
-    ensures write_failed { IfErr result (λ fault. fault.fault ≡ Fault.Write → has_failed writer.new ≡ true) }
+        (W.contents (inner writer.old)) (W.contents (inner writer.new))
+        desk.new.tables fault.answered) }
+    ensures read_failed { IfErr result (λ fault. fault.fault ≡ Fault.Read
+        → has_failed reader.new ≡ true) }
+    ensures write_failed { IfErr result (λ fault. fault.fault ≡ Fault.Write
+        → has_failed writer.new ≡ true) }
+    ensures too_many_reads { IfErr result (λ fault. fault.fault ≡ Fault.Reads
+        → reads_of reader.new ≡ reads_of reader.old + read_limit) }
+    ensures reader_well { IfErr result (λ fault. fault.fault ≢ Fault.Read
+        → has_failed reader.new ≡ false) }
+    ensures writer_well { IfErr result (λ fault. fault.fault ≢ Fault.Write
+        → has_failed writer.new ≡ false) }
 {
     serve_stream(desk.alloc, desk, reader, writer)
 }

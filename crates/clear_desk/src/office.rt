@@ -1,37 +1,40 @@
 //! The office over lists.
-ghost use Rattle.std.specs.Prelude.{◌≡◌, ℕ, ◌+◌, ◌<◌, ◌≤◌, ◌++◌, ◌∷◌, [], length, vec_len, vec_capacity, None, Err, false, true, All, IfOk, OnOk, OnErr};
-ghost use Rattle.clear_rules.specs.Book.{Book};
-ghost use Rattle.clear_rules.specs.Decisions.{IsJudged, TakesTables, Obeys};
-ghost use Rattle.clear_rules.specs.Judge.{may_do, may_query, day_back};
-ghost use Rattle.clear_rules.specs.Machine.{IsLawful, Takes};
-ghost use Rattle.clear_rules.specs.Offices.{replied, answered, Steps, RunsTables};
-ghost use Rattle.clear_rules.specs.Tables.{Tables, Stands, changed, noted};
+ghost use Rattle.std.specs.Prelude.{◌≡◌, ℕ, ◌+◌, ◌<◌, ◌≤◌, ◌++◌, ◌∷◌, [], length, vec_len};
+ghost use Rattle.std.specs.Prelude.{vec_capacity, None, Err, false, true, All, IfOk, OnOk, OnErr};
+ghost use Rattle.clear_book.specs.Book.{Book};
+ghost use Rattle.clear_rules.specs.Decisions.{IsJudged, TakesTables};
+ghost use Rattle.clear_book.specs.Access.{may_do, may_query};
+ghost use Rattle.clear_book.specs.Limits.{most_entries};
+ghost use Rattle.clear_book.specs.Machine.{IsLawful, Takes};
+ghost use Rattle.clear_book.specs.Offices.{replied, answered, Steps, RunsTables};
+ghost use Rattle.clear_book.specs.Tables.{Tables, Stands, changed, noted};
 ghost use Rattle.clear_desk.specs.Office.{Fits, is_reply};
 
 mod account;
 mod views;
 
 use crate::rows::{add_wages, credits_of_rows, insert_row, insert_rows};
+use clear_book::access::{may, may_ask};
+use clear_book::calls::{Call, Caller, Command, Query};
+use clear_book::files::BankRows;
+use clear_book::numbers::RequestNo;
+use clear_book::outcomes::{Answer, Outcome, Reply};
+use clear_book::ranges::command_in_range;
+use clear_book::rows::{BankRow, Change, CreditRow, Decision, EmployerRow, ReportRow, WageRow};
+use clear_book::rules::Rule;
+use clear_book::texts::WageLines;
 use clear_money::days::Day;
 use clear_money::numbers::EmployerNo;
 use clear_money::rates::RateTable;
-use clear_rules::access::{may, may_ask};
-use clear_rules::calls::{Call, Caller, Command, Query, RequestNo};
-use clear_rules::decisions::{decide_register, decide_report};
-use clear_rules::files::BankRows;
-use clear_rules::imports::decide_import;
-use clear_rules::outcomes::{Answer, Limit, Outcome, Reply, Rule};
-use clear_rules::ranges::command_in_range;
-use clear_rules::rows::{BankRow, Change, CreditRow, Decision, EmployerRow, ReportRow, WageRow};
-use clear_rules::texts::WageLines;
+use clear_rules::decide::import::decide_import;
+use clear_rules::decide::register::decide_register;
+use clear_rules::decide::report::decide_report;
+use clear_rules::gate::{check_day, check_room};
 use std::alloc::{AllocError, Global};
 use std::marker::Model;
 
-/// The accepted requests that the office may have.
-const MAX_ENTRIES: u64 = 50_000_000;
-
 /// The office over lists. A contract sees its tables.
-#[derive(Debug, Drop)]
+#[derive(Drop)]
 pub struct Office {
     alloc: Global,
     rates: RateTable,
@@ -46,20 +49,50 @@ pub struct Office {
 }
 
 impl Model for Office {
-    ghost use Rattle.clear_rules.specs.Tables.{Tables};
+    ghost use Rattle.clear_book.specs.Tables.{Tables};
     ghost use Rattle.clear_desk.specs.Office.{AreBounded};
 
     ghost Value = { Tables };
 
-    ghost view = { λ a. record { rates = a.rates; employers = a.employers.items; reports = a.reports.items; wages = a.wages.items; bank = a.bank.items; credits = a.credits.items; day = a.day; entries = a.entries; serial = a.serial } };
+    ghost view = { λ a. record {
+      rates = a.rates;
+      employers = a.employers.items;
+      reports = a.reports.items;
+      wages = a.wages.items;
+      bank = a.bank.items;
+      credits = a.credits.items;
+      day = a.day;
+      entries = a.entries;
+      serial = a.serial;
+    } };
 
-    ghost invariant = { λ a. AreBounded (record { rates = a.rates; employers = a.employers.items; reports = a.reports.items; wages = a.wages.items; bank = a.bank.items; credits = a.credits.items; day = a.day; entries = a.entries; serial = a.serial }) };
+    ghost invariant = { λ a. AreBounded (record {
+      rates = a.rates;
+      employers = a.employers.items;
+      reports = a.reports.items;
+      wages = a.wages.items;
+      bank = a.bank.items;
+      credits = a.credits.items;
+      day = a.day;
+      entries = a.entries;
+      serial = a.serial;
+    }) };
 }
 
 impl Office {
     /// An office without requests. Its tables stand for the book without entries.
     pub fn new(alloc: Global, rates: RateTable) -> Office
-        ensures tables { result ≡ record { rates = rates; employers = []; reports = []; wages = []; bank = []; credits = []; day = None; entries = 0; serial = 0 } }
+        ensures tables { result ≡ record {
+          rates = rates;
+          employers = [];
+          reports = [];
+          wages = [];
+          bank = [];
+          credits = [];
+          day = None;
+          entries = 0;
+          serial = 0;
+        } }
         ensures stands { Stands (record { opening = rates; entries = [] }) result }
     {
         Office {
@@ -79,7 +112,8 @@ impl Office {
     // The own rules of a command, and what it changes.
     fn decide(&self, day: Day, command: &Command) -> Result<Decision, Rule>
         ensures judged { (b : Book) → Stands b self.now → IsJudged b day command.now result }
-        ensures change { (b : Book) → Stands b self.now → IfOk result (TakesTables b day command.now) }
+        ensures change { (b : Book) → Stands b self.now
+            → IfOk result (TakesTables b day command.now) }
         ensures fits { IfOk result (λ decision. Fits decision.change self.now) }
     {
         match command {
@@ -89,7 +123,7 @@ impl Office {
             }
             Command::Report(report) => {
                 let view = self.report_view(report);
-                decide_report(day, report, &view)
+                decide_report(self.alloc, day, report, &view)
             }
             Command::ImportBank(file) => {
                 let Ok(view) = self.import_view() else {
@@ -102,7 +136,7 @@ impl Office {
 
     // Makes a change on a day. An `Err` is for memory, and leaves the tables.
     fn put(&mut self, day: Day, change: Change) -> Result<(), AllocError>
-        requires room { self.old.entries < 50_000_000 }
+        requires room { self.old.entries < most_entries }
         requires fits { Fits change self.old }
         ensures ok { OnOk result (self.new ≡ noted day (changed change self.old)) }
         ensures err { OnErr result (self.new ≡ self.old) }
@@ -115,8 +149,9 @@ impl Office {
     }
 
     fn add_employer(&mut self, day: Day, row: EmployerRow) -> Result<(), AllocError>
-        requires room { self.old.entries < 50_000_000 }
-        ensures ok { OnOk result (self.new ≡ noted day (changed (Change.AddEmployer row) self.old)) }
+        requires room { self.old.entries < most_entries }
+        ensures ok { OnOk result
+            (self.new ≡ noted day (changed (Change.AddEmployer row) self.old)) }
         ensures err { OnErr result (self.new ≡ self.old) }
     {
         match insert_row(&mut self.employers, row) {
@@ -130,9 +165,10 @@ impl Office {
     }
 
     fn add_report(&mut self, day: Day, row: ReportRow, lines: &WageLines) -> Result<(), AllocError>
-        requires room { self.old.entries < 50_000_000 }
+        requires room { self.old.entries < most_entries }
         requires fits { Fits (Change.AddReport row lines.now) self.old }
-        ensures ok { OnOk result (self.new ≡ noted day (changed (Change.AddReport row lines.now) self.old)) }
+        ensures ok { OnOk result
+            (self.new ≡ noted day (changed (Change.AddReport row lines.now) self.old)) }
         ensures err { OnErr result (self.new ≡ self.old) }
     {
         let wages = match add_wages(&self.wages, row.employer, row.month, lines.as_slice()) {
@@ -152,9 +188,10 @@ impl Office {
 
     // Room is taken first, so that the rows are put in together or not at all.
     fn add_bank_lines(&mut self, day: Day, rows: BankRows) -> Result<(), AllocError>
-        requires room { self.old.entries < 50_000_000 }
+        requires room { self.old.entries < most_entries }
         requires fits { Fits (Change.AddBankLines rows) self.old }
-        ensures ok { OnOk result (self.new ≡ noted day (changed (Change.AddBankLines rows) self.old)) }
+        ensures ok { OnOk result
+            (self.new ≡ noted day (changed (Change.AddBankLines rows) self.old)) }
         ensures err { OnErr result (self.new ≡ self.old) }
     {
         let credits = credits_of_rows(self.alloc, rows.as_slice())?;
@@ -171,8 +208,8 @@ impl Office {
 
     /// Judges a command of a caller, and carries it out if no rule applies.
     ///
-    /// Access is judged first, then the day, the limit of the book and the command's own rules. A refusal leaves the
-    /// office as it was.
+    /// Access is judged first, then the day, the limit of the book and the command's own rules. A
+    /// refusal leaves the office as it was.
     pub fn submit(
         &mut self,
         caller: Caller,
@@ -181,7 +218,8 @@ impl Office {
         command: &Command,
     ) -> Result<Reply, Rule>
         // Whatever lawful book the tables stand for, this is a step of the machine over it.
-        ensures step { Steps self.old (Call.Do caller number day command.now) (replied result) self.new }
+        ensures step { Steps self.old (Call.Do caller number day command.now) (replied result)
+            self.new }
         // This holds even for tables of no lawful book.
         ensures access { may_do caller command.now ≡ false → result ≡ Err Rule.NotYours }
         ensures err { OnErr result (self.new ≡ self.old) }
@@ -190,9 +228,7 @@ impl Office {
             return Err(Rule::NotYours);
         }
         check_day(self.day, day)?;
-        if self.entries >= MAX_ENTRIES {
-            return Err(Rule::OverLimit(Limit::Book));
-        }
+        check_room(self.entries)?;
         // No effect at run time: the proof reads the ranges of the values from these two calls.
         let _number = number.number();
         command_in_range(command);
@@ -206,11 +242,13 @@ impl Office {
 
     /// Answers a query of a caller.
     ///
-    /// Access is judged first, then the day and the query's own rules. `Store(Row)` comes only where the tables are those of
-    /// no lawful book.
+    /// Access is judged first, then the day and the query's own rules. `Store(Row)` comes only
+    /// where the tables are those of no lawful book.
     pub fn ask(&self, caller: Caller, day: Day, query: &Query) -> Result<Answer, Rule>
-        // Whatever lawful book the tables stand for, this is a step of the machine over it, which leaves the book.
-        ensures answer { (b : Book) → IsLawful b → Stands b self.now → Takes b (Call.Ask caller day query.now) (answered result) b }
+        // Whatever lawful book the tables stand for, this is a step of the machine over it, which
+        // leaves the book.
+        ensures answer { (b : Book) → IsLawful b → Stands b self.now
+            → Takes b (Call.Ask caller day query.now) (answered result) b }
         // This holds even for tables of no lawful book.
         ensures access { may_query caller query.now ≡ false → result ≡ Err Rule.NotYours }
     {
@@ -227,11 +265,13 @@ impl Office {
 
     /// Takes calls one after another, as a list of outcomes, one for each.
     ///
-    /// Room for all outcomes is taken first: an `Err` means that there was no memory for it, and nothing was done.
+    /// Room for all outcomes is taken first: an `Err` means that there was no memory for it, and
+    /// nothing was done.
     pub fn run(&mut self, alloc: Global, calls: &[Call]) -> Result<Vec<Outcome>, AllocError>
-        // The clearing theorem: whatever lawful book the tables stand for, the outcomes are those of the machine over
-        // it, and the tables then stand for the lawful book that it leaves.
-        ensures runs { IfOk result (λ outcomes. RunsTables self.old calls.now outcomes.items self.new) }
+        // The clearing theorem: whatever lawful book the tables stand for, the outcomes are those
+        // of the machine over it, and the tables then stand for the lawful book that it leaves.
+        ensures runs { IfOk result (λ outcomes.
+            RunsTables self.old calls.now outcomes.items self.new) }
         ensures err { OnErr result (self.new ≡ self.old) }
     {
         let mut outcomes = Vec::with_capacity(alloc, calls.len())?;
@@ -278,18 +318,6 @@ fn put_outcome(outcomes: &mut Vec<Outcome>, outcome: Outcome)
     if outcomes.push(outcome).is_err() {
         unreachable!();
     }
-}
-
-// The day isn't before the ledger day.
-fn check_day(ledger: Option<Day>, day: Day) -> Result<(), Rule>
-    ensures { Obeys result (day_back ledger day) }
-{
-    if let Some(ledger) = ledger
-        && day < ledger
-    {
-        return Err(Rule::DayBack(ledger));
-    }
-    Ok(())
 }
 
 // The employer that a query names.

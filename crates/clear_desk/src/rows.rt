@@ -1,21 +1,24 @@
 //! Rows in lists, in the order of their keys.
-ghost use Rattle.std.specs.Prelude.{◌≡◌, ◌+◌, ◌<◌, ◌≤◌, ◌∷◌, [], length, insert, is_ok, vec_capacity, vec_len, IfOk, if◌then◌else◌, option_copied, true};
-ghost use Rattle.clear_rules.specs.Accounts.{rank_of};
-ghost use Rattle.clear_rules.specs.Keyed.{find_row, with_row, with_rows};
-ghost use Rattle.clear_rules.specs.Lines.{credit_rows};
-ghost use Rattle.clear_rules.specs.Tables.{employer_key, report_key, with_wages, base_at};
+ghost use Rattle.std.specs.Prelude.{◌≡◌, ◌+◌, ◌<◌, ◌≤◌, ◌∷◌, [], length, insert, is_ok};
+ghost use Rattle.std.specs.Prelude.{vec_capacity, vec_len, IfOk, if◌then◌else◌, option_copied};
+ghost use Rattle.std.specs.Prelude.{true};
+ghost use Rattle.clear_book.specs.Accounts.{rank_of};
+ghost use Rattle.clear_book.specs.Keyed.{find_row, with_row, with_rows};
+ghost use Rattle.clear_book.specs.Limits.{most_base};
+ghost use Rattle.clear_book.specs.Lines.{credits_of_lines};
+ghost use Rattle.clear_book.specs.Tables.{employer_key, report_key, with_wages, table_base};
 
 use clear_bank::lines::Purpose;
+use clear_book::rows::{BankRow, CreditRow, EmployerRow, ReportRow, WageRow};
+use clear_book::texts::WageLine;
 use clear_money::months::Month;
 use clear_money::numbers::EmployerNo;
-use clear_rules::rows::{BankRow, CreditRow, EmployerRow, ReportRow, WageRow};
-use clear_rules::texts::WageLine;
 use std::alloc::{AllocError, Global};
 
 /// A row with a key.
 pub trait Keyed {
     ghost use Rattle.std.specs.Prelude.{ℕ, List, ◌≡◌};
-    ghost use Rattle.clear_rules.specs.Keyed.{is_before};
+    ghost use Rattle.clear_book.specs.Keyed.{is_before};
 
     ghost key: { Self → List ℕ };
 
@@ -25,7 +28,7 @@ pub trait Keyed {
 }
 
 impl Keyed for EmployerRow {
-    ghost use Rattle.clear_rules.specs.Tables.{employer_key};
+    ghost use Rattle.clear_book.specs.Tables.{employer_key};
 
     ghost key = { employer_key };
 
@@ -35,7 +38,7 @@ impl Keyed for EmployerRow {
 }
 
 impl Keyed for ReportRow {
-    ghost use Rattle.clear_rules.specs.Tables.{report_key};
+    ghost use Rattle.clear_book.specs.Tables.{report_key};
 
     ghost key = { report_key };
 
@@ -46,7 +49,7 @@ impl Keyed for ReportRow {
 }
 
 impl Keyed for WageRow {
-    ghost use Rattle.clear_rules.specs.Tables.{wage_key};
+    ghost use Rattle.clear_book.specs.Tables.{wage_key};
 
     ghost key = { wage_key };
 
@@ -59,7 +62,7 @@ impl Keyed for WageRow {
 }
 
 impl Keyed for BankRow {
-    ghost use Rattle.clear_rules.specs.Tables.{bank_key};
+    ghost use Rattle.clear_book.specs.Tables.{bank_key};
 
     ghost key = { bank_key };
 
@@ -69,7 +72,7 @@ impl Keyed for BankRow {
 }
 
 impl Keyed for CreditRow {
-    ghost use Rattle.clear_rules.specs.Accounts.{credit_key};
+    ghost use Rattle.clear_book.specs.Accounts.{credit_key};
 
     ghost key = { credit_key };
 
@@ -84,7 +87,7 @@ impl Keyed for CreditRow {
     }
 }
 
-// The rank of a purpose in the order of payments.
+// The rank of a purpose in the order of credits.
 fn rank_of(purpose: Purpose) -> u8
     ensures { result ≡ rank_of purpose }
 {
@@ -109,8 +112,10 @@ fn place_of<R: Keyed>(rows: &[R], row: &R) -> usize
 
 /// Puts a row at its place. Where there is no memory for it, the rows are left.
 pub fn insert_row<R: Keyed + Drop>(rows: &mut Vec<R>, row: R) -> Result<(), AllocError>
-    ensures items { rows.new.items ≡ (if is_ok result then with_row R.key rows.old.items row else rows.old.items) }
-    ensures len { vec_len rows.new ≡ (if is_ok result then vec_len rows.old + 1 else vec_len rows.old) }
+    ensures items { rows.new.items
+        ≡ (if is_ok result then with_row R.key rows.old.items row else rows.old.items) }
+    ensures len { vec_len rows.new
+        ≡ (if is_ok result then vec_len rows.old + 1 else vec_len rows.old) }
     ensures capacity { vec_capacity rows.old ≤ vec_capacity rows.new }
     ensures room { vec_len rows.old < vec_capacity rows.old → is_ok result ≡ true }
 {
@@ -131,9 +136,9 @@ pub fn insert_rows<R: Keyed + Drop>(rows: &mut Vec<R>, news: Vec<R>)
     }
 }
 
-/// The payments that bank lines are for their firms.
+/// The credits that bank lines are for their firms.
 pub fn credits_of_rows(alloc: Global, rows: &[BankRow]) -> Result<Vec<CreditRow>, AllocError>
-    ensures { IfOk result (λ credits. credits.items ≡ credit_rows rows.now) }
+    ensures { IfOk result (λ credits. credits.items ≡ credits_of_lines rows.now) }
 {
     let mut credits = Vec::new(alloc);
     for row in rows {
@@ -199,8 +204,8 @@ pub fn add_wages(
 
 /// The base of a month: the sum of its wage rows, in cents.
 pub fn base_of_rows(rows: &[WageRow], employer: EmployerNo, month: Month) -> u64
-    requires { base_at rows.now employer month ≤ 5_000_000_000 }
-    ensures { result ≡ base_at rows.now employer month }
+    requires { table_base rows.now employer month ≤ most_base }
+    ensures { result ≡ table_base rows.now employer month }
 {
     let mut base = 0;
     for row in rows {

@@ -3,17 +3,17 @@ ghost use Rattle.std.specs.Prelude.{◌≡◌, ◌+◌, ◌*◌, ◌≤◌, [], 
 ghost use Rattle.clear_money.specs.Calendar.{IsMonth};
 ghost use Rattle.clear_money.specs.Rates.{IsRate};
 ghost use Rattle.clear_money.specs.Texts.{day_text};
-ghost use Rattle.clear_rules.specs.Tables.{Stands};
-ghost use Rattle.clear_http.specs.Callers.{sample_keys};
+ghost use Rattle.clear_book.specs.Tables.{Stands};
+ghost use Rattle.clear_routes.specs.Callers.{sample_keys};
 ghost use Rattle.clear_desk.specs.Samples.{sample_rates};
 
 use crate::desk::Desk;
 use crate::office::Office;
-use clear_http::callers::Directory;
-use clear_http::routes::Routes;
 use clear_money::days::Day;
 use clear_money::months::Month;
 use clear_money::rates::{PushFault, RateRow, RateTable};
+use clear_routes::callers::Directory;
+use clear_routes::routes::Routes;
 use std::alloc::{AllocError, Global};
 
 /// The rates: 20 per cent from 2024-01 on, and 19 per cent from 2025-01 on.
@@ -35,9 +35,11 @@ pub fn sample_day() -> Option<Day>
     Day::read(b"2024-04-30")
 }
 
-/// A desk over an office without requests, with the sample's rates, callers and day. None where there is no memory for it.
+/// A desk over an office without requests, with the sample's rates, callers and day. None where
+/// there is no memory for it.
 pub fn sample_desk(alloc: Global) -> Option<Desk>
-    ensures tables { IfSome result (λ desk. Stands (record { opening = sample_rates; entries = [] }) desk.tables) }
+    ensures tables { IfSome result (λ desk.
+        Stands (record { opening = sample_rates; entries = [] }) desk.tables) }
     ensures keys { IfSome result (λ desk. desk.keys ≡ sample_keys) }
     ensures day { IfSome result (λ desk. day_text desk.day ≡ codes "2024-04-30") }
 {
@@ -47,12 +49,8 @@ pub fn sample_desk(alloc: Global) -> Option<Desk>
     let Ok(directory) = Directory::sample(alloc) else {
         return None;
     };
-    let Ok(routes) = Routes::new(alloc) else {
-        return None;
-    };
-    let Some(day) = sample_day() else {
-        return None;
-    };
+    let routes = Routes::new(alloc).ok()?;
+    let day = sample_day()?;
     let office = Office::new(alloc, rates);
     Some(Desk::new(alloc, office, directory, routes, day))
 }
@@ -69,11 +67,19 @@ fn month(year: u16, month: u16) -> Month
     }
 }
 
-// A row of the sample: reports by the 15th, payments by the 20th, and an entitlement of 14.25 per cent.
+// A row of the sample: reports by the 15th, payments by the 20th, and an entitlement of 14.25 per
+// cent.
 fn rate(first: Month, contribution: u16, interest: u16) -> RateRow
     requires contribution { contribution ≤ 10_000 }
     requires interest { interest ≤ 1_000 }
-    ensures { result ≡ record { first = first; contribution = contribution; report_day = 15; due_day = 20; interest = interest; entitlement = 1425 } }
+    ensures { result ≡ record {
+      first = first;
+      contribution_rate = contribution;
+      report_day = 15;
+      due_day = 20;
+      interest_rate = interest;
+      entitlement_rate = 1425;
+    } }
 {
     // No effect at run time: the proof reads the month's range from this call.
     let _number = first.number();

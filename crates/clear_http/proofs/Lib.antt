@@ -1,9 +1,1 @@
-pub mod HeadLemmas
-pub mod KnownLemmas
-pub mod LinesLemmas
-pub mod StreamLemmas
-pub mod NextLemmas
-pub mod CutLemmas
-pub mod PartLemmas
-pub mod RouteLemmas
-pub mod JsonLemmas
+pub mod ServeLemmas

@@ -1,32 +1,15 @@
-//! The wire: from the bytes of an HTTP/1.1 connection to calls, and from what the office says to bytes.
+//! The serve loop: the requests in a stream's bytes are answered one after another.
 //!
-//! `read_request` gives what a stream goes on with: a whole request with its body, the rule that
-//! ends the stream, or the end of the input. It goes by the bytes alone, so the pieces in which a
-//! reader gives them change nothing, and `one_cut` says that a stream has one list of requests. No
-//! bytes are required to be good: bad ones end in a rule, within the limits of `limits`. A fault
-//! `Read` comes only of a call of the reader that failed, which `Counted` notes. `read_call` gives
-//! the call of a request, or the first that refuses it: no route, an unknown key, a bad number or
-//! body. `answer_bytes` appends exactly the bytes of an answer, or leaves what was there.
+//! What was written is the answers to the items of the stream, which its bytes alone decide. After
+//! a fault it is those to the first items, whole, and a front of the next one's that isn't all of
+//! it: an answer that went out whole is counted. `Read` and `Write` come only where a call of this
+//! reader or writer failed, `Reads` only after all reads that a stream may make, `Memory` only
+//! where none of these is. The loop knows nothing of the trade: it goes by what a `Responder` may
+//! say.
 #![tactic(auto)]
 
-pub mod answer;
-pub mod bodies;
-pub mod callers;
-pub mod counted;
-pub mod cut;
-mod fields;
-mod framing;
-pub mod head;
-pub mod input;
-pub mod limits;
-mod lines;
-pub mod method;
-mod parts;
-pub mod reading;
-pub mod request;
-pub mod routes;
-pub mod rule;
-#[cfg(test)]
-mod tests;
-#[cfg(test)]
-mod trade_tests;
+pub mod serve;
+
+pub use clear_answers::said;
+pub use clear_routes::{callers, reading, routes};
+pub use clear_wire::{counted, request};

@@ -1,11 +1,11 @@
 -- How many months are begun from a day to another.
-use Rattle.std.proofs.Common.{◌≡◌, ℕ, zero, suc, ◌+◌, ◌-◌, ◌<◌, ◌≤◌, ◌⊎◌, ⊎_elim, Bool, true, false, refl, sym, ap, ◌∙◌, subst, arith, nat_lt, List, count_by}
+use Rattle.std.proofs.Common.{◌≡◌, ℕ, ◌+◌, ◌-◌, ◌<◌, ◌≤◌, ◌⊎◌, ⊎_elim, Bool, true, false, refl, sym, ap, ◌∙◌, subst, arith, nat_lt, List, count_by}
 use Rattle.std.proofs.lemmas.Bool.{cases_order}
 use Rattle.std.proofs.lemmas.Bool.Decides.{nat_tests}
 use Rattle.std.specs.List.{range_with_len}
 use Rattle.clear_money.specs.Calendar.{IsDay, day_in, month_of, day_of_month, months_after, month_steps, begun_months}
 use Rattle.clear_money.proofs.CountLemmas.{count_first}
-use Rattle.clear_money.proofs.MonthLemmas.{LiesIn, month_of-lies, day_of_month_bounds, day_in-place, first_day-later, first_day-mono, month_length, month_length_bounds}
+use Rattle.clear_money.proofs.MonthLemmas.{month_of-lies, day_of_month_bounds, day_in-place, first_day-later, first_day-mono, month_length_bounds}
 
 steps_are : (n : ℕ) → n ≡ 2412 → month_steps ≡ range_with_len 0 n
 unfolding month_steps

@@ -7,7 +7,7 @@ use Rattle.jiff_core.specs.Date.{epoch_day}
 use Rattle.jiff_core.proofs.DateLemmas.{epoch_day_injective}
 use Rattle.jiff_core.proofs.SignedLemmas.{signed_arith}
 use Rattle.clear_money.specs.Calendar.{IsDay, day_in, month_of, day_of_month}
-use Rattle.clear_money.proofs.MonthLemmas.{LiesIn, month_length, days_from_civil-day_in, day_in-parts, day_of_month_bounds, month_of-lies, month_of-day_in, day_of_month-day_in, day_in-is_day}
+use Rattle.clear_money.proofs.MonthLemmas.{month_length, days_from_civil-day_in, day_in-parts, day_of_month_bounds, month_of-lies, month_of-day_in, day_of_month-day_in, day_in-is_day}
 
 -- the date of these parts
 abbrev date_of : (t : ℕ) → IsDay t → Date

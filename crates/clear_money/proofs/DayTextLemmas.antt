@@ -1,7 +1,7 @@
 -- The text of a day spells just that day.
-use Rattle.std.proofs.Common.{◌≡◌, ℕ, ◌+◌, ◌*◌, ◌-◌, ◌/◌, ◌%◌, ◌<◌, ◌≤◌, List, ◌∷◌, pos, sym, ◌∙◌, subst, arith}
+use Rattle.std.proofs.Common.{◌≡◌, ℕ, ◌+◌, ◌*◌, ◌-◌, ◌/◌, ◌%◌, ◌<◌, ◌≤◌, List, pos, sym, ◌∙◌, subst, arith}
 use Rattle.std.specs.Prelude.{IfSome, IfNone, IsSome, Option, Some, None, ◌↔◌, ◌≢◌}
-use Rattle.jiff_core.specs.Calendar.{IsCivilDate, days_in_month}
+use Rattle.jiff_core.specs.Calendar.{IsCivilDate}
 use Rattle.clear_money.specs.Calendar.{IsDay, day_in, month_of, day_of_month}
 use Rattle.clear_money.specs.Texts.{date_text, day_text}
 use Rattle.clear_money.proofs.DateLemmas.{IsDated, civil-dated, dated-civil}

@@ -1,14 +1,14 @@
 -- How the months from 2000-01 on follow one another, and which month and place a day has.
-use Rattle.std.proofs.Common.{◌≡◌, ℕ, zero, suc, ◌+◌, ◌-◌, ◌*◌, ◌/◌, ◌%◌, ◌<◌, ◌≤◌, ◌⊎◌, ⊎_elim, pos, negsuc, ℤ, Bool, true, false, refl, sym, ap, ◌∙◌, subst, arith, unsigned_abs, nat_le, nat_lt, inl, inr, List, count_by}
+use Rattle.std.proofs.Common.{◌≡◌, ℕ, zero, suc, ◌+◌, ◌-◌, ◌/◌, ◌%◌, ◌<◌, ◌≤◌, ◌⊎◌, ⊎_elim, pos, negsuc, ℤ, Bool, true, false, refl, sym, ap, ◌∙◌, subst, arith, unsigned_abs, nat_le, inl, inr, List, count_by}
 use Rattle.std.proofs.lemmas.Bool.{cases_order, le-leb}
 use Rattle.std.proofs.lemmas.Bool.Decides.{nat_tests}
 use Rattle.std.specs.List.{range_with_len}
-use Rattle.jiff_core.specs.Calendar.{day_count, days_from_civil, days_in_month, days_in_year}
+use Rattle.jiff_core.specs.Calendar.{day_count, days_from_civil, days_in_month}
 use Rattle.jiff_core.proofs.CalendarLemmas.{days_from_civil-day_count, days_in_month_bounds, day_count-next_month, day_count-next_year, day_count-last_of_year, day_count-day}
 use Rattle.jiff_core.proofs.MarchLemmas.{day_count-late, day_count-early}
 use Rattle.jiff_core.proofs.SignedLemmas.{signed_arith}
 use borrow.Author.Differences.{up, down}
-use Rattle.clear_money.specs.Calendar.{IsDay, day_in, calendar_months, month_of, day_of_month, months_after, month_steps, begun_months}
+use Rattle.clear_money.specs.Calendar.{IsDay, day_in, calendar_months, month_of, day_of_month}
 use Rattle.clear_money.proofs.CountLemmas.{count_first}
 
 -- the days of a month

@@ -92,8 +92,8 @@ read_on-end rows i rest h = rw (drop_all i rest h) (ap Ok (append-nil rows))
 row_alone-written : (n : ℕ) (r : Rate) → IsRate r → row_alone n (rate_table r) ≡ Ok r
 unfolding row_alone written_row
 row_alone-written n r h =
-    let w : Written = record { from = month_text r.first; contribution = pos r.contribution; report_day = pos r.report_day; due_day = pos r.due_day; interest = pos r.interest; entitlement = pos r.entitlement } in
-    let means : rate_meant w ≡ Some r = rate_meant-some w r (record { from = refl; contribution = refl; report_day = refl; due_day = refl; interest = refl; entitlement = refl; rate = h }) in
+    let w : Written = record { from = month_text r.first; contribution_rate = pos r.contribution_rate; report_day = pos r.report_day; due_day = pos r.due_day; interest_rate = pos r.interest_rate; entitlement_rate = pos r.entitlement_rate } in
+    let means : rate_meant w ≡ Some r = rate_meant-some w r (record { from = refl; contribution_rate = refl; report_day = refl; due_day = refl; interest_rate = refl; entitlement_rate = refl; rate = h }) in
     rw means
 
 row_after-written : (before n : ℕ) (r : Rate) → IsRate r → before < r.first → row_after before n (rate_table r) ≡ Ok r

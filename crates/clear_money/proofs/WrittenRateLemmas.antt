@@ -120,26 +120,26 @@ narrow-none k n z (Err d) range taken e small = λ same. taken (subst (FitsUnsig
 -- a rate is what a row writes
 pub record Means (w : Written) (r : Rate) : Type 0 where
   pub from : w.from ≡ month_text r.first
-  pub contribution : w.contribution ≡ pos r.contribution
+  pub contribution_rate : w.contribution_rate ≡ pos r.contribution_rate
   pub report_day : w.report_day ≡ pos r.report_day
   pub due_day : w.due_day ≡ pos r.due_day
-  pub interest : w.interest ≡ pos r.interest
-  pub entitlement : w.entitlement ≡ pos r.entitlement
+  pub interest_rate : w.interest_rate ≡ pos r.interest_rate
+  pub entitlement_rate : w.entitlement_rate ≡ pos r.entitlement_rate
   pub rate : IsRate r
 
 -- the rate of six parts, if each is there
-abbrev of_parts : (first contribution report_day due_day interest entitlement : Option ℕ) → Option Rate
+abbrev of_parts : (first contribution_rate report_day due_day interest_rate entitlement_rate : Option ℕ) → Option Rate
 of_parts o p q s t u =
-    option_and_then (λ first. option_and_then (λ contribution. option_and_then (λ report_day. option_and_then (λ due_day. option_and_then (λ interest. option_and_then (λ entitlement.
-    Some (record { first = first; contribution = contribution; report_day = report_day; due_day = due_day; interest = interest; entitlement = entitlement })) u) t) s) q) p) o
+    option_and_then (λ first. option_and_then (λ contribution_rate. option_and_then (λ report_day. option_and_then (λ due_day. option_and_then (λ interest_rate. option_and_then (λ entitlement_rate.
+    Some (record { first = first; contribution_rate = contribution_rate; report_day = report_day; due_day = due_day; interest_rate = interest_rate; entitlement_rate = entitlement_rate })) u) t) s) q) p) o
 
 record Parts (o p q s t u : Option ℕ) (r : Rate) : Type 0 where
   first : o ≡ Some r.first
-  contribution : p ≡ Some r.contribution
+  contribution_rate : p ≡ Some r.contribution_rate
   report_day : q ≡ Some r.report_day
   due_day : s ≡ Some r.due_day
-  interest : t ≡ Some r.interest
-  entitlement : u ≡ Some r.entitlement
+  interest_rate : t ≡ Some r.interest_rate
+  entitlement_rate : u ≡ Some r.entitlement_rate
 
 -- where the rate is there, so is each part
 parts_there : (o p q s t u : Option ℕ) (r : Rate) → of_parts o p q s t u ≡ Some r → Parts o p q s t u r
@@ -150,13 +150,13 @@ parts_there (Some a) (Some b) (Some c) None t u r e = absurd (cc)
 parts_there (Some a) (Some b) (Some c) (Some d) None u r e = absurd (cc)
 parts_there (Some a) (Some b) (Some c) (Some d) (Some f) None r e = absurd (cc)
 parts_there (Some a) (Some b) (Some c) (Some d) (Some f) (Some g) r e =
-    record { first = ap (option_map (λ x. x.first)) e; contribution = ap (option_map (λ x. x.contribution)) e; report_day = ap (option_map (λ x. x.report_day)) e; due_day = ap (option_map (λ x. x.due_day)) e; interest = ap (option_map (λ x. x.interest)) e; entitlement = ap (option_map (λ x. x.entitlement)) e }
+    record { first = ap (option_map (λ x. x.first)) e; contribution_rate = ap (option_map (λ x. x.contribution_rate)) e; report_day = ap (option_map (λ x. x.report_day)) e; due_day = ap (option_map (λ x. x.due_day)) e; interest_rate = ap (option_map (λ x. x.interest_rate)) e; entitlement_rate = ap (option_map (λ x. x.entitlement_rate)) e }
 
-parts_meant : (w : Written) (first contribution report_day due_day interest entitlement : ℕ) → month_spelled w.from ≡ Some first → within 0 10000 w.contribution ≡ Some contribution
-    → within 1 28 w.report_day ≡ Some report_day → within 1 28 w.due_day ≡ Some due_day → within 0 1000 w.interest ≡ Some interest → within 0 10000 w.entitlement ≡ Some entitlement
-    → rate_meant w ≡ Some (record { first = first; contribution = contribution; report_day = report_day; due_day = due_day; interest = interest; entitlement = entitlement })
+parts_meant : (w : Written) (first contribution_rate report_day due_day interest_rate entitlement_rate : ℕ) → month_spelled w.from ≡ Some first → within 0 10000 w.contribution_rate ≡ Some contribution_rate
+    → within 1 28 w.report_day ≡ Some report_day → within 1 28 w.due_day ≡ Some due_day → within 0 1000 w.interest_rate ≡ Some interest_rate → within 0 10000 w.entitlement_rate ≡ Some entitlement_rate
+    → rate_meant w ≡ Some (record { first = first; contribution_rate = contribution_rate; report_day = report_day; due_day = due_day; interest_rate = interest_rate; entitlement_rate = entitlement_rate })
 unfolding rate_meant
-parts_meant w first contribution report_day due_day interest entitlement a b c d e f = rw (a, b, c, d, e, f)
+parts_meant w first contribution_rate report_day due_day interest_rate entitlement_rate a b c d e f = rw (a, b, c, d, e, f)
 
 part : (low high n : ℕ) (z : ℤ) → z ≡ pos n → low ≤ n → n ≤ high → within low high z ≡ Some n
 part low high n z e a b = ap (within low high) e ∙ within-some low high n a b
@@ -165,11 +165,11 @@ part low high n z e a b = ap (within low high) e ∙ within-some low high n a b
 pub rate_meant-some : (w : Written) (r : Rate) → Means w r → rate_meant w ≡ Some r
 rate_meant-some w r m =
     let q = m.rate in
-    parts_meant w r.first r.contribution r.report_day r.due_day r.interest r.entitlement (month_spelled-some w.from r.first q.first m.from) (part 0 10000 _ _ m.contribution (omega arith) q.contribution)
-    (part 1 28 _ _ m.report_day q.report_day.0 q.report_day.1) (part 1 28 _ _ m.due_day q.due_day.0 q.due_day.1) (part 0 1000 _ _ m.interest (omega arith) q.interest)
-    (part 0 10000 _ _ m.entitlement (omega arith) q.entitlement)
+    parts_meant w r.first r.contribution_rate r.report_day r.due_day r.interest_rate r.entitlement_rate (month_spelled-some w.from r.first q.first m.from) (part 0 10000 _ _ m.contribution_rate (omega arith) q.contribution_rate)
+    (part 1 28 _ _ m.report_day q.report_day.0 q.report_day.1) (part 1 28 _ _ m.due_day q.due_day.0 q.due_day.1) (part 0 1000 _ _ m.interest_rate (omega arith) q.interest_rate)
+    (part 0 10000 _ _ m.entitlement_rate (omega arith) q.entitlement_rate)
 
-rate_meant-parts : (w : Written) (r : Rate) → rate_meant w ≡ Some r → Parts (month_spelled w.from) (within 0 10000 w.contribution) (within 1 28 w.report_day) (within 1 28 w.due_day) (within 0 1000 w.interest) (within 0 10000 w.entitlement) r
+rate_meant-parts : (w : Written) (r : Rate) → rate_meant w ≡ Some r → Parts (month_spelled w.from) (within 0 10000 w.contribution_rate) (within 1 28 w.report_day) (within 1 28 w.due_day) (within 0 1000 w.interest_rate) (within 0 10000 w.entitlement_rate) r
 unfolding rate_meant
 rate_meant-parts w r e = parts_there _ _ _ _ _ _ r e
 
@@ -177,19 +177,19 @@ rate_meant-back : (w : Written) (r : Rate) → rate_meant w ≡ Some r → Means
 rate_meant-back w r e =
     let p = rate_meant-parts w r e in
     let first = month_spelled-back w.from r.first p.first in
-    let contribution = within-back 0 10000 w.contribution r.contribution p.contribution in
+    let contribution_rate = within-back 0 10000 w.contribution_rate r.contribution_rate p.contribution_rate in
     let report_day = within-back 1 28 w.report_day r.report_day p.report_day in
     let due_day = within-back 1 28 w.due_day r.due_day p.due_day in
-    let interest = within-back 0 1000 w.interest r.interest p.interest in
-    let entitlement = within-back 0 10000 w.entitlement r.entitlement p.entitlement in
+    let interest_rate = within-back 0 1000 w.interest_rate r.interest_rate p.interest_rate in
+    let entitlement_rate = within-back 0 10000 w.entitlement_rate r.entitlement_rate p.entitlement_rate in
     record {
       from = first.1;
-      contribution = contribution.0;
+      contribution_rate = contribution_rate.0;
       report_day = report_day.0;
       due_day = due_day.0;
-      interest = interest.0;
-      entitlement = entitlement.0;
-      rate = record { first = first.0; contribution = contribution.2; report_day = (report_day.1, report_day.2); due_day = (due_day.1, due_day.2); interest = interest.2; entitlement = entitlement.2 };
+      interest_rate = interest_rate.0;
+      entitlement_rate = entitlement_rate.0;
+      rate = record { first = first.0; contribution_rate = contribution_rate.2; report_day = (report_day.1, report_day.2); due_day = (due_day.1, due_day.2); interest_rate = interest_rate.2; entitlement_rate = entitlement_rate.2 };
     }
 
 -- a row that writes no rate means none
@@ -201,22 +201,22 @@ rate_meant-none w never = at (rate_meant w) refl
     at (Some r) q = absurd (never r (rate_meant-back w r q))
 
 -- what RateRow::new answers at the parts of a row is the rate that is meant
-pub rate_meant-made : (w : Written) (o : Option Rate) (r : Rate) → IsMonth r.first → w.from ≡ month_text r.first → w.contribution ≡ pos r.contribution → w.report_day ≡ pos r.report_day
-    → w.due_day ≡ pos r.due_day → w.interest ≡ pos r.interest → w.entitlement ≡ pos r.entitlement → IsSome o ↔ IsRate r → IfSome o (λ q. q ≡ r) → o ≡ rate_meant w
-rate_meant-made w None r month from contribution report_day due_day interest entitlement some value =
+pub rate_meant-made : (w : Written) (o : Option Rate) (r : Rate) → IsMonth r.first → w.from ≡ month_text r.first → w.contribution_rate ≡ pos r.contribution_rate → w.report_day ≡ pos r.report_day
+    → w.due_day ≡ pos r.due_day → w.interest_rate ≡ pos r.interest_rate → w.entitlement_rate ≡ pos r.entitlement_rate → IsSome o ↔ IsRate r → IfSome o (λ q. q ≡ r) → o ≡ rate_meant w
+rate_meant-made w None r month from contribution_rate report_day due_day interest_rate entitlement_rate some value =
     sym (rate_meant-none w (λ q m.
-    let a : q.contribution ≡ r.contribution = same (sym m.contribution ∙ contribution) in
+    let a : q.contribution_rate ≡ r.contribution_rate = same (sym m.contribution_rate ∙ contribution_rate) in
     let b : q.report_day ≡ r.report_day = same (sym m.report_day ∙ report_day) in
     let c : q.due_day ≡ r.due_day = same (sym m.due_day ∙ due_day) in
-    let d : q.interest ≡ r.interest = same (sym m.interest ∙ interest) in
-    let e : q.entitlement ≡ r.entitlement = same (sym m.entitlement ∙ entitlement) in
+    let d : q.interest_rate ≡ r.interest_rate = same (sym m.interest_rate ∙ interest_rate) in
+    let e : q.entitlement_rate ≡ r.entitlement_rate = same (sym m.entitlement_rate ∙ entitlement_rate) in
     let k = m.rate in
-    false≢true (some.1 (record { first = month; contribution = omega arith; report_day = (omega arith, omega arith); due_day = (omega arith, omega arith); interest = omega arith; entitlement = omega arith }))))
+    false≢true (some.1 (record { first = month; contribution_rate = omega arith; report_day = (omega arith, omega arith); due_day = (omega arith, omega arith); interest_rate = omega arith; entitlement_rate = omega arith }))))
   where
     same : {m n : ℕ} → pos m ≡ pos n → m ≡ n
     same e = cc
-rate_meant-made w (Some q) r month from contribution report_day due_day interest entitlement some value =
-    ap Some value ∙ sym (rate_meant-some w r (record { from = from; contribution = contribution; report_day = report_day; due_day = due_day; interest = interest; entitlement = entitlement; rate = some.0 refl }))
+rate_meant-made w (Some q) r month from contribution_rate report_day due_day interest_rate entitlement_rate some value =
+    ap Some value ∙ sym (rate_meant-some w r (record { from = from; contribution_rate = contribution_rate; report_day = report_day; due_day = due_day; interest_rate = interest_rate; entitlement_rate = entitlement_rate; rate = some.0 refl }))
 
 -- ---- names of members
 

@@ -1,6 +1,7 @@
--- Months and days. A month is a number: twelve times its year, and the months of the year before it. A day is its day
--- number, 1970-01-01 being 0.
-use Rattle.std.specs.Prelude.{ℕ, ◌+◌, ◌-◌, ◌/◌, ◌%◌, ◌≤◌, List, pos, unsigned_abs, count_by, nat_le, nat_lt}
+-- Months and days. A month is a number: twelve times its year, and the months of the year before
+-- it. A day is its day number, 1970-01-01 being 0.
+use Rattle.std.specs.Prelude.{ℕ, ◌+◌, ◌-◌, ◌/◌, ◌%◌, ◌≤◌, List, pos, unsigned_abs, count_by}
+use Rattle.std.specs.Prelude.{nat_le, nat_lt}
 use Rattle.std.specs.List.{range_with_len}
 use Rattle.jiff_core.specs.Calendar.{days_from_civil}
 

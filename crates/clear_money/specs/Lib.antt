@@ -1,4 +1,5 @@
 pub mod Calendar
+pub mod Limits
 pub mod Numbers
 pub mod RateFile
 pub mod Rates

@@ -1,16 +1,19 @@
--- What a rate text says: its rows, or its first fault. It is a TOML document. Rows are counted from 1, and 0 is the top
--- level.
-use Rattle.std.specs.Prelude.{◌≡◌, ℕ, suc, pos, List, [], ◌∷◌, map, codes, if◌then◌else◌, Option, Some, None, Result, Ok, Err, nat_lt}
+-- What a rate text says: its rows, or its first fault. It is a TOML document. Rows are counted
+-- from 1, and 0 is the top level.
+use Rattle.std.specs.Prelude.{◌≡◌, ℕ, suc, pos, List, [], ◌∷◌, map, codes, if◌then◌else◌, Option}
+use Rattle.std.specs.Prelude.{Some, None, Result, Ok, Err, nat_lt}
 use Rattle.std.specs.List.{AllByRecursion}
 use Rattle.std.specs.Str.{is_utf8}
-use Rattle.toml.specs.Data.{Data, string, integer, array, table, Items, no_items, item, Members, no_members, member, get_member, as_array}
+use Rattle.toml.specs.Data.{Data, string, integer, array, table, Items, no_items, item, Members}
+use Rattle.toml.specs.Data.{no_members, member, get_member, as_array}
 use Rattle.toml.specs.Parse.{parse_document}
 use Rattle.toml.specs.View.{items_of}
 use Rattle.clear_money.specs.Rates.{Rate, IsRate, IsRising}
 use Rattle.clear_money.specs.Texts.{month_text}
 use Rattle.clear_money.specs.WrittenRate.{members_only, written_row, rate_meant}
 use Rattle.clear_money.specs.declared.rate_file.RateFault.{RateFault}
-use Rattle.clear_money.specs.declared.rate_file.RateFault.TheVariants.{Text, Field, Range, Order, Empty}
+use Rattle.clear_money.specs.declared.rate_file.RateFault.TheVariants.{Text, Field, Range, Order}
+use Rattle.clear_money.specs.declared.rate_file.RateFault.TheVariants.{Empty}
 
 -- the value, or the fault that there is none
 abbrev pub or_fault : {A : Type 0} → RateFault → Option A → Result A RateFault
@@ -18,7 +21,9 @@ or_fault fault (Some x) = Ok x
 or_fault fault None = Err fault
 
 infixl 10 ◌>>=◌
-abbrev pub ◌>>=◌ : {A B : Type 0} → Result A RateFault → (A → Result B RateFault) → Result B RateFault
+-- what follows from the value, or its fault
+abbrev pub ◌>>=◌ : {A B : Type 0}
+    → Result A RateFault → (A → Result B RateFault) → Result B RateFault
 (Ok x) >>= f = f x
 (Err fault) >>= f = Err fault
 
@@ -34,7 +39,8 @@ row_after before n d = do
   row ← row_alone n d
   or_fault (Order n) (if nat_lt before row.first then Some row else None)
 
--- row n and those behind it, each of which begins after the one before, the first of them after the month `before`
+-- row n and those behind it, each of which begins after the one before it, and row n after the
+-- month `before`
 abbrev pub rows_after : ℕ → ℕ → Items → Result (List Rate) RateFault
 rows_after before n no_items = Ok []
 rows_after before n (item d ds) = do
@@ -74,11 +80,19 @@ rates_of bytes = do
 
 -- ---- what a rate file of given rates is
 
+-- a whole number, as a value
+abbrev pub number : ℕ → Data
+number n = integer (pos n)
+
 -- the table that writes a rate; members stand in the order of their names
 abbrev pub rate_table : Rate → Data
 rate_table r =
-    table (member (codes "contribution") (integer (pos r.contribution)) (member (codes "due_day") (integer (pos r.due_day)) (member (codes "entitlement") (integer (pos r.entitlement))
-    (member (codes "from") (string (month_text r.first)) (member (codes "interest") (integer (pos r.interest)) (member (codes "report_day") (integer (pos r.report_day)) no_members))))))
+    table (member (codes "contribution") (number r.contribution_rate)
+    (member (codes "due_day") (number r.due_day)
+    (member (codes "entitlement") (number r.entitlement_rate)
+    (member (codes "from") (string (month_text r.first))
+    (member (codes "interest") (number r.interest_rate)
+    (member (codes "report_day") (number r.report_day) no_members))))))
 
 -- the document that writes rates
 abbrev pub rate_document : List Rate → Members
@@ -86,4 +100,6 @@ rate_document rows = member (codes "rate") (array (items_of (map rate_table rows
 
 -- rates whose first months rise are read from the document that writes them
 abbrev pub WrittenRatesAreRead : Type 0
-WrittenRatesAreRead = (row : Rate) (rows : List Rate) → AllByRecursion IsRate (row ∷ rows) → IsRising (row ∷ rows) → rates_in (rate_document (row ∷ rows)) ≡ Ok (row ∷ rows)
+WrittenRatesAreRead = (row : Rate) (rows : List Rate) →
+    AllByRecursion IsRate (row ∷ rows) → IsRising (row ∷ rows) →
+    rates_in (rate_document (row ∷ rows)) ≡ Ok (row ∷ rows)

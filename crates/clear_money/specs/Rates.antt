@@ -1,27 +1,31 @@
--- Rates, and the contribution at a rate. A rate is in hundredths of a percent, an amount in whole cents.
-use Rattle.std.specs.Prelude.{ℕ, ◌+◌, ◌*◌, ◌/◌, ◌<◌, ◌≤◌, List, [], ◌∷◌, Option, Some, None, nat_le, nat_lt, if◌then◌else◌}
+-- Rates, and the contribution at a rate. A rate is in hundredths of a percent, an amount in whole
+-- cents.
+use Rattle.std.specs.Prelude.{ℕ, ◌+◌, ◌*◌, ◌/◌, ◌<◌, ◌≤◌, List, [], ◌∷◌, Option, Some, None}
+use Rattle.std.specs.Prelude.{nat_le, nat_lt, if◌then◌else◌}
 use Rattle.clear_money.specs.Calendar.{IsMonth, day_in}
 
--- the rates from a first month on, with the days of the following month on which reports and contributions are due
+-- the rates from a first month on, with the days of the following month on which reports and
+-- contributions are due
 pub record Rate : Type 0 where
   pub first : ℕ
-  pub contribution : ℕ
+  pub contribution_rate : ℕ
   pub report_day : ℕ
   pub due_day : ℕ
-  pub interest : ℕ
-  pub entitlement : ℕ
+  pub interest_rate : ℕ
+  pub entitlement_rate : ℕ
 
 -- a day that each month has
 abbrev pub IsDayOfEachMonth : ℕ → Type 0
 IsDayOfEachMonth d = (1 ≤ d) × (d ≤ 28)
 
+-- a rate whose month, days and numbers are in their ranges
 pub record IsRate (r : Rate) : Type 0 where
   pub first : IsMonth r.first
-  pub contribution : r.contribution ≤ 10000
+  pub contribution_rate : r.contribution_rate ≤ 10000
   pub report_day : IsDayOfEachMonth r.report_day
   pub due_day : IsDayOfEachMonth r.due_day
-  pub interest : r.interest ≤ 1000
-  pub entitlement : r.entitlement ≤ 10000
+  pub interest_rate : r.interest_rate ≤ 1000
+  pub entitlement_rate : r.entitlement_rate ≤ 10000
 
 -- of two rows the one with the greater first month
 abbrev pub later_row : Rate → Option Rate → Option Rate
@@ -31,7 +35,8 @@ later_row r (Some q) = if nat_lt q.first r.first then Some r else Some q
 -- among the rows, the one with the greatest first month not after m
 abbrev pub rate_in_force : List Rate → ℕ → Option Rate
 rate_in_force [] m = None
-rate_in_force (r ∷ rs) m = if nat_le r.first m then later_row r (rate_in_force rs m) else rate_in_force rs m
+rate_in_force (r ∷ rs) m =
+    if nat_le r.first m then later_row r (rate_in_force rs m) else rate_in_force rs m
 
 -- the contribution for a base, at a rate: rounded half up to whole cents
 abbrev pub contribution_of : ℕ → ℕ → ℕ

@@ -1,5 +1,6 @@
 -- One row of a rate file: the table that writes it, and the rate that it means.
-use Rattle.std.specs.Prelude.{ℕ, ℤ, pos, negsuc, List, [], ◌∷◌, codes, find, Bool, true, ◌&&◌, if◌then◌else◌, Option, Some, None, option_and_then, nat_le, bytes_eq}
+use Rattle.std.specs.Prelude.{ℕ, ℤ, pos, negsuc, List, [], ◌∷◌, codes, find, Bool, true, ◌&&◌}
+use Rattle.std.specs.Prelude.{if◌then◌else◌, Option, Some, None, option_and_then, nat_le, bytes_eq}
 use Rattle.std.specs.List.{list_any, range_with_len}
 use Rattle.toml.specs.Data.{Data, Members, no_members, member, get, as_str, as_integer, as_table}
 use Rattle.clear_money.specs.Rates.{Rate}
@@ -9,20 +10,22 @@ use Rattle.clear_money.specs.declared.rate_file.WrittenRow.{WrittenRow}
 -- a row as it is written: a text and five whole numbers
 pub record Written : Type 0 where
   pub from : List ℕ
-  pub contribution : ℤ
+  pub contribution_rate : ℤ
   pub report_day : ℤ
   pub due_day : ℤ
-  pub interest : ℤ
-  pub entitlement : ℤ
+  pub interest_rate : ℤ
+  pub entitlement_rate : ℤ
 
 infixl 10 ◌>>=◌
+-- what follows from the value, if there is one
 abbrev ◌>>=◌ : {A B : Type 0} → Option A → (A → Option B) → Option B
 o >>= f = option_and_then f o
 
--- the text, and the whole number, of a name
+-- the text of the member of a name
 abbrev pub text_of : List ℕ → Data → Option (List ℕ)
 text_of name row = option_and_then as_str (get name row)
 
+-- the whole number of the member of a name
 abbrev pub number_of : List ℕ → Data → Option ℤ
 number_of name row = option_and_then as_integer (get name row)
 
@@ -33,7 +36,9 @@ has_only names (member name d ms) = list_any (bytes_eq name) names && has_only n
 
 -- the six members of a row
 abbrev pub row_names : List (List ℕ)
-row_names = codes "from" ∷ codes "contribution" ∷ codes "report_day" ∷ codes "due_day" ∷ codes "interest" ∷ codes "entitlement" ∷ []
+row_names =
+    codes "from" ∷ codes "contribution" ∷ codes "report_day" ∷ codes "due_day" ∷ codes "interest"
+    ∷ codes "entitlement" ∷ []
 
 -- the members, if each has one of these names
 abbrev pub members_only : List (List ℕ) → Members → Option Members
@@ -45,12 +50,19 @@ written_row row = do
   members ← as_table row
   _ ← members_only row_names members
   from ← text_of (codes "from") row
-  contribution ← number_of (codes "contribution") row
+  contribution_rate ← number_of (codes "contribution") row
   report_day ← number_of (codes "report_day") row
   due_day ← number_of (codes "due_day") row
-  interest ← number_of (codes "interest") row
-  entitlement ← number_of (codes "entitlement") row
-  Some (record { from = from; contribution = contribution; report_day = report_day; due_day = due_day; interest = interest; entitlement = entitlement })
+  interest_rate ← number_of (codes "interest") row
+  entitlement_rate ← number_of (codes "entitlement") row
+  Some (record {
+    from = from;
+    contribution_rate = contribution_rate;
+    report_day = report_day;
+    due_day = due_day;
+    interest_rate = interest_rate;
+    entitlement_rate = entitlement_rate;
+  })
 
 -- the month from 2000-01 to 2199-12 that a text spells
 unfoldable pub month_spelled : List ℕ → Option ℕ
@@ -65,13 +77,27 @@ within low high (negsuc n) = None
 unfoldable pub rate_meant : Written → Option Rate
 rate_meant w = do
   first ← month_spelled w.from
-  contribution ← within 0 10000 w.contribution
+  contribution_rate ← within 0 10000 w.contribution_rate
   report_day ← within 1 28 w.report_day
   due_day ← within 1 28 w.due_day
-  interest ← within 0 1000 w.interest
-  entitlement ← within 0 10000 w.entitlement
-  Some (record { first = first; contribution = contribution; report_day = report_day; due_day = due_day; interest = interest; entitlement = entitlement })
+  interest_rate ← within 0 1000 w.interest_rate
+  entitlement_rate ← within 0 10000 w.entitlement_rate
+  Some (record {
+    first = first;
+    contribution_rate = contribution_rate;
+    report_day = report_day;
+    due_day = due_day;
+    interest_rate = interest_rate;
+    entitlement_rate = entitlement_rate;
+  })
 
 -- what a row that the code has read says
 abbrev pub row_view : WrittenRow → Written
-row_view w = record { from = w.from.now; contribution = w.contribution; report_day = w.report_day; due_day = w.due_day; interest = w.interest; entitlement = w.entitlement }
+row_view w = record {
+  from = w.from.now;
+  contribution_rate = w.contribution_rate;
+  report_day = w.report_day;
+  due_day = w.due_day;
+  interest_rate = w.interest_rate;
+  entitlement_rate = w.entitlement_rate;
+}

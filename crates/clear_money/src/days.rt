@@ -1,5 +1,6 @@
 //! Days from 2000-01-01 to 2200-12-31, over the calendar of `jiff`.
-ghost use Rattle.std.specs.Prelude.{◌≡◌, ◌≢◌, ℕ, ◌≤◌, ◌<◌, ◌+◌, ◌*◌, ◌-◌, ◌/◌, ◌%◌, ◌↔◌, pos, IsSome, IfSome, IfNone};
+ghost use Rattle.std.specs.Prelude.{◌≡◌, ◌≢◌, ℕ, ◌≤◌, ◌<◌, ◌+◌, ◌*◌, ◌-◌, ◌/◌, ◌%◌, ◌↔◌, pos};
+ghost use Rattle.std.specs.Prelude.{IsSome, IfSome, IfNone};
 ghost use Rattle.jiff_core.specs.Calendar.{IsCivilDate};
 ghost use Rattle.clear_money.specs.Calendar.{IsDay, day_in, month_of, day_of_month, begun_months};
 ghost use Rattle.clear_money.specs.Rates.{due_day_of, report_day_of, IsDayOfEachMonth};
@@ -42,14 +43,13 @@ struct WrittenDate {
 }
 
 impl Day {
-    /// Reads exactly `YYYY-MM-DD`. None for any other text, for a date that the calendar lacks, and outside the range.
+    /// Reads exactly `YYYY-MM-DD`. None for any other text, for a date that the calendar lacks,
+    /// and outside the range.
     pub fn read(bytes: &[u8]) -> Option<Day>
         ensures found { IfSome result (λ t. IsDay t × (bytes.now ≡ day_text t)) }
         ensures only { IfNone result ((t : ℕ) → IsDay t → bytes.now ≢ day_text t) }
     {
-        let Some(date) = read_date(bytes) else {
-            return None;
-        };
+        let date = read_date(bytes)?;
         day_on(date.year, date.month, date.day)
     }
 
@@ -119,8 +119,9 @@ pub fn report_day(month: Month, row: &RateRow) -> Day
     day_at(month.number() + 1, row.report_day())
 }
 
-/// How many months a contribution that is due on a day of month of at most 28 is late on a day, each begun one
-/// counted: how many of the days due, due plus 1 month, due plus 2 months, .. lie strictly before it.
+/// How many months a contribution that is due on a day of month of at most 28 is late on a day,
+/// each begun one counted: how many of the days due, due plus 1 month, due plus 2 months, .. lie
+/// strictly before it.
 pub fn begun_months(due: Day, day: Day) -> u16
     requires { day_of_month due ≤ 28 }
     ensures value { result ≡ begun_months due day }
@@ -140,8 +141,11 @@ pub fn begun_months(due: Day, day: Day) -> u16
 
 // The numbers of a text `YYYY-MM-DD`.
 fn read_date(bytes: &[u8]) -> Option<WrittenDate>
-    ensures found { IfSome result (λ date. (bytes.now ≡ date_text date.year date.month date.day) × (date.year < 10_000) × (date.month < 100) × (date.day < 100)) }
-    ensures only { IfNone result ((y m d : ℕ) → y < 10_000 → m < 100 → d < 100 → bytes.now ≢ date_text y m d) }
+    ensures found { IfSome result (λ date.
+        (bytes.now ≡ date_text date.year date.month date.day)
+        × (date.year < 10_000) × (date.month < 100) × (date.day < 100)) }
+    ensures only { IfNone result ((y m d : ℕ) →
+        y < 10_000 → m < 100 → d < 100 → bytes.now ≢ date_text y m d) }
 {
     let [a, b, c, d, dash, e, f, dash2, g, h] = bytes else {
         return None;
@@ -149,15 +153,9 @@ fn read_date(bytes: &[u8]) -> Option<WrittenDate>
     if *dash != b'-' || *dash2 != b'-' {
         return None;
     }
-    let Some(year) = read_four(*a, *b, *c, *d) else {
-        return None;
-    };
-    let Some(month) = read_two(*e, *f) else {
-        return None;
-    };
-    let Some(day) = read_two(*g, *h) else {
-        return None;
-    };
+    let year = read_four(*a, *b, *c, *d)?;
+    let month = read_two(*e, *f)?;
+    let day = read_two(*g, *h)?;
     Some(WrittenDate { year, month, day })
 }
 
@@ -183,8 +181,11 @@ fn day_at(month: u16, day: u8) -> Day
 fn day_on(year: u16, month: u16, day: u16) -> Option<Day>
     requires month { month < 100 }
     requires day { day < 100 }
-    ensures some { IsSome result ↔ ((2000 ≤ year) × (year ≤ 2200) × IsCivilDate (pos year) month day) }
-    ensures value { IfSome result (λ t. (t ≡ day_in (12 * year + (month - 1)) day) × (2000 ≤ year) × (year ≤ 2200) × IsCivilDate (pos year) month day) }
+    ensures some { IsSome result
+        ↔ ((2000 ≤ year) × (year ≤ 2200) × IsCivilDate (pos year) month day) }
+    ensures value { IfSome result (λ t.
+        (t ≡ day_in (12 * year + (month - 1)) day)
+        × (2000 ≤ year) × (year ≤ 2200) × IsCivilDate (pos year) month day) }
 {
     if year < 2000 || year > 2200 {
         return None;

@@ -1,5 +1,6 @@
 //! Months from 2000-01 to 2199-12.
-ghost use Rattle.std.specs.Prelude.{◌≡◌, ◌≢◌, ℕ, ◌≤◌, ◌<◌, ◌+◌, ◌*◌, ◌/◌, ◌%◌, ◌↔◌, ◌∷◌, [], IsSome, IfSome, IfNone};
+ghost use Rattle.std.specs.Prelude.{◌≡◌, ◌≢◌, ℕ, ◌≤◌, ◌<◌, ◌+◌, ◌*◌, ◌/◌, ◌%◌, ◌↔◌, ◌∷◌, []};
+ghost use Rattle.std.specs.Prelude.{IsSome, IfSome, IfNone};
 ghost use Rattle.clear_money.specs.Calendar.{IsMonth};
 ghost use Rattle.clear_money.specs.Texts.{two_digits, four_digits, month_text};
 
@@ -30,7 +31,8 @@ impl Model for Month {
 impl Month {
     /// A month of a year, counted from 1. None outside 2000-01 to 2199-12.
     pub fn new(year: u16, month: u16) -> Option<Month>
-        ensures some { IsSome result ↔ ((2000 ≤ year) × (year ≤ 2199) × (1 ≤ month) × (month ≤ 12)) }
+        ensures some { IsSome result
+            ↔ ((2000 ≤ year) × (year ≤ 2199) × (1 ≤ month) × (month ≤ 12)) }
         ensures value { IfSome result (λ m. m + 1 ≡ 12 * year + month) }
     {
         if year < 2000 || year > 2199 || month < 1 || month > 12 {

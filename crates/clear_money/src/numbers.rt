@@ -1,11 +1,12 @@
-//! Numbers of employers and workers, amounts of money, and numbers as they are written.
-ghost use Rattle.std.specs.Prelude.{◌≡◌, ℕ, ◌≤◌, ◌↔◌, ◌≢◌, ◌⊎◌, false, IsTrue, IsSome, IfSome, IfNone, length, slice_index};
+//! Numbers of firms and workers, amounts of money, and numbers as they are written.
+ghost use Rattle.std.specs.Prelude.{◌≡◌, ℕ, ◌≤◌, ◌↔◌, ◌≢◌, ◌⊎◌, false, IsTrue, IsSome, IfSome};
+ghost use Rattle.std.specs.Prelude.{IfNone, length, slice_index};
 ghost use Rattle.clear_money.specs.Numbers.{IsEmployerNo, IsWorkerNo, IsAmount, IsNumberText};
 
 use std::marker::Model;
 use std::str;
 
-/// The number of an employer, 1 to 99,999,999.
+/// The number of a firm, 1 to 99,999,999.
 #[derive(Clone, Copy, Debug, PartialEq, Eq, PartialOrd, Ord)]
 pub struct EmployerNo {
     number: u32,
@@ -26,7 +27,7 @@ impl Model for EmployerNo {
 }
 
 impl EmployerNo {
-    /// The greatest number of an employer.
+    /// The greatest number of a firm.
     pub const MAX: u64 = 99_999_999;
 
     /// None outside 1 to 99,999,999.
@@ -141,7 +142,8 @@ impl Amount {
     }
 }
 
-/// Reads a number in decimal digits without leading zeros; `0` itself is read. None for any other text, and past `u64`.
+/// Reads a number in decimal digits without leading zeros; `0` itself is read. None for any other
+/// text, and past `u64`.
 pub fn read_number(bytes: &[u8]) -> Option<u64>
     ensures found { IfSome result (λ n. IsNumberText bytes.now n) }
     ensures only { IfNone result ((n : ℕ) → ¬ (IsNumberText bytes.now n)) }
@@ -162,7 +164,9 @@ pub fn read_number(bytes: &[u8]) -> Option<u64>
 fn starts_plainly(bytes: &[u8]) -> bool
     ensures plus { IsTrue result → slice_index bytes.now 0 ≢ 43 }
     ensures zero { IsTrue result → slice_index bytes.now 0 ≡ 48 → length bytes.now ≡ 1 }
-    ensures only { result ≡ false → (slice_index bytes.now 0 ≡ 43) ⊎ ((slice_index bytes.now 0 ≡ 48) × (2 ≤ length bytes.now)) }
+    ensures only { result ≡ false
+        → (slice_index bytes.now 0 ≡ 43)
+        ⊎ ((slice_index bytes.now 0 ≡ 48) × (2 ≤ length bytes.now)) }
 {
     match bytes {
         [b'+', ..] => false,

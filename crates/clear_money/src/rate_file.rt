@@ -1,13 +1,17 @@
 //! Rate files: TOML texts with an array of tables `rate`, a table for each row.
 //!
-//! A text reads as rows just if it says them, and otherwise its first fault is told. `Memory` may be answered at any
-//! time and says nothing of the text, so a body that answers nothing else meets these contracts too: the tests read.
-ghost use Rattle.std.specs.Prelude.{◌≡◌, ◌≢◌, ◌<◌, ◌++◌, ◌∷◌, [], map, Ok, Err, Some, IfOk, IfErr, OnOk, option_map, bytes_eq};
+//! A text reads as rows just if it says them, and otherwise its first fault is told. `Memory` may
+//! be answered at any time and says nothing of the text, so a body that answers nothing else meets
+//! these contracts too: the tests read.
+ghost use Rattle.std.specs.Prelude.{◌≡◌, ◌≢◌, ◌++◌, ◌∷◌, [], map, Ok, Err, Some, IfOk, IfErr};
+ghost use Rattle.std.specs.Prelude.{OnOk, option_map, bytes_eq};
 ghost use Rattle.std.specs.List.{list_any};
 ghost use Rattle.toml.specs.View.{view, items_view, table_view};
 ghost use Rattle.clear_money.specs.Rates.{Rate, last_first};
-ghost use Rattle.clear_money.specs.RateFile.{row_alone, row_after, rows_in, rates_in, document_of, rates_of, WrittenRatesAreRead};
-ghost use Rattle.clear_money.specs.WrittenRate.{has_only, text_of, number_of, written_row, rate_meant, row_view};
+ghost use Rattle.clear_money.specs.RateFile.{row_alone, row_after, rows_in, rates_in, document_of};
+ghost use Rattle.clear_money.specs.RateFile.{rates_of, WrittenRatesAreRead};
+ghost use Rattle.clear_money.specs.WrittenRate.{has_only, text_of, number_of, written_row};
+ghost use Rattle.clear_money.specs.WrittenRate.{rate_meant, row_view};
 
 use crate::months::Month;
 use crate::rates::{PushFault, RateRow, RateTable};
@@ -19,8 +23,9 @@ use toml::{Table, Value};
 pub enum RateFault {
     /// The bytes are not UTF-8, or no TOML; also where a whole number is outside `i64`.
     Text,
-    /// The row is no table of exactly the members `from` (a text), `contribution`, `report_day`, `due_day`, `interest`
-    /// and `entitlement` (whole numbers). At row 0 a member other than `rate`, or a `rate` that is no array.
+    /// The row is no table of exactly the members `from` (a text), `contribution`, `report_day`,
+    /// `due_day`, `interest` and `entitlement` (whole numbers). At row 0 a member other than
+    /// `rate`, or a `rate` that is no array.
     Field(usize),
     /// `from` is no month, or a number is outside the range that a rate row allows.
     Range(usize),
@@ -45,19 +50,20 @@ const ROW_NAMES: [&str; 6] = [
 #[derive(Drop)]
 struct WrittenRow<'a> {
     from: &'a str,
-    contribution: i64,
+    contribution_rate: i64,
     report_day: i64,
     due_day: i64,
-    interest: i64,
-    entitlement: i64,
+    interest_rate: i64,
+    entitlement_rate: i64,
 }
 
-/// Reads a rate file. The first fault, in this order: Text; Field(0); Empty; and then the fault of the first faulty
-/// row, where Field comes before Range, and Range before Order.
+/// Reads a rate file. The first fault, in this order: Text; Field(0); Empty; and then the fault of
+/// the first faulty row, where Field comes before Range, and Range before Order.
 #[tactic(auto, unfolding(crate::specs::RateFile::rates_of))]
 pub fn read_rates(alloc: Global, bytes: &[u8]) -> Result<RateTable, RateFault>
     ensures ok { IfOk result (λ table. rates_of bytes.now ≡ Ok table) }
-    ensures fault { IfErr result (λ fault. fault ≢ RateFault.Memory → rates_of bytes.now ≡ Err fault) }
+    ensures fault { IfErr result (λ fault.
+        fault ≢ RateFault.Memory → rates_of bytes.now ≡ Err fault) }
 {
     let document = read_document(alloc, bytes)?;
     let rows = rate_rows(&document)?;
@@ -66,7 +72,8 @@ pub fn read_rates(alloc: Global, bytes: &[u8]) -> Result<RateTable, RateFault>
 
 fn read_document(alloc: Global, bytes: &[u8]) -> Result<Table, RateFault>
     ensures ok { IfOk result (λ table. document_of bytes.now ≡ Some (table_view table)) }
-    ensures fault { IfErr result (λ fault. fault ≢ RateFault.Memory → (fault ≡ RateFault.Text) × (document_of bytes.now ≡ None)) }
+    ensures fault { IfErr result (λ fault.
+        fault ≢ RateFault.Memory → (fault ≡ RateFault.Text) × (document_of bytes.now ≡ None)) }
 {
     match toml::table_from_slice(alloc, bytes) {
         Ok(table) => Ok(table),
@@ -96,7 +103,8 @@ fn is_one_of(name: &str, names: &[&str]) -> bool
 // The rows of a document, which may still be none.
 #[tactic(auto, unfolding(crate::specs::RateFile::rates_in))]
 fn rate_rows(document: &Table) -> Result<&[Value], RateFault>
-    ensures ok { IfOk result (λ rows. rates_in (table_view document.now) ≡ rows_in (items_view rows.now)) }
+    ensures ok { IfOk result (λ rows.
+        rates_in (table_view document.now) ≡ rows_in (items_view rows.now)) }
     ensures fault { IfErr result (λ fault. rates_in (table_view document.now) ≡ Err fault) }
 {
     if !has_only(document, &["rate"]) {
@@ -113,7 +121,8 @@ fn rate_rows(document: &Table) -> Result<&[Value], RateFault>
 
 fn read_rows(alloc: Global, rows: &[Value]) -> Result<RateTable, RateFault>
     ensures ok { IfOk result (λ table. rows_in (items_view rows.now) ≡ Ok table) }
-    ensures fault { IfErr result (λ fault. fault ≢ RateFault.Memory → rows_in (items_view rows.now) ≡ Err fault) }
+    ensures fault { IfErr result (λ fault.
+        fault ≢ RateFault.Memory → rows_in (items_view rows.now) ≡ Err fault) }
 {
     let [first, rest @ ..] = rows else {
         return Err(RateFault::Empty);
@@ -130,8 +139,12 @@ fn read_rows(alloc: Global, rows: &[Value]) -> Result<RateTable, RateFault>
 // Adds the row of this number behind those before it.
 #[tactic(auto, unfolding(crate::specs::RateFile::row_after))]
 fn add_row(table: &mut RateTable, number: usize, value: &Value) -> Result<(), RateFault>
-    ensures ok { OnOk result ((row : Rate) × (row_after (last_first table.old) number (view value.now) ≡ Ok row) × (table.new ≡ table.old ++ row ∷ [])) }
-    ensures fault { IfErr result (λ fault. fault ≢ RateFault.Memory → row_after (last_first table.old) number (view value.now) ≡ Err fault) }
+    ensures ok { OnOk result ((row : Rate)
+        × (row_after (last_first table.old) number (view value.now) ≡ Ok row)
+        × (table.new ≡ table.old ++ row ∷ [])) }
+    ensures fault { IfErr result (λ fault.
+        fault ≢ RateFault.Memory
+        → row_after (last_first table.old) number (view value.now) ≡ Err fault) }
 {
     let row = read_row(number, value)?;
     match table.push(row) {
@@ -165,11 +178,11 @@ fn written_row(value: &Value) -> Option<WrittenRow<'_>>
     }
     Some(WrittenRow {
         from: text_of("from", value)?,
-        contribution: number_of("contribution", value)?,
+        contribution_rate: number_of("contribution", value)?,
         report_day: number_of("report_day", value)?,
         due_day: number_of("due_day", value)?,
-        interest: number_of("interest", value)?,
-        entitlement: number_of("entitlement", value)?,
+        interest_rate: number_of("interest", value)?,
+        entitlement_rate: number_of("entitlement", value)?,
     })
 }
 
@@ -191,15 +204,16 @@ fn rate_meant(row: &WrittenRow) -> Option<RateRow>
 {
     RateRow::new(
         Month::read(row.from.as_bytes())?,
-        u16::try_from(row.contribution).ok()?,
+        u16::try_from(row.contribution_rate).ok()?,
         u8::try_from(row.report_day).ok()?,
         u8::try_from(row.due_day).ok()?,
-        u16::try_from(row.interest).ok()?,
-        u16::try_from(row.entitlement).ok()?,
+        u16::try_from(row.interest_rate).ok()?,
+        u16::try_from(row.entitlement_rate).ok()?,
     )
 }
 
-/// A law of the definitions, without effect: rates whose first months rise are read from the document that writes them.
+/// A law of the definitions, without effect: rates whose first months rise are read from the
+/// document that writes them.
 pub fn law_written_rates()
     ensures { WrittenRatesAreRead }
 {}

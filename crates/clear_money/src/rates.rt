@@ -1,6 +1,9 @@
 //! Rate rows, the table of them, and the contribution at a rate.
-ghost use Rattle.std.specs.Prelude.{◌≡◌, ℕ, ◌≤◌, ◌<◌, ◌+◌, ◌*◌, ◌/◌, ◌++◌, ◌∷◌, [], List, IsSome, IfSome, IfOk, OnOk, OnErr, IfErr, ◌↔◌, length, Err, option_copied};
-ghost use Rattle.clear_money.specs.Rates.{Rate, IsRate, IsDayOfEachMonth, contribution_of, rate_in_force, IsRising, last_first};
+ghost use Rattle.std.specs.Prelude.{◌≡◌, ◌≤◌, ◌<◌, ◌++◌, ◌∷◌, [], IsSome, IfSome, IfOk, OnOk};
+ghost use Rattle.std.specs.Prelude.{OnErr, ◌↔◌, length, Err, option_copied};
+ghost use Rattle.clear_money.specs.Limits.{most_base};
+ghost use Rattle.clear_money.specs.Rates.{IsRate, IsDayOfEachMonth, contribution_of};
+ghost use Rattle.clear_money.specs.Rates.{rate_in_force, IsRising, last_first};
 
 use crate::months::Month;
 use std::alloc::{AllocError, Global};
@@ -10,11 +13,11 @@ use std::marker::Model;
 #[derive(Clone, Copy, Debug, PartialEq, Eq)]
 pub struct RateRow {
     first: Month,
-    contribution: u16,
+    contribution_rate: u16,
     report_day: u8,
     due_day: u8,
-    interest: u16,
-    entitlement: u16,
+    interest_rate: u16,
+    entitlement_rate: u16,
 }
 
 impl Model for RateRow {
@@ -22,42 +25,78 @@ impl Model for RateRow {
 
     ghost Value = { Rate };
 
-    ghost view = { λ a. record { first = a.first; contribution = a.contribution; report_day = a.report_day; due_day = a.due_day; interest = a.interest; entitlement = a.entitlement } };
+    ghost view = { λ a. record {
+      first = a.first;
+      contribution_rate = a.contribution_rate;
+      report_day = a.report_day;
+      due_day = a.due_day;
+      interest_rate = a.interest_rate;
+      entitlement_rate = a.entitlement_rate;
+    } };
 
-    ghost invariant = { λ a. IsRate (record { first = a.first; contribution = a.contribution; report_day = a.report_day; due_day = a.due_day; interest = a.interest; entitlement = a.entitlement }) };
+    ghost invariant = { λ a. IsRate (record {
+      first = a.first;
+      contribution_rate = a.contribution_rate;
+      report_day = a.report_day;
+      due_day = a.due_day;
+      interest_rate = a.interest_rate;
+      entitlement_rate = a.entitlement_rate;
+    }) };
 
-    ghost inverse = { λ r. record { first = r.first; contribution = r.contribution; report_day = r.report_day; due_day = r.due_day; interest = r.interest; entitlement = r.entitlement } };
+    ghost inverse = { λ r. record {
+      first = r.first;
+      contribution_rate = r.contribution_rate;
+      report_day = r.report_day;
+      due_day = r.due_day;
+      interest_rate = r.interest_rate;
+      entitlement_rate = r.entitlement_rate;
+    } };
 }
 
 impl RateRow {
-    /// The rates from `first` on. `contribution` is 0 to 10,000, `interest` for each begun month 0 to 1,000 and
-    /// `entitlement` 0 to 10,000 hundredths of a percent; `report_day` and `due_day` are days 1 to 28 of the following
-    /// month. None outside these ranges.
+    /// The rates from `first` on. In hundredths of a percent, `contribution_rate` is 0 to 10,000,
+    /// `interest_rate` for each begun month 0 to 1,000, and `entitlement_rate` 0 to 10,000;
+    /// `report_day` and `due_day` are days 1 to 28 of the following month. None outside these
+    /// ranges.
     pub fn new(
         first: Month,
-        contribution: u16,
+        contribution_rate: u16,
         report_day: u8,
         due_day: u8,
-        interest: u16,
-        entitlement: u16,
+        interest_rate: u16,
+        entitlement_rate: u16,
     ) -> Option<RateRow>
-        ensures some { IsSome result ↔ IsRate (record { first = first; contribution = contribution; report_day = report_day; due_day = due_day; interest = interest; entitlement = entitlement }) }
-        ensures value { IfSome result (λ r. r ≡ record { first = first; contribution = contribution; report_day = report_day; due_day = due_day; interest = interest; entitlement = entitlement }) }
+        ensures some { IsSome result ↔ IsRate (record {
+          first = first;
+          contribution_rate = contribution_rate;
+          report_day = report_day;
+          due_day = due_day;
+          interest_rate = interest_rate;
+          entitlement_rate = entitlement_rate;
+        }) }
+        ensures value { IfSome result (λ r. r ≡ record {
+          first = first;
+          contribution_rate = contribution_rate;
+          report_day = report_day;
+          due_day = due_day;
+          interest_rate = interest_rate;
+          entitlement_rate = entitlement_rate;
+        }) }
     {
         let _number = first.number();
-        if contribution > 10_000 || report_day < 1 || report_day > 28 {
+        if contribution_rate > 10_000 || report_day < 1 || report_day > 28 {
             return None;
         }
-        if due_day < 1 || due_day > 28 || interest > 1_000 || entitlement > 10_000 {
+        if due_day < 1 || due_day > 28 || interest_rate > 1_000 || entitlement_rate > 10_000 {
             return None;
         }
         Some(RateRow {
             first,
-            contribution,
+            contribution_rate,
             report_day,
             due_day,
-            interest,
-            entitlement,
+            interest_rate,
+            entitlement_rate,
         })
     }
 
@@ -69,11 +108,11 @@ impl RateRow {
     }
 
     /// The contribution rate in hundredths of a percent.
-    pub fn contribution(&self) -> u16
-        ensures value { result ≡ self.now.contribution }
+    pub fn contribution_rate(&self) -> u16
+        ensures value { result ≡ self.now.contribution_rate }
         ensures range { result ≤ 10_000 }
     {
-        self.contribution
+        self.contribution_rate
     }
 
     /// The day of the following month by which a report is to be in.
@@ -93,25 +132,26 @@ impl RateRow {
     }
 
     /// The interest rate for each begun month in hundredths of a percent.
-    pub fn interest(&self) -> u16
-        ensures value { result ≡ self.now.interest }
+    pub fn interest_rate(&self) -> u16
+        ensures value { result ≡ self.now.interest_rate }
         ensures range { result ≤ 1_000 }
     {
-        self.interest
+        self.interest_rate
     }
 
     /// The entitlement rate in hundredths of a percent.
-    pub fn entitlement(&self) -> u16
-        ensures value { result ≡ self.now.entitlement }
+    pub fn entitlement_rate(&self) -> u16
+        ensures value { result ≡ self.now.entitlement_rate }
         ensures range { result ≤ 10_000 }
     {
-        self.entitlement
+        self.entitlement_rate
     }
 }
 
-/// The contribution for a base of at most 5,000,000,000 cents, at a rate in hundredths of a percent, in cents.
+/// The contribution for a base of at most 5,000,000,000 cents, at a rate in hundredths of a
+/// percent, in cents.
 pub fn contribution(base: u64, rate: u16) -> u64
-    requires base { base ≤ 5_000_000_000 }
+    requires base { base ≤ most_base }
     requires rate { rate ≤ 10_000 }
     ensures { result ≡ contribution_of base rate }
 {

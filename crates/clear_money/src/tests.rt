@@ -89,7 +89,8 @@ fn days(rt: HostRuntime) -> Result<(), Fail> {
 #[test]
 fn days_of_the_following_month(rt: HostRuntime) -> Result<(), Fail> {
     let row = first_row()?;
-    // The month, the day on which its contribution is due, and the day by which its report is to be in.
+    // The month, the day on which its contribution is due, and the day by which its report is to
+    // be in.
     let cases = [
         ("2024-12", "2025-01-20", "2025-01-15"),
         ("2024-01", "2024-02-20", "2024-02-15"),
@@ -186,11 +187,11 @@ fn rate_rows(rt: HostRuntime) -> Result<(), Fail> {
         let first = month("2024-01")?;
         let row = RateRow::new(first, rate, report, due, interest, entitlement).ok_or("no row")?;
         assert_eq!(rt; row.first(), first);
-        assert_eq!(rt; row.contribution(), rate);
+        assert_eq!(rt; row.contribution_rate(), rate);
         assert_eq!(rt; row.report_day(), report);
         assert_eq!(rt; row.due_day(), due);
-        assert_eq!(rt; row.interest(), interest);
-        assert_eq!(rt; row.entitlement(), entitlement);
+        assert_eq!(rt; row.interest_rate(), interest);
+        assert_eq!(rt; row.entitlement_rate(), entitlement);
     }
     let no_rows = [
         (10_001, 15, 20, 100, 1425),

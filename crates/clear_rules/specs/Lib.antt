@@ -1,14 +1,3 @@
-pub mod Accounts
-pub mod Book
+pub mod Counts
 pub mod Decisions
-pub mod Judge
-pub mod Keyed
-pub mod Laws
-pub mod Lines
-pub mod Machine
-pub mod Offices
-pub mod Ranges
-pub mod RequestNos
-pub mod Rules
-pub mod Tables
-pub mod Texts
+pub mod Views

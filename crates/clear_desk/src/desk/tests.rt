@@ -2,10 +2,11 @@
 
 use super::serve;
 use crate::samples::sample_desk;
-use clear_http::counted::Counted;
+use clear_http::serve::Fault;
+use clear_wire::counted::Counted;
 use std::alloc::{AllocError, Global};
 use std::io;
-use std::io::Read;
+use std::io::{Read, Write};
 use std::test::Fail;
 
 const REGISTER: &str = "POST /employers HTTP/1.1\r\nHost: office\r\nOffice-Key: desk\r\n\
@@ -18,12 +19,6 @@ const REPORT: &str = "POST /employers/1001/reports/2024-01 HTTP/1.1\r\nHost: off
 
 const ASK_OWED: &str =
     "GET /employers/1001/owed HTTP/1.1\r\nHost: office\r\nOffice-Key: k1001\r\n\r\n";
-
-const ASK_BY_ANOTHER: &str =
-    "GET /employers/1001/owed HTTP/1.1\r\nHost: office\r\nOffice-Key: k1002\r\n\r\n";
-
-const ASK_BY_NOBODY: &str =
-    "GET /employers/1001/owed HTTP/1.1\r\nHost: office\r\nOffice-Key: k100\r\n\r\n";
 
 const FIRST_RUN: [&str; 3] = [REGISTER, REPORT, ASK_OWED];
 
@@ -38,26 +33,6 @@ const OWED: &str = "HTTP/1.1 200 OK\r\nContent-Type: application/json\r\n\
     {\"arrears\":200000,\"charged\":200000,\"credited\":0,\"prepaid\":0}";
 
 const FIRST_ANSWERS: [&str; 3] = [DONE, REPORTED, OWED];
-
-const NOT_YOURS: &str = "HTTP/1.1 403 Forbidden\r\nContent-Type: application/json\r\n\
-    Content-Length: 40\r\n\r\n{\"detail\":\"\",\"name\":\"NotYours\",\"rule\":7}";
-
-const UNKNOWN_KEY: &str = "HTTP/1.1 401 Unauthorized\r\nContent-Type: application/json\r\n\
-    Content-Length: 42\r\nWWW-Authenticate: Office-Key\r\n\r\n\
-    {\"detail\":\"\",\"name\":\"UnknownKey\",\"rule\":6}";
-
-const BAD_HEAD: &str = "HTTP/1.1 400 Bad Request\r\nContent-Type: application/json\r\n\
-    Content-Length: 39\r\nConnection: close\r\n\r\n\
-    {\"detail\":\"\",\"name\":\"BadHead\",\"rule\":1}";
-
-const BAD_BODY: &str = "HTTP/1.1 400 Bad Request\r\nContent-Type: application/json\r\n\
-    Content-Length: 43\r\n\r\n{\"detail\":\"body\",\"name\":\"BadBody\",\"rule\":8}";
-
-const OVER_LINES: &str = "HTTP/1.1 409 Conflict\r\nContent-Type: application/json\r\n\
-    Content-Length: 47\r\n\r\n{\"detail\":\"lines\",\"name\":\"OverLimit\",\"rule\":18}";
-
-const OVER_GROSS: &str = "HTTP/1.1 409 Conflict\r\nContent-Type: application/json\r\n\
-    Content-Length: 47\r\n\r\n{\"detail\":\"gross\",\"name\":\"OverLimit\",\"rule\":18}";
 
 // Bytes that come in pieces of at most so many.
 #[derive(Drop)]
@@ -108,36 +83,6 @@ fn joined(alloc: Global, texts: &[&str]) -> Result<Vec<u8>, AllocError> {
     Ok(all)
 }
 
-// Whether a new desk writes just these answers to these requests.
-fn is_answered(alloc: Global, requests: &[&str], answers: &[&str]) -> Result<bool, Fail> {
-    let bytes = joined(alloc, requests)?;
-    let wanted = joined(alloc, answers)?;
-    let text = written(alloc, bytes.as_slice())?;
-    Ok(text.as_slice() == wanted.as_slice())
-}
-
-#[test]
-fn answers_the_first_run(rt: HostRuntime) -> Result<(), Fail> {
-    assert!(rt; is_answered(rt.alloc(), &FIRST_RUN, &FIRST_ANSWERS)?);
-    assert!(rt; is_answered(rt.alloc(), &[], &[])?);
-    Ok(())
-}
-
-#[test]
-fn refuses_another_firm_and_nobody(rt: HostRuntime) -> Result<(), Fail> {
-    let requests = [
-        REGISTER,
-        REPORT,
-        ASK_OWED,
-        ASK_BY_ANOTHER,
-        ASK_BY_NOBODY,
-        ASK_OWED,
-    ];
-    let answers = [DONE, REPORTED, OWED, NOT_YOURS, UNKNOWN_KEY, OWED];
-    assert!(rt; is_answered(rt.alloc(), &requests, &answers)?);
-    Ok(())
-}
-
 #[test]
 fn answers_the_same_in_any_pieces(rt: HostRuntime) -> Result<(), Fail> {
     let alloc = rt.alloc();
@@ -164,174 +109,6 @@ fn answers_the_same_in_two_pieces(rt: HostRuntime) -> Result<(), Fail> {
     Ok(())
 }
 
-#[test]
-fn ends_at_an_unended_head(rt: HostRuntime) -> Result<(), Fail> {
-    let head = "GET /employers/1001/owed HTTP/1.1\r\nHost: off";
-    let requests = [REGISTER, REPORT, head];
-    assert!(rt; is_answered(rt.alloc(), &requests, &[DONE, REPORTED, BAD_HEAD])?);
-    Ok(())
-}
-
-// A post with a key, to a target, of a body.
-fn post(alloc: Global, key: &str, target: &str, body: &str) -> Result<String, AllocError> {
-    let length = body.len();
-    format!(in alloc;
-        "POST {target} HTTP/1.1\r\nHost: office\r\nOffice-Key: {key}\r\n\
-        Request-Number: 2\r\nContent-Length: {length}\r\n\r\n{body}"
-    )
-}
-
-// So many arrays, each in the one before it.
-fn nested(alloc: Global, depth: usize) -> Result<String, AllocError> {
-    let mut text = String::new(alloc);
-    for _ in 0..depth {
-        text.push_str("[")?;
-    }
-    for _ in 0..depth {
-        text.push_str("]")?;
-    }
-    Ok(text)
-}
-
-#[test]
-fn refuses_bad_bodies(rt: HostRuntime) -> Result<(), Fail> {
-    let alloc = rt.alloc();
-    let deep = nested(alloc, 200)?;
-    for body in [
-        "",
-        "[]",
-        "{\"employer\":1001,\"name\":\"Bau Nord\",\"start\":\"2024-01\"}{}",
-        "{\"employer\":1001,\"name\":\"Bau Nord\",\"start\":\"2024-01\",\"until\":\"2024-02\"}",
-        "{\"employer\":1001.0,\"name\":\"Bau Nord\",\"start\":\"2024-01\"}",
-        deep.as_str(),
-    ] {
-        let request = post(alloc, "desk", "/employers", body)?;
-        let requests = [request.as_str(), REGISTER, REPORT];
-        assert!(rt;
-            is_answered(alloc, &requests, &[BAD_BODY, DONE, REPORTED])?,
-            "at {body}"
-        );
-    }
-    Ok(())
-}
-
-// A report of so many workers, from worker 1 on, each with a gross amount.
-fn report_of(alloc: Global, workers: u64, gross: u64) -> Result<String, AllocError> {
-    let mut body = String::from_str(alloc, "{\"lines\":[")?;
-    for before in 0..workers {
-        if before > 0 {
-            body.push_str(",")?;
-        }
-        let worker = before + 1;
-        let line = format!(in alloc; "{{\"gross\":{gross},\"worker\":{worker}}}")?;
-        body.push_str(line.as_str())?;
-    }
-    body.push_str("]}")?;
-    post(
-        alloc,
-        "k1001",
-        "/employers/1001/reports/2024-02",
-        body.as_str(),
-    )
-}
-
-#[test]
-fn refuses_what_is_over_a_limit(rt: HostRuntime) -> Result<(), Fail> {
-    let alloc = rt.alloc();
-    let most_lines = "HTTP/1.1 200 OK\r\nContent-Type: application/json\r\n\
-        Content-Length: 28\r\n\r\n{\"charge\":10000,\"version\":1}";
-    let most_gross = "HTTP/1.1 200 OK\r\nContent-Type: application/json\r\n\
-        Content-Length: 30\r\n\r\n{\"charge\":2000000,\"version\":1}";
-    for (workers, gross, answer) in [
-        (500, 100, most_lines),
-        (501, 100, OVER_LINES),
-        (1, 10_000_000, most_gross),
-        (1, 10_000_001, OVER_GROSS),
-    ] {
-        let report = report_of(alloc, workers, gross)?;
-        let requests = [REGISTER, report.as_str(), REPORT];
-        assert!(rt;
-            is_answered(alloc, &requests, &[DONE, answer, REPORTED])?,
-            "{workers} lines of {gross}"
-        );
-    }
-    Ok(())
-}
-
-const HEADER: &str = "reference,value_date,employer,cents,purpose,note\n";
-
-const B1: &str = "B1,2024-02-25,1001,150000,C,\n";
-
-const OTHER_B1: &str = "B1,2024-02-25,1001,150001,C,\n";
-
-const B2: &str = "B2,2024-04-21,1001,200000,,January rest\n";
-
-const NO_CENTS: &str = "B5,2024-04-21,1001,0,,\n";
-
-const AHEAD: &str = "B6,2024-05-01,1001,100,,\n";
-
-const IMPORTED: &str = "HTTP/1.1 200 OK\r\nContent-Type: application/json\r\n\
-    Content-Length: 21\r\n\r\n{\"new\":2,\"repeats\":0}";
-
-const PAID: &str = "HTTP/1.1 200 OK\r\nContent-Type: application/json\r\n\
-    Content-Length: 65\r\n\r\n\
-    {\"arrears\":0,\"charged\":200000,\"credited\":350000,\"prepaid\":150000}";
-
-fn bank(alloc: Global, records: &[&str]) -> Result<String, AllocError> {
-    let mut file = String::from_str(alloc, HEADER)?;
-    for record in records {
-        file.push_str(record)?;
-    }
-    post(alloc, "desk", "/bank", file.as_str())
-}
-
-fn conflict(alloc: Global, body: &str) -> Result<String, AllocError> {
-    let length = body.len();
-    format!(in alloc;
-        "HTTP/1.1 409 Conflict\r\nContent-Type: application/json\r\n\
-        Content-Length: {length}\r\n\r\n{body}"
-    )
-}
-
-// A file that is refused leaves nothing: both lines are new after it.
-#[test]
-fn refuses_bank_files(rt: HostRuntime) -> Result<(), Fail> {
-    let alloc = rt.alloc();
-    let file = bank(alloc, &[B1, B2])?;
-    let cases: [(&[&str], &str); 4] = [
-        (
-            &[NO_CENTS],
-            "{\"detail\":\"2:4\",\"name\":\"BadCsv\",\"rule\":20}",
-        ),
-        (
-            &[B1, B2, NO_CENTS],
-            "{\"detail\":\"4:4\",\"name\":\"BadCsv\",\"rule\":20}",
-        ),
-        (
-            &[B1, OTHER_B1],
-            "{\"detail\":\"3\",\"name\":\"RefConflict\",\"rule\":21}",
-        ),
-        (
-            &[AHEAD, B1],
-            "{\"detail\":\"2\",\"name\":\"ValueAhead\",\"rule\":22}",
-        ),
-    ];
-    for (records, body) in cases {
-        let refused = bank(alloc, records)?;
-        let answer = conflict(alloc, body)?;
-        let requests = [REGISTER, REPORT, refused.as_str(), file.as_str(), ASK_OWED];
-        assert!(rt;
-            is_answered(
-                alloc,
-                &requests,
-                &[DONE, REPORTED, answer.as_str(), IMPORTED, PAID]
-            )?,
-            "{body}"
-        );
-    }
-    Ok(())
-}
-
 // So many copies of a text.
 fn copies(alloc: Global, text: &str, count: usize) -> Result<Vec<u8>, AllocError> {
     let mut all = Vec::new(alloc);
@@ -354,5 +131,130 @@ fn answers_the_most_requests(rt: HostRuntime) -> Result<(), Fail> {
     wanted.extend_from_slice(last.as_bytes())?;
     let text = written(alloc, bytes.as_slice())?;
     assert!(rt; text.as_slice() == wanted.as_slice());
+    Ok(())
+}
+
+// A reader that gives at most 64 bytes a call, and whose calls fail after so many.
+#[derive(Drop)]
+struct FailingReader<'a> {
+    rest: &'a [u8],
+    left: usize,
+}
+
+impl Read for FailingReader<'_> {
+    fn read(&mut self, buf: &mut [u8]) -> io::Result<usize> {
+        if self.left == 0 {
+            return Err(io::ErrorKind::Other.into());
+        }
+        self.left -= 1;
+        let most = buf.len().min(64);
+        self.rest.read(&mut buf[..most])
+    }
+}
+
+// A writer that takes at most 40 bytes a call, and whose calls fail after so many.
+#[derive(Drop)]
+struct FailingWriter {
+    taken: Vec<u8>,
+    left: usize,
+}
+
+impl Write for FailingWriter {
+    fn write(&mut self, buf: &[u8]) -> io::Result<usize> {
+        if self.left == 0 {
+            return Err(io::ErrorKind::Other.into());
+        }
+        self.left -= 1;
+        let most = buf.len().min(40);
+        self.taken.write(&buf[..most])
+    }
+
+    fn flush(&mut self) -> io::Result<()> {
+        Ok(())
+    }
+}
+
+// How many of these texts end at or before this place, laid end to end.
+fn whole_before(texts: &[&str], place: usize) -> u64 {
+    let mut end: usize = 0;
+    let mut count = 0;
+    for text in texts {
+        end = end.saturating_add(text.len());
+        if end > place {
+            return count;
+        }
+        count += 1;
+    }
+    count
+}
+
+// The three requests come in 6 reads, and a seventh finds their end. A request is answered before a
+// further read.
+#[test]
+fn tells_at_which_read_it_failed(rt: HostRuntime) -> Result<(), Fail> {
+    let alloc = rt.alloc();
+    let bytes = joined(alloc, &FIRST_RUN)?;
+    for reads in 0..7 {
+        let mut desk = sample_desk(alloc).ok_or("no desk")?;
+        let mut reader = Counted::new(FailingReader {
+            rest: bytes.as_slice(),
+            left: reads,
+        });
+        let mut writer = Counted::new(Vec::new(alloc));
+        let Err(stopped) = serve(&mut desk, &mut reader, &mut writer) else {
+            return Err("served".into());
+        };
+        assert!(rt; matches!(stopped.fault, Fault::Read));
+        assert!(rt; stopped.answered == whole_before(&FIRST_RUN, reads * 64));
+    }
+    Ok(())
+}
+
+// Each answer begins with a write of its own.
+#[test]
+fn tells_at_which_write_it_failed(rt: HostRuntime) -> Result<(), Fail> {
+    let alloc = rt.alloc();
+    let bytes = joined(alloc, &FIRST_RUN)?;
+    let answers = joined(alloc, &FIRST_ANSWERS)?;
+    // The answers have 84, 100 and 131 bytes: 3, 3 and 4 writes of at most 40.
+    let counts = [0, 0, 0, 1, 1, 1, 2, 2, 2, 2];
+    for (writes, answered) in counts.iter().enumerate() {
+        let mut desk = sample_desk(alloc).ok_or("no desk")?;
+        let mut reader = Counted::new(bytes.as_slice());
+        let mut writer = Counted::new(FailingWriter {
+            taken: Vec::new(alloc),
+            left: writes,
+        });
+        let Err(stopped) = serve(&mut desk, &mut reader, &mut writer) else {
+            return Err("served".into());
+        };
+        assert!(rt; matches!(stopped.fault, Fault::Write));
+        assert!(rt; stopped.answered == *answered);
+        let taken = writer.into_inner().taken;
+        assert!(rt; answers.as_slice().starts_with(taken.as_slice()));
+    }
+    Ok(())
+}
+
+// A body that comes a byte at a time uses up the reads.
+#[test]
+fn ends_after_the_most_reads(rt: HostRuntime) -> Result<(), Fail> {
+    let alloc = rt.alloc();
+    let head = "POST /bank HTTP/1.1\r\nHost: office\r\nOffice-Key: desk\r\n\
+        Request-Number: 1\r\nContent-Length: 1000000\r\n\r\n";
+    let mut bytes = Vec::from_slice(alloc, head.as_bytes())?;
+    bytes.resize(head.len() + 1_000_000, b'x')?;
+    let mut desk = sample_desk(alloc).ok_or("no desk")?;
+    let mut reader = Counted::new(Drip {
+        rest: bytes.as_slice(),
+        step: 1,
+    });
+    let mut writer = Counted::new(Vec::new(alloc));
+    let Err(stopped) = serve(&mut desk, &mut reader, &mut writer) else {
+        return Err("served".into());
+    };
+    assert!(rt; matches!(stopped.fault, Fault::Reads));
+    assert!(rt; stopped.answered == 0);
+    assert!(rt; writer.into_inner().is_empty());
     Ok(())
 }

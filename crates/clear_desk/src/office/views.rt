@@ -2,33 +2,37 @@
 ghost use Rattle.std.specs.Prelude.{◌≡◌, length, map, count_by, is_some, IfOk};
 ghost use Rattle.clear_bank.specs.declared.lines.Purpose.TheVariants.{Contribution, Interest};
 ghost use Rattle.clear_money.specs.Rates.{rate_in_force};
-ghost use Rattle.clear_rules.specs.Book.{Book, start_of};
-ghost use Rattle.clear_rules.specs.Decisions.{IsImportView};
-ghost use Rattle.clear_rules.specs.Lines.{is_credit_of, lines_of_rows, suspense_count};
-ghost use Rattle.clear_rules.specs.Tables.{Stands, member_at, version_at};
-ghost use Rattle.clear_desk.specs.Office.{firms_at};
+ghost use Rattle.clear_book.specs.Book.{Book, start_of};
+ghost use Rattle.clear_rules.specs.Views.ImportBank.{IsImportView};
+ghost use Rattle.clear_book.specs.Lines.{is_credit_of, lines_of_rows, suspense_count};
+ghost use Rattle.clear_book.specs.Tables.{Stands, member_at, version_at};
+ghost use Rattle.clear_desk.specs.Office.{employers_counted};
 
 use super::Office;
 use crate::rows::{find_employer, find_report};
 use clear_bank::lines::{BankLine, Purpose};
+use clear_book::calls::{Registration, WageReport};
+use clear_book::numbers::SerialCount;
+use clear_book::rows::{BankRow, CreditRow, EmployerRow};
 use clear_money::months::Month;
 use clear_money::numbers::EmployerNo;
-use clear_rules::calls::{Registration, WageReport};
-use clear_rules::decisions::{RegisterView, ReportView};
-use clear_rules::imports::{FirmCredits, ImportView, SerialCount};
-use clear_rules::rows::{BankRow, CreditRow, EmployerRow};
+use clear_rules::decide::import::{EmployerCredits, ImportView};
+use clear_rules::decide::register::RegisterView;
+use clear_rules::decide::report::ReportView;
 use std::alloc::{AllocError, Global};
 
 impl Office {
     // What a registration is judged by.
     pub(super) fn register_view(&self, registration: &Registration) -> RegisterView
-        ensures registered { result.registered ≡ is_some (member_at self.now.employers registration.now.employer) }
-        ensures employers { result.employers ≡ length self.now.employers }
-        ensures rate { result.has_rate ≡ is_some (rate_in_force self.now.rates registration.now.start) }
+        ensures registered { result.registered
+            ≡ is_some (member_at self.now.employers registration.now.employer) }
+        ensures employers { result.employer_count ≡ length self.now.employers }
+        ensures rate { result.has_rate
+            ≡ is_some (rate_in_force self.now.rates registration.now.start) }
     {
         RegisterView {
             registered: self.start_of(registration.employer).is_some(),
-            employers: self.employers.len() as u64,
+            employer_count: self.employers.len() as u64,
             has_rate: self.rates.in_force(registration.start).is_some(),
         }
     }
@@ -36,7 +40,8 @@ impl Office {
     // What a report is judged by.
     pub(super) fn report_view(&self, report: &WageReport) -> ReportView
         ensures start { result.start ≡ start_of (member_at self.now.employers report.now.employer) }
-        ensures version { result.version ≡ version_at self.now.reports report.now.employer report.now.month }
+        ensures version { result.version
+            ≡ version_at self.now.reports report.now.employer report.now.month }
         ensures row { result.row ≡ rate_in_force self.now.rates report.now.month }
     {
         ReportView {
@@ -72,7 +77,7 @@ impl Office {
         ensures serials { IfOk result (λ view. view.serials ≡ self.now.serial) }
     {
         let known = copy_lines(self.alloc, self.bank.as_slice())?;
-        let firms = count_firms(
+        let employers = count_employers(
             self.alloc,
             self.employers.as_slice(),
             self.credits.as_slice(),
@@ -82,7 +87,7 @@ impl Office {
         };
         Ok(ImportView {
             known,
-            firms,
+            employers,
             suspense: count_waiting(self.bank.as_slice()),
             serials,
         })
@@ -107,26 +112,27 @@ fn count_waiting(rows: &[BankRow]) -> u64
     rows.iter().filter(|row| row.employer.is_none()).count() as u64
 }
 
-// Each firm with its numbers of payments.
-fn count_firms(
+// Each employer with its numbers of credits.
+fn count_employers(
     alloc: Global,
     employers: &[EmployerRow],
     credits: &[CreditRow],
-) -> Result<Vec<FirmCredits>, AllocError>
-    ensures { IfOk result (λ firms. firms.items ≡ firms_at employers.now credits.now) }
+) -> Result<Vec<EmployerCredits>, AllocError>
+    ensures { IfOk result (λ counted.
+        counted.items ≡ employers_counted employers.now credits.now) }
 {
-    let mut firms = Vec::new(alloc);
+    let mut counted = Vec::new(alloc);
     for row in employers {
-        firms.push(FirmCredits {
+        counted.push(EmployerCredits {
             employer: row.employer,
-            contributions: count_credits(credits, row.employer, Purpose::Contribution),
-            interest: count_credits(credits, row.employer, Purpose::Interest),
+            contribution_count: count_credits(credits, row.employer, Purpose::Contribution),
+            interest_count: count_credits(credits, row.employer, Purpose::Interest),
         })?;
     }
-    Ok(firms)
+    Ok(counted)
 }
 
-// How many payments of a firm for a purpose there are.
+// How many credits of an employer for a purpose there are.
 fn count_credits(rows: &[CreditRow], employer: EmployerNo, purpose: Purpose) -> u64
     ensures { result ≡ count_by (is_credit_of employer purpose) rows.now }
 {

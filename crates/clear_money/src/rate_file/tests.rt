@@ -42,11 +42,11 @@ fn reads_the_sample(rt: HostRuntime) -> Result<(), Fail> {
 // Contribution, report day, due day, interest and entitlement.
 fn numbers(row: &RateRow) -> [u16; 5] {
     [
-        row.contribution(),
+        row.contribution_rate(),
         u16::from(row.report_day()),
         u16::from(row.due_day()),
-        row.interest(),
-        row.entitlement(),
+        row.interest_rate(),
+        row.entitlement_rate(),
     ]
 }
 

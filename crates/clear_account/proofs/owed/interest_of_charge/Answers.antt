@@ -33,5 +33,5 @@ returns-clause-value g c =
     sym c.in-Some-weight_of.is ∙ looked_up cs c.args.index c.in-Some.charge _ c.weight_of.result c.requires.account.months_rise c.requires.index charge c.weight_of.ensures.value in
     let weight : c.in-Some-weight_of.weight ≡ weight_on cs (g.K.Keeper.credits c.args.keeper.now) c.args.index c.args.day = cc in
     let rate : c.from.result ≡ interest_rate c.args.rates.now (charge_at cs c.args.index).month =
-    c.from.ensures ∙ c.interest.ensures.value ∙ ap (λ o. option_map_or (λ (r : Rate). r.interest) o 0) c.in-Some-in_force.ensures ∙ ap (λ (d : Charge). interest_rate c.args.rates.now d.month) (sym charge) in
+    c.from.ensures ∙ c.interest_rate.ensures.value ∙ ap (λ o. option_map_or (λ (r : Rate). r.interest_rate) o 0) c.in-Some-in_force.ensures ∙ ap (λ (d : Charge). interest_rate c.args.rates.now d.month) (sym charge) in
     (λ i. weight i * rate i / 10000)

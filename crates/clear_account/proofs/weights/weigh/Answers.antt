@@ -28,9 +28,9 @@ pub loop-credit-preserved : goal.loop-credit-preserved
 loop-credit-preserved c = record {
   begun = omega (arith, sum_by_more (λ (k : Credit). k.cents) c.args.credits.now c.loop-credit.credit-index c.credit-item.result c.loop-credit-test.true, ap (λ (k : Credit). k.cents) c.credit-item.is);
   weighed =
-      late_step c.loop-credit.weight c.add_charges-start.result (c.add_charges-start.result + c.index-charges-place.result.cents) c.index-charges-place.result.due c.loop-credit.credit_start c.cents.result c.weigh_part-weight.result c.loop-credit.credit-index _
+      late_step c.loop-credit.weight c.add_charges-start.result (c.add_charges-start.result + c.index-charges-place.result.cents) c.index-charges-place.result.due c.loop-credit.credit_start c.cents.result c.weigh_part-part.result c.loop-credit.credit-index _
       c.credit-item.result c.args.credits.now c.loop-credit-test.true c.credit-item.is c.cents.ensures.value
-      (c.weigh_part-weight.ensures ∙ ap (λ n. n * begun_months c.index-charges-place.result.due c.credit-item.result.day) c.common-share.ensures)
+      (c.weigh_part-part.ensures ∙ ap (λ n. n * begun_months c.index-charges-place.result.due c.credit-item.result.day) c.common-share.ensures)
       c.loop-credit.invariant.weighed;
 }
 

@@ -1,5 +1,5 @@
 use Rattle.std.proofs.Common.{◌≡◌, drop}
-use Rattle.clear_rules.specs.Tables.{with_wages}
+use Rattle.clear_book.specs.Tables.{with_wages}
 use Rattle.clear_desk.proofs.rows.add_wages.Given as goal
 
 abbrev pub invariant-loop-line : goal.invariant-loop-line

@@ -1,6 +1,6 @@
 use Rattle.std.proofs.Common.{◌≡◌, ◌∷◌, [], drop}
-use Rattle.clear_rules.specs.Keyed.{find_row}
-use Rattle.clear_rules.specs.Tables.{employer_key}
+use Rattle.clear_book.specs.Keyed.{find_row}
+use Rattle.clear_book.specs.Tables.{employer_key}
 use Rattle.clear_desk.proofs.rows.find_employer.Given as goal
 
 abbrev pub invariant-loop-row : goal.invariant-loop-row

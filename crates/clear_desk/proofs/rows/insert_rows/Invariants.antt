@@ -1,6 +1,6 @@
 use Rattle.std.proofs.Common.{◌≡◌, ◌+◌, ◌≤◌, length, vec_len, vec_capacity}
 use Rattle.std.specs.Vec.Iter.{into_iter_items}
-use Rattle.clear_rules.specs.Keyed.{with_rows}
+use Rattle.clear_book.specs.Keyed.{with_rows}
 use Rattle.clear_desk.proofs.rows.insert_rows.Given as goal
 
 abbrev pub invariant-loop-row : goal.invariant-loop-row

@@ -1,5 +1,5 @@
 use Rattle.std.proofs.Common.{◌≡◌, ◌++◌, take, drop}
-use Rattle.clear_rules.specs.Keyed.{with_row}
+use Rattle.clear_book.specs.Keyed.{with_row}
 use Rattle.clear_desk.proofs.rows.place_of.Given as goal
 
 abbrev pub invariant-loop-i : goal.invariant-loop-i

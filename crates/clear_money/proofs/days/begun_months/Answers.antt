@@ -1,4 +1,4 @@
-use Rattle.std.proofs.Common.{◌≡◌, ◌≤◌, ◌<◌, arith}
+use Rattle.std.proofs.Common.{◌≤◌, ◌<◌, arith}
 use Rattle.clear_money.specs.Calendar.{month_of, day_of_month}
 use Rattle.clear_money.proofs.BegunLemmas.{begun-none, begun-whole, begun-more}
 use Rattle.clear_money.proofs.days.begun_months.Goals as goal

@@ -1,4 +1,4 @@
-use Rattle.std.proofs.Common.{rules, ◌≡◌, ℕ, ◌+◌, ◌*◌, ◌-◌, ◌≤◌, ◌∙◌, ap, subst, arith, pos, ℤ, w32, to_z, of_z, unsigned_abs}
+use Rattle.std.proofs.Common.{◌≡◌, ℕ, ◌+◌, ◌*◌, ◌-◌, ◌≤◌, ◌∙◌, ap, subst, arith, pos, ℤ, w32, to_z, of_z, unsigned_abs}
 use Rattle.std.proofs.lemmas.Int.{ints}
 use Rattle.jiff_core.specs.Calendar.{days_from_civil, days_in_month, IsCivilDate}
 use Rattle.jiff.specs.Words.{epoch_day}

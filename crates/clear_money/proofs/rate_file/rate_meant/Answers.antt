@@ -10,7 +10,7 @@ returns-in_err-read c =
 pub returns-in_err-ok : goal.returns-in_err-ok
 returns-in_err-ok c =
     c.from_residual-in_err-ok.ensures
-    ∙ sym (rate_meant-none (row_view c.args.row.now) (λ r m. narrow-none 16 r.contribution _ c.try_from.result (search rules) c.try_from.ensures c.in_err-ok.ensures.value (omega arith) m.contribution))
+    ∙ sym (rate_meant-none (row_view c.args.row.now) (λ r m. narrow-none 16 r.contribution_rate _ c.try_from.result (search rules) c.try_from.ensures c.in_err-ok.ensures.value (omega arith) m.contribution_rate))
 
 pub returns-in_err-ok-2 : goal.returns-in_err-ok-2
 returns-in_err-ok-2 c =
@@ -25,12 +25,12 @@ returns-in_err-ok-3 c =
 pub returns-in_err-ok-4 : goal.returns-in_err-ok-4
 returns-in_err-ok-4 c =
     c.from_residual-in_err-ok-4.ensures
-    ∙ sym (rate_meant-none (row_view c.args.row.now) (λ r m. narrow-none 16 r.interest _ c.try_from-4.result (search rules) c.try_from-4.ensures c.in_err-ok-4.ensures.value (omega arith) m.interest))
+    ∙ sym (rate_meant-none (row_view c.args.row.now) (λ r m. narrow-none 16 r.interest_rate _ c.try_from-4.result (search rules) c.try_from-4.ensures c.in_err-ok-4.ensures.value (omega arith) m.interest_rate))
 
 pub returns-in_err-ok-5 : goal.returns-in_err-ok-5
 returns-in_err-ok-5 c =
     c.from_residual-in_err-ok-5.ensures
-    ∙ sym (rate_meant-none (row_view c.args.row.now) (λ r m. narrow-none 16 r.entitlement _ c.try_from-5.result (search rules) c.try_from-5.ensures c.in_err-ok-5.ensures.value (omega arith) m.entitlement))
+    ∙ sym (rate_meant-none (row_view c.args.row.now) (λ r m. narrow-none 16 r.entitlement_rate _ c.try_from-5.result (search rules) c.try_from-5.ensures c.in_err-ok-5.ensures.value (omega arith) m.entitlement_rate))
 
 pub returns : goal.returns
 returns c =

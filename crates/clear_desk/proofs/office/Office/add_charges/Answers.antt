@@ -1,8 +1,8 @@
 use Rattle.std.proofs.Common.{◌≡◌, ◌<◌, ◌+◌, List, length, get_or, drop, sym, ap, ◌∙◌, subst}
 use Rattle.clear_account.specs.Account.{Account, with_charge}
 use Rattle.clear_account.specs.declared.entries.Charge.{Charge}
-use Rattle.clear_rules.specs.declared.rows.ReportRow.{ReportRow}
-use Rattle.clear_rules.specs.Tables.{Tables}
+use Rattle.clear_book.specs.declared.rows.ReportRow.{ReportRow}
+use Rattle.clear_book.specs.Tables.{Tables}
 use Rattle.clear_desk.proofs.AccountLemmas.{charged_with, charge_added, charge_skipped}
 use Rattle.clear_desk.proofs.office.Office.add_charges.Goals.{then-eq+in-Some+in_ok-add_charge, else-eq}
 use Rattle.clear_desk.proofs.office.Office.add_charges.Goals as goal

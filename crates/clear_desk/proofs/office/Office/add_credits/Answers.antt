@@ -6,11 +6,11 @@ use Rattle.clear_bank.specs.contracts.lines.Purpose.{the_type}
 use Rattle.clear_bank.specs.declared.lines.Purpose.{Purpose}
 use Rattle.clear_bank.specs.declared.lines.Purpose.TheVariants.{Contribution, Interest}
 use Rattle.clear_bank.specs.Lines.{same_purpose}
-use Rattle.clear_rules.specs.declared.rows.CreditRow.{CreditRow}
-use Rattle.clear_rules.specs.Lines.{is_credit_of}
-use Rattle.clear_rules.specs.Tables.{Tables, credits_at}
+use Rattle.clear_book.specs.declared.rows.CreditRow.{CreditRow}
+use Rattle.clear_book.specs.Lines.{is_credit_of}
+use Rattle.clear_book.specs.Tables.{Tables, table_credits}
 use Rattle.clear_desk.specs.Office.{credit_serial}
-use Rattle.clear_rules.specs.Keyed.{AreOnce}
+use Rattle.clear_book.specs.Keyed.{AreOnce}
 use Rattle.clear_desk.proofs.AccountLemmas.{IsGoing, drop_more, going_first, going_on, going_past}
 use Rattle.clear_desk.proofs.office.Office.add_credits.Goals.{then-eq+then-eq-2+in_ok-add_credit, else-eq, else-eq-via-then-eq+else-eq-2, else-eq-via-else-eq}
 use Rattle.clear_desk.proofs.office.Office.add_credits.Goals as goal
@@ -25,7 +25,7 @@ loop-row-init c =
     let e = c.args.employer in
     let once = subst (λ (x : Tables). AreOnce credit_serial x.credits) c.self.view_is c.self.invariant.once in
     record {
-      credits = subst (λ (held : List Credit). IsGoing e t.credits held (credits_at t e)) (sym c.requires.none) (going_first e t.credits once);
+      credits = subst (λ (held : List Credit). IsGoing e t.credits held (table_credits t e)) (sym c.requires.none) (going_first e t.credits once);
       charges = refl;
     }
 
@@ -40,12 +40,12 @@ loop-row-preserved c =
     let within = subst (λ (rows : List CreditRow). i < length rows) all c.loop-row-test.true in
     let is = subst (λ (rows : List CreditRow). row ≡ get_or rows i row) all c.row-item.is in
     let left = drop (i + 1) t.credits in
-    let going = subst (λ (rows : List CreditRow). IsGoing e rows held (credits_at t e)) (drop_more t.credits i row within is) c.loop-row.invariant.credits in
+    let going = subst (λ (rows : List CreditRow). IsGoing e rows held (table_credits t e)) (drop_more t.credits i row within is) c.loop-row.invariant.credits in
     elim c.if-eq.branch [
       | then-eq+then-eq-2+in_ok-add_credit w ↦
           let one : is_credit_of e Contribution row ≡ true = (λ j. (sym c.eq.ensures ∙ w.if-eq.true) j && (sym (same_as row.purpose) ∙ sym w.eq-then-eq.ensures ∙ w.if-eq-2.true) j) in
           record {
-            credits = subst (λ (ks : List Credit). IsGoing e left ks (credits_at t e)) (sym (ap (λ (a : Account). a.credits) w.account-is ∙ w.in_ok-add_credit.ensures.credits)) (going_on e row left held (credits_at t e) one going);
+            credits = subst (λ (ks : List Credit). IsGoing e left ks (table_credits t e)) (sym (ap (λ (a : Account). a.credits) w.account-is ∙ w.in_ok-add_credit.ensures.credits)) (going_on e row left held (table_credits t e) one going);
             charges = ap (λ (a : Account). a.charges) w.account-is ∙ w.in_ok-add_credit.ensures.charges ∙ c.loop-row.invariant.charges;
           }
       | else-eq w ↦
@@ -54,7 +54,7 @@ loop-row-preserved c =
             | else-eq-via-else-eq v ↦ (λ j. (sym c.eq.ensures ∙ v.if-eq.false) j && same_purpose row.purpose Contribution)
           ] in
           record {
-            credits = subst (λ (ks : List Credit). IsGoing e left ks (credits_at t e)) (sym (ap (λ (a : Account). a.credits) w.account-is)) (going_past e row left held (credits_at t e) other going);
+            credits = subst (λ (ks : List Credit). IsGoing e left ks (table_credits t e)) (sym (ap (λ (a : Account). a.credits) w.account-is)) (going_past e row left held (table_credits t e) other going);
             charges = ap (λ (a : Account). a.charges) w.account-is ∙ c.loop-row.invariant.charges;
           }
     ]

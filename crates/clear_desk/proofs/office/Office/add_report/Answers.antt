@@ -1,6 +1,6 @@
 use Rattle.std.proofs.Common.{◌≡◌, ◌<◌, sym, ap, ◌∙◌, subst}
-use Rattle.clear_rules.specs.declared.rows.Change.TheVariants.{AddReport}
-use Rattle.clear_rules.specs.Tables.{Tables, with_wages}
+use Rattle.clear_book.specs.declared.rows.Change.TheVariants.{AddReport}
+use Rattle.clear_book.specs.Tables.{Tables, with_wages}
 use Rattle.clear_desk.specs.Office.{Fits}
 use Rattle.clear_desk.proofs.BoundLemmas.{bounded_with}
 use Rattle.clear_desk.proofs.office.Office.add_report.Goals as goal

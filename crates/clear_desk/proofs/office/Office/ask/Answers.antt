@@ -1,11 +1,12 @@
 use Rattle.std.proofs.Common.{◌≡◌, None, true, sym, ap, ◌∙◌, subst, is_some, refl, Option, Some}
-use Rattle.clear_rules.specs.declared.calls.Query.{Query}
-use Rattle.clear_rules.specs.declared.calls.Call.TheVariants.{Ask}
-use Rattle.clear_rules.specs.Book.{Member, start_of}
-use Rattle.clear_rules.specs.Judge.{day_back, may_query}
-use Rattle.clear_rules.specs.Machine.{Takes}
-use Rattle.clear_rules.specs.Offices.{answered}
-use Rattle.clear_rules.specs.Tables.{Tables, member_at}
+use Rattle.clear_book.specs.declared.calls.Query.{Query}
+use Rattle.clear_book.specs.declared.calls.Call.TheVariants.{Ask}
+use Rattle.clear_book.specs.Book.{Member, start_of}
+use Rattle.clear_book.specs.Judge.{day_back}
+use Rattle.clear_book.specs.Access.{may_query}
+use Rattle.clear_book.specs.Machine.{Takes}
+use Rattle.clear_book.specs.Offices.{answered}
+use Rattle.clear_book.specs.Tables.{Tables, member_at}
 use Rattle.clear_desk.proofs.AccountLemmas.{owed_answered}
 use Rattle.clear_desk.proofs.office.Office.ask.Goals as goal
 

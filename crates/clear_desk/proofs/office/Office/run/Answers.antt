@@ -1,9 +1,9 @@
 use Rattle.std.proofs.Common.{◌++◌, ◌∷◌, [], List, take, arith, sym, ap, ◌∙◌, subst}
 use Rattle.std.proofs.lemmas.List.{take_more}
-use Rattle.clear_rules.specs.declared.calls.Call.{Call}
-use Rattle.clear_rules.specs.declared.outcomes.Outcome.{Outcome}
-use Rattle.clear_rules.specs.Offices.{RunsTables}
-use Rattle.clear_rules.proofs.OfficeLemmas.{RunsTables-more}
+use Rattle.clear_book.specs.declared.calls.Call.{Call}
+use Rattle.clear_book.specs.declared.outcomes.Outcome.{Outcome}
+use Rattle.clear_book.specs.Offices.{RunsTables}
+use Rattle.clear_rules.proofs.OfficesLemmas.{RunsTables-more}
 use Rattle.clear_desk.proofs.office.Office.run.Goals as goal
 
 pub loop-call-preserved : goal.loop-call-preserved

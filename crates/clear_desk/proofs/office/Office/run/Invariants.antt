@@ -1,5 +1,5 @@
 use Rattle.std.proofs.Common.{◌≡◌, ◌≤◌, take, length, vec_len, vec_capacity}
-use Rattle.clear_rules.specs.Offices.{RunsTables}
+use Rattle.clear_book.specs.Offices.{RunsTables}
 use Rattle.clear_desk.proofs.office.Office.run.Given as goal
 
 abbrev pub invariant-loop-call : goal.invariant-loop-call

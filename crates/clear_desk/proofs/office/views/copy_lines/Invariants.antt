@@ -1,5 +1,5 @@
 use Rattle.std.proofs.Common.{◌≡◌, take}
-use Rattle.clear_rules.specs.Lines.{lines_of_rows}
+use Rattle.clear_book.specs.Lines.{lines_of_rows}
 use Rattle.clear_desk.proofs.office.views.copy_lines.Given as goal
 
 abbrev pub invariant-loop-row : goal.invariant-loop-row

@@ -1,7 +1,7 @@
 use Rattle.std.proofs.Common.{◌∙◌}
 use Rattle.std.specs.Cmp.Lexicographic.{slice_cmp}
 use Rattle.std.specs.Ordering.{is_lt, nat_cmp}
-use Rattle.clear_rules.specs.Tables.{bank_key}
+use Rattle.clear_book.specs.Tables.{bank_key}
 use Rattle.clear_desk.proofs.RowLemmas.{is_lt-is_before}
 use Rattle.clear_desk.proofs.rows.BankRowKeyed.is_before.Goals as goal
 

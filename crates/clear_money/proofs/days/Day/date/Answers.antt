@@ -1,4 +1,4 @@
-use Rattle.std.proofs.Common.{◌≡◌, ℕ, ℤ, pos, ◌∙◌, ap, subst, w64, FitsSigned, arith}
+use Rattle.std.proofs.Common.{pos, ◌∙◌, ap, subst, w64, FitsSigned, arith}
 use Rattle.std.proofs.lemmas.Int.{ints, to_z-of_z}
 use Rattle.clear_money.specs.Calendar.{IsDay}
 use Rattle.clear_money.proofs.DateLemmas.{date-parts}

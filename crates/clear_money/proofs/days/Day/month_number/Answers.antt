@@ -1,4 +1,4 @@
-use Rattle.std.proofs.Common.{◌≤◌, arith}
+use Rattle.std.proofs.Common.{arith}
 use Rattle.clear_money.proofs.MonthLemmas.{month_of-lies}
 use Rattle.clear_money.proofs.DateLemmas.{cast_year, year_number}
 use Rattle.clear_money.proofs.days.Day.month_number.Goals as goal

@@ -1,0 +1,128 @@
+-- The bytes of an answer.
+use Rattle.std.specs.Prelude.{ℕ, Bool, ◌||◌, ◌&&◌, ◌==◌, nat_le, List, [], ◌++◌, length, codes}
+use Rattle.std.specs.Prelude.{if◌then◌else◌}
+use Rattle.std.specs.Fmt.{decimal}
+use Rattle.clear_money.specs.Texts.{day_text, month_text}
+use Rattle.clear_book.specs.Rules.{number_of, name_of, carried_by}
+use Rattle.clear_book.specs.Rules.{word_of, member_word, table_word}
+use Rattle.clear_book.specs.declared.outcomes.Reply.{Reply}
+use Rattle.clear_book.specs.declared.outcomes.Reply.TheVariants.{Done, Reported, Imported}
+use Rattle.clear_book.specs.declared.outcomes.Answer.{Answer}
+use Rattle.clear_book.specs.declared.outcomes.Answer.TheVariants.{Owed}
+use Rattle.clear_book.specs.declared.rules.Carried.{Carried}
+use Rattle.clear_book.specs.declared.rules.Carried.TheVariants.{Nothing, Member, Day, Month}
+use Rattle.clear_book.specs.declared.rules.Carried.TheVariants.{Number, Field, Limit, Table}
+use Rattle.clear_wire.specs.declared.rule.FramingStatus.TheVariants.{NotImplemented}
+use Rattle.clear_wire.specs.declared.rule.FramingStatus.TheVariants.{ExpectationFailed}
+use Rattle.clear_wire.specs.declared.rule.FramingStatus.TheVariants.{LengthRequired, BadRequest}
+use Rattle.clear_answers.specs.declared.said.Extra.{Extra}
+use Rattle.clear_answers.specs.declared.said.Extra.TheVariants as extra
+use Rattle.clear_answers.specs.declared.said.Refused.{Refused}
+use Rattle.clear_answers.specs.declared.said.Said.{Said}
+use Rattle.clear_answers.specs.declared.said.Said.TheVariants as said
+
+-- the status where it isn't clear how long a body is
+abbrev pub framing_status : Extra → List ℕ
+framing_status (extra.Status NotImplemented) = codes "501 Not Implemented"
+framing_status (extra.Status ExpectationFailed) = codes "417 Expectation Failed"
+framing_status (extra.Status LengthRequired) = codes "411 Length Required"
+framing_status (extra.Status BadRequest) = codes "400 Bad Request"
+framing_status extra.Nothing = codes "400 Bad Request"
+
+-- the status of a refusal by the rule of this number, whose answer tells this beside it
+abbrev pub status_by : ℕ → Extra → List ℕ
+status_by n told =
+    if n == 1 || n == 8 then codes "400 Bad Request"
+    else (if n == 2 then codes "413 Content Too Large"
+    else (if n == 3 then framing_status told
+    else (if n == 4 then codes "404 Not Found"
+    else (if n == 5 then codes "405 Method Not Allowed"
+    else (if n == 6 then codes "401 Unauthorized"
+    else (if n == 7 then codes "403 Forbidden"
+    else (if nat_le 9 n && nat_le n 39 then codes "409 Conflict"
+    else (if n == 40 then codes "503 Service Unavailable"
+    else codes "500 Internal Server Error"))))))))
+
+-- the status of an answer
+abbrev pub status_of : Said → List ℕ
+status_of (said.Reply reply) = codes "200 OK"
+status_of (said.Answer answer) = codes "200 OK"
+status_of (said.No refused) = status_by (number_of refused.rule) refused.extra
+
+-- the detail of a rule that carries this: a word, a day, a month, a number in decimal, or a record
+-- of a file and its field
+abbrev pub carried_text : Carried → List ℕ
+carried_text Nothing = []
+carried_text (Member member) = member_word member
+carried_text (Day day) = day_text day
+carried_text (Month month) = month_text month
+carried_text (Number number) = decimal number
+carried_text (Field line field) = decimal line ++ codes ":" ++ decimal field
+carried_text (Limit limit) = word_of limit
+carried_text (Table table) = table_word table
+
+-- the body of a refusal: the detail, the name and the number of its rule
+unfoldable pub refused_body : Refused → List ℕ
+refused_body refused =
+    codes "{\"detail\":\"" ++ carried_text (carried_by refused.rule)
+    ++ codes "\",\"name\":\"" ++ name_of refused.rule
+    ++ codes "\",\"rule\":" ++ decimal (number_of refused.rule)
+    ++ codes "}"
+
+-- the body of a reply
+unfoldable pub reply_body : Reply → List ℕ
+reply_body Done = codes "{\"done\":true}"
+reply_body (Reported version charge) =
+    codes "{\"charge\":" ++ decimal charge
+    ++ codes ",\"version\":" ++ decimal version
+    ++ codes "}"
+reply_body (Imported new repeats) =
+    codes "{\"new\":" ++ decimal new
+    ++ codes ",\"repeats\":" ++ decimal repeats
+    ++ codes "}"
+
+-- the body of the answer to a query
+unfoldable pub query_body : Answer → List ℕ
+query_body (Owed charged credited arrears prepaid) =
+    codes "{\"arrears\":" ++ decimal arrears
+    ++ codes ",\"charged\":" ++ decimal charged
+    ++ codes ",\"credited\":" ++ decimal credited
+    ++ codes ",\"prepaid\":" ++ decimal prepaid
+    ++ codes "}"
+
+-- the body of an answer: compact JSON, members in the order of their bytes
+abbrev pub body_of : Said → List ℕ
+body_of (said.Reply reply) = reply_body reply
+body_of (said.Answer answer) = query_body answer
+body_of (said.No refused) = refused_body refused
+
+-- the field that asks for a key, where the rule is that of an unknown key
+abbrev pub key_field : Said → List ℕ
+key_field (said.Reply reply) = []
+key_field (said.Answer answer) = []
+key_field (said.No refused) =
+    if number_of refused.rule == 6 then codes "WWW-Authenticate: Office-Key\r\n" else []
+
+-- the field that says that no request follows
+abbrev pub close_field : Bool → List ℕ
+close_field close = if close then codes "Connection: close\r\n" else []
+
+-- the body as it is sent: not where the answer is bare
+abbrev pub sent_body : Bool → List ℕ → List ℕ
+sent_body bare body = if bare then [] else body
+
+-- the lines of an answer up to the length of its body
+unfoldable pub first_lines : Said → ℕ → List ℕ
+first_lines said len =
+    codes "HTTP/1.1 " ++ status_of said
+    ++ codes "\r\nContent-Type: application/json\r\n"
+    ++ codes "Content-Length: " ++ decimal len
+    ++ codes "\r\n"
+
+-- an answer: the lines up to the length of its body, the fields, an empty line, and the body
+-- unless the answer is bare, which tells that length all the same
+unfoldable pub answer_of : Said → Bool → Bool → List ℕ
+answer_of said close bare =
+    first_lines said (length (body_of said))
+    ++ key_field said ++ close_field close
+    ++ codes "\r\n" ++ sent_body bare (body_of said)

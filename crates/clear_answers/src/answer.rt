@@ -1,0 +1,275 @@
+//! The bytes of an answer.
+ghost use Rattle.std.specs.Prelude.{◌≡◌, ◌++◌, codes, IfOk, is_ok, if◌then◌else◌};
+ghost use Rattle.std.specs.Fmt.{decimal};
+ghost use Rattle.clear_book.specs.declared.rules.Rule.TheVariants.{Memory, Failed};
+ghost use Rattle.clear_answers.specs.Said.{refused_by};
+ghost use Rattle.clear_answers.specs.Answer.{framing_status, status_by, status_of, carried_text};
+ghost use Rattle.clear_answers.specs.Answer.{refused_body, reply_body, query_body, body_of};
+ghost use Rattle.clear_answers.specs.Answer.{key_field, close_field, sent_body, first_lines};
+ghost use Rattle.clear_answers.specs.Answer.{answer_of};
+
+use crate::said::{Extra, Refused, Said};
+use clear_book::outcomes::{Answer, Reply};
+use clear_book::rules::Carried;
+use clear_wire::rule::FramingStatus;
+use std::alloc::{AllocError, Global};
+
+/// The status of a body whose length isn't clear.
+fn framing_status(extra: &Extra) -> &'static [u8]
+    ensures { result.now ≡ framing_status extra.now }
+{
+    match extra {
+        Extra::Status(FramingStatus::NotImplemented) => b"501 Not Implemented",
+        Extra::Status(FramingStatus::ExpectationFailed) => b"417 Expectation Failed",
+        Extra::Status(FramingStatus::LengthRequired) => b"411 Length Required",
+        Extra::Status(FramingStatus::BadRequest) | Extra::Nothing => b"400 Bad Request",
+    }
+}
+
+/// The status of a refusal, by the number of its rule.
+fn status_by(number: u8, extra: &Extra) -> &'static [u8]
+    ensures { result.now ≡ status_by number extra.now }
+{
+    match number {
+        1 | 8 => b"400 Bad Request",
+        2 => b"413 Content Too Large",
+        3 => framing_status(extra),
+        4 => b"404 Not Found",
+        5 => b"405 Method Not Allowed",
+        6 => b"401 Unauthorized",
+        7 => b"403 Forbidden",
+        9..=39 => b"409 Conflict",
+        40 => b"503 Service Unavailable",
+        _ => b"500 Internal Server Error",
+    }
+}
+
+fn status_of(said: &Said) -> &'static [u8]
+    ensures { result.now ≡ status_of said.now }
+{
+    match said {
+        Said::Reply(_) | Said::Answer(_) => b"200 OK",
+        Said::No(refused) => status_by(refused.rule.number(), &refused.extra),
+    }
+}
+
+/// Appends a text, and a number in decimal.
+fn append_number(text: &mut Vec<u8>, before: &[u8], number: u64) -> Result<(), AllocError>
+    ensures { IfOk result (λ _. text.new.items
+        ≡ text.old.items ++ before.now ++ decimal number) }
+{
+    let digits = number.to_string(*text.allocator())?;
+    text.extend_from_slice(before)?;
+    text.extend_from_slice(digits.as_bytes())
+}
+
+/// A record of a file and a field of it.
+fn field_text(alloc: Global, line: u64, field: u8) -> Result<Vec<u8>, AllocError>
+    ensures { IfOk result (λ text. text.items ≡ decimal line ++ codes ":" ++ decimal field) }
+{
+    let mut text = Vec::new(alloc);
+    append_number(&mut text, b"", line)?;
+    append_number(&mut text, b":", u64::from(field))?;
+    Ok(text)
+}
+
+/// What a rule carries, as a text.
+fn carried_text(alloc: Global, carried: Carried) -> Result<Vec<u8>, AllocError>
+    ensures { IfOk result (λ text. text.items ≡ carried_text carried) }
+{
+    match carried {
+        Carried::Nothing => Ok(Vec::new(alloc)),
+        Carried::Member(member) => Vec::from_slice(alloc, member.word().as_bytes()),
+        Carried::Day(day) => Vec::from_slice(alloc, day.text().as_slice()),
+        Carried::Month(month) => Vec::from_slice(alloc, month.text().as_slice()),
+        Carried::Number(number) => Vec::from_slice(alloc, number.to_string(alloc)?.as_bytes()),
+        Carried::Field { line, field } => field_text(alloc, line, field),
+        Carried::Limit(limit) => Vec::from_slice(alloc, limit.word().as_bytes()),
+        Carried::Table(table) => Vec::from_slice(alloc, table.word().as_bytes()),
+    }
+}
+
+#[tactic(auto, unfolding(crate::specs::Answer::refused_body))]
+fn refused_body(alloc: Global, refused: &Refused) -> Result<Vec<u8>, AllocError>
+    ensures { IfOk result (λ body. body.items ≡ refused_body refused.now) }
+{
+    let detail = carried_text(alloc, refused.rule.carried())?;
+    let mut body = Vec::from_slice(alloc, b"{\"detail\":\"")?;
+    body.extend_from_slice(detail.as_slice())?;
+    body.extend_from_slice(b"\",\"name\":\"")?;
+    body.extend_from_slice(refused.rule.name().as_bytes())?;
+    append_number(&mut body, b"\",\"rule\":", u64::from(refused.rule.number()))?;
+    body.extend_from_slice(b"}")?;
+    Ok(body)
+}
+
+#[tactic(auto, unfolding(crate::specs::Answer::reply_body))]
+fn reply_body(alloc: Global, reply: &Reply) -> Result<Vec<u8>, AllocError>
+    ensures { IfOk result (λ body. body.items ≡ reply_body reply.now) }
+{
+    match reply {
+        Reply::Done => Vec::from_slice(alloc, b"{\"done\":true}"),
+        Reply::Reported { version, charge } => {
+            let mut body = Vec::new(alloc);
+            append_number(&mut body, b"{\"charge\":", *charge)?;
+            append_number(&mut body, b",\"version\":", u64::from(*version))?;
+            body.extend_from_slice(b"}")?;
+            Ok(body)
+        }
+        Reply::Imported { new, repeats } => {
+            let mut body = Vec::new(alloc);
+            append_number(&mut body, b"{\"new\":", *new)?;
+            append_number(&mut body, b",\"repeats\":", *repeats)?;
+            body.extend_from_slice(b"}")?;
+            Ok(body)
+        }
+    }
+}
+
+#[tactic(auto, unfolding(crate::specs::Answer::query_body))]
+fn query_body(alloc: Global, answer: &Answer) -> Result<Vec<u8>, AllocError>
+    ensures { IfOk result (λ body. body.items ≡ query_body answer.now) }
+{
+    let Answer::Owed {
+        charged,
+        credited,
+        arrears,
+        prepaid,
+    } = answer;
+    let mut body = Vec::new(alloc);
+    append_number(&mut body, b"{\"arrears\":", *arrears)?;
+    append_number(&mut body, b",\"charged\":", *charged)?;
+    append_number(&mut body, b",\"credited\":", *credited)?;
+    append_number(&mut body, b",\"prepaid\":", *prepaid)?;
+    body.extend_from_slice(b"}")?;
+    Ok(body)
+}
+
+fn body_of(alloc: Global, said: &Said) -> Result<Vec<u8>, AllocError>
+    ensures { IfOk result (λ body. body.items ≡ body_of said.now) }
+{
+    match said {
+        Said::Reply(reply) => reply_body(alloc, reply),
+        Said::Answer(answer) => query_body(alloc, answer),
+        Said::No(refused) => refused_body(alloc, refused),
+    }
+}
+
+/// The field that asks for a key, where none was known.
+fn key_field(said: &Said) -> &'static [u8]
+    ensures { result.now ≡ key_field said.now }
+{
+    match said {
+        Said::No(refused) => {
+            if refused.rule.number() == 6 {
+                b"WWW-Authenticate: Office-Key\r\n"
+            } else {
+                b""
+            }
+        }
+        Said::Reply(_) | Said::Answer(_) => b"",
+    }
+}
+
+fn close_field(close: bool) -> &'static [u8]
+    ensures { result.now ≡ close_field close }
+{
+    if close { b"Connection: close\r\n" } else { b"" }
+}
+
+fn sent_body(bare: bool, body: &[u8]) -> &[u8]
+    ensures { result.now ≡ sent_body bare body.now }
+{
+    if bare { b"" } else { body }
+}
+
+/// The lines up to the length of the body.
+#[tactic(auto, unfolding(crate::specs::Answer::first_lines))]
+fn first_lines(alloc: Global, said: &Said, length: usize) -> Result<Vec<u8>, AllocError>
+    ensures { IfOk result (λ text. text.items ≡ first_lines said.now length) }
+{
+    let mut text = Vec::from_slice(alloc, b"HTTP/1.1 ")?;
+    text.extend_from_slice(status_of(said))?;
+    text.extend_from_slice(b"\r\nContent-Type: application/json\r\n")?;
+    append_number(&mut text, b"Content-Length: ", length as u64)?;
+    text.extend_from_slice(b"\r\n")?;
+    Ok(text)
+}
+
+#[tactic(auto, unfolding(crate::specs::Answer::answer_of))]
+fn answer_of(alloc: Global, said: &Said, close: bool, bare: bool) -> Result<Vec<u8>, AllocError>
+    ensures { IfOk result (λ text. text.items ≡ answer_of said.now close bare) }
+{
+    let body = body_of(alloc, said)?;
+    let mut text = first_lines(alloc, said, body.len())?;
+    text.extend_from_slice(key_field(said))?;
+    text.extend_from_slice(close_field(close))?;
+    text.extend_from_slice(b"\r\n")?;
+    text.extend_from_slice(sent_body(bare, body.as_slice()))?;
+    Ok(text)
+}
+
+/// Appends the answer. `close`: the answer says that the stream ends. `bare`: it has no body. An
+/// `Err` leaves the bytes as they were.
+pub fn answer_bytes(
+    said: &Said,
+    close: bool,
+    bare: bool,
+    out: &mut Vec<u8>,
+) -> Result<(), AllocError>
+    ensures { out.new.items ≡ (if is_ok result
+        then out.old.items ++ answer_of said.now close bare else out.old.items) }
+{
+    let text = answer_of(*out.allocator(), said, close, bare)?;
+    out.extend_from_slice(text.as_slice())
+}
+
+/// The answer for want of memory, as a fixed text, which takes none.
+pub fn memory_text(close: bool, bare: bool) -> &'static [u8]
+    ensures { result.now ≡ answer_of (refused_by Memory) close bare }
+{
+    match (close, bare) {
+        (false, false) => {
+            b"HTTP/1.1 503 Service Unavailable\r\nContent-Type: application/json\r\n\
+                Content-Length: 39\r\n\r\n{\"detail\":\"\",\"name\":\"Memory\",\"rule\":40}"
+        }
+        (false, true) => {
+            b"HTTP/1.1 503 Service Unavailable\r\nContent-Type: application/json\r\n\
+                Content-Length: 39\r\n\r\n"
+        }
+        (true, false) => {
+            b"HTTP/1.1 503 Service Unavailable\r\nContent-Type: application/json\r\n\
+                Content-Length: 39\r\nConnection: close\r\n\
+                \r\n{\"detail\":\"\",\"name\":\"Memory\",\"rule\":40}"
+        }
+        (true, true) => {
+            b"HTTP/1.1 503 Service Unavailable\r\nContent-Type: application/json\r\n\
+                Content-Length: 39\r\nConnection: close\r\n\r\n"
+        }
+    }
+}
+
+/// The answer of an office that has failed, as a fixed text, which takes no memory.
+pub fn failed_text(close: bool, bare: bool) -> &'static [u8]
+    ensures { result.now ≡ answer_of (refused_by Failed) close bare }
+{
+    match (close, bare) {
+        (false, false) => {
+            b"HTTP/1.1 500 Internal Server Error\r\nContent-Type: application/json\r\n\
+                Content-Length: 39\r\n\r\n{\"detail\":\"\",\"name\":\"Failed\",\"rule\":42}"
+        }
+        (false, true) => {
+            b"HTTP/1.1 500 Internal Server Error\r\nContent-Type: application/json\r\n\
+                Content-Length: 39\r\n\r\n"
+        }
+        (true, false) => {
+            b"HTTP/1.1 500 Internal Server Error\r\nContent-Type: application/json\r\n\
+                Content-Length: 39\r\nConnection: close\r\n\
+                \r\n{\"detail\":\"\",\"name\":\"Failed\",\"rule\":42}"
+        }
+        (true, true) => {
+            b"HTTP/1.1 500 Internal Server Error\r\nContent-Type: application/json\r\n\
+                Content-Length: 39\r\nConnection: close\r\n\r\n"
+        }
+    }
+}

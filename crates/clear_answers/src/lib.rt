@@ -1,0 +1,13 @@
+//! The answers: what is said to a request, and its bytes.
+//!
+//! `Said` is a reply, an answer to a query, or the rule that refuses the request and what is told
+//! beside it. `answer_bytes` appends exactly the bytes of its answer, or, for want of memory,
+//! leaves what was there. The status of a refusal goes by the number of its rule, and its detail
+//! by what the rule carries. `memory_text` and `failed_text` are two answers as fixed texts, which
+//! take no memory.
+#![tactic(auto)]
+
+pub mod answer;
+pub mod said;
+#[cfg(test)]
+mod tests;

@@ -1,0 +1,77 @@
+-- The tables of a book, after a bank file more.
+use Rattle.std.proofs.Common.{◌≡◌, ℕ, List, [], ◌∷◌, ◌++◌, cond, refl, sym, ap, ◌∙◌, subst, arith}
+use Rattle.std.proofs.lemmas.List.{length-append}
+use Rattle.std.proofs.lemmas.List.Sums.{sum_by-cons}
+use Rattle.std.specs.Option.{option_map}
+use Rattle.clear_book.specs.declared.calls.Caller.{Caller}
+use Rattle.clear_book.specs.declared.calls.Call.TheVariants.{Do}
+use Rattle.clear_book.specs.declared.calls.Command.TheVariants.{ImportBank}
+use Rattle.clear_book.specs.declared.outcomes.Outcome.{Outcome}
+use Rattle.clear_book.specs.declared.outcomes.Outcome.TheVariants.{Replied}
+use Rattle.clear_book.specs.declared.outcomes.Reply.{Reply}
+use Rattle.clear_book.specs.declared.rows.BankRow.{BankRow}
+use Rattle.clear_book.specs.declared.rows.CreditRow.{CreditRow}
+use Rattle.clear_book.specs.declared.rows.Change.TheVariants.{AddBankLines}
+use Rattle.clear_book.specs.Accounts.{credit_key}
+use Rattle.clear_book.specs.Book.{Book, Entry, newer, is_registration, latest_lines}
+use Rattle.clear_book.specs.Judge.{judge}
+use Rattle.clear_book.specs.Keyed.{find_row, with_rows, AreOnce}
+use Rattle.clear_book.specs.Lines.{lines_seen, rows_brought, credits_of_lines}
+use Rattle.clear_book.specs.Machine.{step, after, appended}
+use Rattle.clear_book.specs.Tables.{Tables, Stands, bank_key, changed, noted}
+use Rattle.clear_book.proofs.LinesLemmas.{references_new, credits_new, credits_of_lines-append}
+use Rattle.clear_book.proofs.KeyedRowsLemmas.{AreNew, find_row-append, find_row-with_rows, AreInOrder-with_rows}
+use Rattle.clear_book.proofs.TablesLemmas.{version_of-other}
+
+-- rows that are new to a list are so to each with the same look-ups
+still_new : {Row : Type 0} (key : Row → List ℕ) (table rows news : List Row) → ((k : List ℕ) → find_row key table k ≡ find_row key rows k) → AreNew key rows news → AreNew key table news
+still_new key table rows [] same new = tt
+still_new key table rows (row ∷ news) same new = (same (key row) ∙ new.0, still_new key table rows news same new.1)
+
+-- and a table with them has the look-ups of the list with them
+grown : {Row : Type 0} (key : Row → List ℕ) (table rows news : List Row) → ((k : List ℕ) → find_row key table k ≡ find_row key rows k) → AreNew key rows news → AreOnce key news → (k : List ℕ) → find_row key (with_rows key table news) k ≡ find_row key (rows ++ news) k
+grown key table rows news same new once k =
+    find_row-with_rows key table news k (still_new key table rows news same new) once
+    ∙ ap (λ o. newer o (find_row key news k)) (same k)
+    ∙ sym (find_row-append key rows news k)
+
+module _ (b : Book) (t : Tables) (stands : Stands b t) (caller : Caller) (number day : ℕ) (file : List ℕ) (reply : Reply) (judged : judge b (Do caller number day (ImportBank file)) ≡ Replied reply) where
+  abbrev import : Entry
+  import = record { caller = caller; number = number; day = day; command = ImportBank file; reply = reply }
+
+  abbrev seen : List BankRow
+  seen = lines_seen b.entries
+
+  abbrev rows : List BankRow
+  rows = rows_brought b.entries seen file
+
+  new_lines_there : AreNew bank_key seen rows
+  new_lines_there = (references_new b.entries file).1
+
+  new_credits_there : AreNew credit_key (credits_of_lines seen) (credits_of_lines rows)
+  new_credits_there = (credits_new b.entries file).1
+
+  imported_tables : Stands (appended b import) (noted day (changed (AddBankLines rows) t))
+  imported_tables = record {
+    rates = stands.rates;
+    day = refl;
+    entries = omega (arith, stands.entries);
+    employers = λ e. stands.employers e;
+    employer_rows = omega (arith, stands.employer_rows, sum_by-cons (λ (x : Entry). cond {A = ℕ} (is_registration x.command) 1 0) import b.entries);
+    employers_in_order = stands.employers_in_order;
+    reports = λ e m. stands.reports e m ∙ ap (λ (n : ℕ). option_map (λ lines. n) (latest_lines b.entries e m)) (sym (version_of-other b.entries import e m refl));
+    reports_in_order = stands.reports_in_order;
+    wages = λ e m w. stands.wages e m w;
+    wages_in_order = stands.wages_in_order;
+    bank = λ reference. grown bank_key t.bank seen rows stands.bank new_lines_there (references_new b.entries file).0 reference;
+    bank_in_order = AreInOrder-with_rows bank_key t.bank rows stands.bank_in_order (still_new bank_key t.bank seen rows stands.bank new_lines_there) (references_new b.entries file).0;
+    credits = λ k.
+        grown credit_key t.credits (credits_of_lines seen) (credits_of_lines rows) stands.credits new_credits_there (credits_new b.entries file).0 k
+        ∙ ap (λ (all : List CreditRow). find_row credit_key all k) (sym (credits_of_lines-append seen rows));
+    credits_in_order = AreInOrder-with_rows credit_key t.credits (credits_of_lines rows) stands.credits_in_order (still_new credit_key t.credits (credits_of_lines seen) (credits_of_lines rows) stands.credits new_credits_there) (credits_new b.entries file).0;
+    serial = omega (arith, stands.serial, length-append seen rows);
+  }
+
+  pub Stands-imported : (new : List BankRow) → new ≡ rows → Stands (step b (Do caller number day (ImportBank file))) (noted day (changed (AddBankLines new) t))
+  Stands-imported new same =
+      subst (λ (p : Outcome × List BankRow). Stands (after b (Do caller number day (ImportBank file)) p.0) (noted day (changed (AddBankLines p.1) t))) (λ i. (sym judged i, sym same i)) imported_tables

@@ -1,0 +1,14 @@
+pub mod AccountLimitLemmas
+pub mod ChargesLemmas
+pub mod ChecksLemmas
+pub mod CreditsLemmas
+pub mod ImportTablesLemmas
+pub mod JudgeLemmas
+pub mod KeyedLemmas
+pub mod KeyedRowsLemmas
+pub mod LawsLemmas
+pub mod LimitsLemmas
+pub mod LinesLemmas
+pub mod ListLemmas
+pub mod RatesLemmas
+pub mod TablesLemmas

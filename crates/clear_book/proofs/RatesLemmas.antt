@@ -1,0 +1,146 @@
+-- In a lawful book a rate is in force for each month that has a report: the membership begins with a rate, and the month
+-- doesn't lie before it.
+use Rattle.std.proofs.Common.{◌≡◌, ℕ, ◌≤◌, ◌⊎◌, ⊎_elim, inl, inr, List, [], ◌∷◌, Option, Some, None, Bool, true, false, not, cond, ◌&&◌, ◌==◌, nat_le, nat_lt, is_some, refl, sym, subst, arith}
+use Rattle.std.proofs.lemmas.Bool.Decides.{nat_tests}
+use Rattle.clear_money.specs.Calendar.{month_of}
+use Rattle.clear_money.specs.Rates.{Rate, rate_in_force, later_row}
+use Rattle.clear_book.specs.declared.texts.WageLine.{WageLine}
+use Rattle.clear_book.specs.declared.calls.Command.{Command}
+use Rattle.clear_book.specs.declared.calls.Command.TheVariants.{Register, Report, ImportBank}
+use Rattle.clear_book.specs.declared.rules.Rule.TheVariants.{EmployerExists, NoRate, MonthOutside}
+use Rattle.clear_book.specs.Book.{Book, Entry, Member, newer, registered_by, member_of, start_of, reported_by, latest_lines, reported_version, employer_count}
+use Rattle.clear_book.specs.Judge.{own_rule}
+use Rattle.clear_book.specs.Own.Register.{own_register, register_rules}
+use Rattle.clear_book.specs.Own.Report.{own_report, report_rules}
+use Rattle.clear_book.specs.Machine.{AreJudged}
+use Rattle.clear_book.proofs.ChecksLemmas.{none_applies, when-none}
+use Rattle.clear_book.proofs.LimitsLemmas.{accepted, latest_means}
+use Rattle.clear_book.proofs.TablesLemmas.{key_is}
+
+-- ---- a rate that is in force stays so for later months
+
+later-some : (r : Rate) (o : Option Rate) → is_some (later_row r o) ≡ true
+later-some r None = refl
+later-some r (Some q) = told (nat_lt q.first r.first)
+  where
+    told : (b : Bool) → is_some (cond b (Some r) (Some q)) ≡ true
+    told true = refl
+    told false = refl
+
+pub rate-later : (rates : List Rate) (m n : ℕ) → m ≤ n → is_some (rate_in_force rates m) ≡ true → is_some (rate_in_force rates n) ≡ true
+rate-later [] m n le h = absurd (cc)
+rate-later (r ∷ rs) m n le h = told (nat_le r.first m) (nat_le r.first n) refl refl (rate-later rs m n le) h
+  where
+    still : nat_le r.first m ≡ true → nat_le r.first n ≡ false → ⊥
+    still p q = absurd (grind (arith, nat_tests))
+
+    told : (p q : Bool) → nat_le r.first m ≡ p → nat_le r.first n ≡ q → (is_some (rate_in_force rs m) ≡ true → is_some (rate_in_force rs n) ≡ true) → is_some (cond p (later_row r (rate_in_force rs m)) (rate_in_force rs m)) ≡ true → is_some (cond q (later_row r (rate_in_force rs n)) (rate_in_force rs n)) ≡ true
+    told p true is also rest k = later-some r (rate_in_force rs n)
+    told true false is also rest k = absurd (still is also)
+    told false false is also rest k = rest k
+
+-- ---- what the rules on a registration and a report leave
+
+new_and_rated : (registered : Bool) (employer_count : ℕ) (has_rate : Bool) → own_register registered employer_count has_rate ≡ None → (registered ≡ false) × (has_rate ≡ true)
+new_and_rated registered employer_count has_rate h =
+    let none = none_applies (register_rules registered employer_count has_rate) h in
+    (when-none registered EmployerExists none.0, rated has_rate (when-none (not has_rate) NoRate none.1.1.0))
+  where
+    rated : (b : Bool) → not b ≡ false → b ≡ true
+    rated true h = refl
+    rated false h = absurd (cc)
+
+-- a member since a month up to this one
+abbrev IsSince : ℕ → Option ℕ → Type 0
+IsSince m None = ⊥
+IsSince m (Some start) = start ≤ m
+
+since : (start version : Option ℕ) (t m : ℕ) (lines : List WageLine) → own_report start version t m lines ≡ None → IsSince m start
+since None version t m lines h = absurd (cc)
+since (Some start) version t m lines h =
+    within (when-none (nat_lt m start) MonthOutside (none_applies (report_rules (Some start) version t m lines) h).1.0)
+  where
+    within : nat_lt m start ≡ false → start ≤ m
+    within e = grind (arith, nat_tests)
+
+-- ---- over a lawful book
+
+module _ (rates : List Rate) where
+  abbrev book : List Entry → Book
+  book xs = record { opening = rates; entries = xs }
+
+  -- a member has a rate from the start
+  abbrev IsRated : Option Member → Type 0
+  IsRated None = Unit {0}
+  IsRated (Some member) = is_some (rate_in_force rates member.start) ≡ true
+
+  registers_rated : (xs : List Entry) (t : ℕ) (command : Command) (e : ℕ) → own_rule (book xs) t command ≡ None → IsRated (registered_by command e)
+  registers_rated xs t (Register r) e own = told (r.employer == e) (new_and_rated (is_some (member_of xs r.employer)) (employer_count xs) (is_some (rate_in_force rates r.start)) own).1
+    where
+      told : (b : Bool) → is_some (rate_in_force rates r.start) ≡ true → IsRated (cond {A = Option Member} b (Some (record { name = r.name; start = r.start })) None)
+      told true h = h
+      told false h = tt
+  registers_rated xs t (Report r) e own = tt
+  registers_rated xs t (ImportBank file) e own = tt
+
+  member_rated : (xs : List Entry) → AreJudged rates xs → (e : ℕ) → IsRated (member_of xs e)
+  member_rated [] h e = tt
+  member_rated (x ∷ xs) h e = told (registered_by x.command e) (registers_rated xs x.day x.command e (accepted rates x xs h).1) (member_rated xs h.0 e)
+    where
+      told : (o : Option Member) → IsRated o → IsRated (member_of xs e) → IsRated (newer o (member_of xs e))
+      told None new old = old
+      told (Some member) new old = new
+
+  -- a registration finds no member
+  once : (xs : List Entry) (t : ℕ) (command : Command) (e : ℕ) → own_rule (book xs) t command ≡ None → (registered_by command e ≡ None) ⊎ (is_some (member_of xs e) ≡ false)
+  once xs t (Register r) e own = told (r.employer == e) refl (new_and_rated (is_some (member_of xs r.employer)) (employer_count xs) (is_some (rate_in_force rates r.start)) own).0
+    where
+      same : r.employer == e ≡ true → r.employer ≡ e
+      same h = grind (arith, nat_tests)
+
+      told : (b : Bool) → r.employer == e ≡ b → is_some (member_of xs r.employer) ≡ false → (cond {A = Option Member} b (Some (record { name = r.name; start = r.start })) None ≡ None) ⊎ (is_some (member_of xs e) ≡ false)
+      told true is none = inr (subst (λ (f : ℕ). is_some (member_of xs f) ≡ false) (same is) none)
+      told false is none = inl refl
+  once xs t (Report r) e own = inl refl
+  once xs t (ImportBank file) e own = inl refl
+
+  -- a member stays one since the same month
+  stays : (xs : List Entry) (t : ℕ) (command : Command) (e m : ℕ) → own_rule (book xs) t command ≡ None → IsSince m (start_of (member_of xs e)) → IsSince m (start_of (newer (registered_by command e) (member_of xs e)))
+  stays xs t command e m own is =
+      ⊎_elim
+      (λ (none : registered_by command e ≡ None). subst (λ (o : Option Member). IsSince m (start_of (newer o (member_of xs e)))) (sym none) is)
+      (λ (none : is_some (member_of xs e) ≡ false). absurd (nobody (member_of xs e) none is))
+      (once xs t command e own)
+    where
+      nobody : (o : Option Member) → is_some o ≡ false → IsSince m (start_of o) → ⊥
+      nobody None h k = k
+      nobody (Some member) h k = cc
+
+  reported_since : (xs : List Entry) (t : ℕ) (command : Command) (e m : ℕ) (lines : List WageLine) → own_rule (book xs) t command ≡ None → reported_by command e m ≡ Some lines → IsSince m (start_of (member_of xs e))
+  reported_since xs t (Register r) e m lines own h = absurd (cc)
+  reported_since xs t (ImportBank file) e m lines own h = absurd (cc)
+  reported_since xs t (Report r) e m lines own h =
+      told ((r.employer == e) && (r.month == m)) refl h (since (start_of (member_of xs r.employer)) (reported_version xs r.employer r.month) t r.month r.lines own)
+    where
+      told : (b : Bool) → (r.employer == e) && (r.month == m) ≡ b → cond b (Some r.lines) None ≡ Some lines → IsSince r.month (start_of (member_of xs r.employer)) → IsSince m (start_of (member_of xs e))
+      told true is k there =
+          let same = key_is r.employer e r.month m is in
+          subst (λ (p : ℕ × ℕ). IsSince p.1 (start_of (member_of xs p.0))) (λ i. (same.0 i, same.1 i)) there
+      told false is k there = absurd (cc)
+
+  member_since : (xs : List Entry) → AreJudged rates xs → (e m : ℕ) (lines : List WageLine) → latest_lines xs e m ≡ Some lines → IsSince m (start_of (member_of xs e))
+  member_since [] h e m lines is = absurd (cc)
+  member_since (x ∷ xs) h e m lines is =
+      let own = (accepted rates x xs h).1 in
+      stays xs x.day x.command e m own
+      (⊎_elim
+      (λ (new : reported_by x.command e m ≡ Some lines). reported_since xs x.day x.command e m lines own new)
+      (λ (old : latest_lines xs e m ≡ Some lines). member_since xs h.0 e m lines old)
+      (latest_means (reported_by x.command e m) (latest_lines xs e m) lines is))
+
+  pub lawful_rated : (xs : List Entry) → AreJudged rates xs → (e m : ℕ) (lines : List WageLine) → latest_lines xs e m ≡ Some lines → is_some (rate_in_force rates m) ≡ true
+  lawful_rated xs h e m lines is = told (member_of xs e) (member_rated xs h e) (member_since xs h e m lines is)
+    where
+      told : (o : Option Member) → IsRated o → IsSince m (start_of o) → is_some (rate_in_force rates m) ≡ true
+      told None rated there = absurd there
+      told (Some member) rated there = rate-later rates member.start m there rated

@@ -1,0 +1,19 @@
+-- Access: a clerk may call for everything, a firm for what is its own.
+use Rattle.std.specs.Prelude.{Bool, true, false, ◌==◌}
+use Rattle.clear_book.specs.declared.calls.Caller.{Caller}
+use Rattle.clear_book.specs.declared.calls.Caller.TheVariants.{Firm, Clerk}
+use Rattle.clear_book.specs.declared.calls.Command.{Command}
+use Rattle.clear_book.specs.declared.calls.Command.TheVariants.{Register, Report, ImportBank}
+use Rattle.clear_book.specs.declared.calls.Query.{Query}
+use Rattle.clear_book.specs.declared.calls.Query.TheVariants.{Owed}
+
+-- a firm may report its own wages, and give no other command
+abbrev pub may_do : Caller → Command → Bool
+may_do Clerk command = true
+may_do (Firm e) (Report r) = e == r.employer
+may_do (Firm e) command = false
+
+-- a firm may ask what it owes itself
+abbrev pub may_query : Caller → Query → Bool
+may_query Clerk query = true
+may_query (Firm e) (Owed employer) = e == employer

@@ -1,0 +1,85 @@
+-- What a firm owes: the contributions for its latest reports, and what it has paid.
+use Rattle.std.specs.Prelude.{ℕ, List, [], ◌∷◌, Option, Some, None, sum_by, filter, map}
+use Rattle.std.specs.Option.{option_map_or}
+use Rattle.std.specs.List.{filter_map, range_with_len}
+use Rattle.clear_money.specs.Rates.{Rate, rate_in_force, contribution_of, due_day_of}
+use Rattle.clear_account.specs.declared.entries.Charge.{Charge}
+use Rattle.clear_account.specs.declared.entries.Credit.{Credit}
+use Rattle.clear_bank.specs.declared.lines.Purpose.{Purpose}
+use Rattle.clear_bank.specs.declared.lines.Purpose.TheVariants.{Contribution, Interest}
+use Rattle.clear_book.specs.declared.rows.CreditRow.{CreditRow}
+use Rattle.clear_book.specs.declared.texts.WageLine.{WageLine}
+use Rattle.clear_book.specs.Book.{Book, Entry, rates_of, latest_lines}
+use Rattle.clear_book.specs.Keyed.{in_key_order}
+use Rattle.clear_book.specs.Lines.{lines_standing, credits_of_lines, is_credit_of}
+
+-- the base of a report: the sum of its gross amounts
+abbrev pub base_of : List WageLine → ℕ
+base_of lines = sum_by (λ line. line.gross) lines
+
+-- the contribution for a base at a rate row, and 0 where none is in force
+abbrev pub contribution_of_base : Option Rate → ℕ → ℕ
+contribution_of_base rate base =
+    option_map_or (λ r. contribution_of base r.contribution_rate) rate 0
+
+-- the contribution for the lines of a report
+abbrev pub contribution_of_lines : Option Rate → List WageLine → ℕ
+contribution_of_lines rate lines = contribution_of_base rate (base_of lines)
+
+-- the day on which a month's contribution is due
+abbrev pub due_at : List Rate → ℕ → ℕ
+due_at rates m = option_map_or (due_day_of m) (rate_in_force rates m) 0
+
+-- the contribution of a month for a base
+abbrev pub month_charge : List Rate → ℕ → ℕ → Charge
+month_charge rates m base = record {
+  month = m;
+  due = due_at rates m;
+  cents = contribution_of_base (rate_in_force rates m) base;
+}
+
+-- the contribution of a month for its latest lines, if there are any
+abbrev pub reported_charge : Book → ℕ → Option (List WageLine) → Option Charge
+reported_charge b m None = None
+reported_charge b m (Some lines) = Some (month_charge (rates_of b) m (base_of lines))
+
+-- the contribution of an employer's month, if it has a report
+abbrev pub book_charge : Book → ℕ → ℕ → Option Charge
+book_charge b e m = reported_charge b m (latest_lines b.entries e m)
+
+-- the months from 2000-01 to 2199-12
+unfoldable pub months : List ℕ
+months = range_with_len 24000 2400
+
+-- the contributions of an employer, the months rising
+abbrev pub charges_of : Book → ℕ → List Charge
+charges_of b e = filter_map (book_charge b e) months
+
+-- the rank of a purpose in the order of credits
+abbrev pub rank_of : Purpose → ℕ
+rank_of Contribution = 0
+rank_of Interest = 1
+
+-- credits come in the order of firm, purpose, day and serial
+abbrev pub credit_key : CreditRow → List ℕ
+credit_key row = row.employer ∷ rank_of row.purpose ∷ row.day ∷ row.serial ∷ []
+
+-- the credit that a row holds
+abbrev pub row_credit : CreditRow → Credit
+row_credit row = record { day = row.day; serial = row.serial; cents = row.cents }
+
+-- the credits of all firms: the standing lines that are not in suspense
+abbrev pub credits_standing : List Entry → List CreditRow
+credits_standing xs = in_key_order credit_key (credits_of_lines (lines_standing xs))
+
+-- the credits of an employer among rows, for a purpose
+abbrev pub credits_under : List CreditRow → ℕ → Purpose → List Credit
+credits_under rows e purpose = map row_credit (filter (is_credit_of e purpose) rows)
+
+-- a firm's credits for contributions, by day, and on one day by serial
+abbrev pub credits_of : Book → ℕ → List Credit
+credits_of b e = credits_under (credits_standing b.entries) e Contribution
+
+-- a firm's credits for interest, by day, and on one day by serial
+abbrev pub interest_credits_of : Book → ℕ → List Credit
+interest_credits_of b e = credits_under (credits_standing b.entries) e Interest

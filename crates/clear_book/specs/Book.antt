@@ -1,0 +1,90 @@
+-- The book: the opening rates and the accepted requests, and what is read off it.
+use Rattle.std.specs.Prelude.{ℕ, List, [], ◌∷◌, Option, Some, None, Bool, true, false, ◌&&◌, ◌==◌}
+use Rattle.std.specs.Prelude.{if◌then◌else◌, count_by}
+use Rattle.std.specs.Option.{option_map}
+use Rattle.clear_money.specs.Rates.{Rate}
+use Rattle.clear_book.specs.declared.texts.WageLine.{WageLine}
+use Rattle.clear_book.specs.declared.calls.Caller.{Caller}
+use Rattle.clear_book.specs.declared.calls.Command.{Command}
+use Rattle.clear_book.specs.declared.calls.Command.TheVariants.{Register, Report}
+use Rattle.clear_book.specs.declared.outcomes.Reply.{Reply}
+
+-- an accepted request with its reply
+pub record Entry : Type 0 where
+  pub caller : Caller
+  pub number : ℕ
+  pub day : ℕ
+  pub command : Command
+  pub reply : Reply
+
+-- the newest entry first: behind an entry stands the book that it was judged on
+pub record Book : Type 0 where
+  pub opening : List Rate
+  pub entries : List Entry
+
+-- the day of the last accepted request
+abbrev pub ledger_day : List Entry → Option ℕ
+ledger_day [] = None
+ledger_day (x ∷ xs) = Some x.day
+
+-- the rate rows of a book
+abbrev pub rates_of : Book → List Rate
+rates_of b = b.opening
+
+-- the newer of two, if it is there
+abbrev pub newer : {A : Type 0} → Option A → Option A → Option A
+newer (Some x) old = Some x
+newer None old = old
+
+-- a registered employer
+pub record Member : Type 0 where
+  pub name : List ℕ
+  pub start : ℕ
+
+-- the first member month
+abbrev pub start_of : Option Member → Option ℕ
+start_of None = None
+start_of (Some member) = Some member.start
+
+-- what a command registers for an employer
+abbrev pub registered_by : Command → ℕ → Option Member
+registered_by (Register r) e =
+    if r.employer == e then Some (record { name = r.name; start = r.start }) else None
+registered_by command e = None
+
+-- an employer, if it is registered
+abbrev pub member_of : List Entry → ℕ → Option Member
+member_of [] e = None
+member_of (x ∷ xs) e = newer (registered_by x.command e) (member_of xs e)
+
+-- a command that registers an employer
+abbrev pub is_registration : Command → Bool
+is_registration (Register r) = true
+is_registration command = false
+
+-- how many employers there are
+abbrev pub employer_count : List Entry → ℕ
+employer_count xs = count_by (λ x. is_registration x.command) xs
+
+-- the lines that a command reports for an employer and a month
+abbrev pub reported_by : Command → ℕ → ℕ → Option (List WageLine)
+reported_by (Report r) e m = if (r.employer == e) && (r.month == m) then Some r.lines else None
+reported_by command e m = None
+
+-- the lines of the last report of an employer and a month
+abbrev pub latest_lines : List Entry → ℕ → ℕ → Option (List WageLine)
+latest_lines [] e m = None
+latest_lines (x ∷ xs) e m = newer (reported_by x.command e m) (latest_lines xs e m)
+
+-- a command that reports for the employer and the month
+abbrev pub is_report_of : ℕ → ℕ → Command → Bool
+is_report_of e m (Report r) = (r.employer == e) && (r.month == m)
+is_report_of e m command = false
+
+-- how many reports of a month there were
+abbrev pub version_of : List Entry → ℕ → ℕ → ℕ
+version_of xs e m = count_by (λ x. is_report_of e m x.command) xs
+
+-- the version of a month's latest report: how many there were
+abbrev pub reported_version : List Entry → ℕ → ℕ → Option ℕ
+reported_version xs e m = option_map (λ lines. version_of xs e m) (latest_lines xs e m)

@@ -1,0 +1,99 @@
+-- The judge: the first rule that applies to a call, or the reply or answer. What a command's own
+-- rules say stands in its module of `Own`; here is the one order of all checks.
+use Rattle.std.specs.Prelude.{ℕ, [], ◌∷◌, Option, Some, None, Bool, not, nat_lt, nat_le, length}
+use Rattle.std.specs.Prelude.{is_some}
+use Rattle.clear_money.specs.Rates.{rate_in_force}
+use Rattle.clear_book.specs.declared.calls.Call.{Call}
+use Rattle.clear_book.specs.declared.calls.Call.TheVariants.{Do, Ask}
+use Rattle.clear_book.specs.declared.calls.Command.{Command}
+use Rattle.clear_book.specs.declared.calls.Command.TheVariants.{Register, Report, ImportBank}
+use Rattle.clear_book.specs.declared.calls.Query.{Query}
+use Rattle.clear_book.specs.declared.calls.Query.TheVariants.{Owed}
+use Rattle.clear_book.specs.declared.outcomes.Answer.{Answer}
+use Rattle.clear_book.specs.declared.outcomes.Outcome.{Outcome}
+use Rattle.clear_book.specs.declared.outcomes.Outcome.TheVariants.{Replied, Answered, Refused}
+use Rattle.clear_book.specs.declared.outcomes.Reply.{Reply}
+use Rattle.clear_book.specs.declared.rules.Limit.TheVariants.{Book as BookLimit}
+use Rattle.clear_book.specs.declared.rules.Rule.{Rule}
+use Rattle.clear_book.specs.declared.rules.Rule.TheVariants.{NotYours, DayBack, OverLimit}
+use Rattle.clear_book.specs.Access.{may_do, may_query}
+use Rattle.clear_book.specs.Accounts.{charges_of, credits_of}
+use Rattle.clear_book.specs.Book.{Book, rates_of, ledger_day, member_of, start_of, employer_count}
+use Rattle.clear_book.specs.Book.{reported_version}
+use Rattle.clear_book.specs.Checks.{when, first_of}
+use Rattle.clear_book.specs.Limits.{most_entries}
+use Rattle.clear_book.specs.Lines.{lines_of_rows, lines_seen, lines_standing, rows_brought}
+use Rattle.clear_book.specs.Lines.{credit_count, suspense_count}
+use Rattle.clear_book.specs.Own.ImportBank.{own_import, import_reply}
+use Rattle.clear_book.specs.Own.Owed.{own_owed, owed_by}
+use Rattle.clear_book.specs.Own.Register.{own_register, register_reply}
+use Rattle.clear_book.specs.Own.Report.{own_report, report_reply}
+
+-- a day before the ledger day is refused with that day
+abbrev pub day_back : Option ℕ → ℕ → Option Rule
+day_back None t = None
+day_back (Some ledger) t = when (nat_lt t ledger) (DayBack ledger)
+
+-- no further request can be accepted
+abbrev pub is_full : ℕ → Bool
+is_full entry_count = nat_le most_entries entry_count
+
+-- the first of a command's own rules that applies
+abbrev pub own_rule : Book → ℕ → Command → Option Rule
+own_rule b t (Register r) =
+    own_register (is_some (member_of b.entries r.employer)) (employer_count b.entries)
+    (is_some (rate_in_force (rates_of b) r.start))
+own_rule b t (Report r) =
+    own_report (start_of (member_of b.entries r.employer))
+    (reported_version b.entries r.employer r.month) t r.month r.lines
+own_rule b t (ImportBank file) =
+    own_import (lines_of_rows (lines_seen b.entries))
+    (rows_brought b.entries (lines_seen b.entries) file)
+    (suspense_count (lines_standing b.entries)) (credit_count (lines_standing b.entries)) t file
+
+-- the reply to a command that no rule refuses
+abbrev pub reply_to : Book → Command → Reply
+reply_to b (Register r) = register_reply
+reply_to b (Report r) = report_reply (rate_in_force (rates_of b) r.month) r.lines
+reply_to b (ImportBank file) =
+    import_reply (rows_brought b.entries (lines_seen b.entries) file) file
+
+-- the first of a query's own rules that applies
+abbrev pub own_query : Book → Query → Option Rule
+own_query b (Owed employer) = own_owed (is_some (member_of b.entries employer))
+
+-- the answer to a query that no rule refuses
+abbrev pub answer_to : Book → ℕ → Query → Answer
+answer_to b t (Owed employer) = owed_by t (charges_of b employer) (credits_of b employer)
+
+-- the rule in place of the outcome, if one applies
+abbrev pub refused_or : Option Rule → Outcome → Outcome
+refused_or None outcome = outcome
+refused_or (Some rule) outcome = Refused rule
+
+-- the one order of checks for a command: access, the day, the book's limit, the own rules; then the
+-- reply
+abbrev pub judged_do : Bool → Option Rule → Bool → Option Rule → Reply → Outcome
+judged_do may back full own reply = refused_or (first_of (
+    when (not may) NotYours
+    ∷ back
+    ∷ when full (OverLimit BookLimit)
+    ∷ own
+    ∷ [])) (Replied reply)
+
+-- and for a query: access, the day, the own rules; then the answer
+abbrev pub judged_ask : Bool → Option Rule → Option Rule → Answer → Outcome
+judged_ask may back own answer = refused_or (first_of (
+    when (not may) NotYours
+    ∷ back
+    ∷ own
+    ∷ [])) (Answered answer)
+
+-- what a call is answered on a book
+abbrev pub judge : Book → Call → Outcome
+judge b (Do caller number day command) =
+    judged_do (may_do caller command) (day_back (ledger_day b.entries) day)
+    (is_full (length b.entries)) (own_rule b day command) (reply_to b command)
+judge b (Ask caller day query) =
+    judged_ask (may_query caller query) (day_back (ledger_day b.entries) day) (own_query b query)
+    (answer_to b day query)

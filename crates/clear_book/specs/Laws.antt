@@ -1,0 +1,47 @@
+-- What follows from the definitions alone, of lawful books.
+use Rattle.std.specs.Prelude.{◌≡◌, ℕ, ◌≤◌, List, Some, length, map}
+use Rattle.std.specs.List.{AllByRecursion, range_with_len}
+use Rattle.clear_money.specs.Rates.{rate_in_force}
+use Rattle.clear_account.specs.Account.{charged, credited}
+use Rattle.clear_book.specs.declared.rows.BankRow.{BankRow}
+use Rattle.clear_book.specs.declared.texts.WageLine.{WageLine}
+use Rattle.clear_book.specs.Book.{Book, rates_of, latest_lines}
+use Rattle.clear_book.specs.Accounts.{base_of, contribution_of_lines, charges_of, credits_of}
+use Rattle.clear_book.specs.Accounts.{interest_credits_of}
+use Rattle.clear_book.specs.Keyed.{find_row, AreInOrder, AreOnce}
+use Rattle.clear_book.specs.Limits.{most_entries, most_lines, most_gross, most_base, most_charged}
+use Rattle.clear_book.specs.Limits.{most_credits, most_credited, most_suspense}
+use Rattle.clear_book.specs.Lines.{lines_standing, suspense_count}
+use Rattle.clear_book.specs.Tables.{bank_key}
+
+-- the limits on a report's lines
+pub record AreFew (lines : List WageLine) : Type 0 where
+  pub few : length lines ≤ most_lines
+  pub small : AllByRecursion (λ line. line.gross ≤ most_gross) lines
+
+-- what no sum over a book goes beyond
+pub record IsSmall (b : Book) : Type 0 where
+  pub entries : length b.entries ≤ most_entries
+  pub lines : (e m : ℕ) (lines : List WageLine) → latest_lines b.entries e m ≡ Some lines
+      → AreFew lines
+  pub base : (e m : ℕ) (lines : List WageLine) → latest_lines b.entries e m ≡ Some lines
+      → base_of lines ≤ most_base
+  pub contribution : (e m : ℕ) (lines : List WageLine) → latest_lines b.entries e m ≡ Some lines
+      → contribution_of_lines (rate_in_force (rates_of b) m) lines ≤ most_base
+  pub total : (e : ℕ) → charged (charges_of b e) ≤ most_charged
+  pub credits : (e : ℕ) → length (credits_of b e) ≤ most_credits
+  pub interest_credits : (e : ℕ) → length (interest_credits_of b e) ≤ most_credits
+  pub paid : (e : ℕ) → credited (credits_of b e) ≤ most_credited
+  pub interest_paid : (e : ℕ) → credited (interest_credits_of b e) ≤ most_credited
+  pub suspense : suspense_count (lines_standing b.entries) ≤ most_suspense
+
+-- the bank lines of a book: the first takes serial 1 and each further one the next, and no
+-- reference stands twice
+pub record AreCounted (rows : List BankRow) : Type 0 where
+  pub serials : map (λ row. row.serial) rows ≡ range_with_len 1 (length rows)
+  pub references : AreOnce bank_key rows
+
+-- the rows in the strict order of their keys: under each key the same row is found, and no other
+pub record AreSorted {Row : Type 0} (key : Row → List ℕ) (sorted rows : List Row) : Type 0 where
+  pub order : AreInOrder key sorted
+  pub found : (k : List ℕ) → find_row key sorted k ≡ find_row key rows k

@@ -1,0 +1,17 @@
+pub mod Access
+pub mod Accounts
+pub mod Book
+pub mod Checks
+pub mod Judge
+pub mod Keyed
+pub mod Laws
+pub mod Limits
+pub mod Lines
+pub mod Machine
+pub mod Numbers
+pub mod Offices
+pub mod Own
+pub mod Ranges
+pub mod Rules
+pub mod Tables
+pub mod Texts

@@ -1,0 +1,57 @@
+-- How much a book, a request and an account may hold.
+use Rattle.std.specs.Prelude.{ℕ}
+pub use Rattle.clear_money.specs.Limits.{most_base}
+
+-- ---- judged by the rule on limits
+
+-- the accepted requests of a book
+abbrev pub most_entries : ℕ
+most_entries = 50000000
+
+-- the registered employers
+abbrev pub most_employers : ℕ
+most_employers = 10000
+
+-- the lines of a report
+abbrev pub most_lines : ℕ
+most_lines = 500
+
+-- the gross amount of a line, in cents
+abbrev pub most_gross : ℕ
+most_gross = 10000000
+
+-- the data records of a bank file
+abbrev pub most_records : ℕ
+most_records = 10000
+
+-- the lines in suspense
+abbrev pub most_suspense : ℕ
+most_suspense = 100000
+
+-- the credits of an employer for one purpose
+abbrev pub most_credits : ℕ
+most_credits = 100000
+
+-- ---- values of requests
+
+-- the number of a request
+abbrev pub most_request_no : ℕ
+most_request_no = 999999999999999999
+
+-- the bytes of a name
+abbrev pub most_name_bytes : ℕ
+most_name_bytes = 60
+
+-- ---- what follows for sums
+
+-- all contributions of an employer, in cents: 2,400 months of the greatest base
+abbrev pub most_charged : ℕ
+most_charged = 12000000000000
+
+-- all credits of an employer for one purpose, in cents: 100,000 credits of 100,000,000,000 cents
+abbrev pub most_credited : ℕ
+most_credited = 10000000000000000
+
+-- the serials that an office gives: 50,000,000 requests of 10,000 records
+abbrev pub most_serials : ℕ
+most_serials = 500000000000

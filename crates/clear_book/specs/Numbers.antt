@@ -1,0 +1,11 @@
+-- The numbers that callers give their commands, and how many serials were given.
+use Rattle.std.specs.Prelude.{ℕ, ◌≤◌}
+use Rattle.clear_book.specs.Limits.{most_request_no, most_serials}
+
+-- 1 to 999,999,999,999,999,999
+abbrev pub IsRequestNo : ℕ → Type 0
+IsRequestNo n = (1 ≤ n) × (n ≤ most_request_no)
+
+-- at most 500,000,000,000
+abbrev pub IsSerialCount : ℕ → Type 0
+IsSerialCount n = n ≤ most_serials

@@ -1,0 +1,53 @@
+//! Laws: what follows from the definitions alone. A law has no parameters and no effect; its
+//! contract is the law.
+ghost use Rattle.std.specs.Prelude.{◌≡◌, ℕ, List};
+ghost use Rattle.std.specs.List.{AllByRecursion};
+ghost use Rattle.clear_book.specs.declared.calls.Call.{Call};
+ghost use Rattle.clear_book.specs.declared.outcomes.Outcome.{Outcome};
+ghost use Rattle.clear_book.specs.Accounts.{charges_of, credit_key, credits_of, credits_standing};
+ghost use Rattle.clear_book.specs.Book.{Book};
+ghost use Rattle.clear_book.specs.Laws.{AreCounted, AreSorted, IsSmall};
+ghost use Rattle.clear_book.specs.Lines.{credits_of_lines, lines_seen, lines_standing};
+ghost use Rattle.clear_book.specs.Machine.{IsLawful, Runs};
+ghost use Rattle.clear_book.specs.Ranges.{IsCall};
+ghost use Rattle.clear_book.specs.Tables.{Tables, Stands, table_charges, table_credits};
+
+/// A run over calls whose values lie in their ranges leads from a lawful book to a lawful one.
+pub fn law_lawful()
+    ensures { (b : Book) (calls : List Call) (outcomes : List Outcome) (last : Book)
+        → Runs b calls outcomes last → AllByRecursion IsCall calls → IsLawful b → IsLawful last }
+{}
+
+/// A lawful book has at most 50,000,000 entries, its reports at most 500 lines of at most
+/// 10,000,000 cents, a base of at most 5,000,000,000 cents; the charges of a firm come to at most
+/// 12,000,000,000,000 cents; a firm has at most 100,000 payments for each purpose, together at most
+/// 10,000,000,000,000,000 cents, and at most 100,000 lines are in suspense: no sum leaves its type.
+pub fn law_small()
+    ensures { (b : Book) → IsLawful b → IsSmall b }
+{}
+
+/// The contributions that the tables of a lawful book hold for an employer are those of the book,
+/// the months rising.
+pub fn law_charges()
+    ensures { (b : Book) (t : Tables) (e : ℕ)
+        → IsLawful b → Stands b t → table_charges t e ≡ charges_of b e }
+{}
+
+/// The bank lines of a book have the serials 1, 2, 3, .. in the order in which they came, and no
+/// reference stands twice.
+pub fn law_bank_lines()
+    ensures { (b : Book) → AreCounted (lines_seen b.entries) }
+{}
+
+/// The payments of a book are those of its standing lines, in the strict order of firm, purpose,
+/// day and serial.
+pub fn law_credits_standing()
+    ensures { (b : Book) → AreSorted credit_key (credits_standing b.entries)
+        (credits_of_lines (lines_standing b.entries)) }
+{}
+
+/// The payments of contributions that the tables hold for an employer are those of the book, by
+/// day, then serial.
+pub fn law_credits()
+    ensures { (b : Book) (t : Tables) (e : ℕ) → Stands b t → table_credits t e ≡ credits_of b e }
+{}

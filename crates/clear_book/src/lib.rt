@@ -1,0 +1,20 @@
+//! The values of requests, the rules, and the book that requests make.
+//!
+//! `specs/` says what a reader must believe: the book of accepted requests, what is read off it,
+//! the judge with its one order of checks, the machine that goes from call to call, and the tables
+//! that stand for a book. The laws in `laws` follow from these definitions alone: runs keep a book
+//! lawful, and no sum over a lawful book leaves its type. `rules` is the one table of all rules,
+//! and `limits` that of all limits.
+#![tactic(auto)]
+
+pub mod access;
+pub mod calls;
+pub mod files;
+pub mod laws;
+pub mod limits;
+pub mod numbers;
+pub mod outcomes;
+pub mod ranges;
+pub mod rows;
+pub mod rules;
+pub mod texts;

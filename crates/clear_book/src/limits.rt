@@ -1,0 +1,31 @@
+//! How much a book, a request and an account may hold.
+
+/// The accepted requests of a book.
+pub const MAX_ENTRIES: u64 = 50_000_000;
+
+/// The registered employers.
+pub const MAX_EMPLOYERS: u64 = 10_000;
+
+/// The lines of a report.
+pub const MAX_LINES: usize = 500;
+
+/// The gross amount of a line, in cents.
+pub const MAX_GROSS: u64 = 10_000_000;
+
+/// The data records of a bank file.
+pub const MAX_RECORDS: usize = 10_000;
+
+/// The lines in suspense.
+pub const MAX_SUSPENSE: u64 = 100_000;
+
+/// The credits of an employer for one purpose.
+pub const MAX_CREDITS: u64 = 100_000;
+
+/// The number of a request.
+pub const MAX_REQUEST_NO: u64 = 999_999_999_999_999_999;
+
+/// The bytes of a name.
+pub const MAX_NAME_BYTES: usize = 60;
+
+/// The serials that an office gives: 50,000,000 requests of 10,000 records.
+pub const MAX_SERIALS: u64 = 500_000_000_000;

@@ -1,0 +1,112 @@
+//! Names, and the wage lines of a report.
+ghost use Rattle.std.specs.Prelude.{◌≡◌, ℕ, ◌↔◌, string_bytes, true, IfOk, IfSome, IsSome};
+ghost use Rattle.std.specs.List.{AllByRecursion};
+ghost use Rattle.clear_book.specs.Texts.{IsName, IsPrintable};
+
+use crate::limits::MAX_NAME_BYTES;
+use clear_money::numbers::WorkerNo;
+use std::alloc::AllocError;
+use std::marker::Model;
+
+/// The name of a firm: 1 to 60 bytes of UTF-8 without control characters. A contract sees its
+/// bytes.
+#[derive(Drop)]
+pub struct Name {
+    text: String,
+}
+
+impl Model for Name {
+    ghost use Rattle.std.specs.Prelude.{ℕ, List, string_bytes};
+    ghost use Rattle.clear_book.specs.Texts.{IsName};
+
+    ghost Value = { List ℕ };
+
+    ghost view = { λ a. string_bytes a.text };
+
+    ghost invariant = { λ a. IsName (string_bytes a.text) };
+}
+
+impl Name {
+    /// None outside the range: an empty or too long text, or one with a byte below 0x20 or 0x7F.
+    pub fn new(text: String) -> Option<Name>
+        ensures some { IsSome result ↔ IsName (string_bytes text) }
+        ensures value { IfSome result (λ name. name ≡ string_bytes text) }
+    {
+        let bytes = text.as_str().as_bytes();
+        if bytes.is_empty() || bytes.len() > MAX_NAME_BYTES || !are_printable(bytes) {
+            return None;
+        }
+        Some(Name { text })
+    }
+
+    /// The text of the name.
+    pub fn as_str(&self) -> &str
+        ensures value { result.now ≡ self.now }
+        ensures range { IsName result.now }
+    {
+        self.text.as_str()
+    }
+
+    /// A copy of the name.
+    pub fn copied(&self) -> Result<Name, AllocError>
+        ensures { IfOk result (λ name. name ≡ self.now) }
+    {
+        Ok(Name {
+            text: self.text.clone()?,
+        })
+    }
+}
+
+// No byte is a control character.
+fn are_printable(bytes: &[u8]) -> bool
+    ensures { (result ≡ true) ↔ AllByRecursion IsPrintable bytes.now }
+{
+    bytes.iter().all(|byte| *byte >= 0x20 && *byte != 0x7F)
+}
+
+/// What a worker earned in a month: the gross amount in cents.
+#[derive(Clone, Copy)]
+pub struct WageLine {
+    pub worker: WorkerNo,
+    pub gross: u64,
+}
+
+/// The lines of a report in the order in which they were given. A contract sees a list.
+#[derive(Drop)]
+pub struct WageLines {
+    lines: Vec<WageLine>,
+}
+
+impl Model for WageLines {
+    ghost use Rattle.std.specs.Prelude.{List};
+    ghost use Rattle.clear_book.specs.declared.texts.WageLine.{WageLine};
+
+    ghost Value = { List WageLine };
+
+    ghost view = { λ a. a.lines.items };
+}
+
+impl WageLines {
+    /// These lines, whatever they are: a report's rules judge them.
+    pub fn new(lines: Vec<WageLine>) -> WageLines
+        ensures { result ≡ lines.items }
+    {
+        WageLines { lines }
+    }
+
+    /// The lines in their order.
+    pub fn as_slice(&self) -> &[WageLine]
+        ensures { result.now ≡ self.now }
+    {
+        self.lines.as_slice()
+    }
+
+    /// A copy of the lines.
+    pub fn copied(&self) -> Result<WageLines, AllocError>
+        ensures { IfOk result (λ lines. lines ≡ self.now) }
+    {
+        Ok(WageLines {
+            lines: self.lines.clone()?,
+        })
+    }
+}

@@ -1,0 +1,139 @@
+-- Of a stream that is served: one answer more, the end, and a break.
+use Rattle.std.proofs.Common.{◌≡◌, ℕ, ◌+◌, ◌<◌, Bool, eqb, List, [], ◌∷◌, ◌++◌, Option, refl, sym, ap, ◌∙◌, subst, arith, inl, inr}
+use Rattle.std.proofs.lemmas.List.{append-nil, append_assoc, length-append}
+use Rattle.std.specs.Prelude.{IfSome, false, length, codes}
+use Rattle.std.specs.Io.KnownBytes.{Appends}
+use Rattle.clear_book.specs.declared.rules.Rule.TheVariants.{Memory}
+use Rattle.clear_answers.specs.declared.said.Said.{Said}
+use Rattle.clear_answers.specs.Answer.{answer_of, first_lines, key_field, close_field, sent_body, body_of}
+use Rattle.clear_answers.specs.Said.{refused_by}
+use Rattle.clear_wire.specs.Head.{Heading}
+use Rattle.clear_wire.specs.Stream.{NextItem, ended, Next}
+use Rattle.clear_wire.specs.Cut.{left_after, left_after_all, Cuts}
+use Rattle.clear_wire.specs.Known.{Leads}
+use Rattle.clear_wire.specs.Limits.{request_limit}
+use Rattle.clear_wire.proofs.CutLemmas.{Cuts-append, left_after_all-append, cut_ended, cut_full, cut_begun}
+use Rattle.clear_wire.proofs.KnownLemmas.{Leads-refl, Leads-then, Appends-nil, Appends-then}
+use Rattle.clear_http.specs.Serve.{was_done, MaySend, Says, Responds, is_bare, item_answer, answer_text, AnswersOne, BreaksOff, Progress, Serves, ServesPart}
+
+pub same_answer : (left : ℕ) (p : NextItem) (said : Said) (bare : Bool) (after : ℕ) → bare ≡ is_bare p → after ≡ left_after left p
+    → answer_of said (eqb after 0) bare ≡ item_answer left p said
+same_answer left p said bare after b a = λ i. answer_of said (eqb (a i) 0) (b i)
+
+module _ {H : Type 0} (responds : H → Heading → List ℕ → Said → H → Type 0) where
+  -- what is sent for an item may be said to it
+  pub says : (h : H) (p : NextItem) (wanted said : Said) (h' : H) → Says responds h p wanted h' → (was_done wanted ≡ false → Says responds h p (refused_by Memory) h') → MaySend wanted said
+      → Says responds h p said h'
+  says h p wanted said h' there memory (inl e) = subst (λ s. Says responds h p s h') (sym e) there
+  says h p wanted said h' there memory (inr m) = subst (λ s. Says responds h p s h') (sym m.1) (memory m.0)
+
+  pub Responds-append : (a : H) (ps qs : List NextItem) (ss ts : List Said) (b c : H) → Responds responds a ps ss b → Responds responds b qs ts c → Responds responds a (ps ++ qs) (ss ++ ts) c
+  Responds-append a [] qs [] ts b c x y = subst (λ h. Responds responds h qs ts c) x y
+  Responds-append a [] qs (s ∷ ss) ts b c x y = absurd x
+  Responds-append a (p ∷ ps) qs [] ts b c x y = absurd x
+  Responds-append a (p ∷ ps) qs (s ∷ ss) ts b c x y = (x.0, x.1, Responds-append x.0 ps qs ss ts b c x.2 y)
+
+  -- items and what is said go together, so their bytes do
+  answer_text-append : (left : ℕ) (a : H) (ps qs : List NextItem) (ss ts : List Said) (b : H) → Responds responds a ps ss b
+      → answer_text left (ps ++ qs) (ss ++ ts) ≡ answer_text left ps ss ++ answer_text (left_after_all left ps) qs ts
+  answer_text-append left a [] qs [] ts b x = refl
+  answer_text-append left a [] qs (s ∷ ss) ts b x = absurd x
+  answer_text-append left a (p ∷ ps) qs [] ts b x = absurd x
+  answer_text-append left a (p ∷ ps) qs (s ∷ ss) ts b x =
+      ap (λ t. item_answer left p s ++ t) (answer_text-append (left_after left p) x.0 ps qs ss ts b x.2)
+      ∙ sym (append_assoc (item_answer left p s) _ _)
+
+  module _ (h : H) (bytes mid written wmid : Option (List ℕ)) (left : ℕ) (now : H) (answered : ℕ) (x : Progress responds h bytes mid written wmid left now answered) where
+    text_then : (qs : List NextItem) (ts : List Said) → answer_text request_limit (x.items ++ qs) (x.saids ++ ts) ≡ answer_text request_limit x.items x.saids ++ answer_text left qs ts
+    text_then qs ts = answer_text-append request_limit h x.items qs x.saids ts now x.runs
+        ∙ ap (λ n. answer_text request_limit x.items x.saids ++ answer_text n qs ts) (sym x.left_is)
+
+    left_then : (qs : List NextItem) → left_after_all request_limit (x.items ++ qs) ≡ left_after_all left qs
+    left_then qs = left_after_all-append request_limit x.items qs ∙ ap (λ n. left_after_all n qs) (sym x.left_is)
+
+    cuts_then : (qs : List NextItem) (b m r : List ℕ) → Cuts request_limit b x.items m → Cuts left m qs r → Cuts request_limit b (x.items ++ qs) r
+    cuts_then qs b m r c d = Cuts-append request_limit b x.items qs m r c (subst (λ n. Cuts n m qs r) x.left_is d)
+
+    pub progress_more : (bytes' written' : Option (List ℕ)) (after : ℕ) (next : H) → 0 < left → AnswersOne responds left now mid bytes' wmid written' after next
+        → Progress responds h bytes bytes' written written' after next (answered + 1)
+    progress_more bytes' written' after next some one = record {
+      items = x.items ++ one.0 ∷ [];
+      saids = x.saids ++ one.1 ∷ [];
+      cuts = Leads-then _ (λ b r. Next b one.0 r) _ (λ b m r c n. cuts_then (one.0 ∷ []) b m r c (some, one.2, r, n, refl)) bytes mid bytes' x.cuts one.3;
+      runs = Responds-append h x.items (one.0 ∷ []) x.saids (one.1 ∷ []) now next x.runs (next, one.5, refl);
+      left_is = one.4 ∙ sym (left_then (one.0 ∷ []));
+      wrote = subst (Appends written written')
+          (ap (λ t. answer_text request_limit x.items x.saids ++ t) (sym (append-nil (item_answer left one.0 one.1))) ∙ sym (text_then (one.0 ∷ []) (one.1 ∷ [])))
+          (Appends-then written wmid written' _ _ x.wrote one.6);
+      count = omega (arith, x.count, length-append x.items (one.0 ∷ []));
+    }
+
+    pub progress_over : (bytes' written' : Option (List ℕ)) (next : H) → Leads (λ b r. Next b ended r) mid bytes' → next ≡ now → written' ≡ wmid
+        → Serves responds h bytes written written' next answered
+    progress_over bytes' written' next over same kept = record {
+      items = x.items;
+      saids = x.saids;
+      cut = cut_ended x.items bytes mid bytes' x.cuts over;
+      runs = subst (Responds responds h x.items x.saids) (sym same) x.runs;
+      wrote = subst (λ w. Appends written w (answer_text request_limit x.items x.saids)) (sym kept) x.wrote;
+      count = x.count;
+    }
+
+    pub progress_full : left ≡ 0 → Serves responds h bytes written wmid now answered
+    progress_full none = record {
+      items = x.items;
+      saids = x.saids;
+      cut = cut_full x.items bytes mid (sym x.left_is ∙ none) x.cuts;
+      runs = x.runs;
+      wrote = x.wrote;
+      count = x.count;
+    }
+
+    pub progress_break : (written' : Option (List ℕ)) (next : H) → BreaksOff responds left now mid wmid written' next → ServesPart responds h bytes written written' next answered
+    progress_break written' next b = record {
+      items = x.items;
+      saids = x.saids;
+      last = b.0;
+      last_said = b.1;
+      begins = cut_begun x.items b.0 bytes mid x.cuts (left_same b.0 mid b.5);
+      runs = Responds-append h x.items b.0 x.saids b.1 now next x.runs b.6;
+      one = b.4;
+      part = b.2;
+      rest = b.3;
+      wrote = Appends-then written wmid written' _ _ x.wrote b.7;
+      split = text_then b.0 b.1 ∙ ap (λ t. answer_text request_limit x.items x.saids ++ t) b.8;
+      proper = b.9;
+      count = x.count;
+    }
+      where
+        left_same : (qs : List NextItem) (a : Option (List ℕ)) → IfSome a (λ m. (r : List ℕ) × Cuts left m qs r) → IfSome a (λ m. (r : List ℕ) × Cuts (left_after_all request_limit x.items) m qs r)
+        left_same qs a q = subst (λ n. IfSome a (λ m. (r : List ℕ) × Cuts n m qs r)) x.left_is q
+
+  -- before the first request
+  pub progress_none : (h : H) (bytes written : Option (List ℕ)) → Progress responds h bytes bytes written written request_limit h 0
+  progress_none h bytes written = record {
+    items = [];
+    saids = [];
+    cuts = Leads-refl (λ b r. Cuts request_limit b [] r) (λ b. refl) bytes;
+    runs = refl;
+    left_is = refl;
+    wrote = Appends-nil written;
+    count = refl;
+  }
+
+-- ---- an answer has bytes
+
+front_some : (xs ys : List ℕ) → 0 < length xs → 0 < length (xs ++ ys)
+front_some xs ys h = omega (arith, length-append xs ys)
+
+lines_some : (said : Said) (len : ℕ) → 0 < length (first_lines said len)
+unfolding first_lines
+lines_some said len = front_some (codes "HTTP/1.1 ") _ (omega arith)
+
+pub answer_some : (said : Said) (close bare : Bool) → 0 < length (answer_of said close bare)
+unfolding answer_of
+answer_some said close bare =
+    let lines = first_lines said (length (body_of said)) in
+    front_some (lines ++ key_field said ++ close_field close ++ codes "\r\n") (sent_body bare (body_of said))
+    (front_some (lines ++ key_field said ++ close_field close) (codes "\r\n")
+    (front_some (lines ++ key_field said) (close_field close) (front_some lines (key_field said) (lines_some said (length (body_of said))))))

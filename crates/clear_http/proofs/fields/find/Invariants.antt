@@ -1,7 +1,0 @@
-use Rattle.std.proofs.Common.{◌≡◌, map, take}
-use Rattle.httparse.specs.Spans.{header_bytes}
-use Rattle.clear_http.specs.Fields.{presence_found, field}
-use Rattle.clear_http.proofs.fields.find.Given as goal
-
-abbrev pub invariant-loop-header : goal.invariant-loop-header
-invariant-loop-header l = presence_found l.found ≡ field l.name (map (header_bytes l.buf) (take l.header-index l.headers))

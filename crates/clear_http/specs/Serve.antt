@@ -1,0 +1,123 @@
+-- What is served: the items of a stream, what is said to each, and the bytes of their answers.
+-- `responds` says what may be said to a request, and what the one who answers is then.
+use Rattle.std.specs.Prelude.{◌≡◌, ℕ, ◌≤◌, ◌<◌, ◌⊎◌, Bool, true, false, List, [], ◌∷◌, ◌++◌}
+use Rattle.std.specs.Prelude.{length, Option, ◌==◌, IfSome, ⊤}
+use Rattle.std.specs.Io.KnownBytes.{Appends}
+use Rattle.clear_book.specs.declared.rules.Rule.TheVariants.{Memory}
+use Rattle.clear_answers.specs.declared.said.Said.{Said}
+use Rattle.clear_answers.specs.declared.said.Said.TheVariants.{Reply, Answer, No}
+use Rattle.clear_answers.specs.Answer.{answer_of}
+use Rattle.clear_answers.specs.Said.{by_stream, refused_by}
+use Rattle.clear_wire.specs.Cut.{left_after, left_after_all, IsAnswered, Cuts, IsCut, BeginsCut}
+use Rattle.clear_wire.specs.Head.{Heading}
+use Rattle.clear_wire.specs.Known.{Leads}
+use Rattle.clear_wire.specs.Limits.{request_limit}
+use Rattle.clear_wire.specs.Method.{is_head}
+use Rattle.clear_wire.specs.Stream.{NextItem, whole, bad, ended, Next}
+
+-- an answer without a body
+abbrev pub is_bare : NextItem → Bool
+is_bare (whole heading body) = is_head heading.method
+is_bare (bad rule bare) = bare
+is_bare ended = false
+
+-- the bytes of one answer, where so many requests may still come with its item
+abbrev pub item_answer : ℕ → NextItem → Said → List ℕ
+item_answer left item said = answer_of said (left_after left item == 0) (is_bare item)
+
+-- the bytes of all answers
+abbrev pub answer_text : ℕ → List NextItem → List Said → List ℕ
+answer_text left [] saids = []
+answer_text left (item ∷ items) [] = []
+answer_text left (item ∷ items) (said ∷ saids) =
+    item_answer left item said ++ answer_text (left_after left item) items saids
+
+-- something was done for what is said: only a reply to a command says so
+abbrev pub was_done : Said → Bool
+was_done (Reply reply) = true
+was_done (Answer answer) = false
+was_done (No refused) = false
+
+-- what may be sent for what is to be said: that, or, where nothing was done, that there is no
+-- memory
+abbrev pub MaySend : Said → Said → Type 0
+MaySend wanted said = (said ≡ wanted) ⊎ ((was_done wanted ≡ false) × (said ≡ refused_by Memory))
+
+-- an answer that was begun isn't whole: some of its bytes are left
+abbrev pub IsProper : List NextItem → List ℕ → Type 0
+IsProper [] rest = ⊤
+IsProper (item ∷ items) rest = 0 < length rest
+
+module _ {H : Type 0} (responds : H → Heading → List ℕ → Said → H → Type 0) where
+  -- a request is answered; a rule that ends the stream is told, or, in its place, want of memory
+  abbrev pub Says : H → NextItem → Said → H → Type 0
+  Says h (whole heading body) said h' = responds h heading body said h'
+  Says h (bad rule bare) said h' =
+      ((said ≡ No (by_stream rule)) ⊎ (said ≡ refused_by Memory)) × (h' ≡ h)
+  Says h ended said h' = ⊥
+
+  -- one thing is said to each item
+  abbrev pub Responds : H → List NextItem → List Said → H → Type 0
+  Responds h [] [] h' = h' ≡ h
+  Responds h (item ∷ items) (said ∷ saids) h' =
+      (mid : H) × Says h item said mid × Responds mid items saids h'
+  Responds h [] (said ∷ saids) h' = ⊥
+  Responds h (item ∷ items) [] h' = ⊥
+
+  -- the stream goes on with one item, and its answer is written
+  abbrev pub AnswersOne : ℕ → H → Option (List ℕ) → Option (List ℕ)
+      → Option (List ℕ) → Option (List ℕ) → ℕ → H → Type 0
+  AnswersOne left h bytes bytes' written written' after h' =
+      (item : NextItem) × (said : Said) × IsAnswered item
+      × Leads (λ b r. Next b item r) bytes bytes'
+      × (after ≡ left_after left item) × Says h item said h'
+      × Appends written written' (item_answer left item said)
+
+  -- at most one item more was taken, and a front of its answer is written
+  abbrev pub BreaksOff : ℕ → H → Option (List ℕ) → Option (List ℕ) → Option (List ℕ) → H → Type 0
+  BreaksOff left h bytes written written' h' =
+      (last : List NextItem) × (said : List Said) × (part : List ℕ) × (rest : List ℕ)
+      × (length last ≤ 1) × IfSome bytes (λ b. (r : List ℕ) × Cuts left b last r)
+      × Responds h last said h' × Appends written written' part
+      × (answer_text left last said ≡ part ++ rest) × IsProper last rest
+
+  -- so many items were answered so far
+  pub record Progress
+      (h : H) (bytes bytes' written written' : Option (List ℕ)) (left : ℕ) (h' : H) (answered : ℕ)
+      : Type 0 where
+    pub items : List NextItem
+    pub saids : List Said
+    pub cuts : Leads (λ b r. Cuts request_limit b items r) bytes bytes'
+    pub runs : Responds h items saids h'
+    pub left_is : left ≡ left_after_all request_limit items
+    pub wrote : Appends written written' (answer_text request_limit items saids)
+    pub count : answered ≡ length items
+
+  -- all of the stream was answered: the answers to its items were written, and nothing else
+  pub record Serves
+      (h : H) (bytes written written' : Option (List ℕ)) (h' : H) (answered : ℕ) : Type 0 where
+    pub items : List NextItem
+    pub saids : List Said
+    pub cut : IfSome bytes (λ b. IsCut b items)
+    pub runs : Responds h items saids h'
+    pub wrote : Appends written written' (answer_text request_limit items saids)
+    pub count : answered ≡ length items
+
+  -- so many items were answered whole; at most one more was taken, and a front of its answer is
+  -- written, which isn't all of it
+  pub record ServesPart
+      (h : H) (bytes written written' : Option (List ℕ)) (h' : H) (answered : ℕ) : Type 0 where
+    pub items : List NextItem
+    pub saids : List Said
+    pub last : List NextItem
+    pub last_said : List Said
+    pub begins : IfSome bytes (λ b. BeginsCut b (items ++ last))
+    pub runs : Responds h (items ++ last) (saids ++ last_said) h'
+    pub one : length last ≤ 1
+    pub part : List ℕ
+    pub rest : List ℕ
+    pub wrote : Appends written written' (answer_text request_limit items saids ++ part)
+    pub split : answer_text request_limit (items ++ last) (saids ++ last_said)
+        ≡ answer_text request_limit items saids ++ (part ++ rest)
+    pub proper : IsProper last rest
+    pub count : answered ≡ length items

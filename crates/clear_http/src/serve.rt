@@ -1,0 +1,316 @@
+//! One stream, served: its requests are answered one after another, and the answers are written.
+ghost use Rattle.std.specs.Prelude.{◌≡◌, ◌≢◌, ℕ, ◌+◌, ◌<◌, ◌++◌, ◌==◌, true, false, List, []};
+ghost use Rattle.std.specs.Prelude.{length, IfOk, IfErr, IfSome, IfNone, OnOk, OnErr, Err};
+ghost use Rattle.std.specs.Io.KnownBytes.{Appends};
+ghost use Rattle.clear_book.specs.declared.rules.Rule.TheVariants.{Memory as no_memory};
+ghost use Rattle.clear_answers.specs.Answer.{answer_of};
+ghost use Rattle.clear_answers.specs.Said.{refused_by};
+ghost use Rattle.clear_wire.specs.Counted.{inner, has_failed, reads_of, noted_of, Notes};
+ghost use Rattle.clear_wire.specs.Cut.{left_after, IsAnswered};
+ghost use Rattle.clear_wire.specs.Input.{stream, reads_made, failed_of, CountsReads, KeepsBorrow};
+ghost use Rattle.clear_wire.specs.Known.{Leads};
+ghost use Rattle.clear_wire.specs.Limits.{read_limit};
+ghost use Rattle.clear_wire.specs.Request.{next_item};
+ghost use Rattle.clear_wire.specs.Stream.{ended, Next};
+ghost use Rattle.clear_http.specs.Serve.{is_bare, was_done, MaySend, Says, AnswersOne, BreaksOff};
+ghost use Rattle.clear_http.specs.Serve.{Serves, ServesPart};
+
+use clear_answers::answer::{answer_bytes, memory_text};
+use clear_answers::said::{Refused, Said};
+use clear_wire::counted::{Counted, NotedRead};
+use clear_wire::input::{Input, ReadFault};
+use clear_wire::limits::MAX_REQUESTS;
+use clear_wire::request::{Item, Request, read_request};
+use std::alloc::Global;
+use std::io;
+use std::io::{Read, Write};
+
+/// Who answers requests.
+pub trait Responder {
+    ghost use Rattle.std.specs.Prelude.{ℕ, List, ◌≡◌, false};
+    ghost use Rattle.clear_book.specs.declared.rules.Rule.TheVariants.{Memory as no_memory};
+    ghost use Rattle.clear_answers.specs.declared.said.Said.{Said};
+    ghost use Rattle.clear_answers.specs.Said.{refused_by};
+    ghost use Rattle.clear_wire.specs.Head.{Heading};
+    ghost use Rattle.clear_wire.specs.Parsed.{heading};
+    ghost use Rattle.clear_http.specs.Serve.{was_done};
+
+    /// What may be said to a request, and what the responder is then.
+    ghost responds: { Self → Heading → List ℕ → Said → Self → Type 0 };
+
+    /// Answers a request. Where nothing was done for it, want of memory may be told in the answer's
+    /// place.
+    fn respond(&mut self, request: &Request) -> Said
+        ensures said { responds self.old (heading request.now.head) request.now.body.items
+            result self.new }
+        ensures memory { was_done result ≡ false
+            → responds self.old (heading request.now.head) request.now.body.items
+            (refused_by no_memory) self.new };
+}
+
+/// Why a stream is not served to its end.
+#[derive(Clone, Copy, Debug, PartialEq, Eq)]
+pub enum Fault {
+    /// A call of the reader failed.
+    Read,
+    /// A call of the writer failed.
+    Write,
+    /// All 1,000,000 reads that a stream may make were made.
+    Reads,
+    /// There was no memory.
+    Memory,
+}
+
+/// How many answers were written.
+#[derive(Clone, Copy)]
+pub struct Served {
+    pub requests: u64,
+}
+
+/// Why a stream was not served to its end, and how far it was.
+#[derive(Clone, Copy)]
+pub struct ServeFault {
+    pub fault: Fault,
+    /// How many answers were written whole.
+    pub answered: u64,
+}
+
+// What is to be sent for an item, and how many requests may come after it.
+#[derive(Drop)]
+struct Due {
+    said: Said,
+    bare: bool,
+    after: u32,
+}
+
+fn fault_of(fault: ReadFault) -> Fault
+    ensures read { result ≡ Fault.Read → fault ≡ ReadFault.Read }
+    ensures reads { result ≡ Fault.Reads → fault ≡ ReadFault.Reads }
+    ensures well { result ≢ Fault.Read → fault ≢ ReadFault.Read }
+    ensures write { result ≢ Fault.Write }
+{
+    match fault {
+        ReadFault::Read => Fault::Read,
+        ReadFault::Reads => Fault::Reads,
+        ReadFault::Memory => Fault::Memory,
+    }
+}
+
+// Writes all of the text, or a front of it that isn't all where a write fails.
+fn put_all<W: Write>(writer: &mut Counted<W>, text: &[u8]) -> io::Result<()>
+    ensures wrote { (part : List ℕ) × (rest : List ℕ) × (text.now ≡ part ++ rest)
+        × Appends (W.contents (inner writer.old)) (W.contents (inner writer.new)) part
+        × OnOk result (rest ≡ []) × OnErr result (0 < length rest) }
+    ensures noted { Notes (noted_of writer.old) (noted_of writer.new) result }
+{
+    let mut at = 0;
+    'writes: while at < text.len() {
+        match writer.write(&text[at..]) {
+            Ok(count) => at += count,
+            Err(e) => return Err(e),
+        }
+    }
+    Ok(())
+}
+
+fn put<W: Write>(writer: &mut Counted<W>, text: &[u8]) -> Result<(), Fault>
+    ensures wrote { (part : List ℕ) × (rest : List ℕ) × (text.now ≡ part ++ rest)
+        × Appends (W.contents (inner writer.old)) (W.contents (inner writer.new)) part
+        × OnOk result (rest ≡ []) × OnErr result (0 < length rest) }
+    ensures failed { IfErr result (λ fault.
+        (fault ≡ Fault.Write) × (has_failed writer.new ≡ true)) }
+    ensures well { OnOk result (has_failed writer.new ≡ has_failed writer.old) }
+{
+    match put_all(writer, text) {
+        Ok(()) => Ok(()),
+        Err(_) => Err(Fault::Write),
+    }
+}
+
+// Something was done for what is said.
+fn was_done(said: &Said) -> bool
+    ensures { result ≡ was_done said.now }
+{
+    matches!(said, Said::Reply(_))
+}
+
+// What is to be sent for what a stream goes on with; nothing at its end.
+fn respond_to<H: Responder>(responder: &mut H, item: Item, left: u32) -> Option<Due>
+    requires { 0 < left }
+    ensures none { IfNone result
+        ((next_item item ≡ ended) × (responder.new ≡ responder.old)) }
+    ensures answered { IfSome result (λ due. IsAnswered (next_item item)) }
+    ensures says { IfSome result (λ due.
+        Says H.responds responder.old (next_item item) due.said responder.new) }
+    ensures memory { IfSome result (λ due. was_done due.said ≡ false
+        → Says H.responds responder.old (next_item item) (refused_by no_memory) responder.new) }
+    ensures bare { IfSome result (λ due. due.bare ≡ is_bare (next_item item)) }
+    ensures after { IfSome result (λ due. due.after ≡ left_after left (next_item item)) }
+    ensures falls { IfSome result (λ due. due.after < left) }
+{
+    match item {
+        Item::Whole(request) => {
+            let said = responder.respond(&request);
+            Some(Due {
+                said,
+                bare: request.head.method.is_head(),
+                after: if request.head.closes { 0 } else { left - 1 },
+            })
+        }
+        Item::Bad { rule, bare } => Some(Due {
+            said: Said::No(Refused::by_stream(rule)),
+            bare,
+            after: 0,
+        }),
+        Item::End => None,
+    }
+}
+
+// Writes what is due, or the answer for want of memory where nothing was done.
+fn send<W: Write>(alloc: Global, writer: &mut Counted<W>, due: &Due) -> Result<(), Fault>
+    ensures wrote { (said : Said) × (part : List ℕ) × (rest : List ℕ) × MaySend due.now.said said
+        × (answer_of said (due.now.after == 0) due.now.bare ≡ part ++ rest)
+        × Appends (W.contents (inner writer.old)) (W.contents (inner writer.new)) part
+        × OnOk result (rest ≡ []) × OnErr result (0 < length rest) }
+    ensures failed { result ≡ Err Fault.Write → has_failed writer.new ≡ true }
+    ensures well { result ≢ Err Fault.Write → has_failed writer.new ≡ has_failed writer.old }
+    ensures only { IfErr result (λ fault. (fault ≢ Fault.Read) × (fault ≢ Fault.Reads)) }
+{
+    let close = due.after == 0;
+    let mut text = Vec::new(alloc);
+    if answer_bytes(&due.said, close, due.bare, &mut text).is_ok() {
+        return put(writer, text.as_slice());
+    }
+    if was_done(&due.said) {
+        return Err(Fault::Memory);
+    }
+    put(writer, memory_text(close, due.bare))
+}
+
+// Answers what the stream goes on with, and says how many requests may follow; none where the
+// stream is over.
+fn turn<H: Responder, R: NotedRead, W: Write>(
+    alloc: Global,
+    responder: &mut H,
+    input: &mut Input<R>,
+    writer: &mut Counted<W>,
+    left: u32,
+) -> Result<Option<u32>, Fault>
+    requires { 0 < left }
+    ensures answered { IfOk result (λ after. IfSome after (λ after.
+        AnswersOne H.responds left responder.old
+        (stream R.remaining input.old) (stream R.remaining input.new)
+        (W.contents (inner writer.old)) (W.contents (inner writer.new)) after responder.new)) }
+    ensures falls { IfOk result (λ after. IfSome after (λ after. after < left)) }
+    ensures over { IfOk result (λ after. IfNone after (
+        Leads (λ bytes rest. Next bytes ended rest)
+        (stream R.remaining input.old) (stream R.remaining input.new)
+        × (responder.new ≡ responder.old) × (writer.new ≡ writer.old))) }
+    ensures fault { OnErr result (BreaksOff H.responds left responder.old
+        (stream R.remaining input.old)
+        (W.contents (inner writer.old)) (W.contents (inner writer.new)) responder.new) }
+    ensures borrow { KeepsBorrow R.noted input.old input.new }
+    ensures counts { CountsReads R.noted input.old input.new }
+    ensures read { result ≡ Err Fault.Read → failed_of R.noted input.new ≡ true }
+    ensures reads { result ≡ Err Fault.Reads → reads_made input.new ≡ read_limit }
+    ensures reader { result ≢ Err Fault.Read
+        → failed_of R.noted input.new ≡ failed_of R.noted input.old }
+    ensures write { result ≡ Err Fault.Write → has_failed writer.new ≡ true }
+    ensures writer { result ≢ Err Fault.Write → has_failed writer.new ≡ has_failed writer.old }
+{
+    match read_request(input) {
+        Ok(item) => match respond_to(responder, item, left) {
+            Some(due) => match send(alloc, writer, &due) {
+                Ok(()) => Ok(Some(due.after)),
+                Err(fault) => Err(fault),
+            },
+            None => Ok(None),
+        },
+        Err(fault) => Err(fault_of(fault)),
+    }
+}
+
+// Serves what an input has left.
+fn serve_input<H: Responder, R: NotedRead, W: Write>(
+    alloc: Global,
+    responder: &mut H,
+    input: &mut Input<R>,
+    writer: &mut Counted<W>,
+) -> Result<Served, ServeFault>
+    ensures served { IfOk result (λ served. Serves H.responds responder.old
+        (stream R.remaining input.old)
+        (W.contents (inner writer.old)) (W.contents (inner writer.new))
+        responder.new served.requests) }
+    ensures fault { IfErr result (λ fault. ServesPart H.responds responder.old
+        (stream R.remaining input.old)
+        (W.contents (inner writer.old)) (W.contents (inner writer.new))
+        responder.new fault.answered) }
+    ensures borrow { KeepsBorrow R.noted input.old input.new }
+    ensures counts { CountsReads R.noted input.old input.new }
+    ensures read { IfErr result (λ fault. fault.fault ≡ Fault.Read
+        → failed_of R.noted input.new ≡ true) }
+    ensures reads { IfErr result (λ fault. fault.fault ≡ Fault.Reads
+        → reads_made input.new ≡ read_limit) }
+    ensures reader { IfErr result (λ fault. fault.fault ≢ Fault.Read
+        → failed_of R.noted input.new ≡ failed_of R.noted input.old) }
+    ensures write { IfErr result (λ fault. fault.fault ≡ Fault.Write
+        → has_failed writer.new ≡ true) }
+    ensures writer { IfErr result (λ fault. fault.fault ≢ Fault.Write
+        → has_failed writer.new ≡ has_failed writer.old) }
+{
+    let mut left = MAX_REQUESTS;
+    let mut answered: u64 = 0;
+    'turns: while left > 0 {
+        match turn(alloc, responder, input, writer, left) {
+            Ok(Some(after)) => {
+                left = after;
+                answered += 1;
+            }
+            Ok(None) => return Ok(Served { requests: answered }),
+            Err(fault) => return Err(ServeFault { fault, answered }),
+        }
+    }
+    Ok(Served { requests: answered })
+}
+
+/// Answers the requests in the bytes of a reader, one after another, up to the end of the stream.
+///
+/// What was written is the answers to the items of the stream, whose bytes alone decide it. After a
+/// fault it is those of the first items, so many as the fault says, and a front of the next one's
+/// that isn't all of it. `Read` and `Write` come only where a call of this reader or writer failed,
+/// `Reads` only after 1,000,000 reads of this reader, and the other faults only where no call
+/// failed.
+pub fn serve_stream<H: Responder, R: Read, W: Write>(
+    alloc: Global,
+    responder: &mut H,
+    reader: &mut Counted<R>,
+    writer: &mut Counted<W>,
+) -> Result<Served, ServeFault>
+    requires read { has_failed reader.old ≡ false }
+    requires write { has_failed writer.old ≡ false }
+    ensures served { IfOk result (λ served. Serves H.responds responder.old
+        (R.remaining (inner reader.old))
+        (W.contents (inner writer.old)) (W.contents (inner writer.new))
+        responder.new served.requests) }
+    ensures fault { IfErr result (λ fault. ServesPart H.responds responder.old
+        (R.remaining (inner reader.old))
+        (W.contents (inner writer.old)) (W.contents (inner writer.new))
+        responder.new fault.answered) }
+    ensures read_failed { IfErr result (λ fault. fault.fault ≡ Fault.Read
+        → has_failed reader.new ≡ true) }
+    ensures write_failed { IfErr result (λ fault. fault.fault ≡ Fault.Write
+        → has_failed writer.new ≡ true) }
+    ensures too_many_reads { IfErr result (λ fault. fault.fault ≡ Fault.Reads
+        → reads_of reader.new ≡ reads_of reader.old + read_limit) }
+    ensures reader_well { IfErr result (λ fault. fault.fault ≢ Fault.Read
+        → has_failed reader.new ≡ false) }
+    ensures writer_well { IfErr result (λ fault. fault.fault ≢ Fault.Write
+        → has_failed writer.new ≡ false) }
+{
+    let mut input = Input::new(alloc, reader);
+    let result = serve_input(alloc, responder, &mut input, writer);
+    // No effect at run time. The proof reads what the reader is from this use of it.
+    let reader = input.into_reader();
+    let _ = &*reader;
+    result
+}

@@ -1,0 +1,4 @@
+pub mod CallerLemmas
+pub mod PartLemmas
+pub mod RouteLemmas
+pub mod JsonLemmas

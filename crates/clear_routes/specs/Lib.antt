@@ -1,0 +1,5 @@
+pub mod Callers
+pub mod Parts
+pub mod Routes
+pub mod Bodies
+pub mod Reading

@@ -1,6 +1,0 @@
-use Rattle.clear_rules.proofs.StandsLemmas.{Stands-registered}
-use Rattle.clear_rules.proofs.decisions.decide_register.Goals as goal
-
-pub returns-clause-change : goal.returns-clause-change
-returns-clause-change c b = λ t caller number lawful stands judged.
-    Stands-registered b t stands caller number c.args.day c.args.registration.now _ judged c.in-Ok.name c.in-Ok.ensures

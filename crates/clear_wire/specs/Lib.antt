@@ -1,0 +1,13 @@
+pub mod Limits
+pub mod Lines
+pub mod Method
+pub mod Fields
+pub mod Framing
+pub mod Head
+pub mod Parsed
+pub mod Stream
+pub mod Cut
+pub mod Known
+pub mod Counted
+pub mod Input
+pub mod Request
