@@ -4,12 +4,12 @@ use Rattle.std.specs.Prelude.{count_by, sum_by}
 use Rattle.std.proofs.lemmas.Bool.Decides.{nat_tests}
 use Rattle.std.proofs.lemmas.List.{append-nil}
 use Rattle.std.proofs.lemmas.List.Sums.{sum_by-cons}
-use Rattle.std.specs.List.{AllByRecursion, cons_option, enumerate_from, find, list_any}
+use Rattle.std.specs.List.{AllByRecursion, cons_option, enumerate_from, list_any}
 use Rattle.clear_bank.specs.declared.lines.Purpose.{Purpose}
 use Rattle.clear_bank.specs.declared.lines.Purpose.TheVariants.{Contribution, Interest}
 use Rattle.clear_bank.specs.Files.{file_lines}
 use Rattle.clear_bank.specs.Lines.{same_purpose}
-use Rattle.clear_bank.specs.Newness.{Placed, is_new, judgement}
+use Rattle.clear_bank.specs.Newness.{Placed, is_new}
 use Rattle.clear_bank.specs.declared.fault.BankFault.{BankFault}
 use Rattle.clear_bank.specs.declared.lines.BankLine.{BankLine}
 use Rattle.clear_bank.proofs.AmountLemmas.{HaveAmounts, file-amounts}
@@ -20,7 +20,6 @@ use Rattle.clear_money.specs.Rates.{Rate}
 use Rattle.clear_book.specs.declared.calls.Command.{Command}
 use Rattle.clear_book.specs.declared.calls.Command.TheVariants.{Register, Report, ImportBank}
 use Rattle.clear_book.specs.declared.rules.Limit.TheVariants.{Suspense, Credits}
-use Rattle.clear_book.specs.declared.rules.Rule.{Rule}
 use Rattle.clear_book.specs.declared.rules.Rule.TheVariants.{OverLimit}
 use Rattle.clear_book.specs.declared.rows.BankRow.{BankRow}
 use Rattle.clear_book.specs.declared.rows.CreditRow.{CreditRow}

@@ -19,7 +19,6 @@ use Rattle.clear_bank.specs.declared.lines.Purpose.TheVariants.{Contribution, In
 use Rattle.clear_bank.specs.Files.{Fields, file_lines, records_of, begins_with_r, record_lines, rows_read, line_of, all_lines, unless_faulty, after_header, header_fault, is_over as is_long}
 use Rattle.clear_bank.specs.Newness.{Placed, line_under, earlier_line, has_other_content, is_new, new_places, judgement, unless_conflict}
 use Rattle.clear_book.specs.declared.calls.Command.TheVariants.{ImportBank}
-use Rattle.clear_rules.specs.declared.decide.import.EmployerCredits.{EmployerCredits}
 use Rattle.clear_rules.specs.declared.decide.import.ImportView.{ImportView}
 use Rattle.clear_book.specs.declared.rules.Limit.TheVariants.{Suspense, Credits}
 use Rattle.clear_book.specs.declared.outcomes.Reply.TheVariants.{Imported}

@@ -177,15 +177,13 @@ impl Write for FailingWriter {
 // How many of these texts end at or before this place, laid end to end.
 fn whole_before(texts: &[&str], place: usize) -> u64 {
     let mut end: usize = 0;
-    let mut count = 0;
-    for text in texts {
+    for (count, text) in texts.iter().enumerate() {
         end = end.saturating_add(text.len());
         if end > place {
-            return count;
+            return count as u64;
         }
-        count += 1;
     }
-    count
+    texts.len() as u64
 }
 
 // The three requests come in 6 reads, and a seventh finds their end. A request is answered before a

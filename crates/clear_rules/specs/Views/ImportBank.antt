@@ -7,7 +7,7 @@ use Rattle.clear_bank.specs.declared.lines.Purpose.TheVariants.{Contribution, In
 use Rattle.clear_bank.specs.Newness.{line_under}
 use Rattle.clear_book.specs.declared.rows.BankRow.{BankRow}
 use Rattle.clear_book.specs.declared.rules.Rule.{Rule}
-use Rattle.clear_book.specs.Book.{Book, Member, member_of}
+use Rattle.clear_book.specs.Book.{Book, member_of}
 use Rattle.clear_book.specs.Lines.{lines_in, new_lines, rows_from, lines_of_rows, lines_seen}
 use Rattle.clear_book.specs.Lines.{lines_standing, suspense_count, credit_count}
 use Rattle.clear_book.specs.Own.ImportBank.{own_import}

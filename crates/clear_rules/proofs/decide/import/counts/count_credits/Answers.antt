@@ -1,6 +1,5 @@
-use Rattle.std.proofs.Common.{◌≡◌, ℕ, ◌+◌, Bool, cond, take, sym, ap, ◌∙◌, arith}
-use Rattle.clear_book.specs.Lines.{credit_count, is_credit_of}
-use Rattle.clear_rules.specs.Counts.{count_in}
+use Rattle.std.proofs.Common.{ℕ, ◌+◌, cond, sym, ap, ◌∙◌, arith}
+use Rattle.clear_book.specs.Lines.{is_credit_of}
 use Rattle.clear_rules.proofs.CountsLemmas.{one_at_most}
 use Rattle.clear_rules.proofs.ImportBankLemmas.{count_next, passes}
 use Rattle.clear_rules.proofs.decide.import.counts.count_credits.Goals as goal
