@@ -1,9 +1,10 @@
-pub mod AmountLemmas
 pub mod AnswerLemmas
 pub mod ConflictLemmas
 pub mod FieldLemmas
 pub mod IndexLemmas
+pub mod LengthLemmas
 pub mod NewnessLemmas
+pub mod RangeLemmas
 pub mod ReaderLemmas
 pub mod RecordLemmas
 pub mod TextLemmas

@@ -1,10 +1,18 @@
--- What is said of conflicts over all earlier lines.
-use Rattle.std.specs.Prelude.{◌≡◌, Bool, not, ◌&&◌, List, map}
-use Rattle.std.specs.List.{find, enumerate_from, list_any, IsDistinct}
+-- What is said of the values of a file's lines, and of conflicts over all earlier lines.
+use Rattle.std.specs.Prelude.{◌≡◌, ℕ, Bool, not, ◌&&◌, List, map, IfOk}
+use Rattle.std.specs.List.{find, enumerate_from, list_any, AllByRecursion, IsDistinct}
 use Rattle.std.specs.Str.{bytes_eq}
+use Rattle.clear_bank.specs.Files.{file_lines}
 use Rattle.clear_bank.specs.Lines.{same_content}
 use Rattle.clear_bank.specs.Newness.{Placed, lines_before, first_conflict}
+use Rattle.clear_bank.specs.Ranges.{IsBankLine}
 use Rattle.clear_bank.specs.declared.lines.BankLine.{BankLine}
+
+-- where a file is read, the values of all its lines are in range
+abbrev pub LinesAreInRange : Type 0
+LinesAreInRange =
+    (limit : ℕ) (file : List ℕ)
+    → IfOk (file_lines limit file) (λ lines. AllByRecursion IsBankLine lines)
 
 -- no reference stands in two of the lines
 abbrev pub HasNoReferenceTwice : List BankLine → Type 0

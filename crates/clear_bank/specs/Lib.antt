@@ -4,4 +4,5 @@ pub mod Index
 pub mod Laws
 pub mod Lines
 pub mod Newness
+pub mod Ranges
 pub mod Texts

@@ -1,36 +1,31 @@
 -- The limits on the payments of a lawful book.
-use Rattle.std.proofs.Common.{◌≡◌, ℕ, ◌+◌, ◌*◌, ◌≤◌, ◌⊎◌, ⊎_elim, inl, inr, List, [], ◌∷◌, ◌++◌, length, map, filter, Option, Some, None, Result, Ok, Err, is_some, Bool, true, false, cond, ◌&&◌, ◌||◌, ◌==◌, nat_lt, refl, sym, ap, ◌∙◌, subst, arith}
+use Rattle.std.proofs.Common.{◌≡◌, ℕ, ◌+◌, ◌*◌, ◌≤◌, ◌⊎◌, ⊎_elim, inl, inr, List, [], ◌∷◌, ◌++◌, length, map, filter, Option, Some, None, Bool, true, false, cond, ◌&&◌, ◌||◌, ◌==◌, nat_lt, refl, sym, ap, ◌∙◌, subst, arith}
 use Rattle.std.specs.Prelude.{count_by, sum_by}
 use Rattle.std.proofs.lemmas.Bool.Decides.{nat_tests}
 use Rattle.std.proofs.lemmas.List.{append-nil}
 use Rattle.std.proofs.lemmas.List.Sums.{sum_by-cons}
-use Rattle.std.specs.List.{AllByRecursion, cons_option, enumerate_from, list_any}
+use Rattle.std.specs.List.{AllByRecursion, cons_option, list_any}
 use Rattle.clear_bank.specs.declared.lines.Purpose.{Purpose}
 use Rattle.clear_bank.specs.declared.lines.Purpose.TheVariants.{Contribution, Interest}
-use Rattle.clear_bank.specs.Files.{file_lines}
 use Rattle.clear_bank.specs.Lines.{same_purpose}
-use Rattle.clear_bank.specs.Newness.{Placed, is_new}
-use Rattle.clear_bank.specs.declared.fault.BankFault.{BankFault}
-use Rattle.clear_bank.specs.declared.lines.BankLine.{BankLine}
-use Rattle.clear_bank.proofs.AmountLemmas.{HaveAmounts, file-amounts}
 use Rattle.clear_account.specs.Account.{credited}
 use Rattle.clear_account.specs.declared.entries.Credit.{Credit}
-use Rattle.clear_money.specs.Numbers.{IsAmount}
 use Rattle.clear_money.specs.Rates.{Rate}
 use Rattle.clear_book.specs.declared.calls.Command.{Command}
-use Rattle.clear_book.specs.declared.calls.Command.TheVariants.{Register, Report, ImportBank}
+use Rattle.clear_book.specs.declared.calls.Command.TheVariants.{Register, Report, Correct, ImportBank}
 use Rattle.clear_book.specs.declared.rules.Limit.TheVariants.{Suspense, Credits}
 use Rattle.clear_book.specs.declared.rules.Rule.TheVariants.{OverLimit}
 use Rattle.clear_book.specs.declared.rows.BankRow.{BankRow}
 use Rattle.clear_book.specs.declared.rows.CreditRow.{CreditRow}
 use Rattle.clear_book.specs.Accounts.{credit_key, credits_standing, row_credit, credits_under}
-use Rattle.clear_book.specs.Book.{Book, Entry, member_of}
+use Rattle.clear_book.specs.Book.{Book, Entry}
 use Rattle.clear_book.specs.Judge.{own_rule}
-use Rattle.clear_book.specs.Own.ImportBank.{import_rules, is_over}
+use Rattle.clear_book.specs.Own.ImportBank.{own_import, import_rules, is_over}
 use Rattle.clear_book.specs.Limits.{most_credits, most_suspense}
-use Rattle.clear_book.specs.Lines.{lines_or_none, lines_in, new_lines, employer_of_line, credit_of_line, lines_of_rows, rows_by, rows_brought, lines_seen, suspense_count, credits_of_lines, is_credit_of, credit_count}
+use Rattle.clear_book.specs.Lines.{credit_of_line, lines_of_rows, rows_by, rows_brought, lines_seen, lines_standing, suspense_count, credits_of_lines, is_credit_of, credit_count}
 use Rattle.clear_book.specs.Machine.{AreJudged}
-use Rattle.clear_book.proofs.LinesLemmas.{credit_count-append, suspense_count-append}
+use Rattle.clear_book.proofs.LinesLemmas.{credit_count-append, suspense_count-append, standing_seen}
+use Rattle.clear_book.proofs.SeenLemmas.{HasRanges, seen-in-range}
 use Rattle.clear_book.proofs.ChecksLemmas.{none_applies, when-none}
 use Rattle.clear_book.proofs.LimitsLemmas.{accepted}
 use Rattle.clear_book.proofs.KeyedRowsLemmas.{sum_by-with_rows}
@@ -83,7 +78,8 @@ import_within : (b : Book) (t : ℕ) (file : List ℕ) → own_rule b t (ImportB
 import_within b t file own old =
     let seen = lines_seen b.entries in
     let rows = rows_brought b.entries seen file in
-    let none = none_applies (import_rules (lines_of_rows seen) rows (suspense_count seen) (credit_count seen) t file) own in
+    let none = none_applies (import_rules (lines_of_rows seen) rows (suspense_count seen) (credit_count seen) t file)
+    (subst (λ (standing : List BankRow). own_import (lines_of_rows seen) rows (suspense_count standing) (credit_count standing) t file ≡ None) (standing_seen b.entries) own) in
     let low = when-none (nat_lt most_suspense (suspense_count seen + suspense_count rows)) (OverLimit Suspense) none.1.1.1.0 in
     let none_is_over = when-none (list_any (is_over (credit_count seen) rows) (credits_of_lines rows)) (OverLimit Credits) none.1.1.1.1.0 in
     (subst (λ (n : ℕ). n ≤ 100000) (sym (suspense_count-append seen rows)) (within (suspense_count seen + suspense_count rows) low), λ e p. few seen rows e p (old.1 e p) (none_over (λ f q. credit_count seen f q + credit_count rows f q) (credits_of_lines rows) none_is_over e p))
@@ -101,12 +97,16 @@ import_within b t file own old =
 rows_within : (b : Book) (t : ℕ) (command : Command) → own_rule b t command ≡ None → IsWithin (lines_seen b.entries) → IsWithin (lines_seen b.entries ++ rows_by b.entries (lines_seen b.entries) command)
 rows_within b t (Register r) own old = subst IsWithin (sym (append-nil (lines_seen b.entries))) old
 rows_within b t (Report r) own old = subst IsWithin (sym (append-nil (lines_seen b.entries))) old
+rows_within b t (Correct c) own old = subst IsWithin (sym (append-nil (lines_seen b.entries))) old
 rows_within b t (ImportBank file) own old = import_within b t file own old
 
 pub lawful_within : (rates : List Rate) (xs : List Entry) → AreJudged rates xs → IsWithin (lines_seen xs)
 lawful_within rates [] h = (omega arith, λ e p. omega arith)
 lawful_within rates (x ∷ xs) h =
     rows_within (record { opening = rates; entries = xs }) x.day x.command (accepted rates x xs h).1 (lawful_within rates xs h.0)
+
+pub standing_within : (rates : List Rate) (xs : List Entry) → AreJudged rates xs → IsWithin (lines_standing xs)
+standing_within rates xs h = subst IsWithin (sym (standing_seen xs)) (lawful_within rates xs h)
 
 length-among : (rows : List CreditRow) (e : ℕ) (p : Purpose) → length (credits_under rows e p) ≡ count_by (is_credit_of e p) rows
 length-among [] e p = refl
@@ -119,60 +119,22 @@ length-among (row ∷ rows) e p = told (is_credit_of e p row) (length-among rows
 pub lawful_credit_count : (rates : List Rate) (xs : List Entry) → AreJudged rates xs → (e : ℕ) (p : Purpose) → length (credits_under (credits_standing xs) e p) ≤ 100000
 lawful_credit_count rates xs h e p =
     let count = length-among (credits_standing xs) e p in
-    let same : count_by (is_credit_of e p) (credits_standing xs) ≡ 0 + count_by (is_credit_of e p) (credits_of_lines (lines_seen xs)) = sum_by-with_rows credit_key (λ (r : CreditRow). cond {A = ℕ} (is_credit_of e p r) 1 0) [] (credits_of_lines (lines_seen xs)) in
-    let few = (lawful_within rates xs h).1 e p in
+    let same : count_by (is_credit_of e p) (credits_standing xs) ≡ 0 + count_by (is_credit_of e p) (credits_of_lines (lines_standing xs)) = sum_by-with_rows credit_key (λ (r : CreditRow). cond {A = ℕ} (is_credit_of e p r) 1 0) [] (credits_of_lines (lines_standing xs)) in
+    let few = (standing_within rates xs h).1 e p in
     omega (arith, count, same, few)
 
 -- ---- and their amounts
 
-abbrev HasAmount : BankRow → Type 0
-HasAmount row = IsAmount row.line.cents
-
 abbrev IsSmall : CreditRow → Type 0
 IsSmall row = row.cents ≤ 100000000000
 
-file_lines-amounts : (file : List ℕ) → AllByRecursion (λ (line : BankLine). IsAmount line.cents) (lines_in file)
-unfolding lines_in
-file_lines-amounts file = told (file_lines 10000 file) (file-amounts 10000 file)
-  where
-    told : (r : Result (List BankLine) BankFault) → HaveAmounts r → AllByRecursion (λ (line : BankLine). IsAmount line.cents) (lines_or_none r)
-    told (Ok lines) h = h
-    told (Err fault) h = tt
-
-chosen-amounts : (test : Placed → Bool) (n : ℕ) (lines : List BankLine) → AllByRecursion (λ (line : BankLine). IsAmount line.cents) lines → AllByRecursion (λ (p : Placed). IsAmount p.1.cents) (filter test (enumerate_from n lines))
-chosen-amounts test n [] h = tt
-chosen-amounts test n (line ∷ lines) h = told (test (n, line)) (chosen-amounts test (n + 1) lines h.1)
-  where
-    told : (b : Bool) → AllByRecursion (λ (p : Placed). IsAmount p.1.cents) (filter test (enumerate_from (n + 1) lines)) → AllByRecursion (λ (p : Placed). IsAmount p.1.cents) (cond b ((n, line) ∷ filter test (enumerate_from (n + 1) lines)) (filter test (enumerate_from (n + 1) lines)))
-    told true rest = (h.0, rest)
-    told false rest = rest
-
-rows-amounts : (is_registered : ℕ → Bool) (n : ℕ) (new : List Placed) → AllByRecursion (λ (p : Placed). IsAmount p.1.cents) new → AllByRecursion HasAmount (map (λ p. record { line = p.1.1; serial = p.0; employer = employer_of_line is_registered p.1.1 }) (enumerate_from n new))
-rows-amounts is_registered n [] h = tt
-rows-amounts is_registered n (p ∷ new) h = (h.0, rows-amounts is_registered (n + 1) new h.1)
-
-both-amounts : (xs ys : List BankRow) → AllByRecursion HasAmount xs → AllByRecursion HasAmount ys → AllByRecursion HasAmount (xs ++ ys)
-both-amounts [] ys h k = k
-both-amounts (x ∷ xs) ys h k = (h.0, both-amounts xs ys h.1 k)
-
-by-amounts : (xs : List Entry) (seen : List BankRow) (command : Command) → AllByRecursion HasAmount (rows_by xs seen command)
-by-amounts xs seen (Register r) = tt
-by-amounts xs seen (Report r) = tt
-by-amounts xs seen (ImportBank file) =
-    rows-amounts (λ e. is_some (member_of xs e)) (length seen + 1) (new_lines (lines_of_rows seen) (lines_in file))
-    (chosen-amounts (is_new (lines_of_rows seen) (lines_in file)) 0 (lines_in file) (file_lines-amounts file))
-
-pub seen-amounts : (xs : List Entry) → AllByRecursion HasAmount (lines_seen xs)
-seen-amounts [] = tt
-seen-amounts (x ∷ xs) = both-amounts (lines_seen xs) (rows_by xs (lines_seen xs) x.command) (seen-amounts xs) (by-amounts xs (lines_seen xs) x.command)
-
-credits-small : (rows : List BankRow) → AllByRecursion HasAmount rows → AllByRecursion IsSmall (credits_of_lines rows)
+credits-small : (rows : List BankRow) → AllByRecursion HasRanges rows → AllByRecursion IsSmall (credits_of_lines rows)
 credits-small [] h = tt
 credits-small (row ∷ rows) h = told row.employer (credits-small rows h.1)
   where
     told : (o : Option ℕ) → AllByRecursion IsSmall (credits_of_lines rows) → AllByRecursion IsSmall (cons_option (credit_of_line row o) (credits_of_lines rows))
     told None rest = rest
-    told (Some e) rest = (h.0.1, rest)
+    told (Some e) rest = (h.0.cents.1, rest)
 
 module _ (e : ℕ) (p : Purpose) where
   abbrev cents_in : CreditRow → ℕ
@@ -196,6 +158,6 @@ module _ (e : ℕ) (p : Purpose) where
 
   pub lawful_paid : (rates : List Rate) (xs : List Entry) → AreJudged rates xs → credited (credits_under (credits_standing xs) e p) ≤ 10000000000000000
   lawful_paid rates xs h =
-      let rows = credits_of_lines (lines_seen xs) in
+      let rows = credits_of_lines (lines_standing xs) in
       let sum : sum_by cents_in (credits_standing xs) ≡ 0 + sum_by cents_in rows = sum_by-with_rows credit_key cents_in [] rows in
-      omega (arith, among-cents (credits_standing xs), sum, cents-small rows (credits-small (lines_seen xs) (seen-amounts xs)), (lawful_within rates xs h).1 e p)
+      omega (arith, among-cents (credits_standing xs), sum, cents-small rows (credits-small (lines_standing xs) (subst (AllByRecursion HasRanges) (sym (standing_seen xs)) (seen-in-range xs))), (standing_within rates xs h).1 e p)

@@ -10,19 +10,22 @@ use Rattle.clear_money.specs.Calendar.{IsMonth}
 use Rattle.clear_money.specs.Rates.{Rate}
 use Rattle.clear_book.specs.declared.texts.WageLine.{WageLine}
 use Rattle.clear_book.specs.declared.calls.Command.{Command}
-use Rattle.clear_book.specs.declared.calls.Command.TheVariants.{Register, Report, ImportBank}
+use Rattle.clear_book.specs.declared.calls.WageReport.{WageReport}
+use Rattle.clear_book.specs.declared.calls.Command.TheVariants.{Register, Report, Correct, ImportBank}
 use Rattle.clear_book.specs.declared.rows.ReportRow.{ReportRow}
 use Rattle.clear_book.specs.declared.rows.WageRow.{WageRow}
 use Rattle.clear_book.specs.Accounts.{base_of, month_charge, reported_charge, book_charge, charges_of}
-use Rattle.clear_book.specs.Book.{Book, Entry, rates_of, member_of, start_of, reported_by, latest_lines, version_of, reported_version}
+use Rattle.clear_book.specs.Book.{Book, Entry, is_for, rates_of, member_of, start_of, reported_by, latest_lines, version_of, reported_version}
 use Rattle.clear_book.specs.Judge.{own_rule}
 use Rattle.clear_book.specs.Ranges.{IsCommand}
 use Rattle.clear_book.specs.Keyed.{is_before, find_row, AllBehind, AreInOrder}
 use Rattle.clear_book.specs.Machine.{AreJudged, IsLawful}
 use Rattle.clear_book.specs.Tables.{Tables, Stands, report_key, wage_key, gross_at, gross_of, reported_gross, table_base, row_charge, table_charges}
+use Rattle.clear_book.proofs.DistinctLemmas.{AreDistinct, same_worker, itself}
 use Rattle.clear_book.proofs.KeyedLemmas.{none_behind, found_key}
 use Rattle.clear_book.proofs.LimitsLemmas.{months_are, accepted, latest_means}
-use Rattle.clear_book.proofs.TablesLemmas.{AreDistinct, distinct, untwiced, key_is, same_worker, itself}
+use Rattle.clear_book.proofs.ReportTablesLemmas.{report_distinct, correction_distinct}
+use Rattle.clear_book.proofs.VersionLemmas.{key_is}
 
 -- ---- the base: wage rows in order with the gross amounts of distinct lines have their sum
 
@@ -273,23 +276,28 @@ module _ (e : ℕ) where
 abbrev IsRight : ℕ → List WageLine → Type 0
 IsRight m lines = AreDistinct lines × IsMonth m
 
+chosen_right : (e m : ℕ) (r : WageReport) (lines : List WageLine) → cond (is_for e m r) (Some r.lines) None ≡ Some lines → AreDistinct r.lines → IsMonth r.month → IsRight m lines
+chosen_right e m r lines h apart month = told (is_for e m r) refl h
+  where
+    told : (k : Bool) → is_for e m r ≡ k → cond k (Some r.lines) None ≡ Some lines → IsRight m lines
+    told true is g =
+        let same : r.lines ≡ lines = cc in
+        (subst AreDistinct same apart, subst IsMonth (key_is r.employer e r.month m is).1 month)
+    told false is g = absurd (cc)
+
 reported_right : (b : Book) (t : ℕ) (command : Command) (e m : ℕ) (lines : List WageLine) → own_rule b t command ≡ None → IsCommand command → reported_by command e m ≡ Some lines → IsRight m lines
 reported_right b t (Register r) e m lines own in_range h = absurd (cc)
 reported_right b t (ImportBank file) e m lines own in_range h = absurd (cc)
 reported_right b t (Report r) e m lines own in_range h =
-    told ((r.employer == e) && (r.month == m)) refl h (distinct [] r.lines (untwiced (start_of (member_of b.entries r.employer)) (reported_version b.entries r.employer r.month) t r.month r.lines own)) in_range.1
-  where
-    told : (k : Bool) → (r.employer == e) && (r.month == m) ≡ k → cond k (Some r.lines) None ≡ Some lines → AreDistinct r.lines → IsMonth r.month → IsRight m lines
-    told true is g apart month =
-        let same : r.lines ≡ lines = cc in
-        (subst AreDistinct same apart, subst IsMonth (key_is r.employer e r.month m is).1 month)
-    told false is g apart month = absurd (cc)
+    chosen_right e m r lines h (report_distinct (start_of (member_of b.entries r.employer)) (reported_version b.entries r.employer r.month) t r.month r.lines own) in_range.1
+reported_right b t (Correct c) e m lines own in_range h =
+    chosen_right e m c.report lines h (correction_distinct (start_of (member_of b.entries c.report.employer)) (reported_version b.entries c.report.employer c.report.month) t c own) in_range.1.1
 
 lawful_right : (rates : List Rate) (xs : List Entry) → AreJudged rates xs → (e m : ℕ) (lines : List WageLine) → latest_lines xs e m ≡ Some lines → IsRight m lines
 lawful_right rates [] h e m lines is = absurd (cc)
 lawful_right rates (x ∷ xs) h e m lines is =
     ⊎_elim
-    (λ (new : reported_by x.command e m ≡ Some lines). reported_right (record { opening = rates; entries = xs }) x.day x.command e m lines (accepted rates x xs h).1 h.2 new)
+    (λ (new : reported_by x.command e m ≡ Some lines). reported_right (record { opening = rates; entries = xs }) x.day x.command e m lines (accepted rates x xs h).1 h.1.3 new)
     (λ (old : latest_lines xs e m ≡ Some lines). lawful_right rates xs h.0 e m lines old)
     (latest_means (reported_by x.command e m) (latest_lines xs e m) lines is)
 

@@ -1,5 +1,5 @@
 -- What checks in an order come to: the first that applies, and what it means that none does.
-use Rattle.std.proofs.Common.{◌≡◌, List, [], ◌∷◌, ◌++◌, Option, Some, None, Bool, true, false, refl}
+use Rattle.std.proofs.Common.{◌≡◌, List, [], ◌∷◌, Option, Some, None, Bool, true, false, refl}
 use Rattle.std.specs.List.{AllByRecursion}
 use Rattle.clear_book.specs.declared.rules.Rule.{Rule}
 use Rattle.clear_book.specs.Checks.{when, first_of}
@@ -13,18 +13,6 @@ pub none_applies : (rules : List (Option Rule)) → first_of rules ≡ None → 
 none_applies [] h = tt
 none_applies (None ∷ rules) h = (refl, none_applies rules h)
 none_applies (Some r ∷ rules) h = absurd (cc)
-
--- the first of some checks is the first of all
-pub first_of-before : (xs ys : List (Option Rule)) (r : Rule) → first_of xs ≡ Some r → first_of (xs ++ ys) ≡ Some r
-first_of-before [] ys r h = absurd (cc)
-first_of-before (None ∷ xs) ys r h = first_of-before xs ys r h
-first_of-before (Some x ∷ xs) ys r h = h
-
--- where none of them applies, the others decide
-pub first_of-after : (xs ys : List (Option Rule)) → first_of xs ≡ None → first_of (xs ++ ys) ≡ first_of ys
-first_of-after [] ys h = refl
-first_of-after (None ∷ xs) ys h = first_of-after xs ys h
-first_of-after (Some x ∷ xs) ys h = absurd (cc)
 
 -- a rule that does not apply has a test that fails
 pub when-none : (test : Bool) (rule : Rule) → when test rule ≡ None → test ≡ false

@@ -6,22 +6,20 @@ use Rattle.std.specs.Option.{option_map}
 use Rattle.clear_book.specs.declared.calls.Caller.{Caller}
 use Rattle.clear_book.specs.declared.calls.Call.TheVariants.{Do}
 use Rattle.clear_book.specs.declared.calls.Command.TheVariants.{ImportBank}
-use Rattle.clear_book.specs.declared.outcomes.Outcome.{Outcome}
-use Rattle.clear_book.specs.declared.outcomes.Outcome.TheVariants.{Replied}
 use Rattle.clear_book.specs.declared.outcomes.Reply.{Reply}
 use Rattle.clear_book.specs.declared.rows.BankRow.{BankRow}
 use Rattle.clear_book.specs.declared.rows.CreditRow.{CreditRow}
 use Rattle.clear_book.specs.declared.rows.Change.TheVariants.{AddBankLines}
 use Rattle.clear_book.specs.Accounts.{credit_key}
 use Rattle.clear_book.specs.Book.{Book, Entry, newer, is_registration, latest_lines}
-use Rattle.clear_book.specs.Judge.{judge}
+use Rattle.clear_book.specs.Judge.{Verdict, new_reply, judge}
 use Rattle.clear_book.specs.Keyed.{find_row, with_rows, AreOnce}
-use Rattle.clear_book.specs.Lines.{lines_seen, rows_brought, credits_of_lines}
+use Rattle.clear_book.specs.Lines.{lines_seen, lines_standing, rows_brought, credits_of_lines}
 use Rattle.clear_book.specs.Machine.{step, after, appended}
 use Rattle.clear_book.specs.Tables.{Tables, Stands, bank_key, changed, noted}
-use Rattle.clear_book.proofs.LinesLemmas.{references_new, credits_new, credits_of_lines-append}
+use Rattle.clear_book.proofs.LinesLemmas.{references_new, credits_new, credits_of_lines-append, standing_seen}
 use Rattle.clear_book.proofs.KeyedRowsLemmas.{AreNew, find_row-append, find_row-with_rows, AreInOrder-with_rows}
-use Rattle.clear_book.proofs.TablesLemmas.{version_of-other}
+use Rattle.clear_book.proofs.VersionLemmas.{version_of-other}
 
 -- rows that are new to a list are so to each with the same look-ups
 still_new : {Row : Type 0} (key : Row → List ℕ) (table rows news : List Row) → ((k : List ℕ) → find_row key table k ≡ find_row key rows k) → AreNew key rows news → AreNew key table news
@@ -35,7 +33,7 @@ grown key table rows news same new once k =
     ∙ ap (λ o. newer o (find_row key news k)) (same k)
     ∙ sym (find_row-append key rows news k)
 
-module _ (b : Book) (t : Tables) (stands : Stands b t) (caller : Caller) (number day : ℕ) (file : List ℕ) (reply : Reply) (judged : judge b (Do caller number day (ImportBank file)) ≡ Replied reply) where
+module _ (b : Book) (t : Tables) (stands : Stands b t) (caller : Caller) (number day : ℕ) (file : List ℕ) (reply : Reply) (judged : judge b (Do caller number day (ImportBank file)) ≡ new_reply reply) where
   abbrev import : Entry
   import = record { caller = caller; number = number; day = day; command = ImportBank file; reply = reply }
 
@@ -45,10 +43,17 @@ module _ (b : Book) (t : Tables) (stands : Stands b t) (caller : Caller) (number
   abbrev rows : List BankRow
   rows = rows_brought b.entries seen file
 
-  new_lines_there : AreNew bank_key seen rows
-  new_lines_there = (references_new b.entries file).1
+  abbrev standing : List BankRow
+  standing = lines_standing b.entries
 
-  new_credits_there : AreNew credit_key (credits_of_lines seen) (credits_of_lines rows)
+  -- what stands then
+  stand_now : lines_standing (import ∷ b.entries) ≡ standing ++ rows
+  stand_now = standing_seen (import ∷ b.entries) ∙ ap (λ (old : List BankRow). old ++ rows) (sym (standing_seen b.entries))
+
+  new_lines_there : AreNew bank_key standing rows
+  new_lines_there = subst (λ (old : List BankRow). AreNew bank_key old rows) (sym (standing_seen b.entries)) (references_new b.entries file).1
+
+  new_credits_there : AreNew credit_key (credits_of_lines standing) (credits_of_lines rows)
   new_credits_there = (credits_new b.entries file).1
 
   imported_tables : Stands (appended b import) (noted day (changed (AddBankLines rows) t))
@@ -63,15 +68,18 @@ module _ (b : Book) (t : Tables) (stands : Stands b t) (caller : Caller) (number
     reports_in_order = stands.reports_in_order;
     wages = λ e m w. stands.wages e m w;
     wages_in_order = stands.wages_in_order;
-    bank = λ reference. grown bank_key t.bank seen rows stands.bank new_lines_there (references_new b.entries file).0 reference;
-    bank_in_order = AreInOrder-with_rows bank_key t.bank rows stands.bank_in_order (still_new bank_key t.bank seen rows stands.bank new_lines_there) (references_new b.entries file).0;
+    bank = λ reference.
+        grown bank_key t.bank standing rows stands.bank new_lines_there (references_new b.entries file).0 reference
+        ∙ ap (λ (all : List BankRow). find_row bank_key all reference) (sym stand_now);
+    bank_in_order = AreInOrder-with_rows bank_key t.bank rows stands.bank_in_order (still_new bank_key t.bank standing rows stands.bank new_lines_there) (references_new b.entries file).0;
     credits = λ k.
-        grown credit_key t.credits (credits_of_lines seen) (credits_of_lines rows) stands.credits new_credits_there (credits_new b.entries file).0 k
-        ∙ ap (λ (all : List CreditRow). find_row credit_key all k) (sym (credits_of_lines-append seen rows));
-    credits_in_order = AreInOrder-with_rows credit_key t.credits (credits_of_lines rows) stands.credits_in_order (still_new credit_key t.credits (credits_of_lines seen) (credits_of_lines rows) stands.credits new_credits_there) (credits_new b.entries file).0;
+        grown credit_key t.credits (credits_of_lines standing) (credits_of_lines rows) stands.credits new_credits_there (credits_new b.entries file).0 k
+        ∙ ap (λ (all : List CreditRow). find_row credit_key all k) (sym (ap credits_of_lines stand_now ∙ credits_of_lines-append standing rows));
+    credits_in_order = AreInOrder-with_rows credit_key t.credits (credits_of_lines rows) stands.credits_in_order (still_new credit_key t.credits (credits_of_lines standing) (credits_of_lines rows) stands.credits new_credits_there) (credits_new b.entries file).0;
     serial = omega (arith, stands.serial, length-append seen rows);
+    unfilled = stands.unfilled;
   }
 
   pub Stands-imported : (new : List BankRow) → new ≡ rows → Stands (step b (Do caller number day (ImportBank file))) (noted day (changed (AddBankLines new) t))
   Stands-imported new same =
-      subst (λ (p : Outcome × List BankRow). Stands (after b (Do caller number day (ImportBank file)) p.0) (noted day (changed (AddBankLines p.1) t))) (λ i. (sym judged i, sym same i)) imported_tables
+      subst (λ (p : Verdict × List BankRow). Stands (after b (Do caller number day (ImportBank file)) p.0) (noted day (changed (AddBankLines p.1) t))) (λ i. (sym judged i, sym same i)) imported_tables

@@ -83,7 +83,8 @@ module _ {Row : Type 0} (key : Row → List ℕ) where
 
   -- ---- rows in order are told by what is found
 
-  found_first : (row : Row) (rows : List Row) → find_row key (row ∷ rows) (key row) ≡ Some row
+  -- the first row is found under its key
+  pub found_first : (row : Row) (rows : List Row) → find_row key (row ∷ rows) (key row) ≡ Some row
   found_first row rows = ap (λ b. cond b (Some row) (find_row key rows (key row))) (is_key-refl (key row))
 
   -- a row that comes before all rows of a list is not found there

@@ -1,5 +1,5 @@
 -- The limits of a lawful book, and that runs keep a book lawful.
-use Rattle.std.proofs.Common.{◌≡◌, ℕ, zero, suc, ◌+◌, ◌*◌, ◌≤◌, ◌⊎◌, List, [], ◌∷◌, length, Option, Some, None, Bool, true, false, cond, ◌&&◌, ◌||◌, ◌==◌, nat_le, nat_lt, sum_by, refl, sym, ap, subst, arith, inl, inr, ⊎_elim}
+use Rattle.std.proofs.Common.{◌≡◌, ℕ, zero, suc, ◌+◌, ◌*◌, ◌≤◌, ◌⊎◌, List, [], ◌∷◌, length, Option, Some, None, Bool, true, false, cond, ◌||◌, nat_le, nat_lt, sum_by, refl, sym, ap, ◌∙◌, subst, arith, inl, inr, ⊎_elim}
 use Rattle.std.proofs.lemmas.Bool.Decides.{nat_tests}
 use Rattle.std.proofs.lemmas.List.Sums.{sum_by-cons}
 use Rattle.std.specs.Option.{option_map_or}
@@ -9,20 +9,23 @@ use Rattle.clear_account.specs.declared.entries.Charge.{Charge}
 use Rattle.clear_money.specs.Rates.{Rate, IsRate, rate_in_force, later_row, contribution_of}
 use Rattle.clear_book.specs.declared.texts.WageLine.{WageLine}
 use Rattle.clear_book.specs.declared.calls.Command.{Command}
-use Rattle.clear_book.specs.declared.calls.Command.TheVariants.{Register, Report, ImportBank}
+use Rattle.clear_book.specs.declared.calls.Command.TheVariants.{Register, Report, Correct, ImportBank}
 use Rattle.clear_book.specs.declared.calls.Call.{Call}
 use Rattle.clear_book.specs.declared.calls.Call.TheVariants.{Do, Ask}
+use Rattle.clear_book.specs.declared.calls.Correction.{Correction}
 use Rattle.clear_book.specs.declared.rules.Limit.TheVariants.{Lines, Gross}
-use Rattle.clear_book.specs.declared.rules.Rule.TheVariants.{Memory, OverLimit}
+use Rattle.clear_book.specs.declared.rules.Rule.TheVariants.{Memory, OverLimit, Failed}
 use Rattle.clear_book.specs.declared.outcomes.Outcome.{Outcome}
-use Rattle.clear_book.specs.declared.outcomes.Outcome.TheVariants.{Replied, Answered, Refused}
+use Rattle.clear_book.specs.declared.outcomes.Outcome.TheVariants.{Refused}
 use Rattle.clear_book.specs.Accounts.{base_of, contribution_of_lines, month_charge, reported_charge, book_charge, charges_of, months}
-use Rattle.clear_book.specs.Book.{Book, Entry, rates_of, newer, reported_by, latest_lines, member_of, start_of, reported_version}
-use Rattle.clear_book.specs.Judge.{judge, own_rule}
+use Rattle.clear_book.specs.Book.{Book, Entry, is_for, rates_of, newer, reported_by, latest_lines, member_of, start_of, reported_version}
+use Rattle.clear_book.specs.Judge.{Verdict, new_reply, kept_reply, an_answer, a_refusal, outcome_of, judge, own_rule}
 use Rattle.clear_book.specs.Limits.{most_entries, most_lines, most_gross}
-use Rattle.clear_book.specs.Own.Report.{own_report, report_rules, has_large_gross}
+use Rattle.clear_book.specs.Own.Lines.{has_large_gross}
+use Rattle.clear_book.specs.Own.Correct.{own_correct, correct_rules}
+use Rattle.clear_book.specs.Own.Report.{own_report, report_rules}
 use Rattle.clear_book.specs.Laws.{AreFew}
-use Rattle.clear_book.specs.Machine.{AreJudged, IsLawful, AreRates, after, step, is_allowed, Takes, Runs}
+use Rattle.clear_book.specs.Machine.{AreJudged, IsLawful, AreRates, after, step, is_allowed, Takes, Goes, Runs}
 use Rattle.clear_book.specs.Ranges.{IsCall}
 use Rattle.clear_book.proofs.ChecksLemmas.{none_applies, when-none}
 use Rattle.clear_book.proofs.JudgeLemmas.{unrefused}
@@ -53,27 +56,36 @@ few_lines start version t m lines h =
       small = none_large lines (when-none (has_large_gross lines) (OverLimit Gross) none.1.1.1.1.1.1.0);
     }
 
+few_corrected : (start version : Option ℕ) (t : ℕ) (c : Correction) → own_correct start version t c ≡ None → AreFew c.report.lines
+few_corrected start version t c h =
+    let none = none_applies (correct_rules start version t c) h in record {
+      few = at_most (length c.report.lines) (when-none (nat_lt most_lines (length c.report.lines)) (OverLimit Lines) none.1.1.1.1.1.1.0);
+      small = none_large c.report.lines (when-none (has_large_gross c.report.lines) (OverLimit Gross) none.1.1.1.1.1.1.1.0);
+    }
+
 -- ---- each latest report of a lawful book is within the limits
 
 pub latest_means : (o old : Option (List WageLine)) (lines : List WageLine) → newer o old ≡ Some lines → (o ≡ Some lines) ⊎ (old ≡ Some lines)
 latest_means None old lines h = inr h
 latest_means (Some x) old lines h = inl h
 
+chosen_few : (b : Bool) (given lines : List WageLine) → cond b (Some given) None ≡ Some lines → AreFew given → AreFew lines
+chosen_few true given lines h few = subst AreFew (cc) few
+chosen_few false given lines h few = absurd (cc)
+
 reported_few : (b : Book) (t : ℕ) (command : Command) (e m : ℕ) (lines : List WageLine) → own_rule b t command ≡ None → reported_by command e m ≡ Some lines → AreFew lines
 reported_few b t (Register r) e m lines own h = absurd (cc)
 reported_few b t (ImportBank file) e m lines own h = absurd (cc)
 reported_few b t (Report r) e m lines own h =
-    chosen ((r.employer == e) && (r.month == m)) h (few_lines (start_of (member_of b.entries r.employer)) (reported_version b.entries r.employer r.month) t r.month r.lines own)
-  where
-    chosen : (b : Bool) → cond b (Some r.lines) None ≡ Some lines → AreFew r.lines → AreFew lines
-    chosen true h few = subst AreFew (cc) few
-    chosen false h few = absurd (cc)
+    chosen_few (is_for e m r) r.lines lines h (few_lines (start_of (member_of b.entries r.employer)) (reported_version b.entries r.employer r.month) t r.month r.lines own)
+reported_few b t (Correct c) e m lines own h =
+    chosen_few (is_for e m c.report) c.report.lines lines h (few_corrected (start_of (member_of b.entries c.report.employer)) (reported_version b.entries c.report.employer c.report.month) t c own)
 
 -- no check applies to an entry of a lawful book
 pub accepted : (rates : List Rate) (x : Entry) (xs : List Entry) → AreJudged rates (x ∷ xs) → (nat_le most_entries (length xs) ≡ false) × (own_rule (record { opening = rates; entries = xs }) x.day x.command ≡ None)
 accepted rates x xs h =
     let b : Book = record { opening = rates; entries = xs } in
-    unrefused b x.caller x.number x.day x.command x.reply h.3
+    unrefused b x.caller x.number x.day x.command x.reply h.2
 
 pub lawful_few : (rates : List Rate) (xs : List Entry) → AreJudged rates xs → (e m : ℕ) (lines : List WageLine) → latest_lines xs e m ≡ Some lines → AreFew lines
 lawful_few rates [] h e m lines is = absurd (cc)
@@ -160,22 +172,47 @@ charged_small b e n is low =
 
 -- ---- steps and runs
 
-step_lawful : (b : Book) (call : Call) (outcome : Outcome) → judge b call ≡ outcome → IsCall call → IsLawful b → IsLawful (after b call outcome)
-step_lawful b (Do caller number day command) (Replied reply) is in_range h = (h, in_range.0, in_range.1, is)
-step_lawful b (Do caller number day command) (Answered answer) is in_range h = h
-step_lawful b (Do caller number day command) (Refused rule) is in_range h = h
-step_lawful b (Ask caller day query) outcome is in_range h = h
+step_lawful : (b : Book) (call : Call) (said : Verdict) → judge b call ≡ said → IsCall call → IsLawful b → IsLawful (after b call said)
+step_lawful b (Do caller number day command) (new_reply reply) is in_range h = (h, in_range, is)
+step_lawful b (Do caller number day command) (kept_reply reply) is in_range h = h
+step_lawful b (Do caller number day command) (an_answer answer) is in_range h = h
+step_lawful b (Do caller number day command) (a_refusal rule) is in_range h = h
+step_lawful b (Ask caller day query) said is in_range h = h
 
 -- what may happen to a call in its ranges keeps a book lawful
 pub takes_lawful : (b : Book) (call : Call) (outcome : Outcome) (next : Book) → Takes b call outcome next → IsCall call → IsLawful b → IsLawful next
 takes_lawful b call outcome next takes in_range h =
     ⊎_elim
-    (λ (t : (outcome ≡ judge b call) × (next ≡ step b call)). subst IsLawful (sym t.1) (step_lawful b call (judge b call) refl in_range h))
+    (λ (t : (outcome ≡ outcome_of (judge b call)) × (next ≡ step b call)). subst IsLawful (sym t.1) (step_lawful b call (judge b call) refl in_range h))
     (λ (t : (outcome ≡ Refused Memory) × (is_allowed call ≡ true) × (next ≡ b)). subst IsLawful (sym t.2) h)
     takes
 
-pub runs_lawful : (b : Book) (calls : List Call) (outcomes : List Outcome) (last : Book) → Runs b calls outcomes last → AllByRecursion IsCall calls → IsLawful b → IsLawful last
-runs_lawful b [] [] last runs in_range h = subst IsLawful (sym runs) h
-runs_lawful b [] (o ∷ os) last runs in_range h = absurd runs
-runs_lawful b (c ∷ cs) [] last runs in_range h = absurd runs
-runs_lawful b (c ∷ cs) (o ∷ os) last runs in_range h = runs_lawful runs.0 cs os last runs.2 in_range.1 (takes_lawful b c o runs.0 runs.1 in_range.0 h)
+-- and so does what may happen where the store may have failed
+goes_lawful : (failed end : Bool) (b : Book) (call : Call) (outcome : Outcome) (next : Book) → Goes failed end b call outcome next → IsCall call → IsLawful b → IsLawful next
+goes_lawful false false b call outcome next goes in_range h = takes_lawful b call outcome next goes in_range h
+goes_lawful false true b call outcome next goes in_range h = subst IsLawful (sym goes.2) h
+goes_lawful true true b call outcome next goes in_range h = subst IsLawful (sym goes.1) h
+goes_lawful true false b call outcome next goes in_range h = absurd goes
+
+pub runs_lawful : (failed end : Bool) (b : Book) (calls : List Call) (outcomes : List Outcome) (last : Book) → Runs failed end b calls outcomes last → AllByRecursion IsCall calls → IsLawful b → IsLawful last
+runs_lawful failed end b [] [] last runs in_range h = subst IsLawful (sym runs.1) h
+runs_lawful failed end b [] (o ∷ os) last runs in_range h = absurd runs
+runs_lawful failed end b (c ∷ cs) [] last runs in_range h = absurd runs
+runs_lawful failed end b (c ∷ cs) (o ∷ os) last runs in_range h =
+    runs_lawful runs.0 end runs.1 cs os last runs.3 in_range.1 (goes_lawful failed runs.0 b c o runs.1 runs.2 in_range.0 h)
+
+-- ---- after a fault of the store
+
+-- a failed machine stays so
+still_failed : (end : Bool) (b : Book) (call : Call) (outcome : Outcome) (next : Book) → Goes true end b call outcome next → (end ≡ true) × (outcome ≡ Refused Failed) × (next ≡ b)
+still_failed true b call outcome next goes = (refl, goes.0, goes.1)
+still_failed false b call outcome next goes = absurd goes
+
+pub failed_runs : (end : Bool) (b : Book) (calls : List Call) (outcomes : List Outcome) (last : Book) → Runs true end b calls outcomes last → AllByRecursion (λ o. o ≡ Refused Failed) outcomes × (last ≡ b)
+failed_runs end b [] [] last runs = (tt, runs.1)
+failed_runs end b [] (o ∷ os) last runs = absurd runs
+failed_runs end b (c ∷ cs) [] last runs = absurd runs
+failed_runs end b (c ∷ cs) (o ∷ os) last runs =
+    let here = still_failed runs.0 b c o runs.1 runs.2 in
+    let rest = failed_runs end runs.1 cs os last (subst (λ (f : Bool). Runs f end runs.1 cs os last) here.0 runs.3) in
+    ((here.1, rest.0), rest.1 ∙ here.2)

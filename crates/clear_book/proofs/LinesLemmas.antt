@@ -2,7 +2,7 @@
 use Rattle.std.proofs.Common.{◌≡◌, ℕ, zero, suc, ◌+◌, ◌<◌, ◌≤◌, List, [], ◌∷◌, ◌++◌, length, take, drop, map, filter, Option, Some, None, is_some, Bool, true, false, cond, ◌&&◌, ◌==◌, refl, sym, ap, ◌∙◌, subst, arith, append_assoc, add-one, length-append}
 use Rattle.std.proofs.lemmas.Bool.{false_from_ne_true}
 use Rattle.std.proofs.lemmas.Bool.Decides.{nat_tests}
-use Rattle.std.proofs.lemmas.List.{map-append}
+use Rattle.std.proofs.lemmas.List.{append-nil, map-append}
 use Rattle.std.proofs.lemmas.List.Elements.{filter_map-append}
 use Rattle.std.proofs.lemmas.List.Folds.{find-append}
 use Rattle.std.proofs.lemmas.List.Sums.{sum_by-append}
@@ -15,21 +15,41 @@ use Rattle.clear_bank.specs.Newness.{Placed, line_under, lines_before, earlier_l
 use Rattle.clear_bank.specs.declared.lines.BankLine.{BankLine}
 use Rattle.clear_bank.specs.declared.lines.Purpose.{Purpose}
 use Rattle.clear_book.specs.declared.calls.Command.{Command}
-use Rattle.clear_book.specs.declared.calls.Command.TheVariants.{Register, Report, ImportBank}
+use Rattle.clear_book.specs.declared.calls.Command.TheVariants.{Register, Report, Correct, ImportBank}
 use Rattle.clear_book.specs.declared.rows.BankRow.{BankRow}
 use Rattle.clear_book.specs.declared.rows.CreditRow.{CreditRow}
 use Rattle.clear_book.specs.Accounts.{credit_key, rank_of}
 use Rattle.clear_book.specs.Book.{Entry, newer, member_of}
 use Rattle.clear_book.specs.Keyed.{is_key, find_row, AreOnce}
-use Rattle.clear_book.specs.Lines.{lines_in, new_lines, employer_of_line, rows_from, lines_of_rows, rows_brought, rows_by, lines_seen, is_in_suspense, suspense_count, credit_of_line, line_credit, credits_of_lines, is_credit_of, credit_count}
+use Rattle.clear_book.specs.Lines.{lines_in, new_lines, employer_of_line, rows_from, lines_of_rows, rows_brought, rows_by, lines_seen, serial_count, standing, lines_standing, is_in_suspense, suspense_count, credit_of_line, line_credit, credits_of_lines, is_credit_of, credit_count}
 use Rattle.clear_book.specs.Tables.{bank_key}
 use Rattle.clear_book.proofs.KeyedLemmas.{is_key-refl, is_key-true, is_key-sym, other_row}
 use Rattle.clear_book.proofs.KeyedRowsLemmas.{AreNew, AreOnce-append}
 
+-- ---- each line that was seen stands
+
+all_stand : (xs : List Entry) (rows : List BankRow) → map (standing xs) rows ≡ rows
+all_stand xs [] = refl
+all_stand xs (row ∷ rows) = ap (λ (rest : List BankRow). row ∷ rest) (all_stand xs rows)
+
+pub standing_seen : (xs : List Entry) → lines_standing xs ≡ lines_seen xs
+standing_seen xs = all_stand xs (lines_seen xs)
+
+-- a command that brings no lines gives no serial, and no line moves
+module _ (xs : List Entry) (x : Entry) (none : rows_by xs (lines_seen xs) x.command ≡ []) where
+  none_seen : lines_seen (x ∷ xs) ≡ lines_seen xs
+  none_seen = ap (λ (rows : List BankRow). lines_seen xs ++ rows) none ∙ append-nil (lines_seen xs)
+
+  pub none_brought : serial_count (x ∷ xs) ≡ serial_count xs
+  none_brought = ap (λ (rows : List BankRow). length rows) none_seen
+
+  pub none_moved : lines_standing (x ∷ xs) ≡ lines_standing xs
+  none_moved = standing_seen (x ∷ xs) ∙ none_seen ∙ sym (standing_seen xs)
+
 -- ---- lines under their references
 
 -- the two tests of references are one
-is_key-bytes_eq : (k l : List ℕ) → is_key k l ≡ bytes_eq l k
+pub is_key-bytes_eq : (k l : List ℕ) → is_key k l ≡ bytes_eq l k
 is_key-bytes_eq k l = told (is_key k l) refl
   where
     told : (b : Bool) → is_key k l ≡ b → is_key k l ≡ bytes_eq l k
@@ -236,12 +256,17 @@ references_once (x ∷ xs) = AreOnce-append bank_key (lines_seen xs) (rows_by xs
     once : (command : Command) → AreOnce bank_key (rows_by xs (lines_seen xs) command)
     once (Register r) = tt
     once (Report r) = tt
+    once (Correct c) = tt
     once (ImportBank file) = new_once (member_in xs) (length (lines_seen xs)) (lines_of_rows (lines_seen xs)) (lines_in file)
 
     apart : (command : Command) → AreNew bank_key (lines_seen xs) (rows_by xs (lines_seen xs) command)
     apart (Register r) = tt
     apart (Report r) = tt
+    apart (Correct c) = tt
     apart (ImportBank file) = new_apart (member_in xs) (length (lines_seen xs)) (lines_seen xs) (lines_of_rows (lines_seen xs)) (lines_in file) refl
+
+pub references_standing : (xs : List Entry) → AreOnce bank_key (lines_standing xs)
+references_standing xs = subst (AreOnce bank_key) (sym (standing_seen xs)) (references_once xs)
 
 -- and those that a file brings are new
 pub references_new : (xs : List Entry) (file : List ℕ) → AreOnce bank_key (rows_brought xs (lines_seen xs) file) × AreNew bank_key (lines_seen xs) (rows_brought xs (lines_seen xs) file)
@@ -262,6 +287,7 @@ range_with_len-append a (suc m) n (suc k) e =
 serials_by : (xs : List Entry) (command : Command) → map (λ (row : BankRow). row.serial) (rows_by xs (lines_seen xs) command) ≡ range_with_len (length (lines_seen xs) + 1) (length (rows_by xs (lines_seen xs) command))
 serials_by xs (Register r) = refl
 serials_by xs (Report r) = refl
+serials_by xs (Correct c) = refl
 serials_by xs (ImportBank file) =
     let new = new_lines (lines_of_rows (lines_seen xs)) (lines_in file) in
     serials_from (member_in xs) (length (lines_seen xs)) new ∙ ap (λ n. range_with_len (length (lines_seen xs) + 1) n) (sym (length-rows_from (member_in xs) (length (lines_seen xs)) new))
@@ -346,14 +372,18 @@ credits_of_lines-apart seen (row ∷ rows) h = told row.employer (credits_of_lin
     told None rest = rest
     told (Some f) rest = (none_paid f (rank_of row.line.purpose) row.line.value row.serial seen h.0, rest)
 
-pub credits_once : (xs : List Entry) → AreOnce credit_key (credits_of_lines (lines_seen xs))
-credits_once xs = credits_of_lines-once (lines_seen xs) (serials_once xs)
+pub credits_once : (xs : List Entry) → AreOnce credit_key (credits_of_lines (lines_standing xs))
+credits_once xs =
+    subst (λ (rows : List BankRow). AreOnce credit_key (credits_of_lines rows)) (sym (standing_seen xs)) (credits_of_lines-once (lines_seen xs) (serials_once xs))
 
 pub credits_new : (xs : List Entry) (file : List ℕ)
-    → AreOnce credit_key (credits_of_lines (rows_brought xs (lines_seen xs) file)) × AreNew credit_key (credits_of_lines (lines_seen xs)) (credits_of_lines (rows_brought xs (lines_seen xs) file))
+    → AreOnce credit_key (credits_of_lines (rows_brought xs (lines_seen xs) file)) × AreNew credit_key (credits_of_lines (lines_standing xs)) (credits_of_lines (rows_brought xs (lines_seen xs) file))
 credits_new xs file =
     let new = serials_new xs file in
-    (credits_of_lines-once (rows_brought xs (lines_seen xs) file) new.0, credits_of_lines-apart (lines_seen xs) (rows_brought xs (lines_seen xs) file) new.1)
+    let rows = rows_brought xs (lines_seen xs) file in (
+      credits_of_lines-once rows new.0,
+      subst (λ (seen : List BankRow). AreNew credit_key (credits_of_lines seen) (credits_of_lines rows)) (sym (standing_seen xs)) (credits_of_lines-apart (lines_seen xs) rows new.1),
+    )
 
 -- ---- counts, one list after another
 

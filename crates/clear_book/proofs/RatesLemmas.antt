@@ -1,20 +1,24 @@
 -- In a lawful book a rate is in force for each month that has a report: the membership begins with a rate, and the month
 -- doesn't lie before it.
-use Rattle.std.proofs.Common.{◌≡◌, ℕ, ◌≤◌, ◌⊎◌, ⊎_elim, inl, inr, List, [], ◌∷◌, Option, Some, None, Bool, true, false, not, cond, ◌&&◌, ◌==◌, nat_le, nat_lt, is_some, refl, sym, subst, arith}
+use Rattle.std.proofs.Common.{◌≡◌, ℕ, ◌≤◌, ◌⊎◌, ⊎_elim, inl, inr, List, [], ◌∷◌, Option, Some, None, Bool, true, false, not, cond, ◌==◌, nat_le, nat_lt, is_some, refl, sym, subst, arith}
 use Rattle.std.proofs.lemmas.Bool.Decides.{nat_tests}
 use Rattle.clear_money.specs.Rates.{Rate, rate_in_force, later_row}
 use Rattle.clear_book.specs.declared.texts.WageLine.{WageLine}
 use Rattle.clear_book.specs.declared.calls.Command.{Command}
-use Rattle.clear_book.specs.declared.calls.Command.TheVariants.{Register, Report, ImportBank}
-use Rattle.clear_book.specs.declared.rules.Rule.TheVariants.{EmployerExists, NoRate, MonthOutside}
-use Rattle.clear_book.specs.Book.{Book, Entry, Member, newer, registered_by, member_of, start_of, reported_by, latest_lines, reported_version, employer_count}
+use Rattle.clear_book.specs.declared.calls.Correction.{Correction}
+use Rattle.clear_book.specs.declared.calls.WageReport.{WageReport}
+use Rattle.clear_book.specs.declared.calls.Command.TheVariants.{Register, Report, Correct, ImportBank}
+use Rattle.clear_book.specs.declared.rules.Rule.TheVariants.{EmployerExists, NoRate, UnknownEmployer, MonthOutside}
+use Rattle.clear_book.specs.Book.{Book, Entry, Member, is_for, newer, registered_by, member_of, start_of, reported_by, latest_lines, reported_version, employer_count}
+use Rattle.clear_book.specs.Checks.{when}
 use Rattle.clear_book.specs.Judge.{own_rule}
 use Rattle.clear_book.specs.Own.Register.{own_register, register_rules}
-use Rattle.clear_book.specs.Own.Report.{own_report, report_rules}
+use Rattle.clear_book.specs.Own.Correct.{own_correct, correct_rules}
+use Rattle.clear_book.specs.Own.Report.{own_report, report_rules, is_outside}
 use Rattle.clear_book.specs.Machine.{AreJudged}
 use Rattle.clear_book.proofs.ChecksLemmas.{none_applies, when-none}
 use Rattle.clear_book.proofs.LimitsLemmas.{accepted, latest_means}
-use Rattle.clear_book.proofs.TablesLemmas.{key_is}
+use Rattle.clear_book.proofs.VersionLemmas.{key_is}
 
 -- ---- a rate that is in force stays so for later months
 
@@ -54,13 +58,21 @@ abbrev IsSince : ℕ → Option ℕ → Type 0
 IsSince m None = ⊥
 IsSince m (Some start) = start ≤ m
 
-since : (start version : Option ℕ) (t m : ℕ) (lines : List WageLine) → own_report start version t m lines ≡ None → IsSince m start
-since None version t m lines h = absurd (cc)
-since (Some start) version t m lines h =
-    within (when-none (nat_lt m start) MonthOutside (none_applies (report_rules (Some start) version t m lines) h).1.0)
+-- a firm that is known, and a month that is not outside
+inside : (start : Option ℕ) (m : ℕ) → when (not (is_some start)) UnknownEmployer ≡ None → when (is_outside start m) MonthOutside ≡ None → IsSince m start
+inside None m known h = absurd (cc)
+inside (Some start) m known h = within (when-none (nat_lt m start) MonthOutside h)
   where
     within : nat_lt m start ≡ false → start ≤ m
     within e = grind (arith, nat_tests)
+
+since : (start version : Option ℕ) (t m : ℕ) (lines : List WageLine) → own_report start version t m lines ≡ None → IsSince m start
+since start version t m lines h =
+    let none = none_applies (report_rules start version t m lines) h in inside start m none.0 none.1.0
+
+corrected_since : (start version : Option ℕ) (t : ℕ) (c : Correction) → own_correct start version t c ≡ None → IsSince c.report.month start
+corrected_since start version t c h =
+    let none = none_applies (correct_rules start version t c) h in inside start c.report.month none.0 none.1.0
 
 -- ---- over a lawful book
 
@@ -76,10 +88,11 @@ module _ (rates : List Rate) where
   registers_rated : (xs : List Entry) (t : ℕ) (command : Command) (e : ℕ) → own_rule (book xs) t command ≡ None → IsRated (registered_by command e)
   registers_rated xs t (Register r) e own = told (r.employer == e) (new_and_rated (is_some (member_of xs r.employer)) (employer_count xs) (is_some (rate_in_force rates r.start)) own).1
     where
-      told : (b : Bool) → is_some (rate_in_force rates r.start) ≡ true → IsRated (cond {A = Option Member} b (Some (record { name = r.name; start = r.start })) None)
+      told : (b : Bool) → is_some (rate_in_force rates r.start) ≡ true → IsRated (cond {A = Option Member} b (Some (record { name = r.name; start = r.start; last = None })) None)
       told true h = h
       told false h = tt
   registers_rated xs t (Report r) e own = tt
+  registers_rated xs t (Correct c) e own = tt
   registers_rated xs t (ImportBank file) e own = tt
 
   member_rated : (xs : List Entry) → AreJudged rates xs → (e : ℕ) → IsRated (member_of xs e)
@@ -97,10 +110,11 @@ module _ (rates : List Rate) where
       same : r.employer == e ≡ true → r.employer ≡ e
       same h = grind (arith, nat_tests)
 
-      told : (b : Bool) → r.employer == e ≡ b → is_some (member_of xs r.employer) ≡ false → (cond {A = Option Member} b (Some (record { name = r.name; start = r.start })) None ≡ None) ⊎ (is_some (member_of xs e) ≡ false)
+      told : (b : Bool) → r.employer == e ≡ b → is_some (member_of xs r.employer) ≡ false → (cond {A = Option Member} b (Some (record { name = r.name; start = r.start; last = None })) None ≡ None) ⊎ (is_some (member_of xs e) ≡ false)
       told true is none = inr (subst (λ (f : ℕ). is_some (member_of xs f) ≡ false) (same is) none)
       told false is none = inl refl
   once xs t (Report r) e own = inl refl
+  once xs t (Correct c) e own = inl refl
   once xs t (ImportBank file) e own = inl refl
 
   -- a member stays one since the same month
@@ -115,17 +129,22 @@ module _ (rates : List Rate) where
       nobody None h k = k
       nobody (Some member) h k = cc
 
+  chosen_since : (xs : List Entry) (e m : ℕ) (r : WageReport) (lines : List WageLine) → cond (is_for e m r) (Some r.lines) None ≡ Some lines → IsSince r.month (start_of (member_of xs r.employer)) → IsSince m (start_of (member_of xs e))
+  chosen_since xs e m r lines h there = told (is_for e m r) refl h
+    where
+      told : (b : Bool) → is_for e m r ≡ b → cond b (Some r.lines) None ≡ Some lines → IsSince m (start_of (member_of xs e))
+      told true is k =
+          let same = key_is r.employer e r.month m is in
+          subst (λ (p : ℕ × ℕ). IsSince p.1 (start_of (member_of xs p.0))) (λ i. (same.0 i, same.1 i)) there
+      told false is k = absurd (cc)
+
   reported_since : (xs : List Entry) (t : ℕ) (command : Command) (e m : ℕ) (lines : List WageLine) → own_rule (book xs) t command ≡ None → reported_by command e m ≡ Some lines → IsSince m (start_of (member_of xs e))
   reported_since xs t (Register r) e m lines own h = absurd (cc)
   reported_since xs t (ImportBank file) e m lines own h = absurd (cc)
   reported_since xs t (Report r) e m lines own h =
-      told ((r.employer == e) && (r.month == m)) refl h (since (start_of (member_of xs r.employer)) (reported_version xs r.employer r.month) t r.month r.lines own)
-    where
-      told : (b : Bool) → (r.employer == e) && (r.month == m) ≡ b → cond b (Some r.lines) None ≡ Some lines → IsSince r.month (start_of (member_of xs r.employer)) → IsSince m (start_of (member_of xs e))
-      told true is k there =
-          let same = key_is r.employer e r.month m is in
-          subst (λ (p : ℕ × ℕ). IsSince p.1 (start_of (member_of xs p.0))) (λ i. (same.0 i, same.1 i)) there
-      told false is k there = absurd (cc)
+      chosen_since xs e m r lines h (since (start_of (member_of xs r.employer)) (reported_version xs r.employer r.month) t r.month r.lines own)
+  reported_since xs t (Correct c) e m lines own h =
+      chosen_since xs e m c.report lines h (corrected_since (start_of (member_of xs c.report.employer)) (reported_version xs c.report.employer c.report.month) t c own)
 
   member_since : (xs : List Entry) → AreJudged rates xs → (e m : ℕ) (lines : List WageLine) → latest_lines xs e m ≡ Some lines → IsSince m (start_of (member_of xs e))
   member_since [] h e m lines is = absurd (cc)

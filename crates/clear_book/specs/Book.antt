@@ -4,9 +4,12 @@ use Rattle.std.specs.Prelude.{if◌then◌else◌, count_by}
 use Rattle.std.specs.Option.{option_map}
 use Rattle.clear_money.specs.Rates.{Rate}
 use Rattle.clear_book.specs.declared.texts.WageLine.{WageLine}
+use Rattle.clear_book.specs.declared.calls.Call.{Call}
+use Rattle.clear_book.specs.declared.calls.Call.TheVariants.{Do}
 use Rattle.clear_book.specs.declared.calls.Caller.{Caller}
 use Rattle.clear_book.specs.declared.calls.Command.{Command}
-use Rattle.clear_book.specs.declared.calls.Command.TheVariants.{Register, Report}
+use Rattle.clear_book.specs.declared.calls.Command.TheVariants.{Register, Report, Correct}
+use Rattle.clear_book.specs.declared.calls.WageReport.{WageReport}
 use Rattle.clear_book.specs.declared.outcomes.Reply.{Reply}
 
 -- an accepted request with its reply
@@ -16,6 +19,10 @@ pub record Entry : Type 0 where
   pub day : ℕ
   pub command : Command
   pub reply : Reply
+
+-- the call that was accepted
+abbrev pub call_of : Entry → Call
+call_of x = Do x.caller x.number x.day x.command
 
 -- the newest entry first: behind an entry stands the book that it was judged on
 pub record Book : Type 0 where
@@ -36,10 +43,11 @@ abbrev pub newer : {A : Type 0} → Option A → Option A → Option A
 newer (Some x) old = Some x
 newer None old = old
 
--- a registered employer
+-- a registered employer: its name, its first member month, and its last one once an end is set
 pub record Member : Type 0 where
   pub name : List ℕ
   pub start : ℕ
+  pub last : Option ℕ
 
 -- the first member month
 abbrev pub start_of : Option Member → Option ℕ
@@ -49,7 +57,7 @@ start_of (Some member) = Some member.start
 -- what a command registers for an employer
 abbrev pub registered_by : Command → ℕ → Option Member
 registered_by (Register r) e =
-    if r.employer == e then Some (record { name = r.name; start = r.start }) else None
+    if r.employer == e then Some (record { name = r.name; start = r.start; last = None }) else None
 registered_by command e = None
 
 -- an employer, if it is registered
@@ -66,9 +74,15 @@ is_registration command = false
 abbrev pub employer_count : List Entry → ℕ
 employer_count xs = count_by (λ x. is_registration x.command) xs
 
--- the lines that a command reports for an employer and a month
+-- a report of the employer and the month
+abbrev pub is_for : ℕ → ℕ → WageReport → Bool
+is_for e m r = (r.employer == e) && (r.month == m)
+
+-- the lines that a command reports for an employer and a month, be it the first report or a
+-- correction
 abbrev pub reported_by : Command → ℕ → ℕ → Option (List WageLine)
-reported_by (Report r) e m = if (r.employer == e) && (r.month == m) then Some r.lines else None
+reported_by (Report r) e m = if is_for e m r then Some r.lines else None
+reported_by (Correct c) e m = if is_for e m c.report then Some c.report.lines else None
 reported_by command e m = None
 
 -- the lines of the last report of an employer and a month
@@ -78,7 +92,8 @@ latest_lines (x ∷ xs) e m = newer (reported_by x.command e m) (latest_lines xs
 
 -- a command that reports for the employer and the month
 abbrev pub is_report_of : ℕ → ℕ → Command → Bool
-is_report_of e m (Report r) = (r.employer == e) && (r.month == m)
+is_report_of e m (Report r) = is_for e m r
+is_report_of e m (Correct c) = is_for e m c.report
 is_report_of e m command = false
 
 -- how many reports of a month there were

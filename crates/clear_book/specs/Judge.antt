@@ -6,7 +6,8 @@ use Rattle.clear_money.specs.Rates.{rate_in_force}
 use Rattle.clear_book.specs.declared.calls.Call.{Call}
 use Rattle.clear_book.specs.declared.calls.Call.TheVariants.{Do, Ask}
 use Rattle.clear_book.specs.declared.calls.Command.{Command}
-use Rattle.clear_book.specs.declared.calls.Command.TheVariants.{Register, Report, ImportBank}
+use Rattle.clear_book.specs.declared.calls.Command.TheVariants.{Register, Report, Correct}
+use Rattle.clear_book.specs.declared.calls.Command.TheVariants.{ImportBank}
 use Rattle.clear_book.specs.declared.calls.Query.{Query}
 use Rattle.clear_book.specs.declared.calls.Query.TheVariants.{Owed}
 use Rattle.clear_book.specs.declared.outcomes.Answer.{Answer}
@@ -24,10 +25,25 @@ use Rattle.clear_book.specs.Checks.{when, first_of}
 use Rattle.clear_book.specs.Limits.{most_entries}
 use Rattle.clear_book.specs.Lines.{lines_of_rows, lines_seen, lines_standing, rows_brought}
 use Rattle.clear_book.specs.Lines.{credit_count, suspense_count}
+use Rattle.clear_book.specs.Own.Correct.{own_correct, correct_reply}
 use Rattle.clear_book.specs.Own.ImportBank.{own_import, import_reply}
 use Rattle.clear_book.specs.Own.Owed.{own_owed, owed_by}
 use Rattle.clear_book.specs.Own.Register.{own_register, register_reply}
 use Rattle.clear_book.specs.Own.Report.{own_report, report_reply}
+
+-- what is said of a call: a reply to a new request, the reply that stands for one already, the
+-- answer to a query, or the rule that refuses it
+pub data Verdict : Type 0 where
+  new_reply kept_reply : Reply → Verdict
+  an_answer : Answer → Verdict
+  a_refusal : Rule → Verdict
+
+-- what the caller is told
+abbrev pub outcome_of : Verdict → Outcome
+outcome_of (new_reply reply) = Replied reply
+outcome_of (kept_reply reply) = Replied reply
+outcome_of (an_answer answer) = Answered answer
+outcome_of (a_refusal rule) = Refused rule
 
 -- a day before the ledger day is refused with that day
 abbrev pub day_back : Option ℕ → ℕ → Option Rule
@@ -46,6 +62,9 @@ own_rule b t (Register r) =
 own_rule b t (Report r) =
     own_report (start_of (member_of b.entries r.employer))
     (reported_version b.entries r.employer r.month) t r.month r.lines
+own_rule b t (Correct c) =
+    own_correct (start_of (member_of b.entries c.report.employer))
+    (reported_version b.entries c.report.employer c.report.month) t c
 own_rule b t (ImportBank file) =
     own_import (lines_of_rows (lines_seen b.entries))
     (rows_brought b.entries (lines_seen b.entries) file)
@@ -55,6 +74,7 @@ own_rule b t (ImportBank file) =
 abbrev pub reply_to : Book → Command → Reply
 reply_to b (Register r) = register_reply
 reply_to b (Report r) = report_reply (rate_in_force (rates_of b) r.month) r.lines
+reply_to b (Correct c) = correct_reply c (rate_in_force (rates_of b) c.report.month)
 reply_to b (ImportBank file) =
     import_reply (rows_brought b.entries (lines_seen b.entries) file) file
 
@@ -66,31 +86,31 @@ own_query b (Owed employer) = own_owed (is_some (member_of b.entries employer))
 abbrev pub answer_to : Book → ℕ → Query → Answer
 answer_to b t (Owed employer) = owed_by t (charges_of b employer) (credits_of b employer)
 
--- the rule in place of the outcome, if one applies
-abbrev pub refused_or : Option Rule → Outcome → Outcome
-refused_or None outcome = outcome
-refused_or (Some rule) outcome = Refused rule
+-- the rule in place of what is said, if one applies
+abbrev pub refused_or : Option Rule → Verdict → Verdict
+refused_or None said = said
+refused_or (Some rule) said = a_refusal rule
 
 -- the one order of checks for a command: access, the day, the book's limit, the own rules; then the
 -- reply
-abbrev pub judged_do : Bool → Option Rule → Bool → Option Rule → Reply → Outcome
+abbrev pub judged_do : Bool → Option Rule → Bool → Option Rule → Reply → Verdict
 judged_do may back full own reply = refused_or (first_of (
     when (not may) NotYours
     ∷ back
     ∷ when full (OverLimit BookLimit)
     ∷ own
-    ∷ [])) (Replied reply)
+    ∷ [])) (new_reply reply)
 
 -- and for a query: access, the day, the own rules; then the answer
-abbrev pub judged_ask : Bool → Option Rule → Option Rule → Answer → Outcome
+abbrev pub judged_ask : Bool → Option Rule → Option Rule → Answer → Verdict
 judged_ask may back own answer = refused_or (first_of (
     when (not may) NotYours
     ∷ back
     ∷ own
-    ∷ [])) (Answered answer)
+    ∷ [])) (an_answer answer)
 
--- what a call is answered on a book
-abbrev pub judge : Book → Call → Outcome
+-- what is said of a call on a book
+abbrev pub judge : Book → Call → Verdict
 judge b (Do caller number day command) =
     judged_do (may_do caller command) (day_back (ledger_day b.entries) day)
     (is_full (length b.entries)) (own_rule b day command) (reply_to b command)

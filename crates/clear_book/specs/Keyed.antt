@@ -1,6 +1,6 @@
 -- Rows in the order of their keys. A key is a list of numbers.
 use Rattle.std.specs.Prelude.{◌≡◌, ℕ, List, [], ◌∷◌, Option, Some, None, Bool, true, false, ◌&&◌}
-use Rattle.std.specs.Prelude.{◌||◌, ◌==◌, nat_lt, if◌then◌else◌}
+use Rattle.std.specs.Prelude.{◌||◌, ◌==◌, nat_lt, if◌then◌else◌, not, filter}
 
 -- whether two keys are one
 abbrev pub is_key : List ℕ → List ℕ → Bool
@@ -46,6 +46,14 @@ module _ {Row : Type 0} (key : Row → List ℕ) where
   -- the rows, each at its place
   abbrev pub in_key_order : List Row → List Row
   in_key_order rows = with_rows [] rows
+
+  -- the rows whose key does not meet the test
+  abbrev pub without_rows : (List ℕ → Bool) → List Row → List Row
+  without_rows test rows = filter (λ row. not (test (key row))) rows
+
+  -- the rows and the new one, in place of the row with its key, if there is one
+  abbrev pub put_row : List Row → Row → List Row
+  put_row rows new = with_row (without_rows (λ k. is_key k (key new)) rows) new
 
   -- no key is that of a later row too
   abbrev pub AreOnce : List Row → Type 0

@@ -1,17 +1,18 @@
 -- What follows from the definitions alone, of lawful books.
-use Rattle.std.specs.Prelude.{◌≡◌, ℕ, ◌≤◌, List, Some, length, map}
+use Rattle.std.specs.Prelude.{◌≡◌, ℕ, ◌≤◌, List, Option, Some, None, length, map}
 use Rattle.std.specs.List.{AllByRecursion, range_with_len}
 use Rattle.clear_money.specs.Rates.{rate_in_force}
 use Rattle.clear_account.specs.Account.{charged, credited}
 use Rattle.clear_book.specs.declared.rows.BankRow.{BankRow}
 use Rattle.clear_book.specs.declared.texts.WageLine.{WageLine}
-use Rattle.clear_book.specs.Book.{Book, rates_of, latest_lines}
+use Rattle.clear_book.specs.Book.{Book, rates_of, ledger_day, latest_lines, version_of}
 use Rattle.clear_book.specs.Accounts.{base_of, contribution_of_lines, charges_of, credits_of}
-use Rattle.clear_book.specs.Accounts.{interest_credits_of}
+use Rattle.clear_book.specs.Accounts.{interest_credits_of, credits_standing}
 use Rattle.clear_book.specs.Keyed.{find_row, AreInOrder, AreOnce}
 use Rattle.clear_book.specs.Limits.{most_entries, most_lines, most_gross, most_base, most_charged}
-use Rattle.clear_book.specs.Limits.{most_credits, most_credited, most_suspense}
-use Rattle.clear_book.specs.Lines.{lines_standing, suspense_count}
+use Rattle.clear_book.specs.Limits.{most_credits, most_credited, most_suspense, most_serials}
+use Rattle.clear_book.specs.Limits.{most_versions}
+use Rattle.clear_book.specs.Lines.{lines_seen, lines_standing, suspense_count, serial_count}
 use Rattle.clear_book.specs.Tables.{bank_key}
 
 -- the limits on a report's lines
@@ -19,11 +20,17 @@ pub record AreFew (lines : List WageLine) : Type 0 where
   pub few : length lines ≤ most_lines
   pub small : AllByRecursion (λ line. line.gross ≤ most_gross) lines
 
--- what no sum over a book goes beyond
+-- the day lies on or before the ledger day
+abbrev pub IsBy : Option ℕ → ℕ → Type 0
+IsBy None day = ⊥
+IsBy (Some ledger) day = day ≤ ledger
+
+-- what no sum over a book goes beyond, and that each credit's day has come
 pub record IsSmall (b : Book) : Type 0 where
   pub entries : length b.entries ≤ most_entries
   pub lines : (e m : ℕ) (lines : List WageLine) → latest_lines b.entries e m ≡ Some lines
       → AreFew lines
+  pub versions : (e m : ℕ) → version_of b.entries e m ≤ most_versions
   pub base : (e m : ℕ) (lines : List WageLine) → latest_lines b.entries e m ≡ Some lines
       → base_of lines ≤ most_base
   pub contribution : (e m : ℕ) (lines : List WageLine) → latest_lines b.entries e m ≡ Some lines
@@ -34,6 +41,10 @@ pub record IsSmall (b : Book) : Type 0 where
   pub paid : (e : ℕ) → credited (credits_of b e) ≤ most_credited
   pub interest_paid : (e : ℕ) → credited (interest_credits_of b e) ≤ most_credited
   pub suspense : suspense_count (lines_standing b.entries) ≤ most_suspense
+  pub seen : length (lines_seen b.entries) ≤ most_serials
+  pub serials : serial_count b.entries ≤ most_serials
+  pub days : AllByRecursion (λ row. IsBy (ledger_day b.entries) row.day)
+      (credits_standing b.entries)
 
 -- the bank lines of a book: the first takes serial 1 and each further one the next, and no
 -- reference stands twice

@@ -12,6 +12,7 @@ pub mod Numbers
 pub mod Offices
 pub mod Own
 pub mod Ranges
+pub mod RowRanges
 pub mod Rules
 pub mod Tables
 pub mod Texts

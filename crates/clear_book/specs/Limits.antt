@@ -20,6 +20,10 @@ most_lines = 500
 abbrev pub most_gross : ℕ
 most_gross = 10000000
 
+-- the versions of a month's report
+abbrev pub most_versions : ℕ
+most_versions = 10000
+
 -- the data records of a bank file
 abbrev pub most_records : ℕ
 most_records = 10000

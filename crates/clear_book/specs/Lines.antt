@@ -52,10 +52,14 @@ lines_of_rows rows = map (λ row. row.line) rows
 
 -- ---- the bank lines of a book
 
+-- how many serials were given, where these lines were seen: one for each
+abbrev pub serials_of : List BankRow → ℕ
+serials_of seen = length seen
+
 -- the rows that a file brings to a book, where these were seen before it
 abbrev pub rows_brought : List Entry → List BankRow → List ℕ → List BankRow
 rows_brought xs seen file =
-    rows_from (λ e. is_some (member_of xs e)) (length seen)
+    rows_from (λ e. is_some (member_of xs e)) (serials_of seen)
     (new_lines (lines_of_rows seen) (lines_in file))
 
 -- the rows that a command brings to a book
@@ -63,14 +67,27 @@ abbrev pub rows_by : List Entry → List BankRow → Command → List BankRow
 rows_by xs seen (ImportBank file) = rows_brought xs seen file
 rows_by xs seen command = []
 
--- the lines that the files of all imports brought, in the order in which they came
+-- the lines that the files of all imports brought, in the order in which they came, each under the
+-- firm that was found for it then
 abbrev pub lines_seen : List Entry → List BankRow
 lines_seen [] = []
 lines_seen (x ∷ xs) = lines_seen xs ++ rows_by xs (lines_seen xs) x.command
 
+-- how many serials a book has given
+abbrev pub serial_count : List Entry → ℕ
+serial_count xs = serials_of (lines_seen xs)
+
+-- the firm of a line that was seen: the one that was found for it when it came in
+abbrev pub firm_of_line : List Entry → BankRow → Option ℕ
+firm_of_line xs row = row.employer
+
+-- a line that was seen, as it stands: under its firm or in suspense
+abbrev pub standing : List Entry → BankRow → BankRow
+standing xs row = record row { employer = firm_of_line xs row }
+
 -- each line that was seen stands
 abbrev pub lines_standing : List Entry → List BankRow
-lines_standing xs = lines_seen xs
+lines_standing xs = map (standing xs) (lines_seen xs)
 
 -- ---- suspense and credits
 

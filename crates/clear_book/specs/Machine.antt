@@ -1,30 +1,28 @@
 -- The clearing machine: how the book goes on from call to call.
-use Rattle.std.specs.Prelude.{◌≡◌, ◌<◌, List, [], ◌∷◌, length, Bool, true, ◌⊎◌}
+use Rattle.std.specs.Prelude.{◌≡◌, ◌<◌, List, [], ◌∷◌, length, Bool, true, false, ◌⊎◌}
 use Rattle.std.specs.List.{AllByRecursion}
 use Rattle.clear_money.specs.Rates.{Rate, IsRate, IsRising}
 use Rattle.clear_book.specs.declared.calls.Call.{Call}
 use Rattle.clear_book.specs.declared.calls.Call.TheVariants.{Do, Ask}
-use Rattle.clear_book.specs.declared.rules.Rule.TheVariants.{Memory}
+use Rattle.clear_book.specs.declared.rules.Rule.TheVariants.{Memory, Store, Failed}
+use Rattle.clear_book.specs.declared.rules.StoreCause.{StoreCause}
 use Rattle.clear_book.specs.declared.outcomes.Outcome.{Outcome}
-use Rattle.clear_book.specs.declared.outcomes.Outcome.TheVariants.{Replied, Answered, Refused}
-use Rattle.clear_book.specs.Book.{Entry, Book}
-use Rattle.clear_book.specs.Judge.{judge}
+use Rattle.clear_book.specs.declared.outcomes.Outcome.TheVariants.{Refused}
+use Rattle.clear_book.specs.Book.{Entry, Book, call_of}
+use Rattle.clear_book.specs.Judge.{Verdict, new_reply, judge, outcome_of}
 use Rattle.clear_book.specs.Access.{may_do, may_query}
-use Rattle.clear_book.specs.Ranges.{IsCommand}
-use Rattle.clear_book.specs.Numbers.{IsRequestNo}
+use Rattle.clear_book.specs.Ranges.{IsCall}
 
 -- the book with one entry more
 abbrev pub appended : Book → Entry → Book
 appended b x = record { opening = b.opening; entries = x ∷ b.entries }
 
--- a command with a reply is appended with it; any other outcome leaves the book
-abbrev pub after : Book → Call → Outcome → Book
-after b (Do caller number day command) (Replied reply) =
+-- a command with a new reply is appended with it; all else leaves the book
+abbrev pub after : Book → Call → Verdict → Book
+after b (Do caller number day command) (new_reply reply) =
     appended b
     (record { caller = caller; number = number; day = day; command = command; reply = reply })
-after b (Do caller number day command) (Refused rule) = b
-after b (Do caller number day command) (Answered answer) = b
-after b (Ask caller day query) outcome = b
+after b call said = b
 
 -- what a call makes of a book
 abbrev pub step : Book → Call → Book
@@ -35,20 +33,35 @@ abbrev pub is_allowed : Call → Bool
 is_allowed (Do caller number day command) = may_do caller command
 is_allowed (Ask caller day query) = may_query caller query
 
--- what may happen to a call: the judge's outcome and its step, or, where access allows it, want of
+-- what may happen to a call: what the judge says and its step, or, where access allows it, want of
 -- memory and no step
 abbrev pub Takes : Book → Call → Outcome → Book → Type 0
 Takes b call outcome next =
-    ((outcome ≡ judge b call) × (next ≡ step b call))
+    ((outcome ≡ outcome_of (judge b call)) × (next ≡ step b call))
     ⊎ ((outcome ≡ Refused Memory) × (is_allowed call ≡ true) × (next ≡ b))
 
+-- where access allows the call, the store may fail, and the book stays
+abbrev pub Faults : Book → Call → Outcome → Book → Type 0
+Faults b call outcome next =
+    ((cause : StoreCause) × (outcome ≡ Refused (Store cause))) × (is_allowed call ≡ true)
+    × (next ≡ b)
+
+-- what may happen to a call, by whether the store has failed before it, and whether it has then:
+-- after a fault every outcome is that the office has failed, and the book stays
+abbrev pub Goes : Bool → Bool → Book → Call → Outcome → Book → Type 0
+Goes false false b call outcome next = Takes b call outcome next
+Goes false true b call outcome next = Faults b call outcome next
+Goes true true b call outcome next = (outcome ≡ Refused Failed) × (next ≡ b)
+Goes true false b call outcome next = ⊥
+
 -- the calls of a list, one after another
-abbrev pub Runs : Book → List Call → List Outcome → Book → Type 0
-Runs b [] [] last = last ≡ b
-Runs b (call ∷ calls) (outcome ∷ outcomes) last =
-    (next : Book) × Takes b call outcome next × Runs next calls outcomes last
-Runs b [] (outcome ∷ outcomes) last = ⊥
-Runs b (call ∷ calls) [] last = ⊥
+abbrev pub Runs : Bool → Bool → Book → List Call → List Outcome → Book → Type 0
+Runs failed end b [] [] last = (end ≡ failed) × (last ≡ b)
+Runs failed end b (call ∷ calls) (outcome ∷ outcomes) last =
+    (then : Bool) × (next : Book) × Goes failed then b call outcome next
+    × Runs then end next calls outcomes last
+Runs failed end b [] (outcome ∷ outcomes) last = ⊥
+Runs failed end b (call ∷ calls) [] last = ⊥
 
 -- one rate row at least, the first months rising, each in its ranges
 pub record AreRates (rates : List Rate) : Type 0 where
@@ -56,13 +69,13 @@ pub record AreRates (rates : List Rate) : Type 0 where
   pub rising : IsRising rates
   pub ranges : AllByRecursion IsRate rates
 
--- each entry is what the judge replied on the book behind it
+-- each entry is a call whose values lie in their ranges, with the new reply that the judge gives it
+-- on the book behind it
 abbrev pub AreJudged : List Rate → List Entry → Type 0
 AreJudged rates [] = AreRates rates
 AreJudged rates (x ∷ xs) =
-    AreJudged rates xs × IsRequestNo x.number × IsCommand x.command
-    × (judge (record { opening = rates; entries = xs }) (Do x.caller x.number x.day x.command)
-    ≡ Replied x.reply)
+    AreJudged rates xs × IsCall (call_of x)
+    × (judge (record { opening = rates; entries = xs }) (call_of x) ≡ new_reply x.reply)
 
 -- a book that the machine leads to from one without entries
 abbrev pub IsLawful : Book → Type 0

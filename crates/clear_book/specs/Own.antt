@@ -1,5 +1,7 @@
 -- The own rules and the reply of each request.
+pub mod Correct
 pub mod ImportBank
+pub mod Lines
 pub mod Owed
 pub mod Register
 pub mod Report

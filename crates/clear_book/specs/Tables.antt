@@ -1,10 +1,17 @@
 -- The tables that stand for a book: rows by their keys.
-use Rattle.std.specs.Prelude.{◌≡◌, ℕ, ◌+◌, List, [], ◌∷◌, Option, Some, None, ◌&&◌, ◌==◌}
+use Rattle.std.specs.Prelude.{◌≡◌, ℕ, ◌+◌, List, [], ◌∷◌, Option, Some, None, Bool, false, ◌&&◌}
+use Rattle.std.specs.Prelude.{◌==◌}
 use Rattle.std.specs.Prelude.{if◌then◌else◌, length, sum_by, map, filter}
 use Rattle.std.specs.Option.{option_map}
 use Rattle.clear_money.specs.Rates.{Rate}
 use Rattle.clear_book.specs.declared.texts.WageLine.{WageLine}
+use Rattle.clear_book.specs.declared.calls.Caller.{Caller}
+use Rattle.clear_book.specs.declared.outcomes.Reply.{Reply}
+use Rattle.clear_book.specs.declared.rows.ClaimRow.{ClaimRow}
 use Rattle.clear_book.specs.declared.rows.EmployerRow.{EmployerRow}
+use Rattle.clear_book.specs.declared.rows.ListRow.{ListRow}
+use Rattle.clear_book.specs.declared.rows.ReminderRow.{ReminderRow}
+use Rattle.clear_book.specs.declared.rows.RunRow.{RunRow}
 use Rattle.clear_book.specs.declared.rows.ReportRow.{ReportRow}
 use Rattle.clear_book.specs.declared.rows.WageRow.{WageRow}
 use Rattle.clear_account.specs.declared.entries.Charge.{Charge}
@@ -13,15 +20,27 @@ use Rattle.clear_bank.specs.declared.lines.Purpose.TheVariants.{Contribution}
 use Rattle.clear_book.specs.declared.rows.BankRow.{BankRow}
 use Rattle.clear_book.specs.declared.rows.CreditRow.{CreditRow}
 use Rattle.clear_book.specs.declared.rows.Change.{Change}
-use Rattle.clear_book.specs.declared.rows.Change.TheVariants.{AddEmployer, AddReport, AddBankLines}
+use Rattle.clear_book.specs.declared.rows.Change.TheVariants.{AddEmployer, AddReport}
+use Rattle.clear_book.specs.declared.rows.Change.TheVariants.{ReplaceReport, AddBankLines}
 use Rattle.clear_book.specs.Accounts.{month_charge, credit_key, credits_under}
 use Rattle.clear_book.specs.Book.{Book, Member, rates_of, ledger_day, member_of, employer_count}
 use Rattle.clear_book.specs.Book.{latest_lines, reported_version}
-use Rattle.clear_book.specs.Keyed.{find_row, with_row, with_rows, AreInOrder}
-use Rattle.clear_book.specs.Lines.{lines_seen, lines_standing, credits_of_lines}
+use Rattle.clear_book.specs.Keyed.{find_row, with_row, with_rows, put_row, without_rows}
+use Rattle.clear_book.specs.Keyed.{AreInOrder}
+use Rattle.clear_book.specs.Lines.{lines_standing, credits_of_lines, serial_count}
 
--- each table but the rates in the order of its keys; the day of the last accepted request, how many
--- there were, and the last serial that was given
+-- an accepted request, as it is kept: under its caller and number its day, the bytes of its command
+-- and its reply
+pub record RequestRow : Type 0 where
+  pub caller : Caller
+  pub number : ℕ
+  pub day : ℕ
+  pub command : List ℕ
+  pub reply : Reply
+
+-- each table in the order of its keys; the day of the last accepted request, how many there were,
+-- and the last numbers that were given to bank lines and releases, claims, payout lists and
+-- reminder runs
 pub record Tables : Type 0 where
   pub rates : List Rate
   pub employers : List EmployerRow
@@ -29,9 +48,17 @@ pub record Tables : Type 0 where
   pub wages : List WageRow
   pub bank : List BankRow
   pub credits : List CreditRow
+  pub claims : List ClaimRow
+  pub lists : List ListRow
+  pub runs : List RunRow
+  pub reminders : List ReminderRow
+  pub requests : List RequestRow
   pub day : Option ℕ
   pub entries : ℕ
   pub serial : ℕ
+  pub last_claim : ℕ
+  pub last_list : ℕ
+  pub last_run : ℕ
 
 -- ---- keys
 
@@ -56,7 +83,7 @@ bank_key row = row.line.reference
 -- an employer, if it is registered
 abbrev pub member_at : List EmployerRow → ℕ → Option Member
 member_at rows e =
-    option_map (λ row. record { name = row.name; start = row.start })
+    option_map (λ row. record { name = row.name; start = row.start; last = row.last })
     (find_row employer_key rows (e ∷ []))
 
 -- the version of a month's latest report
@@ -79,6 +106,12 @@ reported_gross (Some lines) w = gross_of lines w
 
 -- ---- the tables of a book, row by row
 
+-- the tables that no command fills yet are empty, and none of their numbers was given
+abbrev pub AreUnfilled : Tables → Type 0
+AreUnfilled t =
+    (t.claims ≡ []) × (t.lists ≡ []) × (t.runs ≡ []) × (t.reminders ≡ []) × (t.requests ≡ [])
+    × (t.last_claim ≡ 0) × (t.last_list ≡ 0) × (t.last_run ≡ 0)
+
 -- the tables are those of the book: each look-up says what the book says, and the keys rise
 -- strictly, so that there is no further row
 pub record Stands (b : Book) (t : Tables) : Type 0 where
@@ -98,7 +131,8 @@ pub record Stands (b : Book) (t : Tables) : Type 0 where
   pub credits : (k : List ℕ) → find_row credit_key t.credits k
       ≡ find_row credit_key (credits_of_lines (lines_standing b.entries)) k
   pub credits_in_order : AreInOrder credit_key t.credits
-  pub serial : t.serial ≡ length (lines_seen b.entries)
+  pub serial : t.serial ≡ serial_count b.entries
+  pub unfilled : AreUnfilled t
 
 -- ---- what the tables say of an account
 
@@ -125,11 +159,19 @@ table_credits t e = credits_under t.credits e Contribution
 abbrev pub wage_row : ℕ → ℕ → WageLine → WageRow
 wage_row e m line = record { employer = e; month = m; worker = line.worker; gross = line.gross }
 
--- the wage rows and one for each line of a month's report
+-- the rows of the lines of a month's report
+abbrev pub wage_rows : ℕ → ℕ → List WageLine → List WageRow
+wage_rows e m lines = map (wage_row e m) lines
+
+-- the key of a wage row of this employer and month
+abbrev pub is_wage_key_of : ℕ → ℕ → List ℕ → Bool
+is_wage_key_of e m (f ∷ n ∷ k) = (e == f) && (m == n)
+is_wage_key_of e m k = false
+
+-- the wage rows, those of a month's report in the place of what stood for the month
 abbrev pub with_wages : ℕ → ℕ → List WageLine → List WageRow → List WageRow
-with_wages e m [] rows = rows
-with_wages e m (line ∷ lines) rows =
-    with_wages e m lines (with_row wage_key rows (wage_row e m line))
+with_wages e m lines rows =
+    with_rows wage_key (without_rows wage_key (is_wage_key_of e m) rows) (wage_rows e m lines)
 
 -- what a decision changes
 abbrev pub changed : Change → Tables → Tables
@@ -137,6 +179,11 @@ changed (AddEmployer row) t = record t { employers = with_row employer_key t.emp
 changed (AddReport row lines) t =
     record t {
       reports = with_row report_key t.reports row;
+      wages = with_rows wage_key t.wages (wage_rows row.employer row.month lines);
+    }
+changed (ReplaceReport row lines) t =
+    record t {
+      reports = put_row report_key t.reports row;
       wages = with_wages row.employer row.month lines t.wages;
     }
 changed (AddBankLines rows) t =

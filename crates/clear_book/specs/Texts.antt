@@ -1,8 +1,11 @@
 -- The texts that requests may hold.
-use Rattle.std.specs.Prelude.{◌≢◌, ℕ, ◌≤◌, List, length}
+use Rattle.std.specs.Prelude.{◌≡◌, ◌≢◌, ◌⊎◌, ℕ, ◌≤◌, List, ◌++◌, length, codes, IsTrue}
+use Rattle.std.specs.Fmt.{decimal}
 use Rattle.std.specs.List.{AllByRecursion}
 use Rattle.std.specs.Str.{IsUtf8}
+use Rattle.clear_bank.specs.Texts.{is_reference}
 use Rattle.clear_book.specs.Limits.{most_name_bytes}
+use Rattle.clear_book.specs.Numbers.{IsClaimNo}
 
 -- a byte of a text that is no control character: none below 0x20, and not 0x7F
 abbrev pub IsPrintable : ℕ → Type 0
@@ -14,3 +17,13 @@ pub record IsName (bytes : List ℕ) : Type 0 where
   pub few : length bytes ≤ most_name_bytes
   pub text : IsUtf8 bytes
   pub printable : AllByRecursion IsPrintable bytes
+
+-- what a release's set-off is known by: `set-off`, and the number of the claim
+pub record IsSetOff (bytes : List ℕ) : Type 0 where
+  pub claim : ℕ
+  pub number : IsClaimNo claim
+  pub text : bytes ≡ codes "set-off " ++ decimal claim
+
+-- the reference of a credit: that of a bank line, or of a set-off
+abbrev pub IsCreditReference : List ℕ → Type 0
+IsCreditReference bytes = IsTrue (is_reference bytes) ⊎ IsSetOff bytes

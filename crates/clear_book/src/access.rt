@@ -13,6 +13,7 @@ pub fn may(caller: Caller, command: &Command) -> bool
         Caller::Firm(firm) => match command {
             Command::Register(_) => false,
             Command::Report(report) => firm == report.employer,
+            Command::Correct(correction) => firm == correction.report.employer,
             Command::ImportBank(_) => false,
         },
     }

@@ -30,11 +30,20 @@ pub struct WageReport {
     pub lines: WageLines,
 }
 
+/// What takes the place of a month's report.
+#[derive(Drop)]
+pub struct Correction {
+    pub report: WageReport,
+    /// The version that it is to replace.
+    pub version: u32,
+}
+
 /// What changes the book, if it is accepted.
 #[derive(Drop)]
 pub enum Command {
     Register(Registration),
     Report(WageReport),
+    Correct(Correction),
     ImportBank(BankFile),
 }
 

@@ -1,29 +1,63 @@
 //! Laws: what follows from the definitions alone. A law has no parameters and no effect; its
 //! contract is the law.
-ghost use Rattle.std.specs.Prelude.{◌≡◌, ℕ, List};
+ghost use Rattle.std.specs.Prelude.{◌≡◌, ℕ, List, [], Bool, true};
 ghost use Rattle.std.specs.List.{AllByRecursion};
+ghost use Rattle.clear_money.specs.Rates.{Rate};
+ghost use Rattle.clear_bank.specs.Laws.{HasNoReferenceTwice};
 ghost use Rattle.clear_book.specs.declared.calls.Call.{Call};
 ghost use Rattle.clear_book.specs.declared.outcomes.Outcome.{Outcome};
+ghost use Rattle.clear_book.specs.declared.outcomes.Outcome.TheVariants.{Refused};
+ghost use Rattle.clear_book.specs.declared.rules.Rule.TheVariants.{Failed};
 ghost use Rattle.clear_book.specs.Accounts.{charges_of, credit_key, credits_of, credits_standing};
 ghost use Rattle.clear_book.specs.Book.{Book};
 ghost use Rattle.clear_book.specs.Laws.{AreCounted, AreSorted, IsSmall};
-ghost use Rattle.clear_book.specs.Lines.{credits_of_lines, lines_seen, lines_standing};
-ghost use Rattle.clear_book.specs.Machine.{IsLawful, Runs};
+ghost use Rattle.clear_book.specs.Lines.{credits_of_lines, lines_of_rows, lines_seen};
+ghost use Rattle.clear_book.specs.Lines.{lines_standing};
+ghost use Rattle.clear_book.specs.Machine.{AreRates, IsLawful, Runs};
 ghost use Rattle.clear_book.specs.Ranges.{IsCall};
+ghost use Rattle.clear_book.specs.RowRanges.{AreInRange};
 ghost use Rattle.clear_book.specs.Tables.{Tables, Stands, table_charges, table_credits};
+
+/// A book without entries over a table of rates is lawful.
+pub fn law_first_book()
+    ensures { (rates : List Rate) → AreRates rates
+        → IsLawful (record { opening = rates; entries = [] }) }
+{}
 
 /// A run over calls whose values lie in their ranges leads from a lawful book to a lawful one.
 pub fn law_lawful()
-    ensures { (b : Book) (calls : List Call) (outcomes : List Outcome) (last : Book)
-        → Runs b calls outcomes last → AllByRecursion IsCall calls → IsLawful b → IsLawful last }
+    ensures { (failed end : Bool) (b : Book) (calls : List Call) (outcomes : List Outcome)
+        (last : Book) → Runs failed end b calls outcomes last → AllByRecursion IsCall calls
+        → IsLawful b → IsLawful last }
 {}
 
-/// A lawful book has at most 50,000,000 entries, its reports at most 500 lines of at most
-/// 10,000,000 cents, a base of at most 5,000,000,000 cents; the charges of a firm come to at most
-/// 12,000,000,000,000 cents; a firm has at most 100,000 payments for each purpose, together at most
-/// 10,000,000,000,000,000 cents, and at most 100,000 lines are in suspense: no sum leaves its type.
+/// Once the store has failed, every outcome is that the office has failed, and the book stays.
+pub fn law_failed()
+    ensures outcomes { (end : Bool) (b : Book) (calls : List Call) (outcomes : List Outcome)
+        (last : Book) → Runs true end b calls outcomes last
+        → AllByRecursion (λ outcome. outcome ≡ Refused Failed) outcomes }
+    ensures book { (end : Bool) (b : Book) (calls : List Call) (outcomes : List Outcome)
+        (last : Book) → Runs true end b calls outcomes last → last ≡ b }
+{}
+
+/// A lawful book has at most 50,000,000 entries, its reports at most 10,000 versions of at most 500
+/// lines of at most 10,000,000 cents, a base of at most 5,000,000,000 cents; the charges of a firm
+/// come to at most 12,000,000,000,000 cents; a firm has at most 100,000 payments for each purpose,
+/// together at most 10,000,000,000,000,000 cents; at most 100,000 lines are in suspense, and at
+/// most 500,000,000,000 came in, each with its serial: no sum leaves its type. No payment has a
+/// day after that of the last request.
 pub fn law_small()
     ensures { (b : Book) → IsLawful b → IsSmall b }
+{}
+
+/// Two tables that stand for one book are equal.
+pub fn law_one_table()
+    ensures { (b : Book) (t u : Tables) → Stands b t → Stands b u → t ≡ u }
+{}
+
+/// Each row of the tables of a lawful book lies in its ranges.
+pub fn law_rows_in_range()
+    ensures { (b : Book) (t : Tables) → IsLawful b → Stands b t → AreInRange t }
 {}
 
 /// The contributions that the tables of a lawful book hold for an employer are those of the book,
@@ -36,7 +70,8 @@ pub fn law_charges()
 /// The bank lines of a book have the serials 1, 2, 3, .. in the order in which they came, and no
 /// reference stands twice.
 pub fn law_bank_lines()
-    ensures { (b : Book) → AreCounted (lines_seen b.entries) }
+    ensures counted { (b : Book) → AreCounted (lines_seen b.entries) }
+    ensures references { (b : Book) → HasNoReferenceTwice (lines_of_rows (lines_seen b.entries)) }
 {}
 
 /// The payments of a book are those of its standing lines, in the strict order of firm, purpose,

@@ -12,6 +12,9 @@ pub const MAX_LINES: usize = 500;
 /// The gross amount of a line, in cents.
 pub const MAX_GROSS: u64 = 10_000_000;
 
+/// The versions of a month's report.
+pub const MAX_VERSIONS: u32 = 10_000;
+
 /// The data records of a bank file.
 pub const MAX_RECORDS: usize = 10_000;
 

@@ -2,23 +2,45 @@
 //! functions have no effect: a proof reads from them what the types say.
 ghost use Rattle.std.specs.Prelude.{◌≡◌};
 ghost use Rattle.std.specs.List.{AllByRecursion};
-ghost use Rattle.clear_book.specs.Ranges.{IsCall, IsCommand, IsWageLine};
+ghost use Rattle.clear_money.specs.Rates.{IsRate};
+ghost use Rattle.clear_book.specs.Machine.{AreRates};
+ghost use Rattle.clear_book.specs.Ranges.{IsCall, IsCaller, IsCommand, IsQuery, IsReport};
+ghost use Rattle.clear_book.specs.Ranges.{IsWageLine};
 
-use crate::calls::{Call, Command};
+use crate::calls::{Call, Caller, Command, Query, WageReport};
 use crate::texts::WageLine;
+use clear_money::rates::{RateRow, RateTable};
 
 /// The values of the call lie in their ranges.
 pub fn call_in_range(call: &Call)
     ensures { IsCall call.now }
 {
-    if let Call::Do {
-        number,
-        command,
-        ..
-    } = call
-    {
-        let _number = number.number();
-        command_in_range(command);
+    match call {
+        Call::Do {
+            caller,
+            number,
+            day,
+            command,
+        } => {
+            caller_in_range(caller);
+            let _number = number.number();
+            let _day = day.number();
+            command_in_range(command);
+        }
+        Call::Ask { caller, day, query } => {
+            caller_in_range(caller);
+            let _day = day.number();
+            query_in_range(query);
+        }
+    }
+}
+
+/// The values of the caller lie in their ranges.
+pub fn caller_in_range(caller: &Caller)
+    ensures { IsCaller caller.now }
+{
+    if let Caller::Firm(employer) = caller {
+        let _employer = employer.number();
     }
 }
 
@@ -32,16 +54,63 @@ pub fn command_in_range(command: &Command)
             let _name = registration.name.as_str();
             let _start = registration.start.number();
         }
-        Command::Report(report) => {
-            let _employer = report.employer.number();
-            let _month = report.month.number();
-            lines_in_range(report.lines.as_slice());
+        Command::Report(report) => report_in_range(report),
+        Command::Correct(correction) => {
+            let _version = correction.version;
+            report_in_range(&correction.report);
         }
         Command::ImportBank(_) => {}
     }
 }
 
-// And of a report's lines.
+/// The values of the query lie in their ranges.
+pub fn query_in_range(query: &Query)
+    ensures { IsQuery query.now }
+{
+    let Query::Owed { employer } = query;
+    let _employer = employer.number();
+}
+
+/// The rates are a table that a book may begin with: one row at least, the first months rising, and
+/// each row in its ranges.
+pub fn rates_in_range(rates: &RateTable)
+    ensures { AreRates rates.now }
+{
+    let rows = rates.as_slice();
+    rows_in_range(rows);
+}
+
+// The values of rate rows lie in their ranges.
+fn rows_in_range(rows: &[RateRow])
+    ensures { AllByRecursion IsRate rows.now }
+{
+    for row in rows {
+        row_in_range(row);
+    }
+}
+
+// And of one row.
+fn row_in_range(row: &RateRow)
+    ensures { IsRate row.now }
+{
+    let _first = row.first().number();
+    let _contribution = row.contribution_rate();
+    let _report_day = row.report_day();
+    let _due_day = row.due_day();
+    let _interest = row.interest_rate();
+    let _entitlement = row.entitlement_rate();
+}
+
+// The values of a report lie in their ranges.
+fn report_in_range(report: &WageReport)
+    ensures { IsReport report.now }
+{
+    let _employer = report.employer.number();
+    let _month = report.month.number();
+    lines_in_range(report.lines.as_slice());
+}
+
+// And of its lines.
 fn lines_in_range(lines: &[WageLine])
     ensures { AllByRecursion IsWageLine lines.now }
 {

@@ -2,9 +2,8 @@
 
 use crate::files::BankRows;
 use crate::outcomes::Reply;
-use crate::texts::{Name, WageLines};
+use crate::texts::{CreditReference, Name, WageLines};
 use clear_bank::lines::{BankLine, Purpose};
-use clear_bank::texts::Reference;
 use clear_money::days::Day;
 use clear_money::months::Month;
 use clear_money::numbers::{Amount, EmployerNo, WorkerNo};
@@ -16,6 +15,8 @@ pub struct EmployerRow {
     pub name: Name,
     /// The first member month.
     pub start: Month,
+    /// The last member month, once an end is set.
+    pub last: Option<Month>,
 }
 
 /// The latest report of an employer's month.
@@ -56,8 +57,81 @@ pub struct CreditRow {
     /// The serial of the bank line.
     pub serial: u64,
     pub cents: Amount,
-    /// The reference of the bank line.
-    pub reference: Reference,
+    pub reference: CreditReference,
+}
+
+/// A firm's claim for the holiday pay that it has advanced to a worker.
+#[derive(Clone, Copy)]
+pub struct ClaimRow {
+    /// Its number among all claims, from 1.
+    pub claim: u32,
+    pub employer: EmployerNo,
+    pub worker: WorkerNo,
+    pub cents: Amount,
+    /// The day on which it was made.
+    pub made: Day,
+    pub state: ClaimState,
+}
+
+/// How a claim stands.
+#[derive(Clone, Copy)]
+pub enum ClaimState {
+    Open,
+    Withdrawn,
+    Released(ReleasedClaim),
+}
+
+/// How a claim was settled. The three amounts are cents, and their sum is the claim's.
+#[derive(Clone, Copy)]
+pub struct ReleasedClaim {
+    pub day: Day,
+    /// What was set off to contributions.
+    pub to_contributions: u64,
+    /// What was set off to interest.
+    pub to_interest: u64,
+    /// What is paid out.
+    pub paid: u64,
+    /// The payout list that it is on.
+    pub list: Option<u32>,
+}
+
+/// A payout list.
+#[derive(Clone, Copy)]
+pub struct ListRow {
+    /// Its number, from 1.
+    pub list: u32,
+    pub day: Day,
+    /// How many claims are on it.
+    pub items: u64,
+    /// Cents.
+    pub total: u64,
+}
+
+/// A reminder run.
+#[derive(Clone, Copy)]
+pub struct RunRow {
+    /// Its number, from 1.
+    pub run: u32,
+    pub day: Day,
+    /// How many firms were reminded.
+    pub firms: u64,
+}
+
+/// A firm's reminder in a run.
+#[derive(Clone, Copy)]
+pub struct ReminderRow {
+    pub run: u32,
+    pub employer: EmployerNo,
+    /// 1 to 3.
+    pub level: u8,
+    /// How many months had no report.
+    pub missing: u32,
+    /// The first of them.
+    pub first: Option<Month>,
+    /// Cents in arrears.
+    pub arrears: u64,
+    /// Cents of interest in arrears.
+    pub interest: u64,
 }
 
 /// What an accepted command changes.
@@ -67,6 +141,8 @@ pub enum Change {
     AddEmployer(EmployerRow),
     /// A first report, with a wage row for each of its lines.
     AddReport(ReportRow, WageLines),
+    /// A correction: its row and its wage rows stand in the place of the month's.
+    ReplaceReport(ReportRow, WageLines),
     /// The new lines of a bank file; each that has a firm is a credit of it.
     AddBankLines(BankRows),
 }

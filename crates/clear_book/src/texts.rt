@@ -1,11 +1,12 @@
-//! Names, and the wage lines of a report.
+//! Names, the wage lines of a report, and the references of credits.
 ghost use Rattle.std.specs.Prelude.{◌≡◌, ℕ, ◌↔◌, string_bytes, true, IfOk, IfSome, IsSome};
 ghost use Rattle.std.specs.List.{AllByRecursion};
-ghost use Rattle.clear_book.specs.Texts.{IsName, IsPrintable};
+ghost use Rattle.clear_book.specs.Texts.{IsCreditReference, IsName, IsPrintable};
 
 use crate::limits::MAX_NAME_BYTES;
+use clear_bank::texts::Reference;
 use clear_money::numbers::WorkerNo;
-use std::alloc::AllocError;
+use std::alloc::{AllocError, Global};
 use std::marker::Model;
 
 /// The name of a firm: 1 to 60 bytes of UTF-8 without control characters. A contract sees its
@@ -108,5 +109,42 @@ impl WageLines {
         Ok(WageLines {
             lines: self.lines.clone()?,
         })
+    }
+}
+
+/// The reference of a credit: that of its bank line, or `set-off` and the number of the claim whose
+/// release it comes from. A contract sees its bytes.
+#[derive(Drop)]
+pub struct CreditReference {
+    text: String,
+}
+
+impl Model for CreditReference {
+    ghost use Rattle.std.specs.Prelude.{ℕ, List, string_bytes};
+    ghost use Rattle.clear_book.specs.Texts.{IsCreditReference};
+
+    ghost Value = { List ℕ };
+
+    ghost view = { λ a. string_bytes a.text };
+
+    ghost invariant = { λ a. IsCreditReference (string_bytes a.text) };
+}
+
+impl CreditReference {
+    /// The reference of a bank line.
+    pub fn of_line(alloc: Global, line: &Reference) -> Result<CreditReference, AllocError>
+        ensures { IfOk result (λ reference. reference ≡ line.now) }
+    {
+        Ok(CreditReference {
+            text: String::from_str(alloc, line.as_str())?,
+        })
+    }
+
+    /// The text of the reference.
+    pub fn as_str(&self) -> &str
+        ensures value { result.now ≡ self.now }
+        ensures range { IsCreditReference result.now }
+    {
+        self.text.as_str()
     }
 }

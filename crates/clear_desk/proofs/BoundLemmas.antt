@@ -1,51 +1,32 @@
 -- A report within the limits, and the lines of a file, keep the sums over the tables small.
-use Rattle.std.proofs.Common.{◌≡◌, ℕ, zero, suc, ◌+◌, ◌<◌, ◌≤◌, List, [], ◌∷◌, length, Option, Some, None, Bool, true, false, cond, ◌&&◌, ◌==◌, map, sum_by, refl, sym, ap, ◌∙◌, subst, arith}
+use Rattle.std.proofs.Common.{◌≡◌, ℕ, zero, suc, ◌+◌, ◌<◌, ◌≤◌, List, [], ◌∷◌, length, Option, Some, None, Bool, true, false, cond, ◌&&◌, ◌==◌, map, refl, sym, ap, ◌∙◌, subst, arith}
 use Rattle.std.specs.Prelude.{All}
 use Rattle.std.specs.List.{AllByRecursion, range_with_len, cons_option}
 use Rattle.std.proofs.lemmas.Bool.Decides.{nat_tests}
-use Rattle.std.proofs.lemmas.List.Sums.{sum_by-cons, sum_by-le}
+use Rattle.std.proofs.lemmas.List.Sums.{sum_by-le}
 use Rattle.clear_book.specs.declared.texts.WageLine.{WageLine}
 use Rattle.clear_book.specs.declared.rows.BankRow.{BankRow}
 use Rattle.clear_book.specs.declared.rows.CreditRow.{CreditRow}
 use Rattle.clear_book.specs.declared.rows.ReportRow.{ReportRow}
 use Rattle.clear_book.specs.declared.rows.WageRow.{WageRow}
-use Rattle.clear_book.specs.declared.rows.Change.TheVariants.{AddReport, AddBankLines}
+use Rattle.clear_book.specs.declared.rows.Change.TheVariants.{AddReport, ReplaceReport, AddBankLines}
 use Rattle.clear_book.specs.Accounts.{base_of, credit_key}
-use Rattle.clear_book.specs.Keyed.{is_key, is_before, find_row, with_row, with_rows, AreOnce}
+use Rattle.clear_book.specs.Keyed.{is_key, is_before, find_row, with_row, with_rows, put_row, AreOnce}
 use Rattle.clear_book.specs.Lines.{credit_of_line, credits_of_lines}
-use Rattle.clear_book.specs.Tables.{Tables, bank_key, report_key, wage_key, table_base, with_wages, changed, noted}
+use Rattle.clear_book.specs.Tables.{Tables, bank_key, report_key, wage_key, wage_rows, table_base, with_wages, changed, noted}
 use Rattle.clear_book.proofs.KeyedLemmas.{is_key-sym, other_row, find_row-with_row}
-use Rattle.clear_book.proofs.TablesLemmas.{key_is}
+use Rattle.clear_book.proofs.KeyedChangesLemmas.{find_row-put_row, AllByRecursion-with_row}
+use Rattle.clear_book.proofs.KeyedRowsLemmas.{sum_by-with_rows}
+use Rattle.clear_book.proofs.VersionLemmas.{key_is}
+use Rattle.clear_book.proofs.WagesLemmas.{table_base-wage_rows, sum_by-with_wages, sum_by-with_wages-other}
 use Rattle.clear_desk.specs.Office.{AreBounded, Fits, credit_serial}
 
-sum_by-with_row : {Row : Type 0} (key : Row → List ℕ) (f : Row → ℕ) (rows : List Row) (new : Row) → sum_by f (with_row key rows new) ≡ f new + sum_by f rows
-sum_by-with_row key f [] new = sum_by-cons f new []
-sum_by-with_row {Row = Row} key f (row ∷ rows) new = placed (is_before (key new) (key row)) (sum_by-with_row key f rows new)
-  where
-    placed : (before : Bool) → sum_by f (with_row key rows new) ≡ f new + sum_by f rows → sum_by f (cond before (new ∷ row ∷ rows) (row ∷ with_row key rows new)) ≡ f new + sum_by f (row ∷ rows)
-    placed true rest = sum_by-cons f new (row ∷ rows)
-    placed false rest = omega (arith, rest, sum_by-cons f row (with_row key rows new), sum_by-cons f row rows)
-
-module _ (e m f n : ℕ) where
-  abbrev weight : WageRow → ℕ
-  weight row = cond ((row.employer == f) && (row.month == n)) row.gross 0
-
-  -- the wage rows of a report add its base to that of its month
-  pub table_base-with_wages : (lines : List WageLine) (rows : List WageRow) → table_base (with_wages e m lines rows) f n ≡ cond ((e == f) && (m == n)) (base_of lines) 0 + table_base rows f n
-  table_base-with_wages [] rows = nothing ((e == f) && (m == n))
-    where
-      nothing : (b : Bool) → table_base rows f n ≡ cond b 0 0 + table_base rows f n
-      nothing true = omega arith
-      nothing false = omega arith
-  table_base-with_wages (line ∷ lines) rows =
-      let new : WageRow = record { employer = e; month = m; worker = line.worker; gross = line.gross } in
-      let rest = table_base-with_wages lines (with_row wage_key rows new) in
-      let here = sum_by-with_row wage_key weight rows new in
-      more ((e == f) && (m == n)) (table_base (with_wages e m lines (with_row wage_key rows new)) f n) (table_base (with_row wage_key rows new) f n) rest here
-    where
-      more : (b : Bool) (all mid : ℕ) → all ≡ cond b (base_of lines) 0 + mid → mid ≡ cond b line.gross 0 + table_base rows f n → all ≡ cond b (base_of (line ∷ lines)) 0 + table_base rows f n
-      more true all mid rest here = omega (arith, rest, here, sum_by-cons (λ (l : WageLine). l.gross) line lines)
-      more false all mid rest here = omega (arith, rest, here)
+-- the wage rows of a report add its base to that of its month
+table_base-more : (e m : ℕ) (lines : List WageLine) (rows : List WageRow) (f n : ℕ) → table_base (with_rows wage_key rows (wage_rows e m lines)) f n ≡ cond ((e == f) && (m == n)) (base_of lines) 0 + table_base rows f n
+table_base-more e m lines rows f n =
+    let weight : WageRow → ℕ = λ row. cond ((row.employer == f) && (row.month == n)) row.gross 0 in
+    let sum : table_base (with_rows wage_key rows (wage_rows e m lines)) f n ≡ table_base rows f n + table_base (wage_rows e m lines) f n = sum_by-with_rows wage_key weight rows (wage_rows e m lines) in
+    omega (arith, sum, table_base-wage_rows e m lines f n)
 
 base_small : (lines : List WageLine) → length lines ≤ 500 → All (λ line. line.gross ≤ 10000000) lines → base_of lines ≤ 5000000000
 base_small lines few small = omega (arith, sum_by-le (λ (line : WageLine). line.gross) 10000000 lines small)
@@ -67,15 +48,15 @@ bounded_report t day row lines h few fits =
       serial = omega (arith, h.serial);
       given = h.given;
       once = h.once;
-      bases = λ e m. based e m ((row.employer == e) && (row.month == m)) refl (table_base-with_wages row.employer row.month e m lines t.wages);
+      bases = λ e m. based e m ((row.employer == e) && (row.month == m)) refl (table_base-more row.employer row.month lines t.wages e m);
       unreported = λ e m none.
           let apart = not_found (is_key (report_key row) (e ∷ m ∷ [])) row (find_row report_key t.reports (e ∷ m ∷ [])) (sym (find_row-with_row report_key t.reports row (e ∷ m ∷ []) fits.2) ∙ none) in
           let other : (row.employer == e) && (row.month == m) ≡ false = sym (trues (row.employer == e) (row.month == m)) ∙ apart.0 in
-          table_base-with_wages row.employer row.month e m lines t.wages
+          table_base-more row.employer row.month lines t.wages e m
           ∙ (λ i. cond (other i) (base_of lines) 0 + h.unreported e m apart.1 i);
     }
   where
-    based : (e m : ℕ) (b : Bool) → (row.employer == e) && (row.month == m) ≡ b → table_base (with_wages row.employer row.month lines t.wages) e m ≡ cond ((row.employer == e) && (row.month == m)) (base_of lines) 0 + table_base t.wages e m → table_base (with_wages row.employer row.month lines t.wages) e m ≤ 5000000000
+    based : (e m : ℕ) (b : Bool) → (row.employer == e) && (row.month == m) ≡ b → table_base (with_rows wage_key t.wages (wage_rows row.employer row.month lines)) e m ≡ cond ((row.employer == e) && (row.month == m)) (base_of lines) 0 + table_base t.wages e m → table_base (with_rows wage_key t.wages (wage_rows row.employer row.month lines)) e m ≤ 5000000000
     based e m true is sum =
         let same = key_is row.employer e row.month m is in
         let none : table_base t.wages e m ≡ 0 = h.unreported e m (subst (λ (p : ℕ × ℕ). find_row report_key t.reports (p.0 ∷ p.1 ∷ []) ≡ None) (λ i. (same.0 i, same.1 i)) fits.2) in
@@ -85,21 +66,44 @@ bounded_report t day row lines h few fits =
         let nothing : cond ((row.employer == e) && (row.month == m)) (base_of lines) 0 ≡ 0 = ap (λ b. cond b (base_of lines) 0) is in
         omega (arith, sum, nothing, h.bases e m)
 
+-- and so are the tables with a correction
+pub bounded_correction : (t : Tables) (day : ℕ) (row : ReportRow) (lines : List WageLine) → AreBounded t → t.entries < 50000000 → Fits (ReplaceReport row lines) t → AreBounded (noted day (changed (ReplaceReport row lines) t))
+bounded_correction t day row lines h few fits =
+    record {
+      entries = omega arith;
+      serial = omega (arith, h.serial);
+      given = h.given;
+      once = h.once;
+      bases = λ e m. based e m ((row.employer == e) && (row.month == m)) refl;
+      unreported = λ e m none.
+          let apart = not_found (is_key (report_key row) (e ∷ m ∷ [])) row (find_row report_key t.reports (e ∷ m ∷ [])) (sym (find_row-put_row report_key t.reports row (e ∷ m ∷ [])) ∙ none) in
+          let other : (row.employer == e) && (row.month == m) ≡ false = sym (trues (row.employer == e) (row.month == m)) ∙ apart.0 in
+          sum_by-with_wages-other row.employer row.month lines t.wages e m other ∙ h.unreported e m apart.1;
+    }
+  where
+    based : (e m : ℕ) (b : Bool) → (row.employer == e) && (row.month == m) ≡ b → table_base (with_wages row.employer row.month lines t.wages) e m ≤ 5000000000
+    based e m true is =
+        let same = key_is row.employer e row.month m is in
+        let sum : table_base (with_wages row.employer row.month lines t.wages) e m ≡ base_of lines =
+        subst (λ (p : ℕ × ℕ). table_base (with_wages row.employer row.month lines t.wages) p.0 p.1 ≡ base_of lines) (λ i. (same.0 i, same.1 i)) (sum_by-with_wages row.employer row.month lines t.wages) in
+        omega (arith, sum, base_small lines fits.0 fits.1)
+    based e m false is =
+        omega (arith, sum_by-with_wages-other row.employer row.month lines t.wages e m is, h.bases e m)
+
 -- the same of tables whose reports and wages are those
-pub bounded_with : (t : Tables) (day : ℕ) (row : ReportRow) (lines : List WageLine) (reports : List ReportRow) (wages : List WageRow) → reports ≡ with_row report_key t.reports row → wages ≡ with_wages row.employer row.month lines t.wages → AreBounded t → t.entries < 50000000 → Fits (AddReport row lines) t → AreBounded (record { rates = t.rates; employers = t.employers; reports = reports; wages = wages; bank = t.bank; credits = t.credits; day = Some day; entries = t.entries + 1; serial = t.serial })
-bounded_with t day row lines reports wages is also h few fits =
-    subst (λ (p : List ReportRow × List WageRow). AreBounded (record { rates = t.rates; employers = t.employers; reports = p.0; wages = p.1; bank = t.bank; credits = t.credits; day = Some day; entries = t.entries + 1; serial = t.serial })) (λ i. (sym is i, sym also i)) (bounded_report t day row lines h few fits)
+module _ (t : Tables) (day : ℕ) (row : ReportRow) (lines : List WageLine) (reports : List ReportRow) (wages : List WageRow) where
+  abbrev with_both : List ReportRow × List WageRow → Tables
+  with_both p = record t { reports = p.0; wages = p.1; day = Some day; entries = t.entries + 1 }
+
+  pub bounded_with : reports ≡ with_row report_key t.reports row → wages ≡ with_rows wage_key t.wages (wage_rows row.employer row.month lines) → AreBounded t → t.entries < 50000000 → Fits (AddReport row lines) t → AreBounded (with_both (reports, wages))
+  bounded_with is also h few fits =
+      subst (λ (p : List ReportRow × List WageRow). AreBounded (with_both p)) (λ i. (sym is i, sym also i)) (bounded_report t day row lines h few fits)
+
+  pub bounded_in_place : reports ≡ put_row report_key t.reports row → wages ≡ with_wages row.employer row.month lines t.wages → AreBounded t → t.entries < 50000000 → Fits (ReplaceReport row lines) t → AreBounded (with_both (reports, wages))
+  bounded_in_place is also h few fits =
+      subst (λ (p : List ReportRow × List WageRow). AreBounded (with_both p)) (λ i. (sym is i, sym also i)) (bounded_correction t day row lines h few fits)
 
 -- ---- serials of payments
-
--- what holds of all rows and of one more holds of them together
-all_with_row : {Row : Type 0} (key : Row → List ℕ) (P : Row → Type 0) (rows : List Row) (new : Row) → AllByRecursion P rows → P new → AllByRecursion P (with_row key rows new)
-all_with_row key P [] new all one = (one, tt)
-all_with_row {Row = Row} key P (row ∷ rows) new all one = placed (is_before (key new) (key row)) (all_with_row key P rows new all.1 one)
-  where
-    placed : (before : Bool) → AllByRecursion P (with_row key rows new) → AllByRecursion P (cond before (new ∷ row ∷ rows) (row ∷ with_row key rows new))
-    placed true rest = (one, all)
-    placed false rest = (all.0, rest)
 
 -- rows that stand once by a key stay so in the order of another
 module _ {Row : Type 0} (key other : Row → List ℕ) where
@@ -151,7 +155,7 @@ rising_rows low high rows [] all once rising = (given_more low high rows rising 
 rising_rows low high rows (new ∷ news) all once rising =
     let above = rising.0 in
     rising_rows new.serial high (with_row credit_key rows new) news
-    (all_with_row credit_key (λ (row : CreditRow). row.serial ≤ new.serial) rows new (given_more low new.serial rows (omega (arith, above)) all) (omega arith))
+    (AllByRecursion-with_row credit_key (λ (row : CreditRow). row.serial ≤ new.serial) rows new (given_more low new.serial rows (omega (arith, above)) all) (omega arith))
     (once_with_row credit_key credit_serial rows new (none_given low new.serial rows above all) once)
     rising.1
 
@@ -179,6 +183,6 @@ bounded_lines t day rows h few fits =
     record { entries = omega arith; bases = h.bases; unreported = h.unreported; serial = omega (arith, h.serial, most); given = kept.0; once = kept.1 }
 
 -- the same of tables whose lines, payments and last serial are those
-pub bounded_lines_with : (t : Tables) (day : ℕ) (rows bank : List BankRow) (credits : List CreditRow) (serial : ℕ) → bank ≡ with_rows bank_key t.bank rows → credits ≡ with_rows credit_key t.credits (credits_of_lines rows) → serial ≡ t.serial + length rows → AreBounded t → t.entries < 50000000 → Fits (AddBankLines rows) t → AreBounded (record { rates = t.rates; employers = t.employers; reports = t.reports; wages = t.wages; bank = bank; credits = credits; day = Some day; entries = t.entries + 1; serial = serial })
+pub bounded_lines_with : (t : Tables) (day : ℕ) (rows bank : List BankRow) (credits : List CreditRow) (serial : ℕ) → bank ≡ with_rows bank_key t.bank rows → credits ≡ with_rows credit_key t.credits (credits_of_lines rows) → serial ≡ t.serial + length rows → AreBounded t → t.entries < 50000000 → Fits (AddBankLines rows) t → AreBounded (record t { bank = bank; credits = credits; day = Some day; entries = t.entries + 1; serial = serial })
 bounded_lines_with t day rows bank credits serial is also last h few fits =
-    subst (λ (p : List BankRow × List CreditRow × ℕ). AreBounded (record { rates = t.rates; employers = t.employers; reports = t.reports; wages = t.wages; bank = p.0; credits = p.1; day = Some day; entries = t.entries + 1; serial = p.2 })) (λ i. (sym is i, sym also i, sym last i)) (bounded_lines t day rows h few fits)
+    subst (λ (p : List BankRow × List CreditRow × ℕ). AreBounded (record t { bank = p.0; credits = p.1; day = Some day; entries = t.entries + 1; serial = p.2 })) (λ i. (sym is i, sym also i, sym last i)) (bounded_lines t day rows h few fits)

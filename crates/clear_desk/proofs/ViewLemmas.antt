@@ -1,9 +1,11 @@
 -- What a bank file is judged by, told by the tables.
-use Rattle.std.proofs.Common.{◌≡◌, ℕ, ◌+◌, ◌<◌, ◌≤◌, List, [], ◌∷◌, ◌++◌, length, take, get_or, Result, Ok, Err, Some, Bool, true, false, cond, ◌&&◌, ◌==◌, count_by, refl, ap, sym, subst, ◌∙◌}
+use Rattle.std.proofs.Common.{◌≡◌, ℕ, ◌+◌, ◌<◌, ◌≤◌, List, [], ◌∷◌, ◌++◌, length, take, get_or, Result, Ok, Err, Option, Some, None, inl, Bool, true, false, cond, ◌&&◌, ◌==◌, count_by, is_some, refl, ap, sym, subst, ◌∙◌}
+use Rattle.std.proofs.lemmas.Bool.{false≢true}
 use Rattle.std.proofs.lemmas.List.{map-append, take_more}
-use Rattle.std.specs.List.{range_with_len}
-use Rattle.std.specs.Option.{option_map}
-use Rattle.std.specs.Prelude.{IfOk, OnOk}
+use Rattle.std.specs.List.{range_with_len, AllByRecursion}
+use Rattle.std.specs.Option.{option_map, option_map_or}
+use Rattle.std.specs.Prelude.{IfOk, IfSome, OnOk}
+use Rattle.clear_bank.specs.declared.lines.BankLine.{BankLine}
 use Rattle.clear_bank.specs.declared.lines.Purpose.{Purpose}
 use Rattle.clear_bank.specs.declared.lines.Purpose.TheVariants.{Contribution, Interest}
 use Rattle.clear_bank.specs.Newness.{line_under}
@@ -17,16 +19,29 @@ use Rattle.clear_book.specs.declared.rows.Change.TheVariants.{AddBankLines}
 use Rattle.clear_book.specs.declared.rows.Decision.{Decision}
 use Rattle.clear_book.specs.declared.rows.EmployerRow.{EmployerRow}
 use Rattle.clear_book.specs.Accounts.{credit_key}
-use Rattle.clear_book.specs.Book.{Book, Member}
-use Rattle.clear_rules.specs.Views.ImportBank.{IsImportView, employer_under, is_registered_by, rows_viewed}
+use Rattle.clear_book.specs.Book.{Book, Member, member_of}
+use Rattle.clear_rules.specs.Views.ImportBank.{IsImportView, IsEmployerViewed, employer_under, count_for, is_registered_by, rows_viewed}
 use Rattle.clear_book.specs.Limits.{most_records}
 use Rattle.clear_book.specs.Keyed.{find_row}
-use Rattle.clear_book.specs.Lines.{lines_in, new_lines, lines_of_rows, lines_standing, is_in_suspense, suspense_count, credits_of_lines, is_credit_of, credit_count}
+use Rattle.clear_book.specs.Lines.{lines_in, new_lines, lines_of_rows, lines_seen, lines_standing, is_in_suspense, suspense_count, credits_of_lines, is_credit_of, credit_count}
 use Rattle.clear_book.specs.Tables.{Tables, Stands, employer_key, bank_key, member_at}
-use Rattle.clear_book.proofs.LinesLemmas.{found_line, references_once, credits_once, serials_from, length-rows_from}
+use Rattle.clear_book.proofs.LinesLemmas.{found_line, standing_seen, references_standing, credits_once, serials_from, length-rows_from}
 use Rattle.clear_book.proofs.KeyedRowsLemmas.{count_by-ordered}
-use Rattle.clear_book.proofs.TablesLemmas.{same_worker}
+use Rattle.clear_book.proofs.DistinctLemmas.{same_worker}
 use Rattle.clear_desk.specs.Office.{Fits, credits_counted_of, employers_counted}
+
+-- what holds of each element holds of those of a list, and of that of an option
+all_of : {A : Type 0} (P : A → Type 0) → ((x : A) → P x) → (xs : List A) → AllByRecursion P xs
+all_of P h [] = tt
+all_of P h (x ∷ xs) = (h x, all_of P h xs)
+
+some_of : {A : Type 0} (P : A → Type 0) → ((x : A) → P x) → (o : Option A) → IfSome o P
+some_of P h None = tt
+some_of P h (Some x) = h x
+
+is_some-map : {A B : Type 0} (f : A → B) (o : Option A) → is_some (option_map f o) ≡ is_some o
+is_some-map f None = refl
+is_some-map f (Some x) = refl
 
 module _ (credits : List CreditRow) where
   abbrev employer_with : ℕ → EmployerCredits
@@ -39,9 +54,18 @@ module _ (credits : List CreditRow) where
     where
       told : (b : Bool) → (row.employer == e) ≡ b → employer_under (employers_counted rows credits) e ≡ option_map (λ (m : Member). employer_with e) (member_at rows e)
           → cond b (Some (employer_with row.employer)) (employer_under (employers_counted rows credits) e)
-          ≡ option_map (λ (m : Member). employer_with e) (option_map (λ (r : EmployerRow). record { name = r.name; start = r.start }) (cond (b && true) (Some row) (find_row employer_key rows (e ∷ []))))
+          ≡ option_map (λ (m : Member). employer_with e) (option_map (λ (r : EmployerRow). record { name = r.name; start = r.start; last = r.last }) (cond (b && true) (Some row) (find_row employer_key rows (e ∷ []))))
       told true is rest = ap (λ n. Some (employer_with n)) (same_worker row.employer e is)
       told false is rest = rest
+
+  count-with : (e : ℕ) (purpose : Purpose) → count_for purpose (employer_with e) ≡ count_by (is_credit_of e purpose) credits
+  count-with e Contribution = refl
+  count-with e Interest = refl
+
+  -- the number of a registered employer's credits
+  count-found : (e : ℕ) (purpose : Purpose) (o : Option Member) → is_some o ≡ true → option_map_or (count_for purpose) (option_map (λ (m : Member). employer_with e) o) 0 ≡ count_by (is_credit_of e purpose) credits
+  count-found e purpose None is = absurd (false≢true is)
+  count-found e purpose (Some member) is = count-with e purpose
 
   -- one more employer
   pub employers_counted-more : (rows : List EmployerRow) (i : ℕ) (row : EmployerRow) (contributions interest : ℕ) (before : List EmployerCredits) → i < length rows → row ≡ get_or rows i row
@@ -56,23 +80,43 @@ module _ (b : Book) (t : Tables) (stands : Stands b t) where
   counted : (e : ℕ) (p : Purpose) → count_by (is_credit_of e p) t.credits ≡ credit_count (lines_standing b.entries) e p
   counted e p = count_by-ordered credit_key (is_credit_of e p) t.credits (credits_of_lines (lines_standing b.entries)) stands.credits_in_order (credits_once b.entries) stands.credits
 
-  pub view_stands : (view : ImportView) → view.known.items ≡ lines_of_rows t.bank → view.employers.items ≡ employers_counted t.employers t.credits
-      → view.suspense ≡ suspense_count t.bank → view.serials ≡ t.serial → IsImportView b view
-  view_stands view known employers suspense serials =
-      record {
-        known_is = λ reference.
-            ap (line_under reference) known
-            ∙ sym (found_line t.bank reference)
-            ∙ ap (option_map (λ (row : BankRow). row.line)) (stands.bank reference)
-            ∙ found_line (lines_standing b.entries) reference;
-        employers_is = λ e.
-            ap (λ (counted : List EmployerCredits). employer_under counted e) employers
-            ∙ found_employer t.credits t.employers e
-            ∙ (λ i. option_map (λ (m : Member). record { employer = e; contribution_count = counted e Contribution i; interest_count = counted e Interest i }) (stands.employers e i));
-        suspense_is =
-            suspense ∙ count_by-ordered bank_key is_in_suspense t.bank (lines_standing b.entries) stands.bank_in_order (references_once b.entries) stands.bank;
-        serials_is = serials ∙ stands.serial;
-      }
+  -- a line is found as the book has it
+  known-at : (reference : List ℕ) → line_under reference (lines_of_rows t.bank) ≡ line_under reference (lines_of_rows (lines_seen b.entries))
+  known-at reference =
+      sym (found_line t.bank reference)
+      ∙ ap (option_map (λ (row : BankRow). row.line)) (stands.bank reference)
+      ∙ found_line (lines_standing b.entries) reference
+      ∙ ap (λ (rows : List BankRow). line_under reference (lines_of_rows rows)) (standing_seen b.entries)
+
+  -- an employer is found as the book has it
+  employer-at : (e : ℕ) → employer_under (employers_counted t.employers t.credits) e ≡ option_map (λ (m : Member). credits_counted_of t.credits e) (member_of b.entries e)
+  employer-at e = found_employer t.credits t.employers e ∙ ap (option_map (λ (m : Member). credits_counted_of t.credits e)) (stands.employers e)
+
+  module _ (file : List ℕ) (view : ImportView) (employers : view.employers.items ≡ employers_counted t.employers t.credits) where
+    found-at : (e : ℕ) → employer_under view.employers.items e ≡ option_map (λ (m : Member). credits_counted_of t.credits e) (member_of b.entries e)
+    found-at e = ap (λ (counted : List EmployerCredits). employer_under counted e) employers ∙ employer-at e
+
+    employer_viewed : (e : ℕ) → IsEmployerViewed b file view e
+    employer_viewed e =
+        record {
+          registered_is = ap is_some (found-at e) ∙ is_some-map (λ (m : Member). credits_counted_of t.credits e) (member_of b.entries e);
+          credits_serve = λ purpose registered.
+              inl (ap (λ (o : Option EmployerCredits). option_map_or (count_for purpose) o 0) (found-at e)
+              ∙ count-found t.credits e purpose (member_of b.entries e) registered
+              ∙ counted e purpose);
+        }
+
+    pub view_stands : view.known.items ≡ lines_of_rows t.bank → view.suspense ≡ suspense_count t.bank → view.serials ≡ t.serial → IsImportView b file view
+    view_stands known suspense serials =
+        record {
+          known_is =
+              all_of (λ (line : BankLine). line_under line.reference view.known.items ≡ line_under line.reference (lines_of_rows (lines_seen b.entries)))
+              (λ line. ap (line_under line.reference) known ∙ known-at line.reference) (lines_in file);
+          employers_are = all_of (λ (line : BankLine). IfSome line.employer (IsEmployerViewed b file view)) (λ line. some_of (IsEmployerViewed b file view) employer_viewed line.employer) (lines_in file);
+          suspense_serves =
+              inl (suspense ∙ count_by-ordered bank_key is_in_suspense t.bank (lines_standing b.entries) stands.bank_in_order (references_standing b.entries) stands.bank);
+          serials_is = serials ∙ stands.serial;
+        }
 
 -- ---- what a decision on a bank file puts in
 

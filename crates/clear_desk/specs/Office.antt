@@ -1,12 +1,12 @@
 -- What the office over lists keeps of its tables.
 use Rattle.std.specs.Prelude.{Bool, true, false, ◌≡◌, ℕ, ◌+◌, ◌*◌, ◌≤◌, List, [], ◌∷◌, None, length}
-use Rattle.std.specs.Prelude.{All, IsSome, count_by, map}
+use Rattle.std.specs.Prelude.{All, IsSome, Option, count_by, map}
 use Rattle.std.specs.List.{AllByRecursion, range_with_len}
 use Rattle.clear_account.specs.declared.entries.Charge.{Charge}
 use Rattle.clear_account.specs.declared.entries.Credit.{Credit}
 use Rattle.clear_account.specs.Account.{with_charge, with_credit}
 use Rattle.clear_bank.specs.declared.lines.Purpose.TheVariants.{Contribution, Interest}
-use Rattle.clear_money.specs.Rates.{rate_in_force}
+use Rattle.clear_money.specs.Rates.{Rate, rate_in_force}
 use Rattle.clear_rules.specs.declared.decide.import.EmployerCredits.{EmployerCredits}
 use Rattle.clear_book.specs.declared.outcomes.Outcome.{Outcome}
 use Rattle.clear_book.specs.declared.outcomes.Outcome.TheVariants.{Replied, Answered, Refused}
@@ -14,11 +14,38 @@ use Rattle.clear_book.specs.declared.rows.BankRow.{BankRow}
 use Rattle.clear_book.specs.declared.rows.CreditRow.{CreditRow}
 use Rattle.clear_book.specs.declared.rows.EmployerRow.{EmployerRow}
 use Rattle.clear_book.specs.declared.rows.Change.{Change}
-use Rattle.clear_book.specs.declared.rows.Change.TheVariants.{AddEmployer, AddReport, AddBankLines}
+use Rattle.clear_book.specs.declared.rows.Change.TheVariants.{AddEmployer, AddReport}
+use Rattle.clear_book.specs.declared.rows.Change.TheVariants.{ReplaceReport, AddBankLines}
+use Rattle.clear_book.specs.declared.rows.ReportRow.{ReportRow}
+use Rattle.clear_book.specs.declared.rows.WageRow.{WageRow}
 use Rattle.clear_book.specs.Keyed.{find_row, AreOnce}
 use Rattle.clear_book.specs.Limits.{most_entries, most_base, most_lines, most_gross, most_records}
 use Rattle.clear_book.specs.Lines.{is_credit_of}
 use Rattle.clear_book.specs.Tables.{Tables, report_key, table_base}
+
+-- the tables that the office keeps; the others are empty
+abbrev pub kept_tables :
+    List Rate → List EmployerRow → List ReportRow → List WageRow → List BankRow → List CreditRow
+    → Option ℕ → ℕ → ℕ → Tables
+kept_tables rates employers reports wages bank credits day entries serial = record {
+  rates = rates;
+  employers = employers;
+  reports = reports;
+  wages = wages;
+  bank = bank;
+  credits = credits;
+  claims = [];
+  lists = [];
+  runs = [];
+  reminders = [];
+  requests = [];
+  day = day;
+  entries = entries;
+  serial = serial;
+  last_claim = 0;
+  last_list = 0;
+  last_run = 0;
+}
 
 -- a credit by its serial
 abbrev pub credit_serial : CreditRow → List ℕ
@@ -39,13 +66,15 @@ pub record AreBounded (t : Tables) : Type 0 where
 abbrev pub AreNumbered : ℕ → List BankRow → Type 0
 AreNumbered last rows = map (λ row. row.serial) rows ≡ range_with_len (last + 1) (length rows)
 
--- a change that keeps them so: a report within the limits, of a month that has none, or lines of a
--- file
+-- a change that keeps them so: a report within the limits, of a month that has none or in the place
+-- of the month's, or lines of a file
 abbrev pub Fits : Change → Tables → Type 0
 Fits (AddEmployer row) t = Unit {0}
 Fits (AddReport row lines) t =
     (length lines ≤ most_lines) × All (λ line. line.gross ≤ most_gross) lines
     × (find_row report_key t.reports (report_key row) ≡ None)
+Fits (ReplaceReport row lines) t =
+    (length lines ≤ most_lines) × All (λ line. line.gross ≤ most_gross) lines
 Fits (AddBankLines rows) t = (length rows ≤ most_records) × AreNumbered t.serial rows
 
 -- ---- views

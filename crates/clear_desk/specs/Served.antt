@@ -9,7 +9,7 @@ use Rattle.clear_book.specs.declared.rules.Rule.{Rule}
 use Rattle.clear_book.specs.declared.rules.Rule.TheVariants.{Memory}
 use Rattle.clear_book.specs.Book.{Book}
 use Rattle.clear_book.specs.Machine.{IsLawful, Takes}
-use Rattle.clear_book.specs.Offices.{Steps}
+use Rattle.clear_book.specs.Offices.{working, Steps}
 use Rattle.clear_book.specs.Tables.{Tables, Stands}
 use Rattle.clear_answers.specs.declared.said.Said.{Said}
 use Rattle.clear_answers.specs.declared.said.Said.TheVariants.{No}
@@ -28,7 +28,8 @@ module _ (reads : Heading → List ℕ → Result Call Rule → Type 0) where
   -- ---- over tables
 
   abbrev pub CallSteps : Result Call Rule → Tables → Said → Tables → Type 0
-  CallSteps (Ok call) old told new = (o : Outcome) × (told ≡ said_of o) × Steps old call o new
+  CallSteps (Ok call) old told new = (o : Outcome) × (told ≡ said_of o)
+      × Steps (working old) call o (working new)
   CallSteps (Err rule) old told new = (told ≡ refused_by rule) × (new ≡ old)
 
   -- a request goes as its call, or is refused before; or there is no memory

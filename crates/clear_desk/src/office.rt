@@ -6,26 +6,29 @@ ghost use Rattle.clear_rules.specs.Decisions.{IsJudged, TakesTables};
 ghost use Rattle.clear_book.specs.Access.{may_do, may_query};
 ghost use Rattle.clear_book.specs.Limits.{most_entries};
 ghost use Rattle.clear_book.specs.Machine.{IsLawful, Takes};
-ghost use Rattle.clear_book.specs.Offices.{replied, answered, Steps, RunsTables};
+ghost use Rattle.clear_book.specs.Offices.{replied, answered, working, Steps, RunsOffice};
 ghost use Rattle.clear_book.specs.Tables.{Tables, Stands, changed, noted};
-ghost use Rattle.clear_desk.specs.Office.{Fits, is_reply};
+ghost use Rattle.clear_desk.specs.Office.{Fits, is_reply, kept_tables};
 
 mod account;
 mod views;
 
-use crate::rows::{add_wages, credits_of_rows, insert_row, insert_rows};
+use crate::rows::{
+    add_wages, credits_of_rows, insert_row, insert_rows, replace_report, replace_wages,
+};
 use clear_book::access::{may, may_ask};
 use clear_book::calls::{Call, Caller, Command, Query};
 use clear_book::files::BankRows;
 use clear_book::numbers::RequestNo;
 use clear_book::outcomes::{Answer, Outcome, Reply};
-use clear_book::ranges::command_in_range;
+use clear_book::ranges::{caller_in_range, command_in_range, rates_in_range};
 use clear_book::rows::{BankRow, Change, CreditRow, Decision, EmployerRow, ReportRow, WageRow};
 use clear_book::rules::Rule;
 use clear_book::texts::WageLines;
 use clear_money::days::Day;
 use clear_money::numbers::EmployerNo;
 use clear_money::rates::RateTable;
+use clear_rules::decide::correct::decide_correct;
 use clear_rules::decide::import::decide_import;
 use clear_rules::decide::register::decide_register;
 use clear_rules::decide::report::decide_report;
@@ -50,51 +53,26 @@ pub struct Office {
 
 impl Model for Office {
     ghost use Rattle.clear_book.specs.Tables.{Tables};
-    ghost use Rattle.clear_desk.specs.Office.{AreBounded};
+    ghost use Rattle.clear_desk.specs.Office.{AreBounded, kept_tables};
 
     ghost Value = { Tables };
 
-    ghost view = { λ a. record {
-      rates = a.rates;
-      employers = a.employers.items;
-      reports = a.reports.items;
-      wages = a.wages.items;
-      bank = a.bank.items;
-      credits = a.credits.items;
-      day = a.day;
-      entries = a.entries;
-      serial = a.serial;
-    } };
+    ghost view = { λ a. kept_tables a.rates a.employers.items a.reports.items a.wages.items
+        a.bank.items a.credits.items a.day a.entries a.serial };
 
-    ghost invariant = { λ a. AreBounded (record {
-      rates = a.rates;
-      employers = a.employers.items;
-      reports = a.reports.items;
-      wages = a.wages.items;
-      bank = a.bank.items;
-      credits = a.credits.items;
-      day = a.day;
-      entries = a.entries;
-      serial = a.serial;
-    }) };
+    ghost invariant = { λ a. AreBounded (kept_tables a.rates a.employers.items a.reports.items
+        a.wages.items a.bank.items a.credits.items a.day a.entries a.serial) };
 }
 
 impl Office {
-    /// An office without requests. Its tables stand for the book without entries.
+    /// An office without requests. Its tables stand for the book without entries, which is lawful.
     pub fn new(alloc: Global, rates: RateTable) -> Office
-        ensures tables { result ≡ record {
-          rates = rates;
-          employers = [];
-          reports = [];
-          wages = [];
-          bank = [];
-          credits = [];
-          day = None;
-          entries = 0;
-          serial = 0;
-        } }
+        ensures tables { result ≡ kept_tables rates [] [] [] [] [] None 0 0 }
         ensures stands { Stands (record { opening = rates; entries = [] }) result }
+        ensures lawful { IsLawful (record { opening = rates; entries = [] }) }
     {
+        // The proof reads from this call that the rates are in their ranges.
+        rates_in_range(&rates);
         Office {
             alloc,
             rates,
@@ -125,6 +103,10 @@ impl Office {
                 let view = self.report_view(report);
                 decide_report(self.alloc, day, report, &view)
             }
+            Command::Correct(correction) => {
+                let view = self.report_view(&correction.report);
+                decide_correct(self.alloc, day, correction, &view)
+            }
             Command::ImportBank(file) => {
                 let Ok(view) = self.import_view() else {
                     return Err(Rule::Memory);
@@ -144,6 +126,7 @@ impl Office {
         match change {
             Change::AddEmployer(row) => self.add_employer(day, row),
             Change::AddReport(row, lines) => self.add_report(day, row, &lines),
+            Change::ReplaceReport(row, lines) => self.put_report(day, row, &lines),
             Change::AddBankLines(rows) => self.add_bank_lines(day, rows),
         }
     }
@@ -186,6 +169,29 @@ impl Office {
         }
     }
 
+    fn put_report(&mut self, day: Day, row: ReportRow, lines: &WageLines) -> Result<(), AllocError>
+        requires room { self.old.entries < most_entries }
+        requires fits { Fits (Change.ReplaceReport row lines.now) self.old }
+        ensures ok { OnOk result
+            (self.new ≡ noted day (changed (Change.ReplaceReport row lines.now) self.old)) }
+        ensures err { OnErr result (self.new ≡ self.old) }
+    {
+        let wages = match replace_wages(&self.wages, row.employer, row.month, lines.as_slice()) {
+            Ok(wages) => wages,
+            Err(error) => return Err(error),
+        };
+        match replace_report(&self.reports, row) {
+            Ok(reports) => {
+                self.reports = reports;
+                self.wages = wages;
+                self.day = Some(day);
+                self.entries += 1;
+                Ok(())
+            }
+            Err(error) => Err(error),
+        }
+    }
+
     // Room is taken first, so that the rows are put in together or not at all.
     fn add_bank_lines(&mut self, day: Day, rows: BankRows) -> Result<(), AllocError>
         requires room { self.old.entries < most_entries }
@@ -218,8 +224,8 @@ impl Office {
         command: &Command,
     ) -> Result<Reply, Rule>
         // Whatever lawful book the tables stand for, this is a step of the machine over it.
-        ensures step { Steps self.old (Call.Do caller number day command.now) (replied result)
-            self.new }
+        ensures step { Steps (working self.old) (Call.Do caller number day command.now)
+            (replied result) (working self.new) }
         // This holds even for tables of no lawful book.
         ensures access { may_do caller command.now ≡ false → result ≡ Err Rule.NotYours }
         ensures err { OnErr result (self.new ≡ self.old) }
@@ -229,8 +235,10 @@ impl Office {
         }
         check_day(self.day, day)?;
         check_room(self.entries)?;
-        // No effect at run time: the proof reads the ranges of the values from these two calls.
+        // No effect at run time: the proof reads the ranges of the values from these calls.
+        caller_in_range(&caller);
         let _number = number.number();
+        let _day = day.number();
         command_in_range(command);
         let decision = self.decide(day, command)?;
         let reply = decision.reply;
@@ -271,7 +279,7 @@ impl Office {
         // The clearing theorem: whatever lawful book the tables stand for, the outcomes are those
         // of the machine over it, and the tables then stand for the lawful book that it leaves.
         ensures runs { IfOk result (λ outcomes.
-            RunsTables self.old calls.now outcomes.items self.new) }
+            RunsOffice (working self.old) calls.now outcomes.items (working self.new)) }
         ensures err { OnErr result (self.new ≡ self.old) }
     {
         let mut outcomes = Vec::with_capacity(alloc, calls.len())?;
@@ -285,7 +293,7 @@ impl Office {
     /// Takes one call.
     pub fn take(&mut self, call: &Call) -> Outcome
         // Whatever lawful book the tables stand for, this is a step of the machine over it.
-        ensures step { Steps self.old call.now result self.new }
+        ensures step { Steps (working self.old) call.now result (working self.new) }
         ensures kept { is_reply result ≡ false → self.new ≡ self.old }
     {
         match call {

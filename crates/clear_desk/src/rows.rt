@@ -1,16 +1,18 @@
 //! Rows in lists, in the order of their keys.
 ghost use Rattle.std.specs.Prelude.{◌≡◌, ◌+◌, ◌<◌, ◌≤◌, ◌∷◌, [], length, insert, is_ok};
-ghost use Rattle.std.specs.Prelude.{vec_capacity, vec_len, IfOk, if◌then◌else◌, option_copied};
+ghost use Rattle.std.specs.Prelude.{vec_capacity, vec_len, IfOk, OnOk, if◌then◌else◌, option_copied};
 ghost use Rattle.std.specs.Prelude.{true};
 ghost use Rattle.clear_book.specs.Accounts.{rank_of};
-ghost use Rattle.clear_book.specs.Keyed.{find_row, with_row, with_rows};
+ghost use Rattle.clear_book.specs.Keyed.{find_row, is_key, put_row, with_row, with_rows};
+ghost use Rattle.clear_book.specs.Keyed.{without_rows};
 ghost use Rattle.clear_book.specs.Limits.{most_base};
 ghost use Rattle.clear_book.specs.Lines.{credits_of_lines};
-ghost use Rattle.clear_book.specs.Tables.{employer_key, report_key, with_wages, table_base};
+ghost use Rattle.clear_book.specs.Tables.{employer_key, is_wage_key_of, report_key, table_base};
+ghost use Rattle.clear_book.specs.Tables.{wage_key, wage_rows, with_wages};
 
 use clear_bank::lines::Purpose;
 use clear_book::rows::{BankRow, CreditRow, EmployerRow, ReportRow, WageRow};
-use clear_book::texts::WageLine;
+use clear_book::texts::{CreditReference, WageLine};
 use clear_money::months::Month;
 use clear_money::numbers::EmployerNo;
 use std::alloc::{AllocError, Global};
@@ -149,7 +151,7 @@ pub fn credits_of_rows(alloc: Global, rows: &[BankRow]) -> Result<Vec<CreditRow>
                 day: row.line.value,
                 serial: row.serial,
                 cents: row.line.cents,
-                reference: row.line.reference.copied()?,
+                reference: CreditReference::of_line(alloc, &row.line.reference)?,
             })?;
         }
     }
@@ -180,8 +182,41 @@ pub fn find_report(rows: &[ReportRow], employer: EmployerNo, month: Month) -> Op
     None
 }
 
+/// A copy of the report rows, with this one in the place of its month's.
+pub fn replace_report(rows: &Vec<ReportRow>, row: ReportRow) -> Result<Vec<ReportRow>, AllocError>
+    ensures { IfOk result (λ new. new.items ≡ put_row report_key rows.now.items row) }
+{
+    let mut new = rows.clone()?;
+    remove_report(&mut new, row.employer, row.month);
+    insert_row(&mut new, row)?;
+    Ok(new)
+}
+
+// Removes the row of a month's report.
+fn remove_report(rows: &mut Vec<ReportRow>, employer: EmployerNo, month: Month)
+    ensures { rows.new.items
+        ≡ without_rows report_key (λ k. is_key k (employer ∷ month ∷ [])) rows.old.items }
+{
+    rows.retain(|row| row.employer != employer || row.month != month);
+}
+
 /// A copy of the wage rows, with one more for each line of a month's report.
 pub fn add_wages(
+    rows: &Vec<WageRow>,
+    employer: EmployerNo,
+    month: Month,
+    lines: &[WageLine],
+) -> Result<Vec<WageRow>, AllocError>
+    ensures { IfOk result (λ new.
+        new.items ≡ with_rows wage_key rows.now.items (wage_rows employer month lines.now)) }
+{
+    let mut new = rows.clone()?;
+    add_lines(&mut new, employer, month, lines)?;
+    Ok(new)
+}
+
+/// A copy of the wage rows, with one for each line of a month's report in the place of the month's.
+pub fn replace_wages(
     rows: &Vec<WageRow>,
     employer: EmployerNo,
     month: Month,
@@ -190,6 +225,29 @@ pub fn add_wages(
     ensures { IfOk result (λ new. new.items ≡ with_wages employer month lines.now rows.now.items) }
 {
     let mut new = rows.clone()?;
+    remove_wages(&mut new, employer, month);
+    add_lines(&mut new, employer, month, lines)?;
+    Ok(new)
+}
+
+// Removes the wage rows of a month.
+fn remove_wages(rows: &mut Vec<WageRow>, employer: EmployerNo, month: Month)
+    ensures { rows.new.items
+        ≡ without_rows wage_key (is_wage_key_of employer month) rows.old.items }
+{
+    rows.retain(|row| row.employer != employer || row.month != month);
+}
+
+// Adds a wage row for each line of a month's report.
+fn add_lines(
+    rows: &mut Vec<WageRow>,
+    employer: EmployerNo,
+    month: Month,
+    lines: &[WageLine],
+) -> Result<(), AllocError>
+    ensures { OnOk result (rows.new.items
+        ≡ with_rows wage_key rows.old.items (wage_rows employer month lines.now)) }
+{
     for line in lines {
         let row = WageRow {
             employer,
@@ -197,9 +255,9 @@ pub fn add_wages(
             worker: line.worker,
             gross: line.gross,
         };
-        insert_row(&mut new, row)?;
+        insert_row(rows, row)?;
     }
-    Ok(new)
+    Ok(())
 }
 
 /// The base of a month: the sum of its wage rows, in cents.

@@ -3,6 +3,7 @@ ghost use Rattle.std.specs.Prelude.{◌≡◌, ◌+◌, ◌*◌, ◌≤◌, [], 
 ghost use Rattle.clear_money.specs.Calendar.{IsMonth};
 ghost use Rattle.clear_money.specs.Rates.{IsRate};
 ghost use Rattle.clear_money.specs.Texts.{day_text};
+ghost use Rattle.clear_book.specs.Machine.{IsLawful};
 ghost use Rattle.clear_book.specs.Tables.{Stands};
 ghost use Rattle.clear_routes.specs.Callers.{sample_keys};
 ghost use Rattle.clear_desk.specs.Samples.{sample_rates};
@@ -40,6 +41,8 @@ pub fn sample_day() -> Option<Day>
 pub fn sample_desk(alloc: Global) -> Option<Desk>
     ensures tables { IfSome result (λ desk.
         Stands (record { opening = sample_rates; entries = [] }) desk.tables) }
+    ensures lawful { IfSome result (λ desk.
+        IsLawful (record { opening = sample_rates; entries = [] })) }
     ensures keys { IfSome result (λ desk. desk.keys ≡ sample_keys) }
     ensures day { IfSome result (λ desk. day_text desk.day ≡ codes "2024-04-30") }
 {

@@ -14,6 +14,7 @@ use Rattle.clear_book.specs.declared.calls.Registration.{Registration}
 use Rattle.clear_book.specs.declared.texts.WageLine.{WageLine}
 use Rattle.clear_routes.specs.declared.bodies.BodyFault.{BodyFault}
 use Rattle.clear_routes.specs.declared.bodies.BodyFault.TheVariants.{Bad, Memory}
+use Rattle.clear_routes.specs.declared.bodies.CorrectionBody.{CorrectionBody}
 
 -- the JSON document that the bytes are
 abbrev pub document : List ℕ → Option Data
@@ -92,13 +93,36 @@ lines_in (item d ds) = do
   lines ← lines_in ds
   Some (line ∷ lines)
 
+-- the lines that the member `lines` is
+abbrev pub lines_at : Data → Option (List WageLine)
+lines_at d = array_at (codes "lines") d >>= lines_in
+
 -- the lines of the report that the document is: an object with just this member
 abbrev pub report_in : Data → Option (List WageLine)
-report_in d = where_so (has_members 1 d) (array_at (codes "lines") d >>= lines_in)
+report_in d = where_so (has_members 1 d) (lines_at d)
 
 -- the lines of the report that the bytes are
 abbrev pub lines_of : List ℕ → Option (List WageLine)
 lines_of bytes = document bytes >>= report_in
+
+-- the number, if a correction may name it as a version
+abbrev pub if_version : ℕ → Option ℕ
+if_version n = if nat_le 1 n && nat_le n 4294967295 then Some n else None
+
+-- the version that the member `version` is
+abbrev pub version_at : Data → Option ℕ
+version_at d = number_at (codes "version") d >>= if_version
+
+-- the correction that the document is: an object with just these two members
+abbrev pub correction_in : Data → Option CorrectionBody
+correction_in d = where_so (has_members 2 d) (do
+  lines ← lines_at d
+  version ← version_at d
+  Some (record { lines = lines; version = version }))
+
+-- the correction that the bytes are
+abbrev pub correction_of : List ℕ → Option CorrectionBody
+correction_of bytes = document bytes >>= correction_in
 
 -- a fault tells of what was read: a body is bad only where nothing was; of want of memory nothing
 -- is said

@@ -14,12 +14,13 @@ use Rattle.clear_money.specs.Calendar.{IsMonth}
 use Rattle.clear_money.specs.Numbers.{IsEmployerNo}
 use Rattle.clear_money.specs.Texts.{month_text}
 use Rattle.clear_wire.specs.declared.method.Method.{Method}
-use Rattle.clear_wire.specs.declared.method.Method.TheVariants.{Get, Post}
+use Rattle.clear_wire.specs.declared.method.Method.TheVariants.{Get, Post, Put}
 use Rattle.clear_routes.specs.Parts.{part}
 use Rattle.clear_routes.specs.declared.routes.Path.{Path}
 use Rattle.clear_routes.specs.declared.routes.Path.TheVariants as path
 use Rattle.clear_routes.specs.declared.routes.Route.{Route}
-use Rattle.clear_routes.specs.declared.routes.Route.TheVariants.{Employers, Report, Owed, Bank}
+use Rattle.clear_routes.specs.declared.routes.Route.TheVariants.{Employers, Report, Correction}
+use Rattle.clear_routes.specs.declared.routes.Route.TheVariants.{Owed, Bank}
 
 -- the paths, with their parameters open
 abbrev pub paths : List (List ℕ × Path)
@@ -63,6 +64,7 @@ path_of target = if is_utf8 target then path_of_text target else None
 abbrev pub path_for : Route → Path
 path_for Employers = path.Employers
 path_for (Report employer month) = path.Report
+path_for (Correction employer month) = path.Report
 path_for (Owed employer) = path.Owed
 path_for Bank = path.Bank
 
@@ -70,16 +72,26 @@ path_for Bank = path.Bank
 abbrev pub method_for : Route → Method
 method_for Employers = Post
 method_for (Report employer month) = Post
+method_for (Correction employer month) = Put
 method_for (Owed employer) = Get
 method_for Bank = Post
 
--- the parameters of a route stand in the target: behind its second slash an employer's number in
--- decimal, and behind its fourth one a month
+-- behind the target's second slash stands an employer's number in decimal
+abbrev pub HasEmployer : ℕ → List ℕ → Type 0
+HasEmployer employer target = part 2 target ≡ Some (decimal employer)
+
+-- behind its fourth slash stands a month
+abbrev pub HasMonth : ℕ → List ℕ → Type 0
+HasMonth month target = part 4 target ≡ Some (month_text month)
+
+-- the parameters of a route stand in the target
 abbrev pub HasParameters : Route → List ℕ → Type 0
 HasParameters Employers target = ⊤
 HasParameters (Report employer month) target =
-    (part 2 target ≡ Some (decimal employer)) × (part 4 target ≡ Some (month_text month))
-HasParameters (Owed employer) target = part 2 target ≡ Some (decimal employer)
+    HasEmployer employer target × HasMonth month target
+HasParameters (Correction employer month) target =
+    HasEmployer employer target × HasMonth month target
+HasParameters (Owed employer) target = HasEmployer employer target
 HasParameters Bank target = ⊤
 
 -- the target is the route's path with the route's parameters
@@ -90,5 +102,6 @@ IsTargetOf route target = (path_of target ≡ Some (path_for route)) × HasParam
 abbrev pub IsRoute : Route → Type 0
 IsRoute Employers = ⊤
 IsRoute (Report employer month) = IsEmployerNo employer × IsMonth month
+IsRoute (Correction employer month) = IsEmployerNo employer × IsMonth month
 IsRoute (Owed employer) = IsEmployerNo employer
 IsRoute Bank = ⊤

@@ -7,7 +7,8 @@ ghost use Rattle.clear_money.specs.Texts.{month_text};
 ghost use Rattle.clear_book.specs.Texts.{IsName};
 ghost use Rattle.serde_json.specs.View.{view, items_view};
 ghost use Rattle.clear_routes.specs.Bodies.{document, has_members, number_at, text_at, array_at};
-ghost use Rattle.clear_routes.specs.Bodies.{worker_at, line_in, lines_in, report_in, lines_of};
+ghost use Rattle.clear_routes.specs.Bodies.{worker_at, line_in, lines_in, lines_at, report_in};
+ghost use Rattle.clear_routes.specs.Bodies.{lines_of, version_at, correction_in, correction_of};
 ghost use Rattle.clear_routes.specs.Bodies.{IsRegistrationIn, Registers, Gives, GivesOnly};
 
 use clear_book::calls::Registration;
@@ -18,10 +19,22 @@ use serde_json::Value;
 use std::alloc::{AllocError, Global};
 use std::str;
 
+// The greatest version that a correction may name.
+const MAX_VERSION: u64 = 4_294_967_295;
+
+/// What the body of a correction says.
+#[derive(Drop)]
+pub struct CorrectionBody {
+    /// The lines that take the place of those reported.
+    pub lines: WageLines,
+    /// The version that they are to replace, 1 to 4,294,967,295.
+    pub version: u32,
+}
+
 /// Why a body gives no command.
 #[derive(Drop)]
 pub enum BodyFault {
-    /// It isn't what the path wants.
+    /// It isn't what the route wants.
     Bad,
     /// There was no memory.
     Memory,
@@ -205,17 +218,23 @@ fn array_at<'a>(value: &'a Value, key: &str) -> Option<&'a [Value]>
     }
 }
 
+fn lines_at(alloc: Global, value: &Value) -> Result<WageLines, BodyFault>
+    ensures { Gives (λ lines. lines) result (lines_at (view value.now)) }
+{
+    let Some(values) = array_at(value, "lines") else {
+        return Err(BodyFault::Bad);
+    };
+    let lines = lines_in(alloc, values)?;
+    Ok(WageLines::new(lines))
+}
+
 fn report_in(alloc: Global, value: &Value) -> Result<WageLines, BodyFault>
     ensures { Gives (λ lines. lines) result (report_in (view value.now)) }
 {
     if !has_members(value, 1) {
         return Err(BodyFault::Bad);
     }
-    let Some(values) = array_at(value, "lines") else {
-        return Err(BodyFault::Bad);
-    };
-    let lines = lines_in(alloc, values)?;
-    Ok(WageLines::new(lines))
+    lines_at(alloc, value)
 }
 
 /// The lines of a report: an object with just the member `lines`, an array of objects with just
@@ -225,4 +244,39 @@ pub fn read_wage_lines(alloc: Global, body: &[u8]) -> Result<WageLines, BodyFaul
 {
     let value = document(alloc, body)?;
     report_in(alloc, &value)
+}
+
+fn version_at(value: &Value) -> Option<u32>
+    ensures { result ≡ version_at (view value.now) }
+{
+    let Some(number) = number_at(value, "version") else {
+        return None;
+    };
+    if number < 1 || number > MAX_VERSION {
+        return None;
+    }
+    Some(number as u32)
+}
+
+fn correction_in(alloc: Global, value: &Value) -> Result<CorrectionBody, BodyFault>
+    ensures { Gives (λ body. body) result (correction_in (view value.now)) }
+{
+    if !has_members(value, 2) {
+        return Err(BodyFault::Bad);
+    }
+    let Some(version) = version_at(value) else {
+        return Err(BodyFault::Bad);
+    };
+    let lines = lines_at(alloc, value)?;
+    Ok(CorrectionBody { lines, version })
+}
+
+/// What a correction's body says: an object with just the members `lines`, as a report has them,
+/// and `version`, a whole number from 1 to 4,294,967,295, whatever version the month has. Any
+/// other body is `Bad`.
+pub fn read_correction(alloc: Global, body: &[u8]) -> Result<CorrectionBody, BodyFault>
+    ensures { Gives (λ body. body) result (correction_of body.now) }
+{
+    let value = document(alloc, body)?;
+    correction_in(alloc, &value)
 }

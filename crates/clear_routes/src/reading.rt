@@ -1,16 +1,20 @@
 //! What a request calls for.
 ghost use Rattle.std.specs.Prelude.{◌≡◌, ℕ, IfSome, IfNone};
-ghost use Rattle.clear_routes.specs.declared.routes.Route.TheVariants.{Employers, Report, Bank};
 ghost use Rattle.clear_wire.specs.Parsed.{heading};
-ghost use Rattle.clear_routes.specs.Reading.{caller_at, HasNumber, AsksBy, Reads};
+ghost use Rattle.clear_routes.specs.Bodies.{GivesOnly};
+ghost use Rattle.clear_routes.specs.Reading.{caller_at, HasNumber, Commands, Does, GivesCall};
+ghost use Rattle.clear_routes.specs.Reading.{AsksBy, Reads, report_of, query_of};
 
-use crate::bodies::{BodyFault, read_registration, read_wage_lines};
+use crate::bodies::{
+    BodyFault, CorrectionBody, read_correction, read_registration, read_wage_lines,
+};
 use crate::callers::Directory;
 use crate::routes::{Route, Routes};
-use clear_book::calls::{Call, Caller, Command, Query, WageReport};
+use clear_book::calls::{Call, Caller, Command, Correction, Query, WageReport};
 use clear_book::files::BankFile;
 use clear_book::numbers::RequestNo;
 use clear_book::rules::{Member, Rule};
+use clear_book::texts::WageLines;
 use clear_money::days::Day;
 use clear_money::months::Month;
 use clear_money::numbers::{EmployerNo, read_number};
@@ -63,78 +67,72 @@ fn request_number(head: &RequestHead) -> Option<RequestNo>
     RequestNo::new(number)
 }
 
-/// The call to register that the request makes.
-fn call_to_register(
+/// The query of a route; that of a command has none.
+fn query_of(route: &Route) -> Option<Query>
+    ensures { result ≡ query_of route.now }
+{
+    match route {
+        Route::Owed { employer } => Some(Query::Owed {
+            employer: *employer,
+        }),
+        Route::Employers | Route::Report { .. } | Route::Correction { .. } | Route::Bank => None,
+    }
+}
+
+/// The command that the body of this route is; of the route of a query it is none.
+fn command_of(alloc: Global, route: &Route, body: &[u8]) -> Result<Command, BodyFault>
+    ensures { GivesOnly result (Commands route.now body.now) }
+{
+    match route {
+        Route::Employers => Ok(Command::Register(read_registration(alloc, body)?)),
+        Route::Report { employer, month } => {
+            let lines = read_wage_lines(alloc, body)?;
+            Ok(Command::Report(report_of(*employer, *month, lines)))
+        }
+        Route::Correction { employer, month } => {
+            let CorrectionBody { lines, version } = read_correction(alloc, body)?;
+            let report = report_of(*employer, *month, lines);
+            Ok(Command::Correct(Correction { report, version }))
+        }
+        Route::Bank => Ok(Command::ImportBank(BankFile::new(Vec::from_slice(alloc, body)?))),
+        Route::Owed { .. } => Err(BodyFault::Bad),
+    }
+}
+
+/// The report of an employer's month with these lines.
+fn report_of(employer: EmployerNo, month: Month, lines: WageLines) -> WageReport
+    ensures { result ≡ report_of employer month lines }
+{
+    WageReport {
+        employer,
+        month,
+        lines,
+    }
+}
+
+/// The call that does what the body commands.
+fn call_to_do(
     alloc: Global,
+    route: &Route,
     caller: Caller,
     day: Day,
     request: &Request,
 ) -> Result<Call, Rule>
-    ensures { AsksBy Employers caller day (heading request.now.head) request.now.body.items
-        result }
+    ensures { GivesCall (Does route.now caller day (heading request.now.head)
+        request.now.body.items) result }
 {
     let Some(number) = request_number(&request.head) else {
         return Err(Rule::BadBody(Member::Body));
     };
-    match read_registration(alloc, request.body.as_slice()) {
-        Ok(registration) => Ok(Call::Do {
+    match command_of(alloc, route, request.body.as_slice()) {
+        Ok(command) => Ok(Call::Do {
             caller,
             number,
             day,
-            command: Command::Register(registration),
+            command,
         }),
         Err(BodyFault::Bad) => Err(Rule::BadBody(Member::Body)),
         Err(BodyFault::Memory) => Err(Rule::Memory),
-    }
-}
-
-/// The call to report a month that the request makes.
-fn call_to_report(
-    alloc: Global,
-    employer: EmployerNo,
-    month: Month,
-    caller: Caller,
-    day: Day,
-    request: &Request,
-) -> Result<Call, Rule>
-    ensures { AsksBy (Report employer month) caller day (heading request.now.head)
-        request.now.body.items result }
-{
-    let Some(number) = request_number(&request.head) else {
-        return Err(Rule::BadBody(Member::Body));
-    };
-    match read_wage_lines(alloc, request.body.as_slice()) {
-        Ok(lines) => Ok(Call::Do {
-            caller,
-            number,
-            day,
-            command: Command::Report(WageReport {
-                employer,
-                month,
-                lines,
-            }),
-        }),
-        Err(BodyFault::Bad) => Err(Rule::BadBody(Member::Body)),
-        Err(BodyFault::Memory) => Err(Rule::Memory),
-    }
-}
-
-/// The call to import that the request makes: of its body, whatever it is.
-fn call_to_import(alloc: Global, caller: Caller, day: Day, request: &Request) -> Result<Call, Rule>
-    ensures { AsksBy Bank caller day (heading request.now.head) request.now.body.items
-        result }
-{
-    let Some(number) = request_number(&request.head) else {
-        return Err(Rule::BadBody(Member::Body));
-    };
-    match Vec::from_slice(alloc, request.body.as_slice()) {
-        Ok(bytes) => Ok(Call::Do {
-            caller,
-            number,
-            day,
-            command: Command::ImportBank(BankFile::new(bytes)),
-        }),
-        Err(_) => Err(Rule::Memory),
     }
 }
 
@@ -149,18 +147,8 @@ fn call_by(
     ensures { AsksBy route.now caller day (heading request.now.head) request.now.body.items
         result }
 {
-    match route {
-        Route::Employers => call_to_register(alloc, caller, day, request),
-        Route::Report { employer, month } => {
-            call_to_report(alloc, *employer, *month, caller, day, request)
-        }
-        Route::Owed { employer } => Ok(Call::Ask {
-            caller,
-            day,
-            query: Query::Owed {
-                employer: *employer,
-            },
-        }),
-        Route::Bank => call_to_import(alloc, caller, day, request),
+    match query_of(route) {
+        Some(query) => Ok(Call::Ask { caller, day, query }),
+        None => call_to_do(alloc, route, caller, day, request),
     }
 }

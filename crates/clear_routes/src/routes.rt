@@ -1,12 +1,10 @@
 //! The paths of the office.
-ghost use Rattle.std.specs.Prelude.{◌≡◌, ◌≢◌, ℕ, Some, IfOk, OnOk, IfSome, IfNone, map};
-ghost use Rattle.std.specs.Fmt.{decimal};
+ghost use Rattle.std.specs.Prelude.{◌≡◌, ℕ, IfOk, OnOk, IfSome, IfNone, map};
 ghost use Rattle.clear_money.specs.Calendar.{IsMonth};
 ghost use Rattle.clear_money.specs.Numbers.{IsEmployerNo};
-ghost use Rattle.clear_money.specs.Texts.{month_text};
-ghost use Rattle.clear_routes.specs.Parts.{part};
-ghost use Rattle.clear_routes.specs.Routes.{add, paths, table, path_of, path_of_text};
-ghost use Rattle.clear_routes.specs.Routes.{method_for, IsTargetOf, IsRoute};
+ghost use Rattle.clear_routes.specs.Routes.{add, paths, table, path_of, path_of_text, path_for};
+ghost use Rattle.clear_routes.specs.Routes.{method_for, HasEmployer, HasMonth, HasParameters};
+ghost use Rattle.clear_routes.specs.Routes.{IsTargetOf, IsRoute};
 
 use crate::parts::part as part_at;
 use clear_money::months::Month;
@@ -23,6 +21,8 @@ pub enum Route {
     Employers,
     /// `POST /employers/{e}/reports/{m}`
     Report { employer: EmployerNo, month: Month },
+    /// `PUT /employers/{e}/reports/{m}`
+    Correction { employer: EmployerNo, month: Month },
     /// `GET /employers/{e}/owed`
     Owed { employer: EmployerNo },
     /// `POST /bank`
@@ -75,9 +75,9 @@ fn add_all(alloc: Global) -> Result<Router<Path>, InsertError>
 /// The employer's number behind the second slash.
 fn employer_in(target: &[u8]) -> Option<EmployerNo>
     ensures found { IfSome result (λ employer. IsEmployerNo employer
-        × (part 2 target.now ≡ Some (decimal employer))) }
+        × HasEmployer employer target.now) }
     ensures only { IfNone result ((employer : ℕ) → IsEmployerNo employer
-        → part 2 target.now ≢ Some (decimal employer)) }
+        → ¬ (HasEmployer employer target.now)) }
 {
     let Some(text) = part_at(target, 2) else {
         return None;
@@ -90,10 +90,9 @@ fn employer_in(target: &[u8]) -> Option<EmployerNo>
 
 /// The month behind the fourth slash.
 fn month_in(target: &[u8]) -> Option<Month>
-    ensures found { IfSome result (λ month. IsMonth month
-        × (part 4 target.now ≡ Some (month_text month))) }
+    ensures found { IfSome result (λ month. IsMonth month × HasMonth month target.now) }
     ensures only { IfNone result ((month : ℕ) → IsMonth month
-        → part 4 target.now ≢ Some (month_text month)) }
+        → ¬ (HasMonth month target.now)) }
 {
     let Some(text) = part_at(target, 4) else {
         return None;
@@ -101,15 +100,35 @@ fn month_in(target: &[u8]) -> Option<Month>
     Month::read(text)
 }
 
-impl Route {
-    /// The method that the route wants.
-    pub fn method(&self) -> Method
-        ensures { result ≡ method_for self.now }
-    {
-        match self {
-            Route::Employers | Route::Report { .. } | Route::Bank => Method::Post,
-            Route::Owed { .. } => Method::Get,
+/// The route on a path that a method and the parameters in a target ask for.
+fn route_on(path: Path, method: Method, target: &[u8]) -> Option<Route>
+    ensures found { IfSome result (λ route. IsRoute route × (method ≡ method_for route)
+        × (path ≡ path_for route) × HasParameters route target.now) }
+    ensures only { IfNone result ((route : Route) → IsRoute route → method ≡ method_for route
+        → path ≡ path_for route → ¬ (HasParameters route target.now)) }
+{
+    match path {
+        Path::Employers => (method == Method::Post).then_some(Route::Employers),
+        Path::Report => {
+            let Some(employer) = employer_in(target) else {
+                return None;
+            };
+            let Some(month) = month_in(target) else {
+                return None;
+            };
+            match method {
+                Method::Post => Some(Route::Report { employer, month }),
+                Method::Put => Some(Route::Correction { employer, month }),
+                Method::Get | Method::Head | Method::Other => None,
+            }
         }
+        Path::Owed => {
+            let Some(employer) = employer_in(target) else {
+                return None;
+            };
+            (method == Method::Get).then_some(Route::Owed { employer })
+        }
+        Path::Bank => (method == Method::Post).then_some(Route::Bank),
     }
 }
 
@@ -120,51 +139,18 @@ impl Routes {
         Ok(Routes { router })
     }
 
-    /// The route that a method and a target ask for. Nothing is decoded; None if it is none's.
+    /// The route that a method and a target ask for. Nothing is decoded. None if no route has this
+    /// method and this target.
     pub fn find(&self, method: Method, target: &[u8]) -> Option<Route>
         ensures found { IfSome result (λ route. IsRoute route × (method ≡ method_for route)
             × IsTargetOf route target.now) }
         ensures only { IfNone result ((route : Route) → IsRoute route → method ≡ method_for route
             → ¬ (IsTargetOf route target.now)) }
     {
-        let Some(route) = self.route_at(target) else {
-            return None;
-        };
-        if method == route.method() {
-            Some(route)
-        } else {
-            None
-        }
-    }
-
-    /// The route whose target this is.
-    fn route_at(&self, target: &[u8]) -> Option<Route>
-        ensures found { IfSome result (λ route. IsRoute route × IsTargetOf route target.now) }
-        ensures only { IfNone result ((route : Route) → IsRoute route
-            → ¬ (IsTargetOf route target.now)) }
-    {
         let Some(path) = self.path_at(target) else {
             return None;
         };
-        match path {
-            Path::Employers => Some(Route::Employers),
-            Path::Report => {
-                let Some(employer) = employer_in(target) else {
-                    return None;
-                };
-                let Some(month) = month_in(target) else {
-                    return None;
-                };
-                Some(Route::Report { employer, month })
-            }
-            Path::Owed => {
-                let Some(employer) = employer_in(target) else {
-                    return None;
-                };
-                Some(Route::Owed { employer })
-            }
-            Path::Bank => Some(Route::Bank),
-        }
+        route_on(path, method, target)
     }
 
     /// The path that the target is.
@@ -177,7 +163,7 @@ impl Routes {
         self.path_of_text(text)
     }
 
-    /// The same of a text.
+    /// The path that the text is.
     #[tactic(auto, unfolding(crate::specs::Routes::path_of_text))]
     fn path_of_text(&self, target: &str) -> Option<Path>
         ensures { result ≡ path_of_text target.now }

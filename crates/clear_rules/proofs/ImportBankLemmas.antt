@@ -1,23 +1,21 @@
 -- What an import is judged by, and the rows that a file brings.
-use Rattle.std.proofs.Common.{◌≡◌, ℕ, ◌+◌, ◌-◌, ◌<◌, ◌≤◌, ◌⊎◌, Bool, true, false, not, cond, ◌||◌, nat_lt, List, [], ◌∷◌, ◌++◌, length, take, drop, get_or, map, filter, count_by, Option, Some, None, Result, Ok, Err, refl, sym, ap, ◌∙◌, subst, arith}
-use Rattle.std.proofs.lemmas.Bool.{false≢true, ltb-false}
+use Rattle.std.proofs.Common.{◌≡◌, ℕ, ◌+◌, ◌-◌, ◌<◌, ◌≤◌, ◌⊎◌, Bool, true, false, cond, ◌||◌, nat_lt, List, [], ◌∷◌, ◌++◌, length, take, drop, get_or, map, filter, count_by, Option, Some, None, Result, Ok, inl, inr, refl, sym, ap, ◌∙◌, subst, arith}
+use Rattle.std.proofs.lemmas.Bool.{false≢true, le-ltb}
 use Rattle.std.proofs.lemmas.List.{take_more, drop_more, take-append-drop, get_or_default, get_or-map, length-map, length-take-le}
 use Rattle.std.proofs.lemmas.List.Elements.{All-filter, All-get_or, All-map, All-same, All-weaker, filter_map-append}
 use Rattle.std.proofs.lemmas.List.Folds.{find-append, list_any-append}
 use Rattle.std.proofs.lemmas.List.FromFn.{get_or-enumerate_from, length-enumerate_from}
 use Rattle.std.proofs.lemmas.List.Sums.{count_by-le-length, length-filter, sum_by-append, sum_by-cons}
-use Rattle.std.specs.List.{All, filter_map, find, list_any, enumerate_from, cons_option}
-use Rattle.std.specs.Option.{option_map, option_map_or, option_or}
-use Rattle.std.specs.Prelude.{is_none, is_some, option_and_then}
-use Rattle.std.specs.Result.{result_ok, result_err}
+use Rattle.std.proofs.lemmas.Option.{IfSome_then}
+use Rattle.std.specs.List.{All, AllByRecursion, find, list_any, enumerate_from, cons_option}
+use Rattle.std.specs.Option.{option_map_or, option_or}
+use Rattle.std.specs.Prelude.{IfSome, is_none, is_some, option_and_then}
 use Rattle.std.specs.Str.{bytes_eq}
 use Rattle.clear_bank.specs.declared.fault.BankFault.{BankFault}
-use Rattle.clear_bank.specs.declared.fault.BankFault.TheVariants.{BadCsv, OverLimit as LongFile}
 use Rattle.clear_bank.specs.declared.lines.BankLine.{BankLine}
 use Rattle.clear_bank.specs.declared.lines.Purpose.{Purpose}
-use Rattle.clear_bank.specs.declared.lines.Purpose.TheVariants.{Contribution, Interest}
-use Rattle.clear_bank.specs.Files.{Fields, file_lines, records_of, begins_with_r, record_lines, rows_read, line_of, all_lines, unless_faulty, after_header, header_fault, is_over as is_long}
-use Rattle.clear_bank.specs.Newness.{Placed, line_under, earlier_line, has_other_content, is_new, new_places, judgement, unless_conflict}
+use Rattle.clear_bank.specs.Files.{file_lines}
+use Rattle.clear_bank.specs.Newness.{Placed, line_under, earlier_line, has_other_content, is_new, is_conflict, first_conflict, new_places, judgement, unless_conflict}
 use Rattle.clear_book.specs.declared.calls.Command.TheVariants.{ImportBank}
 use Rattle.clear_rules.specs.declared.decide.import.ImportView.{ImportView}
 use Rattle.clear_book.specs.declared.rules.Limit.TheVariants.{Suspense, Credits}
@@ -26,114 +24,178 @@ use Rattle.clear_book.specs.declared.rules.Rule.{Rule}
 use Rattle.clear_book.specs.declared.rules.Rule.TheVariants.{OverLimit, ValueAhead, Memory}
 use Rattle.clear_book.specs.declared.rows.BankRow.{BankRow}
 use Rattle.clear_book.specs.declared.rows.CreditRow.{CreditRow}
-use Rattle.clear_book.specs.Book.{Book, Member, member_of}
+use Rattle.clear_book.specs.Book.{Book, member_of}
 use Rattle.clear_rules.specs.Counts.{Index, IsIndexOf, is_indexed, count_indexed}
-use Rattle.clear_rules.specs.Views.ImportBank.{IsImportView, credits_counted, count_for, credit_count_viewed, is_registered_by, rows_viewed, import_rule}
+use Rattle.clear_rules.specs.Views.ImportBank.{Serves, IsEmployerViewed, IsImportView, count_for, credit_count_viewed, is_registered_by, rows_viewed, rows_of_file, import_rule}
 use Rattle.clear_book.specs.Judge.{own_rule, reply_to}
 use Rattle.clear_book.specs.Own.ImportBank.{is_ahead, is_over, fault_rule, ahead_rule, limit_rules}
 use Rattle.clear_book.specs.Limits.{most_credits, most_suspense, most_records}
 use Rattle.clear_book.specs.Checks.{first_of, when}
-use Rattle.clear_book.specs.Lines.{lines_in, lines_or_none, new_lines, employer_of_line, rows_from, lines_of_rows, rows_brought, lines_seen, lines_standing, credit_of_line, credits_of_lines, credit_count, suspense_count}
+use Rattle.clear_book.specs.Lines.{lines_in, lines_or_none, new_lines, employer_of_line, rows_from, lines_of_rows, lines_seen, lines_standing, credit_of_line, credits_of_lines, credit_count, suspense_count}
 use Rattle.clear_book.proofs.LinesLemmas.{length-rows_from}
 
--- ---- what is known counts only by the line under each reference
+-- ---- what holds of each line of a file
 
-module _ (xs ys : List BankLine) (same : (reference : List ℕ) → line_under reference xs ≡ line_under reference ys) (lines : List BankLine) where
-  earlier-same : (p : Placed) → earlier_line xs lines p ≡ earlier_line ys lines p
-  earlier-same p =
+-- what holds of each element holds of each that a test keeps
+all-kept : {A : Type 0} (P : A → Type 0) (f : A → Bool) (xs : List A) → AllByRecursion P xs → AllByRecursion P (filter f xs)
+all-kept P f [] h = h
+all-kept P f (x ∷ xs) h = told (f x) (all-kept P f xs h.1)
+  where
+    told : (t : Bool) → AllByRecursion P (filter f xs) → AllByRecursion P (cond t (x ∷ filter f xs) (filter f xs))
+    told true rest = (h.0, rest)
+    told false rest = rest
+
+-- and of each with its place
+all-placed : {A : Type 0} (P : A → Type 0) (n : ℕ) (xs : List A) → AllByRecursion P xs → AllByRecursion (λ (p : ℕ × A). P p.1) (enumerate_from n xs)
+all-placed P n [] h = h
+all-placed P n (x ∷ xs) h = (h.0, all-placed P (n + 1) xs h.1)
+
+-- and what follows from it holds of each
+all-weaker : {A : Type 0} (P Q : A → Type 0) → ((x : A) → P x → Q x) → (xs : List A) → AllByRecursion P xs → AllByRecursion Q xs
+all-weaker P Q f [] h = h
+all-weaker P Q f (x ∷ xs) h = (f x h.0, all-weaker P Q f xs h.1)
+
+-- what holds of each line of a file holds of each new one
+all-new : (P : BankLine → Type 0) (known lines : List BankLine) → AllByRecursion P lines → AllByRecursion (λ (p : Placed). P p.1) (new_lines known lines)
+all-new P known lines h = all-kept (λ (p : Placed). P p.1) (is_new known lines) (enumerate_from 0 lines) (all-placed P 0 lines h)
+
+-- two tests that agree on each element keep the same elements, and find the same one
+module _ {A : Type 0} (f g : A → Bool) where
+  filter-agree : (xs : List A) → AllByRecursion (λ x. f x ≡ g x) xs → filter f xs ≡ filter g xs
+  filter-agree [] h = refl
+  filter-agree (x ∷ xs) h = λ i. cond (h.0 i) (x ∷ filter-agree xs h.1 i) (filter-agree xs h.1 i)
+
+  find-agree : (xs : List A) → AllByRecursion (λ x. f x ≡ g x) xs → find f xs ≡ find g xs
+  find-agree [] h = refl
+  find-agree (x ∷ xs) h = λ i. cond (h.0 i) (Some x) (find-agree xs h.1 i)
+
+-- ---- what is known counts only by the lines under the file's references
+
+-- both lists have the same line under the reference of this one
+abbrev pub IsUnderAlike : List BankLine → List BankLine → BankLine → Type 0
+IsUnderAlike xs ys line = line_under line.reference xs ≡ line_under line.reference ys
+
+module _ (xs ys lines : List BankLine) (same : AllByRecursion (IsUnderAlike xs ys) lines) where
+  earlier-at : (p : Placed) → IsUnderAlike xs ys p.1 → earlier_line xs lines p ≡ earlier_line ys lines p
+  earlier-at p here =
       find-append (λ line. bytes_eq p.1.reference line.reference) xs (take p.0 lines)
-      ∙ ap (λ o. option_or o (line_under p.1.reference (take p.0 lines))) (same p.1.reference)
+      ∙ ap (λ o. option_or o (line_under p.1.reference (take p.0 lines))) here
       ∙ sym (find-append (λ line. bytes_eq p.1.reference line.reference) ys (take p.0 lines))
 
+  -- a test of the line that stands before agrees at each place
+  tests-same : (test : Placed → Option BankLine → Bool) → AllByRecursion (λ p. test p (earlier_line xs lines p) ≡ test p (earlier_line ys lines p)) (enumerate_from 0 lines)
+  tests-same test =
+      all-weaker (λ (p : Placed). IsUnderAlike xs ys p.1) (λ p. test p (earlier_line xs lines p) ≡ test p (earlier_line ys lines p)) (λ p here. ap (test p) (earlier-at p here))
+      (enumerate_from 0 lines) (all-placed (IsUnderAlike xs ys) 0 lines same)
+
   pub new-same : new_lines xs lines ≡ new_lines ys lines
-  new-same = λ i. filter (λ p. is_none (earlier-same p i)) (enumerate_from 0 lines)
+  new-same = filter-agree (is_new xs lines) (is_new ys lines) (enumerate_from 0 lines) (tests-same (λ p o. is_none o))
+
+  conflict-same : first_conflict xs lines ≡ first_conflict ys lines
+  conflict-same = find-agree (is_conflict xs lines) (is_conflict ys lines) (enumerate_from 0 lines) (tests-same (λ p o. has_other_content p.1 o))
 
   pub judgement-same : judgement xs lines ≡ judgement ys lines
   judgement-same = λ i.
-      unless_conflict (find (λ p. has_other_content p.1 (earlier-same p i)) (enumerate_from 0 lines))
-      (map (λ p. p.0) (filter (λ p. is_none (earlier-same p i)) (enumerate_from 0 lines)))
-      (length lines - length (map (λ p. p.0) (filter (λ p. is_none (earlier-same p i)) (enumerate_from 0 lines))))
+      unless_conflict (conflict-same i) (map (λ p. p.0) (new-same i)) (length lines - length (map (λ (p : Placed). p.0) (new-same i)))
 
 -- ---- the rows that a file brings, by a view
 
-is_some-map : {A B : Type 0} (f : A → B) (o : Option A) → is_some (option_map f o) ≡ is_some o
-is_some-map f None = refl
-is_some-map f (Some x) = refl
+-- two registers that agree on the firms that new lines name make the same rows of these
+module _ (r s : ℕ → Bool) where
+  firm-agree : (o : Option ℕ) → IfSome o (λ e. r e ≡ s e) → option_and_then (λ e. cond (r e) (Some e) None) o ≡ option_and_then (λ e. cond (s e) (Some e) None) o
+  firm-agree None h = refl
+  firm-agree (Some e) h = ap (λ t. cond t (Some e) None) h
 
--- whether a firm is registered
-pub viewed_employer : (b : Book) (view : ImportView) → IsImportView b view → (e : ℕ) → is_registered_by view e ≡ is_some (member_of b.entries e)
-viewed_employer b view is e = ap is_some (is.employers_is e) ∙ is_some-map _ (member_of b.entries e)
-
--- the rows are those that the file brings to the book
-pub viewed_rows : (b : Book) (view : ImportView) → IsImportView b view → (file : List ℕ) → rows_viewed view file ≡ rows_brought b.entries (lines_seen b.entries) file
-viewed_rows b view is file = λ i.
-    rows_from (λ e. viewed_employer b view is e i) (is.serials_is i)
-    (new-same view.known.items (lines_of_rows (lines_seen b.entries)) is.known_is (lines_in file) i)
+  rows-agree : (last : ℕ) (new : List Placed) → AllByRecursion (λ p. IfSome p.1.employer (λ e. r e ≡ s e)) new → rows_from r last new ≡ rows_from s last new
+  rows-agree last [] h = refl
+  rows-agree last (p ∷ new) h = λ i.
+      record { line = p.1; serial = last + 1; employer = firm-agree p.1.employer h.0 i } ∷ rows-agree (last + 1) new h.1 i
 
 -- ---- the payments of registered firms, by a view
 
--- two counts that agree on the registered firms give one answer for the rows that a file brings
-module _ (is_registered : ℕ → Bool) (c d : ℕ → Purpose → ℕ) (same : (e : ℕ) (purpose : Purpose) → is_registered e ≡ true → c e purpose ≡ d e purpose) (rows : List BankRow) where
-  over-test : (row : BankRow) (e : ℕ) (t : Bool) → is_registered e ≡ t → (xs : List CreditRow) → list_any (is_over c rows) xs ≡ list_any (is_over d rows) xs
-      → list_any (is_over c rows) (cons_option (credit_of_line row (cond t (Some e) None)) xs) ≡ list_any (is_over d rows) (cons_option (credit_of_line row (cond t (Some e) None)) xs)
-  over-test row e false is xs h = h
-  over-test row e true is xs h = λ i. nat_lt most_credits (same e row.line.purpose is i + credit_count rows e row.line.purpose) || h i
+-- the limit says the same of a number that serves as of the count
+limit-same : (viewed count more limit : ℕ) → Serves viewed count more limit → nat_lt limit (viewed + more) ≡ nat_lt limit (count + more)
+limit-same viewed count more limit (inl same) = ap (λ (n : ℕ). nat_lt limit (n + more)) same
+limit-same viewed count more limit (inr within) = le-ltb limit (viewed + more) within.1 ∙ sym (le-ltb limit (count + more) (omega arith))
 
-  over-firm : (row : BankRow) (o : Option ℕ) (xs : List CreditRow) → list_any (is_over c rows) xs ≡ list_any (is_over d rows) xs
+-- two counts by which the limit says the same of the firms that new lines name give one answer for the rows that a file brings
+module _ (is_registered : ℕ → Bool) (c d : ℕ → Purpose → ℕ) (rows : List BankRow) where
+  abbrev IsLimitedAlike : ℕ → Type 0
+  IsLimitedAlike e = (purpose : Purpose) → is_registered e ≡ true → nat_lt most_credits (c e purpose + credit_count rows e purpose) ≡ nat_lt most_credits (d e purpose + credit_count rows e purpose)
+
+  over-test : (row : BankRow) (e : ℕ) (t : Bool) → is_registered e ≡ t → IsLimitedAlike e → (xs : List CreditRow) → list_any (is_over c rows) xs ≡ list_any (is_over d rows) xs
+      → list_any (is_over c rows) (cons_option (credit_of_line row (cond t (Some e) None)) xs) ≡ list_any (is_over d rows) (cons_option (credit_of_line row (cond t (Some e) None)) xs)
+  over-test row e false is alike xs h = h
+  over-test row e true is alike xs h = λ i. alike row.line.purpose is i || h i
+
+  over-firm : (row : BankRow) (o : Option ℕ) → IfSome o IsLimitedAlike → (xs : List CreditRow) → list_any (is_over c rows) xs ≡ list_any (is_over d rows) xs
       → list_any (is_over c rows) (cons_option (credit_of_line row (option_and_then (λ e. cond (is_registered e) (Some e) None) o)) xs)
       ≡ list_any (is_over d rows) (cons_option (credit_of_line row (option_and_then (λ e. cond (is_registered e) (Some e) None) o)) xs)
-  over-firm row None xs h = h
-  over-firm row (Some e) xs h = over-test row e (is_registered e) refl xs h
+  over-firm row None alike xs h = h
+  over-firm row (Some e) alike xs h = over-test row e (is_registered e) refl alike xs h
 
-  over-rows : (last : ℕ) (new : List Placed) → list_any (is_over c rows) (credits_of_lines (rows_from is_registered last new)) ≡ list_any (is_over d rows) (credits_of_lines (rows_from is_registered last new))
-  over-rows last [] = refl
-  over-rows last (p ∷ new) =
-      over-firm (record { line = p.1; serial = last + 1; employer = employer_of_line is_registered p.1 }) p.1.employer
-      (credits_of_lines (rows_from is_registered (last + 1) new)) (over-rows (last + 1) new)
-
-count-counted : (rows : List BankRow) (e : ℕ) (purpose : Purpose) → count_for purpose (credits_counted rows e) ≡ credit_count rows e purpose
-count-counted rows e Contribution = refl
-count-counted rows e Interest = refl
-
-count-same : (rows : List BankRow) (e : ℕ) (purpose : Purpose) (o : Option Member) → is_some o ≡ true
-    → option_map_or (count_for purpose) (option_map (λ member. credits_counted rows e) o) 0 ≡ credit_count rows e purpose
-count-same rows e purpose None is = absurd (false≢true is)
-count-same rows e purpose (Some member) is = count-counted rows e purpose
-
--- the payments of a registered firm are those of the book
-pub viewed_credits : (b : Book) (view : ImportView) → IsImportView b view → (e : ℕ) (purpose : Purpose) → is_some (member_of b.entries e) ≡ true
-    → credit_count_viewed view e purpose ≡ credit_count (lines_standing b.entries) e purpose
-viewed_credits b view is e purpose registered =
-    ap (λ o. option_map_or (count_for purpose) o 0) (is.employers_is e) ∙ count-same (lines_standing b.entries) e purpose (member_of b.entries e) registered
+  over-rows : (last : ℕ) (new : List Placed) → AllByRecursion (λ p. IfSome p.1.employer IsLimitedAlike) new
+      → list_any (is_over c rows) (credits_of_lines (rows_from is_registered last new)) ≡ list_any (is_over d rows) (credits_of_lines (rows_from is_registered last new))
+  over-rows last [] h = refl
+  over-rows last (p ∷ new) h =
+      over-firm (record { line = p.1; serial = last + 1; employer = employer_of_line is_registered p.1 }) p.1.employer h.0
+      (credits_of_lines (rows_from is_registered (last + 1) new)) (over-rows (last + 1) new h.1)
 
 -- ---- the rule, by a view
 
 -- the first rule, from what each part of the file is judged
-abbrev import_ruled : Option Rule → Result (List ℕ × ℕ) BankFault → List Placed → ℕ → ℕ → Bool → Option Rule
-import_ruled faulty judged new day suspense over = first_of (
+abbrev import_ruled : Option Rule → Result (List ℕ × ℕ) BankFault → List Placed → ℕ → Bool → Bool → Option Rule
+import_ruled faulty judged new day many over = first_of (
     faulty
     ∷ fault_rule judged
     ∷ ahead_rule (find (is_ahead day) new)
-    ∷ when (nat_lt most_suspense suspense) (OverLimit Suspense)
+    ∷ when many (OverLimit Suspense)
     ∷ when over (OverLimit Credits)
     ∷ [])
 
--- whether a firm has too many payments after the file
-viewed-over : (b : Book) (view : ImportView) → IsImportView b view → (file : List ℕ)
-    → list_any (is_over (credit_count_viewed view) (rows_viewed view file)) (credits_of_lines (rows_viewed view file))
-    ≡ list_any (is_over (credit_count (lines_standing b.entries)) (rows_brought b.entries (lines_seen b.entries) file)) (credits_of_lines (rows_brought b.entries (lines_seen b.entries) file))
-viewed-over b view is file =
-    ap (λ rows. list_any (is_over (credit_count_viewed view) rows) (credits_of_lines rows)) (viewed_rows b view is file)
-    ∙ over-rows (λ e. is_some (member_of b.entries e)) (credit_count_viewed view) (credit_count (lines_standing b.entries)) (viewed_credits b view is)
-    (rows_brought b.entries (lines_seen b.entries) file) (length (lines_seen b.entries)) (new_lines (lines_of_rows (lines_seen b.entries)) (lines_in file))
+module _ (b : Book) (file : List ℕ) (view : ImportView) (is : IsImportView b file view) where
+  abbrev lines_known : List BankLine
+  lines_known = lines_of_rows (lines_seen b.entries)
 
--- the rule is the book's
-pub viewed_rule : (b : Book) (view : ImportView) → IsImportView b view → (day : ℕ) (file : List ℕ) → import_rule view day file ≡ own_rule b day (ImportBank file)
-viewed_rule b view is day file = λ i.
-    import_ruled (fault_rule (file_lines most_records file))
-    (judgement-same view.known.items (lines_of_rows (lines_seen b.entries)) is.known_is (lines_in file) i)
-    (new-same view.known.items (lines_of_rows (lines_seen b.entries)) is.known_is (lines_in file) i)
-    day (is.suspense_is i + suspense_count (viewed_rows b view is file i)) (viewed-over b view is file i)
+  abbrev is_member : ℕ → Bool
+  is_member e = is_some (member_of b.entries e)
+
+  -- what follows for each firm that a new line names
+  each-firm : (P : ℕ → Type 0) → ((e : ℕ) → IsEmployerViewed b file view e → P e) → AllByRecursion (λ (p : Placed). IfSome p.1.employer P) (new_lines lines_known (lines_in file))
+  each-firm P f =
+      all-new (λ (line : BankLine). IfSome line.employer P) lines_known (lines_in file)
+      (all-weaker (λ (line : BankLine). IfSome line.employer (IsEmployerViewed b file view)) (λ (line : BankLine). IfSome line.employer P) (λ line h. IfSome_then line.employer h f) (lines_in file) is.employers_are)
+
+  viewed-new : new_lines view.known.items (lines_in file) ≡ new_lines lines_known (lines_in file)
+  viewed-new = new-same view.known.items lines_known (lines_in file) is.known_is
+
+  -- the rows are those that the file brings to the book
+  pub viewed_rows : rows_viewed view file ≡ rows_of_file b file
+  viewed_rows =
+      (λ i. rows_from (is_registered_by view) (is.serials_is i) (viewed-new i))
+      ∙ rows-agree (is_registered_by view) is_member (length (lines_seen b.entries)) (new_lines lines_known (lines_in file)) (each-firm (λ e. is_registered_by view e ≡ is_member e) (λ e h. h.registered_is))
+
+  -- whether a firm has too many payments after the file
+  viewed-over : list_any (is_over (credit_count_viewed view) (rows_viewed view file)) (credits_of_lines (rows_viewed view file))
+      ≡ list_any (is_over (credit_count (lines_standing b.entries)) (rows_of_file b file)) (credits_of_lines (rows_of_file b file))
+  viewed-over =
+      let alike = each-firm (IsLimitedAlike is_member (credit_count_viewed view) (credit_count (lines_standing b.entries)) (rows_of_file b file)) (λ e h purpose registered.
+      limit-same (credit_count_viewed view e purpose) (credit_count (lines_standing b.entries) e purpose) (credit_count (rows_of_file b file) e purpose) most_credits (h.credits_serve purpose registered)) in
+      ap (λ rows. list_any (is_over (credit_count_viewed view) rows) (credits_of_lines rows)) viewed_rows
+      ∙ over-rows is_member (credit_count_viewed view) (credit_count (lines_standing b.entries)) (rows_of_file b file) (length (lines_seen b.entries)) (new_lines lines_known (lines_in file)) alike
+
+  -- whether too many lines are in suspense after the file
+  viewed-many : nat_lt most_suspense (view.suspense + suspense_count (rows_viewed view file)) ≡ nat_lt most_suspense (suspense_count (lines_standing b.entries) + suspense_count (rows_of_file b file))
+  viewed-many =
+      ap (λ rows. nat_lt most_suspense (view.suspense + suspense_count rows)) viewed_rows
+      ∙ limit-same view.suspense (suspense_count (lines_standing b.entries)) (suspense_count (rows_of_file b file)) most_suspense is.suspense_serves
+
+  -- the rule is the book's
+  pub viewed_rule : (day : ℕ) → import_rule view day file ≡ own_rule b day (ImportBank file)
+  viewed_rule day = λ i.
+      import_ruled (fault_rule (file_lines most_records file))
+      (judgement-same view.known.items lines_known (lines_in file) is.known_is i)
+      (viewed-new i) day (viewed-many i) (viewed-over i)
 
 -- ---- one element after another
 
@@ -288,50 +350,6 @@ new_count known lines =
 pub places_count : (known lines : List BankLine) → length (new_places known lines) ≡ length (new_lines known lines)
 places_count known lines = length-map (new_lines known lines) (λ (p : Placed). p.0)
 
-kept-few : {A : Type 0} (o : Option A) (xs : List A) (n : ℕ) → length xs ≤ n → length (cons_option o xs) ≤ n + 1
-kept-few None xs n h = omega arith
-kept-few (Some x) xs n h = omega arith
-
-filter_map-few : {A B : Type 0} (h : A → Option B) (xs : List A) → length (filter_map h xs) ≤ length xs
-filter_map-few h [] = omega arith
-filter_map-few h (x ∷ xs) = omega (arith, kept-few (h x) (filter_map h xs) (length xs) (filter_map-few h xs))
-
-fault-none : (faults : List BankFault) (xs lines : List BankLine) → unless_faulty faults xs ≡ Ok lines → xs ≡ lines
-fault-none [] xs lines e = cc
-fault-none (fault ∷ faults) xs lines e = cc
-
-header-none : (o : Option ℕ) (r : Result (List BankLine) BankFault) (lines : List BankLine) → after_header o r ≡ Ok lines → r ≡ Ok lines
-header-none None r lines e = e
-header-none (Some field) r lines e = cc
-
-record-few : (rows : List Fields) (lines : List BankLine) → record_lines rows ≡ Ok lines → length lines ≤ length rows - 1
-record-few [] lines e =
-    let wrong : ⊥ = cc in
-    absurd wrong
-record-few (header ∷ rows) lines e =
-    let all = header-none (header_fault header) (all_lines (rows_read rows)) lines e in
-    let same : filter_map result_ok (rows_read rows) ≡ lines = fault-none (filter_map result_err (rows_read rows)) (filter_map result_ok (rows_read rows)) lines all in
-    omega (arith, ap (λ (ls : List BankLine). length ls) same, filter_map-few result_ok (rows_read rows), length-map (enumerate_from 2 rows) (λ (p : ℕ × Fields). line_of p.0 p.1), length-enumerate_from 2 rows)
-
-tests-pass : (a b : Bool) (f g : BankFault) (r : Result (List BankLine) BankFault) (lines : List BankLine) → cond (not a) (Err f) (cond b (Err g) r) ≡ Ok lines → (b ≡ false) × (r ≡ Ok lines)
-tests-pass false b f g r lines e =
-    let wrong : ⊥ = cc in
-    absurd wrong
-tests-pass true true f g r lines e =
-    let wrong : ⊥ = cc in
-    absurd wrong
-tests-pass true false f g r lines e = (refl, e)
-
-text-few : (n : ℕ) (text : List ℕ) (lines : List BankLine)
-    → cond (not (begins_with_r text)) (Err (BadCsv 1 1)) (cond (is_long n (records_of text)) (Err LongFile) (record_lines (records_of text))) ≡ Ok lines → length lines ≤ n
-text-few n text lines e =
-    let t = tests-pass (begins_with_r text) (is_long n (records_of text)) (BadCsv 1 1) LongFile (record_lines (records_of text)) lines e in
-    omega (arith, ltb-false n (length (records_of text) - 1) t.0, record-few (records_of text) lines t.1)
-
--- a file has at most as many lines as the limit allows
-pub few_lines : (n : ℕ) (file : List ℕ) (lines : List BankLine) → file_lines n file ≡ Ok lines → length lines ≤ n
-few_lines n file lines e = search text-few
-
 -- the lines of a file
 pub lines_read : (file : List ℕ) (lines : List BankLine) → file_lines most_records file ≡ Ok lines → lines ≡ lines_in file
 unfolding lines_in
@@ -408,14 +426,15 @@ pub new_few : (n : ℕ) (view : ImportView) (lines : List BankLine) (rows : List
 new_few n view lines rows made few = omega (arith, few, new-length view lines rows made, new_count view.known.items lines)
 
 -- a refusal, and a reply
-pub judged_refused : (b : Book) (view : ImportView) → IsImportView b view → (day : ℕ) (file : List ℕ) (r : Rule) → RefusedBy r (import_rule view day file) → RefusedBy r (own_rule b day (ImportBank file))
-judged_refused b view is day file r h = subst (RefusedBy r) (viewed_rule b view is day file) h
+module _ (b : Book) (file : List ℕ) (view : ImportView) (is : IsImportView b file view) (day : ℕ) (given : List ℕ) (is_file : given ≡ file) where
+  pub judged_refused : (r : Rule) → RefusedBy r (import_rule view day given) → RefusedBy r (own_rule b day (ImportBank file))
+  judged_refused r h = subst (RefusedBy r) (ap (import_rule view day) is_file ∙ viewed_rule b file view is day) h
 
-pub judged_replied : (b : Book) (view : ImportView) → IsImportView b view → (day : ℕ) (file : List ℕ) (rows : List BankRow) (repeats : ℕ)
-    → import_rule view day file ≡ None → rows ≡ rows_viewed view file → repeats ≡ length (lines_in file) - length rows
-    → (own_rule b day (ImportBank file) ≡ None) × (Imported (length rows) repeats ≡ reply_to b (ImportBank file))
-judged_replied b view is day file rows repeats none made rest = (
-  sym (viewed_rule b view is day file) ∙ none,
-  ap (λ (n : ℕ). Imported (length rows) n) rest
-      ∙ ap (λ (rs : List BankRow). Imported (length rs) (length (lines_in file) - length rs)) (made ∙ viewed_rows b view is file),
-)
+  pub judged_replied : (rows : List BankRow) (repeats : ℕ) → import_rule view day given ≡ None → rows ≡ rows_viewed view given → repeats ≡ length (lines_in given) - length rows
+      → (own_rule b day (ImportBank file) ≡ None) × (Imported (length rows) repeats ≡ reply_to b (ImportBank file))
+  judged_replied rows repeats none made rest = (
+    sym (ap (import_rule view day) is_file ∙ viewed_rule b file view is day) ∙ none,
+    ap (λ (n : ℕ). Imported (length rows) n) rest
+        ∙ (λ i. Imported (length rows) (length (lines_in (is_file i)) - length rows))
+        ∙ ap (λ (rs : List BankRow). Imported (length rs) (length (lines_in file) - length rs)) (made ∙ ap (rows_viewed view) is_file ∙ viewed_rows b file view is),
+  )

@@ -1,62 +1,53 @@
 -- The own rules of a report, part by part, and the search for a worker in two lines.
-use Rattle.std.proofs.Common.{◌≡◌, ℕ, ◌+◌, ◌<◌, ◌⊎◌, ⊎_elim, inl, inr, List, [], ◌∷◌, ◌++◌, length, take, drop, get_or, Option, Some, None, cond, Bool, true, false, not, ◌||◌, ◌==◌, refl, sym, ap, ◌∙◌}
-use Rattle.std.proofs.lemmas.List.{take_more, drop_more}
-use Rattle.std.proofs.lemmas.List.Folds.{list_any-append}
-use Rattle.std.specs.List.{list_any}
+use Rattle.std.proofs.Common.{◌≡◌, ℕ, ◌+◌, ◌<◌, ◌≤◌, List, length, take, get_or, Some, None, cond, Bool, true, false, not, ◌||◌, ◌==◌, refl, sym, ap, ◌∙◌, arith}
+use Rattle.std.proofs.lemmas.List.{take_all}
+use Rattle.std.proofs.lemmas.List.Folds.{list_any_more}
+use Rattle.std.proofs.lemmas.List.FromFn.{get_or-enumerate_from, length-enumerate_from}
+use Rattle.std.specs.List.{list_any, find, enumerate_from}
+use Rattle.std.specs.Option.{option_map}
 use Rattle.std.specs.Ordering.{nat_cmp, is_eq}
-use Rattle.clear_book.specs.declared.rules.Rule.{Rule}
-use Rattle.clear_book.specs.declared.rules.Rule.TheVariants.{Memory}
 use Rattle.clear_book.specs.declared.texts.WageLine.{WageLine}
-use Rattle.clear_book.specs.Checks.{first_of}
-use Rattle.clear_book.specs.Own.Report.{own_report, worker_twice}
-use Rattle.clear_book.proofs.ChecksLemmas.{first_of-before, first_of-after}
+use Rattle.clear_book.specs.Own.Lines.{stands_earlier, worker_twice}
 use Rattle.clear_rules.proofs.CountsLemmas.{at_number}
-use Rattle.clear_rules.specs.Views.Report.{month_rules, lines_rules}
-
--- ---- the rules, those on the month before those on the lines
-
-module _ (start version : Option ℕ) (t m : ℕ) (lines : List WageLine) where
-  pub month_refuses : (r : Rule) → (r ≡ Memory) ⊎ (first_of (month_rules start version t m) ≡ Some r) → (r ≡ Memory) ⊎ (own_report start version t m lines ≡ Some r)
-  month_refuses r h =
-      ⊎_elim (λ (e : r ≡ Memory). inl e)
-      (λ (e : first_of (month_rules start version t m) ≡ Some r). inr (first_of-before (month_rules start version t m) (lines_rules lines) r e)) h
-
-  pub lines_decide : first_of (month_rules start version t m) ≡ None → own_report start version t m lines ≡ first_of (lines_rules lines)
-  lines_decide h = first_of-after (month_rules start version t m) (lines_rules lines) h
+use Rattle.clear_rules.proofs.ImportBankLemmas.{found_here, found_later}
 
 -- ---- a worker in two lines
 
+-- a line with its place
+abbrev placed : ℕ → WageLine → ℕ × WageLine
+placed place line = (place, line)
+
+-- none of the first i lines has a worker that stands in an earlier line
+abbrev pub NoneTwice : ℕ → List WageLine → Type 0
+NoneTwice i xs = find (stands_earlier xs) (take i (enumerate_from 0 xs)) ≡ None
+
 module _ (xs : List WageLine) (i : ℕ) (d : WageLine) (within : i < length xs) (is : d ≡ get_or xs i d) where
-  abbrev earlier : Bool
-  earlier = list_any (λ line. line.worker == d.worker) (take i xs)
+  places-within : i < length (enumerate_from 0 xs)
+  places-within = omega (arith, within, length-enumerate_from 0 xs)
 
-  abbrev later : Option ℕ
-  later = worker_twice (take (i + 1) xs) (drop (i + 1) xs)
-
-  one_step : worker_twice (take i xs) (drop i xs) ≡ cond earlier (Some d.worker) later
-  one_step =
-      ap (worker_twice (take i xs)) (drop_more xs i d within)
-      ∙ ap (λ (x : WageLine). worker_twice (take i xs) (x ∷ drop (i + 1) xs)) (sym is)
-      ∙ ap (λ ys. cond earlier (Some d.worker) (worker_twice ys (drop (i + 1) xs))) (ap (λ x. take i xs ++ x ∷ []) is ∙ sym (take_more xs i d within))
+  line-at : placed i d ≡ get_or (enumerate_from 0 xs) i (placed i d)
+  line-at =
+      let from : i ≡ 0 + i = omega arith in
+      (λ j. placed (from j) (is j)) ∙ sym (get_or-enumerate_from 0 xs i (placed i d) within)
 
   -- the worker of this line is that of an earlier one
-  pub twice_found : (t : Bool) → t ≡ earlier → t ≡ true → worker_twice (take i xs) (drop i xs) ≡ worker_twice [] xs → Some d.worker ≡ worker_twice [] xs
-  twice_found t same is so_far = sym (one_step ∙ ap (λ b. cond b (Some d.worker) later) (sym same ∙ is)) ∙ so_far
+  pub twice_found : NoneTwice i xs → stands_earlier xs (placed i d) ≡ true → Some d.worker ≡ worker_twice xs
+  twice_found once hit = ap (option_map (λ p. p.1.worker)) (sym (found_here (enumerate_from 0 xs) i (placed i d) places-within line-at (stands_earlier xs) once hit))
 
   -- it is not, so the search goes on
-  pub twice_on : (t : Bool) → t ≡ earlier → t ≡ false → worker_twice (take i xs) (drop i xs) ≡ worker_twice [] xs → later ≡ worker_twice [] xs
-  twice_on t same is so_far = sym (one_step ∙ ap (λ b. cond b (Some d.worker) later) (sym same ∙ is)) ∙ so_far
+  pub twice_on : NoneTwice i xs → stands_earlier xs (placed i d) ≡ false → NoneTwice (i + 1) xs
+  twice_on once miss = found_later (enumerate_from 0 xs) i (placed i d) places-within line-at (stands_earlier xs) once miss
 
   -- the workers so far are those of before and that of this line
   pub stands_more : (w : ℕ) → list_any (λ line. line.worker == w) (take (i + 1) xs) ≡ list_any (λ line. line.worker == w) (take i xs) || (d.worker == w)
   stands_more w =
-      ap (list_any (λ line. line.worker == w)) (take_more xs i d within ∙ ap (λ x. take i xs ++ x ∷ []) (sym is))
-      ∙ list_any-append (λ line. line.worker == w) (take i xs) (d ∷ [])
-      ∙ ap (λ b. list_any (λ line. line.worker == w) (take i xs) || b) (or-false (d.worker == w))
-    where
-      or-false : (b : Bool) → (b || false) ≡ b
-      or-false true = refl
-      or-false false = refl
+      list_any_more (λ line. line.worker == w) xs i d within
+      ∙ ap (λ x. list_any (λ line. line.worker == w) (take i xs) || (x.worker == w)) (sym is)
+
+-- no line has such a worker
+pub twice_none : (xs : List WageLine) (i : ℕ) → length xs ≤ i → NoneTwice i xs → None ≡ worker_twice xs
+twice_none xs i all once =
+    ap (option_map (λ p. p.1.worker)) (sym once ∙ ap (find (stands_earlier xs)) (take_all i (enumerate_from 0 xs) (omega (arith, all, length-enumerate_from 0 xs))))
 
 -- ---- what a set of the workers so far says
 
@@ -76,12 +67,15 @@ either false false = refl
 
 module _ (xs : List WageLine) (i : ℕ) (d : WageLine) (within : i < length xs) (is : d ≡ get_or xs i d)
     (seen : ℕ → Bool) (all : (w : ℕ) → seen w ≡ list_any (λ line. line.worker == w) (take i xs))
-    (so_far : worker_twice (take i xs) (drop i xs) ≡ worker_twice [] xs) (number : ℕ) (same : number ≡ d.worker) (new : Bool) (added : new ≡ not (seen number)) where
-  pub seen_twice : new ≡ false → Some d.worker ≡ worker_twice [] xs
-  seen_twice h = twice_found xs i d within is (seen number) (all number ∙ ap (λ w. list_any (λ line. line.worker == w) (take i xs)) same) (not_false (seen number) (sym added ∙ h)) so_far
+    (so_far : NoneTwice i xs) (number : ℕ) (same : number ≡ d.worker) (new : Bool) (added : new ≡ not (seen number)) where
+  earlier : seen number ≡ stands_earlier xs (placed i d)
+  earlier = all number ∙ ap (λ w. list_any (λ line. line.worker == w) (take i xs)) same
 
-  pub seen_once : new ≡ true → worker_twice (take (i + 1) xs) (drop (i + 1) xs) ≡ worker_twice [] xs
-  seen_once h = twice_on xs i d within is (seen number) (all number ∙ ap (λ w. list_any (λ line. line.worker == w) (take i xs)) same) (not_true (seen number) (sym added ∙ h)) so_far
+  pub seen_twice : new ≡ false → Some d.worker ≡ worker_twice xs
+  seen_twice h = twice_found xs i d within is so_far (sym earlier ∙ not_false (seen number) (sym added ∙ h))
+
+  pub seen_once : new ≡ true → NoneTwice (i + 1) xs
+  seen_once h = twice_on xs i d within is so_far (sym earlier ∙ not_true (seen number) (sym added ∙ h))
 
   pub seen_more : (after : ℕ → Bool) → ((w : ℕ) → after w ≡ cond (is_eq (nat_cmp number w)) true (seen w)) → (w : ℕ) → after w ≡ list_any (λ line. line.worker == w) (take (i + 1) xs)
   seen_more after grown w =

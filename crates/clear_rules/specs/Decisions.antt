@@ -3,12 +3,11 @@ use Rattle.std.specs.Prelude.{◌≡◌, ℕ, ◌⊎◌, Option, Some, None, Res
 use Rattle.clear_book.specs.declared.calls.Caller.{Caller}
 use Rattle.clear_book.specs.declared.calls.Command.{Command}
 use Rattle.clear_book.specs.declared.calls.Call.TheVariants.{Do}
-use Rattle.clear_book.specs.declared.outcomes.Outcome.TheVariants.{Replied}
 use Rattle.clear_book.specs.declared.rows.Decision.{Decision}
 use Rattle.clear_book.specs.declared.rules.Rule.{Rule}
 use Rattle.clear_book.specs.declared.rules.Rule.TheVariants.{Memory}
 use Rattle.clear_book.specs.Book.{Book}
-use Rattle.clear_book.specs.Judge.{judge, own_rule, reply_to}
+use Rattle.clear_book.specs.Judge.{new_reply, judge, own_rule, reply_to}
 use Rattle.clear_book.specs.Machine.{step, IsLawful}
 use Rattle.clear_book.specs.Tables.{Tables, Stands, changed, noted}
 
@@ -27,10 +26,10 @@ abbrev pub IsJudged : Book → ℕ → Command → Result Decision Rule → Type
 IsJudged b day command (Ok d) = (own_rule b day command ≡ None) × (d.reply ≡ reply_to b command)
 IsJudged b day command (Err r) = (r ≡ Memory) ⊎ (own_rule b day command ≡ Some r)
 
--- where the judge gives the reply, the change takes the tables of the book, if it is lawful, to
--- those of the next
+-- where the judge gives the reply anew, the change takes the tables of the book, if it is lawful,
+-- to those of the next
 abbrev pub TakesTables : Book → ℕ → Command → Decision → Type 0
 TakesTables b day command d =
     (t : Tables) (caller : Caller) (number : ℕ) → IsLawful b → Stands b t
-    → judge b (Do caller number day command) ≡ Replied d.reply
+    → judge b (Do caller number day command) ≡ new_reply d.reply
     → Stands (step b (Do caller number day command)) (noted day (changed d.change t))

@@ -1,10 +1,12 @@
+use crate::decide::correct::decide_correct;
 use crate::decide::import::{EmployerCredits, ImportView, decide_import};
 use crate::decide::register::{RegisterView, decide_register};
-use clear_book::calls::Registration;
+use crate::decide::report::ReportView;
+use clear_book::calls::{Correction, Registration, WageReport};
 use clear_book::files::BankFile;
 use clear_book::numbers::SerialCount;
 use clear_book::rules::{Limit, Rule};
-use clear_book::texts::Name;
+use clear_book::texts::{Name, WageLines};
 use clear_money::days::Day;
 use clear_money::months::Month;
 use clear_money::numbers::EmployerNo;
@@ -80,5 +82,32 @@ fn the_last_lines(rt: HostRuntime) -> Result<(), Fail> {
     assert!(rt; !is_over(alloc, file, 99_999, 99_999, Limit::Suspense)?);
     assert!(rt; is_over(alloc, file, 100_000, 100_000, Limit::Suspense)?);
     assert!(rt; is_over(alloc, file, 99_999, 100_000, Limit::Credits)?);
+    Ok(())
+}
+
+// A correction of the 9,999th version of a month, and of the one after it.
+#[test]
+fn the_last_version(rt: HostRuntime) -> Result<(), Fail> {
+    let alloc = rt.alloc();
+    let month = Month::read(b"2024-01").ok_or("no month")?;
+    let mut correction = Correction {
+        report: WageReport {
+            employer: employer(1001)?,
+            month,
+            lines: WageLines::new(Vec::new(alloc)),
+        },
+        version: 9_999,
+    };
+    let mut view = ReportView {
+        start: Some(month),
+        version: Some(9_999),
+        row: None,
+    };
+    let day = Day::read(b"2024-04-30").ok_or("no day")?;
+    assert!(rt; decide_correct(alloc, day, &correction, &view).is_ok());
+    correction.version = 10_000;
+    view.version = Some(10_000);
+    let refused = decide_correct(alloc, day, &correction, &view);
+    assert!(rt; matches!(refused, Err(Rule::OverLimit(Limit::Versions))));
     Ok(())
 }

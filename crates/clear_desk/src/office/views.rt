@@ -1,5 +1,5 @@
 //! What the office's commands are judged by.
-ghost use Rattle.std.specs.Prelude.{◌≡◌, length, map, count_by, is_some, IfOk};
+ghost use Rattle.std.specs.Prelude.{◌≡◌, ℕ, List, length, map, count_by, is_some, IfOk};
 ghost use Rattle.clear_bank.specs.declared.lines.Purpose.TheVariants.{Contribution, Interest};
 ghost use Rattle.clear_money.specs.Rates.{rate_in_force};
 ghost use Rattle.clear_book.specs.Book.{Book, start_of};
@@ -71,9 +71,10 @@ impl Office {
         }
     }
 
-    // What a bank file is judged by.
+    // What any bank file is judged by: all lines seen and all employers.
     pub(super) fn import_view(&self) -> Result<ImportView, AllocError>
-        ensures view { (b : Book) → Stands b self.now → IfOk result (IsImportView b) }
+        ensures view { (b : Book) (file : List ℕ) → Stands b self.now
+            → IfOk result (IsImportView b file) }
         ensures serials { IfOk result (λ view. view.serials ≡ self.now.serial) }
     {
         let known = copy_lines(self.alloc, self.bank.as_slice())?;

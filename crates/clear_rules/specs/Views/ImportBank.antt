@@ -1,15 +1,18 @@
 -- What a bank file is judged by, and the rows that it brings by a view.
-use Rattle.std.specs.Prelude.{◌≡◌, ℕ, ◌==◌, List, length, Bool, Option, is_some}
-use Rattle.std.specs.List.{find}
-use Rattle.std.specs.Option.{option_map, option_map_or}
+use Rattle.std.specs.Prelude.{◌≡◌, ◌≤◌, ◌⊎◌, ℕ, ◌+◌, ◌==◌, List, Bool, true}
+use Rattle.std.specs.Prelude.{Option, is_some, IfSome}
+use Rattle.std.specs.List.{find, AllByRecursion}
+use Rattle.std.specs.Option.{option_map_or}
 use Rattle.clear_bank.specs.declared.lines.Purpose.{Purpose}
 use Rattle.clear_bank.specs.declared.lines.Purpose.TheVariants.{Contribution, Interest}
 use Rattle.clear_bank.specs.Newness.{line_under}
 use Rattle.clear_book.specs.declared.rows.BankRow.{BankRow}
 use Rattle.clear_book.specs.declared.rules.Rule.{Rule}
 use Rattle.clear_book.specs.Book.{Book, member_of}
-use Rattle.clear_book.specs.Lines.{lines_in, new_lines, rows_from, lines_of_rows, lines_seen}
-use Rattle.clear_book.specs.Lines.{lines_standing, suspense_count, credit_count}
+use Rattle.clear_book.specs.Limits.{most_credits, most_suspense}
+use Rattle.clear_book.specs.Lines.{lines_in, new_lines, rows_from, rows_brought, lines_of_rows}
+use Rattle.clear_book.specs.Lines.{lines_seen, lines_standing, suspense_count, credit_count}
+use Rattle.clear_book.specs.Lines.{serial_count}
 use Rattle.clear_book.specs.Own.ImportBank.{own_import}
 use Rattle.clear_rules.specs.declared.decide.import.EmployerCredits.{EmployerCredits}
 use Rattle.clear_rules.specs.declared.decide.import.ImportView.{ImportView}
@@ -43,19 +46,36 @@ import_rule view t file =
     own_import view.known.items (rows_viewed view file) view.suspense (credit_count_viewed view) t
     file
 
--- the numbers of a registered employer's credits among rows
-abbrev pub credits_counted : List BankRow → ℕ → EmployerCredits
-credits_counted rows e = record {
-  employer = e;
-  contribution_count = credit_count rows e Contribution;
-  interest_count = credit_count rows e Interest;
-}
+-- the rows that a file brings to a book
+abbrev pub rows_of_file : Book → List ℕ → List BankRow
+rows_of_file b file = rows_brought b.entries (lines_seen b.entries) file
 
--- the view is what the book says of bank lines and of registered employers
-pub record IsImportView (b : Book) (view : ImportView) : Type 0 where
-  pub known_is : (reference : List ℕ) → line_under reference view.known.items
-      ≡ line_under reference (lines_of_rows (lines_seen b.entries))
-  pub employers_is : (e : ℕ) → employer_under view.employers.items e
-      ≡ option_map (λ member. credits_counted (lines_standing b.entries) e) (member_of b.entries e)
-  pub suspense_is : view.suspense ≡ suspense_count (lines_standing b.entries)
-  pub serials_is : view.serials ≡ length (lines_seen b.entries)
+-- a number serves for a count, where so many more come: it is the count; or it is no less, and with
+-- them it stays within the limit
+abbrev pub Serves : ℕ → ℕ → ℕ → ℕ → Type 0
+Serves viewed count more limit =
+    (viewed ≡ count) ⊎ ((count ≤ viewed) × (viewed + more ≤ limit))
+
+-- an employer is seen as the book has it
+pub record IsEmployerViewed (b : Book) (file : List ℕ) (view : ImportView) (e : ℕ) : Type 0 where
+  -- whether it is registered
+  pub registered_is : is_registered_by view e ≡ is_some (member_of b.entries e)
+  -- for each purpose a number that serves for its credits, if it is registered
+  pub credits_serve : (purpose : Purpose) → is_some (member_of b.entries e) ≡ true
+      → Serves (credit_count_viewed view e purpose)
+      (credit_count (lines_standing b.entries) e purpose)
+      (credit_count (rows_of_file b file) e purpose) most_credits
+
+-- the view is what the book says of the lines and the employers that a file names
+pub record IsImportView (b : Book) (file : List ℕ) (view : ImportView) : Type 0 where
+  -- for each line of the file, what is found under its reference
+  pub known_is : AllByRecursion (λ line. line_under line.reference view.known.items
+      ≡ line_under line.reference (lines_of_rows (lines_seen b.entries))) (lines_in file)
+  -- for each line that names an employer, that employer
+  pub employers_are : AllByRecursion (λ line.
+      IfSome line.employer (IsEmployerViewed b file view)) (lines_in file)
+  -- a number that serves for the lines in suspense
+  pub suspense_serves : Serves view.suspense (suspense_count (lines_standing b.entries))
+      (suspense_count (rows_of_file b file)) most_suspense
+  -- how many serials were given
+  pub serials_is : view.serials ≡ serial_count b.entries

@@ -1,5 +1,5 @@
 -- What a registration is judged by, and the row that it makes.
-use Rattle.std.specs.Prelude.{◌≡◌, is_some}
+use Rattle.std.specs.Prelude.{◌≡◌, None, is_some}
 use Rattle.clear_money.specs.Rates.{rate_in_force}
 use Rattle.clear_book.specs.declared.calls.Registration.{Registration}
 use Rattle.clear_book.specs.declared.rows.EmployerRow.{EmployerRow}
@@ -14,4 +14,5 @@ pub record IsRegisterView (b : Book) (r : Registration) (view : RegisterView) : 
 
 -- the row of a registered employer
 abbrev pub registered_row : Registration → EmployerRow
-registered_row r = record { employer = r.employer; name = r.name; start = r.start }
+registered_row r =
+    record { employer = r.employer; name = r.name; start = r.start; last = None }

@@ -39,20 +39,24 @@ use std::collections::BTreeMap;
 #[derive(Clone, Copy)]
 pub struct EmployerCredits {
     pub employer: EmployerNo,
-    /// The number of its credits for contributions, not their cents.
+    /// The number of its credits for contributions, not their cents; or a number that is no less,
+    /// and with the file's new lines within the limit.
     pub contribution_count: u64,
-    /// The number of its credits for interest.
+    /// The number of its credits for interest; or a number that is no less, and with the file's
+    /// new lines within the limit.
     pub interest_count: u64,
 }
 
 /// What a bank file is judged by.
 #[derive(Drop)]
 pub struct ImportView {
-    /// The lines seen so far, in any order: only what is found under a reference counts.
+    /// The lines seen so far that stand under the references of the file, in any order; others do
+    /// no harm.
     pub known: Vec<BankLine>,
-    /// The registered employers, in any order.
+    /// The registered ones of the employers that the file names, in any order; others do no harm.
     pub employers: Vec<EmployerCredits>,
-    /// How many lines are in suspense.
+    /// How many lines are in suspense; or a number that is no less, and with the file's new lines
+    /// within the limit.
     pub suspense: u64,
     /// How many serials were given.
     pub serials: SerialCount,
@@ -73,11 +77,11 @@ pub fn decide_import(
     view: &ImportView,
 ) -> Result<Decision, Rule>
     // The answer is the judge's, where the view is the book's, but for want of memory.
-    ensures judged { (b : Book) → IsImportView b view.now
+    ensures judged { (b : Book) → IsImportView b file.now view.now
         → IsJudged b day (DoImport file.now) result }
     // Where the judge gives the reply, the change takes the tables of a lawful book to those of the
     // next.
-    ensures change { (b : Book) → IsImportView b view.now
+    ensures change { (b : Book) → IsImportView b file.now view.now
         → IfOk result (TakesTables b day (DoImport file.now)) }
     ensures rule { Refuses result (import_rule view.now day file.now) }
     ensures made { IfOk result (λ decision.

@@ -58,6 +58,7 @@ pub fn decide_register(
         employer: registration.employer,
         name,
         start: registration.start,
+        last: None,
     };
     Ok(Decision {
         change: Change::AddEmployer(row),

@@ -1,29 +1,23 @@
 //! The decision on a month's first report.
-ghost use Rattle.std.specs.Prelude.{◌≡◌, [], ◌≤◌, All, false, IfOk, OnOk, length};
+ghost use Rattle.std.specs.Prelude.{◌≡◌, ◌≤◌, All, IfOk, OnOk, length};
 ghost use Rattle.clear_book.specs.declared.calls.Command.TheVariants.{Report as DoReport};
-ghost use Rattle.clear_book.specs.Accounts.{base_of, contribution_of_lines};
 ghost use Rattle.clear_book.specs.Book.{Book};
-ghost use Rattle.clear_book.specs.Checks.{first_of};
-ghost use Rattle.clear_book.specs.Limits.{most_base, most_gross, most_lines};
-ghost use Rattle.clear_book.specs.Own.Report.{has_large_gross, own_report, worker_twice};
+ghost use Rattle.clear_book.specs.Limits.{most_gross, most_lines};
+ghost use Rattle.clear_book.specs.Own.Report.{own_report};
 ghost use Rattle.clear_rules.specs.Decisions.{Refuses, IsJudged, TakesTables};
-ghost use Rattle.clear_rules.specs.Views.Report.{IsReportView, first_report, lines_rules};
-ghost use Rattle.clear_rules.specs.Views.Report.{month_rules};
+ghost use Rattle.clear_rules.specs.Views.Report.{IsReportView, first_report};
 
+use super::lines::{charge, check_month, check_sizes, check_workers};
 use clear_book::calls::WageReport;
-use clear_book::limits::{MAX_GROSS, MAX_LINES};
 use clear_book::outcomes::Reply;
 use clear_book::rows::{Change, Decision, ReportRow};
-use clear_book::rules::{Limit, Rule};
-use clear_book::texts::WageLine;
+use clear_book::rules::Rule;
 use clear_money::days::Day;
 use clear_money::months::Month;
-use clear_money::numbers::WorkerNo;
-use clear_money::rates::{RateRow, contribution};
-use std::alloc::{AllocError, Global};
-use std::collections::BTreeSet;
+use clear_money::rates::RateRow;
+use std::alloc::Global;
 
-/// What a report is judged by.
+/// What a report is judged by, be it the first of its month or a correction.
 #[derive(Clone, Copy)]
 pub struct ReportView {
     /// The employer's first member month, if it is registered.
@@ -57,7 +51,7 @@ pub fn decide_report(
     ensures small { OnOk result (All (λ line. line.gross ≤ most_gross) report.now.lines) }
 {
     let lines = report.lines.as_slice();
-    check_report(alloc, day, report.month, lines, view)?;
+    check_report(alloc, day, report, view)?;
     let Ok(copied) = report.lines.copied() else {
         return Err(Rule::Memory);
     };
@@ -75,109 +69,23 @@ pub fn decide_report(
     })
 }
 
-/// The contribution in cents for lines within the limits at a rate row, and 0 without one.
-pub fn charge(row: Option<RateRow>, lines: &[WageLine]) -> u64
-    requires few { length lines.now ≤ most_lines }
-    requires small { All (λ line. line.gross ≤ most_gross) lines.now }
-    ensures value { result ≡ contribution_of_lines row lines.now }
-    ensures bound { result ≤ most_base }
+// The own rules of a first report.
+fn check_report(alloc: Global, day: Day, report: &WageReport, view: &ReportView) -> Result<(), Rule>
+    ensures rule { Refuses result
+        (own_report view.now.start view.now.version day report.now.month report.now.lines) }
+    ensures few { OnOk result (length report.now.lines ≤ most_lines) }
+    ensures small { OnOk result (All (λ line. line.gross ≤ most_gross) report.now.lines) }
 {
-    let base = base(lines);
-    match row {
-        Some(row) => contribution(base, row.contribution_rate()),
-        None => 0,
-    }
-}
-
-// The sum of the gross amounts.
-fn base(lines: &[WageLine]) -> u64
-    requires few { length lines.now ≤ most_lines }
-    requires small { All (λ line. line.gross ≤ most_gross) lines.now }
-    ensures value { result ≡ base_of lines.now }
-    ensures bound { result ≤ most_base }
-{
-    let mut total = 0;
-    for line in lines {
-        total += line.gross;
-    }
-    total
-}
-
-// The own rules of a report.
-fn check_report(
-    alloc: Global,
-    day: Day,
-    month: Month,
-    lines: &[WageLine],
-    view: &ReportView,
-) -> Result<(), Rule>
-    ensures rule { Refuses result (own_report view.now.start view.now.version day month lines.now) }
-    ensures few { OnOk result (length lines.now ≤ most_lines) }
-    ensures small { OnOk result (All (λ line. line.gross ≤ most_gross) lines.now) }
-{
-    match check_month(day, month, view) {
-        Ok(()) => check_lines(alloc, lines),
-        Err(rule) => Err(rule),
-    }
-}
-
-// The rules on a report's month.
-fn check_month(day: Day, month: Month, view: &ReportView) -> Result<(), Rule>
-    ensures { Refuses result (first_of (month_rules view.now.start view.now.version day month)) }
-{
-    let Some(start) = view.start else {
-        return Err(Rule::UnknownEmployer);
-    };
-    if month < start {
-        return Err(Rule::MonthOutside);
-    }
-    if day.month_number() < month.number() {
-        return Err(Rule::MonthAhead);
+    match check_month(day, report.month, view.start) {
+        Ok(()) => {}
+        Err(rule) => return Err(rule),
     }
     if let Some(version) = view.version {
         return Err(Rule::ReportExists(version));
     }
-    Ok(())
-}
-
-// The rules on a report's lines.
-fn check_lines(alloc: Global, lines: &[WageLine]) -> Result<(), Rule>
-    ensures rule { Refuses result (first_of (lines_rules lines.now)) }
-    ensures few { OnOk result (length lines.now ≤ most_lines) }
-    ensures small { OnOk result (All (λ line. line.gross ≤ most_gross) lines.now) }
-{
-    let twice = match find_worker_twice(alloc, lines) {
-        Ok(twice) => twice,
-        Err(_) => return Err(Rule::Memory),
-    };
-    if let Some(worker) = twice {
-        return Err(Rule::WorkerTwice(worker));
+    let lines = report.lines.as_slice();
+    match check_workers(alloc, lines) {
+        Ok(()) => check_sizes(lines),
+        Err(rule) => Err(rule),
     }
-    if lines.len() > MAX_LINES {
-        return Err(Rule::OverLimit(Limit::Lines));
-    }
-    if has_large_gross(lines) {
-        return Err(Rule::OverLimit(Limit::Gross));
-    }
-    Ok(())
-}
-
-// The worker of the first line whose worker stands in an earlier line.
-fn find_worker_twice(alloc: Global, lines: &[WageLine]) -> Result<Option<WorkerNo>, AllocError>
-    ensures { IfOk result (λ worker. worker ≡ worker_twice [] lines.now) }
-{
-    let mut seen = BTreeSet::new(alloc);
-    for line in lines {
-        if !seen.insert(line.worker.number())? {
-            return Ok(Some(line.worker));
-        }
-    }
-    Ok(None)
-}
-
-fn has_large_gross(lines: &[WageLine]) -> bool
-    ensures test { result ≡ has_large_gross lines.now }
-    ensures small { result ≡ false → All (λ line. line.gross ≤ most_gross) lines.now }
-{
-    lines.iter().any(|line| line.gross > MAX_GROSS)
 }

@@ -4,14 +4,14 @@ use Rattle.clear_book.specs.Accounts.{credit_key}
 use Rattle.clear_book.specs.Keyed.{with_rows}
 use Rattle.clear_book.specs.Lines.{credits_of_lines}
 use Rattle.clear_book.specs.Tables.{Tables, bank_key}
-use Rattle.clear_desk.specs.Office.{Fits}
+use Rattle.clear_desk.specs.Office.{Fits, kept_tables}
 use Rattle.clear_desk.proofs.BoundLemmas.{bounded_lines_with}
 use Rattle.clear_desk.proofs.office.Office.add_bank_lines.Goals as goal
 
 pub invariant_of-self-2 : goal.invariant_of-self-2
 invariant_of-self-2 c =
     let inside = c.self.inside in
-    let t : Tables = record { rates = inside.rates; employers = inside.employers.items; reports = inside.reports.items; wages = inside.wages.items; bank = inside.bank.items; credits = inside.credits.items; day = inside.day; entries = inside.entries; serial = inside.serial } in
+    let t : Tables = kept_tables inside.rates inside.employers.items inside.reports.items inside.wages.items inside.bank.items inside.credits.items inside.day inside.entries inside.serial in
     let is : t ≡ c.args.self.now = c.self.view_is in
     let room : t.entries < 50000000 = subst (λ (x : Tables). x.entries < 50000000) (sym is) c.requires.room in
     let fits = subst (Fits (AddBankLines c.args.rows)) (sym is) c.requires.fits in

@@ -1,9 +1,10 @@
-use Rattle.std.proofs.Common.{◌≡◌, ◌<◌, None, sym, ◌∙◌, subst}
+use Rattle.std.proofs.Common.{◌≡◌, None, sym, ◌∙◌, subst}
 use Rattle.clear_book.specs.declared.rules.Limit.TheVariants.{Book}
 use Rattle.clear_book.specs.declared.rules.Rule.TheVariants.{OverLimit}
 use Rattle.clear_book.specs.Checks.{when}
 use Rattle.clear_book.specs.Judge.{day_back, is_full}
 use Rattle.clear_book.specs.Numbers.{IsRequestNo}
+use Rattle.clear_money.specs.Calendar.{IsDay}
 use Rattle.clear_book.specs.Tables.{Tables}
 use Rattle.clear_rules.proofs.OfficesLemmas.{has_room, decided}
 use Rattle.clear_desk.proofs.office.Office.submit.Goals as goal
@@ -15,4 +16,4 @@ returns-in-Ok-clause-step c =
     let may = sym c.may.ensures ∙ c.if-not-may.false in
     let ensured = c.in_ok-decision.ensures in
     decided c.args.self.now c.args.caller c.args.number c.args.day c.args.command.now may back few c.in_ok-decision.decision c.put.new.self
-    (subst IsRequestNo c.number-number.ensures.value c.number-number.ensures.range) c.command_in_range.ensures ensured.judged ensured.change c.in-Ok.ensures.ok
+    (c.caller_in_range.ensures, subst IsRequestNo c.number-number.ensures.value c.number-number.ensures.range, subst IsDay c.number-day.ensures.value c.number-day.ensures.range, c.command_in_range.ensures) ensured.judged ensured.change c.in-Ok.ensures.ok

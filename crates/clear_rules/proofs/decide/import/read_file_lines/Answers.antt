@@ -1,4 +1,5 @@
-use Rattle.clear_rules.proofs.ImportBankLemmas.{few_lines, lines_read}
+use Rattle.clear_bank.proofs.LengthLemmas.{few_lines}
+use Rattle.clear_rules.proofs.ImportBankLemmas.{lines_read}
 use Rattle.clear_rules.proofs.decide.import.read_file_lines.Goals as goal
 
 pub returns-in-Ok-clause-lines : goal.returns-in-Ok-clause-lines

@@ -1,8 +1,8 @@
 use Rattle.std.proofs.Common.{arith}
 use Rattle.std.specs.BTreeSet as set
 use Rattle.std.specs.Ordering.{nat_cmp}
-use Rattle.clear_rules.proofs.ReportLemmas.{seen_twice, seen_once, seen_more}
-use Rattle.clear_rules.proofs.decide.report.find_worker_twice.Goals as goal
+use Rattle.clear_rules.proofs.ReportLemmas.{seen_twice, seen_once, seen_more, twice_none}
+use Rattle.clear_rules.proofs.decide.lines.find_worker_twice.Goals as goal
 
 pub returns-then-not-branch : goal.returns-then-not-branch
 returns-then-not-branch c =
@@ -22,3 +22,6 @@ loop-line-preserved c = record {
       c.number.result c.number.ensures.value c.in_ok-insert.field-0 c.in_ok-insert.ensures.added
       (set.contains nat_cmp c.insert.new.self) c.in_ok-insert.ensures.updates.0;
 }
+
+pub returns : goal.returns
+returns c = twice_none c.args.lines.now c.loop-line.line-index c.loop-line-test.false c.loop-line.invariant.so_far

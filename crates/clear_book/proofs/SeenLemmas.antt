@@ -1,0 +1,187 @@
+-- What holds of each bank line that a book has seen, and of the credits that lines are.
+use Rattle.std.proofs.Common.{◌≡◌, ℕ, ◌+◌, ◌*◌, ◌≤◌, List, [], ◌∷◌, ◌++◌, length, filter, Option, Some, None, Result, Ok, Err, is_some, Bool, true, false, cond, nat_lt, refl, sym, subst, arith, length-append}
+use Rattle.std.proofs.lemmas.Bool.Decides.{nat_tests}
+use Rattle.std.specs.List.{AllByRecursion, cons_option, enumerate_from, find}
+use Rattle.clear_bank.specs.declared.fault.BankFault.{BankFault}
+use Rattle.clear_bank.specs.declared.lines.BankLine.{BankLine}
+use Rattle.clear_bank.specs.Files.{file_lines}
+use Rattle.clear_bank.specs.Newness.{Placed, is_new}
+use Rattle.clear_bank.specs.Ranges.{IsBankLine}
+use Rattle.clear_bank.proofs.LengthLemmas.{few_lines}
+use Rattle.clear_bank.proofs.RangeLemmas.{HaveRanges, file-lines-in-range}
+use Rattle.clear_money.specs.Rates.{Rate}
+use Rattle.clear_book.specs.declared.calls.Command.{Command}
+use Rattle.clear_book.specs.declared.calls.Command.TheVariants.{Register, Report, Correct, ImportBank}
+use Rattle.clear_book.specs.declared.rows.BankRow.{BankRow}
+use Rattle.clear_book.specs.declared.rows.CreditRow.{CreditRow}
+use Rattle.clear_book.specs.declared.rules.Rule.TheVariants.{DayBack}
+use Rattle.clear_book.specs.Accounts.{credit_key, credits_standing}
+use Rattle.clear_book.specs.Book.{Book, Entry, ledger_day, member_of}
+use Rattle.clear_book.specs.Judge.{day_back, own_rule}
+use Rattle.clear_book.specs.Laws.{IsBy}
+use Rattle.clear_book.specs.Lines.{lines_or_none, lines_in, new_lines, rows_from, lines_of_rows, rows_brought, rows_by, lines_seen, lines_standing, credit_of_line, credits_of_lines, suspense_count, credit_count}
+use Rattle.clear_book.specs.Machine.{AreJudged}
+use Rattle.clear_book.specs.Own.ImportBank.{ahead_rule, is_ahead, import_rules}
+use Rattle.clear_book.proofs.ChecksLemmas.{none_applies, when-none}
+use Rattle.clear_book.proofs.JudgeLemmas.{in_order}
+use Rattle.clear_book.proofs.KeyedChangesLemmas.{AllByRecursion-in_key_order}
+use Rattle.clear_book.proofs.LimitsLemmas.{accepted}
+use Rattle.clear_book.proofs.LinesLemmas.{length-rows_from, standing_seen}
+
+-- ---- from a file's lines to rows and credits
+
+pub both : {A : Type 0} (P : A → Type 0) (xs ys : List A) → AllByRecursion P xs → AllByRecursion P ys → AllByRecursion P (xs ++ ys)
+both P [] ys h k = k
+both P (x ∷ xs) ys h k = (h.0, both P xs ys h.1 k)
+
+-- what implies something else implies it of each
+each : {A : Type 0} (P Q : A → Type 0) → ((x : A) → P x → Q x) → (xs : List A) → AllByRecursion P xs → AllByRecursion Q xs
+each P Q f [] h = tt
+each P Q f (x ∷ xs) h = (f x h.0, each P Q f xs h.1)
+
+module _ (P : BankLine → Type 0) where
+  abbrev OfLine : BankRow → Type 0
+  OfLine row = P row.line
+
+  pub chosen : (test : Placed → Bool) (n : ℕ) (lines : List BankLine) → AllByRecursion P lines → AllByRecursion (λ (p : Placed). P p.1) (filter test (enumerate_from n lines))
+  chosen test n [] h = tt
+  chosen test n (line ∷ lines) h = told (test (n, line)) (chosen test (n + 1) lines h.1)
+    where
+      told : (b : Bool) → AllByRecursion (λ (p : Placed). P p.1) (filter test (enumerate_from (n + 1) lines)) → AllByRecursion (λ (p : Placed). P p.1) (cond b ((n, line) ∷ filter test (enumerate_from (n + 1) lines)) (filter test (enumerate_from (n + 1) lines)))
+      told true rest = (h.0, rest)
+      told false rest = rest
+
+  of_rows : (is_registered : ℕ → Bool) (last : ℕ) (new : List Placed) → AllByRecursion (λ (p : Placed). P p.1) new → AllByRecursion OfLine (rows_from is_registered last new)
+  of_rows is_registered last [] h = tt
+  of_rows is_registered last (p ∷ new) h = (h.0, of_rows is_registered (last + 1) new h.1)
+
+-- ---- each line is in range
+
+-- the line of a row is in range
+abbrev pub HasRanges : BankRow → Type 0
+HasRanges row = IsBankLine row.line
+
+pub lines-in-range : (file : List ℕ) → AllByRecursion IsBankLine (lines_in file)
+unfolding lines_in
+lines-in-range file = told (file_lines 10000 file) (file-lines-in-range 10000 file)
+  where
+    told : (r : Result (List BankLine) BankFault) → HaveRanges r → AllByRecursion IsBankLine (lines_or_none r)
+    told (Ok lines) h = h
+    told (Err fault) h = tt
+
+by-in-range : (xs : List Entry) (seen : List BankRow) (command : Command) → AllByRecursion HasRanges (rows_by xs seen command)
+by-in-range xs seen (Register r) = tt
+by-in-range xs seen (Report r) = tt
+by-in-range xs seen (Correct c) = tt
+by-in-range xs seen (ImportBank file) =
+    of_rows IsBankLine (λ e. is_some (member_of xs e)) (length seen) (new_lines (lines_of_rows seen) (lines_in file))
+    (chosen IsBankLine (is_new (lines_of_rows seen) (lines_in file)) 0 (lines_in file) (lines-in-range file))
+
+-- each line that a book has seen is in range
+pub seen-in-range : (xs : List Entry) → AllByRecursion HasRanges (lines_seen xs)
+seen-in-range [] = tt
+seen-in-range (x ∷ xs) = both HasRanges (lines_seen xs) (rows_by xs (lines_seen xs) x.command) (seen-in-range xs) (by-in-range xs (lines_seen xs) x.command)
+
+-- ---- each request brings at most 10,000 lines
+
+file-few : (file : List ℕ) → length (lines_in file) ≤ 10000
+unfolding lines_in
+file-few file = told (file_lines 10000 file) refl
+  where
+    told : (r : Result (List BankLine) BankFault) → file_lines 10000 file ≡ r → length (lines_or_none r) ≤ 10000
+    told (Ok lines) is = few_lines 10000 file lines is
+    told (Err fault) is = omega arith
+
+chosen-few : {A : Type 0} (test : A → Bool) (xs : List A) → length (filter test xs) ≤ length xs
+chosen-few test [] = omega arith
+chosen-few test (x ∷ xs) = told (test x) (chosen-few test xs)
+  where
+    told : (b : Bool) → length (filter test xs) ≤ length xs → length (cond b (x ∷ filter test xs) (filter test xs)) ≤ length (x ∷ xs)
+    told true h = omega (arith, h)
+    told false h = omega (arith, h)
+
+placed-length : (n : ℕ) (lines : List BankLine) → length (enumerate_from n lines) ≡ length lines
+placed-length n [] = refl
+placed-length n (line ∷ lines) = let rest = placed-length (n + 1) lines in omega (arith, rest)
+
+by-few : (xs : List Entry) (seen : List BankRow) (command : Command) → length (rows_by xs seen command) ≤ 10000
+by-few xs seen (Register r) = omega arith
+by-few xs seen (Report r) = omega arith
+by-few xs seen (Correct c) = omega arith
+by-few xs seen (ImportBank file) =
+    let known = lines_of_rows seen in
+    let new = new_lines known (lines_in file) in
+    let rows : length (rows_brought xs seen file) ≡ length new = length-rows_from (λ e. is_some (member_of xs e)) (length seen) new in
+    omega (arith, rows, chosen-few (is_new known (lines_in file)) (enumerate_from 0 (lines_in file)), placed-length 0 (lines_in file), file-few file)
+
+pub seen-few : (xs : List Entry) → length (lines_seen xs) ≤ 10000 * length xs
+seen-few [] = omega arith
+seen-few (x ∷ xs) = omega (arith, seen-few xs, by-few xs (lines_seen xs) x.command, length-append (lines_seen xs) (rows_by xs (lines_seen xs) x.command))
+
+-- ---- no line has a value date after the last request
+
+come : (t : ℕ) (new : List Placed) → ahead_rule (find (is_ahead t) new) ≡ None → AllByRecursion (λ (p : Placed). p.1.value ≤ t) new
+come t [] h = tt
+come t (p ∷ new) h = told (nat_lt t p.1.value) refl h (come t new)
+  where
+    within : nat_lt t p.1.value ≡ false → p.1.value ≤ t
+    within k = grind (arith, nat_tests)
+
+    told : (b : Bool) → nat_lt t p.1.value ≡ b → ahead_rule (cond b (Some p) (find (is_ahead t) new)) ≡ None → (ahead_rule (find (is_ahead t) new) ≡ None → AllByRecursion (λ (q : Placed). q.1.value ≤ t) new) → AllByRecursion (λ (q : Placed). q.1.value ≤ t) (p ∷ new)
+    told true is k rest = absurd (cc)
+    told false is k rest = (within is, rest k)
+
+by-come : (b : Book) (t : ℕ) (command : Command) → own_rule b t command ≡ None → AllByRecursion (λ row. row.line.value ≤ t) (rows_by b.entries (lines_seen b.entries) command)
+by-come b t (Register r) own = tt
+by-come b t (Report r) own = tt
+by-come b t (Correct c) own = tt
+by-come b t (ImportBank file) own =
+    let seen = lines_seen b.entries in
+    let new = new_lines (lines_of_rows seen) (lines_in file) in
+    let none = none_applies (import_rules (lines_of_rows seen) (rows_brought b.entries seen file) (suspense_count (lines_standing b.entries)) (credit_count (lines_standing b.entries)) t file) own in
+    of_rows (λ line. line.value ≤ t) (λ e. is_some (member_of b.entries e)) (length seen) new (come t new none.1.1.0)
+
+-- a day that had come by the ledger day has come by a later one
+still_by : (ledger : Option ℕ) (t v : ℕ) → day_back ledger t ≡ None → IsBy ledger v → v ≤ t
+still_by None t v h by = absurd by
+still_by (Some ledger) t v h by = later (when-none (nat_lt t ledger) (DayBack ledger) h)
+  where
+    later : nat_lt t ledger ≡ false → v ≤ t
+    later k = let low : ledger ≤ t = grind (arith, nat_tests) in omega (arith, low, by)
+
+seen-come : (rates : List Rate) (xs : List Entry) → AreJudged rates xs → AllByRecursion (λ row. IsBy (ledger_day xs) row.line.value) (lines_seen xs)
+seen-come rates [] h = tt
+seen-come rates (x ∷ xs) h =
+    let b : Book = record { opening = rates; entries = xs } in
+    let order = in_order b x.caller x.number x.day x.command x.reply h.2 in
+    both (λ row. row.line.value ≤ x.day) (lines_seen xs) (rows_by xs (lines_seen xs) x.command)
+    (each (λ row. IsBy (ledger_day xs) row.line.value) (λ row. row.line.value ≤ x.day) (λ row by. still_by (ledger_day xs) x.day row.line.value order by) (lines_seen xs) (seen-come rates xs h.0))
+    (by-come b x.day x.command (accepted rates x xs h).1)
+
+-- ---- credits
+
+-- what holds of each line under its firm holds of each credit
+module _ (P : BankRow → Type 0) (Q : CreditRow → Type 0) (credited : (row : BankRow) (e : ℕ) → row.employer ≡ Some e → P row → (credit : CreditRow) → credit_of_line row (Some e) ≡ Some credit → Q credit) where
+  pub of_credits : (rows : List BankRow) → AllByRecursion P rows → AllByRecursion Q (credits_of_lines rows)
+  of_credits [] h = tt
+  of_credits (row ∷ rows) h = told row.employer refl (of_credits rows h.1)
+    where
+      told : (o : Option ℕ) → row.employer ≡ o → AllByRecursion Q (credits_of_lines rows) → AllByRecursion Q (cons_option (credit_of_line row o) (credits_of_lines rows))
+      told None is rest = rest
+      told (Some e) is rest = (credited row e is h.0 _ refl, rest)
+
+-- what holds of each line that was seen holds of each that stands
+pub of_standing : (P : BankRow → Type 0) (xs : List Entry) → AllByRecursion P (lines_seen xs) → AllByRecursion P (lines_standing xs)
+of_standing P xs h = subst (AllByRecursion P) (sym (standing_seen xs)) h
+
+-- each credit's day has come
+pub credits-come : (rates : List Rate) (xs : List Entry) → AreJudged rates xs → AllByRecursion (λ row. IsBy (ledger_day xs) row.day) (credits_standing xs)
+credits-come rates xs h =
+    AllByRecursion-in_key_order credit_key (λ row. IsBy (ledger_day xs) row.day) (credits_of_lines (lines_standing xs))
+    (of_credits (λ row. IsBy (ledger_day xs) row.line.value) (λ row. IsBy (ledger_day xs) row.day)
+    (λ row e is by credit made. subst (λ (o : Option CreditRow). DayBy o) made by) (lines_standing xs)
+    (of_standing (λ row. IsBy (ledger_day xs) row.line.value) xs (seen-come rates xs h)))
+  where
+    DayBy : Option CreditRow → Type 0
+    DayBy None = ⊥
+    DayBy (Some credit) = IsBy (ledger_day xs) credit.day

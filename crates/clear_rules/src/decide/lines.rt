@@ -1,0 +1,111 @@
+//! What is asked of a report's month and lines, be it the first or a correction, and what is owed
+//! for it.
+ghost use Rattle.std.specs.Prelude.{◌≡◌, ◌≤◌, All, IfOk, OnOk, false, length};
+ghost use Rattle.clear_book.specs.Accounts.{base_of, contribution_of_lines};
+ghost use Rattle.clear_book.specs.Checks.{first_of};
+ghost use Rattle.clear_book.specs.Limits.{most_base, most_gross, most_lines};
+ghost use Rattle.clear_book.specs.Own.Lines.{has_large_gross, twice_rule, worker_twice};
+ghost use Rattle.clear_rules.specs.Decisions.{Obeys, Refuses};
+ghost use Rattle.clear_rules.specs.Views.Report.{month_rules, size_rules};
+
+use clear_book::limits::{MAX_GROSS, MAX_LINES};
+use clear_book::rules::{Limit, Rule};
+use clear_book::texts::WageLine;
+use clear_money::days::Day;
+use clear_money::months::Month;
+use clear_money::numbers::WorkerNo;
+use clear_money::rates::{RateRow, contribution};
+use std::alloc::{AllocError, Global};
+use std::collections::BTreeSet;
+
+/// The contribution in cents for lines within the limits at a rate row, and 0 without one.
+pub fn charge(row: Option<RateRow>, lines: &[WageLine]) -> u64
+    requires few { length lines.now ≤ most_lines }
+    requires small { All (λ line. line.gross ≤ most_gross) lines.now }
+    ensures value { result ≡ contribution_of_lines row lines.now }
+    ensures bound { result ≤ most_base }
+{
+    let base = base(lines);
+    match row {
+        Some(row) => contribution(base, row.contribution_rate()),
+        None => 0,
+    }
+}
+
+// The sum of the gross amounts.
+fn base(lines: &[WageLine]) -> u64
+    requires few { length lines.now ≤ most_lines }
+    requires small { All (λ line. line.gross ≤ most_gross) lines.now }
+    ensures value { result ≡ base_of lines.now }
+    ensures bound { result ≤ most_base }
+{
+    let mut total = 0;
+    for line in lines {
+        total += line.gross;
+    }
+    total
+}
+
+/// The rules on a report's month, for an employer that is a member from `start` on:
+/// `UnknownEmployer`, `MonthOutside`, `MonthAhead`, in this order.
+pub(super) fn check_month(day: Day, month: Month, start: Option<Month>) -> Result<(), Rule>
+    ensures { Obeys result (first_of (month_rules start day month)) }
+{
+    let Some(start) = start else {
+        return Err(Rule::UnknownEmployer);
+    };
+    if month < start {
+        return Err(Rule::MonthOutside);
+    }
+    if day.month_number() < month.number() {
+        return Err(Rule::MonthAhead);
+    }
+    Ok(())
+}
+
+/// `WorkerTwice` where a worker stands in two lines, or `Memory`. It costs n log n steps for n
+/// lines.
+pub(super) fn check_workers(alloc: Global, lines: &[WageLine]) -> Result<(), Rule>
+    ensures { Refuses result (twice_rule (worker_twice lines.now)) }
+{
+    match find_worker_twice(alloc, lines) {
+        Ok(Some(worker)) => Err(Rule::WorkerTwice(worker)),
+        Ok(None) => Ok(()),
+        Err(_) => Err(Rule::Memory),
+    }
+}
+
+/// `OverLimit` of 500 lines, `OverLimit` of 10,000,000 cents gross, in this order.
+pub(super) fn check_sizes(lines: &[WageLine]) -> Result<(), Rule>
+    ensures rule { Obeys result (first_of (size_rules lines.now)) }
+    ensures few { OnOk result (length lines.now ≤ most_lines) }
+    ensures small { OnOk result (All (λ line. line.gross ≤ most_gross) lines.now) }
+{
+    if lines.len() > MAX_LINES {
+        return Err(Rule::OverLimit(Limit::Lines));
+    }
+    if has_large_gross(lines) {
+        return Err(Rule::OverLimit(Limit::Gross));
+    }
+    Ok(())
+}
+
+// The worker of the first line whose worker stands in an earlier line.
+fn find_worker_twice(alloc: Global, lines: &[WageLine]) -> Result<Option<WorkerNo>, AllocError>
+    ensures { IfOk result (λ worker. worker ≡ worker_twice lines.now) }
+{
+    let mut seen = BTreeSet::new(alloc);
+    for line in lines {
+        if !seen.insert(line.worker.number())? {
+            return Ok(Some(line.worker));
+        }
+    }
+    Ok(None)
+}
+
+fn has_large_gross(lines: &[WageLine]) -> bool
+    ensures test { result ≡ has_large_gross lines.now }
+    ensures small { result ≡ false → All (λ line. line.gross ≤ most_gross) lines.now }
+{
+    lines.iter().any(|line| line.gross > MAX_GROSS)
+}
