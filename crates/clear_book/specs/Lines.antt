@@ -52,14 +52,14 @@ lines_of_rows rows = map (λ row. row.line) rows
 
 -- ---- the bank lines of a book
 
--- how many serials were given, where these lines were seen: one for each
-abbrev pub serials_of : List BankRow → ℕ
-serials_of seen = length seen
+-- how many serials a book has given, where these lines were seen: one for each
+abbrev pub serials_of : List Entry → List BankRow → ℕ
+serials_of xs seen = length seen
 
 -- the rows that a file brings to a book, where these were seen before it
 abbrev pub rows_brought : List Entry → List BankRow → List ℕ → List BankRow
 rows_brought xs seen file =
-    rows_from (λ e. is_some (member_of xs e)) (serials_of seen)
+    rows_from (λ e. is_some (member_of xs e)) (serials_of xs seen)
     (new_lines (lines_of_rows seen) (lines_in file))
 
 -- the rows that a command brings to a book
@@ -75,7 +75,7 @@ lines_seen (x ∷ xs) = lines_seen xs ++ rows_by xs (lines_seen xs) x.command
 
 -- how many serials a book has given
 abbrev pub serial_count : List Entry → ℕ
-serial_count xs = serials_of (lines_seen xs)
+serial_count xs = serials_of xs (lines_seen xs)
 
 -- the firm of a line that was seen: the one that was found for it when it came in
 abbrev pub firm_of_line : List Entry → BankRow → Option ℕ

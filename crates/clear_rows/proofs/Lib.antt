@@ -1,0 +1,9 @@
+pub mod Edits
+pub mod Held
+pub mod Inside
+pub mod KeepsKeys
+pub mod Queries
+pub mod Refused
+pub mod Reopened
+pub mod RowsSoFar
+pub mod Statements

@@ -1,0 +1,5 @@
+pub mod Edited
+pub mod Kept
+pub mod Plain
+pub mod Refused
+pub mod Stands

@@ -1,0 +1,184 @@
+-- The first rows of a store: the row of `meta`, and the opening rates.
+use Rattle.std.proofs.Common.{◌≡◌, ℕ, ℤ, pos, zero, suc, ◌+◌, ◌≤◌, ◌<◌, ◌<ℤ◌, List, [], ◌∷◌, Some, take, slice_get, get_or, refl, sym, ap, subst, ◌∙◌, codes, arith, length}
+use Rattle.std.specs.List.{AllByRecursion}
+use Rattle.std.proofs.lemmas.Int.{ints}
+use Rattle.std.proofs.lemmas.List.Sorted.{IsPermutation-refl}
+use Rattle.std.proofs.lemmas.Option.{slice_get-get_or}
+use Rattle.sqlite.specs.Cast.{cast_row}
+use Rattle.sqlite.specs.Command.TheVariants.{Insert}
+use Rattle.sqlite.specs.Listing.{understood}
+use Rattle.sqlite.specs.Order.{Row}
+use Rattle.sqlite.specs.Source.TheVariants.{Values}
+use Rattle.sqlite.specs.State.{State}
+use Rattle.sqlite.specs.Term.{Term, lit, col}
+use Rattle.sqlite.specs.declared.types.Value.TheVariants.{Int, Null}
+use Rattle.sqlite.proofs.Callers.{IsPlain, command_of}
+use Rattle.sqlite_tied.specs.Compute.{everything}
+use Rattle.sqlite_keyed.specs.Keyed.{IsKeyedBy, insert_by}
+use Rattle.sqlite_keyed.proofs.KeyedLemmas.{IsKeyedBy-insert_by, Less-from_lt}
+use Rattle.clear_money.specs.Rates.{Rate, IsRate, IsRising, AllAfter}
+use Rattle.clear_book.specs.Accounts.{credit_key}
+use Rattle.clear_book.specs.Tables.{Tables, Stands, report_key, wage_key, bank_key}
+use Rattle.clear_rows.specs.Kept.{IsNumbered}
+use Rattle.clear_rows.proofs.Edits.{inserted_is}
+use Rattle.clear_rows.proofs.Statements.{inserted}
+use Rattle.clear_schema.specs.First.{first_tables}
+use Rattle.clear_schema.specs.Held.{HasTables, HasKeyed, this_schema, reminder_key, request_key}
+use Rattle.clear_schema.specs.Making.{IsMade, rate_given, rate_key}
+use Rattle.clear_schema.specs.Runs.{IsDone}
+use Rattle.clear_schema.specs.Schema.{store_schema, meta_table, rates_table}
+use Rattle.clear_schema.specs.Values.{Counts, counts_of, number, month_number}
+use Rattle.clear_schema.specs.Values as stored
+use Rattle.clear_schema.proofs.Changes.{Others, rates_changed}
+use Rattle.clear_schema.proofs.ValueLemmas.{cast_int, cast_null}
+
+-- ---- the row of `meta`
+
+-- the statement that adds it
+abbrev meta_text : List ℕ
+meta_text = codes "INSERT INTO meta (one, schema, day, entries, serial, claims, lists, runs) VALUES (1, 0, NULL, 0, 0, 0, 0, 0)"
+
+-- the number 0 in a statement
+abbrev nothing : Term
+nothing = lit (Int (pos 0))
+
+-- its values, each for a column
+abbrev meta_terms : List Term
+meta_terms = lit (Int (pos 1)) ∷ lit Null ∷ nothing ∷ lit Null ∷ nothing ∷ nothing ∷ nothing ∷ nothing ∷ nothing ∷ []
+
+-- what it means under the schema
+meta_is : command_of (understood store_schema meta_text) ≡ Insert 0 (Values meta_terms 9)
+unfolding understood everything
+meta_is = refl
+
+meta_plain : IsPlain (understood store_schema meta_text)
+unfolding understood everything
+meta_plain = (refl, refl)
+
+-- the counts of an office without requests
+abbrev no_counts : Counts
+no_counts = counts_of (first_tables [])
+
+-- how counts are stored by this program
+abbrev meta_row : Counts → Row
+meta_row = stored.meta_values this_schema
+
+-- the columns take the values as they are
+meta_stored : cast_row meta_table (meta_row no_counts) ≡ meta_row no_counts
+meta_stored = rw (cast_int (pos 1), cast_null, cast_int (pos 0))
+
+-- a keyed table without rows
+none_held : {X : Type 0} (key : X → List ℕ) (values : ℤ × X → Row) (tree : List Row) → tree ≡ [] → HasKeyed key values [] tree
+none_held key values tree none = record { numbered = []; stored = record { is = none; keyed = tt }; same = IsPermutation-refl []; rises = tt }
+
+-- the row in empty tables makes those of an office without rates
+pub meta_put : (old new : State) → IsMade store_schema old.now → IsDone meta_text [] old new → HasTables (first_tables []) new.now
+meta_put old new made ran =
+    let it = inserted store_schema 0 meta_table refl (λ _ _. refl) meta_text [] old new made.schema meta_plain ran.0 ran.1 meta_terms 9 refl meta_is in
+    let none : IsNumbered (λ (c : Counts). pos 1) meta_row [] (old.now.trees 0) = record { is = made.empty.0; keyed = tt } in
+    let rows = inserted_is (λ (c : Counts). pos 1) meta_row (λ _. refl) old.now.trees meta_table [] none (meta_row no_counts) no_counts meta_stored in
+    let same : Others 0 old.now.trees new.now.trees = it.applied.tables in record {
+      schema = it.schema_is;
+      meta = record { is = it.applied.rows ∙ rows; keyed = (tt, tt) };
+      rates = record { is = same.1.0 (λ e. cc) ∙ made.empty.1.0; keyed = tt };
+      employers = record { is = same.1.1.0 (λ e. cc) ∙ made.empty.1.1.0; keyed = tt };
+      reports = none_held report_key stored.report_values _ (same.1.1.1.0 (λ e. cc) ∙ made.empty.1.1.1.0);
+      wages = none_held wage_key stored.wage_values _ (same.1.1.1.1.0 (λ e. cc) ∙ made.empty.1.1.1.1.0);
+      bank = none_held bank_key stored.bank_values _ (same.1.1.1.1.1.0 (λ e. cc) ∙ made.empty.1.1.1.1.1.0);
+      credits = none_held credit_key stored.credit_values _ (same.1.1.1.1.1.1.0 (λ e. cc) ∙ made.empty.1.1.1.1.1.1.0);
+      claims = record { is = same.1.1.1.1.1.1.1.0 (λ e. cc) ∙ made.empty.1.1.1.1.1.1.1.0; keyed = tt };
+      lists = record { is = same.1.1.1.1.1.1.1.1.0 (λ e. cc) ∙ made.empty.1.1.1.1.1.1.1.1.0; keyed = tt };
+      runs = record { is = same.1.1.1.1.1.1.1.1.1.0 (λ e. cc) ∙ made.empty.1.1.1.1.1.1.1.1.1.0; keyed = tt };
+      reminders = none_held reminder_key stored.reminder_values _ (same.1.1.1.1.1.1.1.1.1.1.0 (λ e. cc) ∙ made.empty.1.1.1.1.1.1.1.1.1.1.0);
+      requests = none_held request_key stored.request_values _ (same.1.1.1.1.1.1.1.1.1.1.1.0 (λ e. cc) ∙ made.empty.1.1.1.1.1.1.1.1.1.1.1.0);
+      sound = it.sound;
+    }
+
+-- ---- a rate
+
+-- the statement that adds one
+abbrev rate_text : List ℕ
+rate_text = codes "INSERT INTO rates (first, contribution, report_day, due_day, interest, entitlement) VALUES (?1, ?2, ?3, ?4, ?5, ?6)"
+
+-- its values, each for a column
+abbrev rate_terms : List Term
+rate_terms = col 0 0 ∷ lit Null ∷ col 0 1 ∷ col 0 2 ∷ col 0 3 ∷ col 0 4 ∷ col 0 5 ∷ []
+
+-- what it means under the schema
+rate_is : command_of (understood store_schema rate_text) ≡ Insert 1 (Values rate_terms 7)
+unfolding understood everything
+rate_is = refl
+
+rate_plain : IsPlain (understood store_schema rate_text)
+unfolding understood everything
+rate_plain = (refl, refl)
+
+-- the columns take the values as they are
+rate_stored : (r : Rate) → cast_row rates_table (stored.rate_values r) ≡ stored.rate_values r
+rate_stored r = rw (cast_int (pos (month_number r.first)), cast_null, cast_int (pos r.contribution_rate), cast_int (pos r.report_day), cast_int (pos r.due_day), cast_int (pos r.interest_rate), cast_int (pos r.entitlement_rate))
+
+-- the row is put at its month's place
+pub rate_put : (t : Tables) (old new : State) (r : Rate) → HasTables t old.now → IsDone rate_text (rate_given r) old new → HasTables (record t { rates = insert_by rate_key t.rates r }) new.now
+rate_put t old new r has ran =
+    let it = inserted store_schema 1 rates_table refl (λ _ _. refl) rate_text (rate_given r) old new has.schema rate_plain ran.0 ran.1 rate_terms 7 refl rate_is in
+    let rows = inserted_is rate_key stored.rate_values (λ _. refl) old.now.trees rates_table t.rates has.rates (stored.rate_values r) r (rate_stored r) in
+    rates_changed t old.now new.now has it.schema_is it.sound (insert_by rate_key t.rates r) it.applied.tables (record { is = it.applied.rows ∙ rows; keyed = IsKeyedBy-insert_by rate_key t.rates r has.rates.keyed })
+
+-- ---- rates in their order
+
+-- months in their order are stored in it
+later : (f g : ℕ) → 24000 ≤ f → f < g → pos (month_number f) <ℤ pos (month_number g)
+later f g from less = let apart : month_number f < month_number g = omega (arith, from, less) in grind (arith, ints, apart)
+
+-- and so is a month before a list of others
+all_later : (f : ℕ) (rs : List Rate) → 24000 ≤ f → AllAfter f rs → AllByRecursion (λ r. pos (month_number f) <ℤ rate_key r) rs
+all_later f [] from after = tt
+all_later f (r ∷ rs) from after = (later f r.first from after.0, all_later f rs from after.1)
+
+-- rising rates rise by their stored keys
+pub keyed_rates : (rs : List Rate) → IsRising rs → AllByRecursion IsRate rs → IsKeyedBy rate_key rs
+keyed_rates [] rising ranges = tt
+keyed_rates (r ∷ rs) rising ranges = (all_later r.first rs ranges.0.first.0 rising.0, keyed_rates rs rising.1 ranges.1)
+
+-- a property of each is one of that at a place
+at_place : (P : Rate → Type 0) (rs : List Rate) (k : ℕ) (r : Rate) → slice_get rs k ≡ Some r → AllByRecursion P rs → P r
+at_place P [] k r at all = absurd (cc)
+at_place P (x ∷ xs) zero r at all = let same : x ≡ r = cc in subst P same all.0
+at_place P (x ∷ xs) (suc k) r at all = at_place P xs k r at all.1
+
+-- the next of rising rates comes last
+next_at : (rs : List Rate) (k : ℕ) (r : Rate) → IsKeyedBy rate_key rs → slice_get rs k ≡ Some r → insert_by rate_key (take k rs) r ≡ take (suc k) rs
+next_at [] k r keyed at = absurd (cc)
+next_at (x ∷ xs) zero r keyed at = let same : x ≡ r = cc in ap (λ y. y ∷ []) (sym same)
+next_at (x ∷ xs) (suc k) r keyed at =
+    let less = Less-from_lt (rate_key x) (rate_key r) (at_place (λ y. rate_key x <ℤ rate_key y) xs k r at keyed.0) in
+    rw less (ap (λ l. x ∷ l) (next_at xs k r keyed.1 at))
+
+-- the same, as a loop over the rates has it
+pub next_rate : (rs : List Rate) (k : ℕ) (r : Rate) → IsKeyedBy rate_key rs → k < length rs → r ≡ get_or rs k r → insert_by rate_key (take k rs) r ≡ take (k + 1) rs
+next_rate rs k r keyed within is =
+    let more : k + 1 ≡ suc k = omega arith in
+    subst (λ n. insert_by rate_key (take k rs) r ≡ take n rs) (sym more) (next_at rs k r keyed (slice_get-get_or rs k r within ∙ ap (λ x. Some x) (sym is)))
+
+-- ---- the book
+
+-- the first tables are those of the book without entries
+pub first_stands : (rates : List Rate) → Stands (record { opening = rates; entries = [] }) (first_tables rates)
+first_stands rates = record {
+  rates = refl;
+  day = refl;
+  entries = refl;
+  employers = λ e. refl;
+  employer_rows = refl;
+  employers_in_order = tt;
+  reports = λ e m. refl;
+  reports_in_order = tt;
+  wages = λ e m w. refl;
+  wages_in_order = tt;
+  bank = λ reference. refl;
+  bank_in_order = tt;
+  credits = λ k. refl;
+  credits_in_order = tt;
+  serial = refl;
+  unfilled = (refl, refl, refl, refl, refl, refl, refl, refl);
+}

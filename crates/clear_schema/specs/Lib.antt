@@ -1,0 +1,9 @@
+pub mod Faults
+pub mod First
+pub mod Held
+pub mod Lending
+pub mod Making
+pub mod Opening
+pub mod Runs
+pub mod Schema
+pub mod Values

@@ -1,0 +1,91 @@
+//! Work inside one transaction: all of it is committed, or none.
+ghost use Rattle.std.specs.Prelude.{◌≡◌, false, IsTrue, IfOk, IfErr, OnOk, OnErr};
+ghost use Rattle.sqlite.specs.Effect.{Database};
+ghost use Rattle.sqlite.specs.Held.{state};
+ghost use Rattle.sqlite.specs.State.{HasCleanDisk, KeepsCommit, Survives};
+ghost use Rattle.sqlite.specs.Tree.{Trees};
+ghost use Rattle.clear_rows.specs.Stands.{Stands};
+ghost use Rattle.clear_book.specs.Tables.{Tables};
+ghost use Rattle.clear_schema.specs.Held.{HasTables, StandsFor};
+
+use crate::fault::{Fault, fault_of};
+use sqlite::{Alter, Connection, Transaction};
+
+/// Why a body ends with nothing done.
+#[derive(Debug, Drop)]
+pub enum Stop<R> {
+    /// A rule refuses it.
+    Refused(R),
+    /// The database failed.
+    Fault(Fault),
+}
+
+/// What is done inside one transaction.
+pub trait Body {
+    /// What it answers.
+    type Out: Drop;
+
+    /// Why a rule refuses it.
+    type Refusal: Drop;
+
+    /// What it makes of the tables, and what it then answers.
+    ghost does: { Self → Tables → Tables → Self.Out → Type 0 };
+
+    /// Which tables it refuses, and why.
+    ghost refuses: { Self → Tables → Self.Refusal → Type 0 };
+
+    /// Does it, and commits nothing.
+    fn run<S: Alter>(self, tx: &mut Transaction<'_, S>) -> Result<Self::Out, Stop<Self::Refusal>>
+        ensures same_reference { tx.new.conn.ghost_name ≡ tx.old.conn.ghost_name }
+        ensures did { HasCleanDisk (state S.Store tx.new.conn.now)
+            → (t : Tables) → HasTables t (state S.Store tx.old.conn.now).now
+            → IfOk result (λ out. (u : Tables) × does self t u out
+            × HasTables u (state S.Store tx.new.conn.now).now) }
+        ensures refused { HasCleanDisk (state S.Store tx.new.conn.now)
+            → (t : Tables) → HasTables t (state S.Store tx.old.conn.now).now
+            → IfErr result (λ stop. (why : _) → stop ≡ Stop.Refused why → refuses self t why) }
+        ensures goes_on { HasCleanDisk (state S.Store tx.new.conn.now)
+            → IsTrue tx.old.conn.now.in_transaction
+            → OnOk result (IsTrue tx.new.conn.now.in_transaction) }
+        ensures kept { HasCleanDisk (state S.Store tx.new.conn.now)
+            → (t : Tables) → HasTables t (state S.Store tx.old.conn.now).now
+            → KeepsCommit (state S.Store tx.old.conn.now) (state S.Store tx.new.conn.now) }
+        ensures survives { Survives (state S.Store tx.old.conn.now)
+            (state S.Store tx.new.conn.now) (λ _. ⊥) };
+}
+
+/// Runs it in a transaction, and answers once that is committed.
+pub fn within<S: Alter, B: Body>(
+    conn: &mut Connection<S>,
+    body: B,
+) -> Result<B::Out, Stop<B::Refusal>>
+    requires { conn.old.in_transaction ≡ false }
+    ensures mode { conn.new.in_transaction ≡ false }
+    ensures done { HasCleanDisk (state S.Store conn.new)
+        → (t : Tables) → HasTables t (state S.Store conn.old).now
+        → IfOk result (λ out. (u : Tables) × B.does body t u out
+        × HasTables u (state S.Store conn.new).now × HasTables u (state S.Store conn.new).committed
+        × ((trees : Trees) → (state S.Store conn.new).may_leave trees → StandsFor u trees)) }
+    ensures refused { HasCleanDisk (state S.Store conn.new)
+        → (t : Tables) → HasTables t (state S.Store conn.old).now
+        → IfErr result (λ stop. (why : _) → stop ≡ Stop.Refused why → B.refuses body t why
+        × Survives (state S.Store conn.old) (state S.Store conn.new) (λ _. ⊥)) }
+    ensures stays { HasCleanDisk (state S.Store conn.new)
+        → (t : Tables) → HasTables t (state S.Store conn.old).now
+        → IsTrue (state S.Store conn.new).is_open
+        → OnErr result (((state S.Store conn.new).now ≡ (state S.Store conn.old).committed)
+        × ((state S.Store conn.new).committed ≡ (state S.Store conn.old).committed)) }
+    ensures crash { (t : Tables) → HasTables t (state S.Store conn.old).now
+        → Survives (state S.Store conn.old) (state S.Store conn.new) (Stands (λ (db : Database).
+        (u : Tables) × (out : B.Out) × B.does body t u out × HasTables u db)) }
+{
+    let mut tx = conn.transaction();
+    let out = match body.run(&mut tx) {
+        Ok(out) => out,
+        Err(stop) => return Err(stop),
+    };
+    match tx.commit() {
+        Ok(()) => Ok(out),
+        Err(error) => Err(Stop::Fault(fault_of(error))),
+    }
+}

@@ -1,0 +1,165 @@
+//! Making the tables of a store.
+ghost use Rattle.std.specs.Prelude.{◌≡◌, IsTrue, OnOk};
+ghost use Rattle.sqlite.specs.Effect.{IsDatabase};
+ghost use Rattle.sqlite.specs.Held.{state};
+ghost use Rattle.sqlite.specs.State.{HasCleanDisk, KeepsCommit, Survives};
+ghost use Rattle.clear_schema.specs.Making.{IsMade, made_first, made_second};
+ghost use Rattle.clear_schema.specs.Schema.{no_schema, store_schema};
+
+use crate::fault::Fault;
+use crate::statement::put;
+use sqlite::{Alter, Transaction};
+
+/// Makes all tables in an empty database.
+pub fn make_all<S: Alter>(tx: &mut Transaction<'_, S>) -> Result<(), Fault>
+    ensures same_reference { tx.new.conn.ghost_name ≡ tx.old.conn.ghost_name }
+    ensures made { HasCleanDisk (state S.Store tx.new.conn.now)
+        → (state S.Store tx.old.conn.now).now.schema ≡ no_schema
+        → OnOk result (IsMade store_schema (state S.Store tx.new.conn.now).now) }
+    ensures sound { HasCleanDisk (state S.Store tx.new.conn.now)
+        → (state S.Store tx.old.conn.now).now.schema ≡ no_schema
+        → OnOk result (IsDatabase (state S.Store tx.new.conn.now).now) }
+    ensures kept { HasCleanDisk (state S.Store tx.new.conn.now)
+        → KeepsCommit (state S.Store tx.old.conn.now) (state S.Store tx.new.conn.now) }
+    ensures goes_on { HasCleanDisk (state S.Store tx.new.conn.now)
+        → OnOk result (IsTrue tx.new.conn.now.in_transaction) }
+    ensures survives { Survives (state S.Store tx.old.conn.now) (state S.Store tx.new.conn.now)
+        (λ _. ⊥) }
+{
+    make_first(tx)?;
+    make_second(tx)?;
+    make_third(tx)?;
+    Ok(())
+}
+
+// Makes the first four tables.
+fn make_first<S: Alter>(tx: &mut Transaction<'_, S>) -> Result<(), Fault>
+    ensures same_reference { tx.new.conn.ghost_name ≡ tx.old.conn.ghost_name }
+    ensures made { HasCleanDisk (state S.Store tx.new.conn.now)
+        → IsMade no_schema (state S.Store tx.old.conn.now).now
+        → OnOk result (IsMade made_first (state S.Store tx.new.conn.now).now) }
+    ensures kept { HasCleanDisk (state S.Store tx.new.conn.now)
+        → KeepsCommit (state S.Store tx.old.conn.now) (state S.Store tx.new.conn.now) }
+    ensures goes_on { HasCleanDisk (state S.Store tx.new.conn.now)
+        → OnOk result (IsTrue tx.new.conn.now.in_transaction) }
+    ensures survives { Survives (state S.Store tx.old.conn.now) (state S.Store tx.new.conn.now)
+        (λ _. ⊥) }
+{
+    put(
+        tx,
+        "CREATE TABLE meta (one INTEGER PRIMARY KEY, schema INTEGER NOT NULL, day INTEGER, \
+         entries INTEGER NOT NULL, serial INTEGER NOT NULL, claims INTEGER NOT NULL, \
+         lists INTEGER NOT NULL, runs INTEGER NOT NULL) STRICT",
+        &[],
+    )?;
+    put(
+        tx,
+        "CREATE TABLE rates (first INTEGER PRIMARY KEY, contribution INTEGER NOT NULL, \
+         report_day INTEGER NOT NULL, due_day INTEGER NOT NULL, interest INTEGER NOT NULL, \
+         entitlement INTEGER NOT NULL) STRICT",
+        &[],
+    )?;
+    put(
+        tx,
+        "CREATE TABLE employers (no INTEGER PRIMARY KEY, name TEXT NOT NULL, \
+         start INTEGER NOT NULL, last INTEGER) STRICT",
+        &[],
+    )?;
+    put(
+        tx,
+        "CREATE TABLE reports (employer INTEGER NOT NULL, month INTEGER NOT NULL, \
+         version INTEGER NOT NULL, PRIMARY KEY (employer, month)) STRICT",
+        &[],
+    )?;
+    Ok(())
+}
+
+// Makes the next four.
+fn make_second<S: Alter>(tx: &mut Transaction<'_, S>) -> Result<(), Fault>
+    ensures same_reference { tx.new.conn.ghost_name ≡ tx.old.conn.ghost_name }
+    ensures made { HasCleanDisk (state S.Store tx.new.conn.now)
+        → IsMade made_first (state S.Store tx.old.conn.now).now
+        → OnOk result (IsMade made_second (state S.Store tx.new.conn.now).now) }
+    ensures kept { HasCleanDisk (state S.Store tx.new.conn.now)
+        → KeepsCommit (state S.Store tx.old.conn.now) (state S.Store tx.new.conn.now) }
+    ensures goes_on { HasCleanDisk (state S.Store tx.new.conn.now)
+        → OnOk result (IsTrue tx.new.conn.now.in_transaction) }
+    ensures survives { Survives (state S.Store tx.old.conn.now) (state S.Store tx.new.conn.now)
+        (λ _. ⊥) }
+{
+    put(
+        tx,
+        "CREATE TABLE wages (employer INTEGER NOT NULL, month INTEGER NOT NULL, \
+         worker INTEGER NOT NULL, gross INTEGER NOT NULL, \
+         PRIMARY KEY (employer, month, worker)) STRICT",
+        &[],
+    )?;
+    put(
+        tx,
+        "CREATE TABLE bank (reference TEXT NOT NULL PRIMARY KEY, serial INTEGER NOT NULL UNIQUE, \
+         value INTEGER NOT NULL, named INTEGER, employer INTEGER, cents INTEGER NOT NULL, \
+         purpose TEXT NOT NULL, note TEXT NOT NULL) STRICT",
+        &[],
+    )?;
+    put(
+        tx,
+        "CREATE TABLE credits (employer INTEGER NOT NULL, purpose TEXT NOT NULL, \
+         day INTEGER NOT NULL, serial INTEGER NOT NULL, cents INTEGER NOT NULL, \
+         ref TEXT NOT NULL, PRIMARY KEY (employer, purpose, day, serial)) STRICT",
+        &[],
+    )?;
+    put(
+        tx,
+        "CREATE TABLE claims (no INTEGER PRIMARY KEY, employer INTEGER NOT NULL, \
+         worker INTEGER NOT NULL, cents INTEGER NOT NULL, state INTEGER NOT NULL, \
+         made INTEGER NOT NULL, released INTEGER, to_contributions INTEGER NOT NULL, \
+         to_interest INTEGER NOT NULL, paid INTEGER NOT NULL, list INTEGER) STRICT",
+        &[],
+    )?;
+    Ok(())
+}
+
+// Makes the last four.
+fn make_third<S: Alter>(tx: &mut Transaction<'_, S>) -> Result<(), Fault>
+    ensures same_reference { tx.new.conn.ghost_name ≡ tx.old.conn.ghost_name }
+    ensures made { HasCleanDisk (state S.Store tx.new.conn.now)
+        → IsMade made_second (state S.Store tx.old.conn.now).now
+        → OnOk result (IsMade store_schema (state S.Store tx.new.conn.now).now) }
+    ensures sound { HasCleanDisk (state S.Store tx.new.conn.now)
+        → IsMade made_second (state S.Store tx.old.conn.now).now
+        → OnOk result (IsDatabase (state S.Store tx.new.conn.now).now) }
+    ensures kept { HasCleanDisk (state S.Store tx.new.conn.now)
+        → KeepsCommit (state S.Store tx.old.conn.now) (state S.Store tx.new.conn.now) }
+    ensures goes_on { HasCleanDisk (state S.Store tx.new.conn.now)
+        → OnOk result (IsTrue tx.new.conn.now.in_transaction) }
+    ensures survives { Survives (state S.Store tx.old.conn.now) (state S.Store tx.new.conn.now)
+        (λ _. ⊥) }
+{
+    put(
+        tx,
+        "CREATE TABLE lists (no INTEGER PRIMARY KEY, day INTEGER NOT NULL, \
+         items INTEGER NOT NULL, total INTEGER NOT NULL) STRICT",
+        &[],
+    )?;
+    put(
+        tx,
+        "CREATE TABLE runs (no INTEGER PRIMARY KEY, day INTEGER NOT NULL, \
+         firms INTEGER NOT NULL) STRICT",
+        &[],
+    )?;
+    put(
+        tx,
+        "CREATE TABLE reminders (run INTEGER NOT NULL, employer INTEGER NOT NULL, \
+         level INTEGER NOT NULL, missing INTEGER NOT NULL, first INTEGER, \
+         arrears INTEGER NOT NULL, interest INTEGER NOT NULL, PRIMARY KEY (run, employer)) STRICT",
+        &[],
+    )?;
+    put(
+        tx,
+        "CREATE TABLE requests (caller INTEGER NOT NULL, number INTEGER NOT NULL, \
+         day INTEGER NOT NULL, command BLOB NOT NULL, kind INTEGER NOT NULL, a INTEGER NOT NULL, \
+         b INTEGER NOT NULL, c INTEGER NOT NULL, PRIMARY KEY (caller, number)) STRICT",
+        &[],
+    )?;
+    Ok(())
+}

@@ -1,0 +1,169 @@
+//! A store: a connection on a database that has the office's tables.
+ghost use Rattle.std.specs.Borrow.{sem};
+ghost use Rattle.std.specs.Prelude.{◌≡◌, ◌≢◌, false, ℕ, [], IsTrue, IfOk, IfErr, OnOk, OnErr};
+ghost use Rattle.sqlite.specs.Effect.{Database};
+ghost use Rattle.sqlite.specs.Held.{state};
+ghost use Rattle.sqlite.specs.State.{HasCleanDisk, Survives};
+ghost use Rattle.sqlite.specs.Tree.{Trees};
+ghost use Rattle.clear_rows.specs.Stands.{Stands};
+ghost use Rattle.clear_book.specs.Tables.{Tables, Stands as StandsForBook};
+ghost use Rattle.clear_schema.specs.Faults.{IsWrong};
+ghost use Rattle.clear_schema.specs.First.{first_tables};
+ghost use Rattle.clear_schema.specs.Held.{HasTables, IsStore, StandsAs, StandsFor, this_schema};
+ghost use Rattle.clear_schema.specs.Lending.{lends_connection};
+ghost use Rattle.clear_schema.specs.Schema.{no_schema};
+
+use crate::body::{Body, Stop, within};
+use crate::create::create_in;
+use crate::fault::OpenFault;
+use crate::open::open_tables;
+use clear_money::rates::RateTable;
+use sqlite::{Alter, Connection};
+
+/// The number of this program's schema.
+pub const SCHEMA: u64 = 0;
+
+/// A connection on a database that is a store.
+#[derive(Drop)]
+pub struct Store<S: Alter> {
+    pub conn: Connection<S>,
+}
+
+/// Why a database is not taken as a store, and the connection on it.
+#[derive(Drop)]
+pub struct Refusal<S: Alter> {
+    pub fault: OpenFault,
+    pub connection: Connection<S>,
+}
+
+impl<S: Alter> Store<S> {
+    /// Makes the tables of an office without requests in an empty database, with its opening rates,
+    /// in one transaction. On another database `WrongVersion` with the number in `meta`, 0 without
+    /// one. A refusal hands the connection back.
+    pub fn create(connection: Connection<S>, rates: &RateTable) -> Result<Store<S>, Refusal<S>>
+        requires { connection.in_transaction ≡ false }
+        ensures mode { IfOk result (λ store. store.conn.in_transaction ≡ false) }
+        ensures mode_left { IfErr result (λ left. left.connection.in_transaction ≡ false) }
+        ensures created { IfOk result (λ store. HasCleanDisk (state S.Store store.conn)
+            → (state S.Store connection).now.schema ≡ no_schema
+            → HasTables (first_tables rates.now) (state S.Store store.conn).now
+            × HasTables (first_tables rates.now) (state S.Store store.conn).committed
+            × ((trees : Trees) → (state S.Store store.conn).may_leave trees
+            → StandsFor (first_tables rates.now) trees)) }
+        ensures crash { (state S.Store connection).now.schema ≡ no_schema
+            → IfOk result (λ store. Survives (state S.Store connection)
+            (state S.Store store.conn) (StandsFor (first_tables rates.now))) }
+        ensures crash_left { (state S.Store connection).now.schema ≡ no_schema
+            → IfErr result (λ left. Survives (state S.Store connection)
+            (state S.Store left.connection) (StandsFor (first_tables rates.now))) }
+        ensures undone { IfErr result (λ left. HasCleanDisk (state S.Store left.connection)
+            → (state S.Store connection).now.schema ≡ no_schema
+            → IsTrue (state S.Store left.connection).is_open
+            → ((state S.Store left.connection).now ≡ (state S.Store connection).committed)
+            × ((state S.Store left.connection).committed ≡ (state S.Store connection).committed)) }
+        ensures empty { IfErr result (λ left. HasCleanDisk (state S.Store left.connection)
+            → (state S.Store connection).now.schema ≡ no_schema
+            → (told : ℕ) → left.fault ≢ OpenFault.WrongVersion told) }
+        ensures there { IfErr result (λ left. HasCleanDisk (state S.Store left.connection)
+            → (number : ℕ) (t : Tables) → IsStore number t (state S.Store connection).now
+            → (told : ℕ) → left.fault ≡ OpenFault.WrongVersion told → told ≡ number) }
+        ensures only_empty { IfOk result (λ store. HasCleanDisk (state S.Store store.conn)
+            → (number : ℕ) (t : Tables) → IsStore number t (state S.Store connection).now → ⊥) }
+        ensures book { StandsForBook (record { opening = rates.now; entries = [] })
+            (first_tables rates.now) }
+    {
+        let mut connection = connection;
+        match create_in(&mut connection, rates) {
+            Ok(()) => Ok(Store { conn: connection }),
+            Err(fault) => Err(Refusal { fault, connection }),
+        }
+    }
+
+    /// Finds the store in a database that it was made in. A refusal hands the connection back.
+    pub fn open(connection: Connection<S>) -> Result<Store<S>, Refusal<S>>
+        requires { connection.in_transaction ≡ false }
+        ensures mode { IfOk result (λ store. store.conn.in_transaction ≡ false) }
+        ensures mode_left { IfErr result (λ left. left.connection.in_transaction ≡ false) }
+        ensures found { IfOk result (λ store. HasCleanDisk (state S.Store store.conn)
+            → (t : Tables) → StandsFor t (state S.Store connection).committed.trees
+            → IsTrue (state S.Store connection).is_open
+            → HasTables t (state S.Store store.conn).now
+            × HasTables t (state S.Store store.conn).committed) }
+        ensures right { IfOk result (λ store. HasCleanDisk (state S.Store store.conn)
+            → (number : ℕ) (t : Tables)
+            → StandsAs number t (state S.Store connection).committed.trees
+            → IsTrue (state S.Store connection).is_open → number ≡ this_schema) }
+        ensures version { IfErr result (λ left. HasCleanDisk (state S.Store left.connection)
+            → (number : ℕ) (t : Tables)
+            → StandsAs number t (state S.Store connection).committed.trees
+            → IsTrue (state S.Store connection).is_open → IsWrong this_schema number left.fault) }
+        ensures empty { IfErr result (λ left. HasCleanDisk (state S.Store left.connection)
+            → (state S.Store connection).now.schema ≡ no_schema
+            → (told : ℕ) → left.fault ≡ OpenFault.WrongVersion told → told ≡ 0) }
+        ensures not_empty { IfOk result (λ store. HasCleanDisk (state S.Store store.conn)
+            → (state S.Store connection).now.schema ≡ no_schema → ⊥) }
+        ensures clean { IfOk result (λ store. HasCleanDisk (state S.Store store.conn)
+            → HasCleanDisk (state S.Store connection)) }
+        ensures clean_left { IfErr result (λ left. HasCleanDisk (state S.Store left.connection)
+            → HasCleanDisk (state S.Store connection)) }
+        ensures survives { (number : ℕ) (t : Tables)
+            → StandsAs number t (state S.Store connection).committed.trees
+            → IsTrue (state S.Store connection).is_open → IfOk result (λ store.
+            Survives (state S.Store connection) (state S.Store store.conn) (λ _. ⊥)) }
+        ensures survives_left { (number : ℕ) (t : Tables)
+            → StandsAs number t (state S.Store connection).committed.trees
+            → IsTrue (state S.Store connection).is_open → IfErr result (λ left.
+            Survives (state S.Store connection) (state S.Store left.connection) (λ _. ⊥)) }
+    {
+        let mut connection = connection;
+        match open_tables(&mut connection) {
+            Ok(()) => Ok(Store { conn: connection }),
+            Err(fault) => Err(Refusal { fault, connection }),
+        }
+    }
+
+    /// Runs the body in a transaction, and answers once that is committed.
+    pub fn within<B: Body>(&mut self, body: B) -> Result<B::Out, Stop<B::Refusal>>
+        requires { self.old.conn.in_transaction ≡ false }
+        ensures mode { self.new.conn.in_transaction ≡ false }
+        ensures done { HasCleanDisk (state S.Store self.new.conn)
+            → (t : Tables) → HasTables t (state S.Store self.old.conn).now
+            → IfOk result (λ out. (u : Tables) × B.does body t u out
+            × HasTables u (state S.Store self.new.conn).now
+            × HasTables u (state S.Store self.new.conn).committed
+            × ((trees : Trees) → (state S.Store self.new.conn).may_leave trees
+            → StandsFor u trees)) }
+        ensures refused { HasCleanDisk (state S.Store self.new.conn)
+            → (t : Tables) → HasTables t (state S.Store self.old.conn).now
+            → IfErr result (λ stop. (why : _) → stop ≡ Stop.Refused why → B.refuses body t why
+            × Survives (state S.Store self.old.conn) (state S.Store self.new.conn) (λ _. ⊥)) }
+        ensures stays { HasCleanDisk (state S.Store self.new.conn)
+            → (t : Tables) → HasTables t (state S.Store self.old.conn).now
+            → IsTrue (state S.Store self.new.conn).is_open
+            → OnErr result (
+            ((state S.Store self.new.conn).now ≡ (state S.Store self.old.conn).committed)
+            × ((state S.Store self.new.conn).committed ≡ (state S.Store self.old.conn).committed)) }
+        ensures crash { (t : Tables) → HasTables t (state S.Store self.old.conn).now
+            → Survives (state S.Store self.old.conn) (state S.Store self.new.conn)
+            (Stands (λ (db : Database).
+            (u : Tables) × (out : B.Out) × B.does body t u out × HasTables u db)) }
+    {
+        within(&mut self.conn, body)
+    }
+
+    /// The connection, outside of a transaction.
+    pub fn connection(&mut self) -> &mut Connection<S>
+        ensures* lends { sem 𝓛 (lends_connection S.row S.Store self.entry result) }
+        ensures value { result.now ≡ self.old.conn }
+    {
+        &mut self.conn
+    }
+
+    /// The connection alone.
+    pub fn into_connection(self) -> Connection<S>
+        ensures { result ≡ self.conn }
+    {
+        let Store { conn } = self;
+        conn
+    }
+}
