@@ -1,5 +1,5 @@
 //! References and notes of bank lines.
-ghost use Rattle.std.specs.Prelude.{◌≡◌, ◌↔◌, IsTrue, IsSome, IfSome, IfOk, nat_eq};
+ghost use Rattle.std.specs.Prelude.{◌≡◌, ◌↔◌, IsTrue, IsSome, IfSome, IfOk, nat_eq, string_bytes};
 ghost use Rattle.std.specs.Cmp.{partial_equiv_from_equiv};
 ghost use Rattle.std.specs.Cmp.Lexicographic.{nat_list_eq_equiv, pointwise};
 ghost use Rattle.std.specs.List.{list_all};
@@ -60,6 +60,25 @@ impl Reference {
         Ok(Some(Reference {
             code: String::from_str(alloc, text)?,
         }))
+    }
+
+    /// None for a text that is no reference.
+    pub fn of_text(text: String) -> Option<Reference>
+        ensures some { IsSome result ↔ IsTrue (is_reference (string_bytes text)) }
+        ensures value { IfSome result (λ r. r ≡ string_bytes text) }
+    {
+        match reference_text(text.as_str().as_bytes()) {
+            Some(_) => {}
+            None => return None,
+        }
+        Some(Reference { code: text })
+    }
+
+    /// Whether the bytes are a reference.
+    pub fn is_one(bytes: &[u8]) -> bool
+        ensures { result ≡ is_reference bytes.now }
+    {
+        reference_text(bytes).is_some()
     }
 
     /// The text of the reference.
@@ -129,6 +148,18 @@ impl Note {
         Ok(Some(Note {
             text: String::from_str(alloc, text)?,
         }))
+    }
+
+    /// None for a text that is no note.
+    pub fn of_text(text: String) -> Option<Note>
+        ensures some { IsSome result ↔ IsTrue (is_note (string_bytes text)) }
+        ensures value { IfSome result (λ n. n ≡ string_bytes text) }
+    {
+        match note_text(text.as_str().as_bytes()) {
+            Some(_) => {}
+            None => return None,
+        }
+        Some(Note { text })
     }
 
     /// The text of the note.

@@ -18,6 +18,7 @@ pub mod ReferenceLemmas
 pub mod ReportTablesLemmas
 pub mod RowRangeLemmas
 pub mod SeenLemmas
+pub mod SetOffLemmas
 pub mod TablesLemmas
 pub mod VersionLemmas
 pub mod WagesLemmas

@@ -1,11 +1,12 @@
 //! Names, the wage lines of a report, and the references of credits.
 ghost use Rattle.std.specs.Prelude.{◌≡◌, ℕ, ◌↔◌, string_bytes, true, IfOk, IfSome, IsSome};
 ghost use Rattle.std.specs.List.{AllByRecursion};
-ghost use Rattle.clear_book.specs.Texts.{IsCreditReference, IsName, IsPrintable};
+ghost use Rattle.clear_book.specs.Numbers.{IsClaimNo};
+ghost use Rattle.clear_book.specs.Texts.{IsCreditReference, IsName, IsPrintable, IsSetOff};
 
-use crate::limits::MAX_NAME_BYTES;
+use crate::limits::{MAX_ENTRIES, MAX_NAME_BYTES};
 use clear_bank::texts::Reference;
-use clear_money::numbers::WorkerNo;
+use clear_money::numbers::{WorkerNo, read_number};
 use std::alloc::{AllocError, Global};
 use std::marker::Model;
 
@@ -131,6 +132,18 @@ impl Model for CreditReference {
 }
 
 impl CreditReference {
+    /// None for a text that is neither the reference of a bank line nor that of a set-off.
+    pub fn new(text: String) -> Option<CreditReference>
+        ensures some { IsSome result ↔ IsCreditReference (string_bytes text) }
+        ensures value { IfSome result (λ reference. reference ≡ string_bytes text) }
+    {
+        let bytes = text.as_str().as_bytes();
+        if !Reference::is_one(bytes) && !is_set_off(bytes) {
+            return None;
+        }
+        Some(CreditReference { text })
+    }
+
     /// The reference of a bank line.
     pub fn of_line(alloc: Global, line: &Reference) -> Result<CreditReference, AllocError>
         ensures { IfOk result (λ reference. reference ≡ line.now) }
@@ -147,4 +160,24 @@ impl CreditReference {
     {
         self.text.as_str()
     }
+}
+
+// Whether the bytes are `set-off ` and the number of a claim.
+fn is_set_off(bytes: &[u8]) -> bool
+    ensures { (result ≡ true) ↔ IsSetOff bytes.now }
+{
+    let Some(digits) = bytes.strip_prefix(b"set-off ") else {
+        return false;
+    };
+    match read_number(digits) {
+        Some(claim) => is_claim(claim),
+        None => false,
+    }
+}
+
+// Whether a claim can have this number.
+fn is_claim(number: u64) -> bool
+    ensures { (result ≡ true) ↔ IsClaimNo number }
+{
+    number >= 1 && number <= MAX_ENTRIES
 }

@@ -43,6 +43,22 @@ struct WrittenDate {
 }
 
 impl Day {
+    /// The last day number, that of 2200-12-31.
+    pub const MAX: u64 = 84_370;
+
+    /// None outside 10,957 to 84,370, 1970-01-01 being 0.
+    pub fn new(number: u64) -> Option<Day>
+        ensures some { IsSome result ↔ IsDay number }
+        ensures value { IfSome result (λ t. t ≡ number) }
+    {
+        if number < 10_957 || number > Self::MAX {
+            return None;
+        }
+        Some(Day {
+            number: number as u32,
+        })
+    }
+
     /// Reads exactly `YYYY-MM-DD`. None for any other text, for a date that the calendar lacks,
     /// and outside the range.
     pub fn read(bytes: &[u8]) -> Option<Day>

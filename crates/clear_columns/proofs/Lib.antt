@@ -1,0 +1,4 @@
+pub mod AnswerLemmas
+pub mod ColumnLemmas
+pub mod KeyLemmas
+pub mod StoredLemmas

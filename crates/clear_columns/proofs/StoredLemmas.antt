@@ -1,0 +1,68 @@
+-- What columns make of the ledger's values, and how these compare.
+use Rattle.std.proofs.Common.{◌≡◌, pos, ℕ, true, ◌==◌, Option, Some, None, codes, refl, arith, ◌∙◌, int_eq, int_cmp, nat_cmp}
+use Rattle.std.proofs.lemmas.Bool.Decides.{nat_tests}
+use Rattle.std.proofs.lemmas.Int.{ints}
+use Rattle.sqlite.specs.Cast.{cast}
+use Rattle.sqlite.specs.Collation.TheVariants.{Binary}
+use Rattle.sqlite.specs.Ops.{binary, is_true}
+use Rattle.sqlite.specs.Order.{value_cmp}
+use Rattle.sqlite.specs.Kind.TheVariants.{Integer, Text as Texts}
+use Rattle.sqlite_schema.specs.Rules.{is_of}
+use Rattle.sqlite_sql.specs.declared.ops.BinaryOp.TheVariants.{Compare}
+use Rattle.sqlite_sql.specs.declared.ops.CompareOp.TheVariants.{Eq}
+use Rattle.sqlite_value.proofs.OrderLemmas.{value_cmp-Int, value_cmp-Text}
+use Rattle.clear_bank.specs.Lines.{same_purpose}
+use Rattle.clear_bank.specs.declared.lines.Purpose.{Purpose}
+use Rattle.clear_bank.specs.declared.lines.Purpose.TheVariants.{Contribution, Interest}
+use Rattle.clear_book.specs.Accounts.{rank_of}
+use Rattle.clear_schema.proofs.ValueLemmas.{cast_null, cast_int, equal_ints, equal_texts}
+use Rattle.clear_schema.specs.Values.{number, maybe, purpose}
+
+pub cast_maybe : (o : Option ℕ) → cast Integer (maybe o) ≡ maybe o
+cast_maybe None = cast_null
+cast_maybe (Some n) = cast_int (pos n)
+
+pub cast_purpose : (p : Purpose) → cast Texts (purpose p) ≡ purpose p
+cast_purpose Contribution = refl
+cast_purpose Interest = refl
+
+pub maybe_typed : (o : Option ℕ) → is_of Integer (maybe o) ≡ true
+maybe_typed None = refl
+maybe_typed (Some n) = refl
+
+pub purpose_typed : (p : Purpose) → is_of Texts (purpose p) ≡ true
+purpose_typed Contribution = refl
+purpose_typed Interest = refl
+
+-- numbers from 0 on are equal as such
+pub same_numbers : (m n : ℕ) → int_eq (pos m) (pos n) ≡ (m == n)
+same_numbers m n = grind (arith, ints, nat_tests)
+
+-- and they are ordered as such
+pub number_order : (m n : ℕ) → int_cmp (pos m) (pos n) ≡ nat_cmp m n
+number_order m n = grind (arith, ints, nat_tests)
+
+pub equal_numbers : (m n : ℕ) → is_true (binary (Compare Eq Binary) (number m) (number n)) ≡ (m == n)
+equal_numbers m n = equal_ints (pos m) (pos n) ∙ same_numbers m n
+
+pub equal_ranks : (p q : Purpose) → is_true (binary (Compare Eq Binary) (purpose p) (purpose q)) ≡ (rank_of p == rank_of q)
+equal_ranks Contribution Contribution = equal_texts (codes "C") (codes "C")
+equal_ranks Contribution Interest = equal_texts (codes "C") (codes "I")
+equal_ranks Interest Contribution = equal_texts (codes "I") (codes "C")
+equal_ranks Interest Interest = equal_texts (codes "I") (codes "I")
+
+pub equal_purposes : (p q : Purpose) → is_true (binary (Compare Eq Binary) (purpose p) (purpose q)) ≡ same_purpose p q
+equal_purposes Contribution Contribution = equal_texts (codes "C") (codes "C")
+equal_purposes Contribution Interest = equal_texts (codes "C") (codes "I")
+equal_purposes Interest Contribution = equal_texts (codes "I") (codes "C")
+equal_purposes Interest Interest = equal_texts (codes "I") (codes "I")
+
+pub numbers_compare : (m n : ℕ) → value_cmp (number m) (number n) ≡ nat_cmp m n
+numbers_compare m n = value_cmp-Int (pos m) (pos n) ∙ number_order m n
+
+-- C comes before I
+pub purposes_compare : (p q : Purpose) → value_cmp (purpose p) (purpose q) ≡ nat_cmp (rank_of p) (rank_of q)
+purposes_compare Contribution Contribution = value_cmp-Text (codes "C") (codes "C")
+purposes_compare Contribution Interest = value_cmp-Text (codes "C") (codes "I")
+purposes_compare Interest Contribution = value_cmp-Text (codes "I") (codes "C")
+purposes_compare Interest Interest = value_cmp-Text (codes "I") (codes "I")

@@ -1,0 +1,3 @@
+pub mod BankLemmas
+pub mod CreditLemmas
+pub mod TextLemmas

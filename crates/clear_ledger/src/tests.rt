@@ -1,0 +1,111 @@
+ghost use Rattle.std.specs.Prelude.{◌≡◌, IfOk};
+
+use crate::bank::{find_line, insert_line};
+use crate::credits::{credits_of, insert_credit};
+use clear_bank::lines::{BankLine, Purpose};
+use clear_bank::texts::{Note, Reference};
+use clear_book::rows::{BankRow, CreditRow};
+use clear_book::rules::StoreCause;
+use clear_book::texts::CreditReference;
+use clear_money::days::Day;
+use clear_money::numbers::{Amount, EmployerNo};
+use clear_schema::fault::Fault;
+use clear_schema::make::make_all;
+use sqlite::{Alter, Connection, Transaction};
+use std::alloc::Global;
+use std::test::Fail;
+
+// A line of a reference, in suspense.
+fn suspense(alloc: Global, reference: &str, serial: u64) -> Result<BankRow, Fail>
+    ensures { IfOk result (λ row. row.serial ≡ serial) }
+{
+    Ok(BankRow {
+        line: BankLine {
+            reference: Reference::of_text(String::from_str(alloc, reference)?).ok_or("reference")?,
+            value: Day::new(19_800).ok_or("day")?,
+            employer: None,
+            cents: Amount::new(150_000).ok_or("cents")?,
+            purpose: Purpose::Interest,
+            note: Note::of_text(String::from_str(alloc, "January rest")?).ok_or("note")?,
+        },
+        serial,
+        employer: None,
+    })
+}
+
+// A credit of firm 1001 for contributions.
+fn credit(alloc: Global, reference: &str, day: u64, serial: u64) -> Result<CreditRow, Fail>
+    ensures { IfOk result (λ row. row.serial ≡ serial) }
+{
+    Ok(CreditRow {
+        employer: EmployerNo::new(1001).ok_or("employer")?,
+        purpose: Purpose::Contribution,
+        day: Day::new(day).ok_or("day")?,
+        serial,
+        cents: Amount::new(7).ok_or("cents")?,
+        reference: CreditReference::new(String::from_str(alloc, reference)?).ok_or("reference")?,
+    })
+}
+
+// The cause of a failure in the store.
+fn cause(outcome: Result<(), Fault>) -> Option<StoreCause> {
+    match outcome {
+        Err(Fault::Store(cause)) => Some(cause),
+        Err(Fault::Memory) => None,
+        Ok(()) => None,
+    }
+}
+
+// The serials of the credits of firm 1001 for contributions, as digits of one number.
+fn serials<S: Alter>(tx: &mut Transaction<'_, S>) -> Option<u64> {
+    let employer = EmployerNo::new(1001)?;
+    let credits = credits_of(tx, employer, Purpose::Contribution).ok()?;
+    let mut digits = 0u64;
+    for credit in &credits {
+        digits = digits.wrapping_mul(10).wrapping_add(credit.serial);
+    }
+    Some(digits)
+}
+
+// The serial of the line of a reference.
+fn serial_of<S: Alter>(tx: &mut Transaction<'_, S>, row: &BankRow) -> Option<u64> {
+    let found = find_line(tx, &row.line.reference).ok()??;
+    Some(found.serial)
+}
+
+#[test]
+fn bank_lines_stand_once(rt: HostRuntime) -> Result<(), Fail> {
+    let alloc = rt.alloc();
+    let mut conn = Connection::open_in_memory(alloc)?;
+    assert!(rt; conn.is_autocommit());
+    let first = suspense(alloc, "B1", 1)?;
+    let same_serial = suspense(alloc, "B2", 1)?;
+    if conn.is_autocommit() {
+        let mut tx = conn.transaction();
+        assert!(rt; make_all(&mut tx).is_ok());
+        assert!(rt; insert_line(&mut tx, &first).is_ok());
+        assert!(rt; cause(insert_line(&mut tx, &first)) == Some(StoreCause::Constraint));
+        assert!(rt; cause(insert_line(&mut tx, &same_serial)) == Some(StoreCause::Constraint));
+        assert!(rt; serial_of(&mut tx, &first) == Some(1));
+        assert!(rt; serial_of(&mut tx, &same_serial) == None);
+    }
+    Ok(())
+}
+
+#[test]
+fn credits_come_by_day_and_serial(rt: HostRuntime) -> Result<(), Fail> {
+    let alloc = rt.alloc();
+    let mut conn = Connection::open_in_memory(alloc)?;
+    assert!(rt; conn.is_autocommit());
+    let late = credit(alloc, "B2", 19_900, 2)?;
+    let early = credit(alloc, "set-off 50000000", 19_800, 3)?;
+    if conn.is_autocommit() {
+        let mut tx = conn.transaction();
+        assert!(rt; make_all(&mut tx).is_ok());
+        assert!(rt; insert_credit(&mut tx, &late).is_ok());
+        assert!(rt; insert_credit(&mut tx, &early).is_ok());
+        assert!(rt; serials(&mut tx) == Some(32));
+        assert!(rt; cause(insert_credit(&mut tx, &late)) == Some(StoreCause::Constraint));
+    }
+    Ok(())
+}
