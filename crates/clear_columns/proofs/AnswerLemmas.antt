@@ -1,11 +1,8 @@
 -- Answers that are read row by row.
-use Rattle.std.proofs.Common.{◌≡◌, ℕ, zero, suc, ◌<◌, ◌+◌, List, [], ◌∷◌, ◌++◌, length, map, take, get_or, refl, sym, ap, subst, ◌∙◌, arith}
+use Rattle.std.proofs.Common.{◌≡◌, ℕ, zero, suc, ◌<◌, ◌+◌, List, [], ◌∷◌, ◌++◌, length, map, take, get_or, refl, sym, ap, add-one, subst, ◌∙◌, arith}
 use Rattle.std.proofs.lemmas.List.{length-map, take_all}
 use Rattle.std.specs.List.{AllByRecursion}
 use Rattle.sqlite.specs.Order.{Row}
-
-next : (i : ℕ) → suc i ≡ i + 1
-next i = omega arith
 
 module _ {X : Type 0} (show : X → Row) where
   -- the row at a place shows one of those that are shown
@@ -21,7 +18,7 @@ module _ {X : Type 0} (show : X → Row) where
       → ((x : X) → row ≡ show x → got ≡ x) → after ≡ before ++ got ∷ [] → (xs : List X) → rows ≡ map show xs → after ≡ take (i + 1) xs
   reads_more rows i row got before after lt is so_far reads pushed xs same =
       let it = shown_at xs i row (subst (λ l. i < length l) same lt) (subst (λ l. row ≡ get_or l i row) same is) in
-      pushed ∙ ap (λ l. l ++ got ∷ []) (so_far xs same) ∙ ap (λ x. take i xs ++ x ∷ []) (reads it.0 it.1) ∙ sym it.2 ∙ ap (λ n. take n xs) (next i)
+      pushed ∙ ap (λ l. l ++ got ∷ []) (so_far xs same) ∙ ap (λ x. take i xs ++ x ∷ []) (reads it.0 it.1) ∙ sym it.2 ∙ ap (λ n. take n xs) (sym (add-one i))
 
   -- all rows are read
   pub reads_all : (rows : List Row) (i : ℕ) (got : List X) → ¬ (i < length rows) → ((xs : List X) → rows ≡ map show xs → got ≡ take i xs) → (xs : List X) → rows ≡ map show xs → got ≡ xs

@@ -1,21 +1,24 @@
-//! Values of the ledger's types out of the columns of a row.
-ghost use Rattle.std.specs.Prelude.{◌≡◌, ◌≢◌, ◌<◌, ℕ, List, Option, length};
-ghost use Rattle.std.specs.Prelude.{IsTrue, IfOk, IfErr, IfSome};
+//! Values of the office's types out of the columns of a row.
+ghost use Rattle.std.specs.Prelude.{◌≡◌, ◌≢◌, ◌<◌, ◌≤◌, ◌+◌, ◌^◌, ◌↔◌, ℕ, List, Option, length};
+ghost use Rattle.std.specs.Prelude.{IsTrue, IfOk, IfErr, IfSome, IsSome};
 ghost use Rattle.sqlite_value.specs.Order.{column};
 ghost use Rattle.sqlite_value.specs.declared.value.Value.TheVariants.{Text};
-ghost use Rattle.clear_money.specs.Calendar.{IsDay};
-ghost use Rattle.clear_money.specs.Numbers.{IsAmount, IsEmployerNo};
+ghost use Rattle.clear_money.specs.Calendar.{IsDay, IsMonth};
+ghost use Rattle.clear_money.specs.Numbers.{IsAmount, IsEmployerNo, IsWorkerNo};
+ghost use Rattle.clear_money.specs.Rates.{IsDayOfEachMonth};
 ghost use Rattle.clear_bank.specs.Texts.{is_note, is_reference};
 ghost use Rattle.clear_bank.specs.declared.lines.Purpose.{Purpose};
-ghost use Rattle.clear_book.specs.Texts.{IsCreditReference};
+ghost use Rattle.clear_book.specs.Limits.{most_gross, most_versions};
+ghost use Rattle.clear_book.specs.Texts.{IsCreditReference, IsName};
 ghost use Rattle.clear_schema.specs.Values as stored;
 
 use clear_bank::lines::Purpose;
 use clear_bank::texts::{Note, Reference};
 use clear_book::rules::StoreCause;
-use clear_book::texts::CreditReference;
+use clear_book::texts::{CreditReference, Name};
 use clear_money::days::Day;
-use clear_money::numbers::{Amount, EmployerNo};
+use clear_money::months::Month;
+use clear_money::numbers::{Amount, EmployerNo, WorkerNo};
 use clear_schema::fault::Fault;
 use clear_schema::values::value_at;
 use sqlite::Row;
@@ -172,4 +175,184 @@ pub fn credit_reference_at(row: &Row, at: usize) -> Result<CreditReference, Faul
         Some(reference) => Ok(reference),
         None => Err(Fault::Store(StoreCause::Row)),
     }
+}
+
+/// The number of a worker in a column.
+pub fn worker_at(row: &Row, at: usize) -> Result<WorkerNo, Fault>
+    ensures read { IfOk result (λ w. (n : ℕ) → column row.now at ≡ stored.number n → w ≡ n) }
+    ensures cause { IfErr result (λ fault. fault ≢ Fault.Store StoreCause.Constraint) }
+    ensures range { IfErr result (λ fault. fault ≡ Fault.Store StoreCause.Row
+        → at < length row.now
+        → (n : ℕ) → column row.now at ≡ stored.number n → ¬ IsWorkerNo n) }
+{
+    let number: u64 = match value_at(row, at) {
+        Ok(number) => number,
+        Err(fault) => return Err(fault),
+    };
+    match WorkerNo::new(number) {
+        Some(worker) => Ok(worker),
+        None => Err(Fault::Store(StoreCause::Row)),
+    }
+}
+
+/// The month in a column.
+pub fn month_at(row: &Row, at: usize) -> Result<Month, Fault>
+    ensures read { IfOk result (λ m. (n : ℕ)
+        → IsMonth n → column row.now at ≡ stored.month n → m ≡ n) }
+    ensures cause { IfErr result (λ fault. fault ≢ Fault.Store StoreCause.Constraint) }
+    ensures range { IfErr result (λ fault. fault ≡ Fault.Store StoreCause.Row
+        → at < length row.now
+        → (n : ℕ) → column row.now at ≡ stored.month n → ¬ IsMonth n) }
+{
+    let number: u64 = match value_at(row, at) {
+        Ok(number) => number,
+        Err(fault) => return Err(fault),
+    };
+    match month_from(number) {
+        Some(month) => Ok(month),
+        None => Err(Fault::Store(StoreCause::Row)),
+    }
+}
+
+/// The month in a column, or none.
+pub fn maybe_month_at(row: &Row, at: usize) -> Result<Option<Month>, Fault>
+    ensures read { IfOk result (λ m. (n : Option ℕ)
+        → IfSome n IsMonth → column row.now at ≡ stored.maybe_month n → m ≡ n) }
+    ensures cause { IfErr result (λ fault. fault ≢ Fault.Store StoreCause.Constraint) }
+    ensures range { IfErr result (λ fault. fault ≡ Fault.Store StoreCause.Row
+        → at < length row.now
+        → (n : Option ℕ) → column row.now at ≡ stored.maybe_month n → ¬ IfSome n IsMonth) }
+{
+    let found: Option<u64> = match value_at(row, at) {
+        Ok(found) => found,
+        Err(fault) => return Err(fault),
+    };
+    match found {
+        Some(number) => match month_from(number) {
+            Some(month) => Ok(Some(month)),
+            None => Err(Fault::Store(StoreCause::Row)),
+        },
+        None => Ok(None),
+    }
+}
+
+/// The day in a column, or none.
+pub fn maybe_day_at(row: &Row, at: usize) -> Result<Option<Day>, Fault>
+    ensures read { IfOk result (λ d. (n : Option ℕ) → column row.now at ≡ stored.maybe n → d ≡ n) }
+    ensures cause { IfErr result (λ fault. fault ≢ Fault.Store StoreCause.Constraint) }
+    ensures range { IfErr result (λ fault. fault ≡ Fault.Store StoreCause.Row
+        → at < length row.now
+        → (n : Option ℕ) → column row.now at ≡ stored.maybe n → ¬ IfSome n IsDay) }
+{
+    let found: Option<u64> = match value_at(row, at) {
+        Ok(found) => found,
+        Err(fault) => return Err(fault),
+    };
+    match found {
+        Some(number) => match Day::new(number) {
+            Some(day) => Ok(Some(day)),
+            None => Err(Fault::Store(StoreCause::Row)),
+        },
+        None => Ok(None),
+    }
+}
+
+/// The name in a column.
+pub fn name_at(row: &Row, at: usize) -> Result<Name, Fault>
+    ensures read { IfOk result (λ name. (s : List ℕ) → column row.now at ≡ Text s → name ≡ s) }
+    ensures cause { IfErr result (λ fault. fault ≢ Fault.Store StoreCause.Constraint) }
+    ensures range { IfErr result (λ fault. fault ≡ Fault.Store StoreCause.Row
+        → at < length row.now
+        → (s : List ℕ) → column row.now at ≡ Text s → ¬ IsName s) }
+{
+    let text: String = match value_at(row, at) {
+        Ok(text) => text,
+        Err(fault) => return Err(fault),
+    };
+    match Name::new(text) {
+        Some(name) => Ok(name),
+        None => Err(Fault::Store(StoreCause::Row)),
+    }
+}
+
+/// The version of a report in a column.
+pub fn version_at(row: &Row, at: usize) -> Result<u32, Fault>
+    ensures read { IfOk result (λ v. (n : ℕ) → column row.now at ≡ stored.number n → v ≡ n) }
+    ensures cause { IfErr result (λ fault. fault ≢ Fault.Store StoreCause.Constraint) }
+    ensures range { IfErr result (λ fault. fault ≡ Fault.Store StoreCause.Row
+        → at < length row.now
+        → (n : ℕ) → column row.now at ≡ stored.number n → ¬ (n ≤ most_versions)) }
+{
+    value_at(row, at)
+}
+
+/// The gross amount in a column.
+pub fn gross_at(row: &Row, at: usize) -> Result<u64, Fault>
+    ensures read { IfOk result (λ g. (n : ℕ) → column row.now at ≡ stored.number n → g ≡ n) }
+    ensures cause { IfErr result (λ fault. fault ≢ Fault.Store StoreCause.Constraint) }
+    ensures range { IfErr result (λ fault. fault ≡ Fault.Store StoreCause.Row
+        → at < length row.now
+        → (n : ℕ) → column row.now at ≡ stored.number n → ¬ (n ≤ most_gross)) }
+{
+    value_at(row, at)
+}
+
+/// The rate in a column, in hundredths of a percent, at most this.
+pub fn rate_at(row: &Row, at: usize, most: u16) -> Result<u16, Fault>
+    ensures read { IfOk result (λ r. (n : ℕ) → column row.now at ≡ stored.number n → r ≡ n) }
+    ensures cause { IfErr result (λ fault. fault ≢ Fault.Store StoreCause.Constraint) }
+    ensures range { IfErr result (λ fault. fault ≡ Fault.Store StoreCause.Row
+        → at < length row.now
+        → (n : ℕ) → column row.now at ≡ stored.number n → ¬ (n ≤ most)) }
+{
+    let number: u64 = match value_at(row, at) {
+        Ok(number) => number,
+        Err(fault) => return Err(fault),
+    };
+    if number > u64::from(most) {
+        return Err(Fault::Store(StoreCause::Row));
+    }
+    Ok(number as u16)
+}
+
+/// The day of each month in a column.
+pub fn month_day_at(row: &Row, at: usize) -> Result<u8, Fault>
+    ensures read { IfOk result (λ d. (n : ℕ) → column row.now at ≡ stored.number n → d ≡ n) }
+    ensures cause { IfErr result (λ fault. fault ≢ Fault.Store StoreCause.Constraint) }
+    ensures range { IfErr result (λ fault. fault ≡ Fault.Store StoreCause.Row
+        → at < length row.now
+        → (n : ℕ) → column row.now at ≡ stored.number n → ¬ IsDayOfEachMonth n) }
+{
+    let number: u64 = match value_at(row, at) {
+        Ok(number) => number,
+        Err(fault) => return Err(fault),
+    };
+    if number < 1 || number > 28 {
+        return Err(Fault::Store(StoreCause::Row));
+    }
+    Ok(number as u8)
+}
+
+/// A number of 32 bits in a column.
+pub fn count_at(row: &Row, at: usize) -> Result<u32, Fault>
+    ensures read { IfOk result (λ c. (n : ℕ) → column row.now at ≡ stored.number n → c ≡ n) }
+    ensures cause { IfErr result (λ fault. fault ≢ Fault.Store StoreCause.Constraint) }
+    ensures range { IfErr result (λ fault. fault ≡ Fault.Store StoreCause.Row
+        → at < length row.now
+        → (n : ℕ) → column row.now at ≡ stored.number n → ¬ (n < 2 ^ 32)) }
+{
+    value_at(row, at)
+}
+
+// The month that is so many after 2000-01. None past 2199-12.
+fn month_from(number: u64) -> Option<Month>
+    ensures some { IsSome result ↔ (number ≤ 2_399) }
+    ensures value { IfSome result (λ m. m ≡ 24_000 + number) }
+{
+    if number > 2_399 {
+        return None;
+    }
+    let year = 2_000 + number / 12;
+    let month = 1 + number % 12;
+    Month::new(year as u16, month as u16)
 }

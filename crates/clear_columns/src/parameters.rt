@@ -1,4 +1,4 @@
-//! Values of the ledger's types on their way into a statement.
+//! Values of the office's types on their way into a statement.
 ghost use Rattle.std.specs.Prelude.{◌≡◌};
 ghost use Rattle.sqlite.specs.Values.{bound_value};
 ghost use Rattle.sqlite_value.specs.Value.{owned};
@@ -6,8 +6,9 @@ ghost use Rattle.clear_schema.specs.Values as stored;
 
 use clear_bank::lines::Purpose;
 use clear_money::days::Day;
-use clear_money::numbers::{Amount, EmployerNo};
-use clear_schema::values::{number, text};
+use clear_money::months::Month;
+use clear_money::numbers::{Amount, EmployerNo, WorkerNo};
+use clear_schema::values::{month, number, text};
 use sqlite_value::value::ValueRef;
 
 /// The number of a firm.
@@ -48,5 +49,32 @@ pub fn purpose(value: Purpose) -> ValueRef<'static>
     match value {
         Purpose::Contribution => text("C"),
         Purpose::Interest => text("I"),
+    }
+}
+
+/// The number of a worker.
+pub fn worker(value: WorkerNo) -> ValueRef<'static>
+    ensures { bound_value (owned result) ≡ stored.number value }
+{
+    number(u64::from(value.number()))
+}
+
+/// A month, or NULL.
+pub fn maybe_month(value: Option<Month>) -> ValueRef<'static>
+    ensures { bound_value (owned result) ≡ stored.maybe_month value }
+{
+    match value {
+        Some(last) => month(last),
+        None => ValueRef::Null,
+    }
+}
+
+/// A day, or NULL.
+pub fn maybe_day(value: Option<Day>) -> ValueRef<'static>
+    ensures { bound_value (owned result) ≡ stored.maybe value }
+{
+    match value {
+        Some(day) => number(u64::from(day.number())),
+        None => ValueRef::Null,
     }
 }

@@ -1,0 +1,13 @@
+pub mod CountsLemmas
+pub mod EmployerLemmas
+pub mod EmployerTexts
+pub mod HeldLemmas
+pub mod KeyLemmas
+pub mod ListLemmas
+pub mod MonthLemmas
+pub mod RateLemmas
+pub mod ReadingLemmas
+pub mod ReportLemmas
+pub mod ReportTexts
+pub mod WageLemmas
+pub mod WageTexts

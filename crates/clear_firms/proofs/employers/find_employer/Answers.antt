@@ -1,0 +1,38 @@
+use Rattle.std.proofs.Common.{sym, subst, ◌∙◌, filter, Ok, Err, OnOk, IfSome}
+use Rattle.std.proofs.lemmas.Result.{IfOk-weaker, IfErr-weaker}
+use Rattle.sqlite.specs.Held.{state}
+use Rattle.sqlite.specs.State.{IsUnchanged}
+use Rattle.clear_book.specs.RowRanges.{IsEmployerRow}
+use Rattle.clear_rows.proofs.Statements.{shown_unchanged}
+use Rattle.clear_schema.specs.Schema.{store_schema}
+use Rattle.clear_schema.proofs.Causes.{asks_only}
+use Rattle.clear_rows.proofs.Inside.{unchanged_keeps}
+use Rattle.clear_firms.proofs.EmployerLemmas.{finds, first_is, found_out, has_no}
+use Rattle.clear_firms.proofs.EmployerTexts.{get, get_plain}
+use Rattle.clear_firms.proofs.employers.find_employer.Goals as goal
+
+pub returns-clause-found : goal.returns-clause-found
+returns-clause-found g c clean t has right =
+    let is = finds t (state g.S.Store c.args.tx.now.conn.now) (state g.S.Store c.look.new.tx.conn.now) has c.args.no c.in-Ok.rows.items (rw c.employer.ensures at (c.in-Ok.ensures.shown clean)) in
+    let first = first_is t.employers c.args.no in
+    IfOk-weaker c.first_employer.result _ _ (λ found reads. reads (filter (has_no c.args.no) t.employers) (c.deref.ensures.value ∙ is) (subst (λ o. IfSome o IsEmployerRow) (sym first) right) ∙ first) c.first_employer.ensures.read
+
+pub returns-clause-range : goal.returns-clause-range
+returns-clause-range g c clean t has =
+    let is = finds t (state g.S.Store c.args.tx.now.conn.now) (state g.S.Store c.look.new.tx.conn.now) has c.args.no c.in-Ok.rows.items (rw c.employer.ensures at (c.in-Ok.ensures.shown clean)) in
+    IfErr-weaker c.first_employer.result _ _ (λ fault range told. found_out _ _ (first_is t.employers c.args.no) (range told (filter (has_no c.args.no) t.employers) (c.deref.ensures.value ∙ is))) c.first_employer.ensures.range
+
+pub returns-clause-same : goal.returns-clause-same
+returns-clause-same g c clean t has = elim c.first_employer.result as (λ r. OnOk r (IsUnchanged (state g.S.Store c.args.tx.now.conn.now) (state g.S.Store c.look.new.tx.conn.now))) [
+  | Ok found ↦ shown_unchanged get _ (state g.S.Store c.args.tx.now.conn.now) (state g.S.Store c.look.new.tx.conn.now) _ store_schema has.schema get_plain (c.in-Ok.ensures.shown clean)
+  | Err e ↦ tt
+]
+
+pub returns-clause-kept : goal.returns-clause-kept
+returns-clause-kept g c clean t has =
+    unchanged_keeps (state g.S.Store c.args.tx.now.conn.now) (state g.S.Store c.look.new.tx.conn.now)
+    (shown_unchanged get _ (state g.S.Store c.args.tx.now.conn.now) (state g.S.Store c.look.new.tx.conn.now) _ store_schema has.schema get_plain (c.in-Ok.ensures.shown clean))
+
+pub returns-in-Err-clause-cause : goal.returns-in-Err-clause-cause
+returns-in-Err-clause-cause g c clean t has told =
+    asks_only get _ t (state g.S.Store c.args.tx.now.conn.now) (state g.S.Store c.look.new.tx.conn.now) has get_plain (c.in-Err.ensures.broke clean told)

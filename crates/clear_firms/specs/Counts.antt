@@ -1,0 +1,28 @@
+-- The counts of an office, as a program has them and as a statement is given them.
+use Rattle.std.specs.Prelude.{[], ◌∷◌, ◌<◌, ◌^◌, IfSome}
+use Rattle.sqlite.specs.Order.{Row}
+use Rattle.clear_money.specs.Calendar.{IsDay}
+use Rattle.clear_schema.specs.Values.{Counts, number, maybe}
+use Rattle.clear_firms.specs.declared.counts.Counts.{Counts as Told}
+
+abbrev pub as_stored : Told → Counts
+as_stored c = record {
+  day = c.day;
+  entries = c.entries;
+  serial = c.serial;
+  claims = c.claims;
+  lists = c.lists;
+  runs = c.runs;
+}
+
+abbrev pub counts_given : Counts → Row
+counts_given c =
+    maybe c.day ∷ number c.entries ∷ number c.serial ∷ number c.claims ∷ number c.lists
+    ∷ number c.runs ∷ []
+
+-- counts whose day is in its range, and whose numbers 32 bits hold where they have to
+pub record AreCounts (c : Counts) : Type 0 where
+  pub day : IfSome c.day IsDay
+  pub claims : c.claims < 2 ^ 32
+  pub lists : c.lists < 2 ^ 32
+  pub runs : c.runs < 2 ^ 32

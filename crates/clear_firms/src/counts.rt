@@ -1,0 +1,142 @@
+//! The counts of the office: the one row of `meta`.
+ghost use Rattle.std.specs.Prelude.{◌≡◌, ◌≢◌, ◌<◌, ◌^◌, [], ◌∷◌, IfErr, IfOk, IsTrue, OnOk};
+ghost use Rattle.sqlite.specs.Held.{state};
+ghost use Rattle.sqlite.specs.State.{HasCleanDisk, IsUnchanged, KeepsCommit, Survives};
+ghost use Rattle.sqlite.specs.Values.{bound};
+ghost use Rattle.clear_book.specs.Tables.{Tables};
+ghost use Rattle.clear_schema.specs.Held.{HasTables};
+ghost use Rattle.clear_schema.specs.Values.{Counts as Stored, counts_of, with_counts};
+ghost use Rattle.clear_firms.specs.Counts.{AreCounts, as_stored, counts_given};
+
+use clear_book::rules::StoreCause;
+use clear_columns::columns::{count_at, maybe_day_at, number_at};
+use clear_columns::parameters::maybe_day;
+use clear_money::days::Day;
+use clear_schema::fault::Fault;
+use clear_schema::statement::{look, put};
+use clear_schema::values::number;
+use sqlite::{Alter, Row, Transaction};
+use sqlite_value::value::ValueRef;
+
+/// The day of the last accepted request, how many there were, and the last numbers given.
+#[derive(Clone, Copy)]
+pub struct Counts {
+    pub day: Option<Day>,
+    pub entries: u64,
+    /// Of bank lines and releases.
+    pub serial: u64,
+    pub claims: u32,
+    pub lists: u32,
+    pub runs: u32,
+}
+
+/// The counts that stand.
+pub fn find_counts<S: Alter>(tx: &mut Transaction<'_, S>) -> Result<Counts, Fault>
+    ensures same_reference { tx.new.conn.ghost_name ≡ tx.old.conn.ghost_name }
+    ensures found { HasCleanDisk (state S.Store tx.new.conn.now)
+        → (t : Tables) → HasTables t (state S.Store tx.old.conn.now).now
+        → IfOk result (λ found. as_stored found ≡ counts_of t) }
+    ensures cause { HasCleanDisk (state S.Store tx.new.conn.now)
+        → (t : Tables) → HasTables t (state S.Store tx.old.conn.now).now
+        → IfErr result (λ fault. fault ≢ Fault.Store StoreCause.Constraint) }
+    ensures range { HasCleanDisk (state S.Store tx.new.conn.now)
+        → (t : Tables) → HasTables t (state S.Store tx.old.conn.now).now
+        → IfErr result (λ fault. fault ≡ Fault.Store StoreCause.Row → ¬ AreCounts (counts_of t)) }
+    ensures same { HasCleanDisk (state S.Store tx.new.conn.now)
+        → (t : Tables) → HasTables t (state S.Store tx.old.conn.now).now
+        → OnOk result (IsUnchanged (state S.Store tx.old.conn.now)
+        (state S.Store tx.new.conn.now)) }
+    ensures kept { HasCleanDisk (state S.Store tx.new.conn.now)
+        → (t : Tables) → HasTables t (state S.Store tx.old.conn.now).now
+        → KeepsCommit (state S.Store tx.old.conn.now) (state S.Store tx.new.conn.now) }
+    ensures survives { Survives (state S.Store tx.old.conn.now) (state S.Store tx.new.conn.now)
+        (λ _. ⊥) }
+{
+    let rows = match look(
+        tx,
+        "SELECT day, entries, serial, claims, lists, runs FROM meta WHERE one = 1",
+        &[],
+    ) {
+        Ok(rows) => rows,
+        Err(fault) => return Err(fault),
+    };
+    first_counts(&rows)
+}
+
+// The one row of an answer.
+fn first_counts(rows: &[Row]) -> Result<Counts, Fault>
+    ensures read { IfOk result (λ found. (c : Stored) → rows.now ≡ counts_given c ∷ []
+        → as_stored found ≡ c) }
+    ensures cause { IfErr result (λ fault. fault ≢ Fault.Store StoreCause.Constraint) }
+    ensures range { IfErr result (λ fault. fault ≡ Fault.Store StoreCause.Row
+        → (c : Stored) → rows.now ≡ counts_given c ∷ [] → ¬ AreCounts c) }
+{
+    match rows.first() {
+        Some(row) => match read_counts(row) {
+            Ok(found) => Ok(found),
+            Err(fault) => Err(fault),
+        },
+        None => Err(Fault::Store(StoreCause::Other)),
+    }
+}
+
+// The counts that an answer shows.
+fn read_counts(row: &Row) -> Result<Counts, Fault>
+    ensures read { IfOk result (λ found. (c : Stored) → row.now ≡ counts_given c → as_stored found ≡ c) }
+    ensures cause { IfErr result (λ fault. fault ≢ Fault.Store StoreCause.Constraint) }
+    ensures range { IfErr result (λ fault. fault ≡ Fault.Store StoreCause.Row
+        → (c : Stored) → row.now ≡ counts_given c → ¬ AreCounts c) }
+{
+    Ok(Counts {
+        day: maybe_day_at(row, 0)?,
+        entries: number_at(row, 1)?,
+        serial: number_at(row, 2)?,
+        claims: count_at(row, 3)?,
+        lists: count_at(row, 4)?,
+        runs: count_at(row, 5)?,
+    })
+}
+
+/// Writes the counts in place of those that stand.
+pub fn put_counts<S: Alter>(tx: &mut Transaction<'_, S>, counts: &Counts) -> Result<(), Fault>
+    ensures same_reference { tx.new.conn.ghost_name ≡ tx.old.conn.ghost_name }
+    ensures put { HasCleanDisk (state S.Store tx.new.conn.now)
+        → (t : Tables) → HasTables t (state S.Store tx.old.conn.now).now
+        → OnOk result (HasTables
+        (with_counts (as_stored counts.now) t)
+        (state S.Store tx.new.conn.now).now) }
+    ensures cause { HasCleanDisk (state S.Store tx.new.conn.now)
+        → (t : Tables) → HasTables t (state S.Store tx.old.conn.now).now
+        → IfErr result (λ fault. fault ≢ Fault.Store StoreCause.Constraint) }
+    ensures kept { HasCleanDisk (state S.Store tx.new.conn.now)
+        → KeepsCommit (state S.Store tx.old.conn.now) (state S.Store tx.new.conn.now) }
+    ensures goes_on { HasCleanDisk (state S.Store tx.new.conn.now)
+        → OnOk result (IsTrue tx.new.conn.now.in_transaction) }
+    ensures survives { Survives (state S.Store tx.old.conn.now) (state S.Store tx.new.conn.now)
+        (λ _. ⊥) }
+{
+    if counts.entries >= 1 << 63 || counts.serial >= 1 << 63 {
+        return Err(Fault::Store(StoreCause::Other));
+    }
+    put(
+        tx,
+        "UPDATE meta SET day = ?1, entries = ?2, serial = ?3, claims = ?4, lists = ?5, runs = ?6 WHERE one = 1",
+        &counts_values(counts),
+    )
+}
+
+// What the statement is given of the counts.
+fn counts_values(counts: &Counts) -> [ValueRef<'static>; 6]
+    requires entries { counts.now.entries < 2 ^ 63 }
+    requires serial { counts.now.serial < 2 ^ 63 }
+    ensures { bound result ≡ counts_given (as_stored counts.now) }
+{
+    [
+        maybe_day(counts.day),
+        number(counts.entries),
+        number(counts.serial),
+        number(u64::from(counts.claims)),
+        number(u64::from(counts.lists)),
+        number(u64::from(counts.runs)),
+    ]
+}

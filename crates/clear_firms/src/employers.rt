@@ -1,0 +1,138 @@
+//! The table of employers.
+ghost use Rattle.std.specs.Prelude.{◌≡◌, ◌≢◌, [], ◌∷◌, List, None, Some, slice_get, map};
+ghost use Rattle.std.specs.Prelude.{IfErr, IfOk, IfSome, IsSome, IsTrue, OnOk};
+ghost use Rattle.sqlite.specs.Held.{state};
+ghost use Rattle.sqlite.specs.State.{HasCleanDisk, IsUnchanged, KeepsCommit, Survives};
+ghost use Rattle.sqlite.specs.Values.{bound};
+ghost use Rattle.clear_book.specs.declared.rows.EmployerRow.{EmployerRow as Entry};
+ghost use Rattle.clear_book.specs.Keyed.{find_row, with_row};
+ghost use Rattle.clear_book.specs.RowRanges.{IsEmployerRow};
+ghost use Rattle.clear_book.specs.Tables.{Tables, employer_key};
+ghost use Rattle.clear_schema.specs.Held.{HasTables};
+ghost use Rattle.clear_firms.specs.Shown.{employer_shown};
+
+use clear_book::rows::EmployerRow;
+use clear_book::rules::StoreCause;
+use clear_columns::columns::{employer_at, maybe_month_at, month_at, name_at};
+use clear_columns::parameters::{employer, maybe_month};
+use clear_money::numbers::EmployerNo;
+use clear_schema::fault::Fault;
+use clear_schema::statement::{look, put};
+use clear_schema::values::{month, text};
+use sqlite::{Alter, Row, Transaction};
+use sqlite_value::value::ValueRef;
+
+/// Adds a firm whose number is free.
+pub fn insert_employer<S: Alter>(
+    tx: &mut Transaction<'_, S>,
+    row: &EmployerRow,
+) -> Result<(), Fault>
+    ensures same_reference { tx.new.conn.ghost_name ≡ tx.old.conn.ghost_name }
+    ensures put { HasCleanDisk (state S.Store tx.new.conn.now)
+        → (t : Tables) → HasTables t (state S.Store tx.old.conn.now).now
+        → OnOk result (HasTables
+        (record t { employers = with_row employer_key t.employers row.now })
+        (state S.Store tx.new.conn.now).now
+        × (find_row employer_key t.employers (employer_key row.now) ≡ None)) }
+    ensures cause { HasCleanDisk (state S.Store tx.new.conn.now)
+        → (t : Tables) → HasTables t (state S.Store tx.old.conn.now).now
+        → IfErr result (λ fault. fault ≡ Fault.Store StoreCause.Constraint
+        → IsSome (find_row employer_key t.employers (employer_key row.now))) }
+    ensures kept { HasCleanDisk (state S.Store tx.new.conn.now)
+        → KeepsCommit (state S.Store tx.old.conn.now) (state S.Store tx.new.conn.now) }
+    ensures goes_on { HasCleanDisk (state S.Store tx.new.conn.now)
+        → OnOk result (IsTrue tx.new.conn.now.in_transaction) }
+    ensures survives { Survives (state S.Store tx.old.conn.now) (state S.Store tx.new.conn.now)
+        (λ _. ⊥) }
+{
+    put(
+        tx,
+        "INSERT INTO employers (no, name, start, last) VALUES (?1, ?2, ?3, ?4)",
+        &employer_values(row),
+    )
+}
+
+/// The firm of this number, if it is registered.
+pub fn find_employer<S: Alter>(
+    tx: &mut Transaction<'_, S>,
+    no: EmployerNo,
+) -> Result<Option<EmployerRow>, Fault>
+    ensures same_reference { tx.new.conn.ghost_name ≡ tx.old.conn.ghost_name }
+    ensures found { HasCleanDisk (state S.Store tx.new.conn.now)
+        → (t : Tables) → HasTables t (state S.Store tx.old.conn.now).now
+        → IfSome (find_row employer_key t.employers (no ∷ [])) IsEmployerRow
+        → IfOk result (λ found. found ≡ find_row employer_key t.employers (no ∷ [])) }
+    ensures cause { HasCleanDisk (state S.Store tx.new.conn.now)
+        → (t : Tables) → HasTables t (state S.Store tx.old.conn.now).now
+        → IfErr result (λ fault. fault ≢ Fault.Store StoreCause.Constraint) }
+    ensures range { HasCleanDisk (state S.Store tx.new.conn.now)
+        → (t : Tables) → HasTables t (state S.Store tx.old.conn.now).now
+        → IfErr result (λ fault. fault ≡ Fault.Store StoreCause.Row
+        → (x : Entry) × (find_row employer_key t.employers (no ∷ []) ≡ Some x)
+        × ¬ IsEmployerRow x) }
+    ensures same { HasCleanDisk (state S.Store tx.new.conn.now)
+        → (t : Tables) → HasTables t (state S.Store tx.old.conn.now).now
+        → OnOk result (IsUnchanged (state S.Store tx.old.conn.now)
+        (state S.Store tx.new.conn.now)) }
+    ensures kept { HasCleanDisk (state S.Store tx.new.conn.now)
+        → (t : Tables) → HasTables t (state S.Store tx.old.conn.now).now
+        → KeepsCommit (state S.Store tx.old.conn.now) (state S.Store tx.new.conn.now) }
+    ensures survives { Survives (state S.Store tx.old.conn.now) (state S.Store tx.new.conn.now)
+        (λ _. ⊥) }
+{
+    let rows = match look(
+        tx,
+        "SELECT no, name, start, last FROM employers WHERE no = ?1",
+        &[employer(no)],
+    ) {
+        Ok(rows) => rows,
+        Err(fault) => return Err(fault),
+    };
+    first_employer(&rows)
+}
+
+// The first row of an answer.
+fn first_employer(rows: &[Row]) -> Result<Option<EmployerRow>, Fault>
+    ensures read { IfOk result (λ found. (xs : List Entry) → rows.now ≡ map employer_shown xs
+        → IfSome (slice_get xs 0) IsEmployerRow → found ≡ slice_get xs 0) }
+    ensures cause { IfErr result (λ fault. fault ≢ Fault.Store StoreCause.Constraint) }
+    ensures range { IfErr result (λ fault. fault ≡ Fault.Store StoreCause.Row
+        → (xs : List Entry) → rows.now ≡ map employer_shown xs
+        → (x : Entry) × (slice_get xs 0 ≡ Some x) × ¬ IsEmployerRow x) }
+{
+    match rows.first() {
+        Some(row) => match read_employer(row) {
+            Ok(found) => Ok(Some(found)),
+            Err(fault) => Err(fault),
+        },
+        None => Ok(None),
+    }
+}
+
+// The row that an answer shows.
+fn read_employer(row: &Row) -> Result<EmployerRow, Fault>
+    ensures read { IfOk result (λ e. (x : Entry)
+        → row.now ≡ employer_shown x → IsEmployerRow x → e ≡ x) }
+    ensures cause { IfErr result (λ fault. fault ≢ Fault.Store StoreCause.Constraint) }
+    ensures range { IfErr result (λ fault. fault ≡ Fault.Store StoreCause.Row
+        → (x : Entry) → row.now ≡ employer_shown x → ¬ IsEmployerRow x) }
+{
+    Ok(EmployerRow {
+        employer: employer_at(row, 0)?,
+        name: name_at(row, 1)?,
+        start: month_at(row, 2)?,
+        last: maybe_month_at(row, 3)?,
+    })
+}
+
+// What a statement is given of a row.
+fn employer_values(row: &EmployerRow) -> [ValueRef<'_>; 4]
+    ensures { bound result ≡ employer_shown row.now }
+{
+    [
+        employer(row.employer),
+        text(row.name.as_str()),
+        month(row.start),
+        maybe_month(row.last),
+    ]
+}
