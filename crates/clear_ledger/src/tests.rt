@@ -109,3 +109,58 @@ fn credits_come_by_day_and_serial(rt: HostRuntime) -> Result<(), Fail> {
     }
     Ok(())
 }
+
+// The cause of a failure to find a line.
+fn find_cause<S: Alter>(tx: &mut Transaction<'_, S>, row: &BankRow) -> Option<StoreCause> {
+    match find_line(tx, &row.line.reference) {
+        Err(Fault::Store(cause)) => Some(cause),
+        Err(Fault::Memory) => None,
+        Ok(_) => None,
+    }
+}
+
+// What isn't committed is gone.
+#[test]
+fn a_line_is_kept_by_a_commit(rt: HostRuntime) -> Result<(), Fail> {
+    let alloc = rt.alloc();
+    let mut conn = Connection::open_in_memory(alloc)?;
+    let row = suspense(alloc, "B1", 1)?;
+    assert!(rt; conn.is_autocommit());
+    if conn.is_autocommit() {
+        let mut tx = conn.transaction();
+        assert!(rt; make_all(&mut tx).is_ok());
+        tx.commit()?;
+    }
+    assert!(rt; conn.is_autocommit());
+    if conn.is_autocommit() {
+        let mut tx = conn.transaction();
+        assert!(rt; insert_line(&mut tx, &row).is_ok());
+        assert!(rt; serial_of(&mut tx, &row) == Some(1));
+    }
+    assert!(rt; conn.is_autocommit());
+    if conn.is_autocommit() {
+        let mut tx = conn.transaction();
+        assert!(rt; serial_of(&mut tx, &row).is_none());
+    }
+    Ok(())
+}
+
+// A line whose day is out of the calendar.
+#[test]
+fn a_row_out_of_its_range_is_told(rt: HostRuntime) -> Result<(), Fail> {
+    let alloc = rt.alloc();
+    let mut conn = Connection::open_in_memory(alloc)?;
+    let row = suspense(alloc, "B1", 1)?;
+    assert!(rt; conn.is_autocommit());
+    if conn.is_autocommit() {
+        let mut tx = conn.transaction();
+        assert!(rt; make_all(&mut tx).is_ok());
+        tx.execute(
+            "INSERT INTO bank (reference, serial, value, cents, purpose, note) \
+             VALUES ('B1', 1, 84371, 5, 'C', '')",
+            &[],
+        )?;
+        assert!(rt; find_cause(&mut tx, &row) == Some(StoreCause::Row));
+    }
+    Ok(())
+}
