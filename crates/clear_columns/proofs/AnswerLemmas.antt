@@ -1,5 +1,5 @@
 -- Answers that are read row by row.
-use Rattle.std.proofs.Common.{◌≡◌, ℕ, zero, suc, ◌<◌, ◌+◌, List, [], ◌∷◌, ◌++◌, length, map, take, get_or, refl, sym, ap, add-one, subst, ◌∙◌, arith}
+use Rattle.std.proofs.Common.{◌≡◌, ℕ, zero, suc, ◌<◌, ◌+◌, List, [], ◌∷◌, ◌++◌, Some, length, map, take, get_or, slice_get, refl, sym, ap, add-one, subst, ◌∙◌, arith}
 use Rattle.std.proofs.lemmas.List.{length-map, take_all}
 use Rattle.std.specs.List.{AllByRecursion}
 use Rattle.sqlite.specs.Order.{Row}
@@ -29,3 +29,8 @@ module _ {X : Type 0} (show : X → Row) where
   out_of_range P rows i row lt is bad xs same all =
       let it = shown_at xs i row (subst (λ l. i < length l) same lt) (subst (λ l. row ≡ get_or l i row) same is) in
       bad it.0 it.1 (it.3 P all)
+
+  -- the first row shows the first of those that are shown
+  pub shown_first : (rows : List Row) (xs : List X) (row : Row) → Some row ≡ slice_get rows 0 → rows ≡ map show xs → (x : X) × (slice_get xs 0 ≡ Some x) × (row ≡ show x)
+  shown_first rows [] row is same = absurd (let e = is ∙ ap (λ l. slice_get l 0) same in cc)
+  shown_first rows (x ∷ xs) row is same = (x, refl, (let e = is ∙ ap (λ l. slice_get l 0) same in cc))

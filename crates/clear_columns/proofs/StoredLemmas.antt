@@ -16,11 +16,15 @@ use Rattle.clear_bank.specs.declared.lines.Purpose.{Purpose}
 use Rattle.clear_bank.specs.declared.lines.Purpose.TheVariants.{Contribution, Interest}
 use Rattle.clear_book.specs.Accounts.{rank_of}
 use Rattle.clear_schema.proofs.ValueLemmas.{cast_null, cast_int, equal_ints, equal_texts}
-use Rattle.clear_schema.specs.Values.{number, maybe, purpose}
+use Rattle.clear_schema.specs.Values.{number, maybe, month, month_number, maybe_month, purpose}
 
 pub cast_maybe : (o : Option ℕ) → cast Integer (maybe o) ≡ maybe o
 cast_maybe None = cast_null
 cast_maybe (Some n) = cast_int (pos n)
+
+pub cast_maybe_month : (o : Option ℕ) → cast Integer (maybe_month o) ≡ maybe_month o
+cast_maybe_month None = cast_null
+cast_maybe_month (Some m) = cast_int (month_number m)
 
 pub cast_purpose : (p : Purpose) → cast Texts (purpose p) ≡ purpose p
 cast_purpose Contribution = refl
@@ -29,6 +33,10 @@ cast_purpose Interest = refl
 pub maybe_typed : (o : Option ℕ) → is_of Integer (maybe o) ≡ true
 maybe_typed None = refl
 maybe_typed (Some n) = refl
+
+pub maybe_month_typed : (o : Option ℕ) → is_of Integer (maybe_month o) ≡ true
+maybe_month_typed None = refl
+maybe_month_typed (Some m) = refl
 
 pub purpose_typed : (p : Purpose) → is_of Texts (purpose p) ≡ true
 purpose_typed Contribution = refl
@@ -44,6 +52,19 @@ number_order m n = grind (arith, ints, nat_tests)
 
 pub equal_numbers : (m n : ℕ) → is_true (binary (Compare Eq Binary) (number m) (number n)) ≡ (m == n)
 equal_numbers m n = equal_ints (pos m) (pos n) ∙ same_numbers m n
+
+-- months are equal and ordered as they are stored
+same_months : (m n : ℕ) → int_eq (month_number m) (month_number n) ≡ (m == n)
+same_months m n = grind (arith, ints, nat_tests)
+
+month_order : (m n : ℕ) → int_cmp (month_number m) (month_number n) ≡ nat_cmp m n
+month_order m n = grind (arith, ints, nat_tests)
+
+pub equal_months : (m n : ℕ) → is_true (binary (Compare Eq Binary) (month m) (month n)) ≡ (m == n)
+equal_months m n = equal_ints (month_number m) (month_number n) ∙ same_months m n
+
+pub months_compare : (m n : ℕ) → value_cmp (month m) (month n) ≡ nat_cmp m n
+months_compare m n = value_cmp-Int (month_number m) (month_number n) ∙ month_order m n
 
 pub equal_ranks : (p q : Purpose) → is_true (binary (Compare Eq Binary) (purpose p) (purpose q)) ≡ (rank_of p == rank_of q)
 equal_ranks Contribution Contribution = equal_texts (codes "C") (codes "C")

@@ -8,10 +8,12 @@ ghost use Rattle.clear_money.specs.Numbers.{IsAmount, IsEmployerNo, IsWorkerNo};
 ghost use Rattle.clear_money.specs.Rates.{IsDayOfEachMonth};
 ghost use Rattle.clear_bank.specs.Texts.{is_note, is_reference};
 ghost use Rattle.clear_bank.specs.declared.lines.Purpose.{Purpose};
-ghost use Rattle.clear_book.specs.Limits.{most_gross, most_versions};
+ghost use Rattle.clear_book.specs.Limits.{most_entries, most_gross, most_serials, most_versions};
+ghost use Rattle.clear_book.specs.RowRanges.{IsSerial};
 ghost use Rattle.clear_book.specs.Texts.{IsCreditReference, IsName};
 ghost use Rattle.clear_schema.specs.Values as stored;
 
+use crate::ranges::{is_entry_count, is_gross, is_serial, is_serial_count, is_version};
 use clear_bank::lines::Purpose;
 use clear_bank::texts::{Note, Reference};
 use clear_book::rules::StoreCause;
@@ -179,7 +181,7 @@ pub fn credit_reference_at(row: &Row, at: usize) -> Result<CreditReference, Faul
 
 /// The number of a worker in a column.
 pub fn worker_at(row: &Row, at: usize) -> Result<WorkerNo, Fault>
-    ensures read { IfOk result (λ w. (n : ℕ) → column row.now at ≡ stored.number n → w ≡ n) }
+    ensures read { IfOk result (λ w. column row.now at ≡ stored.number w) }
     ensures cause { IfErr result (λ fault. fault ≢ Fault.Store StoreCause.Constraint) }
     ensures range { IfErr result (λ fault. fault ≡ Fault.Store StoreCause.Row
         → at < length row.now
@@ -197,8 +199,7 @@ pub fn worker_at(row: &Row, at: usize) -> Result<WorkerNo, Fault>
 
 /// The month in a column.
 pub fn month_at(row: &Row, at: usize) -> Result<Month, Fault>
-    ensures read { IfOk result (λ m. (n : ℕ)
-        → IsMonth n → column row.now at ≡ stored.month n → m ≡ n) }
+    ensures read { IfOk result (λ m. column row.now at ≡ stored.month m) }
     ensures cause { IfErr result (λ fault. fault ≢ Fault.Store StoreCause.Constraint) }
     ensures range { IfErr result (λ fault. fault ≡ Fault.Store StoreCause.Row
         → at < length row.now
@@ -216,8 +217,7 @@ pub fn month_at(row: &Row, at: usize) -> Result<Month, Fault>
 
 /// The month in a column, or none.
 pub fn maybe_month_at(row: &Row, at: usize) -> Result<Option<Month>, Fault>
-    ensures read { IfOk result (λ m. (n : Option ℕ)
-        → IfSome n IsMonth → column row.now at ≡ stored.maybe_month n → m ≡ n) }
+    ensures read { IfOk result (λ m. column row.now at ≡ stored.maybe_month m) }
     ensures cause { IfErr result (λ fault. fault ≢ Fault.Store StoreCause.Constraint) }
     ensures range { IfErr result (λ fault. fault ≡ Fault.Store StoreCause.Row
         → at < length row.now
@@ -238,7 +238,7 @@ pub fn maybe_month_at(row: &Row, at: usize) -> Result<Option<Month>, Fault>
 
 /// The day in a column, or none.
 pub fn maybe_day_at(row: &Row, at: usize) -> Result<Option<Day>, Fault>
-    ensures read { IfOk result (λ d. (n : Option ℕ) → column row.now at ≡ stored.maybe n → d ≡ n) }
+    ensures read { IfOk result (λ d. column row.now at ≡ stored.maybe d) }
     ensures cause { IfErr result (λ fault. fault ≢ Fault.Store StoreCause.Constraint) }
     ensures range { IfErr result (λ fault. fault ≡ Fault.Store StoreCause.Row
         → at < length row.now
@@ -259,7 +259,7 @@ pub fn maybe_day_at(row: &Row, at: usize) -> Result<Option<Day>, Fault>
 
 /// The name in a column.
 pub fn name_at(row: &Row, at: usize) -> Result<Name, Fault>
-    ensures read { IfOk result (λ name. (s : List ℕ) → column row.now at ≡ Text s → name ≡ s) }
+    ensures read { IfOk result (λ name. column row.now at ≡ Text name) }
     ensures cause { IfErr result (λ fault. fault ≢ Fault.Store StoreCause.Constraint) }
     ensures range { IfErr result (λ fault. fault ≡ Fault.Store StoreCause.Row
         → at < length row.now
@@ -275,31 +275,105 @@ pub fn name_at(row: &Row, at: usize) -> Result<Name, Fault>
     }
 }
 
-/// The version of a report in a column.
+/// The version of a report in a column, 1 to 10,000.
 pub fn version_at(row: &Row, at: usize) -> Result<u32, Fault>
-    ensures read { IfOk result (λ v. (n : ℕ) → column row.now at ≡ stored.number n → v ≡ n) }
+    ensures read { IfOk result (λ v. column row.now at ≡ stored.number v) }
+    ensures good { IfOk result (λ v. (1 ≤ v) × (v ≤ most_versions)) }
     ensures cause { IfErr result (λ fault. fault ≢ Fault.Store StoreCause.Constraint) }
     ensures range { IfErr result (λ fault. fault ≡ Fault.Store StoreCause.Row
         → at < length row.now
-        → (n : ℕ) → column row.now at ≡ stored.number n → ¬ (n ≤ most_versions)) }
+        → (n : ℕ) → column row.now at ≡ stored.number n → ¬ ((1 ≤ n) × (n ≤ most_versions))) }
 {
-    value_at(row, at)
+    let version: u32 = match value_at(row, at) {
+        Ok(version) => version,
+        Err(fault) => return Err(fault),
+    };
+    if !is_version(version) {
+        return Err(Fault::Store(StoreCause::Row));
+    }
+    Ok(version)
 }
 
-/// The gross amount in a column.
+/// The gross amount in a column, in cents, at most 10,000,000.
 pub fn gross_at(row: &Row, at: usize) -> Result<u64, Fault>
-    ensures read { IfOk result (λ g. (n : ℕ) → column row.now at ≡ stored.number n → g ≡ n) }
+    ensures read { IfOk result (λ g. column row.now at ≡ stored.number g) }
+    ensures good { IfOk result (λ g. g ≤ most_gross) }
     ensures cause { IfErr result (λ fault. fault ≢ Fault.Store StoreCause.Constraint) }
     ensures range { IfErr result (λ fault. fault ≡ Fault.Store StoreCause.Row
         → at < length row.now
         → (n : ℕ) → column row.now at ≡ stored.number n → ¬ (n ≤ most_gross)) }
 {
-    value_at(row, at)
+    let gross: u64 = match value_at(row, at) {
+        Ok(gross) => gross,
+        Err(fault) => return Err(fault),
+    };
+    if !is_gross(gross) {
+        return Err(Fault::Store(StoreCause::Row));
+    }
+    Ok(gross)
+}
+
+/// The serial of a bank line or a release in a column, 1 to 500,000,000,000.
+pub fn serial_at(row: &Row, at: usize) -> Result<u64, Fault>
+    ensures read { IfOk result (λ n. column row.now at ≡ stored.number n) }
+    ensures good { IfOk result IsSerial }
+    ensures cause { IfErr result (λ fault. fault ≢ Fault.Store StoreCause.Constraint) }
+    ensures range { IfErr result (λ fault. fault ≡ Fault.Store StoreCause.Row
+        → at < length row.now
+        → (n : ℕ) → column row.now at ≡ stored.number n → ¬ IsSerial n) }
+{
+    let serial: u64 = match value_at(row, at) {
+        Ok(serial) => serial,
+        Err(fault) => return Err(fault),
+    };
+    if !is_serial(serial) {
+        return Err(Fault::Store(StoreCause::Row));
+    }
+    Ok(serial)
+}
+
+/// How many requests were accepted, in a column, at most 50,000,000.
+pub fn entry_count_at(row: &Row, at: usize) -> Result<u64, Fault>
+    ensures read { IfOk result (λ n. column row.now at ≡ stored.number n) }
+    ensures good { IfOk result (λ n. n ≤ most_entries) }
+    ensures cause { IfErr result (λ fault. fault ≢ Fault.Store StoreCause.Constraint) }
+    ensures range { IfErr result (λ fault. fault ≡ Fault.Store StoreCause.Row
+        → at < length row.now
+        → (n : ℕ) → column row.now at ≡ stored.number n → ¬ (n ≤ most_entries)) }
+{
+    let count: u64 = match value_at(row, at) {
+        Ok(count) => count,
+        Err(fault) => return Err(fault),
+    };
+    if !is_entry_count(count) {
+        return Err(Fault::Store(StoreCause::Row));
+    }
+    Ok(count)
+}
+
+/// How many serials were given, in a column, at most 500,000,000,000.
+pub fn serial_count_at(row: &Row, at: usize) -> Result<u64, Fault>
+    ensures read { IfOk result (λ n. column row.now at ≡ stored.number n) }
+    ensures good { IfOk result (λ n. n ≤ most_serials) }
+    ensures cause { IfErr result (λ fault. fault ≢ Fault.Store StoreCause.Constraint) }
+    ensures range { IfErr result (λ fault. fault ≡ Fault.Store StoreCause.Row
+        → at < length row.now
+        → (n : ℕ) → column row.now at ≡ stored.number n → ¬ (n ≤ most_serials)) }
+{
+    let count: u64 = match value_at(row, at) {
+        Ok(count) => count,
+        Err(fault) => return Err(fault),
+    };
+    if !is_serial_count(count) {
+        return Err(Fault::Store(StoreCause::Row));
+    }
+    Ok(count)
 }
 
 /// The rate in a column, in hundredths of a percent, at most this.
 pub fn rate_at(row: &Row, at: usize, most: u16) -> Result<u16, Fault>
-    ensures read { IfOk result (λ r. (n : ℕ) → column row.now at ≡ stored.number n → r ≡ n) }
+    ensures read { IfOk result (λ r. column row.now at ≡ stored.number r) }
+    ensures good { IfOk result (λ r. r ≤ most) }
     ensures cause { IfErr result (λ fault. fault ≢ Fault.Store StoreCause.Constraint) }
     ensures range { IfErr result (λ fault. fault ≡ Fault.Store StoreCause.Row
         → at < length row.now
@@ -317,7 +391,8 @@ pub fn rate_at(row: &Row, at: usize, most: u16) -> Result<u16, Fault>
 
 /// The day of each month in a column.
 pub fn month_day_at(row: &Row, at: usize) -> Result<u8, Fault>
-    ensures read { IfOk result (λ d. (n : ℕ) → column row.now at ≡ stored.number n → d ≡ n) }
+    ensures read { IfOk result (λ d. column row.now at ≡ stored.number d) }
+    ensures good { IfOk result IsDayOfEachMonth }
     ensures cause { IfErr result (λ fault. fault ≢ Fault.Store StoreCause.Constraint) }
     ensures range { IfErr result (λ fault. fault ≡ Fault.Store StoreCause.Row
         → at < length row.now
@@ -335,7 +410,7 @@ pub fn month_day_at(row: &Row, at: usize) -> Result<u8, Fault>
 
 /// A number of 32 bits in a column.
 pub fn count_at(row: &Row, at: usize) -> Result<u32, Fault>
-    ensures read { IfOk result (λ c. (n : ℕ) → column row.now at ≡ stored.number n → c ≡ n) }
+    ensures read { IfOk result (λ c. column row.now at ≡ stored.number c) }
     ensures cause { IfErr result (λ fault. fault ≢ Fault.Store StoreCause.Constraint) }
     ensures range { IfErr result (λ fault. fault ≡ Fault.Store StoreCause.Row
         → at < length row.now

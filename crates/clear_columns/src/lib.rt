@@ -6,3 +6,5 @@
 
 pub mod columns;
 pub mod parameters;
+pub mod ranges;
+pub mod rows;

@@ -35,7 +35,7 @@ use Rattle.clear_schema.proofs.Causes.{refer_to_none, sound_by_schema}
 use Rattle.clear_schema.proofs.Changes.{counts_changed}
 use Rattle.clear_schema.proofs.ValueLemmas.{cast_null, cast_int, equal_ints}
 use Rattle.clear_firms.specs.Counts.{counts_given}
-use Rattle.clear_firms.proofs.EmployerLemmas.{cast_number, maybe_typed}
+use Rattle.clear_columns.proofs.StoredLemmas.{cast_maybe, maybe_typed}
 
 abbrev pub update : List ℕ
 update = codes "UPDATE meta SET day = ?1, entries = ?2, serial = ?3, claims = ?4, lists = ?5, runs = ?6 WHERE one = 1"
@@ -63,7 +63,7 @@ abbrev one : Counts → ℤ
 one c = pos 1
 
 stored : (c : Counts) → cast_row meta_table (meta_row c) ≡ meta_row c
-stored c = rw (cast_int (pos 1), cast_null, cast_int (pos 0), cast_number c.day, cast_int (pos c.entries), cast_int (pos c.serial), cast_int (pos c.claims), cast_int (pos c.lists), cast_int (pos c.runs))
+stored c = rw (cast_int (pos 1), cast_null, cast_int (pos 0), cast_maybe c.day, cast_int (pos c.entries), cast_int (pos c.serial), cast_int (pos c.claims), cast_int (pos c.lists), cast_int (pos c.runs))
 
 typed : (db : Trees) (c : Counts) → obeys Datatype store_schema db meta_table (meta_row c) ≡ true
 typed db c = rw (maybe_typed c.day)

@@ -1,11 +1,9 @@
 -- What the statements on employers do, and when they are refused.
-use Rattle.std.proofs.Common.{◌≡◌, inl, inr, ℤ, ℕ, pos, Bool, true, false, ◌&&◌, List, [], ◌∷◌, Option, Some, None, map, filter, refl, sym, ap, subst, ◌∙◌, map-id, IsPermutation, IsSome, int_eq, ◌≤◌, slice_get}
-use Rattle.std.specs.Option.{option_map}
+use Rattle.std.proofs.Common.{◌≡◌, inl, inr, ℤ, ℕ, pos, Bool, true, false, ◌&&◌, List, [], ◌∷◌, None, map, filter, refl, sym, ap, subst, ◌∙◌, map-id, IsPermutation, IsSome, int_eq, ◌≤◌, slice_get}
 use Rattle.std.proofs.lemmas.List.{length-map}
 use Rattle.sqlite.proofs.Callers.{reads_as}
-use Rattle.sqlite.specs.Cast.{cast, cast_row}
+use Rattle.sqlite.specs.Cast.{cast_row}
 use Rattle.sqlite.specs.Edit.{with_rowid, IsRefused}
-use Rattle.sqlite.specs.Kind.TheVariants.{Integer}
 use Rattle.sqlite.specs.Order.{Row}
 use Rattle.sqlite.specs.Rowids.TheVariants.{Chosen}
 use Rattle.sqlite.specs.State.{State, Shown}
@@ -17,10 +15,9 @@ use Rattle.sqlite_keyed.proofs.RuleLemmas.{at_most_one}
 use Rattle.sqlite_rules.specs.declared.error.Refusal.TheVariants as why
 use Rattle.sqlite_schema.specs.declared.schema.Constraint.TheVariants.{Datatype}
 use Rattle.sqlite_schema.specs.declared.schema.Keys.TheVariants.{Enforced}
-use Rattle.sqlite_schema.specs.Rules.{is_of, passes as obeys}
+use Rattle.sqlite_schema.specs.Rules.{passes as obeys}
 use Rattle.clear_book.specs.declared.rows.EmployerRow.{EmployerRow}
 use Rattle.clear_book.specs.Keyed.{find_row, with_row}
-use Rattle.clear_book.specs.RowRanges.{IsEmployerRow}
 use Rattle.clear_book.specs.Tables.{Tables, employer_key}
 use Rattle.clear_rows.specs.Plain.{passes}
 use Rattle.clear_rows.proofs.Edits.{inserted_is, named, was_free}
@@ -30,10 +27,11 @@ use Rattle.clear_rows.proofs.Statements.{inserted}
 use Rattle.clear_schema.specs.Held.{HasTables}
 use Rattle.clear_schema.specs.Runs.{IsDone, IsBroken}
 use Rattle.clear_schema.specs.Schema.{store_schema, all_tables, employers_table}
-use Rattle.clear_schema.specs.Values.{number, month_number, maybe, employer_values}
+use Rattle.clear_schema.specs.Values.{number, month_number, employer_values}
 use Rattle.clear_schema.proofs.Causes.{refer_to_none, sound_by_schema}
 use Rattle.clear_schema.proofs.Changes.{employers_changed}
 use Rattle.clear_schema.proofs.ValueLemmas.{cast_null, cast_int, equal_ints}
+use Rattle.clear_columns.proofs.StoredLemmas.{cast_maybe_month, maybe_month_typed}
 use Rattle.clear_firms.specs.Shown.{employer_shown}
 use Rattle.clear_firms.proofs.KeyLemmas.{none_if, get_is, put_is}
 use Rattle.clear_firms.proofs.EmployerTexts as text
@@ -45,16 +43,8 @@ no row = pos row.employer
 abbrev pub has_no : ℕ → EmployerRow → Bool
 has_no e row = int_eq (no row) (pos e)
 
-pub cast_number : (o : Option ℕ) → cast Integer (maybe o) ≡ maybe o
-cast_number None = cast_null
-cast_number (Some n) = cast_int (pos n)
-
-pub maybe_typed : (o : Option ℕ) → is_of Integer (maybe o) ≡ true
-maybe_typed None = refl
-maybe_typed (Some n) = refl
-
 stored : (row : EmployerRow) → cast_row employers_table (employer_values row) ≡ employer_values row
-stored row = rw (cast_int (pos row.employer), cast_null, cast_int (pos (month_number row.start)), cast_number (option_map month_number row.last))
+stored row = rw (cast_int (pos row.employer), cast_null, cast_int (month_number row.start), cast_maybe_month row.last)
 
 module _ (t : Tables) (old new : State) (has : HasTables t old.now) where
   -- a row whose number was free
@@ -70,7 +60,7 @@ module _ (t : Tables) (old new : State) (has : HasTables t old.now) where
       )
 
   typed : (db : Trees) (row : EmployerRow) → obeys Datatype store_schema db employers_table (employer_values row) ≡ true
-  typed db row = rw (maybe_typed (option_map month_number row.last))
+  typed db row = rw (maybe_month_typed row.last)
 
   -- a row is refused only where its number is held
   pub held : (row : EmployerRow) → IsBroken text.insert (employer_shown row) old new → IsSome (find_row employer_key t.employers (employer_key row))
@@ -103,12 +93,3 @@ module _ (t : Tables) (old new : State) (has : HasTables t old.now) where
 -- the first of them is the row of the key
 pub first_is : (rows : List EmployerRow) (e : ℕ) → slice_get (filter (has_no e) rows) 0 ≡ find_row employer_key rows (e ∷ [])
 first_is rows e = slice_get-filter (has_no e) rows ∙ get_is (λ (row : EmployerRow). row.employer) rows e
-
--- the first row of an answer shows the first of the rows
-pub first_row : (rows : List Row) (xs : List EmployerRow) (row : Row) → Some row ≡ slice_get rows 0 → rows ≡ map employer_shown xs → (x : EmployerRow) × (slice_get xs 0 ≡ Some x) × (row ≡ employer_shown x)
-first_row rows [] row is same = absurd (let e = is ∙ ap (λ l. slice_get l 0) same in cc)
-first_row rows (x ∷ xs) row is same = (x, refl, (let e = is ∙ ap (λ l. slice_get l 0) same in cc))
-
--- what is said of one of two equal answers is said of the other
-pub found_out : (o p : Option EmployerRow) → o ≡ p → (x : EmployerRow) × (o ≡ Some x) × ¬ IsEmployerRow x → (x : EmployerRow) × (p ≡ Some x) × ¬ IsEmployerRow x
-found_out o p same found = subst (λ (a : Option EmployerRow). (x : EmployerRow) × (a ≡ Some x) × ¬ IsEmployerRow x) same found

@@ -1,5 +1,5 @@
 -- Keys as SQL compares them, and as the book does; rows in the order of their keys.
-use Rattle.std.proofs.Common.{◌≡◌, ℕ, pos, List, [], ◌∷◌, find, not, subst, IsSome, Option, Some, None, Bool, true, false, cond, ◌==◌, refl, sym, ap, ap₂, ◌∙◌, arith, int_cmp, int_eq, is_some, Ordering, Less, Equal, Greater, is_eq, true≢false}
+use Rattle.std.proofs.Common.{◌≡◌, ℕ, pos, List, [], ◌∷◌, not, subst, IsSome, Option, Some, None, Bool, true, false, cond, ◌==◌, refl, sym, ap, ap₂, ◌∙◌, arith, int_cmp, int_eq, is_some, Ordering, Less, Equal, Greater, is_eq, true≢false}
 use Rattle.std.proofs.lemmas.Bool.Decides.{nat_tests}
 use Rattle.std.proofs.lemmas.Int.{ints}
 use Rattle.std.proofs.lemmas.Cmp.{nat_list_cmp_total}
@@ -11,23 +11,16 @@ use Rattle.sqlite_keyed.specs.Lists.{update_where}
 use Rattle.sqlite_keyed.proofs.ListLemmas.{filter_all, all_weaker}
 use Rattle.sqlite_trees.specs.Tree.{IsAscending}
 use Rattle.clear_book.specs.Keyed.{is_key, is_before, find_row, with_row, without_rows, put_row}
-use Rattle.clear_book.proofs.KeyedLemmas.{is_key-refl, is_key-true, is_key-sym}
+use Rattle.clear_book.proofs.KeyedLemmas.{is_key-refl, is_key-true}
 use Rattle.clear_schema.specs.Held.{by_key}
 use Rattle.clear_columns.proofs.KeyLemmas.{before_is, is_key_is}
 use Rattle.clear_firms.proofs.ListLemmas.{none_replaced}
 
 -- ---- keys
 
--- two keys are one whichever comes first
-pub is_key-turned : (k l : List ℕ) → is_key k l ≡ is_key l k
-is_key-turned k l = told (is_key k l) refl
-  where
-    told : (b : Bool) → is_key k l ≡ b → is_key k l ≡ is_key l k
-    told true e = subst (λ (m : List ℕ). is_key k m ≡ is_key m k) (is_key-true k l e) refl
-    told false e = e ∙ sym (is_key-sym k l e)
-
-pub turned_nat : (a b : ℕ) → int_eq (pos a) (pos b) ≡ b == a
-turned_nat a b = grind (arith, nat_tests, ints)
+-- numbers are equal whichever comes first
+pub turned_nat : (a b : ℕ) → (a == b) ≡ (b == a)
+turned_nat a b = grind (arith, nat_tests)
 
 same_number : (a b : ℕ) → int_eq (pos a) (pos b) ≡ is_key (a ∷ []) (b ∷ [])
 same_number a b = grind (arith, nat_tests, ints)
@@ -46,6 +39,10 @@ equal_same a b h = grind (arith, ints)
 pub none_if : {X : Type 0} (o : Option X) → is_some o ≡ false → o ≡ None
 none_if None h = refl
 none_if (Some x) h = absurd (true≢false h)
+
+-- what is said of one of two equal finds is said of the other
+pub found_out : {X : Type 0} (P : X → Type 0) (o p : Option X) → o ≡ p → (x : X) × (o ≡ Some x) × ¬ P x → (x : X) × (p ≡ Some x) × ¬ P x
+found_out {X = X} P o p same found = subst (λ (a : Option X). (x : X) × (a ≡ Some x) × ¬ P x) same found
 
 -- ---- rows by a number
 
@@ -71,10 +68,14 @@ module _ {X : Type 0} (n : X → ℕ) where
 -- ---- rows by a key
 
 module _ {X : Type 0} (key : X → List ℕ) where
-  -- the row that is found first is that of the key
-  pub find_is : (xs : List X) (k : List ℕ) → find (λ x. is_key (key x) k) xs ≡ find_row key xs k
-  find_is [] k = refl
-  find_is (x ∷ xs) k = ap (λ o. cond (is_key (key x) k) (Some x) o) (find_is xs k)
+  -- where none is found under a key, no row has it
+  pub none_of_key : (xs : List X) (k : List ℕ) → find_row key xs k ≡ None → AllByRecursion (λ x. is_key (key x) k ≡ false) xs
+  none_of_key [] k h = tt
+  none_of_key (x ∷ xs) k h = told (is_key (key x) k) refl h (none_of_key xs k)
+    where
+      told : (b : Bool) → is_key (key x) k ≡ b → cond b (Some x) (find_row key xs k) ≡ None → (find_row key xs k ≡ None → AllByRecursion (λ y. is_key (key y) k ≡ false) xs) → AllByRecursion (λ y. is_key (key y) k ≡ false) (x ∷ xs)
+      told true e h more = absurd cc
+      told false e h more = (e, more h)
 
   -- no later row has the key of one
   later_keys : (x : X) (xs : List X) (k : List ℕ) → is_key (key x) k ≡ true → AllByRecursion (λ y. by_key key x y ≡ Less) xs → AllByRecursion (λ y. is_key (key y) k ≡ false) xs

@@ -4,9 +4,7 @@ pub mod EmployerTexts
 pub mod HeldLemmas
 pub mod KeyLemmas
 pub mod ListLemmas
-pub mod MonthLemmas
 pub mod RateLemmas
-pub mod ReadingLemmas
 pub mod ReportLemmas
 pub mod ReportTexts
 pub mod WageLemmas

@@ -1,33 +1,10 @@
--- Tests that agree on the rows of a list, and the one row that passes.
-use Rattle.std.proofs.Common.{◌≡◌, ℤ, ◌<ℤ◌, Bool, true, false, ◌||◌, cond, List, [], ◌∷◌, filter, refl, sym, ap, ap₂, subst, ◌∙◌, arith, int_eq}
-use Rattle.std.specs.List.{AllByRecursion, list_any}
+-- Rows of a list that pass no test, and the one row that passes.
+use Rattle.std.proofs.Common.{◌≡◌, ℤ, ◌<ℤ◌, Bool, true, false, cond, List, [], ◌∷◌, filter, refl, sym, ap, ap₂, subst, ◌∙◌, arith, int_eq}
+use Rattle.std.specs.List.{AllByRecursion}
 use Rattle.std.proofs.lemmas.Int.{ints}
 use Rattle.sqlite_keyed.specs.Keyed.{IsKeyedBy}
-use Rattle.sqlite_trees.specs.Tree.{IsAscending}
 use Rattle.sqlite_keyed.specs.Lists.{update_where}
 use Rattle.sqlite_keyed.proofs.ListLemmas.{all-filter, filter_none, all_weaker}
-
-module _ {X : Type 0} (P : X → Type 0) (p q : X → Bool) (same : (x : X) → P x → p x ≡ q x) where
-  pub filter_same_on : (xs : List X) → AllByRecursion P xs → filter p xs ≡ filter q xs
-  filter_same_on [] all = refl
-  filter_same_on (x ∷ xs) all = ap₂ (λ b l. cond b (x ∷ l) l) (same x all.0) (filter_same_on xs all.1)
-
-  pub any_same_on : (xs : List X) → AllByRecursion P xs → list_any p xs ≡ list_any q xs
-  any_same_on [] all = refl
-  any_same_on (x ∷ xs) all = ap₂ (λ a b. a || b) (same x all.0) (any_same_on xs all.1)
-
-  pub update_same_on : (f : X → X) (xs : List X) → AllByRecursion P xs → update_where p f xs ≡ update_where q f xs
-  update_same_on f [] all = refl
-  update_same_on f (x ∷ xs) all = ap₂ (λ b l. cond b (f x) x ∷ l) (same x all.0) (update_same_on f xs all.1)
-
--- an order that holds of rows of this kind
-pub ascending_on : {X : Type 0} (P : X → Type 0) (R S : X → X → Type 0) → ((a b : X) → P a → P b → R a b → S a b) → (xs : List X) → AllByRecursion P xs → IsAscending R xs → IsAscending S xs
-ascending_on {X = X} P R S weaker [] all up = tt
-ascending_on {X = X} P R S weaker (x ∷ xs) all up = (each xs all.1 up.0, ascending_on P R S weaker xs all.1 up.1)
-  where
-    each : (ys : List X) → AllByRecursion P ys → AllByRecursion (R x) ys → AllByRecursion (S x) ys
-    each [] good less = tt
-    each (y ∷ ys) good less = (weaker x y all.0 good.0 less.0, each ys good.1 less.1)
 
 module _ {X : Type 0} (p : X → Bool) where
   -- where none passes, each fails

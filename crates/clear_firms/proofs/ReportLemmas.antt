@@ -1,5 +1,5 @@
 -- What the statements on reports do, and when they are refused.
-use Rattle.std.proofs.Common.{◌≡◌, inl, inr, ℤ, ℕ, pos, Bool, true, false, not, cond, ◌&&◌, List, [], ◌∷◌, Some, None, map, filter, refl, sym, ap, ap₂, subst, ◌∙◌, map-id, IsPermutation, IsSome, IfSome, int_eq, is_eq, length, ◌≤◌, slice_get, true≢false}
+use Rattle.std.proofs.Common.{◌≡◌, inl, inr, ℤ, ℕ, pos, Bool, true, false, not, cond, ◌&&◌, List, [], ◌∷◌, None, map, filter, refl, sym, ap₂, subst, ◌∙◌, map-id, IsPermutation, IsSome, is_eq, length, ◌≤◌, true≢false}
 use Rattle.std.specs.List.{list_any, AllByRecursion}
 use Rattle.std.proofs.lemmas.List.{length-map}
 use Rattle.std.proofs.lemmas.List.Sorted.{IsPermutation-map, IsPermutation-trans, IsPermutation-sym}
@@ -16,7 +16,7 @@ use Rattle.sqlite_catalog.specs.Listing.{automatic}
 use Rattle.sqlite_keyed.specs.Keyed.{has_key, next_key}
 use Rattle.sqlite_keyed.specs.Lists.{update_where}
 use Rattle.sqlite_keyed.proofs.KeyedLemmas.{next_key_is_free}
-use Rattle.sqlite_keyed.proofs.ListLemmas.{all-filter, all_weaker, slice_get-filter, IsPermutation-filter}
+use Rattle.sqlite_keyed.proofs.ListLemmas.{IsPermutation-filter}
 use Rattle.sqlite_rules.specs.declared.error.Refusal.TheVariants as why
 use Rattle.sqlite_rules.specs.Lists.{Has}
 use Rattle.sqlite_rules.proofs.ListLemmas.{has_kept}
@@ -27,7 +27,6 @@ use Rattle.sqlite_schema.specs.Rules.{agree, differ, guards, passes as obeys}
 use Rattle.sqlite_value.specs.Keys.{plain, first_key}
 use Rattle.clear_book.specs.declared.rows.ReportRow.{ReportRow}
 use Rattle.clear_book.specs.Keyed.{is_key, find_row, put_row, with_row}
-use Rattle.clear_book.specs.RowRanges.{IsReportRow}
 use Rattle.clear_book.specs.Tables.{Tables, report_key}
 use Rattle.clear_book.proofs.KeyedLemmas.{is_key-true}
 use Rattle.clear_rows.specs.Plain.{passes, plain_program}
@@ -43,54 +42,32 @@ use Rattle.clear_schema.specs.Schema.{store_schema, all_indexes, all_tables, rep
 use Rattle.clear_schema.specs.Values.{number, month, month_number, report_values}
 use Rattle.clear_schema.proofs.Causes.{refer_to_none, sound_by_schema}
 use Rattle.clear_schema.proofs.Changes.{reports_changed}
-use Rattle.clear_schema.proofs.ValueLemmas.{cast_null, cast_int, equal_ints}
+use Rattle.clear_schema.proofs.ValueLemmas.{cast_null, cast_int}
 use Rattle.clear_firms.specs.Shown.{month_given, report_shown}
 use Rattle.clear_firms.proofs.HeldLemmas.{few_numbered, held_updated, updated_rows}
-use Rattle.clear_columns.proofs.KeyLemmas.{by_key_total, found_any, is_key_is, none_found, one_found, placed}
-use Rattle.clear_columns.proofs.StoredLemmas.{same_numbers}
-use Rattle.clear_firms.proofs.KeyLemmas.{find_is, is_key-turned, none_if, replaced_is}
-use Rattle.clear_firms.proofs.ListLemmas.{any_same_on, filter_same_on, update_same_on}
-use Rattle.clear_firms.proofs.MonthLemmas.{key_stays, still_apart, stored_key}
+use Rattle.clear_columns.proofs.KeyLemmas.{by_key_total, found_any, key_is, none_found, one_found, placed}
+use Rattle.clear_columns.proofs.StoredLemmas.{equal_months, equal_numbers}
+use Rattle.clear_firms.proofs.KeyLemmas.{none_if, none_of_key, replaced_is}
+use Rattle.clear_firms.proofs.ListLemmas.{none_replaced}
 use Rattle.clear_firms.proofs.ReportTexts as text
-
--- the key as it is stored
-abbrev pub stored_by : ReportRow → List ℕ
-stored_by row = stored_key (report_key row)
-
--- the row has this stored key
-abbrev pub is_stored : List ℕ → ReportRow → Bool
-is_stored k row = is_key (stored_by row) k
 
 -- the row of a firm's month
 abbrev pub is_of : ℕ → ℕ → ReportRow → Bool
 is_of e m row = is_key (report_key row) (e ∷ m ∷ [])
 
 stored : (row : ReportRow) → cast_row reports_table (Null ∷ report_shown row) ≡ Null ∷ report_shown row
-stored row = rw (cast_null, cast_int (pos row.employer), cast_int (pos (month_number row.month)), cast_int (pos row.version))
+stored row = rw (cast_null, cast_int (pos row.employer), cast_int (month_number row.month), cast_int (pos row.version))
 
 stored_beside : (y : ℤ × ReportRow) → cast_row reports_table (report_values y) ≡ report_values y
-stored_beside y = rw (cast_int y.0, cast_int (pos y.1.employer), cast_int (pos (month_number y.1.month)), cast_int (pos y.1.version))
+stored_beside y = rw (cast_int y.0, cast_int (pos y.1.employer), cast_int (month_number y.1.month), cast_int (pos y.1.version))
 
-keys_agree : (a b : ℤ × ReportRow) → agree plain (1 ∷ 2 ∷ []) (report_values a) (1 ∷ 2 ∷ []) (report_values b)
-    ≡ (int_eq (pos (content a).employer) (pos (content b).employer) && (int_eq (pos (month_number (content a).month)) (pos (month_number (content b).month)) && true))
+-- two rows that agree on the index have one key
+agrees : (a b : ℤ × ReportRow) → agree plain (1 ∷ 2 ∷ []) (report_values a) (1 ∷ 2 ∷ []) (report_values b) ≡ is_eq (by_key report_key (content b) (content a))
 unfolding first_key
-keys_agree a b = rw (equal_ints (pos (content a).employer) (pos (content b).employer), equal_ints (pos (month_number (content a).month)) (pos (month_number (content b).month)))
+agrees a b = rw (equal_numbers (content a).employer (content b).employer, equal_months (content a).month (content b).month) (key_is report_key (content b) (content a))
 
--- two rows that agree on the index have one stored key
-agree_is : (a b : ℤ × ReportRow) → agree plain (1 ∷ 2 ∷ []) (report_values a) (1 ∷ 2 ∷ []) (report_values b) ≡ is_stored (stored_by (content b)) (content a)
-agree_is a b = keys_agree a b ∙ ap₂ (λ x y. x && (y && true)) (same_numbers (content a).employer (content b).employer) (same_numbers (month_number (content a).month) (month_number (content b).month))
-
-agrees : (a b : ℤ × ReportRow) → agree plain (1 ∷ 2 ∷ []) (report_values a) (1 ∷ 2 ∷ []) (report_values b) ≡ is_eq (by_key stored_by (content b) (content a))
-agrees a b = agree_is a b ∙ is_key-turned (stored_by (content a)) (stored_by (content b)) ∙ is_key_is (stored_by (content b)) (stored_by (content a))
-
--- where months are in range, the stored key tells the key
-stays : (e m : ℕ) → 24000 ≤ m → (row : ReportRow) → IsReportRow row → is_stored (e ∷ month_number m ∷ []) row ≡ is_of e m row
-stays e m from row right = key_stays row.employer row.month e m [] [] right.month.0 from
-
-passes_month : (e m : ℕ) (rest : Row) (y : ℤ × ReportRow) → passes text.by_month (number e ∷ month m ∷ rest) (report_values y) ≡ is_stored (e ∷ month_number m ∷ []) (content y)
-passes_month e m rest y =
-    rw (equal_ints (pos (content y).employer) (pos e), equal_ints (pos (month_number (content y).month)) (pos (month_number m)))
-    (ap₂ (λ a b. a && (b && true)) (same_numbers (content y).employer e) (same_numbers (month_number (content y).month) (month_number m)))
+passes_month : (e m : ℕ) (rest : Row) (y : ℤ × ReportRow) → passes text.by_month (number e ∷ month m ∷ rest) (report_values y) ≡ is_of e m (content y)
+passes_month e m rest y = rw (equal_numbers (content y).employer e, equal_months (content y).month m) refl
 
 only_key : (i : Index) → Has all_indexes i → guards i reports_table ≡ true → i ≡ automatic reports_table 0 (1 ∷ 2 ∷ []) 4
 only_key i listed on = alone (has_kept (λ (x : Index). guards x reports_table) all_indexes i listed on)
@@ -115,22 +92,6 @@ each_is row (x ∷ xs) = ap₂ (λ a l. a ∷ l) (told (is_of row.employer row.m
         let employer_is : x.employer ≡ row.employer = cc in
         let month_is : x.month ≡ row.month = cc in
         (λ i. record { employer = employer_is i; month = month_is i; version = row.version })
-
--- the first of the rows of a key is the one that is found
-pub first_is : (rows : List ReportRow) (e m : ℕ) → slice_get (filter (is_of e m) rows) 0 ≡ find_row report_key rows (e ∷ m ∷ [])
-first_is rows e m = slice_get-filter (is_of e m) rows ∙ find_is report_key rows (e ∷ m ∷ [])
-
-pub first_right : (rows : List ReportRow) (e m : ℕ) → AllByRecursion IsReportRow rows → IfSome (slice_get (filter (is_of e m) rows) 0) IsReportRow
-first_right rows e m right = first_in (filter (is_of e m) rows) (all-filter IsReportRow (is_of e m) rows right)
-  where
-    first_in : (xs : List ReportRow) → AllByRecursion IsReportRow xs → IfSome (slice_get xs 0) IsReportRow
-    first_in [] all = tt
-    first_in (x ∷ xs) all = all.0
-
--- the first row of an answer shows the first of the rows
-pub first_row : (rows : List Row) (xs : List ReportRow) (row : Row) → Some row ≡ slice_get rows 0 → rows ≡ map report_shown xs → (x : ReportRow) × (slice_get xs 0 ≡ Some x) × (row ≡ report_shown x)
-first_row rows [] row is same = absurd (let e = is ∙ ap (λ l. slice_get l 0) same in cc)
-first_row rows (x ∷ xs) row is same = (x, refl, (let e = is ∙ ap (λ l. slice_get l 0) same in cc))
 
 module _ (t : Tables) (old new : State) (has : HasTables t old.now) where
   -- what the unique index says of the new table
@@ -160,16 +121,15 @@ module _ (t : Tables) (old new : State) (has : HasTables t old.now) where
       let free : has_key beside held.numbered n ≡ false = next_key_is_free beside held.numbered held.stored.keyed in
       let rows = it.applied.rows ∙ appended_is beside report_values (λ _. refl) old.now.trees reports_table held.numbered held.stored (Null ∷ report_shown row) (n, row) (stored row) refl in
       let all = subst (λ l. AllByRecursion (λ r. list_any (λ other. agree plain (1 ∷ 2 ∷ []) other (1 ∷ 2 ∷ []) r && differ (rowid other) (rowid r)) l ≡ false) l) rows (unique row ran) in
-      let stored_apart = key_was_free (by_key stored_by) report_values (λ _. refl) (1 ∷ 2 ∷ []) agrees (by_key_total stored_by) t.reports held.numbered (n, row) free held.same all in
-      let apart = all_weaker (λ x. is_eq (by_key stored_by row x) ≡ false) (λ x. is_eq (by_key report_key row x) ≡ false) (λ x h. still_apart (report_key row) (report_key x) h) t.reports stored_apart in
+      let apart = key_was_free (by_key report_key) report_values (λ _. refl) (1 ∷ 2 ∷ []) agrees (by_key_total report_key) t.reports held.numbered (n, row) free held.same all in
       let put = held-insert (by_key report_key) report_values (by_key_total report_key) row t.reports _ _ held n free apart rows in (
         subst (λ rows. HasTables (record t { reports = rows }) new.now) (placed report_key row t.reports apart) (reports_changed t old.now new.now has it.schema_is it.sound _ it.applied.tables put),
         none_if _ (none_found report_key row t.reports apart),
       )
 
   -- a row is refused only where its key is held
-  pub held : (row : ReportRow) → 24000 ≤ row.month → AllByRecursion IsReportRow t.reports → IsBroken text.insert (report_shown row) old new → IsSome (find_row report_key t.reports (report_key row))
-  held row from right (rule, ran) =
+  pub held : (row : ReportRow) → IsBroken text.insert (report_shown row) old new → IsSome (find_row report_key t.reports (report_key row))
+  held row (rule, ran) =
       let db = old.now.trees in
       let kept = has.reports in
       let n = next_key beside kept.numbered in
@@ -178,28 +138,27 @@ module _ (t : Tables) (old new : State) (has : HasTables t old.now) where
       let one : IsRefused store_schema Enforced db (record { table = reports_table; gone = []; news = report_values (n, row) ∷ [] }) (why.Violates rule) =
       subst (λ r. IsRefused store_schema Enforced db (record { table = reports_table; gone = []; news = r ∷ [] }) (why.Violates rule)) same bad in
       let taken = held_if_refused store_schema db reports_table (inr (inr (inr (inl refl)))) (apart_if all_tables refl) (sound_by_schema t old.now has) (report_values (n, row)) n refl refl refl refl rule one in
-      let some : list_any (is_stored (stored_by row)) t.reports ≡ true = key_held (by_key report_key) report_values (λ _. refl) db reports_table t.reports kept store_schema n row (is_stored (stored_by row)) (next_key_is_free beside kept.numbered kept.stored.keyed)
-      (λ i listed on y same. sym (agree_is y (n, row)) ∙ subst (λ (k : Index). agree k.order k.columns (report_values y) k.columns (report_values (n, row)) ≡ true) (only_key i listed on) same) taken in
-      found_any report_key t.reports (report_key row) ∙ (sym (any_same_on IsReportRow (is_stored (stored_by row)) (is_of row.employer row.month) (stays row.employer row.month from) t.reports right) ∙ some)
+      found_any report_key t.reports (report_key row)
+      ∙ key_held (by_key report_key) report_values (λ _. refl) db reports_table t.reports kept store_schema n row (is_of row.employer row.month) (next_key_is_free beside kept.numbered kept.stored.keyed)
+      (λ i listed on y same. key_is report_key row (content y) ∙ sym (agrees y (n, row)) ∙ subst (λ (k : Index). agree k.order k.columns (report_values y) k.columns (report_values (n, row)) ≡ true) (only_key i listed on) same) taken
 
   -- an answer shows the row of the key
-  pub finds : (e m : ℕ) → 24000 ≤ m → AllByRecursion IsReportRow t.reports → (rows : List Row) → Shown text.get (month_given e m) old new rows → rows ≡ map report_shown (filter (is_of e m) t.reports)
-  finds e m from right rows shown =
+  pub finds : (e m : ℕ) (rows : List Row) → Shown text.get (month_given e m) old new rows → rows ≡ map report_shown (filter (is_of e m) t.reports)
+  finds e m rows shown =
       let answer = reads_as text.get (month_given e m) old new store_schema has.schema _ text.get_is text.get_plain text.get_reads rows shown in
       let kept = has.reports in
-      let p = is_stored (e ∷ month_number m ∷ []) in
+      let p = is_of e m in
       let some = shown_in_some_order 3 text.by_month text.columns [] (month_given e m) report_values content p (passes_month e m []) (λ row. ([], report_shown row)) (λ _. refl) old.now.schema old.now.trees kept.numbered kept.stored.is rows answer in
       let all : IsPermutation (map report_shown (filter p t.reports)) rows =
       IsPermutation-trans _ _ _ (IsPermutation-map report_shown _ _ (IsPermutation-sym _ _ (IsPermutation-filter p _ _ kept.same))) some in
-      let same = subst (λ l. IsPermutation (map report_shown l) rows) (filter_same_on IsReportRow p (is_of e m) (stays e m from) t.reports right) all in
-      one_row _ rows (subst (λ k. k ≤ 1) (sym (length-map (filter (is_of e m) t.reports) report_shown)) (one_found report_key t.reports (e ∷ m ∷ []) kept.rises)) same
+      one_row _ rows (subst (λ k. k ≤ 1) (sym (length-map (filter p t.reports) report_shown)) (one_found report_key t.reports (e ∷ m ∷ []) kept.rises)) all
 
   -- ---- a later version
 
-  module _ (row : ReportRow) (from : 24000 ≤ row.month) (right : AllByRecursion IsReportRow t.reports) where
-    -- the stored key is that of the row
+  module _ (row : ReportRow) where
+    -- it is the row
     abbrev p : ReportRow → Bool
-    p = is_stored (stored_by row)
+    p = is_of row.employer row.month
 
     abbrev next : ℤ × ReportRow → ℤ × ReportRow
     next y = (beside y, with_version row.version (content y))
@@ -208,14 +167,15 @@ module _ (t : Tables) (old new : State) (has : HasTables t old.now) where
     show y = Int (beside y) ∷ report_values (next y)
 
     few : length (filter p t.reports) ≤ 1
-    few =
-        subst (λ (l : List ReportRow). length l ≤ 1) (sym (filter_same_on IsReportRow p (is_of row.employer row.month) (stays row.employer row.month from) t.reports right)) (one_found report_key t.reports (report_key row) has.reports.rises)
+    few = one_found report_key t.reports (report_key row) has.reports.rises
 
     -- what an UPDATE makes of the rows
     becomes : IsSome (find_row report_key t.reports (report_key row)) → update_where p (with_version row.version) t.reports ≡ put_row report_key t.reports row
-    becomes there =
-        update_same_on IsReportRow p (is_of row.employer row.month) (stays row.employer row.month from) (with_version row.version) t.reports right
-        ∙ each_is row t.reports ∙ replaced_is report_key t.reports row has.reports.rises there
+    becomes there = each_is row t.reports ∙ replaced_is report_key t.reports row has.reports.rises there
+
+    -- where none has the key, nothing
+    stays : find_row report_key t.reports (report_key row) ≡ None → update_where p (with_version row.version) t.reports ≡ t.reports
+    stays none = none_replaced p (with_version row.version) t.reports (none_of_key report_key t.reports (report_key row) none)
 
     -- the rows that its query answers
     meant : (rows : List Row) → Answers (record { schema = store_schema; trees = old.now.trees }) (plain_program 3 text.by_month text.update_row []) (report_shown row) rows
@@ -224,12 +184,18 @@ module _ (t : Tables) (old new : State) (has : HasTables t old.now) where
         subst (λ l. IsPermutation (map show (filter (λ (y : ℤ × ReportRow). p (content y)) l)) rows) (map-id has.reports.numbered)
         (shown_in_some_order 3 text.by_month text.update_row [] (report_shown row) report_values (λ y. y) (λ y. p (content y)) (passes_month row.employer row.month (number row.version ∷ [])) (λ y. ([], show y)) (λ _. refl) store_schema old.now.trees has.reports.numbered has.reports.stored.is rows answer)
 
-    pub replaces : IsSome (find_row report_key t.reports (report_key row)) → IsDone text.update (report_shown row) old new → HasTables (record t { reports = put_row report_key t.reports row }) new.now
-    replaces there ran =
+    updates : IsDone text.update (report_shown row) old new → HasTables (record t { reports = update_where p (with_version row.version) t.reports }) new.now
+    updates ran =
         let it = updated store_schema 3 reports_table refl (λ _ _. refl) text.update (report_shown row) old new has.schema text.update_plain ran.0 ran.1 _ text.update_is in
         let rows = updated_rows report_key report_values (λ _. refl) old.now.trees reports_table t.reports has.reports p (with_version row.version) (λ _. refl) few it.0 show (λ _. refl) (λ y. stored_beside (next y)) (meant it.0 it.1) in
         let put = held_updated report_key report_values (λ _. refl) old.now.trees reports_table t.reports has.reports p (with_version row.version) (λ _. refl) (new.now.trees 3) (it.2.applied.rows ∙ rows) in
-        subst (λ rows. HasTables (record t { reports = rows }) new.now) (becomes there) (reports_changed t old.now new.now has it.2.schema_is it.2.sound _ it.2.applied.tables put)
+        reports_changed t old.now new.now has it.2.schema_is it.2.sound _ it.2.applied.tables put
+
+    pub replaces : IsSome (find_row report_key t.reports (report_key row)) → IsDone text.update (report_shown row) old new → HasTables (record t { reports = put_row report_key t.reports row }) new.now
+    replaces there ran = subst (λ rows. HasTables (record t { reports = rows }) new.now) (becomes there) (updates ran)
+
+    pub replaces_none : find_row report_key t.reports (report_key row) ≡ None → IsDone text.update (report_shown row) old new → HasTables t new.now
+    replaces_none none ran = subst (λ rows. HasTables (record t { reports = rows }) new.now) (stays none) (updates ran)
 
     pub turns : IsBroken text.update (report_shown row) old new → ⊥
     turns (rule, ran) =

@@ -1,7 +1,6 @@
 -- What the statements on wages do, and when they are refused.
-use Rattle.std.proofs.Common.{◌≡◌, inl, inr, ℤ, ℕ, pos, Bool, true, false, not, ◌&&◌, ◌==◌, List, [], ◌∷◌, None, map, filter, refl, sym, ap, subst, ◌∙◌, map-id, IsPermutation, IsSome, int_eq, is_eq, ◌≤◌, true≢false, Less, Equal}
+use Rattle.std.proofs.Common.{◌≡◌, inl, inr, ℤ, ℕ, pos, Bool, true, false, not, ◌&&◌, ◌==◌, List, [], ◌∷◌, None, map, filter, refl, sym, subst, ◌∙◌, map-id, IsPermutation, IsSome, is_eq, true≢false, Less}
 use Rattle.std.specs.List.{list_any, AllByRecursion}
-use Rattle.std.specs.Ordering.{ordering_then}
 use Rattle.sqlite.proofs.Callers.{reads_as}
 use Rattle.sqlite.specs.declared.types.Value.TheVariants.{Int, Null}
 use Rattle.sqlite.specs.Cast.{cast_row}
@@ -15,7 +14,6 @@ use Rattle.sqlite.specs.Tree.{rowid}
 use Rattle.sqlite_catalog.specs.Listing.{automatic}
 use Rattle.sqlite_keyed.specs.Keyed.{has_key, next_key}
 use Rattle.sqlite_keyed.proofs.KeyedLemmas.{next_key_is_free}
-use Rattle.sqlite_keyed.proofs.ListLemmas.{all_weaker}
 use Rattle.sqlite_rules.specs.Calls.{ids_of}
 use Rattle.sqlite_rules.specs.declared.error.Refusal.TheVariants as why
 use Rattle.sqlite_rules.specs.Lists.{Has}
@@ -24,12 +22,9 @@ use Rattle.sqlite_schema.specs.declared.schema.Constraint.TheVariants.{Unique}
 use Rattle.sqlite_schema.specs.declared.schema.Index.{Index}
 use Rattle.sqlite_schema.specs.declared.schema.Keys.TheVariants.{Enforced}
 use Rattle.sqlite_schema.specs.Rules.{agree, differ, guards, passes as obeys}
-use Rattle.sqlite_trees.specs.Tree.{IsAscending}
 use Rattle.sqlite_value.specs.Keys.{plain, first_key}
-use Rattle.sqlite_value.proofs.OrderLemmas.{value_cmp-Int}
 use Rattle.clear_book.specs.declared.rows.WageRow.{WageRow}
 use Rattle.clear_book.specs.Keyed.{is_key, find_row, with_row, without_rows}
-use Rattle.clear_book.specs.RowRanges.{IsWageRow}
 use Rattle.clear_book.specs.Tables.{Tables, is_wage_key_of, wage_key}
 use Rattle.clear_rows.specs.Plain.{passes, plain_query}
 use Rattle.clear_rows.proofs.Edits.{appended_is, appended_row, deleted_is}
@@ -44,64 +39,40 @@ use Rattle.clear_schema.specs.Schema.{store_schema, all_indexes, all_tables, wag
 use Rattle.clear_schema.specs.Values.{number, month, month_number, wage_values}
 use Rattle.clear_schema.proofs.Causes.{refer_to_none, sound_by_schema}
 use Rattle.clear_schema.proofs.Changes.{wages_changed}
-use Rattle.clear_schema.proofs.ValueLemmas.{cast_null, cast_int, equal_ints}
+use Rattle.clear_schema.proofs.ValueLemmas.{cast_null, cast_int}
 use Rattle.clear_firms.specs.Shown.{month_given, wage_shown}
-use Rattle.clear_columns.proofs.KeyLemmas.{by_key_total, found_any, is_key_is, none_found, placed}
-use Rattle.clear_columns.proofs.StoredLemmas.{number_order, same_numbers}
-use Rattle.clear_firms.proofs.KeyLemmas.{is_key-turned, none_if, turned_nat}
-use Rattle.clear_firms.proofs.ListLemmas.{any_same_on, ascending_on, filter_same_on}
-use Rattle.clear_firms.proofs.MonthLemmas.{key_stays, order_stays, same_month, still_apart, stored_key}
+use Rattle.clear_columns.proofs.KeyLemmas.{by_key_total, found_any, key_is, none_found, placed}
+use Rattle.clear_columns.proofs.StoredLemmas.{equal_months, equal_numbers, months_compare, numbers_compare}
+use Rattle.clear_firms.proofs.KeyLemmas.{none_if, turned_nat}
 use Rattle.clear_firms.proofs.WageTexts as text
-
--- the key as it is stored
-abbrev pub stored_by : WageRow → List ℕ
-stored_by row = stored_key (wage_key row)
-
--- the row has this stored key
-abbrev pub is_stored : List ℕ → WageRow → Bool
-is_stored k row = is_key (stored_by row) k
 
 -- the row is of a firm's month
 abbrev pub is_of : ℕ → ℕ → WageRow → Bool
 is_of e m row = is_wage_key_of e m (wage_key row)
 
--- the same of its stored key
-abbrev is_stored_of : ℕ → ℕ → WageRow → Bool
-is_stored_of e m row = is_wage_key_of e (month_number m) (stored_by row)
-
 stored : (row : WageRow) → cast_row wages_table (Null ∷ wage_shown row) ≡ Null ∷ wage_shown row
-stored row = rw (cast_null, cast_int (pos row.employer), cast_int (pos (month_number row.month)), cast_int (pos row.worker), cast_int (pos row.gross))
+stored row = rw (cast_null, cast_int (pos row.employer), cast_int (month_number row.month), cast_int (pos row.worker), cast_int (pos row.gross))
 
-keys_agree : (a b : ℤ × WageRow) → agree plain (1 ∷ 2 ∷ 3 ∷ []) (wage_values a) (1 ∷ 2 ∷ 3 ∷ []) (wage_values b)
-    ≡ (int_eq (pos (content a).employer) (pos (content b).employer) && (int_eq (pos (month_number (content a).month)) (pos (month_number (content b).month)) && (int_eq (pos (content a).worker) (pos (content b).worker) && true)))
+-- two rows that agree on the index have one key
+agrees : (a b : ℤ × WageRow) → agree plain (1 ∷ 2 ∷ 3 ∷ []) (wage_values a) (1 ∷ 2 ∷ 3 ∷ []) (wage_values b) ≡ is_eq (by_key wage_key (content b) (content a))
 unfolding first_key
-keys_agree a b = rw (equal_ints (pos (content a).employer) (pos (content b).employer), equal_ints (pos (month_number (content a).month)) (pos (month_number (content b).month)), equal_ints (pos (content a).worker) (pos (content b).worker))
+agrees a b =
+    rw (
+      equal_numbers (content a).employer (content b).employer,
+      equal_months (content a).month (content b).month,
+      equal_numbers (content a).worker (content b).worker,
+    )
+    (key_is wage_key (content b) (content a))
 
--- two rows that agree on the index have one stored key
-agree_is : (a b : ℤ × WageRow) → agree plain (1 ∷ 2 ∷ 3 ∷ []) (wage_values a) (1 ∷ 2 ∷ 3 ∷ []) (wage_values b) ≡ is_stored (stored_by (content b)) (content a)
-agree_is a b =
-    keys_agree a b
-    ∙ (λ i. same_numbers (content a).employer (content b).employer i && (same_numbers (month_number (content a).month) (month_number (content b).month) i && (same_numbers (content a).worker (content b).worker i && true)))
-
-agrees : (a b : ℤ × WageRow) → agree plain (1 ∷ 2 ∷ 3 ∷ []) (wage_values a) (1 ∷ 2 ∷ 3 ∷ []) (wage_values b) ≡ is_eq (by_key stored_by (content b) (content a))
-agrees a b = agree_is a b ∙ is_key-turned (stored_by (content a)) (stored_by (content b)) ∙ is_key_is (stored_by (content b)) (stored_by (content a))
-
--- where months are in range, the stored key tells the key
-stays : (e m w : ℕ) → 24000 ≤ m → (row : WageRow) → IsWageRow row → is_stored (e ∷ month_number m ∷ w ∷ []) row ≡ is_key (wage_key row) (e ∷ m ∷ w ∷ [])
-stays e m w from row right = key_stays row.employer row.month e m (row.worker ∷ []) (w ∷ []) right.month.0 from
-
--- and its front the front
-front_stays : (e m : ℕ) → 24000 ≤ m → (row : WageRow) → IsWageRow row → is_stored_of e m row ≡ is_of e m row
-front_stays e m from row right = ap (λ b. (e == row.employer) && b) (same_month m row.month from right.month.0)
-
-passes_month : (e m : ℕ) (y : ℤ × WageRow) → passes text.by_month (month_given e m) (wage_values y) ≡ is_stored_of e m (content y)
+passes_month : (e m : ℕ) (y : ℤ × WageRow) → passes text.by_month (month_given e m) (wage_values y) ≡ is_of e m (content y)
 passes_month e m y =
-    rw (equal_ints (pos (content y).employer) (pos e), equal_ints (pos (month_number (content y).month)) (pos (month_number m)))
-    ((λ i. turned_nat (content y).employer e i && (turned_nat (month_number (content y).month) (month_number m) i && true)) ∙ ap (λ b. (e == (content y).employer) && b) (last (month_number m == month_number (content y).month)))
+    rw (equal_numbers (content y).employer e, equal_months (content y).month m)
+    (last ((content y).employer == e) ((content y).month == m) ∙ (λ i. turned_nat (content y).employer e i && turned_nat (content y).month m i))
   where
-    last : (b : Bool) → (b && true) ≡ b
-    last true = refl
-    last false = refl
+    last : (a b : Bool) → (a && (b && true)) ≡ (a && b)
+    last true true = refl
+    last true false = refl
+    last false b = refl
 
 only_key : (i : Index) → Has all_indexes i → guards i wages_table ≡ true → i ≡ automatic wages_table 0 (1 ∷ 2 ∷ 3 ∷ []) 6
 only_key i listed on = alone (has_kept (λ (x : Index). guards x wages_table) all_indexes i listed on)
@@ -138,16 +109,15 @@ module _ (t : Tables) (old new : State) (has : HasTables t old.now) where
       let free : has_key beside held.numbered n ≡ false = next_key_is_free beside held.numbered held.stored.keyed in
       let rows = it.applied.rows ∙ appended_is beside wage_values (λ _. refl) old.now.trees wages_table held.numbered held.stored (Null ∷ wage_shown row) (n, row) (stored row) refl in
       let all = subst (λ l. AllByRecursion (λ r. list_any (λ other. agree plain (1 ∷ 2 ∷ 3 ∷ []) other (1 ∷ 2 ∷ 3 ∷ []) r && differ (rowid other) (rowid r)) l ≡ false) l) rows (unique row ran) in
-      let stored_apart = key_was_free (by_key stored_by) wage_values (λ _. refl) (1 ∷ 2 ∷ 3 ∷ []) agrees (by_key_total stored_by) t.wages held.numbered (n, row) free held.same all in
-      let apart = all_weaker (λ x. is_eq (by_key stored_by row x) ≡ false) (λ x. is_eq (by_key wage_key row x) ≡ false) (λ x h. still_apart (wage_key row) (wage_key x) h) t.wages stored_apart in
+      let apart = key_was_free (by_key wage_key) wage_values (λ _. refl) (1 ∷ 2 ∷ 3 ∷ []) agrees (by_key_total wage_key) t.wages held.numbered (n, row) free held.same all in
       let put = held-insert (by_key wage_key) wage_values (by_key_total wage_key) row t.wages _ _ held n free apart rows in (
         subst (λ rows. HasTables (record t { wages = rows }) new.now) (placed wage_key row t.wages apart) (wages_changed t old.now new.now has it.schema_is it.sound _ it.applied.tables put),
         none_if _ (none_found wage_key row t.wages apart),
       )
 
   -- a row is refused only where its key is held
-  pub held : (row : WageRow) → 24000 ≤ row.month → AllByRecursion IsWageRow t.wages → IsBroken text.insert (wage_shown row) old new → IsSome (find_row wage_key t.wages (wage_key row))
-  held row from right (rule, ran) =
+  pub held : (row : WageRow) → IsBroken text.insert (wage_shown row) old new → IsSome (find_row wage_key t.wages (wage_key row))
+  held row (rule, ran) =
       let db = old.now.trees in
       let kept = has.wages in
       let n = next_key beside kept.numbered in
@@ -156,49 +126,39 @@ module _ (t : Tables) (old new : State) (has : HasTables t old.now) where
       let one : IsRefused store_schema Enforced db (record { table = wages_table; gone = []; news = wage_values (n, row) ∷ [] }) (why.Violates rule) =
       subst (λ r. IsRefused store_schema Enforced db (record { table = wages_table; gone = []; news = r ∷ [] }) (why.Violates rule)) same bad in
       let taken = held_if_refused store_schema db wages_table (inr (inr (inr (inr (inl refl))))) (apart_if all_tables refl) (sound_by_schema t old.now has) (wage_values (n, row)) n refl refl refl refl rule one in
-      let some : list_any (is_stored (stored_by row)) t.wages ≡ true = key_held (by_key wage_key) wage_values (λ _. refl) db wages_table t.wages kept store_schema n row (is_stored (stored_by row)) (next_key_is_free beside kept.numbered kept.stored.keyed)
-      (λ i listed on y same. sym (agree_is y (n, row)) ∙ subst (λ (k : Index). agree k.order k.columns (wage_values y) k.columns (wage_values (n, row)) ≡ true) (only_key i listed on) same) taken in
-      found_any wage_key t.wages (wage_key row) ∙ (sym (any_same_on IsWageRow (is_stored (stored_by row)) (λ x. is_key (wage_key x) (wage_key row)) (stays row.employer row.month row.worker from) t.wages right) ∙ some)
+      found_any wage_key t.wages (wage_key row)
+      ∙ key_held (by_key wage_key) wage_values (λ _. refl) db wages_table t.wages kept store_schema n row (λ x. is_key (wage_key x) (wage_key row)) (next_key_is_free beside kept.numbered kept.stored.keyed)
+      (λ i listed on y same. key_is wage_key row (content y) ∙ sym (agrees y (n, row)) ∙ subst (λ (k : Index). agree k.order k.columns (wage_values y) k.columns (wage_values (n, row)) ≡ true) (only_key i listed on) same) taken
 
   -- the lines of a month go
-  pub deletes : (e m : ℕ) → 24000 ≤ m → AllByRecursion IsWageRow t.wages → IsDone text.delete (month_given e m) old new → HasTables (record t { wages = without_rows wage_key (is_wage_key_of e m) t.wages }) new.now
-  deletes e m from right ran =
+  pub deletes : (e m : ℕ) → IsDone text.delete (month_given e m) old new → HasTables (record t { wages = without_rows wage_key (is_wage_key_of e m) t.wages }) new.now
+  deletes e m ran =
       let it = deleted store_schema 4 wages_table refl (λ _ _. refl) text.delete (month_given e m) old new has.schema text.delete_plain ran.0 ran.1 _ text.delete_is in
       let kept = has.wages in
       let show = λ (y : ℤ × WageRow). Int (beside y) ∷ [] in
-      let p = λ (y : ℤ × WageRow). is_stored_of e m (content y) in
+      let p = λ (y : ℤ × WageRow). is_of e m (content y) in
       let same : IsPermutation (map show (filter p kept.numbered)) it.0 =
       subst (λ l. IsPermutation (map show (filter p l)) it.0) (map-id kept.numbered)
       (shown_in_some_order 5 text.by_month (col 1 0 ∷ []) [] (month_given e m) wage_values (λ y. y) p (passes_month e m) (λ y. ([], show y)) (λ _. refl) store_schema old.now.trees kept.numbered kept.stored.is it.0 it.1) in
       let rows = deleted_is beside wage_values (λ _. refl) old.now.trees wages_table kept.numbered kept.stored it.0 p show (λ _. refl) same in
-      let left = held-delete_where (by_key wage_key) wage_values (is_stored_of e m) t.wages _ _ kept (it.2.applied.rows ∙ rows) in
-      subst (λ rows. HasTables (record t { wages = rows }) new.now)
-      (filter_same_on IsWageRow (λ row. not (is_stored_of e m row)) (λ row. not (is_of e m row)) (λ row good. ap not (front_stays e m from row good)) t.wages right)
-      (wages_changed t old.now new.now has it.2.schema_is it.2.sound _ it.2.applied.tables left)
+      let left = held-delete_where (by_key wage_key) wage_values (is_of e m) t.wages _ _ kept (it.2.applied.rows ∙ rows) in
+      wages_changed t old.now new.now has it.2.schema_is it.2.sound _ it.2.applied.tables left
 
   pub goes : (e m : ℕ) → IsBroken text.delete (month_given e m) old new → ⊥
   goes e m (rule, ran) =
       let bad = delete_violates store_schema 4 wages_table refl (λ _ _. refl) refer_to_none text.delete (month_given e m) old new has.schema text.delete_plain rule ran _ text.delete_is in
       delete_never store_schema old.now.trees wages_table (inr (inr (inr (inr (inl refl))))) (apart_if all_tables refl) (sound_by_schema t old.now has) (ids_of bad.0) rule bad.2
 
-  -- the keys rise as they are stored
-  rises : (xs : List WageRow) → AllByRecursion IsWageRow xs → IsAscending (λ a b. by_key wage_key a b ≡ Less) xs → IsAscending (λ a b. by_key stored_by a b ≡ Less) xs
-  rises = ascending_on IsWageRow (λ a b. by_key wage_key a b ≡ Less) (λ a b. by_key stored_by a b ≡ Less)
-      (λ a b good right less. order_stays a.employer a.month b.employer b.month (a.worker ∷ []) (b.worker ∷ []) good.month.0 right.month.0 ∙ less)
-
   -- an answer shows the lines of the month
-  pub finds : (e m : ℕ) → 24000 ≤ m → AllByRecursion IsWageRow t.wages → (rows : List Row) → Shown text.get (month_given e m) old new rows → rows ≡ map wage_shown (filter (is_of e m) t.wages)
-  finds e m from right rows shown =
+  pub finds : (e m : ℕ) (rows : List Row) → Shown text.get (month_given e m) old new rows → rows ≡ map wage_shown (filter (is_of e m) t.wages)
+  finds e m rows shown =
       let answer = reads_as text.get (month_given e m) old new store_schema has.schema _ text.get_is text.get_plain text.get_reads rows shown in
-      in_order 5 text.by_month text.columns text.order (month_given e m) wage_values content (is_stored_of e m) (passes_month e m) (λ row. (sorted_by row, wage_shown row)) (λ _. refl) old.now.schema old.now.trees has.wages.numbered has.wages.stored.is rows answer
-      (by_key stored_by) sorts t.wages has.wages.same (rises t.wages right has.wages.rises)
-      ∙ ap (map wage_shown) (filter_same_on IsWageRow (is_stored_of e m) (is_of e m) (front_stays e m from) t.wages right)
+      in_order 5 text.by_month text.columns text.order (month_given e m) wage_values content (is_of e m) (passes_month e m) (λ row. (sorted_by row, wage_shown row)) (λ _. refl) old.now.schema old.now.trees has.wages.numbered has.wages.stored.is rows answer
+      (by_key wage_key) sorts t.wages has.wages.same has.wages.rises
     where
       -- what ORDER BY goes by
       sorted_by : WageRow → Row
       sorted_by row = number row.employer ∷ month row.month ∷ number row.worker ∷ []
 
-      sorts : (a b : WageRow) → by_key stored_by a b ≡ Less → output_cmp (plain_query 5 text.by_month text.columns text.order) (sorted_by a, wage_shown a) (sorted_by b, wage_shown b) ≡ Less
-      sorts a b less =
-          rw (value_cmp-Int (pos a.employer) (pos b.employer), value_cmp-Int (pos (month_number a.month)) (pos (month_number b.month)), value_cmp-Int (pos a.worker) (pos b.worker))
-          ((λ i. ordering_then (number_order a.employer b.employer i) (ordering_then (number_order (month_number a.month) (month_number b.month) i) (ordering_then (number_order a.worker b.worker i) Equal))) ∙ less)
+      sorts : (a b : WageRow) → by_key wage_key a b ≡ Less → output_cmp (plain_query 5 text.by_month text.columns text.order) (sorted_by a, wage_shown a) (sorted_by b, wage_shown b) ≡ Less
+      sorts a b less = rw (numbers_compare a.employer b.employer, months_compare a.month b.month, numbers_compare a.worker b.worker) less

@@ -1,7 +1,8 @@
 -- The counts of an office, as a program has them and as a statement is given them.
-use Rattle.std.specs.Prelude.{[], ◌∷◌, ◌<◌, ◌^◌, IfSome}
+use Rattle.std.specs.Prelude.{[], ◌∷◌, ◌<◌, ◌≤◌, ◌^◌, IfSome}
 use Rattle.sqlite.specs.Order.{Row}
 use Rattle.clear_money.specs.Calendar.{IsDay}
+use Rattle.clear_book.specs.Limits.{most_entries, most_serials}
 use Rattle.clear_schema.specs.Values.{Counts, number, maybe}
 use Rattle.clear_firms.specs.declared.counts.Counts.{Counts as Told}
 
@@ -20,9 +21,11 @@ counts_given c =
     maybe c.day ∷ number c.entries ∷ number c.serial ∷ number c.claims ∷ number c.lists
     ∷ number c.runs ∷ []
 
--- counts whose day is in its range, and whose numbers 32 bits hold where they have to
+-- counts whose day and numbers lie in their ranges
 pub record AreCounts (c : Counts) : Type 0 where
   pub day : IfSome c.day IsDay
+  pub entries : c.entries ≤ most_entries
+  pub serial : c.serial ≤ most_serials
   pub claims : c.claims < 2 ^ 32
   pub lists : c.lists < 2 ^ 32
   pub runs : c.runs < 2 ^ 32

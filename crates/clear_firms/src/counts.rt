@@ -1,16 +1,18 @@
 //! The counts of the office: the one row of `meta`.
-ghost use Rattle.std.specs.Prelude.{◌≡◌, ◌≢◌, ◌<◌, ◌^◌, [], ◌∷◌, IfErr, IfOk, IsTrue, OnOk};
+ghost use Rattle.std.specs.Prelude.{◌≡◌, ◌≢◌, ◌≤◌, [], ◌∷◌, Err, IfErr, IfOk, IsTrue, OnOk};
 ghost use Rattle.sqlite.specs.Held.{state};
 ghost use Rattle.sqlite.specs.State.{HasCleanDisk, IsUnchanged, KeepsCommit, Survives};
 ghost use Rattle.sqlite.specs.Values.{bound};
+ghost use Rattle.clear_book.specs.Limits.{most_entries, most_serials};
 ghost use Rattle.clear_book.specs.Tables.{Tables};
 ghost use Rattle.clear_schema.specs.Held.{HasTables};
 ghost use Rattle.clear_schema.specs.Values.{Counts as Stored, counts_of, with_counts};
 ghost use Rattle.clear_firms.specs.Counts.{AreCounts, as_stored, counts_given};
 
 use clear_book::rules::StoreCause;
-use clear_columns::columns::{count_at, maybe_day_at, number_at};
+use clear_columns::columns::{count_at, entry_count_at, maybe_day_at, serial_count_at};
 use clear_columns::parameters::maybe_day;
+use clear_columns::ranges::{is_entry_count, is_serial_count};
 use clear_money::days::Day;
 use clear_schema::fault::Fault;
 use clear_schema::statement::{look, put};
@@ -36,6 +38,7 @@ pub fn find_counts<S: Alter>(tx: &mut Transaction<'_, S>) -> Result<Counts, Faul
     ensures found { HasCleanDisk (state S.Store tx.new.conn.now)
         → (t : Tables) → HasTables t (state S.Store tx.old.conn.now).now
         → IfOk result (λ found. as_stored found ≡ counts_of t) }
+    ensures good { IfOk result (λ found. AreCounts (as_stored found)) }
     ensures cause { HasCleanDisk (state S.Store tx.new.conn.now)
         → (t : Tables) → HasTables t (state S.Store tx.old.conn.now).now
         → IfErr result (λ fault. fault ≢ Fault.Store StoreCause.Constraint) }
@@ -67,6 +70,7 @@ pub fn find_counts<S: Alter>(tx: &mut Transaction<'_, S>) -> Result<Counts, Faul
 fn first_counts(rows: &[Row]) -> Result<Counts, Fault>
     ensures read { IfOk result (λ found. (c : Stored) → rows.now ≡ counts_given c ∷ []
         → as_stored found ≡ c) }
+    ensures good { IfOk result (λ found. AreCounts (as_stored found)) }
     ensures cause { IfErr result (λ fault. fault ≢ Fault.Store StoreCause.Constraint) }
     ensures range { IfErr result (λ fault. fault ≡ Fault.Store StoreCause.Row
         → (c : Stored) → rows.now ≡ counts_given c ∷ [] → ¬ AreCounts c) }
@@ -82,22 +86,27 @@ fn first_counts(rows: &[Row]) -> Result<Counts, Fault>
 
 // The counts that an answer shows.
 fn read_counts(row: &Row) -> Result<Counts, Fault>
-    ensures read { IfOk result (λ found. (c : Stored) → row.now ≡ counts_given c → as_stored found ≡ c) }
+    ensures read { IfOk result (λ found. (c : Stored) → row.now ≡ counts_given c
+        → as_stored found ≡ c) }
+    ensures good { IfOk result (λ found. AreCounts (as_stored found)) }
     ensures cause { IfErr result (λ fault. fault ≢ Fault.Store StoreCause.Constraint) }
     ensures range { IfErr result (λ fault. fault ≡ Fault.Store StoreCause.Row
         → (c : Stored) → row.now ≡ counts_given c → ¬ AreCounts c) }
 {
-    Ok(Counts {
+    let read = Counts {
         day: maybe_day_at(row, 0)?,
-        entries: number_at(row, 1)?,
-        serial: number_at(row, 2)?,
+        entries: entry_count_at(row, 1)?,
+        serial: serial_count_at(row, 2)?,
         claims: count_at(row, 3)?,
         lists: count_at(row, 4)?,
         runs: count_at(row, 5)?,
-    })
+    };
+    let _day = read.day.map(Day::number);
+    Ok(read)
 }
 
-/// Writes the counts in place of those that stand.
+/// Writes the counts in place of those that stand. More than 50,000,000 entries or 500,000,000,000
+/// serials are refused with `Fault::Store(StoreCause::Row)`, and nothing is done.
 pub fn put_counts<S: Alter>(tx: &mut Transaction<'_, S>, counts: &Counts) -> Result<(), Fault>
     ensures same_reference { tx.new.conn.ghost_name ≡ tx.old.conn.ghost_name }
     ensures put { HasCleanDisk (state S.Store tx.new.conn.now)
@@ -108,6 +117,10 @@ pub fn put_counts<S: Alter>(tx: &mut Transaction<'_, S>, counts: &Counts) -> Res
     ensures cause { HasCleanDisk (state S.Store tx.new.conn.now)
         → (t : Tables) → HasTables t (state S.Store tx.old.conn.now).now
         → IfErr result (λ fault. fault ≢ Fault.Store StoreCause.Constraint) }
+    ensures range { IfErr result (λ fault. fault ≡ Fault.Store StoreCause.Row
+        → ¬ ((counts.now.entries ≤ most_entries) × (counts.now.serial ≤ most_serials))) }
+    ensures refused { ¬ ((counts.now.entries ≤ most_entries) × (counts.now.serial ≤ most_serials))
+        → (result ≡ Err (Fault.Store StoreCause.Row)) × (tx.new.conn.now ≡ tx.old.conn.now) }
     ensures kept { HasCleanDisk (state S.Store tx.new.conn.now)
         → KeepsCommit (state S.Store tx.old.conn.now) (state S.Store tx.new.conn.now) }
     ensures goes_on { HasCleanDisk (state S.Store tx.new.conn.now)
@@ -115,20 +128,21 @@ pub fn put_counts<S: Alter>(tx: &mut Transaction<'_, S>, counts: &Counts) -> Res
     ensures survives { Survives (state S.Store tx.old.conn.now) (state S.Store tx.new.conn.now)
         (λ _. ⊥) }
 {
-    if counts.entries >= 1 << 63 || counts.serial >= 1 << 63 {
-        return Err(Fault::Store(StoreCause::Other));
+    if !is_entry_count(counts.entries) || !is_serial_count(counts.serial) {
+        return Err(Fault::Store(StoreCause::Row));
     }
     put(
         tx,
-        "UPDATE meta SET day = ?1, entries = ?2, serial = ?3, claims = ?4, lists = ?5, runs = ?6 WHERE one = 1",
+        "UPDATE meta SET day = ?1, entries = ?2, serial = ?3, claims = ?4, lists = ?5, runs = ?6 \
+         WHERE one = 1",
         &counts_values(counts),
     )
 }
 
 // What the statement is given of the counts.
 fn counts_values(counts: &Counts) -> [ValueRef<'static>; 6]
-    requires entries { counts.now.entries < 2 ^ 63 }
-    requires serial { counts.now.serial < 2 ^ 63 }
+    requires entries { counts.now.entries ≤ most_entries }
+    requires serial { counts.now.serial ≤ most_serials }
     ensures { bound result ≡ counts_given (as_stored counts.now) }
 {
     [

@@ -1,5 +1,5 @@
 //! The table of employers.
-ghost use Rattle.std.specs.Prelude.{◌≡◌, ◌≢◌, [], ◌∷◌, List, None, Some, slice_get, map};
+ghost use Rattle.std.specs.Prelude.{◌≡◌, ◌≢◌, [], ◌∷◌, None, Some};
 ghost use Rattle.std.specs.Prelude.{IfErr, IfOk, IfSome, IsSome, IsTrue, OnOk};
 ghost use Rattle.sqlite.specs.Held.{state};
 ghost use Rattle.sqlite.specs.State.{HasCleanDisk, IsUnchanged, KeepsCommit, Survives};
@@ -15,6 +15,8 @@ use clear_book::rows::EmployerRow;
 use clear_book::rules::StoreCause;
 use clear_columns::columns::{employer_at, maybe_month_at, month_at, name_at};
 use clear_columns::parameters::{employer, maybe_month};
+use clear_columns::rows::{StoredTable, first_row};
+use clear_money::months::Month;
 use clear_money::numbers::EmployerNo;
 use clear_schema::fault::Fault;
 use clear_schema::statement::{look, put};
@@ -60,8 +62,8 @@ pub fn find_employer<S: Alter>(
     ensures same_reference { tx.new.conn.ghost_name ≡ tx.old.conn.ghost_name }
     ensures found { HasCleanDisk (state S.Store tx.new.conn.now)
         → (t : Tables) → HasTables t (state S.Store tx.old.conn.now).now
-        → IfSome (find_row employer_key t.employers (no ∷ [])) IsEmployerRow
         → IfOk result (λ found. found ≡ find_row employer_key t.employers (no ∷ [])) }
+    ensures good { IfOk result (λ found. IfSome found IsEmployerRow) }
     ensures cause { HasCleanDisk (state S.Store tx.new.conn.now)
         → (t : Tables) → HasTables t (state S.Store tx.old.conn.now).now
         → IfErr result (λ fault. fault ≢ Fault.Store StoreCause.Constraint) }
@@ -88,41 +90,42 @@ pub fn find_employer<S: Alter>(
         Ok(rows) => rows,
         Err(fault) => return Err(fault),
     };
-    first_employer(&rows)
+    first_row::<Employers>(&rows)
 }
 
-// The first row of an answer.
-fn first_employer(rows: &[Row]) -> Result<Option<EmployerRow>, Fault>
-    ensures read { IfOk result (λ found. (xs : List Entry) → rows.now ≡ map employer_shown xs
-        → IfSome (slice_get xs 0) IsEmployerRow → found ≡ slice_get xs 0) }
-    ensures cause { IfErr result (λ fault. fault ≢ Fault.Store StoreCause.Constraint) }
-    ensures range { IfErr result (λ fault. fault ≡ Fault.Store StoreCause.Row
-        → (xs : List Entry) → rows.now ≡ map employer_shown xs
-        → (x : Entry) × (slice_get xs 0 ≡ Some x) × ¬ IsEmployerRow x) }
-{
-    match rows.first() {
-        Some(row) => match read_employer(row) {
-            Ok(found) => Ok(Some(found)),
-            Err(fault) => Err(fault),
-        },
-        None => Ok(None),
+/// The table of employers.
+pub struct Employers;
+
+impl StoredTable for Employers {
+    ghost use Rattle.clear_book.specs.RowRanges.{IsEmployerRow};
+    ghost use Rattle.clear_firms.specs.Shown.{employer_shown};
+
+    type Row = EmployerRow;
+
+    ghost shown = { employer_shown };
+
+    ghost is_in_range = { IsEmployerRow };
+
+    fn read(row: &Row) -> Result<EmployerRow, Fault> {
+        let read = EmployerRow {
+            employer: employer_at(row, 0)?,
+            name: name_at(row, 1)?,
+            start: month_at(row, 2)?,
+            last: maybe_month_at(row, 3)?,
+        };
+        employer_in_range(&read);
+        Ok(read)
     }
 }
 
-// The row that an answer shows.
-fn read_employer(row: &Row) -> Result<EmployerRow, Fault>
-    ensures read { IfOk result (λ e. (x : Entry)
-        → row.now ≡ employer_shown x → IsEmployerRow x → e ≡ x) }
-    ensures cause { IfErr result (λ fault. fault ≢ Fault.Store StoreCause.Constraint) }
-    ensures range { IfErr result (λ fault. fault ≡ Fault.Store StoreCause.Row
-        → (x : Entry) → row.now ≡ employer_shown x → ¬ IsEmployerRow x) }
+// The values of a firm's row lie in their ranges, since each is of a type that holds no others.
+fn employer_in_range(row: &EmployerRow)
+    ensures { IsEmployerRow row.now }
 {
-    Ok(EmployerRow {
-        employer: employer_at(row, 0)?,
-        name: name_at(row, 1)?,
-        start: month_at(row, 2)?,
-        last: maybe_month_at(row, 3)?,
-    })
+    let _number = row.employer.number();
+    let _name = row.name.as_str();
+    let _start = row.start.number();
+    let _last = row.last.map(Month::number);
 }
 
 // What a statement is given of a row.

@@ -1,6 +1,5 @@
 //! What statements on months are given.
 ghost use Rattle.std.specs.Prelude.{◌≡◌};
-ghost use Rattle.clear_money.specs.Calendar.{IsMonth};
 ghost use Rattle.sqlite.specs.Values.{bound};
 ghost use Rattle.clear_firms.specs.Shown.{month_given};
 
@@ -12,9 +11,7 @@ use sqlite_value::value::ValueRef;
 
 /// What a query is given of a firm and a month.
 pub fn month_values(no: EmployerNo, at: Month) -> [ValueRef<'static>; 2]
-    ensures given { bound result ≡ month_given no at }
-    ensures range { IsMonth at }
+    ensures { bound result ≡ month_given no at }
 {
-    let _number = at.number();
     [employer(no), month(at)]
 }

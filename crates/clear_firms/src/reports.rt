@@ -1,13 +1,12 @@
 //! The table of reports: the version of each month's latest report.
-ghost use Rattle.std.specs.Prelude.{◌≡◌, ◌≢◌, [], ◌∷◌, List, None, Some, slice_get, map};
+ghost use Rattle.std.specs.Prelude.{◌≡◌, ◌≢◌, ◌≤◌, [], ◌∷◌, None, Some, Err};
 ghost use Rattle.std.specs.Prelude.{IfErr, IfOk, IfSome, IsSome, IsTrue, OnOk};
-ghost use Rattle.std.specs.List.{AllByRecursion};
 ghost use Rattle.sqlite.specs.Held.{state};
 ghost use Rattle.sqlite.specs.State.{HasCleanDisk, IsUnchanged, KeepsCommit, Survives};
 ghost use Rattle.sqlite.specs.Values.{bound};
-ghost use Rattle.clear_money.specs.Calendar.{IsMonth};
 ghost use Rattle.clear_book.specs.declared.rows.ReportRow.{ReportRow as Entry};
 ghost use Rattle.clear_book.specs.Keyed.{find_row, put_row, with_row};
+ghost use Rattle.clear_book.specs.Limits.{most_versions};
 ghost use Rattle.clear_book.specs.RowRanges.{IsReportRow};
 ghost use Rattle.clear_book.specs.Tables.{Tables, report_key};
 ghost use Rattle.clear_schema.specs.Held.{HasTables};
@@ -18,6 +17,8 @@ use clear_book::rows::ReportRow;
 use clear_book::rules::StoreCause;
 use clear_columns::columns::{employer_at, month_at, version_at};
 use clear_columns::parameters::employer;
+use clear_columns::ranges::is_version;
+use clear_columns::rows::{StoredTable, first_row};
 use clear_money::months::Month;
 use clear_money::numbers::EmployerNo;
 use clear_schema::fault::Fault;
@@ -26,7 +27,8 @@ use clear_schema::values::{month, number};
 use sqlite::{Alter, Row, Transaction};
 use sqlite_value::value::ValueRef;
 
-/// Adds the first report of a month.
+/// Adds the first report of a month. A version out of 1 to 10,000 is refused with
+/// `Fault::Store(StoreCause::Row)`, and nothing is done.
 pub fn insert_report<S: Alter>(tx: &mut Transaction<'_, S>, row: ReportRow) -> Result<(), Fault>
     ensures same_reference { tx.new.conn.ghost_name ≡ tx.old.conn.ghost_name }
     ensures put { HasCleanDisk (state S.Store tx.new.conn.now)
@@ -37,9 +39,12 @@ pub fn insert_report<S: Alter>(tx: &mut Transaction<'_, S>, row: ReportRow) -> R
         × (find_row report_key t.reports (report_key row) ≡ None)) }
     ensures cause { HasCleanDisk (state S.Store tx.new.conn.now)
         → (t : Tables) → HasTables t (state S.Store tx.old.conn.now).now
-        → AllByRecursion IsReportRow t.reports
         → IfErr result (λ fault. fault ≡ Fault.Store StoreCause.Constraint
         → IsSome (find_row report_key t.reports (report_key row))) }
+    ensures range { IfErr result (λ fault. fault ≡ Fault.Store StoreCause.Row
+        → ¬ ((1 ≤ row.version) × (row.version ≤ most_versions))) }
+    ensures refused { ¬ ((1 ≤ row.version) × (row.version ≤ most_versions))
+        → (result ≡ Err (Fault.Store StoreCause.Row)) × (tx.new.conn.now ≡ tx.old.conn.now) }
     ensures kept { HasCleanDisk (state S.Store tx.new.conn.now)
         → KeepsCommit (state S.Store tx.old.conn.now) (state S.Store tx.new.conn.now) }
     ensures goes_on { HasCleanDisk (state S.Store tx.new.conn.now)
@@ -47,6 +52,9 @@ pub fn insert_report<S: Alter>(tx: &mut Transaction<'_, S>, row: ReportRow) -> R
     ensures survives { Survives (state S.Store tx.old.conn.now) (state S.Store tx.new.conn.now)
         (λ _. ⊥) }
 {
+    if !is_version(row.version) {
+        return Err(Fault::Store(StoreCause::Row));
+    }
     put(
         tx,
         "INSERT INTO reports (employer, month, version) VALUES (?1, ?2, ?3)",
@@ -55,19 +63,26 @@ pub fn insert_report<S: Alter>(tx: &mut Transaction<'_, S>, row: ReportRow) -> R
 }
 
 /// Writes the version of a later report of a month. Where the month has none, nothing is written.
+/// A version out of 1 to 10,000 is refused as by `insert_report`.
 pub fn replace_report<S: Alter>(tx: &mut Transaction<'_, S>, row: ReportRow) -> Result<(), Fault>
     ensures same_reference { tx.new.conn.ghost_name ≡ tx.old.conn.ghost_name }
     ensures put { HasCleanDisk (state S.Store tx.new.conn.now)
         → (t : Tables) → HasTables t (state S.Store tx.old.conn.now).now
-        → AllByRecursion IsReportRow t.reports
         → IsSome (find_row report_key t.reports (report_key row))
         → OnOk result (HasTables
         (record t { reports = put_row report_key t.reports row })
         (state S.Store tx.new.conn.now).now) }
+    ensures none { HasCleanDisk (state S.Store tx.new.conn.now)
+        → (t : Tables) → HasTables t (state S.Store tx.old.conn.now).now
+        → find_row report_key t.reports (report_key row) ≡ None
+        → OnOk result (HasTables t (state S.Store tx.new.conn.now).now) }
     ensures cause { HasCleanDisk (state S.Store tx.new.conn.now)
         → (t : Tables) → HasTables t (state S.Store tx.old.conn.now).now
-        → AllByRecursion IsReportRow t.reports
         → IfErr result (λ fault. fault ≢ Fault.Store StoreCause.Constraint) }
+    ensures range { IfErr result (λ fault. fault ≡ Fault.Store StoreCause.Row
+        → ¬ ((1 ≤ row.version) × (row.version ≤ most_versions))) }
+    ensures refused { ¬ ((1 ≤ row.version) × (row.version ≤ most_versions))
+        → (result ≡ Err (Fault.Store StoreCause.Row)) × (tx.new.conn.now ≡ tx.old.conn.now) }
     ensures kept { HasCleanDisk (state S.Store tx.new.conn.now)
         → KeepsCommit (state S.Store tx.old.conn.now) (state S.Store tx.new.conn.now) }
     ensures goes_on { HasCleanDisk (state S.Store tx.new.conn.now)
@@ -75,6 +90,9 @@ pub fn replace_report<S: Alter>(tx: &mut Transaction<'_, S>, row: ReportRow) -> 
     ensures survives { Survives (state S.Store tx.old.conn.now) (state S.Store tx.new.conn.now)
         (λ _. ⊥) }
 {
+    if !is_version(row.version) {
+        return Err(Fault::Store(StoreCause::Row));
+    }
     put(
         tx,
         "UPDATE reports SET version = ?3 WHERE employer = ?1 AND month = ?2",
@@ -91,15 +109,16 @@ pub fn find_report<S: Alter>(
     ensures same_reference { tx.new.conn.ghost_name ≡ tx.old.conn.ghost_name }
     ensures found { HasCleanDisk (state S.Store tx.new.conn.now)
         → (t : Tables) → HasTables t (state S.Store tx.old.conn.now).now
-        → AllByRecursion IsReportRow t.reports
         → IfOk result (λ found. found ≡ find_row report_key t.reports (no ∷ at ∷ [])) }
+    ensures good { IfOk result (λ found. IfSome found IsReportRow) }
     ensures cause { HasCleanDisk (state S.Store tx.new.conn.now)
         → (t : Tables) → HasTables t (state S.Store tx.old.conn.now).now
         → IfErr result (λ fault. fault ≢ Fault.Store StoreCause.Constraint) }
     ensures range { HasCleanDisk (state S.Store tx.new.conn.now)
         → (t : Tables) → HasTables t (state S.Store tx.old.conn.now).now
-        → AllByRecursion IsReportRow t.reports
-        → IfErr result (λ fault. fault ≢ Fault.Store StoreCause.Row) }
+        → IfErr result (λ fault. fault ≡ Fault.Store StoreCause.Row
+        → (x : Entry) × (find_row report_key t.reports (no ∷ at ∷ []) ≡ Some x)
+        × ¬ IsReportRow x) }
     ensures same { HasCleanDisk (state S.Store tx.new.conn.now)
         → (t : Tables) → HasTables t (state S.Store tx.old.conn.now).now
         → OnOk result (IsUnchanged (state S.Store tx.old.conn.now)
@@ -118,48 +137,38 @@ pub fn find_report<S: Alter>(
         Ok(rows) => rows,
         Err(fault) => return Err(fault),
     };
-    first_report(&rows)
+    first_row::<Reports>(&rows)
 }
 
-// The first row of an answer.
-fn first_report(rows: &[Row]) -> Result<Option<ReportRow>, Fault>
-    ensures read { IfOk result (λ found. (xs : List Entry) → rows.now ≡ map report_shown xs
-        → IfSome (slice_get xs 0) IsReportRow → found ≡ slice_get xs 0) }
-    ensures cause { IfErr result (λ fault. fault ≢ Fault.Store StoreCause.Constraint) }
-    ensures range { IfErr result (λ fault. fault ≡ Fault.Store StoreCause.Row
-        → (xs : List Entry) → rows.now ≡ map report_shown xs
-        → (x : Entry) × (slice_get xs 0 ≡ Some x) × ¬ IsReportRow x) }
-{
-    match rows.first() {
-        Some(row) => match read_report(row) {
-            Ok(found) => Ok(Some(found)),
-            Err(fault) => Err(fault),
-        },
-        None => Ok(None),
+/// The table of reports.
+pub struct Reports;
+
+impl StoredTable for Reports {
+    ghost use Rattle.clear_book.specs.RowRanges.{IsReportRow};
+    ghost use Rattle.clear_firms.specs.Shown.{report_shown};
+
+    type Row = ReportRow;
+
+    ghost shown = { report_shown };
+
+    ghost is_in_range = { IsReportRow };
+
+    fn read(row: &Row) -> Result<ReportRow, Fault> {
+        let read = ReportRow {
+            employer: employer_at(row, 0)?,
+            month: month_at(row, 1)?,
+            version: version_at(row, 2)?,
+        };
+        let _number = read.employer.number();
+        let _month = read.month.number();
+        Ok(read)
     }
-}
-
-// The row that an answer shows.
-fn read_report(row: &Row) -> Result<ReportRow, Fault>
-    ensures read { IfOk result (λ r. (x : Entry)
-        → row.now ≡ report_shown x → IsReportRow x → r ≡ x) }
-    ensures cause { IfErr result (λ fault. fault ≢ Fault.Store StoreCause.Constraint) }
-    ensures range { IfErr result (λ fault. fault ≡ Fault.Store StoreCause.Row
-        → (x : Entry) → row.now ≡ report_shown x → ¬ IsReportRow x) }
-{
-    Ok(ReportRow {
-        employer: employer_at(row, 0)?,
-        month: month_at(row, 1)?,
-        version: version_at(row, 2)?,
-    })
 }
 
 // What a statement is given of a row.
 fn report_values(row: &ReportRow) -> [ValueRef<'static>; 3]
-    ensures given { bound result ≡ report_shown row.now }
-    ensures range { IsMonth row.now.month }
+    ensures { bound result ≡ report_shown row.now }
 {
-    let _number = row.month.number();
     [
         employer(row.employer),
         month(row.month),

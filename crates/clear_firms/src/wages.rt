@@ -1,13 +1,12 @@
 //! The table of wages: the lines of each month's latest report.
-ghost use Rattle.std.specs.Prelude.{◌≡◌, ◌≢◌, ◌<◌, ◌^◌, List, None, filter, map};
-ghost use Rattle.std.specs.Prelude.{IfErr, IfOk, IfSome, IsSome, IsTrue, OnOk};
+ghost use Rattle.std.specs.Prelude.{◌≡◌, ◌≢◌, ◌≤◌, None, Err, filter};
+ghost use Rattle.std.specs.Prelude.{IfErr, IfOk, IsSome, IsTrue, OnOk};
 ghost use Rattle.std.specs.List.{AllByRecursion};
 ghost use Rattle.sqlite.specs.Held.{state};
 ghost use Rattle.sqlite.specs.State.{HasCleanDisk, IsUnchanged, KeepsCommit, Survives};
 ghost use Rattle.sqlite.specs.Values.{bound};
-ghost use Rattle.clear_money.specs.Calendar.{IsMonth};
-ghost use Rattle.clear_book.specs.declared.rows.WageRow.{WageRow as Entry};
 ghost use Rattle.clear_book.specs.Keyed.{find_row, with_row, without_rows};
+ghost use Rattle.clear_book.specs.Limits.{most_gross};
 ghost use Rattle.clear_book.specs.RowRanges.{IsWageRow};
 ghost use Rattle.clear_book.specs.Tables.{Tables, is_wage_key_of, wage_key};
 ghost use Rattle.clear_schema.specs.Held.{HasTables};
@@ -18,6 +17,8 @@ use clear_book::rows::WageRow;
 use clear_book::rules::StoreCause;
 use clear_columns::columns::{employer_at, gross_at, month_at, worker_at};
 use clear_columns::parameters::{employer, worker};
+use clear_columns::ranges::is_gross;
+use clear_columns::rows::{StoredTable, all_rows};
 use clear_money::months::Month;
 use clear_money::numbers::EmployerNo;
 use clear_schema::fault::Fault;
@@ -25,9 +26,9 @@ use clear_schema::statement::{look, put};
 use clear_schema::values::{month, number};
 use sqlite::{Alter, Row, Transaction};
 use sqlite_value::value::ValueRef;
-use std::alloc::Global;
 
-/// Adds a worker's line of a month.
+/// Adds a worker's line of a month. A gross amount above 10,000,000 cents is refused with
+/// `Fault::Store(StoreCause::Row)`, and nothing is done.
 pub fn insert_wage<S: Alter>(tx: &mut Transaction<'_, S>, row: WageRow) -> Result<(), Fault>
     ensures same_reference { tx.new.conn.ghost_name ≡ tx.old.conn.ghost_name }
     ensures put { HasCleanDisk (state S.Store tx.new.conn.now)
@@ -38,9 +39,12 @@ pub fn insert_wage<S: Alter>(tx: &mut Transaction<'_, S>, row: WageRow) -> Resul
         × (find_row wage_key t.wages (wage_key row) ≡ None)) }
     ensures cause { HasCleanDisk (state S.Store tx.new.conn.now)
         → (t : Tables) → HasTables t (state S.Store tx.old.conn.now).now
-        → AllByRecursion IsWageRow t.wages
         → IfErr result (λ fault. fault ≡ Fault.Store StoreCause.Constraint
         → IsSome (find_row wage_key t.wages (wage_key row))) }
+    ensures range { IfErr result (λ fault. fault ≡ Fault.Store StoreCause.Row
+        → ¬ (row.gross ≤ most_gross)) }
+    ensures refused { ¬ (row.gross ≤ most_gross)
+        → (result ≡ Err (Fault.Store StoreCause.Row)) × (tx.new.conn.now ≡ tx.old.conn.now) }
     ensures kept { HasCleanDisk (state S.Store tx.new.conn.now)
         → KeepsCommit (state S.Store tx.old.conn.now) (state S.Store tx.new.conn.now) }
     ensures goes_on { HasCleanDisk (state S.Store tx.new.conn.now)
@@ -48,8 +52,8 @@ pub fn insert_wage<S: Alter>(tx: &mut Transaction<'_, S>, row: WageRow) -> Resul
     ensures survives { Survives (state S.Store tx.old.conn.now) (state S.Store tx.new.conn.now)
         (λ _. ⊥) }
 {
-    if row.gross >= 1 << 63 {
-        return Err(Fault::Store(StoreCause::Other));
+    if !is_gross(row.gross) {
+        return Err(Fault::Store(StoreCause::Row));
     }
     put(
         tx,
@@ -67,7 +71,6 @@ pub fn delete_wages<S: Alter>(
     ensures same_reference { tx.new.conn.ghost_name ≡ tx.old.conn.ghost_name }
     ensures put { HasCleanDisk (state S.Store tx.new.conn.now)
         → (t : Tables) → HasTables t (state S.Store tx.old.conn.now).now
-        → AllByRecursion IsWageRow t.wages
         → OnOk result (HasTables
         (record t { wages = without_rows wage_key (is_wage_key_of no at) t.wages })
         (state S.Store tx.new.conn.now).now) }
@@ -97,16 +100,17 @@ pub fn wages_of<S: Alter>(
     ensures same_reference { tx.new.conn.ghost_name ≡ tx.old.conn.ghost_name }
     ensures found { HasCleanDisk (state S.Store tx.new.conn.now)
         → (t : Tables) → HasTables t (state S.Store tx.old.conn.now).now
-        → AllByRecursion IsWageRow t.wages
         → IfOk result (λ found. found.items
         ≡ filter (λ row. is_wage_key_of no at (wage_key row)) t.wages) }
+    ensures good { IfOk result (λ found. AllByRecursion IsWageRow found.items) }
     ensures cause { HasCleanDisk (state S.Store tx.new.conn.now)
         → (t : Tables) → HasTables t (state S.Store tx.old.conn.now).now
         → IfErr result (λ fault. fault ≢ Fault.Store StoreCause.Constraint) }
     ensures range { HasCleanDisk (state S.Store tx.new.conn.now)
         → (t : Tables) → HasTables t (state S.Store tx.old.conn.now).now
-        → AllByRecursion IsWageRow t.wages
-        → IfErr result (λ fault. fault ≢ Fault.Store StoreCause.Row) }
+        → IfErr result (λ fault. fault ≡ Fault.Store StoreCause.Row
+        → ¬ AllByRecursion IsWageRow
+        (filter (λ row. is_wage_key_of no at (wage_key row)) t.wages)) }
     ensures same { HasCleanDisk (state S.Store tx.new.conn.now)
         → (t : Tables) → HasTables t (state S.Store tx.old.conn.now).now
         → OnOk result (IsUnchanged (state S.Store tx.old.conn.now)
@@ -119,58 +123,48 @@ pub fn wages_of<S: Alter>(
 {
     let rows = match look(
         tx,
-        "SELECT employer, month, worker, gross FROM wages WHERE employer = ?1 AND month = ?2 ORDER BY employer, month, worker",
+        "SELECT employer, month, worker, gross FROM wages WHERE employer = ?1 AND month = ?2 \
+         ORDER BY employer, month, worker",
         &month_values(no, at),
     ) {
         Ok(rows) => rows,
         Err(fault) => return Err(fault),
     };
-    read_wages(*rows.allocator(), &rows)
+    all_rows::<Wages>(*rows.allocator(), &rows)
 }
 
-// The rows that an answer shows.
-fn read_wages(alloc: Global, rows: &[Row]) -> Result<Vec<WageRow>, Fault>
-    ensures read { IfOk result (λ found. (xs : List Entry) → rows.now ≡ map wage_shown xs
-        → AllByRecursion IsWageRow xs → found.items ≡ xs) }
-    ensures cause { IfErr result (λ fault. fault ≢ Fault.Store StoreCause.Constraint) }
-    ensures range { IfErr result (λ fault. fault ≡ Fault.Store StoreCause.Row
-        → (xs : List Entry) → rows.now ≡ map wage_shown xs → ¬ AllByRecursion IsWageRow xs) }
-{
-    let mut found = Vec::new(alloc);
-    for row in rows {
-        match read_wage(row) {
-            Ok(wage) => match found.push(wage) {
-                Ok(()) => {}
-                Err(_) => return Err(Fault::Memory),
-            },
-            Err(fault) => return Err(fault),
-        }
+/// The table of wages.
+pub struct Wages;
+
+impl StoredTable for Wages {
+    ghost use Rattle.clear_book.specs.RowRanges.{IsWageRow};
+    ghost use Rattle.clear_firms.specs.Shown.{wage_shown};
+
+    type Row = WageRow;
+
+    ghost shown = { wage_shown };
+
+    ghost is_in_range = { IsWageRow };
+
+    fn read(row: &Row) -> Result<WageRow, Fault> {
+        let read = WageRow {
+            employer: employer_at(row, 0)?,
+            month: month_at(row, 1)?,
+            worker: worker_at(row, 2)?,
+            gross: gross_at(row, 3)?,
+        };
+        let _number = read.employer.number();
+        let _month = read.month.number();
+        let _worker = read.worker.number();
+        Ok(read)
     }
-    Ok(found)
-}
-
-// The row that an answer shows.
-fn read_wage(row: &Row) -> Result<WageRow, Fault>
-    ensures read { IfOk result (λ w. (x : Entry) → row.now ≡ wage_shown x → IsWageRow x → w ≡ x) }
-    ensures cause { IfErr result (λ fault. fault ≢ Fault.Store StoreCause.Constraint) }
-    ensures range { IfErr result (λ fault. fault ≡ Fault.Store StoreCause.Row
-        → (x : Entry) → row.now ≡ wage_shown x → ¬ IsWageRow x) }
-{
-    Ok(WageRow {
-        employer: employer_at(row, 0)?,
-        month: month_at(row, 1)?,
-        worker: worker_at(row, 2)?,
-        gross: gross_at(row, 3)?,
-    })
 }
 
 // What a statement is given of a row.
 fn wage_values(row: &WageRow) -> [ValueRef<'static>; 4]
-    requires { row.now.gross < 2 ^ 63 }
-    ensures given { bound result ≡ wage_shown row.now }
-    ensures range { IsMonth row.now.month }
+    requires { row.now.gross ≤ most_gross }
+    ensures { bound result ≡ wage_shown row.now }
 {
-    let _number = row.month.number();
     [
         employer(row.employer),
         month(row.month),

@@ -1,5 +1,5 @@
 -- The first rows of a store: the row of `meta`, and the opening rates.
-use Rattle.std.proofs.Common.{◌≡◌, ℕ, ℤ, pos, zero, suc, ◌+◌, ◌≤◌, ◌<◌, ◌<ℤ◌, List, [], ◌∷◌, Some, take, slice_get, get_or, refl, sym, ap, subst, ◌∙◌, codes, arith, length}
+use Rattle.std.proofs.Common.{◌≡◌, ℕ, ℤ, pos, zero, suc, ◌+◌, ◌<◌, ◌<ℤ◌, List, [], ◌∷◌, Some, take, slice_get, get_or, refl, sym, ap, subst, ◌∙◌, codes, arith, length}
 use Rattle.std.specs.List.{AllByRecursion}
 use Rattle.std.proofs.lemmas.Int.{ints}
 use Rattle.std.proofs.lemmas.List.Sorted.{IsPermutation-refl}
@@ -16,7 +16,7 @@ use Rattle.sqlite.proofs.Callers.{IsPlain, command_of}
 use Rattle.sqlite_tied.specs.Compute.{everything}
 use Rattle.sqlite_keyed.specs.Keyed.{IsKeyedBy, insert_by}
 use Rattle.sqlite_keyed.proofs.KeyedLemmas.{IsKeyedBy-insert_by, Less-from_lt}
-use Rattle.clear_money.specs.Rates.{Rate, IsRate, IsRising, AllAfter}
+use Rattle.clear_money.specs.Rates.{Rate, IsRising, AllAfter}
 use Rattle.clear_book.specs.Accounts.{credit_key}
 use Rattle.clear_book.specs.Tables.{Tables, Stands, report_key, wage_key, bank_key}
 use Rattle.clear_rows.specs.Kept.{IsNumbered}
@@ -115,7 +115,7 @@ rate_plain = (refl, refl)
 
 -- the columns take the values as they are
 rate_stored : (r : Rate) → cast_row rates_table (stored.rate_values r) ≡ stored.rate_values r
-rate_stored r = rw (cast_int (pos (month_number r.first)), cast_null, cast_int (pos r.contribution_rate), cast_int (pos r.report_day), cast_int (pos r.due_day), cast_int (pos r.interest_rate), cast_int (pos r.entitlement_rate))
+rate_stored r = rw (cast_int (month_number r.first), cast_null, cast_int (pos r.contribution_rate), cast_int (pos r.report_day), cast_int (pos r.due_day), cast_int (pos r.interest_rate), cast_int (pos r.entitlement_rate))
 
 -- the row is put at its month's place
 pub rate_put : (t : Tables) (old new : State) (r : Rate) → HasTables t old.now → IsDone rate_text (rate_given r) old new → HasTables (record t { rates = insert_by rate_key t.rates r }) new.now
@@ -127,18 +127,18 @@ rate_put t old new r has ran =
 -- ---- rates in their order
 
 -- months in their order are stored in it
-later : (f g : ℕ) → 24000 ≤ f → f < g → pos (month_number f) <ℤ pos (month_number g)
-later f g from less = let apart : month_number f < month_number g = omega (arith, from, less) in grind (arith, ints, apart)
+later : (f g : ℕ) → f < g → month_number f <ℤ month_number g
+later f g less = omega (arith, ints, less)
 
 -- and so is a month before a list of others
-all_later : (f : ℕ) (rs : List Rate) → 24000 ≤ f → AllAfter f rs → AllByRecursion (λ r. pos (month_number f) <ℤ rate_key r) rs
-all_later f [] from after = tt
-all_later f (r ∷ rs) from after = (later f r.first from after.0, all_later f rs from after.1)
+all_later : (f : ℕ) (rs : List Rate) → AllAfter f rs → AllByRecursion (λ r. month_number f <ℤ rate_key r) rs
+all_later f [] after = tt
+all_later f (r ∷ rs) after = (later f r.first after.0, all_later f rs after.1)
 
 -- rising rates rise by their stored keys
-pub keyed_rates : (rs : List Rate) → IsRising rs → AllByRecursion IsRate rs → IsKeyedBy rate_key rs
-keyed_rates [] rising ranges = tt
-keyed_rates (r ∷ rs) rising ranges = (all_later r.first rs ranges.0.first.0 rising.0, keyed_rates rs rising.1 ranges.1)
+pub keyed_rates : (rs : List Rate) → IsRising rs → IsKeyedBy rate_key rs
+keyed_rates [] rising = tt
+keyed_rates (r ∷ rs) rising = (all_later r.first rs rising.0, keyed_rates rs rising.1)
 
 -- a property of each is one of that at a place
 at_place : (P : Rate → Type 0) (rs : List Rate) (k : ℕ) (r : Rate) → slice_get rs k ≡ Some r → AllByRecursion P rs → P r

@@ -39,7 +39,7 @@ pub record IsStore (number : ℕ) (t : Tables) (db : Database) : Type 0 where
   pub schema : db.schema ≡ store_schema
   pub meta : HasNumbered (λ c. 1) (stored.meta_values number) (stored.counts_of t ∷ [])
       (db.trees 0)
-  pub rates : HasNumbered (λ r. stored.month_number r.first) stored.rate_values t.rates
+  pub rates : IsNumbered (λ r. stored.month_number r.first) stored.rate_values t.rates
       (db.trees 1)
   pub employers : HasNumbered (λ row. row.employer) stored.employer_values t.employers
       (db.trees 2)

@@ -1,8 +1,7 @@
 -- How a row of each table is stored: its values, column by column. A row of a numbered table has
 -- its number in front and NULL in its first column's place; a row of a keyed table stands beside
 -- some number. Months are counted from 2000-01.
-use Rattle.std.specs.Prelude.{ℕ, ℤ, pos, ◌-◌, [], ◌∷◌, Option, Some, None, codes}
-use Rattle.std.specs.Option.{option_map}
+use Rattle.std.specs.Prelude.{ℕ, ℤ, pos, ◌-ℤ◌, [], ◌∷◌, Option, Some, None, codes}
 use Rattle.sqlite.specs.declared.types.Value.{Value}
 use Rattle.sqlite.specs.declared.types.Value.TheVariants.{Null, Int, Text, Blob}
 use Rattle.sqlite.specs.Order.{Row}
@@ -36,14 +35,15 @@ maybe None = Null
 maybe (Some n) = number n
 
 -- a month, counted from 2000-01
-abbrev pub month_number : ℕ → ℕ
-month_number m = m - 24000
+abbrev pub month_number : ℕ → ℤ
+month_number m = pos m -ℤ pos 24000
 
 abbrev pub month : ℕ → Value
-month m = number (month_number m)
+month m = Int (month_number m)
 
 abbrev pub maybe_month : Option ℕ → Value
-maybe_month m = maybe (option_map month_number m)
+maybe_month None = Null
+maybe_month (Some m) = month m
 
 abbrev pub purpose : Purpose → Value
 purpose Contribution = Text (codes "C")

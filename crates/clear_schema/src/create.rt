@@ -28,20 +28,24 @@ use sqlite_value::value::ValueRef;
 pub fn create_in<S: Alter>(conn: &mut Connection<S>, rates: &RateTable) -> Result<(), OpenFault>
     requires { conn.old.in_transaction ≡ false }
     ensures mode { conn.new.in_transaction ≡ false }
-    ensures created { HasCleanDisk (state S.Store conn.new) → (state S.Store conn.old).now.schema ≡ no_schema
+    ensures created { HasCleanDisk (state S.Store conn.new)
+        → (state S.Store conn.old).now.schema ≡ no_schema
         → OnOk result (HasTables (first_tables rates.now) (state S.Store conn.new).now
         × HasTables (first_tables rates.now) (state S.Store conn.new).committed) }
     ensures crash { (state S.Store conn.old).now.schema ≡ no_schema
         → Survives (state S.Store conn.old) (state S.Store conn.new)
         (StandsFor (first_tables rates.now)) }
-    ensures alone { HasCleanDisk (state S.Store conn.new) → (state S.Store conn.old).now.schema ≡ no_schema
+    ensures alone { HasCleanDisk (state S.Store conn.new)
+        → (state S.Store conn.old).now.schema ≡ no_schema
         → OnOk result ((trees : Trees) → (state S.Store conn.new).may_leave trees
         → StandsFor (first_tables rates.now) trees) }
-    ensures undone { HasCleanDisk (state S.Store conn.new) → (state S.Store conn.old).now.schema ≡ no_schema
+    ensures undone { HasCleanDisk (state S.Store conn.new)
+        → (state S.Store conn.old).now.schema ≡ no_schema
         → IsTrue (state S.Store conn.new).is_open
         → OnErr result (((state S.Store conn.new).now ≡ (state S.Store conn.old).committed)
         × ((state S.Store conn.new).committed ≡ (state S.Store conn.old).committed)) }
-    ensures empty { HasCleanDisk (state S.Store conn.new) → (state S.Store conn.old).now.schema ≡ no_schema
+    ensures empty { HasCleanDisk (state S.Store conn.new)
+        → (state S.Store conn.old).now.schema ≡ no_schema
         → (told : ℕ) → IfErr result (λ fault. fault ≢ OpenFault.WrongVersion told) }
     ensures there { HasCleanDisk (state S.Store conn.new)
         → (number : ℕ) (t : Tables) → IsStore number t (state S.Store conn.old).now

@@ -1,4 +1,4 @@
-use Rattle.std.proofs.Common.{sym, subst, ◌∙◌, filter, Ok, Err, OnOk, IfSome}
+use Rattle.std.proofs.Common.{◌∙◌, filter, Ok, Err, OnOk}
 use Rattle.std.proofs.lemmas.Result.{IfOk-weaker, IfErr-weaker}
 use Rattle.sqlite.specs.Held.{state}
 use Rattle.sqlite.specs.State.{IsUnchanged}
@@ -7,23 +7,23 @@ use Rattle.clear_rows.proofs.Statements.{shown_unchanged}
 use Rattle.clear_schema.specs.Schema.{store_schema}
 use Rattle.clear_schema.proofs.Causes.{asks_only}
 use Rattle.clear_rows.proofs.Inside.{unchanged_keeps}
-use Rattle.clear_firms.proofs.EmployerLemmas.{finds, first_is, found_out, has_no}
+use Rattle.clear_firms.proofs.EmployerLemmas.{finds, first_is, has_no}
+use Rattle.clear_firms.proofs.KeyLemmas.{found_out}
 use Rattle.clear_firms.proofs.EmployerTexts.{get, get_plain}
 use Rattle.clear_firms.proofs.employers.find_employer.Goals as goal
 
 pub returns-clause-found : goal.returns-clause-found
-returns-clause-found g c clean t has right =
+returns-clause-found g c clean t has =
     let is = finds t (state g.S.Store c.args.tx.now.conn.now) (state g.S.Store c.look.new.tx.conn.now) has c.args.no c.in-Ok.rows.items (rw c.employer.ensures at (c.in-Ok.ensures.shown clean)) in
-    let first = first_is t.employers c.args.no in
-    IfOk-weaker c.first_employer.result _ _ (λ found reads. reads (filter (has_no c.args.no) t.employers) (c.deref.ensures.value ∙ is) (subst (λ o. IfSome o IsEmployerRow) (sym first) right) ∙ first) c.first_employer.ensures.read
+    IfOk-weaker c.first_row.result _ _ (λ found reads. reads (filter (has_no c.args.no) t.employers) (c.deref.ensures.value ∙ is) ∙ first_is t.employers c.args.no) c.first_row.ensures.read
 
 pub returns-clause-range : goal.returns-clause-range
 returns-clause-range g c clean t has =
     let is = finds t (state g.S.Store c.args.tx.now.conn.now) (state g.S.Store c.look.new.tx.conn.now) has c.args.no c.in-Ok.rows.items (rw c.employer.ensures at (c.in-Ok.ensures.shown clean)) in
-    IfErr-weaker c.first_employer.result _ _ (λ fault range told. found_out _ _ (first_is t.employers c.args.no) (range told (filter (has_no c.args.no) t.employers) (c.deref.ensures.value ∙ is))) c.first_employer.ensures.range
+    IfErr-weaker c.first_row.result _ _ (λ fault range told. found_out IsEmployerRow _ _ (first_is t.employers c.args.no) (range told (filter (has_no c.args.no) t.employers) (c.deref.ensures.value ∙ is))) c.first_row.ensures.range
 
 pub returns-clause-same : goal.returns-clause-same
-returns-clause-same g c clean t has = elim c.first_employer.result as (λ r. OnOk r (IsUnchanged (state g.S.Store c.args.tx.now.conn.now) (state g.S.Store c.look.new.tx.conn.now))) [
+returns-clause-same g c clean t has = elim c.first_row.result as (λ r. OnOk r (IsUnchanged (state g.S.Store c.args.tx.now.conn.now) (state g.S.Store c.look.new.tx.conn.now))) [
   | Ok found ↦ shown_unchanged get _ (state g.S.Store c.args.tx.now.conn.now) (state g.S.Store c.look.new.tx.conn.now) _ store_schema has.schema get_plain (c.in-Ok.ensures.shown clean)
   | Err e ↦ tt
 ]

@@ -4,9 +4,9 @@ use Rattle.clear_firms.proofs.WageLemmas.{deletes, goes}
 use Rattle.clear_firms.proofs.wages.delete_wages.Goals as goal
 
 pub returns-clause-put : goal.returns-clause-put
-returns-clause-put g c clean t has right =
-    on_ok_weaker c.put.result (deletes t (state g.S.Store c.args.tx.now.conn.now) (state g.S.Store c.put.new.tx.conn.now) has c.args.no c.args.at c.month_values.ensures.range.0 right) (rw c.month_values.ensures.given at (c.put.ensures.done clean))
+returns-clause-put g c clean t has =
+    on_ok_weaker c.put.result (deletes t (state g.S.Store c.args.tx.now.conn.now) (state g.S.Store c.put.new.tx.conn.now) has c.args.no c.args.at) (rw c.month_values.ensures at (c.put.ensures.done clean))
 
 pub returns-clause-cause : goal.returns-clause-cause
 returns-clause-cause g c clean t has =
-    IfErr-weaker c.put.result _ _ (λ fault broke told. goes t (state g.S.Store c.args.tx.now.conn.now) (state g.S.Store c.put.new.tx.conn.now) has c.args.no c.args.at (broke told)) (rw c.month_values.ensures.given at (c.put.ensures.broke clean))
+    IfErr-weaker c.put.result _ _ (λ fault broke told. goes t (state g.S.Store c.args.tx.now.conn.now) (state g.S.Store c.put.new.tx.conn.now) has c.args.no c.args.at (broke told)) (rw c.month_values.ensures at (c.put.ensures.broke clean))

@@ -5,8 +5,8 @@ use Rattle.clear_firms.proofs.wages.insert_wage.Goals as goal
 
 pub returns-clause-put : goal.returns-clause-put
 returns-clause-put g c clean t has =
-    on_ok_weaker c.put.result (inserts t (state g.S.Store c.args.tx.now.conn.now) (state g.S.Store c.put.new.tx.conn.now) has c.args.row) (rw c.wage_values.ensures.given at (c.put.ensures.done clean))
+    on_ok_weaker c.put.result (inserts t (state g.S.Store c.args.tx.now.conn.now) (state g.S.Store c.put.new.tx.conn.now) has c.args.row) (rw c.wage_values.ensures at (c.put.ensures.done clean))
 
 pub returns-clause-cause : goal.returns-clause-cause
-returns-clause-cause g c clean t has right =
-    IfErr-weaker c.put.result _ _ (λ fault broke told. held t (state g.S.Store c.args.tx.now.conn.now) (state g.S.Store c.put.new.tx.conn.now) has c.args.row c.wage_values.ensures.range.0 right (broke told)) (rw c.wage_values.ensures.given at (c.put.ensures.broke clean))
+returns-clause-cause g c clean t has =
+    IfErr-weaker c.put.result _ _ (λ fault broke told. held t (state g.S.Store c.args.tx.now.conn.now) (state g.S.Store c.put.new.tx.conn.now) has c.args.row (broke told)) (rw c.wage_values.ensures at (c.put.ensures.broke clean))

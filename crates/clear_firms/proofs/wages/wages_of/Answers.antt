@@ -2,8 +2,6 @@ use Rattle.std.proofs.Common.{◌∙◌, filter, Ok, Err, OnOk}
 use Rattle.std.proofs.lemmas.Result.{IfOk-weaker, IfErr-weaker}
 use Rattle.sqlite.specs.Held.{state}
 use Rattle.sqlite.specs.State.{IsUnchanged}
-use Rattle.sqlite_keyed.proofs.ListLemmas.{all-filter}
-use Rattle.clear_book.specs.RowRanges.{IsWageRow}
 use Rattle.clear_rows.proofs.Statements.{shown_unchanged}
 use Rattle.clear_schema.specs.Schema.{store_schema}
 use Rattle.clear_schema.proofs.Causes.{asks_only}
@@ -13,17 +11,17 @@ use Rattle.clear_firms.proofs.WageTexts.{get, get_plain}
 use Rattle.clear_firms.proofs.wages.wages_of.Goals as goal
 
 pub returns-clause-found : goal.returns-clause-found
-returns-clause-found g c clean t has right =
-    let is = finds t (state g.S.Store c.args.tx.now.conn.now) (state g.S.Store c.look.new.tx.conn.now) has c.args.no c.args.at c.month_values.ensures.range.0 right c.in-Ok.rows.items (rw c.month_values.ensures.given at (c.in-Ok.ensures.shown clean)) in
-    IfOk-weaker c.read_wages.result _ _ (λ found reads. reads (filter (is_of c.args.no c.args.at) t.wages) (c.deref.ensures.value ∙ is) (all-filter IsWageRow (is_of c.args.no c.args.at) t.wages right)) c.read_wages.ensures.read
+returns-clause-found g c clean t has =
+    let is = finds t (state g.S.Store c.args.tx.now.conn.now) (state g.S.Store c.look.new.tx.conn.now) has c.args.no c.args.at c.in-Ok.rows.items (rw c.month_values.ensures at (c.in-Ok.ensures.shown clean)) in
+    IfOk-weaker c.all_rows.result _ _ (λ found reads. reads (filter (is_of c.args.no c.args.at) t.wages) (c.deref.ensures.value ∙ is)) c.all_rows.ensures.read
 
 pub returns-clause-range : goal.returns-clause-range
-returns-clause-range g c clean t has right =
-    let is = finds t (state g.S.Store c.args.tx.now.conn.now) (state g.S.Store c.look.new.tx.conn.now) has c.args.no c.args.at c.month_values.ensures.range.0 right c.in-Ok.rows.items (rw c.month_values.ensures.given at (c.in-Ok.ensures.shown clean)) in
-    IfErr-weaker c.read_wages.result _ _ (λ fault range told. range told (filter (is_of c.args.no c.args.at) t.wages) (c.deref.ensures.value ∙ is) (all-filter IsWageRow (is_of c.args.no c.args.at) t.wages right)) c.read_wages.ensures.range
+returns-clause-range g c clean t has =
+    let is = finds t (state g.S.Store c.args.tx.now.conn.now) (state g.S.Store c.look.new.tx.conn.now) has c.args.no c.args.at c.in-Ok.rows.items (rw c.month_values.ensures at (c.in-Ok.ensures.shown clean)) in
+    IfErr-weaker c.all_rows.result _ _ (λ fault range told. range told (filter (is_of c.args.no c.args.at) t.wages) (c.deref.ensures.value ∙ is)) c.all_rows.ensures.range
 
 pub returns-clause-same : goal.returns-clause-same
-returns-clause-same g c clean t has = elim c.read_wages.result as (λ r. OnOk r (IsUnchanged (state g.S.Store c.args.tx.now.conn.now) (state g.S.Store c.look.new.tx.conn.now))) [
+returns-clause-same g c clean t has = elim c.all_rows.result as (λ r. OnOk r (IsUnchanged (state g.S.Store c.args.tx.now.conn.now) (state g.S.Store c.look.new.tx.conn.now))) [
   | Ok found ↦ shown_unchanged get _ (state g.S.Store c.args.tx.now.conn.now) (state g.S.Store c.look.new.tx.conn.now) _ store_schema has.schema get_plain (c.in-Ok.ensures.shown clean)
   | Err e ↦ tt
 ]

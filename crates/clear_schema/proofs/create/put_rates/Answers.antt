@@ -36,7 +36,7 @@ loop-row-preserved g c =
     let mid = state g.S.Store c.loop-row.tx.conn.now in
     let last = state g.S.Store c.put_rate.new.tx.conn.now in
     let before : HasCleanDisk last → HasCleanDisk mid = λ clean. omega (arith, c.put_rate.ensures.survives.clean) in
-    let keyed = keyed_rates c.args.rows.now c.requires.rising c.requires.ranges in
+    let keyed = keyed_rates c.args.rows.now c.requires.rising in
     record {
       same_reference = c.put_rate.ensures.same_reference ∙ c.loop-row.invariant.same_reference;
       put = λ clean has. subst (λ (rs : List Rate). HasTables (first_tables rs) last.now) (next_rate c.args.rows.now c.loop-row.row-index c.row-item.result keyed c.loop-row-test.true c.row-item.is)
