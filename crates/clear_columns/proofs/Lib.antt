@@ -1,4 +1,5 @@
 pub mod AnswerLemmas
 pub mod ColumnLemmas
 pub mod KeyLemmas
+pub mod ReadingLemmas
 pub mod StoredLemmas

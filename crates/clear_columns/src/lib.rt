@@ -6,5 +6,6 @@
 
 pub mod columns;
 pub mod parameters;
+pub mod queries;
 pub mod ranges;
 pub mod rows;

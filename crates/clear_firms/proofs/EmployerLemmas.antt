@@ -1,12 +1,13 @@
 -- What the statements on employers do, and when they are refused.
 use Rattle.std.proofs.Common.{◌≡◌, inl, inr, ℤ, ℕ, pos, Bool, true, false, ◌&&◌, List, [], ◌∷◌, None, map, filter, refl, sym, ap, subst, ◌∙◌, map-id, IsPermutation, IsSome, int_eq, ◌≤◌, slice_get}
 use Rattle.std.proofs.lemmas.List.{length-map}
-use Rattle.sqlite.proofs.Callers.{reads_as}
 use Rattle.sqlite.specs.Cast.{cast_row}
 use Rattle.sqlite.specs.Edit.{with_rowid, IsRefused}
 use Rattle.sqlite.specs.Order.{Row}
 use Rattle.sqlite.specs.Rowids.TheVariants.{Chosen}
-use Rattle.sqlite.specs.State.{State, Shown}
+use Rattle.sqlite.specs.State.{State}
+use Rattle.sqlite.specs.Store.{Ghosts}
+use Rattle.sqlite.specs.Effect.{Answers, Database}
 use Rattle.sqlite.specs.Tree.{Trees}
 use Rattle.sqlite_keyed.specs.Keyed.{insert_by}
 use Rattle.sqlite_keyed.proofs.KeyedLemmas.{IsKeyedBy-insert_by}
@@ -19,7 +20,7 @@ use Rattle.sqlite_schema.specs.Rules.{passes as obeys}
 use Rattle.clear_book.specs.declared.rows.EmployerRow.{EmployerRow}
 use Rattle.clear_book.specs.Keyed.{find_row, with_row}
 use Rattle.clear_book.specs.Tables.{Tables, employer_key}
-use Rattle.clear_rows.specs.Plain.{passes}
+use Rattle.clear_rows.specs.Plain.{passes, plain_program}
 use Rattle.clear_rows.proofs.Edits.{inserted_is, named, was_free}
 use Rattle.clear_rows.proofs.Queries.{shown_in_some_order, one_row}
 use Rattle.clear_rows.proofs.Refused.{insert_violates, held_if_refused, apart_if, number_held}
@@ -32,6 +33,8 @@ use Rattle.clear_schema.proofs.Causes.{refer_to_none, sound_by_schema}
 use Rattle.clear_schema.proofs.Changes.{employers_changed}
 use Rattle.clear_schema.proofs.ValueLemmas.{cast_null, cast_int, equal_ints}
 use Rattle.clear_columns.proofs.StoredLemmas.{cast_maybe_month, maybe_month_typed}
+use Rattle.clear_columns.specs.Reading.{AnswersJust}
+use Rattle.clear_columns.proofs.ReadingLemmas.{answers_just}
 use Rattle.clear_firms.specs.Shown.{employer_shown}
 use Rattle.clear_firms.proofs.KeyLemmas.{none_if, get_is, put_is}
 use Rattle.clear_firms.proofs.EmployerTexts as text
@@ -74,21 +77,23 @@ module _ (t : Tables) (old new : State) (has : HasTables t old.now) where
       let has_it = number_held no employer_values (λ _. refl) db employers_table t.employers has.employers store_schema row refl taken in
       subst IsSome (get_is (λ (row : EmployerRow). row.employer) t.employers row.employer) has_it
 
-  passes_no : (e : ℕ) (row : EmployerRow) → passes text.by_no (number e ∷ []) (employer_values row) ≡ has_no e row
-  passes_no e row = rw (equal_ints (no row) (pos e)) (last (has_no e row))
-    where
-      last : (b : Bool) → (b && true) ≡ b
-      last true = refl
-      last false = refl
+passes_no : (e : ℕ) (row : EmployerRow) → passes text.by_no (number e ∷ []) (employer_values row) ≡ has_no e row
+passes_no e row = rw (equal_ints (no row) (pos e)) (last (has_no e row))
+  where
+    last : (b : Bool) → (b && true) ≡ b
+    last true = refl
+    last false = refl
 
-  -- an answer shows the row of the number
-  pub finds : (e : ℕ) (rows : List Row) → Shown text.get (number e ∷ []) old new rows → rows ≡ map employer_shown (filter (has_no e) t.employers)
-  finds e rows shown =
-      let answer = reads_as text.get (number e ∷ []) old new store_schema has.schema _ text.get_is text.get_plain text.get_reads rows shown in
-      let same : IsPermutation (map employer_shown (filter (has_no e) t.employers)) rows =
-      subst (λ l. IsPermutation (map employer_shown (filter (has_no e) l)) rows) (map-id t.employers)
-      (shown_in_some_order 2 text.by_no text.columns [] (number e ∷ []) employer_values (λ row. row) (has_no e) (passes_no e) (λ row. ([], employer_shown row)) (λ _. refl) old.now.schema old.now.trees t.employers has.employers.is rows answer) in
-      one_row _ rows (subst (λ k. k ≤ 1) (sym (length-map (filter (has_no e) t.employers) employer_shown)) (at_most_one no (pos e) (has_no e) (λ row h. h) t.employers has.employers.keyed)) same
+-- the query answers the row of the number
+pub answers : {S : Type 0} (g : Ghosts S) (t : Tables) (db : Database) → HasTables t db → (e : ℕ) → AnswersJust g text.get (number e ∷ []) db (map employer_shown (filter (has_no e) t.employers))
+answers g t db has e = answers_just g 2 text.by_no text.columns [] _ text.get (number e ∷ []) store_schema text.get_is text.get_plain text.get_reads db has.schema _ whole
+  where
+    whole : (rows : List Row) → Answers db (plain_program 2 text.by_no text.columns []) (number e ∷ []) rows → rows ≡ map employer_shown (filter (has_no e) t.employers)
+    whole rows answer =
+        let same : IsPermutation (map employer_shown (filter (has_no e) t.employers)) rows =
+        subst (λ l. IsPermutation (map employer_shown (filter (has_no e) l)) rows) (map-id t.employers)
+        (shown_in_some_order 2 text.by_no text.columns [] (number e ∷ []) employer_values (λ row. row) (has_no e) (passes_no e) (λ row. ([], employer_shown row)) (λ _. refl) db.schema db.trees t.employers has.employers.is rows answer) in
+        one_row _ rows (subst (λ k. k ≤ 1) (sym (length-map (filter (has_no e) t.employers) employer_shown)) (at_most_one no (pos e) (has_no e) (λ row h. h) t.employers has.employers.keyed)) same
 
 -- the first of them is the row of the key
 pub first_is : (rows : List EmployerRow) (e : ℕ) → slice_get (filter (has_no e) rows) 0 ≡ find_row employer_key rows (e ∷ [])

@@ -1,12 +1,12 @@
 -- What the query for all rates answers.
 use Rattle.std.proofs.Common.{◌≡◌, false, List, ℕ, [], ◌∷◌, map, refl, ap, ◌∙◌, map-id, codes, int_cmp, Equal, true}
 use Rattle.std.specs.Ordering.{ordering_then}
-use Rattle.sqlite.proofs.Callers.{IsPlain, command_of, reads_as}
+use Rattle.sqlite.proofs.Callers.{IsPlain, command_of}
 use Rattle.sqlite.specs.Collation.TheVariants.{Binary}
 use Rattle.sqlite.specs.Command.TheVariants.{Select}
 use Rattle.sqlite.specs.Listing.{understood, reads_listing}
-use Rattle.sqlite.specs.Order.{Row}
-use Rattle.sqlite.specs.State.{State, Shown}
+use Rattle.sqlite.specs.Effect.{Database}
+use Rattle.sqlite.specs.Store.{Ghosts}
 use Rattle.sqlite.specs.Term.{Term, col}
 use Rattle.sqlite_keyed.proofs.KeyedLemmas.{Less-from_lt}
 use Rattle.sqlite_keyed.proofs.ListLemmas.{IsPermutation-same, ascending_weaker}
@@ -21,6 +21,8 @@ use Rattle.clear_schema.specs.Held.{HasTables}
 use Rattle.clear_schema.specs.Making.{rate_key}
 use Rattle.clear_schema.specs.Schema.{store_schema}
 use Rattle.clear_schema.specs.Values.{month, rate_values}
+use Rattle.clear_columns.specs.Reading.{AnswersJust}
+use Rattle.clear_columns.proofs.ReadingLemmas.{answers_just}
 use Rattle.clear_firms.specs.Shown.{rate_shown}
 
 abbrev pub get : List ℕ
@@ -34,7 +36,7 @@ get_is : command_of (understood store_schema get)
 unfolding understood everything
 get_is = refl
 
-pub get_plain : IsPlain (understood store_schema get)
+get_plain : IsPlain (understood store_schema get)
 unfolding understood everything
 get_plain = (refl, refl)
 
@@ -42,10 +44,11 @@ get_reads : reads_listing store_schema get ≡ false
 unfolding understood everything
 get_reads = refl
 
-pub finds : (t : Tables) (old new : State) → HasTables t old.now → (rows : List Row) → Shown get [] old new rows → rows ≡ map rate_shown t.rates
-finds t old new has rows shown =
-    let answer = reads_as get [] old new store_schema has.schema _ get_is get_plain get_reads rows shown in
-    in_order 1 [] columns ((col 1 0, ascending Binary) ∷ []) [] rate_values (λ r. r) (λ _. true) (λ _. refl) (λ r. (month r.first ∷ [], rate_shown r)) (λ _. refl) old.now.schema old.now.trees t.rates has.rates.is rows answer
+-- it answers all rates in their order
+pub answers : {S : Type 0} (g : Ghosts S) (t : Tables) (db : Database) → HasTables t db → AnswersJust g get [] db (map rate_shown t.rates)
+answers g t db has =
+    answers_just g 1 [] columns ((col 1 0, ascending Binary) ∷ []) _ get [] store_schema get_is get_plain get_reads db has.schema _
+    (λ rows answer. in_order 1 [] columns ((col 1 0, ascending Binary) ∷ []) [] rate_values (λ r. r) (λ _. true) (λ _. refl) (λ r. (month r.first ∷ [], rate_shown r)) (λ _. refl) db.schema db.trees t.rates has.rates.is rows answer
     (λ a b. int_cmp (rate_key a) (rate_key b)) (λ a b h. ap (λ o. ordering_then o Equal) (value_cmp-Int (rate_key a) (rate_key b) ∙ h)) t.rates (IsPermutation-same _ _ (map-id t.rates))
     (ascending_weaker _ _ (λ a b. Less-from_lt (rate_key a) (rate_key b)) t.rates has.rates.keyed)
-    ∙ ap (map rate_shown) (unfiltered t.rates refl)
+    ∙ ap (map rate_shown) (unfiltered t.rates refl))

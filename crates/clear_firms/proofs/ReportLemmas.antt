@@ -1,16 +1,17 @@
 -- What the statements on reports do, and when they are refused.
-use Rattle.std.proofs.Common.{◌≡◌, inl, inr, ℤ, ℕ, pos, Bool, true, false, not, cond, ◌&&◌, List, [], ◌∷◌, None, map, filter, refl, sym, ap₂, subst, ◌∙◌, map-id, IsPermutation, IsSome, is_eq, length, ◌≤◌, true≢false}
+use Rattle.std.proofs.Common.{◌≡◌, inl, inr, ℤ, ℕ, pos, Bool, true, false, not, cond, ◌&&◌, List, [], ◌∷◌, None, map, filter, refl, sym, ap₂, subst, ◌∙◌, map-id, IsPermutation, IsSome, is_eq, length, ◌≤◌, ◌==◌, Less, true≢false}
 use Rattle.std.specs.List.{list_any, AllByRecursion}
 use Rattle.std.proofs.lemmas.List.{length-map}
 use Rattle.std.proofs.lemmas.List.Sorted.{IsPermutation-map, IsPermutation-trans, IsPermutation-sym}
-use Rattle.sqlite.proofs.Callers.{reads_as}
 use Rattle.sqlite.specs.declared.types.Value.TheVariants.{Int, Null}
 use Rattle.sqlite.specs.Cast.{cast_row}
-use Rattle.sqlite.specs.Effect.{Answers}
+use Rattle.sqlite.specs.Effect.{Answers, Database}
 use Rattle.sqlite.specs.Edit.{with_rowid, IsRefused}
 use Rattle.sqlite.specs.Order.{Row}
 use Rattle.sqlite.specs.Rowids.TheVariants.{Chosen}
-use Rattle.sqlite.specs.State.{State, Shown}
+use Rattle.sqlite.specs.Query.{output_cmp}
+use Rattle.sqlite.specs.State.{State}
+use Rattle.sqlite.specs.Store.{Ghosts}
 use Rattle.sqlite.specs.Tree.{rowid}
 use Rattle.sqlite_catalog.specs.Listing.{automatic}
 use Rattle.sqlite_keyed.specs.Keyed.{has_key, next_key}
@@ -29,11 +30,11 @@ use Rattle.clear_book.specs.declared.rows.ReportRow.{ReportRow}
 use Rattle.clear_book.specs.Keyed.{is_key, find_row, put_row, with_row}
 use Rattle.clear_book.specs.Tables.{Tables, report_key}
 use Rattle.clear_book.proofs.KeyedLemmas.{is_key-true}
-use Rattle.clear_rows.specs.Plain.{passes, plain_program}
+use Rattle.clear_rows.specs.Plain.{passes, plain_program, plain_query}
 use Rattle.clear_rows.proofs.Edits.{appended_is, appended_row}
 use Rattle.clear_rows.proofs.Held.{number as beside, content, key_was_free, held-insert}
 use Rattle.clear_rows.proofs.KeepsKeys.{update_violates, update_harmless}
-use Rattle.clear_rows.proofs.Queries.{shown_in_some_order, one_row}
+use Rattle.clear_rows.proofs.Queries.{shown_in_some_order, one_row, in_order}
 use Rattle.clear_rows.proofs.Refused.{insert_violates, held_if_refused, apart_if, key_held}
 use Rattle.clear_rows.proofs.Statements.{inserted, updated}
 use Rattle.clear_schema.specs.Held.{HasTables, by_key}
@@ -46,7 +47,9 @@ use Rattle.clear_schema.proofs.ValueLemmas.{cast_null, cast_int}
 use Rattle.clear_firms.specs.Shown.{month_given, report_shown}
 use Rattle.clear_firms.proofs.HeldLemmas.{few_numbered, held_updated, updated_rows}
 use Rattle.clear_columns.proofs.KeyLemmas.{by_key_total, found_any, key_is, none_found, one_found, placed}
-use Rattle.clear_columns.proofs.StoredLemmas.{equal_months, equal_numbers}
+use Rattle.clear_columns.proofs.ReadingLemmas.{answers_just}
+use Rattle.clear_columns.proofs.StoredLemmas.{equal_months, equal_numbers, months_compare, numbers_compare}
+use Rattle.clear_columns.specs.Reading.{AnswersJust}
 use Rattle.clear_firms.proofs.KeyLemmas.{none_if, none_of_key, replaced_is}
 use Rattle.clear_firms.proofs.ListLemmas.{none_replaced}
 use Rattle.clear_firms.proofs.ReportTexts as text
@@ -68,6 +71,17 @@ agrees a b = rw (equal_numbers (content a).employer (content b).employer, equal_
 
 passes_month : (e m : ℕ) (rest : Row) (y : ℤ × ReportRow) → passes text.by_month (number e ∷ month m ∷ rest) (report_values y) ≡ is_of e m (content y)
 passes_month e m rest y = rw (equal_numbers (content y).employer e, equal_months (content y).month m) refl
+
+-- the row is of a firm
+abbrev pub is_by : ℕ → ReportRow → Bool
+is_by e row = row.employer == e
+
+passes_firm : (e : ℕ) (y : ℤ × ReportRow) → passes text.by_firm (number e ∷ []) (report_values y) ≡ is_by e (content y)
+passes_firm e y = rw (equal_numbers (content y).employer e) (last ((content y).employer == e))
+  where
+    last : (b : Bool) → (b && true) ≡ b
+    last true = refl
+    last false = refl
 
 only_key : (i : Index) → Has all_indexes i → guards i reports_table ≡ true → i ≡ automatic reports_table 0 (1 ∷ 2 ∷ []) 4
 only_key i listed on = alone (has_kept (λ (x : Index). guards x reports_table) all_indexes i listed on)
@@ -142,17 +156,6 @@ module _ (t : Tables) (old new : State) (has : HasTables t old.now) where
       ∙ key_held (by_key report_key) report_values (λ _. refl) db reports_table t.reports kept store_schema n row (is_of row.employer row.month) (next_key_is_free beside kept.numbered kept.stored.keyed)
       (λ i listed on y same. key_is report_key row (content y) ∙ sym (agrees y (n, row)) ∙ subst (λ (k : Index). agree k.order k.columns (report_values y) k.columns (report_values (n, row)) ≡ true) (only_key i listed on) same) taken
 
-  -- an answer shows the row of the key
-  pub finds : (e m : ℕ) (rows : List Row) → Shown text.get (month_given e m) old new rows → rows ≡ map report_shown (filter (is_of e m) t.reports)
-  finds e m rows shown =
-      let answer = reads_as text.get (month_given e m) old new store_schema has.schema _ text.get_is text.get_plain text.get_reads rows shown in
-      let kept = has.reports in
-      let p = is_of e m in
-      let some = shown_in_some_order 3 text.by_month text.columns [] (month_given e m) report_values content p (passes_month e m []) (λ row. ([], report_shown row)) (λ _. refl) old.now.schema old.now.trees kept.numbered kept.stored.is rows answer in
-      let all : IsPermutation (map report_shown (filter p t.reports)) rows =
-      IsPermutation-trans _ _ _ (IsPermutation-map report_shown _ _ (IsPermutation-sym _ _ (IsPermutation-filter p _ _ kept.same))) some in
-      one_row _ rows (subst (λ k. k ≤ 1) (sym (length-map (filter p t.reports) report_shown)) (one_found report_key t.reports (e ∷ m ∷ []) kept.rises)) all
-
   -- ---- a later version
 
   module _ (row : ReportRow) where
@@ -205,3 +208,33 @@ module _ (t : Tables) (old new : State) (has : HasTables t old.now) where
         (λ _. refl) (λ _. refl) (λ _. refl)
         (λ i known on y r agreed. subst (λ (k : Index). agree k.order k.columns r k.columns (report_values y) ≡ true) (sym (only_key i known on)) (subst (λ (k : Index). agree k.order k.columns r k.columns (report_values (next y)) ≡ true) (only_key i known on) agreed))
         rule bad.2
+
+module _ {S : Type 0} (g : Ghosts S) (t : Tables) (db : Database) (has : HasTables t db) where
+  -- the query of a month answers its row
+  pub answers : (e m : ℕ) → AnswersJust g text.get (month_given e m) db (map report_shown (filter (is_of e m) t.reports))
+  answers e m = answers_just g 3 text.by_month text.columns [] _ text.get (month_given e m) store_schema text.get_is text.get_plain text.get_reads db has.schema _ whole
+    where
+      p : ReportRow → Bool
+      p = is_of e m
+
+      whole : (rows : List Row) → Answers db (plain_program 3 text.by_month text.columns []) (month_given e m) rows → rows ≡ map report_shown (filter p t.reports)
+      whole rows answer =
+          let kept = has.reports in
+          let some = shown_in_some_order 3 text.by_month text.columns [] (month_given e m) report_values content p (passes_month e m []) (λ row. ([], report_shown row)) (λ _. refl) db.schema db.trees kept.numbered kept.stored.is rows answer in
+          let all : IsPermutation (map report_shown (filter p t.reports)) rows =
+          IsPermutation-trans _ _ _ (IsPermutation-map report_shown _ _ (IsPermutation-sym _ _ (IsPermutation-filter p _ _ kept.same))) some in
+          one_row _ rows (subst (λ k. k ≤ 1) (sym (length-map (filter p t.reports) report_shown)) (one_found report_key t.reports (e ∷ m ∷ []) kept.rises)) all
+
+  -- the query of a firm answers its rows in their order
+  pub lists : (e : ℕ) → AnswersJust g text.list (number e ∷ []) db (map report_shown (filter (is_by e) t.reports))
+  lists e =
+      answers_just g 3 text.by_firm text.columns text.order _ text.list (number e ∷ []) store_schema text.list_is text.list_plain text.list_reads db has.schema _
+      (λ rows answer. in_order 3 text.by_firm text.columns text.order (number e ∷ []) report_values content (is_by e) (passes_firm e) (λ row. (sorted_by row, report_shown row)) (λ _. refl) db.schema db.trees has.reports.numbered has.reports.stored.is rows answer
+      (by_key report_key) sorts t.reports has.reports.same has.reports.rises)
+    where
+      -- what ORDER BY goes by
+      sorted_by : ReportRow → Row
+      sorted_by row = number row.employer ∷ month row.month ∷ []
+
+      sorts : (a b : ReportRow) → by_key report_key a b ≡ Less → output_cmp (plain_query 3 text.by_firm text.columns text.order) (sorted_by a, report_shown a) (sorted_by b, report_shown b) ≡ Less
+      sorts a b less = rw (numbers_compare a.employer b.employer, months_compare a.month b.month) less

@@ -10,6 +10,8 @@ use Rattle.sqlite.proofs.Callers.{IsPlain, command_of}
 use Rattle.sqlite_sql.specs.declared.ops.BinaryOp.TheVariants.{Compare}
 use Rattle.sqlite_sql.specs.declared.ops.CompareOp.TheVariants.{Eq}
 use Rattle.sqlite_tied.specs.Compute.{everything}
+use Rattle.sqlite_value.specs.Keys.{ascending}
+use Rattle.sqlite_value.specs.declared.keys.Key.{Key}
 use Rattle.clear_rows.specs.Plain.{plain_program}
 use Rattle.clear_schema.specs.Schema.{store_schema}
 
@@ -62,3 +64,25 @@ get_plain = (refl, refl)
 pub get_reads : reads_listing store_schema get ≡ false
 unfolding understood everything
 get_reads = refl
+
+-- of this firm
+abbrev pub by_firm : List Term
+by_firm = op2 (Compare Eq Binary) (col 1 1) (col 0 0) ∷ []
+
+abbrev pub list : List ℕ
+list = codes "SELECT employer, month, version FROM reports WHERE employer = ?1 ORDER BY employer, month"
+
+abbrev pub order : List (Term × Key)
+order = (col 1 1, ascending Binary) ∷ (col 1 2, ascending Binary) ∷ []
+
+pub list_is : command_of (understood store_schema list) ≡ Select (plain_program 3 by_firm columns order) (codes "employer" ∷ codes "month" ∷ codes "version" ∷ [])
+unfolding understood everything
+list_is = refl
+
+pub list_plain : IsPlain (understood store_schema list)
+unfolding understood everything
+list_plain = (refl, refl)
+
+pub list_reads : reads_listing store_schema list ≡ false
+unfolding understood everything
+list_reads = refl

@@ -1,14 +1,15 @@
 -- What the statements on wages do, and when they are refused.
 use Rattle.std.proofs.Common.{◌≡◌, inl, inr, ℤ, ℕ, pos, Bool, true, false, not, ◌&&◌, ◌==◌, List, [], ◌∷◌, None, map, filter, refl, sym, subst, ◌∙◌, map-id, IsPermutation, IsSome, is_eq, true≢false, Less}
 use Rattle.std.specs.List.{list_any, AllByRecursion}
-use Rattle.sqlite.proofs.Callers.{reads_as}
 use Rattle.sqlite.specs.declared.types.Value.TheVariants.{Int, Null}
 use Rattle.sqlite.specs.Cast.{cast_row}
 use Rattle.sqlite.specs.Edit.{with_rowid, IsRefused}
 use Rattle.sqlite.specs.Order.{Row}
 use Rattle.sqlite.specs.Query.{output_cmp}
 use Rattle.sqlite.specs.Rowids.TheVariants.{Chosen}
-use Rattle.sqlite.specs.State.{State, Shown}
+use Rattle.sqlite.specs.Effect.{Database}
+use Rattle.sqlite.specs.State.{State}
+use Rattle.sqlite.specs.Store.{Ghosts}
 use Rattle.sqlite.specs.Term.{col}
 use Rattle.sqlite.specs.Tree.{rowid}
 use Rattle.sqlite_catalog.specs.Listing.{automatic}
@@ -42,6 +43,8 @@ use Rattle.clear_schema.proofs.Changes.{wages_changed}
 use Rattle.clear_schema.proofs.ValueLemmas.{cast_null, cast_int}
 use Rattle.clear_firms.specs.Shown.{month_given, wage_shown}
 use Rattle.clear_columns.proofs.KeyLemmas.{by_key_total, found_any, key_is, none_found, placed}
+use Rattle.clear_columns.specs.Reading.{AnswersJust}
+use Rattle.clear_columns.proofs.ReadingLemmas.{answers_just}
 use Rattle.clear_columns.proofs.StoredLemmas.{equal_months, equal_numbers, months_compare, numbers_compare}
 use Rattle.clear_firms.proofs.KeyLemmas.{none_if, turned_nat}
 use Rattle.clear_firms.proofs.WageTexts as text
@@ -149,16 +152,16 @@ module _ (t : Tables) (old new : State) (has : HasTables t old.now) where
       let bad = delete_violates store_schema 4 wages_table refl (λ _ _. refl) refer_to_none text.delete (month_given e m) old new has.schema text.delete_plain rule ran _ text.delete_is in
       delete_never store_schema old.now.trees wages_table (inr (inr (inr (inr (inl refl))))) (apart_if all_tables refl) (sound_by_schema t old.now has) (ids_of bad.0) rule bad.2
 
-  -- an answer shows the lines of the month
-  pub finds : (e m : ℕ) (rows : List Row) → Shown text.get (month_given e m) old new rows → rows ≡ map wage_shown (filter (is_of e m) t.wages)
-  finds e m rows shown =
-      let answer = reads_as text.get (month_given e m) old new store_schema has.schema _ text.get_is text.get_plain text.get_reads rows shown in
-      in_order 5 text.by_month text.columns text.order (month_given e m) wage_values content (is_of e m) (passes_month e m) (λ row. (sorted_by row, wage_shown row)) (λ _. refl) old.now.schema old.now.trees has.wages.numbered has.wages.stored.is rows answer
-      (by_key wage_key) sorts t.wages has.wages.same has.wages.rises
-    where
-      -- what ORDER BY goes by
-      sorted_by : WageRow → Row
-      sorted_by row = number row.employer ∷ month row.month ∷ number row.worker ∷ []
+-- the query of a month answers its lines in their order
+pub answers : {S : Type 0} (g : Ghosts S) (t : Tables) (db : Database) → HasTables t db → (e m : ℕ) → AnswersJust g text.get (month_given e m) db (map wage_shown (filter (is_of e m) t.wages))
+answers g t db has e m =
+    answers_just g 5 text.by_month text.columns text.order _ text.get (month_given e m) store_schema text.get_is text.get_plain text.get_reads db has.schema _
+    (λ rows answer. in_order 5 text.by_month text.columns text.order (month_given e m) wage_values content (is_of e m) (passes_month e m) (λ row. (sorted_by row, wage_shown row)) (λ _. refl) db.schema db.trees has.wages.numbered has.wages.stored.is rows answer
+    (by_key wage_key) sorts t.wages has.wages.same has.wages.rises)
+  where
+    -- what ORDER BY goes by
+    sorted_by : WageRow → Row
+    sorted_by row = number row.employer ∷ month row.month ∷ number row.worker ∷ []
 
-      sorts : (a b : WageRow) → by_key wage_key a b ≡ Less → output_cmp (plain_query 5 text.by_month text.columns text.order) (sorted_by a, wage_shown a) (sorted_by b, wage_shown b) ≡ Less
-      sorts a b less = rw (numbers_compare a.employer b.employer, months_compare a.month b.month, numbers_compare a.worker b.worker) less
+    sorts : (a b : WageRow) → by_key wage_key a b ≡ Less → output_cmp (plain_query 5 text.by_month text.columns text.order) (sorted_by a, wage_shown a) (sorted_by b, wage_shown b) ≡ Less
+    sorts a b less = rw (numbers_compare a.employer b.employer, months_compare a.month b.month, numbers_compare a.worker b.worker) less

@@ -15,11 +15,12 @@ use clear_book::rows::EmployerRow;
 use clear_book::rules::StoreCause;
 use clear_columns::columns::{employer_at, maybe_month_at, month_at, name_at};
 use clear_columns::parameters::{employer, maybe_month};
-use clear_columns::rows::{StoredTable, first_row};
+use clear_columns::queries::find;
+use clear_columns::rows::StoredTable;
 use clear_money::months::Month;
 use clear_money::numbers::EmployerNo;
 use clear_schema::fault::Fault;
-use clear_schema::statement::{look, put};
+use clear_schema::statement::put;
 use clear_schema::values::{month, text};
 use sqlite::{Alter, Row, Transaction};
 use sqlite_value::value::ValueRef;
@@ -82,15 +83,11 @@ pub fn find_employer<S: Alter>(
     ensures survives { Survives (state S.Store tx.old.conn.now) (state S.Store tx.new.conn.now)
         (λ _. ⊥) }
 {
-    let rows = match look(
+    find::<S, Employers>(
         tx,
         "SELECT no, name, start, last FROM employers WHERE no = ?1",
         &[employer(no)],
-    ) {
-        Ok(rows) => rows,
-        Err(fault) => return Err(fault),
-    };
-    first_row::<Employers>(&rows)
+    )
 }
 
 /// The table of employers.

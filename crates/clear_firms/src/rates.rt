@@ -9,10 +9,10 @@ ghost use Rattle.clear_schema.specs.Held.{HasTables};
 
 use clear_book::rules::StoreCause;
 use clear_columns::columns::{month_at, month_day_at, rate_at};
-use clear_columns::rows::{StoredTable, all_rows};
+use clear_columns::queries::list;
+use clear_columns::rows::StoredTable;
 use clear_money::rates::RateRow;
 use clear_schema::fault::Fault;
-use clear_schema::statement::look;
 use sqlite::{Alter, Row, Transaction};
 
 /// All rates, the first months rising.
@@ -39,16 +39,12 @@ pub fn all_rates<S: Alter>(tx: &mut Transaction<'_, S>) -> Result<Vec<RateRow>, 
     ensures survives { Survives (state S.Store tx.old.conn.now) (state S.Store tx.new.conn.now)
         (λ _. ⊥) }
 {
-    let rows = match look(
+    list::<S, Rates>(
         tx,
         "SELECT first, contribution, report_day, due_day, interest, entitlement FROM rates \
          ORDER BY first",
         &[],
-    ) {
-        Ok(rows) => rows,
-        Err(fault) => return Err(fault),
-    };
-    all_rows::<Rates>(*rows.allocator(), &rows)
+    )
 }
 
 /// The table of rates.

@@ -1,5 +1,6 @@
 //! The table of reports: the version of each month's latest report.
-ghost use Rattle.std.specs.Prelude.{◌≡◌, ◌≢◌, ◌≤◌, [], ◌∷◌, None, Some, Err};
+ghost use Rattle.std.specs.Prelude.{◌≡◌, ◌≢◌, ◌≤◌, ◌==◌, [], ◌∷◌, None, Some, Err, filter};
+ghost use Rattle.std.specs.List.{AllByRecursion};
 ghost use Rattle.std.specs.Prelude.{IfErr, IfOk, IfSome, IsSome, IsTrue, OnOk};
 ghost use Rattle.sqlite.specs.Held.{state};
 ghost use Rattle.sqlite.specs.State.{HasCleanDisk, IsUnchanged, KeepsCommit, Survives};
@@ -17,12 +18,13 @@ use clear_book::rows::ReportRow;
 use clear_book::rules::StoreCause;
 use clear_columns::columns::{employer_at, month_at, version_at};
 use clear_columns::parameters::employer;
+use clear_columns::queries::{find, list};
 use clear_columns::ranges::is_version;
-use clear_columns::rows::{StoredTable, first_row};
+use clear_columns::rows::StoredTable;
 use clear_money::months::Month;
 use clear_money::numbers::EmployerNo;
 use clear_schema::fault::Fault;
-use clear_schema::statement::{look, put};
+use clear_schema::statement::put;
 use clear_schema::values::{month, number};
 use sqlite::{Alter, Row, Transaction};
 use sqlite_value::value::ValueRef;
@@ -129,15 +131,46 @@ pub fn find_report<S: Alter>(
     ensures survives { Survives (state S.Store tx.old.conn.now) (state S.Store tx.new.conn.now)
         (λ _. ⊥) }
 {
-    let rows = match look(
+    find::<S, Reports>(
         tx,
         "SELECT employer, month, version FROM reports WHERE employer = ?1 AND month = ?2",
         &month_values(no, at),
-    ) {
-        Ok(rows) => rows,
-        Err(fault) => return Err(fault),
-    };
-    first_row::<Reports>(&rows)
+    )
+}
+
+/// The latest reports of a firm, the months rising.
+pub fn reports_of<S: Alter>(
+    tx: &mut Transaction<'_, S>,
+    no: EmployerNo,
+) -> Result<Vec<ReportRow>, Fault>
+    ensures same_reference { tx.new.conn.ghost_name ≡ tx.old.conn.ghost_name }
+    ensures found { HasCleanDisk (state S.Store tx.new.conn.now)
+        → (t : Tables) → HasTables t (state S.Store tx.old.conn.now).now
+        → IfOk result (λ found. found.items
+        ≡ filter (λ row. row.employer == no) t.reports) }
+    ensures good { IfOk result (λ found. AllByRecursion IsReportRow found.items) }
+    ensures cause { HasCleanDisk (state S.Store tx.new.conn.now)
+        → (t : Tables) → HasTables t (state S.Store tx.old.conn.now).now
+        → IfErr result (λ fault. fault ≢ Fault.Store StoreCause.Constraint) }
+    ensures range { HasCleanDisk (state S.Store tx.new.conn.now)
+        → (t : Tables) → HasTables t (state S.Store tx.old.conn.now).now
+        → IfErr result (λ fault. fault ≡ Fault.Store StoreCause.Row
+        → ¬ AllByRecursion IsReportRow (filter (λ row. row.employer == no) t.reports)) }
+    ensures same { HasCleanDisk (state S.Store tx.new.conn.now)
+        → (t : Tables) → HasTables t (state S.Store tx.old.conn.now).now
+        → OnOk result (IsUnchanged (state S.Store tx.old.conn.now)
+        (state S.Store tx.new.conn.now)) }
+    ensures kept { HasCleanDisk (state S.Store tx.new.conn.now)
+        → (t : Tables) → HasTables t (state S.Store tx.old.conn.now).now
+        → KeepsCommit (state S.Store tx.old.conn.now) (state S.Store tx.new.conn.now) }
+    ensures survives { Survives (state S.Store tx.old.conn.now) (state S.Store tx.new.conn.now)
+        (λ _. ⊥) }
+{
+    list::<S, Reports>(
+        tx,
+        "SELECT employer, month, version FROM reports WHERE employer = ?1 ORDER BY employer, month",
+        &[employer(no)],
+    )
 }
 
 /// The table of reports.

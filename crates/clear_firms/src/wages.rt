@@ -17,12 +17,13 @@ use clear_book::rows::WageRow;
 use clear_book::rules::StoreCause;
 use clear_columns::columns::{employer_at, gross_at, month_at, worker_at};
 use clear_columns::parameters::{employer, worker};
+use clear_columns::queries::list;
 use clear_columns::ranges::is_gross;
-use clear_columns::rows::{StoredTable, all_rows};
+use clear_columns::rows::StoredTable;
 use clear_money::months::Month;
 use clear_money::numbers::EmployerNo;
 use clear_schema::fault::Fault;
-use clear_schema::statement::{look, put};
+use clear_schema::statement::put;
 use clear_schema::values::{month, number};
 use sqlite::{Alter, Row, Transaction};
 use sqlite_value::value::ValueRef;
@@ -121,16 +122,12 @@ pub fn wages_of<S: Alter>(
     ensures survives { Survives (state S.Store tx.old.conn.now) (state S.Store tx.new.conn.now)
         (λ _. ⊥) }
 {
-    let rows = match look(
+    list::<S, Wages>(
         tx,
         "SELECT employer, month, worker, gross FROM wages WHERE employer = ?1 AND month = ?2 \
          ORDER BY employer, month, worker",
         &month_values(no, at),
-    ) {
-        Ok(rows) => rows,
-        Err(fault) => return Err(fault),
-    };
-    all_rows::<Wages>(*rows.allocator(), &rows)
+    )
 }
 
 /// The table of wages.

@@ -1,38 +1,21 @@
-use Rattle.std.proofs.Common.{◌∙◌, filter, Ok, Err, OnOk}
+use Rattle.std.proofs.Common.{◌∙◌, filter}
 use Rattle.std.proofs.lemmas.Result.{IfOk-weaker, IfErr-weaker}
-use Rattle.sqlite.specs.Held.{state}
-use Rattle.sqlite.specs.State.{IsUnchanged}
 use Rattle.clear_book.specs.RowRanges.{IsEmployerRow}
-use Rattle.clear_rows.proofs.Statements.{shown_unchanged}
-use Rattle.clear_schema.specs.Schema.{store_schema}
-use Rattle.clear_schema.proofs.Causes.{asks_only}
-use Rattle.clear_rows.proofs.Inside.{unchanged_keeps}
-use Rattle.clear_firms.proofs.EmployerLemmas.{finds, first_is, has_no}
+use Rattle.clear_firms.proofs.EmployerLemmas.{answers, first_is, has_no}
 use Rattle.clear_firms.proofs.KeyLemmas.{found_out}
-use Rattle.clear_firms.proofs.EmployerTexts.{get, get_plain}
 use Rattle.clear_firms.proofs.employers.find_employer.Goals as goal
 
 pub returns-clause-found : goal.returns-clause-found
-returns-clause-found g c clean t has =
-    let is = finds t (state g.S.Store c.args.tx.now.conn.now) (state g.S.Store c.look.new.tx.conn.now) has c.args.no c.in-Ok.rows.items (rw c.employer.ensures at (c.in-Ok.ensures.shown clean)) in
-    IfOk-weaker c.first_row.result _ _ (λ found reads. reads (filter (has_no c.args.no) t.employers) (c.deref.ensures.value ∙ is) ∙ first_is t.employers c.args.no) c.first_row.ensures.read
+returns-clause-found g c clean t has = IfOk-weaker c.find.result _ _ (λ found is. is ∙ first_is t.employers c.args.no) ((rw c.employer.ensures at (c.find.ensures.found clean)) (filter (has_no c.args.no) t.employers) (answers g.S.Store t _ has c.args.no))
+
+pub returns-clause-cause : goal.returns-clause-cause
+returns-clause-cause g c clean t has = (rw c.employer.ensures at (c.find.ensures.cause clean)) (filter (has_no c.args.no) t.employers) (answers g.S.Store t _ has c.args.no)
 
 pub returns-clause-range : goal.returns-clause-range
-returns-clause-range g c clean t has =
-    let is = finds t (state g.S.Store c.args.tx.now.conn.now) (state g.S.Store c.look.new.tx.conn.now) has c.args.no c.in-Ok.rows.items (rw c.employer.ensures at (c.in-Ok.ensures.shown clean)) in
-    IfErr-weaker c.first_row.result _ _ (λ fault range told. found_out IsEmployerRow _ _ (first_is t.employers c.args.no) (range told (filter (has_no c.args.no) t.employers) (c.deref.ensures.value ∙ is))) c.first_row.ensures.range
+returns-clause-range g c clean t has = IfErr-weaker c.find.result _ _ (λ fault range told. found_out IsEmployerRow _ _ (first_is t.employers c.args.no) (range told)) ((rw c.employer.ensures at (c.find.ensures.range clean)) (filter (has_no c.args.no) t.employers) (answers g.S.Store t _ has c.args.no))
 
 pub returns-clause-same : goal.returns-clause-same
-returns-clause-same g c clean t has = elim c.first_row.result as (λ r. OnOk r (IsUnchanged (state g.S.Store c.args.tx.now.conn.now) (state g.S.Store c.look.new.tx.conn.now))) [
-  | Ok found ↦ shown_unchanged get _ (state g.S.Store c.args.tx.now.conn.now) (state g.S.Store c.look.new.tx.conn.now) _ store_schema has.schema get_plain (c.in-Ok.ensures.shown clean)
-  | Err e ↦ tt
-]
+returns-clause-same g c clean t has = (rw c.employer.ensures at (c.find.ensures.same clean)) (filter (has_no c.args.no) t.employers) (answers g.S.Store t _ has c.args.no)
 
 pub returns-clause-kept : goal.returns-clause-kept
-returns-clause-kept g c clean t has =
-    unchanged_keeps (state g.S.Store c.args.tx.now.conn.now) (state g.S.Store c.look.new.tx.conn.now)
-    (shown_unchanged get _ (state g.S.Store c.args.tx.now.conn.now) (state g.S.Store c.look.new.tx.conn.now) _ store_schema has.schema get_plain (c.in-Ok.ensures.shown clean))
-
-pub returns-in-Err-clause-cause : goal.returns-in-Err-clause-cause
-returns-in-Err-clause-cause g c clean t has told =
-    asks_only get _ t (state g.S.Store c.args.tx.now.conn.now) (state g.S.Store c.look.new.tx.conn.now) has get_plain (c.in-Err.ensures.broke clean told)
+returns-clause-kept g c clean t has = (rw c.employer.ensures at (c.find.ensures.kept clean)) (filter (has_no c.args.no) t.employers) (answers g.S.Store t _ has c.args.no)

@@ -1,40 +1,23 @@
-use Rattle.std.proofs.Common.{[], ◌∷◌, ◌∙◌, filter, Ok, Err, OnOk}
+use Rattle.std.proofs.Common.{[], ◌∷◌, ◌∙◌, filter}
 use Rattle.std.proofs.lemmas.Result.{IfOk-weaker, IfErr-weaker}
-use Rattle.sqlite.specs.Held.{state}
-use Rattle.sqlite.specs.State.{IsUnchanged}
 use Rattle.clear_book.specs.RowRanges.{IsReportRow}
-use Rattle.clear_rows.proofs.Statements.{shown_unchanged}
-use Rattle.clear_schema.specs.Schema.{store_schema}
-use Rattle.clear_schema.proofs.Causes.{asks_only}
-use Rattle.clear_rows.proofs.Inside.{unchanged_keeps}
 use Rattle.clear_book.specs.Tables.{report_key}
 use Rattle.clear_columns.proofs.KeyLemmas.{first_found}
 use Rattle.clear_firms.proofs.KeyLemmas.{found_out}
-use Rattle.clear_firms.proofs.ReportLemmas.{finds, is_of}
-use Rattle.clear_firms.proofs.ReportTexts.{get, get_plain}
+use Rattle.clear_firms.proofs.ReportLemmas.{answers, is_of}
 use Rattle.clear_firms.proofs.reports.find_report.Goals as goal
 
 pub returns-clause-found : goal.returns-clause-found
-returns-clause-found g c clean t has =
-    let is = finds t (state g.S.Store c.args.tx.now.conn.now) (state g.S.Store c.look.new.tx.conn.now) has c.args.no c.args.at c.in-Ok.rows.items (rw c.month_values.ensures at (c.in-Ok.ensures.shown clean)) in
-    IfOk-weaker c.first_row.result _ _ (λ found reads. reads (filter (is_of c.args.no c.args.at) t.reports) (c.deref.ensures.value ∙ is) ∙ first_found report_key t.reports (c.args.no ∷ c.args.at ∷ [])) c.first_row.ensures.read
+returns-clause-found g c clean t has = IfOk-weaker c.find.result _ _ (λ found is. is ∙ first_found report_key t.reports (c.args.no ∷ c.args.at ∷ [])) ((rw c.month_values.ensures at (c.find.ensures.found clean)) (filter (is_of c.args.no c.args.at) t.reports) (answers g.S.Store t _ has c.args.no c.args.at))
+
+pub returns-clause-cause : goal.returns-clause-cause
+returns-clause-cause g c clean t has = (rw c.month_values.ensures at (c.find.ensures.cause clean)) (filter (is_of c.args.no c.args.at) t.reports) (answers g.S.Store t _ has c.args.no c.args.at)
 
 pub returns-clause-range : goal.returns-clause-range
-returns-clause-range g c clean t has =
-    let is = finds t (state g.S.Store c.args.tx.now.conn.now) (state g.S.Store c.look.new.tx.conn.now) has c.args.no c.args.at c.in-Ok.rows.items (rw c.month_values.ensures at (c.in-Ok.ensures.shown clean)) in
-    IfErr-weaker c.first_row.result _ _ (λ fault range told. found_out IsReportRow _ _ (first_found report_key t.reports (c.args.no ∷ c.args.at ∷ [])) (range told (filter (is_of c.args.no c.args.at) t.reports) (c.deref.ensures.value ∙ is))) c.first_row.ensures.range
+returns-clause-range g c clean t has = IfErr-weaker c.find.result _ _ (λ fault range told. found_out IsReportRow _ _ (first_found report_key t.reports (c.args.no ∷ c.args.at ∷ [])) (range told)) ((rw c.month_values.ensures at (c.find.ensures.range clean)) (filter (is_of c.args.no c.args.at) t.reports) (answers g.S.Store t _ has c.args.no c.args.at))
 
 pub returns-clause-same : goal.returns-clause-same
-returns-clause-same g c clean t has = elim c.first_row.result as (λ r. OnOk r (IsUnchanged (state g.S.Store c.args.tx.now.conn.now) (state g.S.Store c.look.new.tx.conn.now))) [
-  | Ok found ↦ shown_unchanged get _ (state g.S.Store c.args.tx.now.conn.now) (state g.S.Store c.look.new.tx.conn.now) _ store_schema has.schema get_plain (c.in-Ok.ensures.shown clean)
-  | Err e ↦ tt
-]
+returns-clause-same g c clean t has = (rw c.month_values.ensures at (c.find.ensures.same clean)) (filter (is_of c.args.no c.args.at) t.reports) (answers g.S.Store t _ has c.args.no c.args.at)
 
 pub returns-clause-kept : goal.returns-clause-kept
-returns-clause-kept g c clean t has =
-    unchanged_keeps (state g.S.Store c.args.tx.now.conn.now) (state g.S.Store c.look.new.tx.conn.now)
-    (shown_unchanged get _ (state g.S.Store c.args.tx.now.conn.now) (state g.S.Store c.look.new.tx.conn.now) _ store_schema has.schema get_plain (c.in-Ok.ensures.shown clean))
-
-pub returns-in-Err-clause-cause : goal.returns-in-Err-clause-cause
-returns-in-Err-clause-cause g c clean t has told =
-    asks_only get _ t (state g.S.Store c.args.tx.now.conn.now) (state g.S.Store c.look.new.tx.conn.now) has get_plain (c.in-Err.ensures.broke clean told)
+returns-clause-kept g c clean t has = (rw c.month_values.ensures at (c.find.ensures.kept clean)) (filter (is_of c.args.no c.args.at) t.reports) (answers g.S.Store t _ has c.args.no c.args.at)

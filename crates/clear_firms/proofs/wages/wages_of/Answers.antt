@@ -1,36 +1,18 @@
-use Rattle.std.proofs.Common.{◌∙◌, filter, Ok, Err, OnOk}
-use Rattle.std.proofs.lemmas.Result.{IfOk-weaker, IfErr-weaker}
-use Rattle.sqlite.specs.Held.{state}
-use Rattle.sqlite.specs.State.{IsUnchanged}
-use Rattle.clear_rows.proofs.Statements.{shown_unchanged}
-use Rattle.clear_schema.specs.Schema.{store_schema}
-use Rattle.clear_schema.proofs.Causes.{asks_only}
-use Rattle.clear_rows.proofs.Inside.{unchanged_keeps}
-use Rattle.clear_firms.proofs.WageLemmas.{finds, is_of}
-use Rattle.clear_firms.proofs.WageTexts.{get, get_plain}
+use Rattle.std.proofs.Common.{filter}
+use Rattle.clear_firms.proofs.WageLemmas.{answers, is_of}
 use Rattle.clear_firms.proofs.wages.wages_of.Goals as goal
 
 pub returns-clause-found : goal.returns-clause-found
-returns-clause-found g c clean t has =
-    let is = finds t (state g.S.Store c.args.tx.now.conn.now) (state g.S.Store c.look.new.tx.conn.now) has c.args.no c.args.at c.in-Ok.rows.items (rw c.month_values.ensures at (c.in-Ok.ensures.shown clean)) in
-    IfOk-weaker c.all_rows.result _ _ (λ found reads. reads (filter (is_of c.args.no c.args.at) t.wages) (c.deref.ensures.value ∙ is)) c.all_rows.ensures.read
+returns-clause-found g c clean t has = (rw c.month_values.ensures at (c.list.ensures.found clean)) (filter (is_of c.args.no c.args.at) t.wages) (answers g.S.Store t _ has c.args.no c.args.at)
+
+pub returns-clause-cause : goal.returns-clause-cause
+returns-clause-cause g c clean t has = (rw c.month_values.ensures at (c.list.ensures.cause clean)) (filter (is_of c.args.no c.args.at) t.wages) (answers g.S.Store t _ has c.args.no c.args.at)
 
 pub returns-clause-range : goal.returns-clause-range
-returns-clause-range g c clean t has =
-    let is = finds t (state g.S.Store c.args.tx.now.conn.now) (state g.S.Store c.look.new.tx.conn.now) has c.args.no c.args.at c.in-Ok.rows.items (rw c.month_values.ensures at (c.in-Ok.ensures.shown clean)) in
-    IfErr-weaker c.all_rows.result _ _ (λ fault range told. range told (filter (is_of c.args.no c.args.at) t.wages) (c.deref.ensures.value ∙ is)) c.all_rows.ensures.range
+returns-clause-range g c clean t has = (rw c.month_values.ensures at (c.list.ensures.range clean)) (filter (is_of c.args.no c.args.at) t.wages) (answers g.S.Store t _ has c.args.no c.args.at)
 
 pub returns-clause-same : goal.returns-clause-same
-returns-clause-same g c clean t has = elim c.all_rows.result as (λ r. OnOk r (IsUnchanged (state g.S.Store c.args.tx.now.conn.now) (state g.S.Store c.look.new.tx.conn.now))) [
-  | Ok found ↦ shown_unchanged get _ (state g.S.Store c.args.tx.now.conn.now) (state g.S.Store c.look.new.tx.conn.now) _ store_schema has.schema get_plain (c.in-Ok.ensures.shown clean)
-  | Err e ↦ tt
-]
+returns-clause-same g c clean t has = (rw c.month_values.ensures at (c.list.ensures.same clean)) (filter (is_of c.args.no c.args.at) t.wages) (answers g.S.Store t _ has c.args.no c.args.at)
 
 pub returns-clause-kept : goal.returns-clause-kept
-returns-clause-kept g c clean t has =
-    unchanged_keeps (state g.S.Store c.args.tx.now.conn.now) (state g.S.Store c.look.new.tx.conn.now)
-    (shown_unchanged get _ (state g.S.Store c.args.tx.now.conn.now) (state g.S.Store c.look.new.tx.conn.now) _ store_schema has.schema get_plain (c.in-Ok.ensures.shown clean))
-
-pub returns-in-Err-clause-cause : goal.returns-in-Err-clause-cause
-returns-in-Err-clause-cause g c clean t has told =
-    asks_only get _ t (state g.S.Store c.args.tx.now.conn.now) (state g.S.Store c.look.new.tx.conn.now) has get_plain (c.in-Err.ensures.broke clean told)
+returns-clause-kept g c clean t has = (rw c.month_values.ensures at (c.list.ensures.kept clean)) (filter (is_of c.args.no c.args.at) t.wages) (answers g.S.Store t _ has c.args.no c.args.at)
