@@ -1,5 +1,5 @@
 -- Rows by their keys: the order of the database is that of the tables.
-use Rattle.std.proofs.Common.{◌≡◌, ℕ, Bool, true, false, ◌&&◌, ◌||◌, ◌==◌, nat_lt, cond, List, [], ◌∷◌, Some, is_some, filter, length, ◌≤◌, refl, sym, ap, subst, ◌∙◌, arith, Ordering, Less, Equal, Greater, is_eq, is_lt, is_gt, nat_cmp, slice_get, true≢false}
+use Rattle.std.proofs.Common.{◌≡◌, ℕ, Bool, true, false, ◌&&◌, ◌||◌, ◌==◌, nat_lt, cond, List, [], ◌∷◌, Option, None, Some, is_some, filter, length, ◌≤◌, refl, sym, ap, subst, ◌∙◌, arith, Ordering, Less, Equal, Greater, is_eq, is_lt, is_gt, nat_cmp, slice_get, true≢false}
 use Rattle.std.specs.Cmp.{IsTotalOrder}
 use Rattle.std.specs.Cmp.Lexicographic.{slice_cmp, on_texts, nat_list_cmp_total}
 use Rattle.std.specs.List.{list_any, AllByRecursion}
@@ -90,3 +90,13 @@ module _ {X : Type 0} (key : X → List ℕ) where
       go : (b : Bool) → is_key (key x) k ≡ b → length (filter (λ y. is_key (key y) k) xs) ≤ 1 → length (cond b (x ∷ filter (λ y. is_key (key y) k) xs) (filter (λ y. is_key (key y) k) xs)) ≤ 1
       go true on few = let none = ap length (none_behind xs on rises.0) in omega (arith, none)
       go false on few = few
+
+-- ---- rows that may be there
+
+pub none_if : {X : Type 0} (o : Option X) → is_some o ≡ false → o ≡ None
+none_if None h = refl
+none_if (Some x) h = absurd (true≢false h)
+
+-- what is said of one of two equal finds is said of the other
+pub found_out : {X : Type 0} (P : X → Type 0) (o p : Option X) → o ≡ p → (x : X) × (o ≡ Some x) × ¬ P x → (x : X) × (p ≡ Some x) × ¬ P x
+found_out {X = X} P o p same found = subst (λ (a : Option X). (x : X) × (a ≡ Some x) × ¬ P x) same found

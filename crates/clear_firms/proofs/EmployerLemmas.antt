@@ -36,7 +36,8 @@ use Rattle.clear_columns.proofs.StoredLemmas.{cast_maybe_month, maybe_month_type
 use Rattle.clear_columns.specs.Reading.{AnswersJust}
 use Rattle.clear_columns.proofs.ReadingLemmas.{answers_just}
 use Rattle.clear_firms.specs.Shown.{employer_shown}
-use Rattle.clear_firms.proofs.KeyLemmas.{none_if, get_is, put_is}
+use Rattle.clear_columns.proofs.KeyLemmas.{none_if}
+use Rattle.clear_firms.proofs.KeyLemmas.{get_is, put_is}
 use Rattle.clear_firms.proofs.EmployerTexts as text
 
 -- the number as SQL holds it

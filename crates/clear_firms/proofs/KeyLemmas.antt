@@ -1,5 +1,5 @@
 -- Keys as SQL compares them, and as the book does; rows in the order of their keys.
-use Rattle.std.proofs.Common.{◌≡◌, ℕ, pos, List, [], ◌∷◌, not, subst, IsSome, Option, Some, None, Bool, true, false, cond, ◌==◌, refl, sym, ap, ap₂, ◌∙◌, arith, int_cmp, int_eq, is_some, Ordering, Less, Equal, Greater, is_eq, true≢false}
+use Rattle.std.proofs.Common.{◌≡◌, ℕ, pos, List, [], ◌∷◌, not, subst, IsSome, Some, None, Bool, true, false, cond, ◌==◌, refl, sym, ap, ap₂, ◌∙◌, arith, int_cmp, int_eq, is_some, Ordering, Less, Equal, Greater, is_eq, true≢false}
 use Rattle.std.proofs.lemmas.Bool.Decides.{nat_tests}
 use Rattle.std.proofs.lemmas.Int.{ints}
 use Rattle.std.proofs.lemmas.Cmp.{nat_list_cmp_total}
@@ -33,16 +33,6 @@ greater_first a b h = grind (arith, nat_tests, ints)
 
 equal_same : (a b : ℕ) → int_cmp (pos a) (pos b) ≡ Equal → int_eq (pos a) (pos b) ≡ true
 equal_same a b h = grind (arith, ints)
-
--- ---- rows that may be there
-
-pub none_if : {X : Type 0} (o : Option X) → is_some o ≡ false → o ≡ None
-none_if None h = refl
-none_if (Some x) h = absurd (true≢false h)
-
--- what is said of one of two equal finds is said of the other
-pub found_out : {X : Type 0} (P : X → Type 0) (o p : Option X) → o ≡ p → (x : X) × (o ≡ Some x) × ¬ P x → (x : X) × (p ≡ Some x) × ¬ P x
-found_out {X = X} P o p same found = subst (λ (a : Option X). (x : X) × (a ≡ Some x) × ¬ P x) same found
 
 -- ---- rows by a number
 

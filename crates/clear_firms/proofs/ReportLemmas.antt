@@ -46,11 +46,11 @@ use Rattle.clear_schema.proofs.Changes.{reports_changed}
 use Rattle.clear_schema.proofs.ValueLemmas.{cast_null, cast_int}
 use Rattle.clear_firms.specs.Shown.{month_given, report_shown}
 use Rattle.clear_firms.proofs.HeldLemmas.{few_numbered, held_updated, updated_rows}
-use Rattle.clear_columns.proofs.KeyLemmas.{by_key_total, found_any, key_is, none_found, one_found, placed}
+use Rattle.clear_columns.proofs.KeyLemmas.{by_key_total, found_any, key_is, none_found, none_if, one_found, placed}
 use Rattle.clear_columns.proofs.ReadingLemmas.{answers_just}
 use Rattle.clear_columns.proofs.StoredLemmas.{equal_months, equal_numbers, months_compare, numbers_compare}
 use Rattle.clear_columns.specs.Reading.{AnswersJust}
-use Rattle.clear_firms.proofs.KeyLemmas.{none_if, none_of_key, replaced_is}
+use Rattle.clear_firms.proofs.KeyLemmas.{none_of_key, replaced_is}
 use Rattle.clear_firms.proofs.ListLemmas.{none_replaced}
 use Rattle.clear_firms.proofs.ReportTexts as text
 

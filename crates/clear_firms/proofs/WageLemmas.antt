@@ -42,11 +42,11 @@ use Rattle.clear_schema.proofs.Causes.{refer_to_none, sound_by_schema}
 use Rattle.clear_schema.proofs.Changes.{wages_changed}
 use Rattle.clear_schema.proofs.ValueLemmas.{cast_null, cast_int}
 use Rattle.clear_firms.specs.Shown.{month_given, wage_shown}
-use Rattle.clear_columns.proofs.KeyLemmas.{by_key_total, found_any, key_is, none_found, placed}
+use Rattle.clear_columns.proofs.KeyLemmas.{by_key_total, found_any, key_is, none_found, none_if, placed}
 use Rattle.clear_columns.specs.Reading.{AnswersJust}
 use Rattle.clear_columns.proofs.ReadingLemmas.{answers_just}
 use Rattle.clear_columns.proofs.StoredLemmas.{equal_months, equal_numbers, months_compare, numbers_compare}
-use Rattle.clear_firms.proofs.KeyLemmas.{none_if, turned_nat}
+use Rattle.clear_firms.proofs.KeyLemmas.{turned_nat}
 use Rattle.clear_firms.proofs.WageTexts as text
 
 -- the row is of a firm's month

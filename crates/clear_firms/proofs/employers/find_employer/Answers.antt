@@ -2,7 +2,7 @@ use Rattle.std.proofs.Common.{◌∙◌, filter}
 use Rattle.std.proofs.lemmas.Result.{IfOk-weaker, IfErr-weaker}
 use Rattle.clear_book.specs.RowRanges.{IsEmployerRow}
 use Rattle.clear_firms.proofs.EmployerLemmas.{answers, first_is, has_no}
-use Rattle.clear_firms.proofs.KeyLemmas.{found_out}
+use Rattle.clear_columns.proofs.KeyLemmas.{found_out}
 use Rattle.clear_firms.proofs.employers.find_employer.Goals as goal
 
 pub returns-clause-found : goal.returns-clause-found

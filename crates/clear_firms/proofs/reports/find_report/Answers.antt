@@ -2,8 +2,7 @@ use Rattle.std.proofs.Common.{[], ◌∷◌, ◌∙◌, filter}
 use Rattle.std.proofs.lemmas.Result.{IfOk-weaker, IfErr-weaker}
 use Rattle.clear_book.specs.RowRanges.{IsReportRow}
 use Rattle.clear_book.specs.Tables.{report_key}
-use Rattle.clear_columns.proofs.KeyLemmas.{first_found}
-use Rattle.clear_firms.proofs.KeyLemmas.{found_out}
+use Rattle.clear_columns.proofs.KeyLemmas.{first_found, found_out}
 use Rattle.clear_firms.proofs.ReportLemmas.{answers, is_of}
 use Rattle.clear_firms.proofs.reports.find_report.Goals as goal
 

@@ -1,0 +1,3 @@
+pub mod ReplyLemmas
+pub mod RequestLemmas
+pub mod TextLemmas
