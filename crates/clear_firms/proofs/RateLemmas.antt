@@ -1,5 +1,5 @@
 -- What the query for all rates answers.
-use Rattle.std.proofs.Common.{◌≡◌, false, List, ℕ, [], ◌∷◌, map, refl, ap, ◌∙◌, map-id, codes, int_cmp, Equal, true}
+use Rattle.std.proofs.Common.{◌≡◌, false, List, ℕ, zero, suc, ◌+◌, ◌<◌, ◌≤◌, [], ◌∷◌, map, length, take, get_or, refl, sym, ap, subst, add-one, ◌∙◌, map-id, codes, int_cmp, Equal, true, arith}
 use Rattle.std.specs.Ordering.{ordering_then}
 use Rattle.sqlite.proofs.Callers.{IsPlain, command_of}
 use Rattle.sqlite.specs.Collation.TheVariants.{Binary}
@@ -14,6 +14,8 @@ use Rattle.sqlite_tied.specs.Compute.{everything}
 use Rattle.sqlite_typed.proofs.AnswerLemmas.{unfiltered}
 use Rattle.sqlite_value.specs.Keys.{ascending}
 use Rattle.sqlite_value.proofs.OrderLemmas.{value_cmp-Int}
+use Rattle.clear_money.specs.Rates.{Rate, IsRising, last_first}
+use Rattle.clear_book.specs.Machine.{AreRates}
 use Rattle.clear_book.specs.Tables.{Tables}
 use Rattle.clear_rows.specs.Plain.{plain_program}
 use Rattle.clear_rows.proofs.Queries.{in_order}
@@ -52,3 +54,21 @@ answers g t db has =
     (λ a b. int_cmp (rate_key a) (rate_key b)) (λ a b h. ap (λ o. ordering_then o Equal) (value_cmp-Int (rate_key a) (rate_key b) ∙ h)) t.rates (IsPermutation-same _ _ (map-id t.rates))
     (ascending_weaker _ _ (λ a b. Less-from_lt (rate_key a) (rate_key b)) t.rates has.rates.keyed)
     ∙ ap (map rate_shown) (unfiltered t.rates refl))
+
+-- ---- rates as a table
+
+-- the last of the rows so far comes before the next
+behind : (rs : List Rate) (i : ℕ) (d : Rate) → IsRising rs → suc i < length rs → last_first (take (suc i) rs) < (get_or rs (suc i) d).first
+behind [] i d up less = absurd (omega arith)
+behind (r ∷ []) i d up less = absurd (omega arith)
+behind (r ∷ q ∷ rs) zero d up less = up.0.0
+behind (r ∷ q ∷ rs) (suc i) d up less = behind (q ∷ rs) i d up.1 (omega arith)
+
+-- so rows of which one comes too early are no rates
+pub too_early : (rows rest : List Rate) (first row : Rate) (i : ℕ) → rows ≡ first ∷ rest → i < length rest → row ≡ get_or rest i row → row.first ≤ last_first (take (i + 1) rows) → AreRates rows → ⊥
+too_early rows rest first row i is less at early rates =
+    let up : IsRising (first ∷ rest) = subst IsRising is rates.rising in
+    let next : last_first (take (suc i) (first ∷ rest)) < (get_or rest i row).first = behind (first ∷ rest) i row up (omega arith) in
+    let later : last_first (take (suc i) (first ∷ rest)) < row.first = subst (λ (r : Rate). last_first (take (suc i) (first ∷ rest)) < r.first) (sym at) next in
+    let before : row.first ≤ last_first (take (suc i) (first ∷ rest)) = subst (λ (rs : List Rate). row.first ≤ last_first (take (suc i) rs)) is (subst (λ n. row.first ≤ last_first (take n rows)) (add-one i) early) in
+    omega (arith, later, before)
