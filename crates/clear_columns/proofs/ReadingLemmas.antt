@@ -1,17 +1,48 @@
--- A query over one table answers what its program does.
-use Rattle.std.proofs.Common.{◌≡◌, ℕ, false, List, ◌++◌, sym, ap, subst, ◌∙◌}
-use Rattle.sqlite.proofs.Callers.{IsPlain, begins_as, command_of, reads_as}
+-- Readers: what is still to come after each row.
+use Rattle.std.proofs.Common.{◌≡◌, ℕ, false, List, [], ◌∷◌, ◌++◌, Result, Ok, Err, OnErr, map, refl, sym, ap, subst, ◌∙◌, append_assoc, inl}
+use Rattle.std.proofs.lemmas.List.{map-append}
+use Rattle.sqlite.proofs.Callers.{IsPlain, begins_as, begun_plain, command_of, given_begin, never_commits, reads_as}
+use Rattle.sqlite.proofs.StateLemmas.{survives_weaker}
 use Rattle.sqlite.specs.Command.TheVariants.{Select}
 use Rattle.sqlite.specs.Effect.{Answers, Database, Reads}
-use Rattle.sqlite.specs.Held.{state}
+use Rattle.sqlite.specs.Given.{HasBegun, HasGiven, IsRefused}
+use Rattle.sqlite.specs.Held.{Held, state}
 use Rattle.sqlite.specs.Listing.{understood, reads_listing}
 use Rattle.sqlite.specs.Order.{Row}
 use Rattle.sqlite.specs.Schema.{Schema}
+use Rattle.sqlite.specs.State.{CommitsShowing, FailsToQuery, IsUnchanged, Shown, State, Survives}
 use Rattle.sqlite.specs.Store.{Ghosts}
 use Rattle.sqlite.specs.Term.{Term}
+use Rattle.sqlite.specs.declared.error.Error.{Error}
 use Rattle.sqlite_value.specs.declared.keys.Key.{Key}
+use Rattle.clear_rows.proofs.Inside.{query_keeps}
+use Rattle.clear_rows.proofs.Refused.{query_never}
 use Rattle.clear_rows.specs.Plain.{plain_program}
-use Rattle.clear_columns.specs.Reading.{AnswersJust}
+use Rattle.clear_book.specs.declared.rules.StoreCause.TheVariants.{Constraint}
+use Rattle.clear_schema.proofs.Causes.{query_broke}
+use Rattle.clear_schema.specs.Faults.{fault_of}
+use Rattle.clear_schema.specs.declared.fault.Fault.TheVariants.{Store}
+use Rattle.clear_columns.specs.Reading.{AnswersJust, HasToGive, IsLeft}
+
+-- a query breaks no rule
+pub asks_only : (sql : List ℕ) (params : Row) (old new : State) (e : Error) → IsPlain (understood old.now.schema sql) → FailsToQuery sql params old new e → fault_of e ≡ Store Constraint → ⊥
+asks_only sql params old new e plain failed told =
+    let broke = query_broke sql params old new e told (inl failed) in
+    query_never sql params old new broke.0 old.now.schema refl plain broke.1
+
+-- it commits nothing
+pub commits_nothing : (sql : List ℕ) (params : Row) (old new : State) → IsPlain (understood old.now.schema sql) → Survives old new (CommitsShowing sql params old) → Survives old new (λ _. ⊥)
+commits_nothing sql params old new plain = survives_weaker old new _ _ (λ _ db. never_commits sql params old db plain)
+
+-- where it does not begin, it leaves all that was committed
+pub left : {S A : Type 0} (g : Ghosts S) (sql : List ℕ) (params : Row) (old new : Held S) (result : Result A Error) → OnErr result (IsRefused g sql params old result new) → OnErr result (IsPlain (understood old.schema sql) → IsLeft g old result new)
+left g sql params old new (Ok x) refused = tt
+left g sql params old new (Err e) refused = λ plain. record {
+  cause = λ clean told. asks_only sql params (state g old) (state g new) e plain (refused.err clean) told;
+  kept = λ clean. query_keeps sql params (state g old) (state g new) e (inl (refused.err clean));
+  mode = refused.mode;
+  survives = commits_nothing sql params (state g old) (state g new) plain refused.survives;
+}
 
 -- a query over one table answers what its program does
 pub answers_just : {S : Type 0} (g : Ghosts S) (place : ℕ) (conditions columns : List Term) (order : List (Term × Key)) (names : List (List ℕ)) (sql : List ℕ) (params : Row) (schema : Schema)
@@ -24,3 +55,54 @@ answers_just g place conditions columns order names sql params schema is plain u
       let it = begins_as sql params (state g old) (state g old) schema (ap (λ (d : Database). d.schema) here ∙ has) _ is plain unlisted first begun in
       (it.1.0, whole (first ++ it.1.0) (subst (λ (d : Database). Answers d (plain_program place conditions columns order) params (first ++ it.1.0)) here (record { typed = it.0; answer = it.1.1 })));
 }
+
+module _ {X : Type 0} (show : X → Row) where
+  -- where one more row came, it shows the first of those to come
+  begins_next : (given rest : List X) (row : Row) (tail : List Row) → (map show given ++ row ∷ []) ++ tail ≡ map show (given ++ rest) → (x : X) × (more : List X) × (rest ≡ x ∷ more) × (row ≡ show x)
+  begins_next [] [] row tail h = absurd cc
+  begins_next [] (x ∷ more) row tail h = (x, more, refl, cc)
+  begins_next (y ∷ given) rest row tail h = begins_next given rest row tail cc
+
+  -- where the rows so far are all, none is to come
+  ends_next : (given rest : List X) → map show given ≡ map show (given ++ rest) → rest ≡ []
+  ends_next [] [] h = refl
+  ends_next [] (x ∷ more) h = absurd cc
+  ends_next (y ∷ given) rest h = ends_next given rest cc
+
+  module _ {S : Type 0} (g : Ghosts S) (old new : Held S) where
+    -- a query that has begun has all its rows to give
+    pub begun : (sql : List ℕ) (params : Row) (rows : List X) → AnswersJust g sql params (state g old).now (map show rows) → HasBegun g sql params old new
+        → HasToGive g show new rows × IsUnchanged (state g old) (state g new)
+    begun sql params rows just start =
+        let both = begun_plain g sql params old new just.plain start in
+        (record { sql = sql; params = params; given = []; gave = both.0; all = subst (λ d. AnswersJust g sql params d (map show rows)) (sym both.1.0.now_is) just }, both.1)
+
+    -- a row that came shows the first of those to come
+    pub gives_row : (rest : List X) (to_give : HasToGive g show old rest) → (state g new).now ≡ (state g old).now → (row : Row) → HasGiven g to_give.sql to_give.params new (map show to_give.given ++ row ∷ [])
+        → (x : X) × (row ≡ show x) × (more : List X) × (rest ≡ x ∷ more) × HasToGive g show new more
+    gives_row rest to_give same row gave =
+        let sql = to_give.sql in
+        let params = to_give.params in
+        let given = to_give.given in
+        let first = to_give.all.start new (map show given ++ row ∷ []) same (given_begin g sql params new _ gave) in
+        let it = begins_next given rest row first.0 first.1 in
+        let x = it.0 in
+        let more = it.1 in
+        let so_far : map show given ++ row ∷ [] ≡ map show (given ++ x ∷ []) = ap (λ r. map show given ++ r ∷ []) it.3 ∙ sym (map-append show given (x ∷ [])) in
+        let whole : given ++ rest ≡ (given ++ x ∷ []) ++ more = ap (λ l. given ++ l) it.2 ∙ sym (append_assoc given (x ∷ []) more) in (
+          x,
+          it.3,
+          more,
+          it.2,
+          record {
+            sql = sql;
+            params = params;
+            given = given ++ x ∷ [];
+            gave = subst (HasGiven g sql params new) so_far gave;
+            all = subst (λ d. AnswersJust g sql params d (map show ((given ++ x ∷ []) ++ more))) (sym same) (subst (λ l. AnswersJust g sql params (state g old).now (map show l)) whole to_give.all);
+          },
+        )
+
+    -- where none came, none was to come
+    pub gives_none : (rest : List X) (to_give : HasToGive g show old rest) → Shown to_give.sql to_give.params (state g old) (state g new) (map show to_give.given) → rest ≡ []
+    gives_none rest to_give shown = ends_next to_give.given rest (to_give.all.whole old new _ refl shown)

@@ -1,10 +1,20 @@
 //! Rows of the office's types out of the rows of an answer.
-ghost use Rattle.std.specs.Prelude.{◌≡◌, ◌≢◌, List, Some, map, slice_get, IfErr, IfOk, IfSome};
+ghost use Rattle.std.specs.Borrow.{sem, RestsIfErr};
 ghost use Rattle.std.specs.List.{AllByRecursion};
+ghost use Rattle.std.specs.Prelude.{◌≡◌, ◌≢◌, ◌∷◌, false, List, Some, map, slice_get};
+ghost use Rattle.std.specs.Prelude.{IfErr, IfOk, IfSome, OnOk};
+ghost use Rattle.sqlite.specs.Given.{IsPlain};
+ghost use Rattle.sqlite.specs.Held.{state};
+ghost use Rattle.sqlite.specs.Listing.{understood};
+ghost use Rattle.sqlite.specs.State.{HasCleanDisk, IsUnchanged, KeepsCommit, Survives};
+ghost use Rattle.sqlite.specs.Values.{bound};
+ghost use Rattle.sqlite.specs.contracts.connection.Connection.{the_row};
+ghost use Rattle.clear_columns.specs.Reading.{AnswersJust, Gives, HasToGive, IsLeft};
 
 use clear_book::rules::StoreCause;
-use clear_schema::fault::Fault;
-use sqlite::Row;
+use clear_schema::fault::{Fault, fault_of};
+use sqlite::{Alter, Connection, Error, Row, Rows};
+use sqlite_value::value::ValueRef;
 use std::alloc::Global;
 
 /// A table of the store, by how the rows that a query shows are read.
@@ -71,4 +81,67 @@ pub fn all_rows<T: StoredTable>(alloc: Global, rows: &[Row]) -> Result<Vec<T::Ro
         }
     }
     Ok(found)
+}
+
+/// Begins a query whose rows `next_row` reads one at a time. The rows may be dropped at any of them.
+pub fn begin_rows<'a, T: StoredTable, S: Alter>(
+    conn: &'a mut Connection<S>,
+    sql: &str,
+    values: &[ValueRef<'_>],
+) -> Result<Rows<'a, S>, Error>
+    ensures* refused { sem 𝓛 (RestsIfErr (the_row S.row S.Store) conn.entry
+        (λ rows. rows.conn.ghost_name) result
+        (λ left. IsPlain (understood conn.old.schema sql.now)
+        → IsLeft S.Store conn.old result left)) }
+    ensures same_reference { IfOk result (λ rows. rows.conn.ghost_name ≡ conn.entry.ghost_name) }
+    ensures begun { IfOk result (λ rows. HasCleanDisk (state S.Store rows.conn.now)
+        → (all : List T.Row) → AnswersJust S.Store sql.now (bound values.now)
+        (state S.Store conn.old).now (map T.shown all)
+        → HasToGive S.Store T.shown rows.conn.now all) }
+    ensures same { IfOk result (λ rows. HasCleanDisk (state S.Store rows.conn.now)
+        → IsPlain (understood conn.old.schema sql.now)
+        → IsUnchanged (state S.Store conn.old) (state S.Store rows.conn.now)) }
+    ensures mode { IfOk result (λ rows. conn.old.in_transaction ≡ false
+        → rows.conn.now.in_transaction ≡ false) }
+    ensures survives { IfOk result (λ rows. IsPlain (understood conn.old.schema sql.now)
+        → Survives (state S.Store conn.old) (state S.Store rows.conn.now) (λ _. ⊥)) }
+{
+    conn.query(sql, values)
+}
+
+/// The next row, and none past the last. A row that is out of its range is passed over.
+pub fn next_row<T: StoredTable, S: Alter>(rows: &mut Rows<'_, S>) -> Result<Option<T::Row>, Fault>
+    ensures same_reference { rows.new.conn.ghost_name ≡ rows.old.conn.ghost_name }
+    ensures gives { HasCleanDisk (state S.Store rows.new.conn.now)
+        → (rest : List T.Row) → HasToGive S.Store T.shown rows.old.conn.now rest
+        → IfOk result (Gives S.Store T.shown rows.new.conn.now rest) }
+    ensures good { IfOk result (λ found. IfSome found T.is_in_range) }
+    ensures cause { HasCleanDisk (state S.Store rows.new.conn.now)
+        → (rest : List T.Row) → HasToGive S.Store T.shown rows.old.conn.now rest
+        → IfErr result (λ fault. fault ≢ Fault.Store StoreCause.Constraint) }
+    ensures range { HasCleanDisk (state S.Store rows.new.conn.now)
+        → (rest : List T.Row) → HasToGive S.Store T.shown rows.old.conn.now rest
+        → IfErr result (λ fault. fault ≡ Fault.Store StoreCause.Row
+        → (x : T.Row) × (more : List T.Row) × (rest ≡ x ∷ more) × ¬ T.is_in_range x) }
+    ensures same { HasCleanDisk (state S.Store rows.new.conn.now)
+        → OnOk result (IsUnchanged (state S.Store rows.old.conn.now)
+        (state S.Store rows.new.conn.now)) }
+    ensures kept { HasCleanDisk (state S.Store rows.new.conn.now)
+        → KeepsCommit (state S.Store rows.old.conn.now) (state S.Store rows.new.conn.now) }
+    ensures mode { rows.old.conn.now.in_transaction ≡ false
+        → rows.new.conn.now.in_transaction ≡ false }
+    ensures survives { Survives (state S.Store rows.old.conn.now) (state S.Store rows.new.conn.now)
+        (λ _. ⊥) }
+{
+    match rows.advance() {
+        Ok(()) => {}
+        Err(error) => return Err(fault_of(error)),
+    }
+    match rows.get() {
+        Some(row) => match T::read(row) {
+            Ok(found) => Ok(Some(found)),
+            Err(fault) => Err(fault),
+        },
+        None => Ok(None),
+    }
 }

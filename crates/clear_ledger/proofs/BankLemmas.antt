@@ -1,15 +1,17 @@
 -- What the statements on `bank` do, whose key is a text and whose serials are unique too.
-use Rattle.std.proofs.Common.{◌≡◌, ℤ, pos, ℕ, Bool, true, false, not, ◌&&◌, ◌||◌, List, [], ◌∷◌, Some, Ok, Err, map, filter, refl, sym, ap, ap₂, subst, ◌∙◌, inl, inr, ◌⊎◌, is_eq, slice_get, ◌≤◌, true≢false, IsPermutation}
+use Rattle.std.proofs.Common.{◌≡◌, ℤ, pos, ℕ, Bool, true, false, not, ◌&&◌, ◌||◌, List, [], ◌∷◌, Ok, Err, map, filter, refl, sym, ap, ap₂, subst, ◌∙◌, inl, inr, ◌⊎◌, is_eq, Equal, ◌≤◌, true≢false, IsPermutation}
 use Rattle.std.proofs.lemmas.Bool.{or_left, or_right}
 use Rattle.std.proofs.lemmas.List.{length-map}
 use Rattle.std.specs.List.{list_any, AllByRecursion}
-use Rattle.sqlite.proofs.Callers.{reads_as}
+use Rattle.std.specs.Ordering.{ordering_then}
 use Rattle.sqlite.specs.declared.types.Value.TheVariants.{Null, Text}
+use Rattle.sqlite.specs.Effect.{Answers, Database}
 use Rattle.sqlite.specs.Order.{Row}
+use Rattle.sqlite.specs.Store.{Ghosts}
 use Rattle.sqlite.specs.Cast.{cast_row}
 use Rattle.sqlite.specs.Edit.{with_rowid, IsRefused}
 use Rattle.sqlite.specs.Rowids.TheVariants.{Chosen}
-use Rattle.sqlite.specs.State.{State, Executes, Shown}
+use Rattle.sqlite.specs.State.{State, Executes}
 use Rattle.sqlite.specs.Tree.{Trees, rowid}
 use Rattle.sqlite.specs.declared.error.Error.TheVariants.{SqliteFailure}
 use Rattle.sqlite.specs.declared.error.ErrorCode.TheVariants as code
@@ -24,7 +26,9 @@ use Rattle.sqlite_catalog.specs.Listing.{automatic}
 use Rattle.sqlite_rules.specs.declared.error.Refusal.TheVariants as why
 use Rattle.sqlite_rules.specs.Lists.{Has}
 use Rattle.sqlite_rules.proofs.ListLemmas.{has_kept}
+use Rattle.sqlite_typed.proofs.AnswerLemmas.{unfiltered}
 use Rattle.sqlite_value.specs.Keys.{plain, first_key}
+use Rattle.sqlite_value.proofs.OrderLemmas.{value_cmp-Text}
 use Rattle.std.proofs.lemmas.List.Sorted.{IsPermutation-map, IsPermutation-trans, IsPermutation-sym}
 use Rattle.sqlite_keyed.proofs.ListLemmas.{IsPermutation-filter}
 use Rattle.clear_bank.specs.declared.lines.Purpose.{Purpose}
@@ -32,11 +36,11 @@ use Rattle.clear_bank.specs.declared.lines.Purpose.TheVariants.{Contribution, In
 use Rattle.clear_book.specs.Keyed.{is_key, with_row}
 use Rattle.clear_book.specs.Tables.{Tables, bank_key}
 use Rattle.clear_book.specs.declared.rows.BankRow.{BankRow}
-use Rattle.clear_rows.specs.Plain.{passes as meets}
+use Rattle.clear_rows.specs.Plain.{passes as meets, plain_program}
 use Rattle.clear_rows.proofs.Statements.{inserted}
 use Rattle.clear_rows.proofs.Edits.{appended_is, appended_row}
 use Rattle.clear_rows.proofs.Held.{number, content, key_was_free, held-insert}
-use Rattle.clear_rows.proofs.Queries.{shown_in_some_order, one_row}
+use Rattle.clear_rows.proofs.Queries.{in_order, shown_in_some_order, one_row}
 use Rattle.clear_rows.proofs.Refused.{insert_violates, held_if_refused, apart_if, key_held}
 use Rattle.clear_schema.specs.Held.{HasTables, HasKeyed, by_key}
 use Rattle.clear_schema.specs.Schema.{store_schema, all_tables, all_indexes, bank_table}
@@ -45,9 +49,11 @@ use Rattle.clear_schema.proofs.Causes.{refer_to_none, sound_by_schema}
 use Rattle.clear_schema.proofs.Changes.{bank_changed}
 use Rattle.clear_schema.proofs.ValueLemmas.{cast_int, cast_null, equal_ints, equal_texts}
 use Rattle.clear_ledger.specs.Shown.{bank_shown, serial_key, is_line_held}
+use Rattle.clear_columns.specs.Reading.{AnswersJust}
+use Rattle.clear_columns.proofs.ReadingLemmas.{answers_just}
 use Rattle.clear_columns.proofs.KeyLemmas.{turned, is_key_is, by_key_total, key_is, placed, found_any, none_found, one_found}
 use Rattle.clear_columns.proofs.StoredLemmas.{cast_maybe, cast_purpose, maybe_typed, purpose_typed, same_numbers}
-use Rattle.clear_ledger.proofs.TextLemmas.{bank_insert, bank_insert_terms, bank_insert_is, bank_insert_plain, bank_get, bank_get_is, bank_get_plain, bank_get_reads, by_reference, bank_columns}
+use Rattle.clear_ledger.proofs.TextLemmas.{bank_insert, bank_insert_terms, bank_insert_is, bank_insert_plain, bank_get, bank_get_is, bank_get_plain, bank_get_reads, by_reference, bank_columns, bank_list, bank_list_is, bank_list_plain, bank_list_reads, bank_names, bank_order}
 
 last : (b : Bool) → (b && true) ≡ b
 last true = refl
@@ -166,17 +172,29 @@ line_held t old new x rule has ran =
 of_reference : (k : List ℕ) (y : ℤ × BankRow) → meets by_reference (Text k ∷ []) (bank_values y) ≡ is_key (bank_key (content y)) k
 of_reference k y = rw (equal_texts (content y).line.reference k) (last _ ∙ sym (is_key_is (content y).line.reference k))
 
-pub finds : (t : Tables) (old new : State) (k : List ℕ) (rows : List Row) → HasTables t old.now → Shown bank_get (Text k ∷ []) old new rows → rows ≡ map bank_shown (filter (λ row. is_key (bank_key row) k) t.bank)
-finds t old new k rows has shown =
-    let answer = reads_as bank_get (Text k ∷ []) old new store_schema has.schema _ bank_get_is bank_get_plain bank_get_reads rows shown in
-    let db = old.now in
-    let held = has.bank in
-    let some : IsPermutation (map bank_shown (filter (λ row. is_key (bank_key row) k) (map content held.numbered))) rows =
-    shown_in_some_order 7 by_reference bank_columns [] (Text k ∷ []) bank_values content (λ row. is_key (bank_key row) k) (of_reference k) (λ row. ([], bank_shown row)) (λ _. refl) db.schema db.trees held.numbered held.stored.is rows answer in
-    let same = IsPermutation-trans _ _ _ (IsPermutation-sym _ _ (IsPermutation-map bank_shown _ _ (IsPermutation-filter (λ row. is_key (bank_key row) k) _ _ held.same))) some in
-    one_row _ rows (subst (λ n. n ≤ 1) (sym (length-map (filter (λ row. is_key (bank_key row) k) t.bank) bank_shown)) (one_found bank_key t.bank k held.rises)) same
+-- the query of a reference answers its line
+pub answers : {S : Type 0} (g : Ghosts S) (t : Tables) (db : Database) → HasTables t db → (k : List ℕ) → AnswersJust g bank_get (Text k ∷ []) db (map bank_shown (filter (λ row. is_key (bank_key row) k) t.bank))
+answers g t db has k = answers_just g 7 by_reference bank_columns [] bank_names bank_get (Text k ∷ []) store_schema bank_get_is bank_get_plain bank_get_reads db has.schema _ whole
+  where
+    p : BankRow → Bool
+    p row = is_key (bank_key row) k
 
--- the first row of an answer shows the first of the rows
-pub first_row : (rows : List Row) (xs : List BankRow) (row : Row) → Some row ≡ slice_get rows 0 → rows ≡ map bank_shown xs → (x : BankRow) × (slice_get xs 0 ≡ Some x) × (row ≡ bank_shown x)
-first_row rows [] row is same = absurd (let e = is ∙ ap (λ l. slice_get l 0) same in cc)
-first_row rows (x ∷ xs) row is same = (x, refl, (let e = is ∙ ap (λ l. slice_get l 0) same in cc))
+    whole : (rows : List Row) → Answers db (plain_program 7 by_reference bank_columns []) (Text k ∷ []) rows → rows ≡ map bank_shown (filter p t.bank)
+    whole rows answer =
+        let held = has.bank in
+        let some : IsPermutation (map bank_shown (filter p (map content held.numbered))) rows =
+        shown_in_some_order 7 by_reference bank_columns [] (Text k ∷ []) bank_values content p (of_reference k) (λ row. ([], bank_shown row)) (λ _. refl) db.schema db.trees held.numbered held.stored.is rows answer in
+        let same = IsPermutation-trans _ _ _ (IsPermutation-sym _ _ (IsPermutation-map bank_shown _ _ (IsPermutation-filter p _ _ held.same))) some in
+        one_row _ rows (subst (λ n. n ≤ 1) (sym (length-map (filter p t.bank) bank_shown)) (one_found bank_key t.bank k held.rises)) same
+
+-- ---- all rows by their references
+
+lines_are : (t : Tables) (db : Database) → HasTables t db → (rows : List Row) → Answers db (plain_program 7 [] bank_columns bank_order) [] rows → rows ≡ map bank_shown t.bank
+lines_are t db has rows answer =
+    let held = has.bank in
+    in_order 7 [] bank_columns bank_order [] bank_values content (λ _. true) (λ _. refl) (λ row. (Text row.line.reference ∷ [], bank_shown row)) (λ _. refl) db.schema db.trees held.numbered held.stored.is rows answer
+    (by_key bank_key) (λ a b h. ap (λ o. ordering_then o Equal) (value_cmp-Text a.line.reference b.line.reference ∙ h)) t.bank held.same held.rises
+    ∙ ap (map bank_shown) (unfiltered t.bank refl)
+
+pub reads_lines : {S : Type 0} (g : Ghosts S) (t : Tables) (db : Database) → HasTables t db → AnswersJust g bank_list [] db (map bank_shown t.bank)
+reads_lines g t db has = answers_just g 7 [] bank_columns bank_order bank_names bank_list [] store_schema bank_list_is bank_list_plain bank_list_reads db has.schema _ (lines_are t db has)

@@ -1,16 +1,15 @@
 -- What the statements on `credits` do, whose key has four columns, one of them a text.
 use Rattle.std.proofs.Common.{◌≡◌, ℤ, pos, ℕ, Bool, true, false, not, ◌&&◌, List, [], ◌∷◌, Ok, Err, map, filter, refl, sym, subst, ◌∙◌, inl, inr, is_eq, Less, true≢false}
 use Rattle.std.specs.List.{list_any, AllByRecursion}
-use Rattle.sqlite.proofs.Callers.{reads_as}
-use Rattle.sqlite.specs.Collation.TheVariants.{Binary}
 use Rattle.sqlite.specs.declared.types.Value.TheVariants.{Null}
+use Rattle.sqlite.specs.Effect.{Answers, Database}
 use Rattle.sqlite.specs.Order.{Row}
+use Rattle.sqlite.specs.Store.{Ghosts}
 use Rattle.sqlite.specs.Cast.{cast_row}
 use Rattle.sqlite.specs.Edit.{with_rowid, IsRefused}
 use Rattle.sqlite.specs.Query.{output_cmp}
 use Rattle.sqlite.specs.Rowids.TheVariants.{Chosen}
-use Rattle.sqlite.specs.State.{State, Executes, Shown}
-use Rattle.sqlite.specs.Term.{col}
+use Rattle.sqlite.specs.State.{State, Executes}
 use Rattle.sqlite.specs.Tree.{Trees, rowid}
 use Rattle.sqlite.specs.declared.error.Error.TheVariants.{SqliteFailure}
 use Rattle.sqlite.specs.declared.error.ErrorCode.TheVariants as code
@@ -25,7 +24,7 @@ use Rattle.sqlite_catalog.specs.Listing.{automatic}
 use Rattle.sqlite_rules.specs.declared.error.Refusal.TheVariants as why
 use Rattle.sqlite_rules.specs.Lists.{Has}
 use Rattle.sqlite_rules.proofs.ListLemmas.{has_kept}
-use Rattle.sqlite_value.specs.Keys.{ascending, plain, first_key}
+use Rattle.sqlite_value.specs.Keys.{plain, first_key}
 use Rattle.clear_bank.specs.declared.lines.Purpose.{Purpose}
 use Rattle.clear_bank.specs.declared.lines.Purpose.TheVariants.{Contribution, Interest}
 use Rattle.clear_book.specs.Accounts.{credit_key}
@@ -46,9 +45,11 @@ use Rattle.clear_schema.proofs.Causes.{refer_to_none, sound_by_schema}
 use Rattle.clear_schema.proofs.Changes.{credits_changed}
 use Rattle.clear_schema.proofs.ValueLemmas.{cast_int, cast_null}
 use Rattle.clear_ledger.specs.Shown.{credit_shown, is_held}
+use Rattle.clear_columns.specs.Reading.{AnswersJust}
+use Rattle.clear_columns.proofs.ReadingLemmas.{answers_just}
 use Rattle.clear_columns.proofs.KeyLemmas.{by_key_total, key_is, placed, found_any, none_found}
 use Rattle.clear_columns.proofs.StoredLemmas.{cast_purpose, purpose_typed, equal_numbers, equal_ranks, equal_purposes, numbers_compare, purposes_compare}
-use Rattle.clear_ledger.proofs.TextLemmas.{credit_insert, credit_insert_terms, credit_insert_is, credit_insert_plain, credit_list, credit_list_is, credit_list_plain, credit_list_reads, by_purpose, credit_columns}
+use Rattle.clear_ledger.proofs.TextLemmas.{credit_insert, credit_insert_terms, credit_insert_is, credit_insert_plain, credit_list, credit_list_is, credit_list_plain, credit_list_reads, by_purpose, credit_columns, credit_names, credit_order, credit_program}
 
 keys_agree : (a b : ℤ × CreditRow) → agree plain (1 ∷ 2 ∷ 3 ∷ 4 ∷ []) (credit_values a) (1 ∷ 2 ∷ 3 ∷ 4 ∷ []) (credit_values b) ≡ is_eq (by_key credit_key (content b) (content a))
 unfolding first_key
@@ -145,14 +146,17 @@ of_firm e p y = rw (equal_numbers (content y).employer e, equal_purposes (conten
     last true false = refl
     last false b = refl
 
-pub lists : (t : Tables) (old new : State) (e : ℕ) (p : Purpose) (rows : List Row) → HasTables t old.now → Shown credit_list (number e ∷ purpose p ∷ []) old new rows → rows ≡ map credit_shown (filter (is_credit_of e p) t.credits)
-lists t old new e p rows has shown =
-    let answer = reads_as credit_list (number e ∷ purpose p ∷ []) old new store_schema has.schema _ credit_list_is credit_list_plain credit_list_reads rows shown in
+-- what the query for them answers
+pub whole : (t : Tables) (db : Database) (e : ℕ) (p : Purpose) → HasTables t db → (rows : List Row) → Answers db credit_program (number e ∷ purpose p ∷ []) rows → rows ≡ map credit_shown (filter (is_credit_of e p) t.credits)
+whole t db e p has rows answer =
     let held = has.credits in
-    in_order 10 by_purpose credit_columns ((col 1 1, ascending Binary) ∷ (col 1 2, ascending Binary) ∷ (col 1 3, ascending Binary) ∷ (col 1 4, ascending Binary) ∷ []) (number e ∷ purpose p ∷ []) credit_values content
-    (is_credit_of e p) (of_firm e p) (λ x. (number x.employer ∷ purpose x.purpose ∷ number x.day ∷ number x.serial ∷ [], credit_shown x)) (λ _. refl) old.now.schema old.now.trees held.numbered held.stored.is rows answer
+    in_order 10 by_purpose credit_columns credit_order (number e ∷ purpose p ∷ []) credit_values content
+    (is_credit_of e p) (of_firm e p) (λ x. (number x.employer ∷ purpose x.purpose ∷ number x.day ∷ number x.serial ∷ [], credit_shown x)) (λ _. refl) db.schema db.trees held.numbered held.stored.is rows answer
     (by_key credit_key) rises t.credits held.same held.rises
   where
-    rises : (a b : CreditRow) → by_key credit_key a b ≡ Less → output_cmp (plain_query 10 by_purpose credit_columns ((col 1 1, ascending Binary) ∷ (col 1 2, ascending Binary) ∷ (col 1 3, ascending Binary) ∷ (col 1 4, ascending Binary) ∷ []))
+    rises : (a b : CreditRow) → by_key credit_key a b ≡ Less → output_cmp (plain_query 10 by_purpose credit_columns credit_order)
         (number a.employer ∷ purpose a.purpose ∷ number a.day ∷ number a.serial ∷ [], credit_shown a) (number b.employer ∷ purpose b.purpose ∷ number b.day ∷ number b.serial ∷ [], credit_shown b) ≡ Less
     rises a b h = rw (numbers_compare a.employer b.employer, purposes_compare a.purpose b.purpose, numbers_compare a.day b.day, numbers_compare a.serial b.serial) h
+
+pub answers : {S : Type 0} (g : Ghosts S) (t : Tables) (db : Database) (e : ℕ) (p : Purpose) → HasTables t db → AnswersJust g credit_list (number e ∷ purpose p ∷ []) db (map credit_shown (filter (is_credit_of e p) t.credits))
+answers g t db e p has = answers_just g 10 by_purpose credit_columns credit_order credit_names credit_list (number e ∷ purpose p ∷ []) store_schema credit_list_is credit_list_plain credit_list_reads db has.schema _ (whole t db e p has)

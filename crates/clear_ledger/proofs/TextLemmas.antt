@@ -11,6 +11,7 @@ use Rattle.sqlite_schema.specs.declared.program.Program.{Program}
 use Rattle.sqlite_sql.specs.declared.ops.BinaryOp.TheVariants.{Compare}
 use Rattle.sqlite_sql.specs.declared.ops.CompareOp.TheVariants.{Eq}
 use Rattle.sqlite_value.specs.Keys.{ascending}
+use Rattle.sqlite_value.specs.declared.keys.Key.{Key}
 use Rattle.sqlite_tied.specs.Compute.{everything}
 use Rattle.clear_rows.specs.Plain.{plain_program}
 use Rattle.clear_schema.specs.Schema.{store_schema}
@@ -44,8 +45,11 @@ by_reference = is (col 1 1) (col 0 0) ∷ []
 abbrev pub bank_columns : List Term
 bank_columns = col 1 1 ∷ col 1 2 ∷ col 1 3 ∷ col 1 4 ∷ col 1 5 ∷ col 1 6 ∷ col 1 7 ∷ col 1 8 ∷ []
 
+abbrev pub bank_names : List (List ℕ)
+bank_names = codes "reference" ∷ codes "serial" ∷ codes "value" ∷ codes "named" ∷ codes "employer" ∷ codes "cents" ∷ codes "purpose" ∷ codes "note" ∷ []
+
 pub bank_get_is : command_of (understood store_schema bank_get)
-    ≡ Select (plain_program 7 by_reference bank_columns []) (codes "reference" ∷ codes "serial" ∷ codes "value" ∷ codes "named" ∷ codes "employer" ∷ codes "cents" ∷ codes "purpose" ∷ codes "note" ∷ [])
+    ≡ Select (plain_program 7 by_reference bank_columns []) bank_names
 unfolding understood everything
 bank_get_is = refl
 
@@ -56,6 +60,24 @@ bank_get_plain = (refl, refl)
 pub bank_get_reads : reads_listing store_schema bank_get ≡ false
 unfolding understood everything
 bank_get_reads = refl
+
+abbrev pub bank_list : List ℕ
+bank_list = codes "SELECT reference, serial, value, named, employer, cents, purpose, note FROM bank ORDER BY reference"
+
+abbrev pub bank_order : List (Term × Key)
+bank_order = (col 1 1, ascending Binary) ∷ []
+
+pub bank_list_is : command_of (understood store_schema bank_list) ≡ Select (plain_program 7 [] bank_columns bank_order) bank_names
+unfolding understood everything
+bank_list_is = refl
+
+pub bank_list_plain : IsPlain (understood store_schema bank_list)
+unfolding understood everything
+bank_list_plain = (refl, refl)
+
+pub bank_list_reads : reads_listing store_schema bank_list ≡ false
+unfolding understood everything
+bank_list_reads = refl
 
 -- ---- credits
 
@@ -82,11 +104,17 @@ by_purpose = is (col 1 1) (col 0 0) ∷ is (col 1 2) (col 0 1) ∷ []
 abbrev pub credit_columns : List Term
 credit_columns = col 1 1 ∷ col 1 2 ∷ col 1 3 ∷ col 1 4 ∷ col 1 5 ∷ col 1 6 ∷ []
 
+abbrev pub credit_order : List (Term × Key)
+credit_order = (col 1 1, ascending Binary) ∷ (col 1 2, ascending Binary) ∷ (col 1 3, ascending Binary) ∷ (col 1 4, ascending Binary) ∷ []
+
 abbrev pub credit_program : Program
-credit_program = plain_program 10 by_purpose credit_columns ((col 1 1, ascending Binary) ∷ (col 1 2, ascending Binary) ∷ (col 1 3, ascending Binary) ∷ (col 1 4, ascending Binary) ∷ [])
+credit_program = plain_program 10 by_purpose credit_columns credit_order
+
+abbrev pub credit_names : List (List ℕ)
+credit_names = codes "employer" ∷ codes "purpose" ∷ codes "day" ∷ codes "serial" ∷ codes "cents" ∷ codes "ref" ∷ []
 
 pub credit_list_is : command_of (understood store_schema credit_list)
-    ≡ Select credit_program (codes "employer" ∷ codes "purpose" ∷ codes "day" ∷ codes "serial" ∷ codes "cents" ∷ codes "ref" ∷ [])
+    ≡ Select credit_program credit_names
 unfolding understood everything
 credit_list_is = refl
 

@@ -1,14 +1,18 @@
 //! The bank lines, by their references.
-ghost use Rattle.std.specs.Prelude.{◌≡◌, ◌≢◌, ◌<◌, ◌^◌, true, false, List, map, slice_get, Some};
-ghost use Rattle.std.specs.Prelude.{IsTrue, IfOk, IfErr, OnOk};
+ghost use Rattle.std.specs.Borrow.{sem, RestsIfErr};
+ghost use Rattle.std.specs.Prelude.{◌≡◌, ◌≢◌, true, false, Some, Err};
+ghost use Rattle.std.specs.Prelude.{IsTrue, IfOk, IfErr, IfSome, OnOk};
 ghost use Rattle.sqlite.specs.Held.{state};
 ghost use Rattle.sqlite.specs.State.{HasCleanDisk, IsUnchanged, KeepsCommit, Survives};
 ghost use Rattle.sqlite.specs.Values.{bound};
+ghost use Rattle.sqlite.specs.contracts.connection.Connection.{the_row};
 ghost use Rattle.clear_book.specs.Keyed.{find_row, with_row};
-ghost use Rattle.clear_book.specs.RowRanges.{IsBankRow};
+ghost use Rattle.clear_money.specs.Numbers.{IsEmployerNo};
+ghost use Rattle.clear_book.specs.RowRanges.{IsBankRow, IsSerial};
 ghost use Rattle.clear_book.specs.Tables.{Tables, bank_key};
 ghost use Rattle.clear_book.specs.declared.rows.BankRow.{BankRow};
 ghost use Rattle.clear_schema.specs.Held.{HasTables};
+ghost use Rattle.clear_columns.specs.Reading.{HasToGive, IsLeft};
 ghost use Rattle.clear_ledger.specs.Shown.{bank_shown, is_line_held};
 
 use clear_bank::lines::BankLine;
@@ -16,18 +20,22 @@ use clear_bank::texts::Reference;
 use clear_book::rows::BankRow;
 use clear_book::rules::StoreCause;
 use clear_columns::columns::{
-    amount_at, day_at, maybe_employer_at, note_at, number_at, purpose_at, reference_at,
+    amount_at, day_at, maybe_employer_at, note_at, purpose_at, reference_at, serial_at,
 };
 use clear_columns::parameters::{amount, day, maybe_employer, purpose};
+use clear_columns::queries::find;
+use clear_columns::ranges::is_serial;
+use clear_columns::rows::{StoredTable, begin_rows};
+use clear_money::numbers::EmployerNo;
 use clear_schema::fault::Fault;
-use clear_schema::statement::{look, put};
+use clear_schema::statement::put;
 use clear_schema::values::{number, text};
-use sqlite::{Alter, Row, Transaction};
+use sqlite::{Alter, Connection, Error, Row, Rows, Transaction};
 use sqlite_value::value::ValueRef;
 
-/// Adds a line whose reference and whose serial are free.
+/// Adds a line whose reference and whose serial are free. A serial that no line can have is
+/// refused with `Fault::Store(StoreCause::Row)`, and nothing is done.
 pub fn insert_line<S: Alter>(tx: &mut Transaction<'_, S>, row: &BankRow) -> Result<(), Fault>
-    requires { row.now.serial < 2 ^ 63 }
     ensures same_reference { tx.new.conn.ghost_name ≡ tx.old.conn.ghost_name }
     ensures put { HasCleanDisk (state S.Store tx.new.conn.now)
         → (t : Tables) → HasTables t (state S.Store tx.old.conn.now).now
@@ -40,15 +48,24 @@ pub fn insert_line<S: Alter>(tx: &mut Transaction<'_, S>, row: &BankRow) -> Resu
         → (t : Tables) → HasTables t (state S.Store tx.old.conn.now).now
         → IfErr result (λ fault. fault ≡ Fault.Store StoreCause.Constraint
         → is_line_held row.now t.bank ≡ true) }
+    ensures range { IfErr result (λ fault. fault ≡ Fault.Store StoreCause.Row
+        → ¬ IsSerial row.now.serial) }
+    ensures refused { ¬ IsSerial row.now.serial
+        → (result ≡ Err (Fault.Store StoreCause.Row)) × (tx.new.conn.now ≡ tx.old.conn.now) }
     ensures kept { HasCleanDisk (state S.Store tx.new.conn.now)
         → KeepsCommit (state S.Store tx.old.conn.now) (state S.Store tx.new.conn.now) }
     ensures goes_on { HasCleanDisk (state S.Store tx.new.conn.now)
         → OnOk result (IsTrue tx.new.conn.now.in_transaction) }
-    ensures survives { Survives (state S.Store tx.old.conn.now) (state S.Store tx.new.conn.now) (λ _. ⊥) }
+    ensures survives { Survives (state S.Store tx.old.conn.now) (state S.Store tx.new.conn.now)
+        (λ _. ⊥) }
 {
+    if !is_serial(row.serial) {
+        return Err(Fault::Store(StoreCause::Row));
+    }
     put(
         tx,
-        "INSERT INTO bank (reference, serial, value, named, employer, cents, purpose, note) VALUES (?1, ?2, ?3, ?4, ?5, ?6, ?7, ?8)",
+        "INSERT INTO bank (reference, serial, value, named, employer, cents, purpose, note) \
+         VALUES (?1, ?2, ?3, ?4, ?5, ?6, ?7, ?8)",
         &line_values(row),
     )
 }
@@ -62,6 +79,7 @@ pub fn find_line<S: Alter>(
     ensures found { HasCleanDisk (state S.Store tx.new.conn.now)
         → (t : Tables) → HasTables t (state S.Store tx.old.conn.now).now
         → IfOk result (λ found. found ≡ find_row bank_key t.bank reference.now) }
+    ensures good { IfOk result (λ found. IfSome found IsBankRow) }
     ensures cause { HasCleanDisk (state S.Store tx.new.conn.now)
         → (t : Tables) → HasTables t (state S.Store tx.old.conn.now).now
         → IfErr result (λ fault. fault ≢ Fault.Store StoreCause.Constraint) }
@@ -71,65 +89,104 @@ pub fn find_line<S: Alter>(
         → (x : BankRow) × (find_row bank_key t.bank reference.now ≡ Some x) × ¬ IsBankRow x) }
     ensures same { HasCleanDisk (state S.Store tx.new.conn.now)
         → (t : Tables) → HasTables t (state S.Store tx.old.conn.now).now
-        → OnOk result (IsUnchanged (state S.Store tx.old.conn.now) (state S.Store tx.new.conn.now)) }
+        → OnOk result (IsUnchanged (state S.Store tx.old.conn.now)
+        (state S.Store tx.new.conn.now)) }
     ensures kept { HasCleanDisk (state S.Store tx.new.conn.now)
         → (t : Tables) → HasTables t (state S.Store tx.old.conn.now).now
         → KeepsCommit (state S.Store tx.old.conn.now) (state S.Store tx.new.conn.now) }
-    ensures survives { Survives (state S.Store tx.old.conn.now) (state S.Store tx.new.conn.now) (λ _. ⊥) }
+    ensures survives { Survives (state S.Store tx.old.conn.now) (state S.Store tx.new.conn.now)
+        (λ _. ⊥) }
 {
-    let rows = match look(
+    find::<S, Bank>(
         tx,
-        "SELECT reference, serial, value, named, employer, cents, purpose, note FROM bank WHERE reference = ?1",
+        "SELECT reference, serial, value, named, employer, cents, purpose, note \
+         FROM bank WHERE reference = ?1",
         &[text(reference.as_str())],
-    ) {
-        Ok(rows) => rows,
-        Err(fault) => return Err(fault),
-    };
-    first_line(&rows)
+    )
 }
 
-// The line that the first row of an answer shows.
-fn first_line(rows: &[Row]) -> Result<Option<BankRow>, Fault>
-    ensures read { IfOk result (λ found. (xs : List BankRow)
-        → rows.now ≡ map bank_shown xs → found ≡ slice_get xs 0) }
-    ensures cause { IfErr result (λ fault. fault ≢ Fault.Store StoreCause.Constraint) }
-    ensures range { IfErr result (λ fault. fault ≡ Fault.Store StoreCause.Row
-        → (xs : List BankRow) → rows.now ≡ map bank_shown xs
-        → (x : BankRow) × (slice_get xs 0 ≡ Some x) × ¬ IsBankRow x) }
+/// All lines in the order of their references: `next_row` reads one at a time.
+pub fn lines<S: Alter>(conn: &mut Connection<S>) -> Result<Rows<'_, S>, Error>
+    ensures* refused { sem 𝓛 (RestsIfErr (the_row S.row S.Store) conn.entry
+        (λ rows. rows.conn.ghost_name) result (λ left. (t : Tables)
+        → HasTables t (state S.Store conn.old).now → IsLeft S.Store conn.old result left)) }
+    ensures same_reference { IfOk result (λ rows. rows.conn.ghost_name ≡ conn.entry.ghost_name) }
+    ensures begun { IfOk result (λ rows. HasCleanDisk (state S.Store rows.conn.now)
+        → (t : Tables) → HasTables t (state S.Store conn.old).now
+        → HasToGive S.Store bank_shown rows.conn.now t.bank) }
+    ensures same { IfOk result (λ rows. HasCleanDisk (state S.Store rows.conn.now)
+        → (t : Tables) → HasTables t (state S.Store conn.old).now
+        → IsUnchanged (state S.Store conn.old) (state S.Store rows.conn.now)) }
+    ensures mode { IfOk result (λ rows. conn.old.in_transaction ≡ false
+        → rows.conn.now.in_transaction ≡ false) }
+    ensures survives { IfOk result (λ rows. (t : Tables) → HasTables t (state S.Store conn.old).now
+        → Survives (state S.Store conn.old) (state S.Store rows.conn.now) (λ _. ⊥)) }
 {
-    match rows.first() {
-        Some(row) => match read_row(row) {
-            Ok(line) => Ok(Some(line)),
-            Err(fault) => Err(fault),
-        },
-        None => Ok(None),
-    }
+    begin_rows::<Bank, S>(
+        conn,
+        "SELECT reference, serial, value, named, employer, cents, purpose, note \
+         FROM bank ORDER BY reference",
+        &[],
+    )
 }
 
-// The line that a row shows, with its serial and its firm.
-fn read_row(row: &Row) -> Result<BankRow, Fault>
-    ensures read { IfOk result (λ r. (x : BankRow) → row.now ≡ bank_shown x → r ≡ x) }
-    ensures cause { IfErr result (λ fault. fault ≢ Fault.Store StoreCause.Constraint) }
-    ensures range { IfErr result (λ fault. fault ≡ Fault.Store StoreCause.Row
-        → (x : BankRow) → row.now ≡ bank_shown x → ¬ IsBankRow x) }
-{
-    Ok(BankRow {
-        line: BankLine {
+/// The table of bank lines.
+pub struct Bank;
+
+impl StoredTable for Bank {
+    ghost use Rattle.clear_ledger.specs.Shown.{bank_shown};
+    ghost use Rattle.clear_book.specs.RowRanges.{IsBankRow};
+
+    type Row = BankRow;
+
+    ghost shown = { bank_shown };
+
+    ghost is_in_range = { IsBankRow };
+
+    fn read(row: &Row) -> Result<BankRow, Fault> {
+        let line = BankLine {
             reference: reference_at(row, 0)?,
             value: day_at(row, 2)?,
             employer: maybe_employer_at(row, 3)?,
             cents: amount_at(row, 5)?,
             purpose: purpose_at(row, 6)?,
             note: note_at(row, 7)?,
-        },
-        serial: number_at(row, 1)?,
-        employer: maybe_employer_at(row, 4)?,
-    })
+        };
+        let read = BankRow {
+            line,
+            serial: serial_at(row, 1)?,
+            employer: maybe_employer_at(row, 4)?,
+        };
+        line_in_range(&read);
+        Ok(read)
+    }
+}
+
+// The values of a line lie in their ranges, since each is of a type that holds no others.
+fn line_in_range(row: &BankRow)
+    requires { IsSerial row.now.serial }
+    ensures { IsBankRow row.now }
+{
+    let _reference = row.line.reference.as_str();
+    let _value = row.line.value.number();
+    employer_in_range(row.line.employer);
+    let _cents = row.line.cents.cents();
+    let _note = row.line.note.as_str();
+    employer_in_range(row.employer);
+}
+
+// And of a firm, if there is one.
+fn employer_in_range(employer: Option<EmployerNo>)
+    ensures { IfSome employer IsEmployerNo }
+{
+    if let Some(employer) = employer {
+        let _employer = employer.number();
+    }
 }
 
 // The parameters of a statement that writes a row.
 fn line_values(row: &BankRow) -> [ValueRef<'_>; 8]
-    requires { row.now.serial < 2 ^ 63 }
+    requires { IsSerial row.now.serial }
     ensures { bound result ≡ bank_shown row.now }
 {
     [

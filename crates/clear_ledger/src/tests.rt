@@ -1,24 +1,21 @@
-ghost use Rattle.std.specs.Prelude.{◌≡◌, IfOk};
-
 use crate::bank::{find_line, insert_line};
-use crate::credits::{credits_of, insert_credit};
+use crate::credits::{Credits, credits_of, insert_credit, read_credits};
 use clear_bank::lines::{BankLine, Purpose};
 use clear_bank::texts::{Note, Reference};
 use clear_book::rows::{BankRow, CreditRow};
 use clear_book::rules::StoreCause;
 use clear_book::texts::CreditReference;
+use clear_columns::rows::next_row;
 use clear_money::days::Day;
 use clear_money::numbers::{Amount, EmployerNo};
 use clear_schema::fault::Fault;
 use clear_schema::make::make_all;
-use sqlite::{Alter, Connection, Transaction};
+use sqlite::{Alter, Connection, Rows, Transaction};
 use std::alloc::Global;
 use std::test::Fail;
 
 // A line of a reference, in suspense.
-fn suspense(alloc: Global, reference: &str, serial: u64) -> Result<BankRow, Fail>
-    ensures { IfOk result (λ row. row.serial ≡ serial) }
-{
+fn suspense(alloc: Global, reference: &str, serial: u64) -> Result<BankRow, Fail> {
     Ok(BankRow {
         line: BankLine {
             reference: Reference::of_text(String::from_str(alloc, reference)?).ok_or("reference")?,
@@ -34,9 +31,7 @@ fn suspense(alloc: Global, reference: &str, serial: u64) -> Result<BankRow, Fail
 }
 
 // A credit of firm 1001 for contributions.
-fn credit(alloc: Global, reference: &str, day: u64, serial: u64) -> Result<CreditRow, Fail>
-    ensures { IfOk result (λ row. row.serial ≡ serial) }
-{
+fn credit(alloc: Global, reference: &str, day: u64, serial: u64) -> Result<CreditRow, Fail> {
     Ok(CreditRow {
         employer: EmployerNo::new(1001).ok_or("employer")?,
         purpose: Purpose::Contribution,
@@ -162,5 +157,36 @@ fn a_row_out_of_its_range_is_told(rt: HostRuntime) -> Result<(), Fail> {
         )?;
         assert!(rt; find_cause(&mut tx, &row) == Some(StoreCause::Row));
     }
+    Ok(())
+}
+
+// The serial of the next credit, and 0 past the last.
+fn next_serial<S: Alter>(rows: &mut Rows<'_, S>) -> Option<u64> {
+    match next_row::<Credits, S>(rows) {
+        Ok(Some(credit)) => Some(credit.serial),
+        Ok(None) => Some(0),
+        Err(_) => None,
+    }
+}
+
+#[test]
+fn credits_are_read_one_at_a_time(rt: HostRuntime) -> Result<(), Fail> {
+    let alloc = rt.alloc();
+    let mut conn = Connection::open_in_memory(alloc)?;
+    let late = credit(alloc, "B2", 19_900, 2)?;
+    let early = credit(alloc, "B3", 19_800, 3)?;
+    assert!(rt; conn.is_autocommit());
+    if conn.is_autocommit() {
+        let mut tx = conn.transaction();
+        assert!(rt; make_all(&mut tx).is_ok());
+        assert!(rt; insert_credit(&mut tx, &late).is_ok());
+        assert!(rt; insert_credit(&mut tx, &early).is_ok());
+        tx.commit()?;
+    }
+    let employer = EmployerNo::new(1001).ok_or("employer")?;
+    let mut rows = read_credits(&mut conn, employer, Purpose::Contribution)?;
+    assert!(rt; next_serial(&mut rows) == Some(3));
+    assert!(rt; next_serial(&mut rows) == Some(2));
+    assert!(rt; next_serial(&mut rows) == Some(0));
     Ok(())
 }

@@ -1,44 +1,23 @@
-use Rattle.std.proofs.Common.{sym, ◌∙◌, filter, Ok, Err, OnOk, Some}
+use Rattle.std.proofs.Common.{◌∙◌, filter}
 use Rattle.std.proofs.lemmas.Result.{IfOk-weaker, IfErr-weaker}
-use Rattle.sqlite.specs.Held.{state}
-use Rattle.sqlite.specs.State.{IsUnchanged}
-use Rattle.clear_rows.proofs.Statements.{shown_unchanged}
 use Rattle.clear_book.specs.Keyed.{is_key}
+use Rattle.clear_book.specs.RowRanges.{IsBankRow}
 use Rattle.clear_book.specs.Tables.{bank_key}
-use Rattle.clear_schema.specs.Schema.{store_schema}
-use Rattle.clear_schema.proofs.Causes.{asks_only}
-use Rattle.clear_rows.proofs.Inside.{unchanged_keeps}
-use Rattle.clear_ledger.proofs.BankLemmas.{finds}
-use Rattle.clear_columns.proofs.KeyLemmas.{first_found}
-use Rattle.clear_ledger.proofs.TextLemmas.{bank_get, bank_get_plain}
+use Rattle.clear_columns.proofs.KeyLemmas.{first_found, found_out}
+use Rattle.clear_ledger.proofs.BankLemmas.{answers}
 use Rattle.clear_ledger.proofs.bank.find_line.Goals as goal
 
 pub returns-clause-found : goal.returns-clause-found
-returns-clause-found g c clean t has =
-    let k = c.args.reference.now in
-    let is = finds t (state g.S.Store c.args.tx.now.conn.now) (state g.S.Store c.look.new.tx.conn.now) k c.in-Ok.rows.items has (rw (c.text.ensures, c.as_str.ensures.value) at (c.in-Ok.ensures.shown clean)) in
-    IfOk-weaker c.first_line.result _ _ (λ e reads. reads (filter (λ row. is_key (bank_key row) k) t.bank) (c.deref.ensures.value ∙ is) ∙ first_found bank_key t.bank k) c.first_line.ensures.read
+returns-clause-found g c clean t has = IfOk-weaker c.find.result _ _ (λ found is. is ∙ first_found bank_key t.bank c.args.reference.now) ((rw (c.text.ensures, c.as_str.ensures.value) at (c.find.ensures.found clean)) (filter (λ row. is_key (bank_key row) c.args.reference.now) t.bank) (answers g.S.Store t _ has c.args.reference.now))
+
+pub returns-clause-cause : goal.returns-clause-cause
+returns-clause-cause g c clean t has = (rw (c.text.ensures, c.as_str.ensures.value) at (c.find.ensures.cause clean)) (filter (λ row. is_key (bank_key row) c.args.reference.now) t.bank) (answers g.S.Store t _ has c.args.reference.now)
 
 pub returns-clause-range : goal.returns-clause-range
-returns-clause-range g c clean t has =
-    let k = c.args.reference.now in
-    let is = finds t (state g.S.Store c.args.tx.now.conn.now) (state g.S.Store c.look.new.tx.conn.now) k c.in-Ok.rows.items has (rw (c.text.ensures, c.as_str.ensures.value) at (c.in-Ok.ensures.shown clean)) in
-    IfErr-weaker c.first_line.result _ _ (λ fault range told. let it = range told (filter (λ row. is_key (bank_key row) k) t.bank) (c.deref.ensures.value ∙ is) in (it.0, ◌∙◌ {c = Some it.0} (sym (first_found bank_key t.bank k)) it.1, it.2)) c.first_line.ensures.range
-
-pub returns-in-Err-clause-range : goal.returns-in-Err-clause-range
-returns-in-Err-clause-range g c clean t has told = absurd (c.in-Err.ensures.no_row told)
+returns-clause-range g c clean t has = IfErr-weaker c.find.result _ _ (λ fault range told. found_out IsBankRow _ _ (first_found bank_key t.bank c.args.reference.now) (range told)) ((rw (c.text.ensures, c.as_str.ensures.value) at (c.find.ensures.range clean)) (filter (λ row. is_key (bank_key row) c.args.reference.now) t.bank) (answers g.S.Store t _ has c.args.reference.now))
 
 pub returns-clause-same : goal.returns-clause-same
-returns-clause-same g c clean t has = elim c.first_line.result as (λ r. OnOk r (IsUnchanged (state g.S.Store c.args.tx.now.conn.now) (state g.S.Store c.look.new.tx.conn.now))) [
-  | Ok found ↦ shown_unchanged bank_get _ (state g.S.Store c.args.tx.now.conn.now) (state g.S.Store c.look.new.tx.conn.now) _ store_schema has.schema bank_get_plain (c.in-Ok.ensures.shown clean)
-  | Err e ↦ tt
-]
+returns-clause-same g c clean t has = (rw (c.text.ensures, c.as_str.ensures.value) at (c.find.ensures.same clean)) (filter (λ row. is_key (bank_key row) c.args.reference.now) t.bank) (answers g.S.Store t _ has c.args.reference.now)
 
 pub returns-clause-kept : goal.returns-clause-kept
-returns-clause-kept g c clean t has =
-    unchanged_keeps (state g.S.Store c.args.tx.now.conn.now) (state g.S.Store c.look.new.tx.conn.now)
-    (shown_unchanged bank_get _ (state g.S.Store c.args.tx.now.conn.now) (state g.S.Store c.look.new.tx.conn.now) _ store_schema has.schema bank_get_plain (c.in-Ok.ensures.shown clean))
-
-pub returns-in-Err-clause-cause : goal.returns-in-Err-clause-cause
-returns-in-Err-clause-cause g c clean t has told =
-    asks_only bank_get _ t (state g.S.Store c.args.tx.now.conn.now) (state g.S.Store c.look.new.tx.conn.now) has bank_get_plain (c.in-Err.ensures.broke clean told)
+returns-clause-kept g c clean t has = (rw (c.text.ensures, c.as_str.ensures.value) at (c.find.ensures.kept clean)) (filter (λ row. is_key (bank_key row) c.args.reference.now) t.bank) (answers g.S.Store t _ has c.args.reference.now)

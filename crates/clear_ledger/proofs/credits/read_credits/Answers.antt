@@ -1,11 +1,19 @@
-use Rattle.clear_book.specs.RowRanges.{IsCreditRow}
-use Rattle.clear_ledger.specs.Shown.{credit_shown}
-use Rattle.clear_columns.proofs.AnswerLemmas.{reads_more, out_of_range}
+use Rattle.std.proofs.Common.{refl}
+use Rattle.std.proofs.lemmas.Result.{IfOk-weaker, on_err_weaker}
+use Rattle.sqlite.specs.Held.{state}
+use Rattle.clear_ledger.proofs.CreditLemmas.{answers}
 use Rattle.clear_ledger.proofs.credits.read_credits.Goals as goal
 
-pub loop-row-preserved : goal.loop-row-preserved
-loop-row-preserved c =
-    reads_more credit_shown c.args.rows.now c.loop-row.row-index c.row-item.result c.in-Ok.credit c.loop-row.credits.items c.push.new.self.items c.loop-row-test.true c.row-item.is c.loop-row.invariant c.in-Ok.ensures.read c.in-Ok-push.ensures.items
-
-pub returns-in-Err-clause-range : goal.returns-in-Err-clause-range
-returns-in-Err-clause-range c told = out_of_range credit_shown IsCreditRow c.args.rows.now c.loop-row.row-index c.row-item.result c.loop-row-test.true c.row-item.is (c.in-Err.ensures.range told)
+pub returns : goal.returns
+returns g c =
+    let made = c.begin_rows.result in
+    let db = (state g.S.Store c.args.conn.now).now in
+    let just = answers g.S.Store in
+    let e = c.args.employer in
+    let p = c.args.purpose in
+    let begins = IfOk-weaker made _ _ (λ rows start clean t has. start clean _ (just t db e p has)) (rw (c.employer.ensures, c.purpose.ensures) at c.begin_rows.ensures.begun) in
+    let same = IfOk-weaker made _ _ (λ rows keeps clean t has. keeps clean (just t db e p has).plain) c.begin_rows.ensures.same in
+    let survives = IfOk-weaker made _ _ (λ rows keeps t has. keeps (just t db e p has).plain) c.begin_rows.ensures.survives in (
+      (refl, c.begin_rows.follows.holds, on_err_weaker made (λ left t has. left (just t db e p has).plain) c.begin_rows.follows.holds-at-none),
+      record { refused = tt; same_reference = c.begin_rows.ensures.same_reference; begun = begins; same = same; mode = c.begin_rows.ensures.mode; survives = survives },
+    )
