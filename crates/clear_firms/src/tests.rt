@@ -1,10 +1,13 @@
-//! A firm, and the reports of its months, in a database in memory.
+//! A firm, the reports of its months, the counts and the rates, in a database in memory.
+use crate::counts::{Counts, find_counts, put_counts};
 use crate::employers::{find_employer, insert_employer};
+use crate::rates::all_rates;
 use crate::reports::{find_report, insert_report, replace_report};
 use crate::wages::{delete_wages, insert_wage, wages_of};
 use clear_book::rows::{EmployerRow, ReportRow, WageRow};
 use clear_book::rules::StoreCause;
 use clear_book::texts::Name;
+use clear_money::days::Day;
 use clear_money::months::Month;
 use clear_money::numbers::{EmployerNo, WorkerNo};
 use clear_schema::fault::Fault;
@@ -93,5 +96,107 @@ fn a_firm_and_its_month(rt: HostRuntime) -> Result<(), Fail> {
     assert!(rt; add_report(&mut tx, no, month, worker) == Ok(()));
     assert!(rt; add_report(&mut tx, no, next, worker) == Ok(()));
     assert!(rt; take_out(&mut tx, no, month) == Ok((2, 1, 0)));
+    Ok(())
+}
+
+// A month without a report has none after a correction, and the next month keeps its own.
+fn correct_nothing<S: Alter>(
+    tx: &mut Transaction<'_, S>,
+    no: EmployerNo,
+    month: Month,
+    next: Month,
+) -> Result<(bool, bool, u32), Fault> {
+    insert_report(tx, report(no, next, 1))?;
+    let before = find_report(tx, no, month)?.is_none();
+    replace_report(tx, report(no, month, 2))?;
+    let after = find_report(tx, no, month)?.is_none();
+    match find_report(tx, no, next)? {
+        Some(row) => Ok((before, after, row.version)),
+        None => Ok((before, after, 0)),
+    }
+}
+
+#[test]
+fn a_month_without_a_report(rt: HostRuntime) -> Result<(), Fail> {
+    let mut conn = Connection::open_in_memory(rt.alloc())?;
+    assert!(rt; conn.is_autocommit());
+    if !conn.is_autocommit() {
+        return Ok(());
+    }
+    let mut tx = conn.transaction();
+    assert!(rt; make_all(&mut tx).is_ok());
+    let no = EmployerNo::new(1_001).ok_or("number")?;
+    let month = Month::new(2025, 1).ok_or("month")?;
+    let next = Month::new(2025, 2).ok_or("next")?;
+    assert!(rt; correct_nothing(&mut tx, no, month, next) == Ok((true, true, 1)));
+    Ok(())
+}
+
+// The counts that stand, the day by its number.
+fn counts<S: Alter>(tx: &mut Transaction<'_, S>) -> Option<[u64; 6]> {
+    let found = find_counts(tx).ok()?;
+    Some([
+        u64::from(found.day?.number()),
+        found.entries,
+        found.serial,
+        u64::from(found.claims),
+        u64::from(found.lists),
+        u64::from(found.runs),
+    ])
+}
+
+#[test]
+fn counts_are_those_put(rt: HostRuntime) -> Result<(), Fail> {
+    let mut conn = Connection::open_in_memory(rt.alloc())?;
+    assert!(rt; conn.is_autocommit());
+    if !conn.is_autocommit() {
+        return Ok(());
+    }
+    let mut tx = conn.transaction();
+    assert!(rt; make_all(&mut tx).is_ok());
+    tx.execute(
+        "INSERT INTO meta (one, schema, day, entries, serial, claims, lists, runs) \
+         VALUES (1, 0, NULL, 0, 0, 0, 0, 0)",
+        &[],
+    )?;
+    let put = Counts {
+        day: Day::new(19_843),
+        entries: 7,
+        serial: 40,
+        claims: 3,
+        lists: 2,
+        runs: 1,
+    };
+    assert!(rt; put_counts(&mut tx, &put).is_ok());
+    assert!(rt; counts(&mut tx) == Some([19_843, 7, 40, 3, 2, 1]));
+    Ok(())
+}
+
+// The first years of the first two rates, and their contributions.
+fn first_rates<S: Alter>(tx: &mut Transaction<'_, S>) -> Option<[(u16, u16); 2]> {
+    let rows = all_rates(tx).ok()?;
+    let first = rows.get(0)?;
+    let second = rows.get(1)?;
+    Some([
+        (first.first().year(), first.contribution_rate()),
+        (second.first().year(), second.contribution_rate()),
+    ])
+}
+
+#[test]
+fn rates_rise_by_month(rt: HostRuntime) -> Result<(), Fail> {
+    let mut conn = Connection::open_in_memory(rt.alloc())?;
+    assert!(rt; conn.is_autocommit());
+    if !conn.is_autocommit() {
+        return Ok(());
+    }
+    let mut tx = conn.transaction();
+    assert!(rt; make_all(&mut tx).is_ok());
+    tx.execute(
+        "INSERT INTO rates (first, contribution, report_day, due_day, interest, entitlement) \
+         VALUES (300, 1900, 15, 20, 90, 1425), (288, 2000, 15, 20, 100, 1425)",
+        &[],
+    )?;
+    assert!(rt; first_rates(&mut tx) == Some([(2024, 2_000), (2025, 1_900)]));
     Ok(())
 }
