@@ -41,6 +41,7 @@ pub fn insert_employer<S: Alter>(
         → (t : Tables) → HasTables t (state S.Store tx.old.conn.now).now
         → IfErr result (λ fault. fault ≡ Fault.Store StoreCause.Constraint
         → IsSome (find_row employer_key t.employers (employer_key row.now))) }
+    ensures no_row { IfErr result (λ fault. fault ≢ Fault.Store StoreCause.Row) }
     ensures kept { HasCleanDisk (state S.Store tx.new.conn.now)
         → KeepsCommit (state S.Store tx.old.conn.now) (state S.Store tx.new.conn.now) }
     ensures goes_on { HasCleanDisk (state S.Store tx.new.conn.now)

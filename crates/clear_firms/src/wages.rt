@@ -78,6 +78,7 @@ pub fn delete_wages<S: Alter>(
     ensures cause { HasCleanDisk (state S.Store tx.new.conn.now)
         → (t : Tables) → HasTables t (state S.Store tx.old.conn.now).now
         → IfErr result (λ fault. fault ≢ Fault.Store StoreCause.Constraint) }
+    ensures no_row { IfErr result (λ fault. fault ≢ Fault.Store StoreCause.Row) }
     ensures kept { HasCleanDisk (state S.Store tx.new.conn.now)
         → KeepsCommit (state S.Store tx.old.conn.now) (state S.Store tx.new.conn.now) }
     ensures goes_on { HasCleanDisk (state S.Store tx.new.conn.now)

@@ -1,0 +1,4 @@
+pub mod ChangeLemmas
+pub mod CreditLemmas
+pub mod JoinLemmas
+pub mod RowLemmas

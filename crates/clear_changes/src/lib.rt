@@ -1,0 +1,10 @@
+//! The changes that decisions make of the tables, put into the store.
+#![tactic(auto)]
+
+mod bank;
+pub mod changes;
+mod note;
+mod reports;
+#[cfg(test)]
+mod tests;
+mod wages;
