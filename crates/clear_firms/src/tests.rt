@@ -1,8 +1,8 @@
 //! A firm, the reports of its months, the counts and the rates, in a database in memory.
 use crate::counts::{Counts, find_counts, put_counts};
 use crate::employers::{find_employer, insert_employer};
-use crate::rates::all_rates;
-use crate::reports::{find_report, insert_report, replace_report};
+use crate::rates::{all_rates, rate_table};
+use crate::reports::{find_report, insert_report, replace_report, reports_of};
 use crate::wages::{delete_wages, insert_wage, wages_of};
 use clear_book::rows::{EmployerRow, ReportRow, WageRow};
 use clear_book::rules::StoreCause;
@@ -105,14 +105,15 @@ fn correct_nothing<S: Alter>(
     no: EmployerNo,
     month: Month,
     next: Month,
-) -> Result<(bool, bool, u32), Fault> {
+) -> Result<(bool, bool, usize, u32), Fault> {
     insert_report(tx, report(no, next, 1))?;
     let before = find_report(tx, no, month)?.is_none();
     replace_report(tx, report(no, month, 2))?;
     let after = find_report(tx, no, month)?.is_none();
+    let count = reports_of(tx, no)?.len();
     match find_report(tx, no, next)? {
-        Some(row) => Ok((before, after, row.version)),
-        None => Ok((before, after, 0)),
+        Some(row) => Ok((before, after, count, row.version)),
+        None => Ok((before, after, count, 0)),
     }
 }
 
@@ -128,7 +129,7 @@ fn a_month_without_a_report(rt: HostRuntime) -> Result<(), Fail> {
     let no = EmployerNo::new(1_001).ok_or("number")?;
     let month = Month::new(2025, 1).ok_or("month")?;
     let next = Month::new(2025, 2).ok_or("next")?;
-    assert!(rt; correct_nothing(&mut tx, no, month, next) == Ok((true, true, 1)));
+    assert!(rt; correct_nothing(&mut tx, no, month, next) == Ok((true, true, 1, 1)));
     Ok(())
 }
 
@@ -183,6 +184,13 @@ fn first_rates<S: Alter>(tx: &mut Transaction<'_, S>) -> Option<[(u16, u16); 2]>
     ])
 }
 
+// The contribution rate in force in 2025-03.
+fn rate_in_force<S: Alter>(tx: &mut Transaction<'_, S>) -> Option<u16> {
+    let table = rate_table(tx).ok()?;
+    let month = Month::new(2025, 3)?;
+    Some(table.in_force(month)?.contribution_rate())
+}
+
 #[test]
 fn rates_rise_by_month(rt: HostRuntime) -> Result<(), Fail> {
     let mut conn = Connection::open_in_memory(rt.alloc())?;
@@ -198,5 +206,6 @@ fn rates_rise_by_month(rt: HostRuntime) -> Result<(), Fail> {
         &[],
     )?;
     assert!(rt; first_rates(&mut tx) == Some([(2024, 2_000), (2025, 1_900)]));
+    assert!(rt; rate_in_force(&mut tx) == Some(1_900));
     Ok(())
 }

@@ -1,4 +1,4 @@
-use crate::bank::{find_line, insert_line};
+use crate::bank::{Bank, find_line, insert_line, lines};
 use crate::credits::{Credits, credits_of, insert_credit, read_credits};
 use clear_bank::lines::{BankLine, Purpose};
 use clear_bank::texts::{Note, Reference};
@@ -188,5 +188,35 @@ fn credits_are_read_one_at_a_time(rt: HostRuntime) -> Result<(), Fail> {
     assert!(rt; next_serial(&mut rows) == Some(3));
     assert!(rt; next_serial(&mut rows) == Some(2));
     assert!(rt; next_serial(&mut rows) == Some(0));
+    Ok(())
+}
+
+// The serial of the next line, and 0 past the last.
+fn next_line<S: Alter>(rows: &mut Rows<'_, S>) -> Option<u64> {
+    match next_row::<Bank, S>(rows) {
+        Ok(Some(line)) => Some(line.serial),
+        Ok(None) => Some(0),
+        Err(_) => None,
+    }
+}
+
+#[test]
+fn lines_are_read_by_their_references(rt: HostRuntime) -> Result<(), Fail> {
+    let alloc = rt.alloc();
+    let mut conn = Connection::open_in_memory(alloc)?;
+    let second = suspense(alloc, "B2", 1)?;
+    let first = suspense(alloc, "B1", 2)?;
+    assert!(rt; conn.is_autocommit());
+    if conn.is_autocommit() {
+        let mut tx = conn.transaction();
+        assert!(rt; make_all(&mut tx).is_ok());
+        assert!(rt; insert_line(&mut tx, &second).is_ok());
+        assert!(rt; insert_line(&mut tx, &first).is_ok());
+        tx.commit()?;
+    }
+    let mut rows = lines(&mut conn)?;
+    assert!(rt; next_line(&mut rows) == Some(2));
+    assert!(rt; next_line(&mut rows) == Some(1));
+    assert!(rt; next_line(&mut rows) == Some(0));
     Ok(())
 }
