@@ -40,13 +40,22 @@ WRITES = ("insert_employer", "insert_report", "replace_report", "insert_wage", "
 SCANS = ("all_rates",)
 
 
+def copy_crates():
+    """The crates as they stand. What was proved of them is copied once, and then kept."""
+    for name in os.listdir(os.path.join(ROOT, "crates")):
+        crate = os.path.join(COPY, "crates", name)
+        was_built = os.path.isdir(os.path.join(crate, "out"))
+        for part in glob.glob(os.path.join(crate, "*")):
+            if os.path.basename(part) != "out":
+                shutil.rmtree(part) if os.path.isdir(part) else os.remove(part)
+        left_out = shutil.ignore_patterns("out") if was_built else None
+        shutil.copytree(os.path.join(ROOT, "crates", name), crate, dirs_exist_ok=True, ignore=left_out)
+
+
 def build():
     """Proves and builds the program where a source is newer; without words it does nothing."""
     print(f"building in {COPY}", file=sys.stderr)
-    for part in glob.glob(os.path.join(COPY, "crates", "*", "*")):
-        if os.path.basename(part) != "out":
-            shutil.rmtree(part) if os.path.isdir(part) else os.remove(part)
-    shutil.copytree(os.path.join(ROOT, "crates"), os.path.join(COPY, "crates"), dirs_exist_ok=True)
+    copy_crates()
     os.makedirs(os.path.join(CRATE, "src"), exist_ok=True)
     for name in os.listdir(SOURCES):
         shutil.copy2(os.path.join(SOURCES, name), os.path.join(CRATE, "src", name.removesuffix(".in")))
