@@ -316,7 +316,8 @@ module _ (b : Book) (t : Tables) (lawful : IsLawful b) (stands : Stands b t) (e 
   month_in_range : (m : ℕ) → is_found e t.reports m → IsMonth m
   month_in_range m h = let r = reported m h in (lawful_right b.opening b.entries lawful e m r.0 r.1).1
 
-  base_same : (m : ℕ) (lines : List WageLine) → latest_lines b.entries e m ≡ Some lines → table_base t.wages e m ≡ base_of lines
+  -- the base of a reported month is that of its latest lines
+  pub base_same : (m : ℕ) (lines : List WageLine) → latest_lines b.entries e m ≡ Some lines → table_base t.wages e m ≡ base_of lines
   base_same m lines is =
       table_base-lines e m t.wages lines stands.wages_in_order (lawful_right b.opening b.entries lawful e m lines is).0
       (λ w. stands.wages e m w ∙ ap (λ (o : Option (List WageLine)). reported_gross o w) is)

@@ -5,7 +5,7 @@ use Rattle.clear_money.specs.Rates.{Rate, IsRate, IsRising}
 use Rattle.clear_book.specs.declared.calls.Call.{Call}
 use Rattle.clear_book.specs.declared.calls.Call.TheVariants.{Do, Ask}
 use Rattle.clear_book.specs.declared.rules.Rule.TheVariants.{Memory, Store, Failed}
-use Rattle.clear_book.specs.declared.rules.StoreCause.{StoreCause}
+use Rattle.clear_book.specs.declared.rules.StoreCause.TheVariants.{Other}
 use Rattle.clear_book.specs.declared.outcomes.Outcome.{Outcome}
 use Rattle.clear_book.specs.declared.outcomes.Outcome.TheVariants.{Refused}
 use Rattle.clear_book.specs.Book.{Entry, Book, call_of}
@@ -40,11 +40,11 @@ Takes b call outcome next =
     ((outcome ≡ outcome_of (judge b call)) × (next ≡ step b call))
     ⊎ ((outcome ≡ Refused Memory) × (is_allowed call ≡ true) × (next ≡ b))
 
--- where access allows the call, the store may fail, and the book stays
+-- where access allows the call, the store may fail, and the book stays; no key that stands already
+-- and no value out of its range is to blame
 abbrev pub Faults : Book → Call → Outcome → Book → Type 0
 Faults b call outcome next =
-    ((cause : StoreCause) × (outcome ≡ Refused (Store cause))) × (is_allowed call ≡ true)
-    × (next ≡ b)
+    (outcome ≡ Refused (Store Other)) × (is_allowed call ≡ true) × (next ≡ b)
 
 -- what may happen to a call, by whether the store has failed before it, and whether it has then:
 -- after a fault every outcome is that the office has failed, and the book stays

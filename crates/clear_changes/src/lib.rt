@@ -3,6 +3,7 @@
 
 mod bank;
 pub mod changes;
+pub mod laws;
 mod note;
 mod reports;
 #[cfg(test)]

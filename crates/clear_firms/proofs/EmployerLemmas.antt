@@ -39,6 +39,7 @@ use Rattle.clear_firms.specs.Shown.{employer_shown}
 use Rattle.clear_columns.proofs.KeyLemmas.{none_if}
 use Rattle.clear_firms.proofs.KeyLemmas.{get_is, put_is}
 use Rattle.clear_firms.proofs.EmployerTexts as text
+use Rattle.clear_firms.proofs.NumberedLemmas.{all_in_order, by_number}
 
 -- the number as SQL holds it
 abbrev pub no : EmployerRow → ℤ
@@ -87,7 +88,7 @@ passes_no e row = rw (equal_ints (no row) (pos e)) (last (has_no e row))
 
 -- the query answers the row of the number
 pub answers : {S : Type 0} (g : Ghosts S) (t : Tables) (db : Database) → HasTables t db → (e : ℕ) → AnswersJust g text.get (number e ∷ []) db (map employer_shown (filter (has_no e) t.employers))
-answers g t db has e = answers_just g 2 text.by_no text.columns [] _ text.get (number e ∷ []) store_schema text.get_is text.get_plain text.get_reads db has.schema _ whole
+answers g t db has e = answers_just g 2 text.by_no text.columns [] text.names text.get (number e ∷ []) store_schema text.get_is text.get_plain text.get_reads db has.schema _ whole
   where
     whole : (rows : List Row) → Answers db (plain_program 2 text.by_no text.columns []) (number e ∷ []) rows → rows ≡ map employer_shown (filter (has_no e) t.employers)
     whole rows answer =
@@ -99,3 +100,9 @@ answers g t db has e = answers_just g 2 text.by_no text.columns [] _ text.get (n
 -- the first of them is the row of the key
 pub first_is : (rows : List EmployerRow) (e : ℕ) → slice_get (filter (has_no e) rows) 0 ≡ find_row employer_key rows (e ∷ [])
 first_is rows e = slice_get-filter (has_no e) rows ∙ get_is (λ (row : EmployerRow). row.employer) rows e
+
+-- the query for all firms answers them in the order of their numbers
+pub answers_all : {S : Type 0} (g : Ghosts S) (t : Tables) (db : Database) → HasTables t db → AnswersJust g text.all [] db (map employer_shown t.employers)
+answers_all g t db has =
+    answers_just g 2 [] text.columns by_number text.names text.all [] store_schema text.all_is text.all_plain text.all_reads db has.schema _
+    (all_in_order no employer_values employer_shown 2 text.columns (λ _. refl) db.schema db.trees t.employers has.employers)

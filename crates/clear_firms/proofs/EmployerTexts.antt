@@ -12,6 +12,7 @@ use Rattle.sqlite_sql.specs.declared.ops.CompareOp.TheVariants.{Eq}
 use Rattle.sqlite_tied.specs.Compute.{everything}
 use Rattle.clear_rows.specs.Plain.{plain_program}
 use Rattle.clear_schema.specs.Schema.{store_schema}
+use Rattle.clear_firms.proofs.NumberedLemmas.{by_number}
 
 abbrev pub insert : List ℕ
 insert = codes "INSERT INTO employers (no, name, start, last) VALUES (?1, ?2, ?3, ?4)"
@@ -36,7 +37,10 @@ by_no = op2 (Compare Eq Binary) (col 1 0) (col 0 0) ∷ []
 abbrev pub columns : List Term
 columns = col 1 0 ∷ col 1 2 ∷ col 1 3 ∷ col 1 4 ∷ []
 
-pub get_is : command_of (understood store_schema get) ≡ Select (plain_program 2 by_no columns []) (codes "no" ∷ codes "name" ∷ codes "start" ∷ codes "last" ∷ [])
+abbrev pub names : List (List ℕ)
+names = codes "no" ∷ codes "name" ∷ codes "start" ∷ codes "last" ∷ []
+
+pub get_is : command_of (understood store_schema get) ≡ Select (plain_program 2 by_no columns []) names
 unfolding understood everything
 get_is = refl
 
@@ -47,3 +51,18 @@ get_plain = (refl, refl)
 pub get_reads : reads_listing store_schema get ≡ false
 unfolding understood everything
 get_reads = refl
+
+abbrev pub all : List ℕ
+all = codes "SELECT no, name, start, last FROM employers ORDER BY no"
+
+pub all_is : command_of (understood store_schema all) ≡ Select (plain_program 2 [] columns by_number) names
+unfolding understood everything
+all_is = refl
+
+pub all_plain : IsPlain (understood store_schema all)
+unfolding understood everything
+all_plain = (refl, refl)
+
+pub all_reads : reads_listing store_schema all ≡ false
+unfolding understood everything
+all_reads = refl

@@ -4,6 +4,7 @@ pub mod EmployerTexts
 pub mod HeldLemmas
 pub mod KeyLemmas
 pub mod ListLemmas
+pub mod NumberedLemmas
 pub mod RateLemmas
 pub mod ReportLemmas
 pub mod ReportTexts

@@ -1,31 +1,24 @@
 -- What the query for all rates answers.
-use Rattle.std.proofs.Common.{◌≡◌, false, List, ℕ, zero, suc, ◌+◌, ◌<◌, ◌≤◌, [], ◌∷◌, map, length, take, get_or, refl, sym, ap, subst, add-one, ◌∙◌, map-id, codes, int_cmp, Equal, true, arith}
-use Rattle.std.specs.Ordering.{ordering_then}
+use Rattle.std.proofs.Common.{◌≡◌, false, List, ℕ, zero, suc, ◌+◌, ◌<◌, ◌≤◌, [], ◌∷◌, map, length, take, get_or, refl, sym, subst, add-one, codes, arith}
 use Rattle.sqlite.proofs.Callers.{IsPlain, command_of}
-use Rattle.sqlite.specs.Collation.TheVariants.{Binary}
 use Rattle.sqlite.specs.Command.TheVariants.{Select}
 use Rattle.sqlite.specs.Listing.{understood, reads_listing}
 use Rattle.sqlite.specs.Effect.{Database}
 use Rattle.sqlite.specs.Store.{Ghosts}
 use Rattle.sqlite.specs.Term.{Term, col}
-use Rattle.sqlite_keyed.proofs.KeyedLemmas.{Less-from_lt}
-use Rattle.sqlite_keyed.proofs.ListLemmas.{IsPermutation-same, ascending_weaker}
 use Rattle.sqlite_tied.specs.Compute.{everything}
-use Rattle.sqlite_typed.proofs.AnswerLemmas.{unfiltered}
-use Rattle.sqlite_value.specs.Keys.{ascending}
-use Rattle.sqlite_value.proofs.OrderLemmas.{value_cmp-Int}
 use Rattle.clear_money.specs.Rates.{Rate, IsRising, last_first}
 use Rattle.clear_book.specs.Machine.{AreRates}
 use Rattle.clear_book.specs.Tables.{Tables}
 use Rattle.clear_rows.specs.Plain.{plain_program}
-use Rattle.clear_rows.proofs.Queries.{in_order}
 use Rattle.clear_schema.specs.Held.{HasTables}
 use Rattle.clear_schema.specs.Making.{rate_key}
 use Rattle.clear_schema.specs.Schema.{store_schema}
-use Rattle.clear_schema.specs.Values.{month, rate_values}
+use Rattle.clear_schema.specs.Values.{rate_values}
 use Rattle.clear_columns.specs.Reading.{AnswersJust}
 use Rattle.clear_columns.proofs.ReadingLemmas.{answers_just}
 use Rattle.clear_firms.specs.Shown.{rate_shown}
+use Rattle.clear_firms.proofs.NumberedLemmas.{all_in_order, by_number}
 
 abbrev pub get : List ℕ
 get = codes "SELECT first, contribution, report_day, due_day, interest, entitlement FROM rates ORDER BY first"
@@ -34,7 +27,7 @@ abbrev columns : List Term
 columns = col 1 0 ∷ col 1 2 ∷ col 1 3 ∷ col 1 4 ∷ col 1 5 ∷ col 1 6 ∷ []
 
 get_is : command_of (understood store_schema get)
-    ≡ Select (plain_program 1 [] columns ((col 1 0, ascending Binary) ∷ [])) (codes "first" ∷ codes "contribution" ∷ codes "report_day" ∷ codes "due_day" ∷ codes "interest" ∷ codes "entitlement" ∷ [])
+    ≡ Select (plain_program 1 [] columns by_number) (codes "first" ∷ codes "contribution" ∷ codes "report_day" ∷ codes "due_day" ∷ codes "interest" ∷ codes "entitlement" ∷ [])
 unfolding understood everything
 get_is = refl
 
@@ -49,11 +42,8 @@ get_reads = refl
 -- it answers all rates in their order
 pub answers : {S : Type 0} (g : Ghosts S) (t : Tables) (db : Database) → HasTables t db → AnswersJust g get [] db (map rate_shown t.rates)
 answers g t db has =
-    answers_just g 1 [] columns ((col 1 0, ascending Binary) ∷ []) _ get [] store_schema get_is get_plain get_reads db has.schema _
-    (λ rows answer. in_order 1 [] columns ((col 1 0, ascending Binary) ∷ []) [] rate_values (λ r. r) (λ _. true) (λ _. refl) (λ r. (month r.first ∷ [], rate_shown r)) (λ _. refl) db.schema db.trees t.rates has.rates.is rows answer
-    (λ a b. int_cmp (rate_key a) (rate_key b)) (λ a b h. ap (λ o. ordering_then o Equal) (value_cmp-Int (rate_key a) (rate_key b) ∙ h)) t.rates (IsPermutation-same _ _ (map-id t.rates))
-    (ascending_weaker _ _ (λ a b. Less-from_lt (rate_key a) (rate_key b)) t.rates has.rates.keyed)
-    ∙ ap (map rate_shown) (unfiltered t.rates refl))
+    answers_just g 1 [] columns by_number _ get [] store_schema get_is get_plain get_reads db has.schema _
+    (all_in_order rate_key rate_values rate_shown 1 columns (λ _. refl) db.schema db.trees t.rates has.rates)
 
 -- ---- rates as a table
 

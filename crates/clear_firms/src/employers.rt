@@ -1,6 +1,7 @@
 //! The table of employers.
 ghost use Rattle.std.specs.Prelude.{◌≡◌, ◌≢◌, [], ◌∷◌, None, Some};
 ghost use Rattle.std.specs.Prelude.{IfErr, IfOk, IfSome, IsSome, IsTrue, OnOk};
+ghost use Rattle.std.specs.List.{AllByRecursion};
 ghost use Rattle.sqlite.specs.Held.{state};
 ghost use Rattle.sqlite.specs.State.{HasCleanDisk, IsUnchanged, KeepsCommit, Survives};
 ghost use Rattle.sqlite.specs.Values.{bound};
@@ -15,7 +16,7 @@ use clear_book::rows::EmployerRow;
 use clear_book::rules::StoreCause;
 use clear_columns::columns::{employer_at, maybe_month_at, month_at, name_at};
 use clear_columns::parameters::{employer, maybe_month};
-use clear_columns::queries::find;
+use clear_columns::queries::{find, list};
 use clear_columns::rows::StoredTable;
 use clear_money::months::Month;
 use clear_money::numbers::EmployerNo;
@@ -88,6 +89,38 @@ pub fn find_employer<S: Alter>(
         tx,
         "SELECT no, name, start, last FROM employers WHERE no = ?1",
         &[employer(no)],
+    )
+}
+
+/// All firms, their numbers rising. This is one pass over all firms, of whom there are at most
+/// 10,000.
+pub fn all_employers<S: Alter>(tx: &mut Transaction<'_, S>) -> Result<Vec<EmployerRow>, Fault>
+    ensures same_reference { tx.new.conn.ghost_name ≡ tx.old.conn.ghost_name }
+    ensures found { HasCleanDisk (state S.Store tx.new.conn.now)
+        → (t : Tables) → HasTables t (state S.Store tx.old.conn.now).now
+        → IfOk result (λ found. found.items ≡ t.employers) }
+    ensures good { IfOk result (λ found. AllByRecursion IsEmployerRow found.items) }
+    ensures cause { HasCleanDisk (state S.Store tx.new.conn.now)
+        → (t : Tables) → HasTables t (state S.Store tx.old.conn.now).now
+        → IfErr result (λ fault. fault ≢ Fault.Store StoreCause.Constraint) }
+    ensures range { HasCleanDisk (state S.Store tx.new.conn.now)
+        → (t : Tables) → HasTables t (state S.Store tx.old.conn.now).now
+        → IfErr result (λ fault. fault ≡ Fault.Store StoreCause.Row
+        → ¬ AllByRecursion IsEmployerRow t.employers) }
+    ensures same { HasCleanDisk (state S.Store tx.new.conn.now)
+        → (t : Tables) → HasTables t (state S.Store tx.old.conn.now).now
+        → OnOk result (IsUnchanged (state S.Store tx.old.conn.now)
+        (state S.Store tx.new.conn.now)) }
+    ensures kept { HasCleanDisk (state S.Store tx.new.conn.now)
+        → (t : Tables) → HasTables t (state S.Store tx.old.conn.now).now
+        → KeepsCommit (state S.Store tx.old.conn.now) (state S.Store tx.new.conn.now) }
+    ensures survives { Survives (state S.Store tx.old.conn.now) (state S.Store tx.new.conn.now)
+        (λ _. ⊥) }
+{
+    list::<S, Employers>(
+        tx,
+        "SELECT no, name, start, last FROM employers ORDER BY no",
+        &[],
     )
 }
 

@@ -1,6 +1,6 @@
 //! A firm, the reports of its months, the counts and the rates, in a database in memory.
 use crate::counts::{Counts, find_counts, put_counts};
-use crate::employers::{find_employer, insert_employer};
+use crate::employers::{all_employers, find_employer, insert_employer};
 use crate::rates::{all_rates, rate_table};
 use crate::reports::{find_report, insert_report, replace_report, reports_of};
 use crate::wages::{delete_wages, insert_wage, wages_of};
@@ -22,6 +22,13 @@ fn add_firm<S: Alter>(tx: &mut Transaction<'_, S>, row: &EmployerRow) -> Result<
         Ok(()) => Ok(false),
         Err(fault) => Ok(fault == Fault::Store(StoreCause::Constraint)),
     }
+}
+
+// How many firms there are, and the number of the first.
+fn firms<S: Alter>(tx: &mut Transaction<'_, S>) -> Option<(usize, u32)> {
+    let rows = all_employers(tx).ok()?;
+    let first = rows.get(0)?;
+    Some((rows.len(), first.employer.number()))
 }
 
 // The report of a month.
@@ -91,6 +98,7 @@ fn a_firm_and_its_month(rt: HostRuntime) -> Result<(), Fail> {
         Ok(Some(found)) => assert!(rt; found.name.as_str() == "Bau Nord"),
         _ => return Err("found".into()),
     }
+    assert!(rt; firms(&mut tx) == Some((1, 1_001)));
     let worker = WorkerNo::new(7).ok_or("worker")?;
     let next = Month::new(2025, 2).ok_or("next")?;
     assert!(rt; add_report(&mut tx, no, month, worker) == Ok(()));

@@ -1,17 +1,20 @@
 -- What the statements on `bank` do, whose key is a text and whose serials are unique too.
-use Rattle.std.proofs.Common.{◌≡◌, ℤ, pos, ℕ, Bool, true, false, not, ◌&&◌, ◌||◌, List, [], ◌∷◌, Ok, Err, map, filter, refl, sym, ap, ap₂, subst, ◌∙◌, inl, inr, ◌⊎◌, is_eq, Equal, ◌≤◌, true≢false, IsPermutation}
+use Rattle.std.proofs.Common.{◌≡◌, ℤ, pos, ℕ, Bool, true, false, not, ◌&&◌, ◌||◌, List, [], ◌∷◌, Option, Some, None, is_none, Ok, Err, map, filter, refl, sym, ap, ap₂, subst, ◌∙◌, inl, inr, ◌⊎◌, is_eq, Equal, ◌≤◌, true≢false, IsPermutation}
 use Rattle.std.proofs.lemmas.Bool.{or_left, or_right}
 use Rattle.std.proofs.lemmas.List.{length-map}
+use Rattle.std.specs.Float.Ieee
 use Rattle.std.specs.List.{list_any, AllByRecursion}
 use Rattle.std.specs.Ordering.{ordering_then}
 use Rattle.sqlite.specs.declared.types.Value.TheVariants.{Null, Text}
 use Rattle.sqlite.specs.Effect.{Answers, Database}
+use Rattle.sqlite.specs.Ops.{binary}
 use Rattle.sqlite.specs.Order.{Row}
 use Rattle.sqlite.specs.Store.{Ghosts}
 use Rattle.sqlite.specs.Cast.{cast_row}
 use Rattle.sqlite.specs.Edit.{with_rowid, IsRefused}
 use Rattle.sqlite.specs.Rowids.TheVariants.{Chosen}
 use Rattle.sqlite.specs.State.{State, Executes}
+use Rattle.sqlite.specs.Term.{Term}
 use Rattle.sqlite.specs.Tree.{Trees, rowid}
 use Rattle.sqlite.specs.declared.error.Error.TheVariants.{SqliteFailure}
 use Rattle.sqlite.specs.declared.error.ErrorCode.TheVariants as code
@@ -28,12 +31,14 @@ use Rattle.sqlite_rules.specs.Lists.{Has}
 use Rattle.sqlite_rules.proofs.ListLemmas.{has_kept}
 use Rattle.sqlite_typed.proofs.AnswerLemmas.{unfiltered}
 use Rattle.sqlite_value.specs.Keys.{plain, first_key}
+use Rattle.sqlite_value.specs.Order.{value_cmp}
 use Rattle.sqlite_value.proofs.OrderLemmas.{value_cmp-Text}
 use Rattle.std.proofs.lemmas.List.Sorted.{IsPermutation-map, IsPermutation-trans, IsPermutation-sym}
 use Rattle.sqlite_keyed.proofs.ListLemmas.{IsPermutation-filter}
 use Rattle.clear_bank.specs.declared.lines.Purpose.{Purpose}
 use Rattle.clear_bank.specs.declared.lines.Purpose.TheVariants.{Contribution, Interest}
 use Rattle.clear_book.specs.Keyed.{is_key, with_row}
+use Rattle.clear_book.specs.Lines.{is_in_suspense}
 use Rattle.clear_book.specs.Tables.{Tables, bank_key}
 use Rattle.clear_book.specs.declared.rows.BankRow.{BankRow}
 use Rattle.clear_rows.specs.Plain.{passes as meets, plain_program}
@@ -53,7 +58,7 @@ use Rattle.clear_columns.specs.Reading.{AnswersJust}
 use Rattle.clear_columns.proofs.ReadingLemmas.{answers_just}
 use Rattle.clear_columns.proofs.KeyLemmas.{turned, is_key_is, by_key_total, key_is, placed, found_any, none_found, one_found}
 use Rattle.clear_columns.proofs.StoredLemmas.{cast_maybe, cast_purpose, maybe_typed, purpose_typed, same_numbers}
-use Rattle.clear_ledger.proofs.TextLemmas.{bank_insert, bank_insert_terms, bank_insert_is, bank_insert_plain, bank_get, bank_get_is, bank_get_plain, bank_get_reads, by_reference, bank_columns, bank_list, bank_list_is, bank_list_plain, bank_list_reads, bank_names, bank_order}
+use Rattle.clear_ledger.proofs.TextLemmas.{bank_insert, bank_insert_terms, bank_insert_is, bank_insert_plain, bank_get, bank_get_is, bank_get_plain, bank_get_reads, by_reference, bank_columns, bank_list, bank_list_is, bank_list_plain, bank_list_reads, bank_names, bank_order, bank_suspense, bank_suspense_is, bank_suspense_plain, bank_suspense_reads, without_firm}
 
 last : (b : Bool) → (b && true) ≡ b
 last true = refl
@@ -187,14 +192,32 @@ answers g t db has k = answers_just g 7 by_reference bank_columns [] bank_names 
         let same = IsPermutation-trans _ _ _ (IsPermutation-sym _ _ (IsPermutation-map bank_shown _ _ (IsPermutation-filter p _ _ held.same))) some in
         one_row _ rows (subst (λ n. n ≤ 1) (sym (length-map (filter p t.bank) bank_shown)) (one_found bank_key t.bank k held.rises)) same
 
--- ---- all rows by their references
+-- ---- rows by their references
 
-lines_are : (t : Tables) (db : Database) → HasTables t db → (rows : List Row) → Answers db (plain_program 7 [] bank_columns bank_order) [] rows → rows ≡ map bank_shown t.bank
-lines_are t db has rows answer =
+-- a query of the rows that pass, which asks for this order
+in_order_of_references : (conditions : List Term) (p : BankRow → Bool) → ((y : ℤ × BankRow) → meets conditions [] (bank_values y) ≡ p (content y))
+    → (t : Tables) (db : Database) → HasTables t db → (rows : List Row) → Answers db (plain_program 7 conditions bank_columns bank_order) [] rows → rows ≡ map bank_shown (filter p t.bank)
+in_order_of_references conditions p tests t db has rows answer =
     let held = has.bank in
-    in_order 7 [] bank_columns bank_order [] bank_values content (λ _. true) (λ _. refl) (λ row. (Text row.line.reference ∷ [], bank_shown row)) (λ _. refl) db.schema db.trees held.numbered held.stored.is rows answer
+    in_order 7 conditions bank_columns bank_order [] bank_values content p tests (λ row. (Text row.line.reference ∷ [], bank_shown row)) (λ _. refl) db.schema db.trees held.numbered held.stored.is rows answer
     (by_key bank_key) (λ a b h. ap (λ o. ordering_then o Equal) (value_cmp-Text a.line.reference b.line.reference ∙ h)) t.bank held.same held.rises
-    ∙ ap (map bank_shown) (unfiltered t.bank refl)
 
+-- all of them
 pub reads_lines : {S : Type 0} (g : Ghosts S) (t : Tables) (db : Database) → HasTables t db → AnswersJust g bank_list [] db (map bank_shown t.bank)
-reads_lines g t db has = answers_just g 7 [] bank_columns bank_order bank_names bank_list [] store_schema bank_list_is bank_list_plain bank_list_reads db has.schema _ (lines_are t db has)
+reads_lines g t db has =
+    answers_just g 7 [] bank_columns bank_order bank_names bank_list [] store_schema bank_list_is bank_list_plain bank_list_reads db has.schema _
+    (λ rows answer. in_order_of_references [] (λ _. true) (λ _. refl) t db has rows answer ∙ ap (map bank_shown) (unfiltered t.bank refl))
+
+-- those without a firm
+no_firm : (y : ℤ × BankRow) → meets without_firm [] (bank_values y) ≡ is_in_suspense (content y)
+unfolding binary value_cmp Ieee.lt Ieee.is_nan
+no_firm y = of_employer (content y).employer
+  where
+    of_employer : (e : Option ℕ) → meets without_firm [] (bank_values (y.0, record (content y) { employer = e })) ≡ is_none e
+    of_employer None = refl
+    of_employer (Some e) = refl
+
+pub answers_suspense : {S : Type 0} (g : Ghosts S) (t : Tables) (db : Database) → HasTables t db → AnswersJust g bank_suspense [] db (map bank_shown (filter is_in_suspense t.bank))
+answers_suspense g t db has =
+    answers_just g 7 without_firm bank_columns bank_order bank_names bank_suspense [] store_schema bank_suspense_is bank_suspense_plain bank_suspense_reads db has.schema _
+    (in_order_of_references without_firm is_in_suspense no_firm t db has)

@@ -8,7 +8,7 @@ use Rattle.sqlite.specs.Term.{Term, lit, col, op2}
 use Rattle.sqlite.specs.Listing.{understood, reads_listing}
 use Rattle.sqlite.proofs.Callers.{IsPlain, command_of}
 use Rattle.sqlite_schema.specs.declared.program.Program.{Program}
-use Rattle.sqlite_sql.specs.declared.ops.BinaryOp.TheVariants.{Compare}
+use Rattle.sqlite_sql.specs.declared.ops.BinaryOp.TheVariants.{Compare, Is}
 use Rattle.sqlite_sql.specs.declared.ops.CompareOp.TheVariants.{Eq}
 use Rattle.sqlite_value.specs.Keys.{ascending}
 use Rattle.sqlite_value.specs.declared.keys.Key.{Key}
@@ -78,6 +78,24 @@ bank_list_plain = (refl, refl)
 pub bank_list_reads : reads_listing store_schema bank_list ≡ false
 unfolding understood everything
 bank_list_reads = refl
+
+abbrev pub bank_suspense : List ℕ
+bank_suspense = codes "SELECT reference, serial, value, named, employer, cents, purpose, note FROM bank WHERE employer IS NULL ORDER BY reference"
+
+abbrev pub without_firm : List Term
+without_firm = op2 (Is Binary) (col 1 5) (lit Null) ∷ []
+
+pub bank_suspense_is : command_of (understood store_schema bank_suspense) ≡ Select (plain_program 7 without_firm bank_columns bank_order) bank_names
+unfolding understood everything
+bank_suspense_is = refl
+
+pub bank_suspense_plain : IsPlain (understood store_schema bank_suspense)
+unfolding understood everything
+bank_suspense_plain = (refl, refl)
+
+pub bank_suspense_reads : reads_listing store_schema bank_suspense ≡ false
+unfolding understood everything
+bank_suspense_reads = refl
 
 -- ---- credits
 

@@ -1,12 +1,14 @@
 //! The bank lines, by their references.
 ghost use Rattle.std.specs.Borrow.{sem, RestsIfErr};
-ghost use Rattle.std.specs.Prelude.{◌≡◌, ◌≢◌, true, false, Some, Err};
+ghost use Rattle.std.specs.Prelude.{◌≡◌, ◌≢◌, true, false, Some, Err, filter};
 ghost use Rattle.std.specs.Prelude.{IsTrue, IfOk, IfErr, IfSome, OnOk};
+ghost use Rattle.std.specs.List.{AllByRecursion};
 ghost use Rattle.sqlite.specs.Held.{state};
 ghost use Rattle.sqlite.specs.State.{HasCleanDisk, IsUnchanged, KeepsCommit, Survives};
 ghost use Rattle.sqlite.specs.Values.{bound};
 ghost use Rattle.sqlite.specs.contracts.connection.Connection.{the_row};
 ghost use Rattle.clear_book.specs.Keyed.{find_row, with_row};
+ghost use Rattle.clear_book.specs.Lines.{is_in_suspense};
 ghost use Rattle.clear_money.specs.Numbers.{IsEmployerNo};
 ghost use Rattle.clear_book.specs.RowRanges.{IsBankRow, IsSerial};
 ghost use Rattle.clear_book.specs.Tables.{Tables, bank_key};
@@ -23,7 +25,7 @@ use clear_columns::columns::{
     amount_at, day_at, maybe_employer_at, note_at, purpose_at, reference_at, serial_at,
 };
 use clear_columns::parameters::{amount, day, maybe_employer, purpose};
-use clear_columns::queries::find;
+use clear_columns::queries::{find, list};
 use clear_columns::ranges::is_serial;
 use clear_columns::rows::{StoredTable, begin_rows};
 use clear_money::numbers::EmployerNo;
@@ -102,6 +104,38 @@ pub fn find_line<S: Alter>(
         "SELECT reference, serial, value, named, employer, cents, purpose, note \
          FROM bank WHERE reference = ?1",
         &[text(reference.as_str())],
+    )
+}
+
+/// The lines without a firm, in the order of their references. This is one pass over all lines.
+pub fn lines_in_suspense<S: Alter>(tx: &mut Transaction<'_, S>) -> Result<Vec<BankRow>, Fault>
+    ensures same_reference { tx.new.conn.ghost_name ≡ tx.old.conn.ghost_name }
+    ensures found { HasCleanDisk (state S.Store tx.new.conn.now)
+        → (t : Tables) → HasTables t (state S.Store tx.old.conn.now).now
+        → IfOk result (λ found. found.items ≡ filter is_in_suspense t.bank) }
+    ensures good { IfOk result (λ found. AllByRecursion IsBankRow found.items) }
+    ensures cause { HasCleanDisk (state S.Store tx.new.conn.now)
+        → (t : Tables) → HasTables t (state S.Store tx.old.conn.now).now
+        → IfErr result (λ fault. fault ≢ Fault.Store StoreCause.Constraint) }
+    ensures range { HasCleanDisk (state S.Store tx.new.conn.now)
+        → (t : Tables) → HasTables t (state S.Store tx.old.conn.now).now
+        → IfErr result (λ fault. fault ≡ Fault.Store StoreCause.Row
+        → ¬ AllByRecursion IsBankRow (filter is_in_suspense t.bank)) }
+    ensures same { HasCleanDisk (state S.Store tx.new.conn.now)
+        → (t : Tables) → HasTables t (state S.Store tx.old.conn.now).now
+        → OnOk result (IsUnchanged (state S.Store tx.old.conn.now)
+        (state S.Store tx.new.conn.now)) }
+    ensures kept { HasCleanDisk (state S.Store tx.new.conn.now)
+        → (t : Tables) → HasTables t (state S.Store tx.old.conn.now).now
+        → KeepsCommit (state S.Store tx.old.conn.now) (state S.Store tx.new.conn.now) }
+    ensures survives { Survives (state S.Store tx.old.conn.now) (state S.Store tx.new.conn.now)
+        (λ _. ⊥) }
+{
+    list::<S, Bank>(
+        tx,
+        "SELECT reference, serial, value, named, employer, cents, purpose, note \
+         FROM bank WHERE employer IS NULL ORDER BY reference",
+        &[],
     )
 }
 

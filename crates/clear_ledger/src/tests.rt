@@ -1,4 +1,4 @@
-use crate::bank::{Bank, find_line, insert_line, lines};
+use crate::bank::{Bank, find_line, insert_line, lines, lines_in_suspense};
 use crate::credits::{Credits, credits_of, insert_credit, read_credits};
 use clear_bank::lines::{BankLine, Purpose};
 use clear_bank::texts::{Note, Reference};
@@ -68,6 +68,13 @@ fn serial_of<S: Alter>(tx: &mut Transaction<'_, S>, row: &BankRow) -> Option<u64
     Some(found.serial)
 }
 
+// How many lines are in suspense, and the serial of the first.
+fn in_suspense<S: Alter>(tx: &mut Transaction<'_, S>) -> Option<(usize, u64)> {
+    let rows = lines_in_suspense(tx).ok()?;
+    let first = rows.get(0)?;
+    Some((rows.len(), first.serial))
+}
+
 #[test]
 fn bank_lines_stand_once(rt: HostRuntime) -> Result<(), Fail> {
     let alloc = rt.alloc();
@@ -83,6 +90,7 @@ fn bank_lines_stand_once(rt: HostRuntime) -> Result<(), Fail> {
         assert!(rt; cause(insert_line(&mut tx, &same_serial)) == Some(StoreCause::Constraint));
         assert!(rt; serial_of(&mut tx, &first) == Some(1));
         assert!(rt; serial_of(&mut tx, &same_serial) == None);
+        assert!(rt; in_suspense(&mut tx) == Some((1, 1)));
     }
     Ok(())
 }

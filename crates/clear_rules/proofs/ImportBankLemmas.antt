@@ -26,7 +26,8 @@ use Rattle.clear_book.specs.declared.rows.BankRow.{BankRow}
 use Rattle.clear_book.specs.declared.rows.CreditRow.{CreditRow}
 use Rattle.clear_book.specs.Book.{Book, member_of}
 use Rattle.clear_rules.specs.Counts.{Index, IsIndexOf, is_indexed, count_indexed}
-use Rattle.clear_rules.specs.Views.ImportBank.{Serves, IsEmployerViewed, IsImportView, count_for, credit_count_viewed, is_registered_by, rows_viewed, rows_of_file, import_rule}
+use Rattle.clear_rules.specs.Views.Serves.{Serves}
+use Rattle.clear_rules.specs.Views.ImportBank.{IsEmployerViewed, IsImportView, count_for, credit_count_viewed, is_registered_by, rows_viewed, rows_of_file, import_rule}
 use Rattle.clear_book.specs.Judge.{own_rule, reply_to}
 use Rattle.clear_book.specs.Own.ImportBank.{is_ahead, is_over, fault_rule, ahead_rule, limit_rules}
 use Rattle.clear_book.specs.Limits.{most_credits, most_suspense, most_records}

@@ -2,3 +2,4 @@
 pub mod ImportBank
 pub mod Register
 pub mod Report
+pub mod Serves

@@ -4,17 +4,20 @@ use Rattle.sqlite.proofs.Callers.{IsPlain}
 use Rattle.sqlite.specs.Listing.{understood}
 use Rattle.sqlite.specs.Order.{Row}
 use Rattle.sqlite.specs.Effect.{Database, IsDatabase}
-use Rattle.sqlite.specs.State.{State, Executes, ExecutesInside, FailsToQuery, IsTooLate}
+use Rattle.sqlite.specs.State.{State, Executes, ExecutesInside, FailsToQuery, IsTooLate, store_error}
 use Rattle.sqlite.specs.declared.error.Error.{Error}
 use Rattle.sqlite.specs.declared.error.Error.TheVariants.{SqliteFailure}
 use Rattle.sqlite.specs.declared.error.ErrorCode.TheVariants as code
+use Rattle.sqlite.specs.Steps.{FailsToCommit}
+use Rattle.sqlite_trees.specs.declared.error.StoreError.{StoreError}
+use Rattle.sqlite_trees.specs.declared.error.StoreError.TheVariants as failed
 use Rattle.sqlite_schema.specs.declared.schema.Constraint.{Constraint as Broken}
 use Rattle.sqlite_catalog.specs.Listing.{IsSound}
 use Rattle.clear_book.specs.Tables.{Tables}
 use Rattle.clear_book.specs.declared.rules.StoreCause.TheVariants.{Constraint, Row as OutOfRange}
 use Rattle.clear_rows.proofs.Refused.{RefersToNone, refer_to_none_if, query_never}
 use Rattle.clear_schema.specs.declared.fault.Fault.TheVariants.{Store}
-use Rattle.clear_schema.specs.Faults.{fault_of, read_fault}
+use Rattle.clear_schema.specs.Faults.{IsOfDisk, fault_of, read_fault}
 use Rattle.clear_schema.specs.Held.{HasTables}
 use Rattle.clear_schema.specs.Runs.{IsBroken, IsBrokenQuery}
 use Rattle.clear_schema.specs.Schema.{store_schema, all_tables}
@@ -63,3 +66,19 @@ refer_to_none = refer_to_none_if all_tables refl
 -- what is stored is a database of this schema
 pub sound_by_schema : (t : Tables) (db : Database) → HasTables t db → IsDatabase (record { schema = store_schema; trees = db.trees })
 sound_by_schema t db has = subst (λ s. IsSound s db.trees) has.schema has.sound
+
+-- ---- of a commit
+
+-- the fault of a store that fails
+store_fails : (cause : StoreError) → IsOfDisk (fault_of (store_error cause))
+store_fails failed.OutOfMemory = ((λ e. absurd cc), (λ e. absurd cc))
+store_fails failed.Io = ((λ e. absurd cc), (λ e. absurd cc))
+store_fails failed.Corrupt = ((λ e. absurd cc), (λ e. absurd cc))
+store_fails failed.Full = ((λ e. absurd cc), (λ e. absurd cc))
+store_fails failed.Broken = ((λ e. absurd cc), (λ e. absurd cc))
+store_fails failed.Unstorable = ((λ e. absurd cc), (λ e. absurd cc))
+
+-- a commit fails for no key and no row
+pub commit_fails : (old new : State) (e : Error) → FailsToCommit old new e → IsOfDisk (fault_of e)
+commit_fails old new e (inl (cause, is, why, back, told)) = subst (λ x. IsOfDisk (fault_of x)) (sym is) (store_fails cause)
+commit_fails old new e (inr (is, outside, same)) = subst (λ x. IsOfDisk (fault_of x)) (sym is) ((λ e. absurd cc), (λ e. absurd cc))

@@ -1,11 +1,12 @@
 //! Work inside one transaction: all of it is committed, or none.
-ghost use Rattle.std.specs.Prelude.{◌≡◌, false, IsTrue, IfOk, IfErr, OnOk, OnErr};
+ghost use Rattle.std.specs.Prelude.{◌≡◌, ◌⊎◌, false, IsTrue, IfOk, IfErr, OnOk, OnErr};
 ghost use Rattle.sqlite.specs.Effect.{Database};
 ghost use Rattle.sqlite.specs.Held.{state};
 ghost use Rattle.sqlite.specs.State.{HasCleanDisk, KeepsCommit, Survives};
 ghost use Rattle.sqlite.specs.Tree.{Trees};
 ghost use Rattle.clear_rows.specs.Stands.{Stands};
 ghost use Rattle.clear_book.specs.Tables.{Tables};
+ghost use Rattle.clear_schema.specs.Faults.{IsOfDisk};
 ghost use Rattle.clear_schema.specs.Held.{HasTables, StandsFor};
 
 use crate::fault::{Fault, fault_of};
@@ -22,6 +23,8 @@ pub enum Stop<R> {
 
 /// What is done inside one transaction.
 pub trait Body {
+    ghost use Rattle.clear_schema.specs.declared.fault.Fault.{Fault};
+
     /// What it answers.
     type Out: Drop;
 
@@ -34,6 +37,9 @@ pub trait Body {
     /// Which tables it refuses, and why.
     ghost refuses: { Self → Tables → Self.Refusal → Type 0 };
 
+    /// On which tables it may fail, and how.
+    ghost fails: { Self → Tables → Fault → Type 0 };
+
     /// Does it, and commits nothing.
     fn run<S: Alter>(self, tx: &mut Transaction<'_, S>) -> Result<Self::Out, Stop<Self::Refusal>>
         ensures same_reference { tx.new.conn.ghost_name ≡ tx.old.conn.ghost_name }
@@ -44,7 +50,11 @@ pub trait Body {
         ensures refused { HasCleanDisk (state S.Store tx.new.conn.now)
             → (t : Tables) → HasTables t (state S.Store tx.old.conn.now).now
             → IfErr result (λ stop. (why : _) → stop ≡ Stop.Refused why → refuses self t why) }
+        ensures failed { HasCleanDisk (state S.Store tx.new.conn.now)
+            → (t : Tables) → HasTables t (state S.Store tx.old.conn.now).now
+            → IfErr result (λ stop. (fault : _) → stop ≡ Stop.Fault fault → fails self t fault) }
         ensures goes_on { HasCleanDisk (state S.Store tx.new.conn.now)
+            → (t : Tables) → HasTables t (state S.Store tx.old.conn.now).now
             → IsTrue tx.old.conn.now.in_transaction
             → OnOk result (IsTrue tx.new.conn.now.in_transaction) }
         ensures kept { HasCleanDisk (state S.Store tx.new.conn.now)
@@ -61,6 +71,7 @@ pub fn within<S: Alter, B: Body>(
 ) -> Result<B::Out, Stop<B::Refusal>>
     requires { conn.old.in_transaction ≡ false }
     ensures mode { conn.new.in_transaction ≡ false }
+    ensures clean { HasCleanDisk (state S.Store conn.new) → HasCleanDisk (state S.Store conn.old) }
     ensures done { HasCleanDisk (state S.Store conn.new)
         → (t : Tables) → HasTables t (state S.Store conn.old).now
         → IfOk result (λ out. (u : Tables) × B.does body t u out
@@ -70,6 +81,10 @@ pub fn within<S: Alter, B: Body>(
         → (t : Tables) → HasTables t (state S.Store conn.old).now
         → IfErr result (λ stop. (why : _) → stop ≡ Stop.Refused why → B.refuses body t why
         × Survives (state S.Store conn.old) (state S.Store conn.new) (λ _. ⊥)) }
+    ensures failed { HasCleanDisk (state S.Store conn.new)
+        → (t : Tables) → HasTables t (state S.Store conn.old).now
+        → IfErr result (λ stop. (fault : _) → stop ≡ Stop.Fault fault
+        → B.fails body t fault ⊎ IsOfDisk fault) }
     ensures stays { HasCleanDisk (state S.Store conn.new)
         → (t : Tables) → HasTables t (state S.Store conn.old).now
         → IsTrue (state S.Store conn.new).is_open
@@ -87,5 +102,28 @@ pub fn within<S: Alter, B: Body>(
     match tx.commit() {
         Ok(()) => Ok(out),
         Err(error) => Err(Stop::Fault(fault_of(error))),
+    }
+}
+
+/// Confirms that the store still stands, by a transaction without a statement.
+///
+/// A rollback doesn't tell whether a fault of the disk has shut the store. After `Ok` it is open, a
+/// crash leaves the tables that it has, and no other.
+pub fn confirm<S: Alter>(conn: &mut Connection<S>) -> Result<(), Fault>
+    requires { conn.old.in_transaction ≡ false }
+    ensures mode { conn.new.in_transaction ≡ false }
+    ensures open { HasCleanDisk (state S.Store conn.new)
+        → OnOk result (IsTrue (state S.Store conn.old).is_open) }
+    ensures kept { HasCleanDisk (state S.Store conn.new)
+        → (t : Tables) → HasTables t (state S.Store conn.old).now
+        → OnOk result (HasTables t (state S.Store conn.new).now
+        × HasTables t (state S.Store conn.new).committed
+        × ((trees : Trees) → (state S.Store conn.new).may_leave trees → StandsFor t trees)) }
+    ensures survives { Survives (state S.Store conn.old) (state S.Store conn.new)
+        (λ trees. trees ≡ (state S.Store conn.old).now.trees) }
+{
+    match conn.transaction().commit() {
+        Ok(()) => Ok(()),
+        Err(error) => Err(fault_of(error)),
     }
 }

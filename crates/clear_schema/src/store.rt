@@ -1,21 +1,22 @@
 //! A store: a connection on a database that has the office's tables.
 ghost use Rattle.std.specs.Borrow.{sem};
-ghost use Rattle.std.specs.Prelude.{◌≡◌, ◌≢◌, false, ℕ, [], IsTrue, IfOk, IfErr, OnOk, OnErr};
+ghost use Rattle.std.specs.Prelude.{◌≡◌, ◌≢◌, ◌⊎◌, false, ℕ, [], IsTrue, IfOk, IfErr, OnOk};
+ghost use Rattle.std.specs.Prelude.{OnErr};
 ghost use Rattle.sqlite.specs.Effect.{Database};
 ghost use Rattle.sqlite.specs.Held.{state};
 ghost use Rattle.sqlite.specs.State.{HasCleanDisk, Survives};
 ghost use Rattle.sqlite.specs.Tree.{Trees};
 ghost use Rattle.clear_rows.specs.Stands.{Stands};
 ghost use Rattle.clear_book.specs.Tables.{Tables, Stands as StandsForBook};
-ghost use Rattle.clear_schema.specs.Faults.{IsWrong};
+ghost use Rattle.clear_schema.specs.Faults.{IsOfDisk, IsWrong};
 ghost use Rattle.clear_schema.specs.First.{first_tables};
 ghost use Rattle.clear_schema.specs.Held.{HasTables, IsStore, StandsAs, StandsFor, this_schema};
 ghost use Rattle.clear_schema.specs.Lending.{lends_connection};
 ghost use Rattle.clear_schema.specs.Schema.{no_schema};
 
-use crate::body::{Body, Stop, within};
+use crate::body::{Body, Stop, confirm, within};
 use crate::create::create_in;
-use crate::fault::OpenFault;
+use crate::fault::{Fault, OpenFault};
 use crate::open::open_tables;
 use clear_money::rates::RateTable;
 use sqlite::{Alter, Connection};
@@ -126,6 +127,8 @@ impl<S: Alter> Store<S> {
     pub fn within<B: Body>(&mut self, body: B) -> Result<B::Out, Stop<B::Refusal>>
         requires { self.old.conn.in_transaction ≡ false }
         ensures mode { self.new.conn.in_transaction ≡ false }
+        ensures clean { HasCleanDisk (state S.Store self.new.conn)
+            → HasCleanDisk (state S.Store self.old.conn) }
         ensures done { HasCleanDisk (state S.Store self.new.conn)
             → (t : Tables) → HasTables t (state S.Store self.old.conn).now
             → IfOk result (λ out. (u : Tables) × B.does body t u out
@@ -137,6 +140,10 @@ impl<S: Alter> Store<S> {
             → (t : Tables) → HasTables t (state S.Store self.old.conn).now
             → IfErr result (λ stop. (why : _) → stop ≡ Stop.Refused why → B.refuses body t why
             × Survives (state S.Store self.old.conn) (state S.Store self.new.conn) (λ _. ⊥)) }
+        ensures failed { HasCleanDisk (state S.Store self.new.conn)
+            → (t : Tables) → HasTables t (state S.Store self.old.conn).now
+            → IfErr result (λ stop. (fault : _) → stop ≡ Stop.Fault fault
+            → B.fails body t fault ⊎ IsOfDisk fault) }
         ensures stays { HasCleanDisk (state S.Store self.new.conn)
             → (t : Tables) → HasTables t (state S.Store self.old.conn).now
             → IsTrue (state S.Store self.new.conn).is_open
@@ -149,6 +156,27 @@ impl<S: Alter> Store<S> {
             (u : Tables) × (out : B.Out) × B.does body t u out × HasTables u db)) }
     {
         within(&mut self.conn, body)
+    }
+
+    /// Confirms that the store still stands, by a transaction without a statement.
+    ///
+    /// A rollback doesn't tell whether a fault of the disk has shut the store. After `Ok` it is open,
+    /// and a crash leaves the tables that it has, and no other.
+    pub fn confirm(&mut self) -> Result<(), Fault>
+        requires { self.old.conn.in_transaction ≡ false }
+        ensures mode { self.new.conn.in_transaction ≡ false }
+        ensures open { HasCleanDisk (state S.Store self.new.conn)
+            → OnOk result (IsTrue (state S.Store self.old.conn).is_open) }
+        ensures kept { HasCleanDisk (state S.Store self.new.conn)
+            → (t : Tables) → HasTables t (state S.Store self.old.conn).now
+            → OnOk result (HasTables t (state S.Store self.new.conn).now
+            × HasTables t (state S.Store self.new.conn).committed
+            × ((trees : Trees) → (state S.Store self.new.conn).may_leave trees
+            → StandsFor t trees)) }
+        ensures survives { Survives (state S.Store self.old.conn) (state S.Store self.new.conn)
+            (λ trees. trees ≡ (state S.Store self.old.conn).now.trees) }
+    {
+        confirm(&mut self.conn)
     }
 
     /// The connection, outside of a transaction.

@@ -1,5 +1,5 @@
 -- What a bank file is judged by, and the rows that it brings by a view.
-use Rattle.std.specs.Prelude.{◌≡◌, ◌≤◌, ◌⊎◌, ℕ, ◌+◌, ◌==◌, List, Bool, true}
+use Rattle.std.specs.Prelude.{◌≡◌, ℕ, ◌==◌, List, Bool, true}
 use Rattle.std.specs.Prelude.{Option, is_some, IfSome}
 use Rattle.std.specs.List.{find, AllByRecursion}
 use Rattle.std.specs.Option.{option_map_or}
@@ -14,6 +14,7 @@ use Rattle.clear_book.specs.Lines.{lines_in, new_lines, rows_from, rows_brought,
 use Rattle.clear_book.specs.Lines.{lines_seen, lines_standing, suspense_count, credit_count}
 use Rattle.clear_book.specs.Lines.{serial_count}
 use Rattle.clear_book.specs.Own.ImportBank.{own_import}
+use Rattle.clear_rules.specs.Views.Serves.{Serves}
 use Rattle.clear_rules.specs.declared.decide.import.EmployerCredits.{EmployerCredits}
 use Rattle.clear_rules.specs.declared.decide.import.ImportView.{ImportView}
 
@@ -49,12 +50,6 @@ import_rule view t file =
 -- the rows that a file brings to a book
 abbrev pub rows_of_file : Book → List ℕ → List BankRow
 rows_of_file b file = rows_brought b.entries (lines_seen b.entries) file
-
--- a number serves for a count, where so many more come: it is the count; or it is no less, and with
--- them it stays within the limit
-abbrev pub Serves : ℕ → ℕ → ℕ → ℕ → Type 0
-Serves viewed count more limit =
-    (viewed ≡ count) ⊎ ((count ≤ viewed) × (viewed + more ≤ limit))
 
 -- an employer is seen as the book has it
 pub record IsEmployerViewed (b : Book) (file : List ℕ) (view : ImportView) (e : ℕ) : Type 0 where

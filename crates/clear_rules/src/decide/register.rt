@@ -18,7 +18,8 @@ use clear_money::days::Day;
 pub struct RegisterView {
     /// Whether the employer is registered already.
     pub registered: bool,
-    /// How many employers there are.
+    /// How many employers there are; or a number that is no less, and with the new one within the
+    /// limit.
     pub employer_count: u64,
     /// Whether a rate row is in force for the first member month.
     pub has_rate: bool,

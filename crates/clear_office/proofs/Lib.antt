@@ -1,0 +1,4 @@
+pub mod DecisionLemmas
+pub mod RunLemmas
+pub mod StepLemmas
+pub mod SubmissionLemmas

@@ -1,0 +1,153 @@
+-- The firms that the lines of a file name, each once, and what is found of them.
+use Rattle.std.proofs.Common.{◌≡◌, ℕ, ◌+◌, ◌<◌, ◌≤◌, ◌==◌, List, [], ◌∷◌, ◌++◌, length, take, get_or, Option, None, Some, Bool, true, false, not, cond, ◌&&◌, ◌||◌, refl, sym, ap, subst, ◌∙◌}
+use Rattle.std.proofs.lemmas.List.{take_all}
+use Rattle.std.proofs.lemmas.List.Folds.{list_any_more, list_any-append}
+use Rattle.std.specs.List.{AllByRecursion, filter_map, list_any}
+use Rattle.std.specs.Option.{option_map, option_map_or}
+use Rattle.std.specs.Ordering.{nat_cmp, is_eq}
+use Rattle.std.specs.Prelude.{IfSome}
+use Rattle.clear_bank.specs.declared.lines.BankLine.{BankLine}
+use Rattle.clear_book.proofs.DistinctLemmas.{itself, same_worker}
+use Rattle.clear_book.proofs.KeyedRowsLemmas.{AreOnce-append}
+use Rattle.clear_book.specs.Keyed.{AreOnce, find_row}
+use Rattle.clear_book.specs.Tables.{Tables, employer_key}
+use Rattle.clear_book.specs.declared.rows.EmployerRow.{EmployerRow}
+use Rattle.clear_rules.proofs.CountsLemmas.{at_number}
+use Rattle.clear_rules.specs.Views.ImportBank.{employer_under}
+use Rattle.clear_rules.specs.declared.decide.import.EmployerCredits.{EmployerCredits}
+use Rattle.clear_views.proofs.FoundLemmas.{found_there}
+use Rattle.clear_views.specs.Imports.{counted_firm, firm_key, firm_viewed, is_among, names}
+
+-- ---- one more line
+
+not_true : (b : Bool) → not b ≡ false → b ≡ true
+not_true true h = refl
+not_true false h = absurd (cc)
+
+or_false : (a : Bool) → (a || false) ≡ a
+or_false true = refl
+or_false false = refl
+
+either : (t o : Bool) → cond t true o ≡ (o || t)
+either true true = refl
+either true false = refl
+either false true = refl
+either false false = refl
+
+one_among : (firm e : ℕ) → is_among e (firm ∷ []) ≡ (firm == e)
+one_among firm e = or_false (firm == e)
+
+module _ (lines : List BankLine) (i : ℕ) (line : BankLine) (inside : i < length lines) (at : line ≡ get_or lines i line)
+    (seen : ℕ → Bool) (firms : List ℕ) (has : (e : ℕ) → seen e ≡ is_among e firms) (so_far : (e : ℕ) → is_among e firms ≡ list_any (names e) (take i lines)) where
+  names_more : (e : ℕ) → list_any (names e) (take (i + 1) lines) ≡ (list_any (names e) (take i lines) || names e line)
+  names_more e = list_any_more (names e) lines i line inside ∙ ap (λ (x : BankLine). list_any (names e) (take i lines) || names e x) (sym at)
+
+  -- it names no firm
+  pub none_named : line.employer ≡ None → (e : ℕ) → is_among e firms ≡ list_any (names e) (take (i + 1) lines)
+  none_named none e =
+      so_far e
+      ∙ sym (or_false (list_any (names e) (take i lines)))
+      ∙ ap (λ o. list_any (names e) (take i lines) || option_map_or (λ named. named == e) o false) (sym none)
+      ∙ sym (names_more e)
+
+  module _ (firm : ℕ) (is : line.employer ≡ Some firm) where
+    named_now : (e : ℕ) → (is_among e firms || (firm == e)) ≡ list_any (names e) (take (i + 1) lines)
+    named_now e =
+        ap (λ b. b || (firm == e)) (so_far e)
+        ∙ ap (λ o. list_any (names e) (take i lines) || option_map_or (λ named. named == e) o false) (sym is)
+        ∙ sym (names_more e)
+
+    -- its firm is new
+    new_among : (after : List ℕ) → after ≡ firms ++ firm ∷ [] → (e : ℕ) → is_among e after ≡ (is_among e firms || (firm == e))
+    new_among after added e = ap (is_among e) added ∙ list_any-append (λ f. f == e) firms (firm ∷ []) ∙ ap (λ b. is_among e firms || b) (one_among firm e)
+
+    pub new_named : (after : List ℕ) → after ≡ firms ++ firm ∷ [] → (e : ℕ) → is_among e after ≡ list_any (names e) (take (i + 1) lines)
+    new_named after added e = new_among after added e ∙ named_now e
+
+    module _ (number : ℕ) (same : number ≡ firm) (more : ℕ → Bool) (grown : (e : ℕ) → more e ≡ cond (is_eq (nat_cmp number e)) true (seen e)) where
+      more_seen : (e : ℕ) → more e ≡ (is_among e firms || (firm == e))
+      more_seen e =
+          grown e
+          ∙ ap (λ t. cond t true (seen e)) (at_number number e ∙ ap (λ n. n == e) same)
+          ∙ either (firm == e) (seen e)
+          ∙ ap (λ o. o || (firm == e)) (has e)
+
+      pub new_seen : (after : List ℕ) → after ≡ firms ++ firm ∷ [] → (e : ℕ) → more e ≡ is_among e after
+      new_seen after added e = more_seen e ∙ sym (new_among after added e)
+
+      -- its firm was named before
+      module _ (added : Bool) (is_new : added ≡ not (seen number)) (old : added ≡ false) where
+        old_among : (e : ℕ) → (is_among e firms || (firm == e)) ≡ is_among e firms
+        old_among e = told (firm == e) refl
+          where
+            there : is_among firm firms ≡ true
+            there = sym (has firm) ∙ ap seen (sym same) ∙ not_true (seen number) (sym is_new ∙ old)
+
+            told : (b : Bool) → (firm == e) ≡ b → (is_among e firms || b) ≡ is_among e firms
+            told true e-is = ap (λ o. o || true) here ∙ sym here
+              where
+                here : is_among e firms ≡ true
+                here = subst (λ (n : ℕ). is_among n firms ≡ true) (same_worker firm e e-is) there
+            told false e-is = or_false (is_among e firms)
+
+        pub old_seen : (e : ℕ) → more e ≡ is_among e firms
+        old_seen e = more_seen e ∙ old_among e
+
+        pub old_named : (e : ℕ) → is_among e firms ≡ list_any (names e) (take (i + 1) lines)
+        old_named e = sym (old_among e) ∙ named_now e
+
+pub all_named : (lines : List BankLine) (i : ℕ) (firms : List ℕ) → length lines ≤ i → ((e : ℕ) → is_among e firms ≡ list_any (names e) (take i lines)) → (e : ℕ) → is_among e firms ≡ list_any (names e) lines
+all_named lines i firms end so_far e = so_far e ∙ ap (list_any (names e)) (take_all i lines end)
+
+-- ---- each firm stands once
+
+not_among : (e : ℕ) (firms : List ℕ) → is_among e firms ≡ false → find_row firm_key firms (e ∷ []) ≡ None
+not_among e [] none = refl
+not_among e (n ∷ firms) none = told (n == e) none (not_among e firms)
+  where
+    told : (b : Bool) → (b || is_among e firms) ≡ false → (is_among e firms ≡ false → find_row firm_key firms (e ∷ []) ≡ None) → cond (b && true) (Some n) (find_row firm_key firms (e ∷ [])) ≡ None
+    told true none rest = cc none
+    told false none rest = rest none
+
+not_false : (b : Bool) → not b ≡ true → b ≡ false
+not_false false h = refl
+not_false true h = absurd (cc)
+
+-- a firm that was not seen is new
+pub new_once : (seen : ℕ → Bool) (firms : List ℕ) → ((e : ℕ) → seen e ≡ is_among e firms) → (firm number : ℕ) → number ≡ firm → (added : Bool) → added ≡ not (seen number) → added ≡ true
+    → AreOnce firm_key firms → (after : List ℕ) → after ≡ firms ++ firm ∷ [] → AreOnce firm_key after
+new_once seen firms has firm number same added is new once after grown =
+    subst (AreOnce firm_key) (sym grown)
+    (AreOnce-append firm_key firms (firm ∷ []) once (refl, tt)
+    (not_among firm firms (sym (has firm) ∙ ap seen (sym same) ∙ not_false (seen number) (sym is ∙ new)), tt))
+
+-- ---- each firm that is named is found as it is viewed
+
+module _ (t : Tables) (serving : Option ℕ) where
+  its_number : (n e : ℕ) (credits : EmployerCredits) → firm_viewed serving t n ≡ Some credits → (credits.employer == e) ≡ (n == e)
+  its_number n e credits is = told (find_row employer_key t.employers (n ∷ [])) is
+    where
+      told : (o : Option EmployerRow) → option_map (λ (row : EmployerRow). counted_firm serving t n) o ≡ Some credits → (credits.employer == e) ≡ (n == e)
+      told None is = cc is
+      told (Some row) is = let same : counted_firm serving t n ≡ credits = cc is in sym (ap (λ (c : EmployerCredits). c.employer == e) same)
+
+  found_among : (e : ℕ) (firms : List ℕ) → is_among e firms ≡ true → employer_under (filter_map (firm_viewed serving t) firms) e ≡ firm_viewed serving t e
+  found_among e firms among = found_there (λ n. n) (firm_viewed serving t) (λ e (credits : EmployerCredits). credits.employer == e) (λ n e. n == e) its_number same_worker itself e firms among
+
+  module _ (found : List EmployerCredits) (firms : List ℕ) (is : found ≡ filter_map (firm_viewed serving t) firms) where
+    each_found : (lines : List BankLine) → ((e : ℕ) → list_any (names e) lines ≡ true → is_among e firms ≡ true)
+        → AllByRecursion (λ line. IfSome line.employer (λ e. employer_under found e ≡ firm_viewed serving t e)) lines
+    each_found [] all = tt
+    each_found (line ∷ lines) all = (told line.employer (λ e here. all e (ap (λ b. b || list_any (names e) lines) here)), each_found lines (λ e later. all e (later_too e (names e line) later)))
+      where
+        later_too : (e : ℕ) (b : Bool) → list_any (names e) lines ≡ true → (b || list_any (names e) lines) ≡ true
+        later_too e true later = refl
+        later_too e false later = later
+
+        told : (o : Option ℕ) → ((e : ℕ) → option_map_or (λ named. named == e) o false ≡ true → is_among e firms ≡ true) → IfSome o (λ e. employer_under found e ≡ firm_viewed serving t e)
+        told None all = tt
+        told (Some e) all = ap (λ (rows : List EmployerCredits). employer_under rows e) is ∙ found_among e firms (all e (itself e))
+
+    pub named_found : (lines : List BankLine) → ((e : ℕ) → is_among e firms ≡ list_any (names e) lines)
+        → AllByRecursion (λ line. IfSome line.employer (λ e. employer_under found e ≡ firm_viewed serving t e)) lines
+    named_found lines named = each_found lines (λ e there. named e ∙ there)

@@ -1,0 +1,219 @@
+-- What an import reads is what its file is judged by.
+use Rattle.std.proofs.Common.{◌≡◌, ◌⊎◌, inl, inr, ℕ, ◌+◌, ◌<◌, ◌≤◌, List, [], ◌∷◌, ◌++◌, length, take, get_or, filter, count_by, Option, None, Some, Err, is_some, Bool, true, false, cond, refl, sym, ap, subst, ◌∙◌, arith}
+use Rattle.std.proofs.lemmas.List.{take_more}
+use Rattle.std.proofs.lemmas.List.Sums.{length-filter}
+use Rattle.std.specs.Prelude.{unwrap_or}
+use Rattle.std.proofs.lemmas.List.Elements.{filter_map-append}
+use Rattle.std.proofs.lemmas.Bool.{false≢true}
+use Rattle.std.proofs.lemmas.List.FromFn.{length-enumerate_from}
+use Rattle.std.proofs.lemmas.List.Sums.{count_by-le-length}
+use Rattle.std.specs.List.{AllByRecursion, cons_option, enumerate_from, filter_map}
+use Rattle.std.specs.Option.{option_map, option_map_or}
+use Rattle.std.specs.Prelude.{◌≢◌, IfSome}
+use Rattle.std.specs.Str.{bytes_eq}
+use Rattle.sqlite_keyed.proofs.ListLemmas.{all_weaker}
+use Rattle.sqlite_keyed.proofs.SliceLemmas.{is_some-map}
+use Rattle.clear_bank.specs.Answers.{Fails}
+use Rattle.clear_bank.specs.Files.{file_lines}
+use Rattle.clear_bank.specs.Newness.{is_new, line_under}
+use Rattle.clear_bank.specs.declared.fault.BankFault.{BankFault}
+use Rattle.clear_bank.specs.declared.fault.BankFault.TheVariants.{BadCsv, Memory, OverLimit, RefConflict}
+use Rattle.clear_bank.specs.declared.lines.BankLine.{BankLine}
+use Rattle.clear_bank.specs.declared.lines.Purpose.{Purpose}
+use Rattle.clear_bank.specs.declared.lines.Purpose.TheVariants.{Contribution, Interest}
+use Rattle.clear_book.proofs.KeyedRowsLemmas.{count_by-ordered}
+use Rattle.clear_book.proofs.LawsLemmas.{lawful_small}
+use Rattle.clear_book.proofs.LinesLemmas.{credits_once, found_line, is_key-bytes_eq, length-rows_from, references_standing, standing_seen}
+use Rattle.clear_book.proofs.KeyedLemmas.{is_key-refl, is_key-true}
+use Rattle.clear_book.specs.Accounts.{credit_key}
+use Rattle.clear_book.specs.Book.{Book, member_of}
+use Rattle.clear_book.specs.Keyed.{find_row, is_key}
+use Rattle.clear_book.specs.Limits.{most_credits, most_records, most_suspense}
+use Rattle.clear_book.specs.Lines.{credit_count, credit_of_line, credits_of_lines, is_credit_of, is_in_suspense, lines_in, lines_of_rows, lines_or_none, lines_seen, lines_standing, new_lines, suspense_count}
+use Rattle.clear_book.specs.Machine.{IsLawful}
+use Rattle.clear_book.specs.RowRanges.{AreInRange}
+use Rattle.clear_book.specs.Tables.{Stands, Tables, bank_key, employer_key}
+use Rattle.clear_book.specs.declared.rows.BankRow.{BankRow}
+use Rattle.clear_book.specs.declared.rows.EmployerRow.{EmployerRow}
+use Rattle.clear_firms.specs.Counts.{AreCounts}
+use Rattle.clear_rules.specs.Views.ImportBank.{IsEmployerViewed, IsImportView, count_for, employer_under, rows_of_file}
+use Rattle.clear_rules.specs.Views.Serves.{Serves}
+use Rattle.clear_rules.specs.declared.decide.import.EmployerCredits.{EmployerCredits}
+use Rattle.clear_rules.specs.declared.decide.import.ImportView.{ImportView}
+use Rattle.clear_schema.specs.Values.{counts_of}
+use Rattle.clear_views.proofs.FoundLemmas.{each_found}
+use Rattle.clear_views.specs.Imports.{IsImportRead, IsServing, counted_firm, credits_viewed, firm_viewed, line_found}
+
+-- one more is found
+pub found_more : {A B : Type 0} (f : A → Option B) (xs : List A) (i : ℕ) (x : A) (before after : List B) (item : Option B) → i < length xs → x ≡ get_or xs i x
+    → before ≡ filter_map f (take i xs) → item ≡ f x → after ≡ before ++ cons_option item [] → after ≡ filter_map f (take (i + 1) xs)
+found_more f xs i x before after item inside at so_far is added =
+    added
+    ∙ (λ j. so_far j ++ cons_option (is j) [])
+    ∙ sym (filter_map-append f (take i xs) (x ∷ []))
+    ∙ ap (filter_map f) (ap (λ y. take i xs ++ y ∷ []) at ∙ sym (take_more xs i x inside))
+
+-- where no number serves, those that are found are counted
+pub counted_if_none : {A : Type 0} (serving : Option ℕ) (test : A → Bool) (rows found : List A) (n : ℕ) → serving ≡ None → found ≡ filter test rows → n ≡ length found → n ≡ unwrap_or serving (count_by test rows)
+counted_if_none serving test rows found n none is counted =
+    counted ∙ ap length is ∙ length-filter test rows ∙ ap (λ o. unwrap_or o (count_by test rows)) (sym none)
+
+-- the counts of tables in their ranges are in theirs
+pub counts_in_range : (t : Tables) → AreInRange t → AreCounts (counts_of t)
+counts_in_range t within =
+    let claim = within.unfilled.5 in
+    let list = within.unfilled.6 in
+    let run = within.unfilled.7 in
+    record { day = within.day; entries = within.entries; serial = within.serial; claims = omega (arith, claim); lists = omega (arith, list); runs = omega (arith, run) }
+
+-- the number that serves for a count, or else the count
+pub suspense_read : (serials more limit count : ℕ) (n : ℕ) {X : Type 0} (serving : Option ℕ) → IfSome serving (IsServing serials more limit) → n ≡ unwrap_or serving count
+    → (n ≡ count) ⊎ IsServing serials more limit n ⊎ X
+suspense_read serials more limit count n None serves is = inl is
+suspense_read serials more limit count n (Some m) serves is = inr (inl (subst (IsServing serials more limit) (sym is) serves))
+
+-- a file that can't be read has no lines
+none_read : (file : List ℕ) (fault : BankFault) (items : List BankLine) → file_lines most_records file ≡ Err fault → items ≡ [] → items ≡ lines_in file
+unfolding lines_in
+none_read file fault items is none = none ∙ sym (ap lines_or_none is)
+
+pub unread : (file : List ℕ) (fault : BankFault) (items : List BankLine) → fault ≢ Memory → Fails fault (file_lines most_records file) → items ≡ [] → items ≡ lines_in file
+unread file OverLimit items other fails none = none_read file OverLimit items fails none
+unread file (BadCsv line field) items other fails none = none_read file (BadCsv line field) items fails none
+unread file (RefConflict line) items other fails none = none_read file (RefConflict line) items fails none
+unread file Memory items other fails none = absurd (other refl)
+
+-- ---- the lines under the references of a file
+
+module _ (t : Tables) where
+  abbrev line_at : List ℕ → Option BankLine
+  line_at reference = option_map (λ (row : BankRow). row.line) (find_row bank_key t.bank reference)
+
+  -- the row that is found has the key
+  has_key : (rows : List BankRow) (k q : List ℕ) (l : BankLine) → option_map (λ (row : BankRow). row.line) (find_row bank_key rows k) ≡ Some l → bytes_eq q l.reference ≡ bytes_eq q k
+  has_key [] k q l is = cc is
+  has_key (row ∷ rows) k q l is = told (is_key row.line.reference k) refl is (has_key rows k q l)
+    where
+      told : (b : Bool) → is_key row.line.reference k ≡ b → option_map (λ (r : BankRow). r.line) (cond b (Some row) (find_row bank_key rows k)) ≡ Some l
+          → (option_map (λ (r : BankRow). r.line) (find_row bank_key rows k) ≡ Some l → bytes_eq q l.reference ≡ bytes_eq q k) → bytes_eq q l.reference ≡ bytes_eq q k
+      told true key is rest = let same : row.line ≡ l = cc is in ap (λ (x : BankLine). bytes_eq q x.reference) (sym same) ∙ ap (bytes_eq q) (is_key-true row.line.reference k key)
+      told false key is rest = rest is
+
+  one_key : (k q : List ℕ) → bytes_eq q k ≡ true → k ≡ q
+  one_key k q is = is_key-true k q (is_key-bytes_eq k q ∙ is)
+
+  own_key : (q : List ℕ) → bytes_eq q q ≡ true
+  own_key q = sym (is_key-bytes_eq q q) ∙ is_key-refl q
+
+  each_line : (lines : List BankLine) → AllByRecursion (λ line. line_under line.reference (filter_map (line_found t) lines) ≡ line_found t line) lines
+  each_line lines = each_found (λ (line : BankLine). line.reference) line_at (λ r (line : BankLine). bytes_eq r line.reference) (λ k q. bytes_eq q k) (has_key t.bank) one_key own_key lines
+
+-- ---- how many there are at most
+
+credits_few : (rows : List BankRow) → length (credits_of_lines rows) ≤ length rows
+credits_few [] = omega arith
+credits_few (row ∷ rows) = told row.employer (credits_few rows)
+  where
+    told : (firm : Option ℕ) → length (credits_of_lines rows) ≤ length rows → length (cons_option (credit_of_line row firm) (credits_of_lines rows)) ≤ length (row ∷ rows)
+    told None rest = omega arith
+    told (Some e) rest = omega arith
+
+credit_count-le : (rows : List BankRow) (e : ℕ) (p : Purpose) → credit_count rows e p ≤ length rows
+credit_count-le rows e p = omega (arith, count_by-le-length (is_credit_of e p) (credits_of_lines rows), credits_few rows)
+
+new_few : (known lines : List BankLine) → length (new_lines known lines) ≤ length lines
+new_few known lines =
+    omega (arith, length-filter (is_new known lines) (enumerate_from 0 lines), count_by-le-length (is_new known lines) (enumerate_from 0 lines), length-enumerate_from 0 lines)
+
+file_few : (b : Book) (file : List ℕ) → length (rows_of_file b file) ≤ length (lines_in file)
+file_few b file =
+    omega (arith, length-rows_from (λ e. is_some (member_of b.entries e)) (length (lines_seen b.entries)) (new_lines (lines_of_rows (lines_seen b.entries)) (lines_in file)), new_few (lines_of_rows (lines_seen b.entries)) (lines_in file))
+
+-- the serials serve for a count that is no more
+serials_serve : (serials more limit n count new : ℕ) → IsServing serials more limit n → count ≤ serials → new ≤ more → Serves n count new limit
+serials_serve serials more limit n count new serves few small =
+    let at = serves.0 in
+    let within = serves.1 in
+    inr (omega (arith, at), omega (arith, within))
+
+-- ---- the view of a book
+
+module _ (b : Book) (t : Tables) (lawful : IsLawful b) (stands : Stands b t) (file : List ℕ) (view : ImportView) (read : IsImportRead t t.serial (lines_in file) view) where
+  seen_length : length (lines_standing b.entries) ≡ t.serial
+  seen_length = ap length (standing_seen b.entries) ∙ sym stands.serial
+
+  known-at : (reference : List ℕ) → option_map (λ (row : BankRow). row.line) (find_row bank_key t.bank reference) ≡ line_under reference (lines_of_rows (lines_seen b.entries))
+  known-at reference =
+      ap (option_map (λ (row : BankRow). row.line)) (stands.bank reference)
+      ∙ found_line (lines_standing b.entries) reference
+      ∙ ap (λ (rows : List BankRow). line_under reference (lines_of_rows rows)) (standing_seen b.entries)
+
+  suspense_counted : count_by is_in_suspense t.bank ≡ suspense_count (lines_standing b.entries)
+  suspense_counted = count_by-ordered bank_key is_in_suspense t.bank (lines_standing b.entries) stands.bank_in_order (references_standing b.entries) stands.bank
+
+  credits_counted : (e : ℕ) (p : Purpose) → count_by (is_credit_of e p) t.credits ≡ credit_count (lines_standing b.entries) e p
+  credits_counted e p = count_by-ordered credit_key (is_credit_of e p) t.credits (credits_of_lines (lines_standing b.entries)) stands.credits_in_order (credits_once b.entries) stands.credits
+
+  suspense_serves : (view.suspense ≡ count_by is_in_suspense t.bank) ⊎ IsServing t.serial (length (lines_in file)) most_suspense view.suspense ⊎ ((view.suspense ≡ most_suspense) × (lines_in file ≡ []))
+      → Serves view.suspense (suspense_count (lines_standing b.entries)) (suspense_count (rows_of_file b file)) most_suspense
+  suspense_serves (inl counted) = inl (counted ∙ suspense_counted)
+  suspense_serves (inr (inl serves)) =
+      serials_serve t.serial (length (lines_in file)) most_suspense view.suspense _ _ serves
+      (omega (arith, count_by-le-length is_in_suspense (lines_standing b.entries), seen_length))
+      (omega (arith, count_by-le-length is_in_suspense (rows_of_file b file), file_few b file))
+  suspense_serves (inr (inr none)) =
+      let most = none.0 in
+      let few = (lawful_small b lawful).suspense in
+      let no_lines : length (lines_in file) ≡ 0 = ap length none.1 in
+      inr (omega (arith, most, few), omega (arith, most, count_by-le-length is_in_suspense (rows_of_file b file), file_few b file, no_lines))
+
+  credits_serve : (e : ℕ) (p : Purpose) (serving : Option ℕ) → IfSome serving (IsServing t.serial (length (lines_in file)) most_credits)
+      → Serves (credits_viewed serving t e p) (credit_count (lines_standing b.entries) e p) (credit_count (rows_of_file b file) e p) most_credits
+  credits_serve e p None serves = inl (credits_counted e p)
+  credits_serve e p (Some n) serves =
+      serials_serve t.serial (length (lines_in file)) most_credits n _ _ serves
+      (omega (arith, credit_count-le (lines_standing b.entries) e p, seen_length))
+      (omega (arith, credit_count-le (rows_of_file b file) e p, file_few b file))
+
+  counted-for : (e : ℕ) (p : Purpose) → count_for p (counted_firm read.serving t e) ≡ credits_viewed read.serving t e p
+  counted-for e Contribution = refl
+  counted-for e Interest = refl
+
+  registered-at : (e : ℕ) → is_some (find_row employer_key t.employers (e ∷ [])) ≡ is_some (member_of b.entries e)
+  registered-at e = sym (is_some-map (λ (row : EmployerRow). record { name = row.name; start = row.start; last = row.last }) (find_row employer_key t.employers (e ∷ []))) ∙ ap is_some (stands.employers e)
+
+  count_found : (e : ℕ) (p : Purpose) (o : Option EmployerRow) → is_some o ≡ true
+      → option_map_or (count_for p) (option_map (λ (row : EmployerRow). counted_firm read.serving t e) o) 0 ≡ credits_viewed read.serving t e p
+  count_found e p None is = absurd (false≢true is)
+  count_found e p (Some row) is = counted-for e p
+
+  firm_stands : (e : ℕ) → employer_under view.employers.items e ≡ firm_viewed read.serving t e → IsEmployerViewed b file view e
+  firm_stands e found = record {
+    registered_is = ap is_some found ∙ is_some-map (λ (row : EmployerRow). counted_firm read.serving t e) (find_row employer_key t.employers (e ∷ [])) ∙ registered-at e;
+    credits_serve = λ p registered.
+        subst (λ n. Serves n (credit_count (lines_standing b.entries) e p) (credit_count (rows_of_file b file) e p) most_credits)
+        (sym (ap (λ (o : Option EmployerCredits). option_map_or (count_for p) o 0) found ∙ count_found e p (find_row employer_key t.employers (e ∷ [])) (registered-at e ∙ registered)))
+        (credits_serve e p read.serving read.serves);
+  }
+
+  firm_of_line : (o : Option ℕ) → IfSome o (λ e. employer_under view.employers.items e ≡ firm_viewed read.serving t e) → IfSome o (IsEmployerViewed b file view)
+  firm_of_line None found = tt
+  firm_of_line (Some e) found = firm_stands e found
+
+  view_stands : IsImportView b file view
+  view_stands = record {
+    known_is = all_weaker (λ line. line_under line.reference (filter_map (line_found t) (lines_in file)) ≡ line_found t line)
+        (λ line. line_under line.reference view.known.items ≡ line_under line.reference (lines_of_rows (lines_seen b.entries)))
+        (λ line found. ap (line_under line.reference) read.known ∙ found ∙ known-at line.reference) (lines_in file) (each_line t (lines_in file));
+    employers_are = all_weaker (λ line. IfSome line.employer (λ e. employer_under view.employers.items e ≡ firm_viewed read.serving t e)) (λ line. IfSome line.employer (IsEmployerViewed b file view))
+        (λ line found. firm_of_line line.employer found) (lines_in file) read.employers;
+    suspense_serves = suspense_serves read.suspense;
+    serials_is = read.serials_is ∙ stands.serial;
+  }
+
+-- what was read for the lines of a file, where so many serials were given, is what it is judged by
+pub view_of_read : (b : Book) (t : Tables) → IsLawful b → Stands b t → (file : List ℕ) (view : ImportView) (serials : ℕ) (lines : List BankLine) → serials ≡ t.serial → lines ≡ lines_in file
+    → IsImportRead t serials lines view → IsImportView b file view
+view_of_read b t lawful stands file view serials lines given are read =
+    view_stands b t lawful stands file view
+    (subst (λ n. IsImportRead t n (lines_in file) view) given (subst (λ (ls : List BankLine). IsImportRead t serials ls view) are read))

@@ -1,0 +1,10 @@
+pub mod FaultLemmas
+pub mod FillLemmas
+pub mod FirmLemmas
+pub mod FoundLemmas
+pub mod ImportLemmas
+pub mod OwedLemmas
+pub mod ReadLemmas
+pub mod SerialLemmas
+pub mod StillLemmas
+pub mod ViewLemmas

@@ -1,0 +1,177 @@
+-- The tables of a lawful book make up the account of each firm, and it is the book's.
+use Rattle.std.proofs.Common.{◌≡◌, ℕ, ◌≤◌, List, [], ◌∷◌, length, filter, Option, Some, None, Bool, true, false, cond, ◌&&◌, ◌==◌, is_some, refl, sym, ap, ◌∙◌, subst, arith}
+use Rattle.std.specs.Prelude.{IsSome}
+use Rattle.std.specs.List.{AllByRecursion, cons_option}
+use Rattle.std.proofs.lemmas.Bool.Decides.{nat_tests}
+use Rattle.std.proofs.lemmas.List.Sums.{sum_by-cons}
+use Rattle.clear_account.specs.declared.entries.Credit.{Credit}
+use Rattle.clear_bank.specs.declared.lines.Purpose.TheVariants.{Contribution}
+use Rattle.clear_money.specs.Rates.{Rate, rate_in_force}
+use Rattle.clear_book.specs.declared.rows.BankRow.{BankRow}
+use Rattle.clear_book.specs.declared.rows.ReportRow.{ReportRow}
+use Rattle.clear_book.specs.declared.rows.WageRow.{WageRow}
+use Rattle.clear_book.specs.Accounts.{charges_of, credits_of, credit_key}
+use Rattle.clear_book.specs.Book.{Book}
+use Rattle.clear_book.specs.Keyed.{find_row, is_key, is_before, with_row, with_rows, AreOnce}
+use Rattle.clear_book.specs.Lines.{credit_of_line, credits_of_lines, is_credit_of, line_credit, lines_standing}
+use Rattle.clear_book.specs.Machine.{IsLawful}
+use Rattle.clear_book.specs.Tables.{Tables, Stands, is_wage_key_of, table_base, table_charges, table_credits, wage_key}
+use Rattle.clear_book.proofs.AccountLimitLemmas.{lawful_credit_count}
+use Rattle.clear_book.proofs.ChargesLemmas.{is_found, found_behind, found_first, reported, base_same, table_charges-charges_of}
+use Rattle.clear_book.proofs.CreditsLemmas.{credits-standing, table_credits-credits_of}
+use Rattle.clear_book.proofs.KeyedLemmas.{is_key-sym, other_row}
+use Rattle.clear_book.proofs.KeyedRowsLemmas.{AreNew}
+use Rattle.clear_book.proofs.LimitsLemmas.{few_base, lawful_few}
+use Rattle.clear_book.proofs.LinesLemmas.{serial_key, serials_once, standing_seen}
+use Rattle.clear_book.proofs.RatesLemmas.{lawful_rated}
+use Rattle.clear_book.proofs.RowRangeLemmas.{rows_in_range}
+use Rattle.clear_views.specs.Owed.{IsChargeable, HasAccount, credit_serial, gross_sum, with_charges, with_credits}
+use Rattle.clear_views.proofs.FillLemmas.{charges_filled, credits_filled}
+
+-- ---- the base of a month
+
+-- the lines of a month sum to its base
+pub gross_of_month : (rows : List WageRow) (e m : ℕ) → gross_sum (filter (λ row. is_wage_key_of e m (wage_key row)) rows) ≡ table_base rows e m
+gross_of_month [] e m = refl
+gross_of_month (row ∷ rows) e m = told ((e == row.employer) && (m == row.month)) (same row.employer row.month) (gross_of_month rows e m)
+  where
+    same : (f n : ℕ) → (f == e) && (n == m) ≡ (e == f) && (m == n)
+    same f n = grind (arith, nat_tests)
+
+    weight : WageRow → ℕ
+    weight r = cond ((r.employer == e) && (r.month == m)) r.gross 0
+
+    others : List WageRow
+    others = filter (λ r. is_wage_key_of e m (wage_key r)) rows
+
+    told : (b : Bool) → (row.employer == e) && (row.month == m) ≡ b → gross_sum others ≡ table_base rows e m → gross_sum (cond b (row ∷ others) others) ≡ table_base (row ∷ rows) e m
+    told true is rest =
+        let here : weight row ≡ row.gross = ap (λ b. cond b row.gross 0) is in
+        omega (arith, sum_by-cons (λ (r : WageRow). r.gross) row others, sum_by-cons weight row rows, here, rest)
+    told false is rest =
+        let here : weight row ≡ 0 = ap (λ b. cond b row.gross 0) is in
+        omega (arith, sum_by-cons weight row rows, here, rest)
+
+-- ---- serials: a payment has that of its bank line, and they stay apart in another order
+
+module _ {Row : Type 0} (key other : Row → List ℕ) where
+  none_with_row : (rows : List Row) (new : Row) (k : List ℕ) → is_key (other new) k ≡ false → find_row other rows k ≡ None → find_row other (with_row key rows new) k ≡ None
+  none_with_row [] new k apart none = ap (λ b. cond b (Some new) None) apart
+  none_with_row (row ∷ rows) new k apart none =
+      let parts = other_row other row rows k none in
+      placed (is_before (key new) (key row)) parts.0 (none_with_row rows new k apart parts.1)
+    where
+      placed : (before : Bool) → is_key (other row) k ≡ false → find_row other (with_row key rows new) k ≡ None → find_row other (cond before (new ∷ row ∷ rows) (row ∷ with_row key rows new)) k ≡ None
+      placed true away rest = ap (λ b. cond b (Some new) (find_row other (row ∷ rows) k)) apart ∙ none
+      placed false away rest = ap (λ b. cond b (Some row) (find_row other (with_row key rows new) k)) away ∙ rest
+
+  once_with_row : (rows : List Row) (new : Row) → find_row other rows (other new) ≡ None → AreOnce other rows → AreOnce other (with_row key rows new)
+  once_with_row [] new none once = (refl, tt)
+  once_with_row (row ∷ rows) new none once =
+      let parts = other_row other row rows (other new) none in
+      placed (is_before (key new) (key row)) parts.0 (once_with_row rows new parts.1 once.1)
+    where
+      placed : (before : Bool) → is_key (other row) (other new) ≡ false → AreOnce other (with_row key rows new) → AreOnce other (cond before (new ∷ row ∷ rows) (row ∷ with_row key rows new))
+      placed true away rest = (none, once)
+      placed false away rest = (none_with_row rows new (other row) (is_key-sym (other row) (other new) away) once.0, rest)
+
+  still_new : (rows news : List Row) (new : Row) → find_row other news (other new) ≡ None → AreNew other rows news → AreNew other (with_row key rows new) news
+  still_new rows [] new none apart = tt
+  still_new rows (next ∷ news) new none apart =
+      let parts = other_row other next news (other new) none in
+      (none_with_row rows new (other next) (is_key-sym (other next) (other new) parts.0) apart.0, still_new rows news new parts.1 apart.1)
+
+  once_with_rows : (rows news : List Row) → AreOnce other rows → AreOnce other news → AreNew other rows news → AreOnce other (with_rows key rows news)
+  once_with_rows rows [] once more apart = once
+  once_with_rows rows (new ∷ news) once more apart =
+      once_with_rows (with_row key rows new) news (once_with_row rows new apart.0 once) more.1 (still_new rows news new more.0 apart.1)
+
+  new_to_none : (news : List Row) → AreNew other [] news
+  new_to_none [] = tt
+  new_to_none (new ∷ news) = (refl, new_to_none news)
+
+-- some of the rows
+module _ {Row : Type 0} (key : Row → List ℕ) (p : Row → Bool) where
+  none_chosen : (rows : List Row) (k : List ℕ) → find_row key rows k ≡ None → find_row key (filter p rows) k ≡ None
+  none_chosen [] k none = refl
+  none_chosen (row ∷ rows) k none =
+      let parts = other_row key row rows k none in
+      told (p row) parts.0 (none_chosen rows k parts.1)
+    where
+      told : (b : Bool) → is_key (key row) k ≡ false → find_row key (filter p rows) k ≡ None → find_row key (cond b (row ∷ filter p rows) (filter p rows)) k ≡ None
+      told true away rest = ap (λ b. cond b (Some row) (find_row key (filter p rows) k)) away ∙ rest
+      told false away rest = rest
+
+  once_chosen : (rows : List Row) → AreOnce key rows → AreOnce key (filter p rows)
+  once_chosen [] once = tt
+  once_chosen (row ∷ rows) once = told (p row) (once_chosen rows once.1)
+    where
+      told : (b : Bool) → AreOnce key (filter p rows) → AreOnce key (cond b (row ∷ filter p rows) (filter p rows))
+      told true rest = (none_chosen rows (key row) once.0, rest)
+      told false rest = rest
+
+none_paid : (s : ℕ) (rows : List BankRow) → find_row serial_key rows (s ∷ []) ≡ None → find_row credit_serial (credits_of_lines rows) (s ∷ []) ≡ None
+none_paid s [] none = refl
+none_paid s (row ∷ rows) none =
+    let parts = other_row serial_key row rows (s ∷ []) none in
+    told row.employer parts.0 (none_paid s rows parts.1)
+  where
+    told : (firm : Option ℕ) → is_key (row.serial ∷ []) (s ∷ []) ≡ false → find_row credit_serial (credits_of_lines rows) (s ∷ []) ≡ None
+        → find_row credit_serial (cons_option (credit_of_line row firm) (credits_of_lines rows)) (s ∷ []) ≡ None
+    told None other rest = rest
+    told (Some f) other rest = ap (λ b. cond b (Some (line_credit row f)) (find_row credit_serial (credits_of_lines rows) (s ∷ []))) other ∙ rest
+
+once_paid : (rows : List BankRow) → AreOnce serial_key rows → AreOnce credit_serial (credits_of_lines rows)
+once_paid [] once = tt
+once_paid (row ∷ rows) once = told row.employer (once_paid rows once.1)
+  where
+    told : (firm : Option ℕ) → AreOnce credit_serial (credits_of_lines rows) → AreOnce credit_serial (cons_option (credit_of_line row firm) (credits_of_lines rows))
+    told None rest = rest
+    told (Some f) rest = (none_paid row.serial rows once.0, rest)
+
+-- ---- a lawful book
+
+module _ (b : Book) (t : Tables) (lawful : IsLawful b) (stands : Stands b t) (e : ℕ) where
+  chargeable : (m : ℕ) → is_found e t.reports m → IsSome (rate_in_force t.rates m) × (table_base t.wages e m ≤ 5000000000)
+  chargeable m found =
+      let report = reported b t lawful stands e m found in
+      let rated : is_some (rate_in_force b.opening m) ≡ true = lawful_rated b.opening b.entries lawful e m report.0 report.1 in (
+        subst (λ (rates : List Rate). is_some (rate_in_force rates m) ≡ true) (sym stands.rates) rated,
+        omega (arith, base_same b t lawful stands e m report.0 report.1, few_base report.0 (lawful_few b.opening b.entries lawful e m report.0 report.1)),
+      )
+
+  months_chargeable : (rows : List ReportRow) → ((m : ℕ) → is_found e rows m → is_found e t.reports m) → AllByRecursion (IsChargeable t) (filter (λ row. row.employer == e) rows)
+  months_chargeable [] within = tt
+  months_chargeable (row ∷ rows) within =
+      told (row.employer == e) refl (months_chargeable rows (λ m found. within m (found_behind e row rows m found)))
+    where
+      others : List ReportRow
+      others = filter (λ r. r.employer == e) rows
+
+      same : (a : ℕ) → a == e ≡ true → a ≡ e
+      same a h = grind (arith, nat_tests)
+
+      told : (p : Bool) → row.employer == e ≡ p → AllByRecursion (IsChargeable t) others → AllByRecursion (IsChargeable t) (cond p (row ∷ others) others)
+      told true is rest =
+          let here = chargeable row.month (within row.month (found_first e row rows is)) in
+          ((here.0, subst (λ f. table_base t.wages f row.month ≤ 5000000000) (sym (same row.employer is)) here.1), rest)
+      told false is rest = rest
+
+  serials_apart : AreOnce credit_serial t.credits
+  serials_apart =
+      let paid = once_paid (lines_standing b.entries) (subst (AreOnce serial_key) (sym (standing_seen b.entries)) (serials_once b.entries)) in
+      subst (AreOnce credit_serial) (sym (credits-standing b t stands)) (once_with_rows credit_key credit_serial [] (credits_of_lines (lines_standing b.entries)) tt paid (new_to_none credit_key credit_serial (credits_of_lines (lines_standing b.entries))))
+
+  pub has_account : HasAccount t e
+  has_account = record {
+    ranges = rows_in_range b t lawful stands;
+    charges = months_chargeable t.reports (λ m found. found);
+    few_credits = subst (λ (ks : List Credit). length ks ≤ 100000) (sym (table_credits-credits_of b t stands e)) (lawful_credit_count b.opening b.entries lawful e Contribution);
+    serials = once_chosen credit_serial (is_credit_of e Contribution) t.credits serials_apart;
+  }
+
+  pub charges_read : with_charges (table_charges t e) [] ≡ charges_of b e
+  charges_read = charges_filled t e stands.reports_in_order ∙ table_charges-charges_of b t lawful stands e
+
+  pub credits_read : with_credits (table_credits t e) [] ≡ credits_of b e
+  credits_read = credits_filled t e stands.credits_in_order ∙ table_credits-credits_of b t stands e

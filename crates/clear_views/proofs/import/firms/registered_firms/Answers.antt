@@ -1,0 +1,57 @@
+use Rattle.std.proofs.Common.{◌∙◌, Ok, Err, refl}
+use Rattle.std.specs.Prelude.{⊤}
+use Rattle.sqlite.specs.Held.{state}
+use Rattle.clear_rows.proofs.Inside.{survives_both, survives_none}
+use Rattle.clear_views.specs.Imports.{firm_viewed}
+use Rattle.clear_views.proofs.ReadLemmas.{was_clean}
+use Rattle.clear_views.proofs.StillLemmas.{reads_else, reads_fault, reads_memory, reads_none, reads_then}
+use Rattle.clear_views.proofs.ImportLemmas.{found_more}
+use Rattle.clear_views.proofs.import.firms.registered_firms.Goals as goal
+
+pub loop-no-init : goal.loop-no-init
+loop-no-init g c = record {
+  same_reference = refl;
+  reads = λ clean t has. reads_none g.S.Store t ⊤ _ c.new-found.result _ tt c.new-found.ensures.items;
+  survives = survives_none (state g.S.Store c.args.tx.now.conn.now);
+}
+
+pub returns-in-Err-clause-same_reference : goal.returns-in-Err-clause-same_reference
+returns-in-Err-clause-same_reference g c = c.view_firm.ensures.same_reference ∙ c.loop-no.invariant.same_reference
+
+pub returns-in-Err-clause-survives : goal.returns-in-Err-clause-survives
+returns-in-Err-clause-survives g c = survives_both _ _ _ c.loop-no.invariant.survives c.view_firm.ensures.survives
+
+pub returns-in-Err-clause-reads : goal.returns-in-Err-clause-reads
+returns-in-Err-clause-reads g c clean t has =
+    reads_then g.S.Store t ⊤ ⊤ ⊤ c.args.tx.now.conn.now c.loop-no.tx.conn.now c.view_firm.new.tx.conn.now _ (Err c.in-Err.fault) _ _ (λ _ _. tt) has
+    (c.loop-no.invariant.reads (was_clean _ _ c.view_firm.ensures.survives clean) t has)
+    (λ still. reads_fault g.S.Store t ⊤ ⊤ _ _ c.in-Err.fault _ _ (c.in-Err.ensures.reads clean t still))
+
+pub returns-in-Err-push_found-clause-same_reference : goal.returns-in-Err-push_found-clause-same_reference
+returns-in-Err-push_found-clause-same_reference g c = c.view_firm.ensures.same_reference ∙ c.loop-no.invariant.same_reference
+
+pub returns-in-Err-push_found-clause-survives : goal.returns-in-Err-push_found-clause-survives
+returns-in-Err-push_found-clause-survives g c = survives_both _ _ _ c.loop-no.invariant.survives c.view_firm.ensures.survives
+
+pub returns-in-Err-push_found-clause-reads : goal.returns-in-Err-push_found-clause-reads
+returns-in-Err-push_found-clause-reads g c clean t has =
+    let step =
+    reads_then g.S.Store t ⊤ ⊤ ⊤ c.args.tx.now.conn.now c.loop-no.tx.conn.now c.view_firm.new.tx.conn.now _ (Ok c.in-Ok.firm) _ _ (λ _ _. tt) has
+    (c.loop-no.invariant.reads (was_clean _ _ c.view_firm.ensures.survives clean) t has)
+    (λ still. c.in-Ok.ensures.reads clean t still) in
+    reads_memory g.S.Store t _ _ _ c.in-Err-push_found.fault _ c.in-Err-push_found.ensures.memory step.kept
+
+pub loop-no-preserved : goal.loop-no-preserved
+loop-no-preserved g c = record {
+  same_reference = c.view_firm.ensures.same_reference ∙ c.loop-no.invariant.same_reference;
+  reads = λ clean t has.
+      let so_far = c.loop-no.invariant.reads (was_clean _ _ c.view_firm.ensures.survives clean) t has in
+      let step =
+      reads_then g.S.Store t ⊤ ⊤ ⊤ c.args.tx.now.conn.now c.loop-no.tx.conn.now c.view_firm.new.tx.conn.now _ (Ok c.in-Ok.firm) _ _ (λ _ _. tt) has
+      so_far
+      (λ still. c.in-Ok.ensures.reads clean t still) in
+      reads_else g.S.Store t ⊤ ⊤ _ _ c.in-Ok.firm c.push_found.new.items _ _ (λ p. p)
+      (found_more (firm_viewed c.args.serving t) c.args.firms.now c.loop-no.no-index c.no-item.result c.loop-no.found.items c.push_found.new.items.items c.in-Ok.firm c.loop-no-test.true c.no-item.is so_far.found step.found c.in-Ok-push_found.ensures.added)
+      step;
+  survives = survives_both _ _ _ c.loop-no.invariant.survives c.view_firm.ensures.survives;
+}

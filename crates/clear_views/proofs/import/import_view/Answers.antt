@@ -1,0 +1,13 @@
+use Rattle.std.proofs.Common.{ap, ◌∙◌}
+use Rattle.std.proofs.lemmas.Result.{IfOk-weaker}
+use Rattle.clear_book.specs.Lines.{lines_in}
+use Rattle.clear_schema.specs.Values.{Counts}
+use Rattle.clear_views.proofs.ImportLemmas.{view_of_read}
+use Rattle.clear_views.proofs.import.import_view.Goals as goal
+
+pub returns-clause-view : goal.returns-clause-view
+returns-clause-view g c clean t has same b lawful stands =
+    IfOk-weaker c.read_view.result _ _
+    (λ view read. view_of_read b t lawful stands c.args.file.now view c.in-Some.serials c.as_slice-2.result.now (c.in-Some.ensures.value ∙ ap (λ (counts : Counts). counts.serial) same)
+    (c.as_slice-2.ensures.value ∙ c.in-Ok.ensures.lines ∙ ap lines_in c.as_slice.ensures) read)
+    (c.read_view.ensures.reads clean t has).found

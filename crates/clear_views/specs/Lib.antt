@@ -1,0 +1,3 @@
+pub mod Imports
+pub mod Owed
+pub mod Reads

@@ -1,0 +1,191 @@
+//! What a bank file is judged by.
+ghost use Rattle.std.specs.Prelude.{◌≡◌, ◌++◌, [], IfErr, IfOk, OnOk};
+ghost use Rattle.std.specs.List.{cons_option};
+ghost use Rattle.sqlite.specs.Held.{state};
+ghost use Rattle.sqlite.specs.State.{HasCleanDisk, IsUnchanged, KeepsCommit, Survives};
+ghost use Rattle.clear_book.specs.Book.{Book};
+ghost use Rattle.clear_book.specs.Lines.{lines_in};
+ghost use Rattle.clear_book.specs.Machine.{IsLawful};
+ghost use Rattle.clear_book.specs.RowRanges.{AreInRange};
+ghost use Rattle.clear_book.specs.Tables.{Stands, Tables};
+ghost use Rattle.clear_firms.specs.Counts.{as_stored};
+ghost use Rattle.clear_rules.specs.Views.ImportBank.{IsImportView};
+ghost use Rattle.clear_schema.specs.Faults.{IsOfDisk};
+ghost use Rattle.clear_schema.specs.Held.{HasTables};
+ghost use Rattle.clear_schema.specs.Values.{counts_of};
+ghost use Rattle.clear_views.specs.Imports.{IsImportRead};
+ghost use Rattle.clear_views.specs.Reads.{Reads};
+
+mod firms;
+mod known;
+mod limits;
+
+use clear_bank::fault::BankFault;
+use clear_bank::files::read_file;
+use clear_bank::lines::BankLine;
+use clear_book::files::BankFile;
+use clear_book::limits::{MAX_CREDITS, MAX_RECORDS, MAX_SUSPENSE};
+use clear_book::numbers::SerialCount;
+use clear_book::rules::StoreCause;
+use clear_firms::counts::{Counts, find_counts};
+use clear_rules::decide::import::ImportView;
+use clear_schema::fault::Fault;
+use firms::view_firms;
+use known::known_lines;
+use limits::{count_suspense, serving};
+use sqlite::{Alter, Transaction};
+use std::alloc::Global;
+
+/// What a bank file is judged by, where these counts stand: the lines under its references, the
+/// firms that it names, and numbers for their credits and for the lines in suspense. While no more
+/// than 100,000 lines came in, those of the file among them, the serials given serve for these
+/// numbers, and none is counted. A file that can't be read has no lines: just the counts are read.
+///
+/// It costs n log n steps for n lines of the file, and one search for each of its references and
+/// for each firm that it names; once 100,000 lines came in, also each credit of these firms, and
+/// one pass over all lines. More serials than an office gives are a fault of the store.
+pub fn import_view<S: Alter>(
+    alloc: Global,
+    tx: &mut Transaction<'_, S>,
+    counts: &Counts,
+    file: &BankFile,
+) -> Result<ImportView, Fault>
+    ensures same_reference { tx.new.conn.ghost_name ≡ tx.old.conn.ghost_name }
+    ensures view { HasCleanDisk (state S.Store tx.new.conn.now)
+        → (t : Tables) → HasTables t (state S.Store tx.old.conn.now).now
+        → as_stored counts.now ≡ counts_of t → (b : Book) → IsLawful b → Stands b t
+        → IfOk result (λ view. IsImportView b file.now view) }
+    ensures fault { HasCleanDisk (state S.Store tx.new.conn.now)
+        → (t : Tables) → HasTables t (state S.Store tx.old.conn.now).now
+        → as_stored counts.now ≡ counts_of t → AreInRange t → IfErr result IsOfDisk }
+    ensures same { HasCleanDisk (state S.Store tx.new.conn.now)
+        → (t : Tables) → HasTables t (state S.Store tx.old.conn.now).now
+        → OnOk result (IsUnchanged (state S.Store tx.old.conn.now)
+        (state S.Store tx.new.conn.now)) }
+    ensures kept { HasCleanDisk (state S.Store tx.new.conn.now)
+        → (t : Tables) → HasTables t (state S.Store tx.old.conn.now).now
+        → KeepsCommit (state S.Store tx.old.conn.now) (state S.Store tx.new.conn.now) }
+    ensures survives { Survives (state S.Store tx.old.conn.now) (state S.Store tx.new.conn.now)
+        (λ _. ⊥) }
+{
+    let Some(serials) = SerialCount::new(counts.serial) else {
+        return Err(Fault::Store(StoreCause::Row));
+    };
+    let lines = match lines_of_file(alloc, file.as_slice()) {
+        Ok(lines) => lines,
+        Err(fault) => return Err(fault),
+    };
+    read_view(alloc, tx, serials, lines.as_slice())
+}
+
+// The lines of a file: none where it can't be read.
+fn lines_of_file(alloc: Global, file: &[u8]) -> Result<Vec<BankLine>, Fault>
+    ensures lines { IfOk result (λ lines. lines.items ≡ lines_in file.now) }
+    ensures memory { IfErr result (λ fault. fault ≡ Fault.Memory) }
+{
+    match read_file(alloc, file, MAX_RECORDS) {
+        Ok(lines) => Ok(lines),
+        Err(BankFault::Memory) => Err(Fault::Memory),
+        Err(BankFault::OverLimit) => Ok(Vec::new(alloc)),
+        Err(BankFault::BadCsv { .. }) => Ok(Vec::new(alloc)),
+        Err(BankFault::RefConflict { .. }) => Ok(Vec::new(alloc)),
+    }
+}
+
+// What these lines are judged by, where so many serials were given.
+fn read_view<S: Alter>(
+    alloc: Global,
+    tx: &mut Transaction<'_, S>,
+    serials: SerialCount,
+    lines: &[BankLine],
+) -> Result<ImportView, Fault>
+    ensures same_reference { tx.new.conn.ghost_name ≡ tx.old.conn.ghost_name }
+    ensures reads { HasCleanDisk (state S.Store tx.new.conn.now)
+        → (t : Tables) → HasTables t (state S.Store tx.old.conn.now).now
+        → Reads S.Store t ⊥ tx.old.conn.now tx.new.conn.now result
+        (IsImportRead t serials lines.now) }
+    ensures survives { Survives (state S.Store tx.old.conn.now) (state S.Store tx.new.conn.now)
+        (λ _. ⊥) }
+{
+    if lines.is_empty() {
+        read_none(alloc, tx, serials, lines)
+    } else {
+        read_lines(alloc, tx, serials, lines)
+    }
+}
+
+// What no lines are judged by: a connection that is shut is told, as by any other read.
+fn read_none<S: Alter>(
+    alloc: Global,
+    tx: &mut Transaction<'_, S>,
+    serials: SerialCount,
+    lines: &[BankLine],
+) -> Result<ImportView, Fault>
+    requires { lines.now ≡ [] }
+    ensures same_reference { tx.new.conn.ghost_name ≡ tx.old.conn.ghost_name }
+    ensures reads { HasCleanDisk (state S.Store tx.new.conn.now)
+        → (t : Tables) → HasTables t (state S.Store tx.old.conn.now).now
+        → Reads S.Store t ⊥ tx.old.conn.now tx.new.conn.now result
+        (IsImportRead t serials lines.now) }
+    ensures survives { Survives (state S.Store tx.old.conn.now) (state S.Store tx.new.conn.now)
+        (λ _. ⊥) }
+{
+    match find_counts(tx) {
+        Ok(_) => Ok(ImportView {
+            known: Vec::new(alloc),
+            employers: Vec::new(alloc),
+            suspense: MAX_SUSPENSE,
+            serials,
+        }),
+        Err(fault) => Err(fault),
+    }
+}
+
+// What these lines are judged by.
+fn read_lines<S: Alter>(
+    alloc: Global,
+    tx: &mut Transaction<'_, S>,
+    serials: SerialCount,
+    lines: &[BankLine],
+) -> Result<ImportView, Fault>
+    ensures same_reference { tx.new.conn.ghost_name ≡ tx.old.conn.ghost_name }
+    ensures reads { HasCleanDisk (state S.Store tx.new.conn.now)
+        → (t : Tables) → HasTables t (state S.Store tx.old.conn.now).now
+        → Reads S.Store t (lines.now ≡ []) tx.old.conn.now tx.new.conn.now result
+        (IsImportRead t serials lines.now) }
+    ensures survives { Survives (state S.Store tx.old.conn.now) (state S.Store tx.new.conn.now)
+        (λ _. ⊥) }
+{
+    let known = match known_lines(alloc, tx, lines) {
+        Ok(known) => known,
+        Err(fault) => return Err(fault),
+    };
+    let employers = match view_firms(alloc, tx, serving(serials, lines, MAX_CREDITS), lines) {
+        Ok(employers) => employers,
+        Err(fault) => return Err(fault),
+    };
+    let suspense = match count_suspense(tx, serving(serials, lines, MAX_SUSPENSE)) {
+        Ok(suspense) => suspense,
+        Err(fault) => return Err(fault),
+    };
+    Ok(ImportView {
+        known,
+        employers,
+        suspense,
+        serials,
+    })
+}
+
+// Adds what was found, if it was.
+fn push_found<T: Drop>(items: &mut Vec<T>, item: Option<T>) -> Result<(), Fault>
+    ensures added { OnOk result (items.new.items ≡ items.old.items ++ cons_option item []) }
+    ensures memory { IfErr result (λ fault. fault ≡ Fault.Memory) }
+{
+    match item {
+        Some(item) => match items.push(item) {
+            Ok(()) => Ok(()),
+            Err(_) => Err(Fault::Memory),
+        },
+        None => Ok(()),
+    }
+}

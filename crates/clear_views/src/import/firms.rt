@@ -1,0 +1,144 @@
+//! The firms that a file names.
+ghost use Rattle.std.specs.Prelude.{◌≡◌, ℕ, ⊤, IfOk, IfSome};
+ghost use Rattle.std.specs.List.{AllByRecursion, filter_map, list_any};
+ghost use Rattle.sqlite.specs.Held.{state};
+ghost use Rattle.sqlite.specs.State.{HasCleanDisk, Survives};
+ghost use Rattle.clear_book.specs.Keyed.{AreOnce};
+ghost use Rattle.clear_book.specs.Tables.{Tables};
+ghost use Rattle.clear_schema.specs.Held.{HasTables};
+ghost use Rattle.clear_rules.specs.Views.ImportBank.{employer_under};
+ghost use Rattle.clear_views.specs.Imports.{counted_firm, firm_key, firm_viewed, is_among, names};
+ghost use Rattle.clear_views.specs.Reads.{Reads};
+
+use super::limits::count_credits;
+use super::push_found;
+use clear_bank::lines::{BankLine, Purpose};
+use clear_firms::employers::find_employer;
+use clear_money::numbers::EmployerNo;
+use clear_rules::decide::import::EmployerCredits;
+use clear_schema::fault::Fault;
+use sqlite::{Alter, Transaction};
+use std::alloc::{AllocError, Global};
+use std::collections::BTreeSet;
+
+/// The registered ones of the firms that these lines name, each once.
+pub(super) fn view_firms<S: Alter>(
+    alloc: Global,
+    tx: &mut Transaction<'_, S>,
+    serving: Option<u64>,
+    lines: &[BankLine],
+) -> Result<Vec<EmployerCredits>, Fault>
+    ensures same_reference { tx.new.conn.ghost_name ≡ tx.old.conn.ghost_name }
+    ensures reads { HasCleanDisk (state S.Store tx.new.conn.now)
+        → (t : Tables) → HasTables t (state S.Store tx.old.conn.now).now
+        → Reads S.Store t ⊤ tx.old.conn.now tx.new.conn.now result
+        (λ firms. AllByRecursion (λ line. IfSome line.employer (λ e.
+        employer_under firms.items e ≡ firm_viewed serving t e)) lines.now) }
+    ensures survives { Survives (state S.Store tx.old.conn.now) (state S.Store tx.new.conn.now)
+        (λ _. ⊥) }
+{
+    match named_firms(alloc, lines) {
+        Ok(firms) => registered_firms(alloc, tx, serving, firms.as_slice()),
+        Err(_) => Err(Fault::Memory),
+    }
+}
+
+// The firms that lines name, each once.
+fn named_firms(alloc: Global, lines: &[BankLine]) -> Result<Vec<EmployerNo>, AllocError>
+    ensures named { IfOk result (λ firms.
+        (e : ℕ) → is_among e firms.items ≡ list_any (names e) lines.now) }
+    ensures once { IfOk result (λ firms. AreOnce firm_key firms.items) }
+{
+    let mut seen = BTreeSet::new(alloc);
+    let mut firms = Vec::new(alloc);
+    for line in lines {
+        if let Some(employer) = line.employer {
+            if seen.insert(employer.number())? {
+                firms.push(employer)?;
+            }
+        }
+    }
+    Ok(firms)
+}
+
+// The registered ones of these firms, in order.
+fn registered_firms<S: Alter>(
+    alloc: Global,
+    tx: &mut Transaction<'_, S>,
+    serving: Option<u64>,
+    firms: &[EmployerNo],
+) -> Result<Vec<EmployerCredits>, Fault>
+    ensures same_reference { tx.new.conn.ghost_name ≡ tx.old.conn.ghost_name }
+    ensures reads { HasCleanDisk (state S.Store tx.new.conn.now)
+        → (t : Tables) → HasTables t (state S.Store tx.old.conn.now).now
+        → Reads S.Store t ⊤ tx.old.conn.now tx.new.conn.now result
+        (λ found. found.items ≡ filter_map (firm_viewed serving t) firms.now) }
+    ensures survives { Survives (state S.Store tx.old.conn.now) (state S.Store tx.new.conn.now)
+        (λ _. ⊥) }
+{
+    let mut found = Vec::new(alloc);
+    for no in firms {
+        let firm = match view_firm(tx, serving, *no) {
+            Ok(firm) => firm,
+            Err(fault) => return Err(fault),
+        };
+        match push_found(&mut found, firm) {
+            Ok(()) => {}
+            Err(fault) => return Err(fault),
+        }
+    }
+    Ok(found)
+}
+
+// A firm, if it is registered.
+fn view_firm<S: Alter>(
+    tx: &mut Transaction<'_, S>,
+    serving: Option<u64>,
+    no: EmployerNo,
+) -> Result<Option<EmployerCredits>, Fault>
+    ensures same_reference { tx.new.conn.ghost_name ≡ tx.old.conn.ghost_name }
+    ensures reads { HasCleanDisk (state S.Store tx.new.conn.now)
+        → (t : Tables) → HasTables t (state S.Store tx.old.conn.now).now
+        → Reads S.Store t ⊤ tx.old.conn.now tx.new.conn.now result
+        (λ found. found ≡ firm_viewed serving t no) }
+    ensures survives { Survives (state S.Store tx.old.conn.now) (state S.Store tx.new.conn.now)
+        (λ _. ⊥) }
+{
+    match find_employer(tx, no) {
+        Ok(Some(_)) => match count_firm(tx, serving, no) {
+            Ok(firm) => Ok(Some(firm)),
+            Err(fault) => Err(fault),
+        },
+        Ok(None) => Ok(None),
+        Err(fault) => Err(fault),
+    }
+}
+
+// A registered firm.
+fn count_firm<S: Alter>(
+    tx: &mut Transaction<'_, S>,
+    serving: Option<u64>,
+    no: EmployerNo,
+) -> Result<EmployerCredits, Fault>
+    ensures same_reference { tx.new.conn.ghost_name ≡ tx.old.conn.ghost_name }
+    ensures reads { HasCleanDisk (state S.Store tx.new.conn.now)
+        → (t : Tables) → HasTables t (state S.Store tx.old.conn.now).now
+        → Reads S.Store t ⊤ tx.old.conn.now tx.new.conn.now result
+        (λ firm. firm ≡ counted_firm serving t no) }
+    ensures survives { Survives (state S.Store tx.old.conn.now) (state S.Store tx.new.conn.now)
+        (λ _. ⊥) }
+{
+    let contribution_count = match count_credits(tx, serving, no, Purpose::Contribution) {
+        Ok(count) => count,
+        Err(fault) => return Err(fault),
+    };
+    let interest_count = match count_credits(tx, serving, no, Purpose::Interest) {
+        Ok(count) => count,
+        Err(fault) => return Err(fault),
+    };
+    Ok(EmployerCredits {
+        employer: no,
+        contribution_count,
+        interest_count,
+    })
+}

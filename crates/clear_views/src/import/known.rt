@@ -1,0 +1,64 @@
+//! The lines that stand under the references of a file.
+ghost use Rattle.std.specs.Prelude.{◌≡◌, []};
+ghost use Rattle.std.specs.List.{filter_map};
+ghost use Rattle.sqlite.specs.Held.{state};
+ghost use Rattle.sqlite.specs.State.{HasCleanDisk, Survives};
+ghost use Rattle.clear_book.specs.Tables.{Tables};
+ghost use Rattle.clear_schema.specs.Held.{HasTables};
+ghost use Rattle.clear_views.specs.Imports.{line_found};
+ghost use Rattle.clear_views.specs.Reads.{Reads};
+
+use super::push_found;
+use clear_bank::lines::BankLine;
+use clear_ledger::bank::find_line;
+use clear_schema::fault::Fault;
+use sqlite::{Alter, Transaction};
+use std::alloc::Global;
+
+/// For each of these lines what stands under its reference, in order.
+pub(super) fn known_lines<S: Alter>(
+    alloc: Global,
+    tx: &mut Transaction<'_, S>,
+    lines: &[BankLine],
+) -> Result<Vec<BankLine>, Fault>
+    ensures same_reference { tx.new.conn.ghost_name ≡ tx.old.conn.ghost_name }
+    ensures reads { HasCleanDisk (state S.Store tx.new.conn.now)
+        → (t : Tables) → HasTables t (state S.Store tx.old.conn.now).now
+        → Reads S.Store t (lines.now ≡ []) tx.old.conn.now tx.new.conn.now result
+        (λ known. known.items ≡ filter_map (line_found t) lines.now) }
+    ensures survives { Survives (state S.Store tx.old.conn.now) (state S.Store tx.new.conn.now)
+        (λ _. ⊥) }
+{
+    let mut known = Vec::new(alloc);
+    for line in lines {
+        let found = match known_line(tx, line) {
+            Ok(found) => found,
+            Err(fault) => return Err(fault),
+        };
+        match push_found(&mut known, found) {
+            Ok(()) => {}
+            Err(fault) => return Err(fault),
+        }
+    }
+    Ok(known)
+}
+
+// What stands under the reference of a line.
+fn known_line<S: Alter>(
+    tx: &mut Transaction<'_, S>,
+    line: &BankLine,
+) -> Result<Option<BankLine>, Fault>
+    ensures same_reference { tx.new.conn.ghost_name ≡ tx.old.conn.ghost_name }
+    ensures reads { HasCleanDisk (state S.Store tx.new.conn.now)
+        → (t : Tables) → HasTables t (state S.Store tx.old.conn.now).now
+        → Reads S.Store t ⊥ tx.old.conn.now tx.new.conn.now result
+        (λ found. found ≡ line_found t line.now) }
+    ensures survives { Survives (state S.Store tx.old.conn.now) (state S.Store tx.new.conn.now)
+        (λ _. ⊥) }
+{
+    match find_line(tx, &line.reference) {
+        Ok(Some(row)) => Ok(Some(row.line)),
+        Ok(None) => Ok(None),
+        Err(fault) => Err(fault),
+    }
+}

@@ -1,0 +1,77 @@
+//! How many lines are in suspense and how many credits a firm has, as far as they are counted.
+ghost use Rattle.std.specs.Prelude.{◌≡◌, IfSome, ⊤, count_by, length, unwrap_or};
+ghost use Rattle.sqlite.specs.Held.{state};
+ghost use Rattle.sqlite.specs.State.{HasCleanDisk, Survives};
+ghost use Rattle.clear_book.specs.Lines.{is_in_suspense};
+ghost use Rattle.clear_book.specs.Tables.{Tables};
+ghost use Rattle.clear_schema.specs.Held.{HasTables};
+ghost use Rattle.clear_views.specs.Imports.{IsServing, credits_viewed};
+ghost use Rattle.clear_views.specs.Reads.{Reads};
+
+use clear_bank::lines::{BankLine, Purpose};
+use clear_book::numbers::SerialCount;
+use clear_ledger::bank::lines_in_suspense;
+use clear_ledger::credits::credits_of;
+use clear_money::numbers::EmployerNo;
+use clear_schema::fault::Fault;
+use sqlite::{Alter, Transaction};
+
+/// A number that serves in place of a count that is no more than the serials given, where these
+/// lines come in: the serials, if they and the lines are within the limit.
+pub(super) fn serving(serials: SerialCount, lines: &[BankLine], limit: u64) -> Option<u64>
+    ensures { IfSome result (IsServing serials (length lines.now) limit) }
+{
+    let given = serials.count();
+    let more = lines.len() as u64;
+    if given <= limit && more <= limit - given {
+        Some(given)
+    } else {
+        None
+    }
+}
+
+/// The number that serves for the lines in suspense, or else how many there are.
+pub(super) fn count_suspense<S: Alter>(
+    tx: &mut Transaction<'_, S>,
+    serving: Option<u64>,
+) -> Result<u64, Fault>
+    ensures same_reference { tx.new.conn.ghost_name ≡ tx.old.conn.ghost_name }
+    ensures reads { HasCleanDisk (state S.Store tx.new.conn.now)
+        → (t : Tables) → HasTables t (state S.Store tx.old.conn.now).now
+        → Reads S.Store t ⊤ tx.old.conn.now tx.new.conn.now result
+        (λ count. count ≡ unwrap_or serving (count_by is_in_suspense t.bank)) }
+    ensures survives { Survives (state S.Store tx.old.conn.now) (state S.Store tx.new.conn.now)
+        (λ _. ⊥) }
+{
+    if let Some(number) = serving {
+        return Ok(number);
+    }
+    match lines_in_suspense(tx) {
+        Ok(lines) => Ok(lines.len() as u64),
+        Err(fault) => Err(fault),
+    }
+}
+
+/// The number that serves for the credits of a firm for a purpose, or else how many there are.
+pub(super) fn count_credits<S: Alter>(
+    tx: &mut Transaction<'_, S>,
+    serving: Option<u64>,
+    no: EmployerNo,
+    purpose: Purpose,
+) -> Result<u64, Fault>
+    ensures same_reference { tx.new.conn.ghost_name ≡ tx.old.conn.ghost_name }
+    ensures reads { HasCleanDisk (state S.Store tx.new.conn.now)
+        → (t : Tables) → HasTables t (state S.Store tx.old.conn.now).now
+        → Reads S.Store t ⊤ tx.old.conn.now tx.new.conn.now result
+        (λ count. count ≡ credits_viewed serving t no purpose) }
+    ensures survives { Survives (state S.Store tx.old.conn.now) (state S.Store tx.new.conn.now)
+        (λ _. ⊥) }
+{
+    if let Some(number) = serving {
+        return Ok(number);
+    }
+    match credits_of(tx, no, purpose) {
+        Ok(credits) => Ok(credits.len() as u64),
+        Err(fault) => Err(fault),
+    }
+}

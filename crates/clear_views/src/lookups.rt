@@ -1,0 +1,75 @@
+//! What is found under one key: the version of a month's report, and the rates of a month.
+ghost use Rattle.std.specs.Prelude.{◌≡◌, IfErr, IfOk, OnOk};
+ghost use Rattle.sqlite.specs.Held.{state};
+ghost use Rattle.sqlite.specs.State.{HasCleanDisk, IsUnchanged, KeepsCommit, Survives};
+ghost use Rattle.clear_money.specs.Rates.{rate_in_force};
+ghost use Rattle.clear_book.specs.RowRanges.{AreInRange};
+ghost use Rattle.clear_book.specs.Tables.{Tables, version_at};
+ghost use Rattle.clear_schema.specs.Faults.{IsOfDisk};
+ghost use Rattle.clear_schema.specs.Held.{HasTables};
+
+use clear_firms::rates::rate_table;
+use clear_firms::reports::find_report;
+use clear_money::months::Month;
+use clear_money::numbers::EmployerNo;
+use clear_money::rates::RateRow;
+use clear_schema::fault::Fault;
+use sqlite::{Alter, Transaction};
+
+// The version of a month's latest report, if it has one.
+pub(crate) fn version_of<S: Alter>(
+    tx: &mut Transaction<'_, S>,
+    employer: EmployerNo,
+    month: Month,
+) -> Result<Option<u32>, Fault>
+    ensures same_reference { tx.new.conn.ghost_name ≡ tx.old.conn.ghost_name }
+    ensures version { HasCleanDisk (state S.Store tx.new.conn.now)
+        → (t : Tables) → HasTables t (state S.Store tx.old.conn.now).now
+        → IfOk result (λ version. version ≡ version_at t.reports employer month) }
+    ensures fault { HasCleanDisk (state S.Store tx.new.conn.now)
+        → (t : Tables) → HasTables t (state S.Store tx.old.conn.now).now
+        → AreInRange t → IfErr result IsOfDisk }
+    ensures same { HasCleanDisk (state S.Store tx.new.conn.now)
+        → (t : Tables) → HasTables t (state S.Store tx.old.conn.now).now
+        → OnOk result (IsUnchanged (state S.Store tx.old.conn.now)
+        (state S.Store tx.new.conn.now)) }
+    ensures kept { HasCleanDisk (state S.Store tx.new.conn.now)
+        → (t : Tables) → HasTables t (state S.Store tx.old.conn.now).now
+        → KeepsCommit (state S.Store tx.old.conn.now) (state S.Store tx.new.conn.now) }
+    ensures survives { Survives (state S.Store tx.old.conn.now) (state S.Store tx.new.conn.now)
+        (λ _. ⊥) }
+{
+    match find_report(tx, employer, month) {
+        Ok(Some(row)) => Ok(Some(row.version)),
+        Ok(None) => Ok(None),
+        Err(fault) => Err(fault),
+    }
+}
+
+// The rate row in force for a month, if there is one.
+pub(crate) fn rate_for<S: Alter>(
+    tx: &mut Transaction<'_, S>,
+    month: Month,
+) -> Result<Option<RateRow>, Fault>
+    ensures same_reference { tx.new.conn.ghost_name ≡ tx.old.conn.ghost_name }
+    ensures row { HasCleanDisk (state S.Store tx.new.conn.now)
+        → (t : Tables) → HasTables t (state S.Store tx.old.conn.now).now
+        → IfOk result (λ row. row ≡ rate_in_force t.rates month) }
+    ensures fault { HasCleanDisk (state S.Store tx.new.conn.now)
+        → (t : Tables) → HasTables t (state S.Store tx.old.conn.now).now
+        → AreInRange t → IfErr result IsOfDisk }
+    ensures same { HasCleanDisk (state S.Store tx.new.conn.now)
+        → (t : Tables) → HasTables t (state S.Store tx.old.conn.now).now
+        → OnOk result (IsUnchanged (state S.Store tx.old.conn.now)
+        (state S.Store tx.new.conn.now)) }
+    ensures kept { HasCleanDisk (state S.Store tx.new.conn.now)
+        → (t : Tables) → HasTables t (state S.Store tx.old.conn.now).now
+        → KeepsCommit (state S.Store tx.old.conn.now) (state S.Store tx.new.conn.now) }
+    ensures survives { Survives (state S.Store tx.old.conn.now) (state S.Store tx.new.conn.now)
+        (λ _. ⊥) }
+{
+    match rate_table(tx) {
+        Ok(rates) => Ok(rates.in_force(month).copied()),
+        Err(fault) => Err(fault),
+    }
+}

@@ -1,0 +1,102 @@
+//! What a registration is judged by.
+ghost use Rattle.std.specs.Prelude.{◌≡◌, if◌then◌else◌, length, nat_lt, IfErr, IfOk, IsTrue};
+ghost use Rattle.std.specs.Prelude.{OnOk};
+ghost use Rattle.sqlite.specs.Held.{state};
+ghost use Rattle.sqlite.specs.State.{HasCleanDisk, IsUnchanged, KeepsCommit, Survives};
+ghost use Rattle.clear_book.specs.Book.{Book};
+ghost use Rattle.clear_book.specs.Limits.{most_employers};
+ghost use Rattle.clear_book.specs.RowRanges.{AreInRange};
+ghost use Rattle.clear_book.specs.Tables.{Tables, Stands};
+ghost use Rattle.clear_schema.specs.Faults.{IsOfDisk};
+ghost use Rattle.clear_schema.specs.Held.{HasTables};
+ghost use Rattle.clear_schema.specs.Values.{counts_of};
+ghost use Rattle.clear_firms.specs.Counts.{as_stored};
+ghost use Rattle.clear_rules.specs.Views.Register.{IsRegisterView};
+
+use crate::lookups::rate_for;
+use crate::start::start_of;
+use clear_book::calls::Registration;
+use clear_book::limits::MAX_EMPLOYERS;
+use clear_firms::counts::Counts;
+use clear_firms::employers::all_employers;
+use clear_rules::decide::register::RegisterView;
+use clear_schema::fault::Fault;
+use sqlite::{Alter, Transaction};
+
+/// What a registration is judged by: whether the firm is registered, whether a rate row is in force
+/// for its first member month, and how many firms there are, `counts` being the counts that stand.
+/// While there are fewer than 10,000 entries, their number serves, since each firm is one of them;
+/// else all firms are read. Where the rows lie in their ranges, no fault is one of a key or of a
+/// row.
+pub fn register_view<S: Alter>(
+    tx: &mut Transaction<'_, S>,
+    counts: &Counts,
+    registration: &Registration,
+) -> Result<RegisterView, Fault>
+    ensures same_reference { tx.new.conn.ghost_name ≡ tx.old.conn.ghost_name }
+    ensures view { HasCleanDisk (state S.Store tx.new.conn.now)
+        → (t : Tables) → HasTables t (state S.Store tx.old.conn.now).now
+        → as_stored counts.now ≡ counts_of t → (b : Book) → Stands b t
+        → IfOk result (IsRegisterView b registration.now) }
+    ensures fault { HasCleanDisk (state S.Store tx.new.conn.now)
+        → (t : Tables) → HasTables t (state S.Store tx.old.conn.now).now
+        → AreInRange t → IfErr result IsOfDisk }
+    ensures same { HasCleanDisk (state S.Store tx.new.conn.now)
+        → (t : Tables) → HasTables t (state S.Store tx.old.conn.now).now
+        → OnOk result (IsUnchanged (state S.Store tx.old.conn.now)
+        (state S.Store tx.new.conn.now)) }
+    ensures kept { HasCleanDisk (state S.Store tx.new.conn.now)
+        → (t : Tables) → HasTables t (state S.Store tx.old.conn.now).now
+        → KeepsCommit (state S.Store tx.old.conn.now) (state S.Store tx.new.conn.now) }
+    ensures survives { Survives (state S.Store tx.old.conn.now) (state S.Store tx.new.conn.now)
+        (λ _. ⊥) }
+{
+    let registered = match start_of(tx, registration.employer) {
+        Ok(start) => start.is_some(),
+        Err(fault) => return Err(fault),
+    };
+    let has_rate = match rate_for(tx, registration.start) {
+        Ok(row) => row.is_some(),
+        Err(fault) => return Err(fault),
+    };
+    let employer_count = match count_employers(tx, counts.entries) {
+        Ok(count) => count,
+        Err(fault) => return Err(fault),
+    };
+    Ok(RegisterView {
+        registered,
+        employer_count,
+        has_rate,
+    })
+}
+
+// The number of entries, while one more firm than that stays within the limit; else how many firms
+// there are.
+fn count_employers<S: Alter>(tx: &mut Transaction<'_, S>, entries: u64) -> Result<u64, Fault>
+    ensures same_reference { tx.new.conn.ghost_name ≡ tx.old.conn.ghost_name }
+    ensures count { HasCleanDisk (state S.Store tx.new.conn.now)
+        → (t : Tables) → HasTables t (state S.Store tx.old.conn.now).now
+        → IfOk result (λ count. count
+        ≡ if nat_lt entries most_employers then entries else length t.employers) }
+    ensures fault { HasCleanDisk (state S.Store tx.new.conn.now)
+        → (t : Tables) → HasTables t (state S.Store tx.old.conn.now).now
+        → AreInRange t → IfErr result IsOfDisk }
+    ensures same { HasCleanDisk (state S.Store tx.new.conn.now)
+        → (t : Tables) → HasTables t (state S.Store tx.old.conn.now).now
+        → IsTrue (state S.Store tx.old.conn.now).is_open
+        → OnOk result (IsUnchanged (state S.Store tx.old.conn.now)
+        (state S.Store tx.new.conn.now)) }
+    ensures kept { HasCleanDisk (state S.Store tx.new.conn.now)
+        → (t : Tables) → HasTables t (state S.Store tx.old.conn.now).now
+        → KeepsCommit (state S.Store tx.old.conn.now) (state S.Store tx.new.conn.now) }
+    ensures survives { Survives (state S.Store tx.old.conn.now) (state S.Store tx.new.conn.now)
+        (λ _. ⊥) }
+{
+    if entries < MAX_EMPLOYERS {
+        return Ok(entries);
+    }
+    match all_employers(tx) {
+        Ok(rows) => Ok(rows.len() as u64),
+        Err(fault) => Err(fault),
+    }
+}

@@ -1,0 +1,68 @@
+//! What a report or a correction is judged by.
+ghost use Rattle.std.specs.Prelude.{◌≡◌, IfErr, IfOk, OnOk};
+ghost use Rattle.sqlite.specs.Held.{state};
+ghost use Rattle.sqlite.specs.State.{HasCleanDisk, IsUnchanged, KeepsCommit, Survives};
+ghost use Rattle.clear_money.specs.Rates.{rate_in_force};
+ghost use Rattle.clear_book.specs.Book as book;
+ghost use Rattle.clear_book.specs.RowRanges.{AreInRange};
+ghost use Rattle.clear_book.specs.Tables.{Tables, member_at, version_at};
+ghost use Rattle.clear_schema.specs.Faults.{IsOfDisk};
+ghost use Rattle.clear_schema.specs.Held.{HasTables};
+
+use crate::lookups::{rate_for, version_of};
+use crate::start::start_of;
+use clear_book::calls::WageReport;
+use clear_rules::decide::report::ReportView;
+use clear_schema::fault::Fault;
+use sqlite::{Alter, Transaction};
+
+/// What a report or a correction is judged by: the firm's first member month, the version of the
+/// month's latest report, 1 to 10,000, and the rate row in force for the month, each if there is
+/// one. Where the rows lie in their ranges, no fault is one of a key or of a row.
+pub fn report_view<S: Alter>(
+    tx: &mut Transaction<'_, S>,
+    report: &WageReport,
+) -> Result<ReportView, Fault>
+    ensures same_reference { tx.new.conn.ghost_name ≡ tx.old.conn.ghost_name }
+    ensures start { HasCleanDisk (state S.Store tx.new.conn.now)
+        → (t : Tables) → HasTables t (state S.Store tx.old.conn.now).now
+        → IfOk result (λ view. view.start
+        ≡ book.start_of (member_at t.employers report.now.employer)) }
+    ensures version { HasCleanDisk (state S.Store tx.new.conn.now)
+        → (t : Tables) → HasTables t (state S.Store tx.old.conn.now).now
+        → IfOk result (λ view. view.version
+        ≡ version_at t.reports report.now.employer report.now.month) }
+    ensures row { HasCleanDisk (state S.Store tx.new.conn.now)
+        → (t : Tables) → HasTables t (state S.Store tx.old.conn.now).now
+        → IfOk result (λ view. view.row ≡ rate_in_force t.rates report.now.month) }
+    ensures fault { HasCleanDisk (state S.Store tx.new.conn.now)
+        → (t : Tables) → HasTables t (state S.Store tx.old.conn.now).now
+        → AreInRange t → IfErr result IsOfDisk }
+    ensures same { HasCleanDisk (state S.Store tx.new.conn.now)
+        → (t : Tables) → HasTables t (state S.Store tx.old.conn.now).now
+        → OnOk result (IsUnchanged (state S.Store tx.old.conn.now)
+        (state S.Store tx.new.conn.now)) }
+    ensures kept { HasCleanDisk (state S.Store tx.new.conn.now)
+        → (t : Tables) → HasTables t (state S.Store tx.old.conn.now).now
+        → KeepsCommit (state S.Store tx.old.conn.now) (state S.Store tx.new.conn.now) }
+    ensures survives { Survives (state S.Store tx.old.conn.now) (state S.Store tx.new.conn.now)
+        (λ _. ⊥) }
+{
+    let start = match start_of(tx, report.employer) {
+        Ok(start) => start,
+        Err(fault) => return Err(fault),
+    };
+    let version = match version_of(tx, report.employer, report.month) {
+        Ok(version) => version,
+        Err(fault) => return Err(fault),
+    };
+    let row = match rate_for(tx, report.month) {
+        Ok(row) => row,
+        Err(fault) => return Err(fault),
+    };
+    Ok(ReportView {
+        start,
+        version,
+        row,
+    })
+}

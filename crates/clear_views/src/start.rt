@@ -1,0 +1,45 @@
+//! The first member month of a firm.
+ghost use Rattle.std.specs.Prelude.{◌≡◌, IfErr, IfOk, OnOk};
+ghost use Rattle.sqlite.specs.Held.{state};
+ghost use Rattle.sqlite.specs.State.{HasCleanDisk, IsUnchanged, KeepsCommit, Survives};
+ghost use Rattle.clear_book.specs.Book as book;
+ghost use Rattle.clear_book.specs.RowRanges.{AreInRange};
+ghost use Rattle.clear_book.specs.Tables.{Tables, member_at};
+ghost use Rattle.clear_schema.specs.Faults.{IsOfDisk};
+ghost use Rattle.clear_schema.specs.Held.{HasTables};
+
+use clear_firms::employers::find_employer;
+use clear_money::months::Month;
+use clear_money::numbers::EmployerNo;
+use clear_schema::fault::Fault;
+use sqlite::{Alter, Transaction};
+
+/// The first member month of a firm, if it is registered. Where the rows lie in their ranges, no
+/// fault is one of a key or of a row.
+pub fn start_of<S: Alter>(
+    tx: &mut Transaction<'_, S>,
+    employer: EmployerNo,
+) -> Result<Option<Month>, Fault>
+    ensures same_reference { tx.new.conn.ghost_name ≡ tx.old.conn.ghost_name }
+    ensures start { HasCleanDisk (state S.Store tx.new.conn.now)
+        → (t : Tables) → HasTables t (state S.Store tx.old.conn.now).now
+        → IfOk result (λ start. start ≡ book.start_of (member_at t.employers employer)) }
+    ensures fault { HasCleanDisk (state S.Store tx.new.conn.now)
+        → (t : Tables) → HasTables t (state S.Store tx.old.conn.now).now
+        → AreInRange t → IfErr result IsOfDisk }
+    ensures same { HasCleanDisk (state S.Store tx.new.conn.now)
+        → (t : Tables) → HasTables t (state S.Store tx.old.conn.now).now
+        → OnOk result (IsUnchanged (state S.Store tx.old.conn.now)
+        (state S.Store tx.new.conn.now)) }
+    ensures kept { HasCleanDisk (state S.Store tx.new.conn.now)
+        → (t : Tables) → HasTables t (state S.Store tx.old.conn.now).now
+        → KeepsCommit (state S.Store tx.old.conn.now) (state S.Store tx.new.conn.now) }
+    ensures survives { Survives (state S.Store tx.old.conn.now) (state S.Store tx.new.conn.now)
+        (λ _. ⊥) }
+{
+    match find_employer(tx, employer) {
+        Ok(Some(row)) => Ok(Some(row.start)),
+        Ok(None) => Ok(None),
+        Err(fault) => Err(fault),
+    }
+}
