@@ -4,10 +4,10 @@
 //! the sample callers and the day 2024-04-30, and writes their answers to standard output.
 #![tactic(auto)]
 
-use clear_desk::desk::serve;
-use clear_desk::samples::sample_desk;
 use clear_http::counted::Counted;
+use clear_http::desk::serve;
 use clear_http::serve::{Fault, Served};
+use clear_sample::desk::sample_desk;
 use std::process::ExitCode;
 use std::rt::Env;
 use std::{env, io};

@@ -9,7 +9,6 @@ pub mod Limits
 pub mod Lines
 pub mod Machine
 pub mod Numbers
-pub mod Offices
 pub mod Own
 pub mod Ranges
 pub mod RowRanges

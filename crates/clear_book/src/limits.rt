@@ -12,6 +12,9 @@ pub const MAX_LINES: usize = 500;
 /// The gross amount of a line, in cents.
 pub const MAX_GROSS: u64 = 10_000_000;
 
+/// The base of a month, which its contribution doesn't exceed, in cents.
+pub const MAX_BASE: u64 = 5_000_000_000;
+
 /// The versions of a month's report.
 pub const MAX_VERSIONS: u32 = 10_000;
 

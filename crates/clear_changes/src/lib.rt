@@ -6,6 +6,4 @@ pub mod changes;
 pub mod laws;
 mod note;
 mod reports;
-#[cfg(test)]
-mod tests;
 mod wages;

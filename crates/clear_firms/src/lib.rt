@@ -6,6 +6,4 @@ pub mod employers;
 mod parameters;
 pub mod rates;
 pub mod reports;
-#[cfg(test)]
-mod tests;
 pub mod wages;

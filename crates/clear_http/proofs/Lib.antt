@@ -1,1 +1,3 @@
+pub mod DeskLemmas
 pub mod ServeLemmas
+pub mod ServedLemmas

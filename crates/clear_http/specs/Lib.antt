@@ -1,1 +1,3 @@
+pub mod Desk
 pub mod Serve
+pub mod Served

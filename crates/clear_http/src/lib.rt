@@ -1,4 +1,5 @@
-//! The serve loop: the requests in a stream's bytes are answered one after another.
+//! The serve loop, and the desk that it serves: the requests in a stream's bytes are answered one
+//! after another.
 //!
 //! What was written is the answers to the items of the stream, which its bytes alone decide. After
 //! a fault it is those to the first items, whole, and a front of the next one's that isn't all of
@@ -6,10 +7,19 @@
 //! reader or writer failed, `Reads` only after all reads that a stream may make, `Memory` only
 //! where none of these is. The loop knows nothing of the trade: it goes by what a `Responder` may
 //! say.
+//!
+//! The desk is a `Responder`: an office over its store, with the keys of its callers, on one day.
+//! Whatever lawful book the store stands for, what it says to the requests of a stream are the
+//! answers of the clearing machine over that book, and the store then stands for the book that the
+//! machine leaves.
 #![tactic(auto)]
 
+pub mod desk;
 pub mod serve;
 
 pub use clear_answers::said;
 pub use clear_routes::{callers, reading, routes};
 pub use clear_wire::{counted, request};
+
+#[cfg(test)]
+mod tests;

@@ -3,5 +3,3 @@
 
 pub mod bank;
 pub mod credits;
-#[cfg(test)]
-mod tests;

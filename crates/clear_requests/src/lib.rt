@@ -7,5 +7,3 @@ mod columns;
 mod parameters;
 mod replies;
 pub mod requests;
-#[cfg(test)]
-mod tests;

@@ -4,11 +4,8 @@ ghost use Rattle.clear_book.specs.declared.outcomes.Reply.{Reply};
 ghost use Rattle.clear_requests.specs.Kept.{IsReply};
 ghost use Rattle.clear_requests.specs.Shown.{AreSmall, numbers_of};
 
-use clear_book::limits::{MAX_RECORDS, MAX_VERSIONS};
+use clear_book::limits::{MAX_BASE, MAX_RECORDS, MAX_VERSIONS};
 use clear_book::outcomes::Reply;
-
-// The contribution of a month for the greatest base, in cents.
-const MAX_CHARGE: u64 = 5_000_000_000;
 
 /// The kind of a reply, and its own numbers: 0 stands for those that it has not.
 #[derive(Clone, Copy, PartialEq, Eq)]
@@ -83,7 +80,7 @@ pub fn is_reply(reply: Reply) -> bool
     match reply {
         Reply::Done => true,
         Reply::Reported { version, charge } => {
-            1 <= version && version <= MAX_VERSIONS && charge <= MAX_CHARGE
+            1 <= version && version <= MAX_VERSIONS && charge <= MAX_BASE
         }
         Reply::Imported { new, repeats } => {
             new <= MAX_RECORDS as u64 && repeats <= MAX_RECORDS as u64

@@ -1,4 +1,3 @@
 pub mod CountsLemmas
 pub mod ImportBankLemmas
-pub mod OfficesLemmas
 pub mod ReportLemmas

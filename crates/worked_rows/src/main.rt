@@ -4,10 +4,11 @@
 //! independent model, and the gate compares the two.
 #![tactic(auto)]
 
-use clear_desk::desk::{Desk, serve};
-use clear_desk::samples::sample_desk;
 use clear_http::counted::Counted;
+use clear_http::desk::{Desk, serve};
 use clear_money::days::Day;
+use clear_sample::desk::sample_desk;
+use sqlite::Alter;
 use std::process::ExitCode;
 use std::{env, fs, io};
 
@@ -35,7 +36,7 @@ fn take_words(rt: &HostRuntime) -> Option<()> {
 }
 
 // Writes the name of a file, and the answers to its requests.
-fn serve_file(rt: &HostRuntime, desk: &mut Desk, name: &str) -> Option<()> {
+fn serve_file<S: Alter>(rt: &HostRuntime, desk: &mut Desk<S>, name: &str) -> Option<()> {
     let bytes = fs::read(rt, name).ok()?;
     println!(rt; "== {name}").ok()?;
     let mut reader = Counted::new(bytes.as_slice());

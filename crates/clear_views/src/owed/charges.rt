@@ -17,6 +17,7 @@ ghost use Rattle.clear_views.specs.Owed.{IsChargeable, gross_sum, with_charges};
 use clear_account::entries::{AccountFault, Charge};
 use clear_account::keeper::Keeper;
 use clear_account::plain::Plain;
+use clear_book::limits::MAX_BASE;
 use clear_book::rows::{ReportRow, WageRow};
 use clear_book::rules::StoreCause;
 use clear_firms::wages::wages_of;
@@ -25,9 +26,6 @@ use clear_money::months::Month;
 use clear_money::rates::{RateTable, contribution};
 use clear_schema::fault::Fault;
 use sqlite::{Alter, Transaction};
-
-// The greatest base of a month, in cents.
-const MAX_BASE: u64 = 5_000_000_000;
 
 // Adds the contributions of reported months to an account: one search for the lines of each.
 pub(super) fn add_months<S: Alter>(

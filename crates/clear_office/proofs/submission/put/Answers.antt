@@ -15,8 +15,7 @@ returns-clause-did g c clean t has counts judged caller number admitted b lawful
     let call = Do caller number day command in
     let there = judged.1 caller number admitted b lawful stands in
     let next = step b call in
-    let lawful_next = takes_lawful b call (Replied decision.reply) next (inl (sym (ap outcome_of there.0), refl)) admitted.0 lawful in
-    (
+    let lawful_next = takes_lawful b call (Replied decision.reply) next (inl (sym (ap outcome_of there.0), refl)) admitted.0 lawful in (
       (λ is. c.in-Err.ensures.cause clean t has is (change_free next t day decision.change there.1)),
       (λ is. c.in-Err.ensures.range is (change_puttable next t day decision.change c.args.counts.now lawful_next there.1 counts)),
     )

@@ -1,0 +1,107 @@
+#!/usr/bin/env python3
+"""What becomes of a firm's first account where one allocation is refused, for each in turn.
+
+    python3 bench/memory.py [PROGRAM]
+
+It starts the built program (`./clearing`'s, or the one named) once for each allocation that a run makes, with that
+one refused, and sends the requests of a first account one after another. A request that is answered
+that there is no memory is sent again, and must then have the answer that it has with ample memory:
+so nothing was done for it before. It needs gcc.
+"""
+import os
+import subprocess
+import sys
+import tempfile
+from pathlib import Path
+
+HERE = Path(__file__).resolve().parent
+PROGRAM = HERE.parent / "crates/clear_app/out/clear_app"
+FILE = (
+    "reference,value_date,employer,cents,purpose,note\n"
+    "B1,2024-02-25,1001,150000,C,\nB2,2024-04-21,1001,200000,,January rest\n"
+)
+REQUESTS = [
+    ("POST", "/employers", '{"employer":1001,"name":"Bau Nord","start":"2024-01"}'),
+    ("POST", "/employers/1001/reports/2024-01", '{"lines":[{"gross":1000000,"worker":7}]}'),
+    ("POST", "/employers/1001/reports/2024-02", '{"lines":[{"gross":500050,"worker":7}]}'),
+    ("POST", "/bank", FILE),
+    ("GET", "/employers/1001/owed", ""),
+]
+ANSWERS = [
+    b'{"done":true}',
+    b'{"charge":200000,"version":1}',
+    b'{"charge":100010,"version":1}',
+    b'{"new":2,"repeats":0}',
+    b'{"arrears":0,"charged":300010,"credited":350000,"prepaid":49990}',
+]
+
+
+def request(number, method, path, body):
+    head = f"{method} {path} HTTP/1.1\r\nHost: office\r\nOffice-Key: desk\r\n"
+    if method == "POST":
+        head += f"Request-Number: {number}\r\nContent-Length: {len(body)}\r\n"
+    return (head + "\r\n" + body).encode()
+
+
+def answer(process):
+    """The body of the next answer, or None where there is none."""
+    length = 0
+    while True:
+        line = process.stdout.readline()
+        if not line:
+            return None
+        if line.lower().startswith(b"content-length:"):
+            length = int(line.split(b":")[1])
+        if line == b"\r\n":
+            return process.stdout.read(length)
+
+
+def run(program, shim, refused):
+    """How often want of memory was told, or None where there was no office; and what it said at its end."""
+    environment = dict(os.environ, LD_PRELOAD=str(shim), REFUSE=str(refused))
+    process = subprocess.Popen(
+        [program], stdin=subprocess.PIPE, stdout=subprocess.PIPE, stderr=subprocess.PIPE, env=environment
+    )
+    told = 0
+    for number, (parts, wanted) in enumerate(zip(REQUESTS, ANSWERS), 1):
+        got = b'"rule":40'
+        tries = 0
+        while b'"rule":40' in got:
+            told += tries
+            tries = 1
+            try:
+                process.stdin.write(request(number, *parts))
+                process.stdin.flush()
+                got = answer(process)
+            except BrokenPipeError:
+                got = None
+            if got is None:
+                errors = process.stderr.read()
+                if errors == b"rule 40 Memory\n" and process.wait() == 3:
+                    return None, errors
+                sys.exit(f"allocation {refused}, request {number}: no answer, {errors}")
+        if got != wanted:
+            sys.exit(f"allocation {refused}, request {number}: {got}")
+    process.stdin.close()
+    errors = process.stderr.read()
+    process.wait()
+    return told, errors
+
+
+def main():
+    program = sys.argv[1] if len(sys.argv) > 1 else str(PROGRAM)
+    with tempfile.TemporaryDirectory() as folder:
+        shim = Path(folder) / "refuse.so"
+        subprocess.run(
+            ["gcc", "-shared", "-fPIC", "-O1", "-o", shim, HERE / "memory/refuse.c", "-ldl"], check=True
+        )
+        count = int(run(program, shim, 0)[1])
+        results = [run(program, shim, refused)[0] for refused in range(1, count + 1)]
+    ended = sum(result is None for result in results)
+    told = sum(result or 0 for result in results)
+    print(f"{count} allocations, each refused once: {ended} times the program ended with `rule 40 Memory`,")
+    print(f"{told} requests were answered with rule 40 and then as with ample memory, and every other at once.")
+
+
+if __name__ == "__main__":
+    main()

@@ -1,4 +1,0 @@
-pub mod Desk
-pub mod Office
-pub mod Samples
-pub mod Served

@@ -1,0 +1,170 @@
+-- From what is served over an office to what is served over a book.
+use Rattle.std.proofs.Common.{◌≡◌, ℕ, inl, inr, Bool, true, false, List, [], ◌∷◌, ◌++◌, Option, Result, Ok, Err, refl, sym, ap, ◌∙◌, subst}
+use Rattle.sqlite.specs.Store.{Ghosts}
+use Rattle.clear_book.specs.declared.calls.Call.{Call}
+use Rattle.clear_book.specs.declared.calls.Call.TheVariants.{Do, Ask}
+use Rattle.clear_book.specs.declared.outcomes.Outcome.{Outcome}
+use Rattle.clear_book.specs.declared.outcomes.Outcome.TheVariants.{Refused}
+use Rattle.clear_book.specs.declared.rules.Rule.{Rule}
+use Rattle.clear_book.specs.declared.rules.Rule.TheVariants.{Failed}
+use Rattle.clear_book.specs.Book.{Book}
+use Rattle.clear_book.specs.Judge.{Verdict, new_reply, kept_reply, an_answer, a_refusal, judge, outcome_of}
+use Rattle.clear_book.specs.Machine.{IsLawful, Goes, after}
+use Rattle.clear_office.specs.Office.{AtOffice, IsHonest, Keeps, Steps}
+use Rattle.clear_answers.specs.declared.said.Said.{Said}
+use Rattle.clear_answers.specs.Said.{said_of}
+use Rattle.clear_wire.specs.Head.{Heading}
+use Rattle.clear_wire.specs.Stream.{NextItem, whole, bad, ended}
+use Rattle.clear_http.specs.Serve.{Responds, Serves, ServesPart, was_done}
+use Rattle.clear_http.specs.Served.{CallSteps, RequestSteps, KeepsOn, ItemTakes, ItemsTake, IsServed, IsServedPart}
+
+-- ---- where nothing was done
+
+after_stays : (b : Book) (call : Call) (said : Verdict) → was_done (said_of (outcome_of said)) ≡ false → after b call said ≡ b
+after_stays b (Do caller number day command) (new_reply reply) none = absurd (cc none)
+after_stays b (Do caller number day command) (kept_reply reply) none = refl
+after_stays b (Do caller number day command) (an_answer answer) none = refl
+after_stays b (Do caller number day command) (a_refusal why) none = refl
+after_stays b (Ask caller day query) said none = refl
+
+-- the book stays
+stays_without_reply : (failed then : Bool) (b : Book) (call : Call) (o : Outcome) (next : Book) → was_done (said_of o) ≡ false → Goes failed then b call o next → next ≡ b
+stays_without_reply false false b call o next none (inl (is, goes)) =
+    goes ∙ after_stays b call (judge b call) (subst (λ (o : Outcome). was_done (said_of o) ≡ false) is none)
+stays_without_reply false false b call o next none (inr memory) = memory.2
+stays_without_reply false true b call o next none faults = faults.2
+stays_without_reply true true b call o next none failed = failed.1
+stays_without_reply true false b call o next none never = absurd never
+
+module _ {S : Type 0} (g : Ghosts S) where
+  pub goes_on_without_reply : (old new : AtOffice S) (call : Call) (o : Outcome) → was_done (said_of o) ≡ false
+      → (old.failed ≡ true → (o ≡ Refused Failed) × (new ≡ old)) → Steps g old call o new
+      → KeepsOn g old new
+  goes_on_without_reply old new call o none failed steps = (
+    λ is. ap (λ (a : AtOffice S). a.failed) (failed is).1 ∙ is,
+    λ honest b lawful keeps.
+        let there = steps honest b lawful keeps in
+        subst (Keeps g new) (stays_without_reply old.failed new.failed b call o there.0 none there.1) there.3,
+  )
+
+  pub goes_on_unchanged : (old new : AtOffice S) → new ≡ old → KeepsOn g old new
+  goes_on_unchanged old new same = (
+    λ is. ap (λ (a : AtOffice S). a.failed) same ∙ is,
+    λ honest b lawful keeps. subst (λ (a : AtOffice S). Keeps g a b) (sym same) keeps,
+  )
+
+-- ---- over a book
+
+module _ {S : Type 0} (g : Ghosts S) (reads : Heading → List ℕ → Result Call Rule → Type 0) where
+  -- the book after an item
+  abbrev GoesItem : AtOffice S → Book → NextItem → Said → AtOffice S → Type 0
+  GoesItem old b item told new =
+      (next : Book) × ItemTakes reads old.failed new.failed b item told next × IsLawful next × Keeps g new next
+
+  goes_call : (b : Book) (heading : Heading) (body : List ℕ) (read : Result Call Rule) → reads heading body read
+      → (old : AtOffice S) (told : Said) (new : AtOffice S) → IsHonest g new → IsLawful b → Keeps g old b
+      → CallSteps g reads read old told new
+      → GoesItem old b (whole heading body) told new
+  goes_call b heading body (Ok call) is old told new honest lawful keeps steps =
+      let there = steps.2 honest b lawful keeps in
+      (there.0, inl (Ok call, is, (steps.0, steps.1, there.1)), there.2, there.3)
+  goes_call b heading body (Err rule) is old told new honest lawful keeps steps =
+      let kept = (goes_on_unchanged g old new steps.1).1 honest b lawful keeps in
+      (b, inl (Err rule, is, (steps.0, refl, ap (λ (a : AtOffice S). a.failed) steps.1)), lawful, kept)
+
+  goes_whole : (b : Book) (heading : Heading) (body : List ℕ) (old : AtOffice S) (told : Said) (new : AtOffice S)
+      → IsHonest g new → IsLawful b → Keeps g old b → RequestSteps g reads old heading body told new
+      → GoesItem old b (whole heading body) told new
+  goes_whole b heading body old told new honest lawful keeps (inl steps) =
+      goes_call b heading body steps.0 steps.1 old told new honest lawful keeps steps.2
+  goes_whole b heading body old told new honest lawful keeps (inr none) =
+      (b, inr (none.0, refl, none.1.0), lawful, none.1.1 honest b lawful keeps)
+
+  module _ {D : Type 0} (office_of : D → AtOffice S) (IsSame : D → Type 0)
+      (responds : D → Heading → List ℕ → Said → D → Type 0)
+      (steps : (old : D) (heading : Heading) (body : List ℕ) (told : Said) (new : D) → IsSame old
+      → responds old heading body told new
+      → IsSame new × (IsHonest g (office_of new) → IsHonest g (office_of old))
+      × RequestSteps g reads (office_of old) heading body told (office_of new)) where
+    -- an end that is honest was so before
+    was_honest : (old : D) → IsSame old → (items : List NextItem) (saids : List Said) (new : D)
+        → Responds responds old items saids new → IsHonest g (office_of new) → IsHonest g (office_of old)
+    was_honest old same [] [] new runs honest = subst (λ (d : D). IsHonest g (office_of d)) runs honest
+    was_honest old same [] (told ∷ saids) new runs honest = absurd runs
+    was_honest old same (item ∷ items) [] new runs honest = absurd runs
+    was_honest old same (whole heading body ∷ items) (told ∷ saids) new runs honest =
+        let step = steps old heading body told runs.0 same runs.1 in
+        step.1 (was_honest runs.0 step.0 items saids new runs.2 honest)
+    was_honest old same (bad rule bare ∷ items) (told ∷ saids) new runs honest =
+        subst (λ (d : D). IsHonest g (office_of d)) runs.1.1
+        (was_honest runs.0 (subst IsSame (sym runs.1.1) same) items saids new runs.2 honest)
+    was_honest old same (ended ∷ items) (told ∷ saids) new runs honest = absurd runs.1
+
+    -- the book after all items
+    abbrev AllGo : D → Book → List NextItem → List Said → D → Type 0
+    AllGo old b items saids new =
+        (last : Book) × ItemsTake reads (office_of old).failed (office_of new).failed b items saids last
+        × IsLawful last × Keeps g (office_of new) last
+
+    items_go : (old : D) → IsSame old → (items : List NextItem) (saids : List Said) (new : D)
+        → Responds responds old items saids new → IsHonest g (office_of new)
+        → (b : Book) → IsLawful b → Keeps g (office_of old) b
+        → AllGo old b items saids new
+    items_go old same [] [] new runs honest b lawful keeps =
+        (b, (ap (λ (d : D). (office_of d).failed) runs, refl), lawful, subst (λ (d : D). Keeps g (office_of d) b) (sym runs) keeps)
+    items_go old same [] (told ∷ saids) new runs honest b lawful keeps = absurd runs
+    items_go old same (item ∷ items) [] new runs honest b lawful keeps = absurd runs
+    items_go old same (whole heading body ∷ items) (told ∷ saids) new runs honest b lawful keeps =
+        let step = steps old heading body told runs.0 same runs.1 in
+        let here = was_honest runs.0 step.0 items saids new runs.2 honest in
+        let one = goes_whole b heading body (office_of old) told (office_of runs.0) here lawful keeps step.2 in
+        let rest = items_go runs.0 step.0 items saids new runs.2 honest one.0 one.2 one.3 in
+        (rest.0, ((office_of runs.0).failed, one.0, one.1, rest.1), rest.2, rest.3)
+    items_go old same (bad rule bare ∷ items) (told ∷ saids) new runs honest b lawful keeps =
+        let kept : Keeps g (office_of runs.0) b = subst (λ (d : D). Keeps g (office_of d) b) (sym runs.1.1) keeps in
+        let rest = items_go runs.0 (subst IsSame (sym runs.1.1) same) items saids new runs.2 honest b lawful kept in
+        (rest.0, ((office_of runs.0).failed, b, (runs.1.0, refl, ap (λ (d : D). (office_of d).failed) runs.1.1), rest.1), rest.2, rest.3)
+    items_go old same (ended ∷ items) (told ∷ saids) new runs honest b lawful keeps = absurd runs.1
+
+    pub served : (old : D) → IsSame old → (bytes written written' : Option (List ℕ)) (new : D) (answered : ℕ)
+        → Serves responds old bytes written written' new answered → IsHonest g (office_of new)
+        → (b : Book) → IsLawful b → Keeps g (office_of old) b
+        → IsServed g reads (office_of old) b bytes written written' (office_of new) answered
+    served old same bytes written written' new answered all honest b lawful keeps =
+        let there = items_go old same all.items all.saids new all.runs honest b lawful keeps in
+        record {
+          items = all.items;
+          saids = all.saids;
+          last = there.0;
+          cut = all.cut;
+          takes = there.1;
+          wrote = all.wrote;
+          count = all.count;
+          lawful = there.2;
+          keeps = there.3;
+        }
+
+    pub served_part : (old : D) → IsSame old → (bytes written written' : Option (List ℕ)) (new : D) (answered : ℕ)
+        → ServesPart responds old bytes written written' new answered → IsHonest g (office_of new)
+        → (b : Book) → IsLawful b → Keeps g (office_of old) b
+        → IsServedPart g reads (office_of old) b bytes written written' (office_of new) answered
+    served_part old same bytes written written' new answered all honest b lawful keeps =
+        let there = items_go old same (all.items ++ all.last) (all.saids ++ all.last_said) new all.runs honest b lawful keeps in
+        record {
+          items = all.items;
+          saids = all.saids;
+          more = all.last;
+          more_said = all.last_said;
+          last = there.0;
+          begins = all.begins;
+          takes = there.1;
+          one = all.one;
+          part = all.part;
+          rest = all.rest;
+          wrote = all.wrote;
+          split = all.split;
+          proper = all.proper;
+          count = all.count;
+          lawful = there.2;
+          keeps = there.3;
+        }

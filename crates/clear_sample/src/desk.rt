@@ -1,0 +1,39 @@
+//! The desk that the programs serve.
+ghost use Rattle.std.specs.Prelude.{◌≡◌, [], codes, IfSome};
+ghost use Rattle.sqlite.specs.Files.{over_files};
+ghost use Rattle.clear_money.specs.Texts.{day_text};
+ghost use Rattle.clear_book.specs.Machine.{IsLawful};
+ghost use Rattle.clear_routes.specs.Callers.{sample_keys};
+ghost use Rattle.clear_office.specs.Office.{IsHonest, Keeps};
+ghost use Rattle.clear_sample.specs.Samples.{sample_rates};
+
+use crate::memory::office_in_memory;
+use crate::samples::{sample_day, sample_rates};
+use clear_http::desk::Desk;
+use clear_routes::callers::Directory;
+use clear_routes::routes::Routes;
+use sqlite::FileStore;
+use sqlite_disk::Memory;
+use std::alloc::Global;
+
+/// A desk over an office without requests in a new store in memory, with the sample's rates,
+/// callers and day. None where there is no memory for it.
+pub fn sample_desk(alloc: Global) -> Option<Desk<FileStore<Memory>>>
+    ensures keeps { IfSome result (λ desk. IsHonest over_files desk.office
+        → Keeps over_files desk.office (record { opening = sample_rates; entries = [] })) }
+    ensures lawful { IfSome result (λ desk.
+        IsLawful (record { opening = sample_rates; entries = [] })) }
+    ensures keys { IfSome result (λ desk. desk.directory ≡ sample_keys) }
+    ensures day { IfSome result (λ desk. day_text desk.day ≡ codes "2024-04-30") }
+{
+    let Ok(rates) = sample_rates(alloc) else {
+        return None;
+    };
+    let Ok(directory) = Directory::sample(alloc) else {
+        return None;
+    };
+    let routes = Routes::new(alloc).ok()?;
+    let day = sample_day()?;
+    let office = office_in_memory(alloc, &rates)?;
+    Some(Desk::new(alloc, office, directory, routes, day))
+}

@@ -1,0 +1,47 @@
+//! An office over a new store in memory.
+ghost use Rattle.std.specs.Prelude.{◌≡◌, false, [], IfSome};
+ghost use Rattle.sqlite.specs.Files.{file_state, over_files};
+ghost use Rattle.clear_book.specs.Machine.{IsLawful};
+ghost use Rattle.clear_schema.specs.Schema.{no_schema};
+ghost use Rattle.clear_office.specs.Office.{IsHonest, Keeps};
+
+use clear_book::ranges::rates_in_range;
+use clear_money::rates::RateTable;
+use clear_office::office::Office;
+use clear_schema::store::Store;
+use sqlite::{Connection, FileStore, Files, Options};
+use sqlite_disk::Memory;
+use std::alloc::Global;
+
+/// An office without requests over a new store in memory, with these opening rates. None where
+/// there is no memory for it.
+pub fn office_in_memory(alloc: Global, rates: &RateTable) -> Option<Office<FileStore<Memory>>>
+    ensures working { IfSome result (λ office. office.failed ≡ false) }
+    ensures keeps { IfSome result (λ office. IsHonest over_files office
+        → Keeps over_files office (record { opening = rates.now; entries = [] })) }
+    ensures lawful { IsLawful (record { opening = rates.now; entries = [] }) }
+{
+    // No effect at run time: the proof reads from this call that the rates are lawful.
+    rates_in_range(rates);
+    let conn = connection_in_memory(alloc)?;
+    match Store::create(conn, rates) {
+        Ok(store) => Some(Office::open(alloc, store)),
+        Err(_) => None,
+    }
+}
+
+// A connection on an empty database in two new files in memory. The log's salts need no secret
+// there, so their number is fixed.
+fn connection_in_memory(alloc: Global) -> Option<Connection<FileStore<Memory>>>
+    ensures mode { IfSome result (λ conn. conn.in_transaction ≡ false) }
+    ensures empty { IfSome result (λ conn. (file_state conn).now.schema ≡ no_schema) }
+{
+    let files = Files {
+        log: Memory::new(alloc),
+        db: Memory::new(alloc),
+    };
+    match Connection::open_files(alloc, files, Options::new(7)) {
+        Ok(conn) => Some(conn),
+        Err(_) => None,
+    }
+}

@@ -1,0 +1,112 @@
+//! A list of calls, taken by an office over a store in memory.
+
+use crate::memory::office_in_memory;
+use crate::samples::sample_rates;
+use clear_book::calls::{Call, Caller, Command, Query, Registration, WageReport};
+use clear_book::files::BankFile;
+use clear_book::numbers::RequestNo;
+use clear_book::outcomes::{Answer, Outcome, Reply};
+use clear_book::texts::{Name, WageLine, WageLines};
+use clear_money::days::Day;
+use clear_money::months::Month;
+use clear_money::numbers::{EmployerNo, WorkerNo};
+use std::alloc::Global;
+use std::test::Fail;
+
+const FILE: &str = "reference,value_date,employer,cents,purpose,note\n\
+    B1,2024-02-25,1001,150000,C,\nB2,2024-04-21,1001,200000,,January rest\n";
+
+fn employer() -> Option<EmployerNo> {
+    EmployerNo::new(1001)
+}
+
+fn day() -> Option<Day> {
+    Day::read(b"2024-04-30")
+}
+
+fn command(command: Command) -> Option<Call> {
+    Some(Call::Do {
+        caller: Caller::Clerk,
+        number: RequestNo::new(1)?,
+        day: day()?,
+        command,
+    })
+}
+
+fn register(alloc: Global) -> Option<Call> {
+    command(Command::Register(Registration {
+        employer: employer()?,
+        name: Name::new(String::from_str(alloc, "Bau Nord").ok()?)?,
+        start: Month::read(b"2024-01")?,
+    }))
+}
+
+fn report(alloc: Global, month: &[u8], gross: u64) -> Option<Call> {
+    let mut lines = Vec::new(alloc);
+    let worker = WorkerNo::new(7)?;
+    lines.push(WageLine { worker, gross }).ok()?;
+    command(Command::Report(WageReport {
+        employer: employer()?,
+        month: Month::read(month)?,
+        lines: WageLines::new(lines),
+    }))
+}
+
+fn import(alloc: Global) -> Option<Call> {
+    let bytes = Vec::from_slice(alloc, FILE.as_bytes()).ok()?;
+    command(Command::ImportBank(BankFile::new(bytes)))
+}
+
+fn ask() -> Option<Call> {
+    Some(Call::Ask {
+        caller: Caller::Firm(employer()?),
+        day: day()?,
+        query: Query::Owed {
+            employer: employer()?,
+        },
+    })
+}
+
+fn first_account(alloc: Global) -> Option<[Call; 5]> {
+    Some([
+        register(alloc)?,
+        report(alloc, b"2024-01", 1_000_000)?,
+        report(alloc, b"2024-02", 500_050)?,
+        import(alloc)?,
+        ask()?,
+    ])
+}
+
+fn reported(charge: u64) -> Outcome {
+    Outcome::Replied(Reply::Reported { version: 1, charge })
+}
+
+fn owed() -> Outcome {
+    Outcome::Answered(Answer::Owed {
+        charged: 300_010,
+        credited: 350_000,
+        arrears: 0,
+        prepaid: 49_990,
+    })
+}
+
+// No calls, and then a firm's first account.
+#[test]
+fn calls_one_after_another(rt: HostRuntime) -> Result<(), Fail> {
+    let alloc = rt.alloc();
+    let rates = sample_rates(alloc)?;
+    let mut office = office_in_memory(alloc, &rates).ok_or("no office")?;
+    let none = office.run(alloc, &[])?;
+    assert!(rt; none.is_empty());
+    let calls = first_account(alloc).ok_or("no calls")?;
+    let outcomes = office.run(alloc, &calls)?;
+    let wanted = [
+        Outcome::Replied(Reply::Done),
+        reported(200_000),
+        reported(100_010),
+        Outcome::Replied(Reply::Imported { new: 2, repeats: 0 }),
+        owed(),
+    ];
+    assert!(rt; outcomes.as_slice() == &wanted);
+    Ok(())
+}
