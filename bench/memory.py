@@ -6,7 +6,9 @@
 It starts the built program (`./clearing`'s, or the one named) once for each allocation that a run makes, with that
 one refused, and sends the requests of a first account one after another. A request that is answered
 that there is no memory is sent again, and must then have the answer that it has with ample memory:
-so nothing was done for it before. It needs gcc.
+so nothing was done for it before. The records lie on disks in memory: where such a disk can't grow,
+that is a fault of the store, and then each further request must be answered that the office has
+failed. It needs gcc.
 """
 import os
 import subprocess
@@ -27,6 +29,7 @@ REQUESTS = [
     ("POST", "/bank", FILE),
     ("GET", "/employers/1001/owed", ""),
 ]
+FAILED = b'{"detail":"","name":"Failed","rule":42}'
 ANSWERS = [
     b'{"done":true}',
     b'{"charge":200000,"version":1}',
@@ -57,35 +60,41 @@ def answer(process):
 
 
 def run(program, shim, refused):
-    """How often want of memory was told, or None where there was no office; and what it said at its end."""
+    """How it went: a word, how often want of memory was told, and what the program said at its end."""
     environment = dict(os.environ, LD_PRELOAD=str(shim), REFUSE=str(refused))
     process = subprocess.Popen(
         [program], stdin=subprocess.PIPE, stdout=subprocess.PIPE, stderr=subprocess.PIPE, env=environment
     )
     told = 0
+    failed = False
     for number, (parts, wanted) in enumerate(zip(REQUESTS, ANSWERS), 1):
-        got = b'"rule":40'
-        tries = 0
-        while b'"rule":40' in got:
-            told += tries
-            tries = 1
-            try:
-                process.stdin.write(request(number, *parts))
-                process.stdin.flush()
-                got = answer(process)
-            except BrokenPipeError:
-                got = None
-            if got is None:
-                errors = process.stderr.read()
-                if errors == b"rule 40 Memory\n" and process.wait() == 3:
-                    return None, errors
-                sys.exit(f"allocation {refused}, request {number}: no answer, {errors}")
-        if got != wanted:
+        got = ask(process, number, parts)
+        if got is not None and b'"rule":40' in got:
+            told += 1
+            got = ask(process, number, parts)
+        if got is None:
+            errors = process.stderr.read()
+            if errors == b"rule 40 Memory\n" and process.wait() == 3:
+                return "ended", told, errors
+            sys.exit(f"allocation {refused}, request {number}: no answer, {errors}")
+        if not failed and b'"rule":41' in got:
+            failed = True
+        elif got != (FAILED if failed else wanted):
             sys.exit(f"allocation {refused}, request {number}: {got}")
     process.stdin.close()
     errors = process.stderr.read()
     process.wait()
-    return told, errors
+    return "failed" if failed else "served", told, errors
+
+
+def ask(process, number, parts):
+    """The answer to a request, or None where there is none."""
+    try:
+        process.stdin.write(request(number, *parts))
+        process.stdin.flush()
+        return answer(process)
+    except BrokenPipeError:
+        return None
 
 
 def main():
@@ -95,12 +104,16 @@ def main():
         subprocess.run(
             ["gcc", "-shared", "-fPIC", "-O1", "-o", shim, HERE / "memory/refuse.c", "-ldl"], check=True
         )
-        count = int(run(program, shim, 0)[1])
-        results = [run(program, shim, refused)[0] for refused in range(1, count + 1)]
-    ended = sum(result is None for result in results)
-    told = sum(result or 0 for result in results)
-    print(f"{count} allocations, each refused once: {ended} times the program ended with `rule 40 Memory`,")
-    print(f"{told} requests were answered with rule 40 and then as with ample memory, and every other at once.")
+        count = int(run(program, shim, 0)[2])
+        runs = [run(program, shim, refused) for refused in range(1, count + 1)]
+    ended = sum(how == "ended" for how, _, _ in runs)
+    failed = sum(how == "failed" for how, _, _ in runs)
+    told = sum(told for _, told, _ in runs)
+    print(f"{count} allocations, each refused once:")
+    print(f"  {ended} times the program ended with `rule 40 Memory`, before it had an office or in the stream;")
+    print(f"  {failed} times a disk in memory could not grow: rule 41, and then rule 42;")
+    print(f"  {told} requests were answered with rule 40, and sent again as with ample memory;")
+    print("  every other request was answered as with ample memory at once.")
 
 
 if __name__ == "__main__":

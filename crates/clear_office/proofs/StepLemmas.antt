@@ -10,22 +10,21 @@ use Rattle.clear_book.specs.declared.outcomes.Outcome.{Outcome}
 use Rattle.clear_book.specs.declared.outcomes.Outcome.TheVariants.{Replied, Answered, Refused}
 use Rattle.clear_book.specs.declared.outcomes.Reply.{Reply}
 use Rattle.clear_book.specs.declared.rules.Rule.{Rule}
-use Rattle.clear_book.specs.declared.rules.Rule.TheVariants.{Memory, Store}
+use Rattle.clear_book.specs.declared.rules.Rule.TheVariants.{Store}
 use Rattle.clear_book.specs.declared.rules.StoreCause.{StoreCause}
 use Rattle.clear_book.specs.declared.rules.StoreCause.TheVariants.{Constraint, Row, Other}
 use Rattle.clear_book.specs.Book.{Book}
 use Rattle.clear_book.specs.Judge.{a_refusal, an_answer, judge, outcome_of}
-use Rattle.clear_book.specs.Machine.{Goes, IsLawful, Takes, after, is_allowed, step}
+use Rattle.clear_book.specs.Machine.{Goes, IsLawful, Takes, is_allowed, step}
 use Rattle.clear_book.specs.Tables.{Tables, Stands}
 use Rattle.clear_book.proofs.LimitsLemmas.{takes_lawful}
 use Rattle.clear_schema.specs.declared.body.Stop.{Stop}
 use Rattle.clear_schema.specs.declared.body.Stop.TheVariants as stop
-use Rattle.clear_schema.specs.declared.fault.Fault.{Fault}
 use Rattle.clear_schema.specs.declared.fault.Fault.TheVariants as fault
 use Rattle.clear_schema.specs.Faults.{IsOfDisk}
 use Rattle.clear_schema.specs.Held.{HasTables, StandsFor}
 use Rattle.clear_office.specs.Bodies.{Accepts, Fails, FailsBy, IsAdmitted, Refuses, Tells, TellsOf}
-use Rattle.clear_office.specs.Office.{AtOffice, Holds, IsHonest, KeepsUnless, Steps}
+use Rattle.clear_office.specs.Office.{AtOffice, Holds, KeepsUnless, Steps}
 
 -- a cause that no key and no row is to blame for
 other_cause : (cause : StoreCause) → IsOfDisk (fault.Store cause) → cause ≡ Other

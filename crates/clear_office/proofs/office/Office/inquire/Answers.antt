@@ -1,4 +1,4 @@
-use Rattle.std.proofs.Common.{◌≡◌, ◌∙◌, inl, inr, sym, ap}
+use Rattle.std.proofs.Common.{◌∙◌, ap}
 use Rattle.clear_book.specs.declared.calls.Call.TheVariants.{Ask}
 use Rattle.clear_book.specs.declared.outcomes.Outcome.TheVariants.{Answered, Refused}
 use Rattle.clear_book.specs.Machine.{after}
