@@ -107,6 +107,6 @@ fn calls_one_after_another(rt: HostRuntime) -> Result<(), Fail> {
         Outcome::Replied(Reply::Imported { new: 2, repeats: 0 }),
         owed(),
     ];
-    assert!(rt; outcomes.as_slice() == &wanted);
+    assert!(rt; outcomes.as_slice() == wanted.as_slice());
     Ok(())
 }
