@@ -6,9 +6,9 @@
 It starts the built program (`./clearing`'s, or the one named) once for each allocation that a run makes, with that
 one refused, and sends the requests of a first account one after another. A request that is answered
 that there is no memory is sent again, and must then have the answer that it has with ample memory:
-so nothing was done for it before. The records lie on disks in memory: where such a disk can't grow,
-that is a fault of the store, and then each further request must be answered that the office has
-failed. It needs gcc.
+so nothing was done for it before. The records lie on disks in memory, which keep a copy of what is
+synced: where there is no memory for that, it is a fault of the store, and then each further request
+must be answered that the office has failed. It needs gcc.
 """
 import os
 import subprocess
@@ -75,7 +75,7 @@ def run(program, shim, refused):
         if got is None:
             errors = process.stderr.read()
             if errors == b"rule 40 Memory\n" and process.wait() == 3:
-                return "ended", told, errors
+                return "ended" if number > 1 else "unbegun", told, errors
             sys.exit(f"allocation {refused}, request {number}: no answer, {errors}")
         if not failed and b'"rule":41' in got:
             failed = True
@@ -106,12 +106,13 @@ def main():
         )
         count = int(run(program, shim, 0)[2])
         runs = [run(program, shim, refused) for refused in range(1, count + 1)]
-    ended = sum(how == "ended" for how, _, _ in runs)
-    failed = sum(how == "failed" for how, _, _ in runs)
+    unbegun, ended, failed = (
+        sum(how == word for how, _, _ in runs) for word in ("unbegun", "ended", "failed")
+    )
     told = sum(told for _, told, _ in runs)
     print(f"{count} allocations, each refused once:")
-    print(f"  {ended} times the program ended with `rule 40 Memory`, before it had an office or in the stream;")
-    print(f"  {failed} times a disk in memory could not grow: rule 41, and then rule 42;")
+    print(f"  {unbegun} times the program ended with `rule 40 Memory` before its first answer, {ended} times later;")
+    print(f"  {failed} times a disk in memory could not be synced: rule 41, and then rule 42;")
     print(f"  {told} requests were answered with rule 40, and sent again as with ample memory;")
     print("  every other request was answered as with ample memory at once.")
 
