@@ -2,22 +2,26 @@
 use Rattle.std.specs.Prelude.{ℕ, Bool, ◌||◌, ◌&&◌, ◌==◌, nat_le, List, [], ◌++◌, length, codes}
 use Rattle.std.specs.Prelude.{if◌then◌else◌}
 use Rattle.std.specs.Fmt.{decimal}
+use Rattle.serde_json.specs.Data.{string}
+use Rattle.serde_json.specs.Written.{compact_text}
 use Rattle.clear_money.specs.Texts.{day_text, month_text}
 use Rattle.clear_book.specs.Rules.{number_of, name_of, carried_by}
-use Rattle.clear_book.specs.Rules.{word_of, member_word, table_word}
+use Rattle.clear_book.specs.Rules.{word_of, table_word}
 use Rattle.clear_book.specs.declared.outcomes.Reply.{Reply}
 use Rattle.clear_book.specs.declared.outcomes.Reply.TheVariants.{Done, Reported, Imported}
 use Rattle.clear_book.specs.declared.outcomes.Answer.{Answer}
 use Rattle.clear_book.specs.declared.outcomes.Answer.TheVariants.{Owed}
 use Rattle.clear_book.specs.declared.rules.Carried.{Carried}
-use Rattle.clear_book.specs.declared.rules.Carried.TheVariants.{Nothing, Member, Day, Month}
-use Rattle.clear_book.specs.declared.rules.Carried.TheVariants.{Number, Field, Limit, Table}
+use Rattle.clear_book.specs.declared.rules.Carried.TheVariants.{Nothing, Day, Month, Number}
+use Rattle.clear_book.specs.declared.rules.Carried.TheVariants.{Field, Limit, Table}
 use Rattle.clear_wire.specs.declared.rule.FramingStatus.TheVariants.{NotImplemented}
 use Rattle.clear_wire.specs.declared.rule.FramingStatus.TheVariants.{ExpectationFailed}
 use Rattle.clear_wire.specs.declared.rule.FramingStatus.TheVariants.{LengthRequired, BadRequest}
-use Rattle.clear_answers.specs.declared.said.Extra.{Extra}
-use Rattle.clear_answers.specs.declared.said.Extra.TheVariants as extra
-use Rattle.clear_answers.specs.declared.said.Refused.{Refused}
+use Rattle.clear_bodies.specs.Faults as faults
+use Rattle.clear_paths.specs.Allowed.{allow_text}
+use Rattle.clear_routes.specs.declared.refused.Extra.{Extra}
+use Rattle.clear_routes.specs.declared.refused.Extra.TheVariants as extra
+use Rattle.clear_routes.specs.declared.refused.Refused.{Refused}
 use Rattle.clear_answers.specs.declared.said.Said.{Said}
 use Rattle.clear_answers.specs.declared.said.Said.TheVariants as said
 
@@ -28,6 +32,8 @@ framing_status (extra.Status ExpectationFailed) = codes "417 Expectation Failed"
 framing_status (extra.Status LengthRequired) = codes "411 Length Required"
 framing_status (extra.Status BadRequest) = codes "400 Bad Request"
 framing_status extra.Nothing = codes "400 Bad Request"
+framing_status (extra.Allow allow) = codes "400 Bad Request"
+framing_status (extra.Member member) = codes "400 Bad Request"
 
 -- the status of a refusal by the rule of this number, whose answer tells this beside it
 abbrev pub status_by : ℕ → Extra → List ℕ
@@ -49,11 +55,10 @@ status_of (said.Reply reply) = codes "200 OK"
 status_of (said.Answer answer) = codes "200 OK"
 status_of (said.No refused) = status_by (number_of refused.rule) refused.extra
 
--- the detail of a rule that carries this: a word, a day, a month, a number in decimal, or a record
--- of a file and its field
+-- what a rule carries, as a text: a day, a month, a number in decimal, a record of a file and its
+-- field, or a word
 abbrev pub carried_text : Carried → List ℕ
 carried_text Nothing = []
-carried_text (Member member) = member_word member
 carried_text (Day day) = day_text day
 carried_text (Month month) = month_text month
 carried_text (Number number) = decimal number
@@ -61,11 +66,27 @@ carried_text (Field line field) = decimal line ++ codes ":" ++ decimal field
 carried_text (Limit limit) = word_of limit
 carried_text (Table table) = table_word table
 
--- the body of a refusal: the detail, the name and the number of its rule
+-- the detail where a refusal tells this beside a rule that carries that: the word for the part of
+-- the request that is wrong, else what the rule carries
+abbrev pub detail_by : Extra → Carried → List ℕ
+detail_by (extra.Member member) carried = faults.word_of (faults.part_of member)
+detail_by extra.Nothing carried = carried_text carried
+detail_by (extra.Status status) carried = carried_text carried
+detail_by (extra.Allow allow) carried = carried_text carried
+
+-- the detail of a refusal
+abbrev pub detail_of : Refused → List ℕ
+detail_of refused = detail_by refused.extra (carried_by refused.rule)
+
+-- a text as JSON writes it: in quotation marks, with escapes
+abbrev pub quoted : List ℕ → List ℕ
+quoted text = compact_text (string text)
+
+-- the body of a refusal: the detail as JSON writes a text, the name and the number of its rule
 unfoldable pub refused_body : Refused → List ℕ
 refused_body refused =
-    codes "{\"detail\":\"" ++ carried_text (carried_by refused.rule)
-    ++ codes "\",\"name\":\"" ++ name_of refused.rule
+    codes "{\"detail\":" ++ quoted (detail_of refused)
+    ++ codes ",\"name\":\"" ++ name_of refused.rule
     ++ codes "\",\"rule\":" ++ decimal (number_of refused.rule)
     ++ codes "}"
 
@@ -96,12 +117,21 @@ body_of (said.Reply reply) = reply_body reply
 body_of (said.Answer answer) = query_body answer
 body_of (said.No refused) = refused_body refused
 
--- the field that asks for a key, where the rule is that of an unknown key
-abbrev pub key_field : Said → List ℕ
-key_field (said.Reply reply) = []
-key_field (said.Answer answer) = []
-key_field (said.No refused) =
-    if number_of refused.rule == 6 then codes "WWW-Authenticate: Office-Key\r\n" else []
+-- the field that lists the methods of a path, where a refusal tells them
+abbrev pub allow_field : Extra → List ℕ
+allow_field (extra.Allow allow) = codes "Allow: " ++ allow_text allow ++ codes "\r\n"
+allow_field extra.Nothing = []
+allow_field (extra.Status status) = []
+allow_field (extra.Member member) = []
+
+-- the further field of a refusal: where the rule is that of an unknown key, the one that asks for
+-- a key, else the one that lists the methods
+abbrev pub further_field : Said → List ℕ
+further_field (said.Reply reply) = []
+further_field (said.Answer answer) = []
+further_field (said.No refused) =
+    if number_of refused.rule == 6 then codes "WWW-Authenticate: Office-Key\r\n"
+    else allow_field refused.extra
 
 -- the field that says that no request follows
 abbrev pub close_field : Bool → List ℕ
@@ -124,5 +154,5 @@ first_lines said len =
 unfoldable pub answer_of : Said → Bool → Bool → List ℕ
 answer_of said close bare =
     first_lines said (length (body_of said))
-    ++ key_field said ++ close_field close
+    ++ further_field said ++ close_field close
     ++ codes "\r\n" ++ sent_body bare (body_of said)

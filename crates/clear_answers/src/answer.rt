@@ -1,17 +1,21 @@
 //! The bytes of an answer.
-ghost use Rattle.std.specs.Prelude.{◌≡◌, ◌++◌, codes, IfOk, is_ok, if◌then◌else◌};
+ghost use Rattle.std.specs.Prelude.{◌≡◌, ◌++◌, codes, IfOk, is_ok, if◌then◌else◌, string_bytes};
 ghost use Rattle.std.specs.Fmt.{decimal};
+ghost use Rattle.clear_money.specs.Texts.{day_text, month_text};
 ghost use Rattle.clear_book.specs.declared.rules.Rule.TheVariants.{Memory, Failed};
 ghost use Rattle.clear_answers.specs.Said.{refused_by};
 ghost use Rattle.clear_answers.specs.Answer.{framing_status, status_by, status_of, carried_text};
-ghost use Rattle.clear_answers.specs.Answer.{refused_body, reply_body, query_body, body_of};
-ghost use Rattle.clear_answers.specs.Answer.{key_field, close_field, sent_body, first_lines};
-ghost use Rattle.clear_answers.specs.Answer.{answer_of};
+ghost use Rattle.clear_answers.specs.Answer.{detail_of, quoted, refused_body, reply_body};
+ghost use Rattle.clear_answers.specs.Answer.{query_body, body_of, allow_field, further_field};
+ghost use Rattle.clear_answers.specs.Answer.{close_field, sent_body, first_lines, answer_of};
 
 use crate::said::{Extra, Refused, Said};
 use clear_book::outcomes::{Answer, Reply};
 use clear_book::rules::Carried;
+use clear_money::days::Day;
+use clear_money::months::Month;
 use clear_wire::rule::FramingStatus;
+use serde_json::Value;
 use std::alloc::{AllocError, Global};
 
 /// The status of a body whose length isn't clear.
@@ -22,7 +26,8 @@ fn framing_status(extra: &Extra) -> &'static [u8]
         Extra::Status(FramingStatus::NotImplemented) => b"501 Not Implemented",
         Extra::Status(FramingStatus::ExpectationFailed) => b"417 Expectation Failed",
         Extra::Status(FramingStatus::LengthRequired) => b"411 Length Required",
-        Extra::Status(FramingStatus::BadRequest) | Extra::Nothing => b"400 Bad Request",
+        Extra::Status(FramingStatus::BadRequest) => b"400 Bad Request",
+        Extra::Nothing | Extra::Allow(_) | Extra::Member(_) => b"400 Bad Request",
     }
 }
 
@@ -64,39 +69,69 @@ fn append_number(text: &mut Vec<u8>, before: &[u8], number: u64) -> Result<(), A
 }
 
 /// A record of a file and a field of it.
-fn field_text(alloc: Global, line: u64, field: u8) -> Result<Vec<u8>, AllocError>
-    ensures { IfOk result (λ text. text.items ≡ decimal line ++ codes ":" ++ decimal field) }
+fn field_text(alloc: Global, line: u64, field: u8) -> Result<String, AllocError>
+    ensures { IfOk result (λ text. string_bytes text
+        ≡ decimal line ++ codes ":" ++ decimal field) }
 {
-    let mut text = Vec::new(alloc);
-    append_number(&mut text, b"", line)?;
-    append_number(&mut text, b":", u64::from(field))?;
+    let mut text = line.to_string(alloc)?;
+    text.push_str(":")?;
+    text.push_str(field.to_string(alloc)?.as_str())?;
     Ok(text)
 }
 
+fn day_text(alloc: Global, day: Day) -> Result<String, AllocError>
+    ensures { IfOk result (λ text. string_bytes text ≡ day_text day) }
+{
+    String::from_utf8_lossy(alloc, day.text().as_slice())
+}
+
+fn month_text(alloc: Global, month: Month) -> Result<String, AllocError>
+    ensures { IfOk result (λ text. string_bytes text ≡ month_text month) }
+{
+    String::from_utf8_lossy(alloc, month.text().as_slice())
+}
+
 /// What a rule carries, as a text.
-fn carried_text(alloc: Global, carried: Carried) -> Result<Vec<u8>, AllocError>
-    ensures { IfOk result (λ text. text.items ≡ carried_text carried) }
+fn carried_text(alloc: Global, carried: Carried) -> Result<String, AllocError>
+    ensures { IfOk result (λ text. string_bytes text ≡ carried_text carried) }
 {
     match carried {
-        Carried::Nothing => Ok(Vec::new(alloc)),
-        Carried::Member(member) => Vec::from_slice(alloc, member.word().as_bytes()),
-        Carried::Day(day) => Vec::from_slice(alloc, day.text().as_slice()),
-        Carried::Month(month) => Vec::from_slice(alloc, month.text().as_slice()),
-        Carried::Number(number) => Vec::from_slice(alloc, number.to_string(alloc)?.as_bytes()),
+        Carried::Nothing => Ok(String::new(alloc)),
+        Carried::Day(day) => day_text(alloc, day),
+        Carried::Month(month) => month_text(alloc, month),
+        Carried::Number(number) => number.to_string(alloc),
         Carried::Field { line, field } => field_text(alloc, line, field),
-        Carried::Limit(limit) => Vec::from_slice(alloc, limit.word().as_bytes()),
-        Carried::Table(table) => Vec::from_slice(alloc, table.word().as_bytes()),
+        Carried::Limit(limit) => String::from_str(alloc, limit.word()),
+        Carried::Table(table) => String::from_str(alloc, table.word()),
     }
+}
+
+fn detail_of(alloc: Global, refused: &Refused) -> Result<String, AllocError>
+    ensures { IfOk result (λ text. string_bytes text ≡ detail_of refused.now) }
+{
+    match &refused.extra {
+        Extra::Member(member) => String::from_str(alloc, member.word()),
+        Extra::Nothing | Extra::Status(_) | Extra::Allow(_) => {
+            carried_text(alloc, refused.rule.carried())
+        }
+    }
+}
+
+/// A text as JSON writes it, with its quotation marks.
+fn quoted(alloc: Global, text: String) -> Result<Vec<u8>, AllocError>
+    ensures { IfOk result (λ bytes. bytes.items ≡ quoted (string_bytes text)) }
+{
+    Value::String(text).to_vec(alloc)
 }
 
 #[tactic(auto, unfolding(crate::specs::Answer::refused_body))]
 fn refused_body(alloc: Global, refused: &Refused) -> Result<Vec<u8>, AllocError>
     ensures { IfOk result (λ body. body.items ≡ refused_body refused.now) }
 {
-    let detail = carried_text(alloc, refused.rule.carried())?;
-    let mut body = Vec::from_slice(alloc, b"{\"detail\":\"")?;
+    let detail = quoted(alloc, detail_of(alloc, refused)?)?;
+    let mut body = Vec::from_slice(alloc, b"{\"detail\":")?;
     body.extend_from_slice(detail.as_slice())?;
-    body.extend_from_slice(b"\",\"name\":\"")?;
+    body.extend_from_slice(b",\"name\":\"")?;
     body.extend_from_slice(refused.rule.name().as_bytes())?;
     append_number(&mut body, b"\",\"rule\":", u64::from(refused.rule.number()))?;
     body.extend_from_slice(b"}")?;
@@ -155,19 +190,34 @@ fn body_of(alloc: Global, said: &Said) -> Result<Vec<u8>, AllocError>
     }
 }
 
-/// The field that asks for a key, where none was known.
-fn key_field(said: &Said) -> &'static [u8]
-    ensures { result.now ≡ key_field said.now }
+/// The field that lists the methods of a path, where they are told.
+fn allow_field(alloc: Global, extra: &Extra) -> Result<Vec<u8>, AllocError>
+    ensures { IfOk result (λ field. field.items ≡ allow_field extra.now) }
+{
+    match extra {
+        Extra::Allow(allow) => {
+            let mut field = Vec::from_slice(alloc, b"Allow: ")?;
+            field.extend_from_slice(allow.text().as_bytes())?;
+            field.extend_from_slice(b"\r\n")?;
+            Ok(field)
+        }
+        Extra::Nothing | Extra::Status(_) | Extra::Member(_) => Ok(Vec::new(alloc)),
+    }
+}
+
+/// The field that asks for a key where none was known, or lists the methods of a path.
+fn further_field(alloc: Global, said: &Said) -> Result<Vec<u8>, AllocError>
+    ensures { IfOk result (λ field. field.items ≡ further_field said.now) }
 {
     match said {
         Said::No(refused) => {
             if refused.rule.number() == 6 {
-                b"WWW-Authenticate: Office-Key\r\n"
+                Vec::from_slice(alloc, b"WWW-Authenticate: Office-Key\r\n")
             } else {
-                b""
+                allow_field(alloc, &refused.extra)
             }
         }
-        Said::Reply(_) | Said::Answer(_) => b"",
+        Said::Reply(_) | Said::Answer(_) => Ok(Vec::new(alloc)),
     }
 }
 
@@ -201,8 +251,9 @@ fn answer_of(alloc: Global, said: &Said, close: bool, bare: bool) -> Result<Vec<
     ensures { IfOk result (λ text. text.items ≡ answer_of said.now close bare) }
 {
     let body = body_of(alloc, said)?;
+    let further = further_field(alloc, said)?;
     let mut text = first_lines(alloc, said, body.len())?;
-    text.extend_from_slice(key_field(said))?;
+    text.extend_from_slice(further.as_slice())?;
     text.extend_from_slice(close_field(close))?;
     text.extend_from_slice(b"\r\n")?;
     text.extend_from_slice(sent_body(bare, body.as_slice()))?;

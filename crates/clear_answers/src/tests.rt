@@ -1,9 +1,11 @@
 //! Answers as a client gets them, byte by byte.
 use crate::answer::answer_bytes;
-use crate::said::{Refused, Said};
+use crate::said::{Extra, Refused, Said};
+use clear_bodies::faults::Member;
 use clear_book::outcomes::Reply;
 use clear_book::rules::{Rule, StoreCause};
 use clear_money::months::Month;
+use clear_paths::allow::Allow;
 use clear_wire::rule::{FramingStatus, StreamRule};
 use std::alloc::{AllocError, Global};
 use std::test::Fail;
@@ -94,6 +96,44 @@ fn answers_byte_by_byte(rt: HostRuntime) -> Result<(), Fail> {
             true,
             b"before HTTP/1.1 411 Length Required\r\nContent-Type: application/json\r\n\
             Content-Length: 42\r\nConnection: close\r\n\r\n"
+        )?
+    );
+    let method = Said::No(Refused {
+        rule: Rule::BadMethod,
+        extra: Extra::Allow(Allow::PostPut),
+    });
+    assert!(rt;
+        is_answer(
+            alloc,
+            &method,
+            false,
+            false,
+            b"before HTTP/1.1 405 Method Not Allowed\r\nContent-Type: application/json\r\n\
+            Content-Length: 41\r\nAllow: POST, PUT\r\n\r\n\
+            {\"detail\":\"\",\"name\":\"BadMethod\",\"rule\":5}"
+        )?
+    );
+    let start = Said::No(Refused::by_member(Member::Start));
+    assert!(rt;
+        is_answer(
+            alloc,
+            &start,
+            false,
+            false,
+            b"before HTTP/1.1 400 Bad Request\r\nContent-Type: application/json\r\n\
+            Content-Length: 44\r\n\r\n{\"detail\":\"start\",\"name\":\"BadBody\",\"rule\":8}"
+        )?
+    );
+    let name = String::from_str(alloc, "a\"b")?;
+    let further = Said::No(Refused::by_member(Member::Further(name)));
+    assert!(rt;
+        is_answer(
+            alloc,
+            &further,
+            false,
+            false,
+            b"before HTTP/1.1 400 Bad Request\r\nContent-Type: application/json\r\n\
+            Content-Length: 43\r\n\r\n{\"detail\":\"a\\\"b\",\"name\":\"BadBody\",\"rule\":8}"
         )?
     );
     Ok(())

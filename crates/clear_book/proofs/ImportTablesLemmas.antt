@@ -1,5 +1,5 @@
 -- The tables of a book, after a bank file more.
-use Rattle.std.proofs.Common.{◌≡◌, ℕ, List, [], ◌∷◌, ◌++◌, cond, refl, sym, ap, ◌∙◌, subst, arith}
+use Rattle.std.proofs.Common.{◌≡◌, ℕ, List, [], ◌∷◌, ◌++◌, None, cond, refl, sym, ap, ◌∙◌, subst, arith}
 use Rattle.std.proofs.lemmas.List.{length-append}
 use Rattle.std.proofs.lemmas.List.Sums.{sum_by-cons}
 use Rattle.std.specs.Option.{option_map}
@@ -11,12 +11,14 @@ use Rattle.clear_book.specs.declared.rows.BankRow.{BankRow}
 use Rattle.clear_book.specs.declared.rows.CreditRow.{CreditRow}
 use Rattle.clear_book.specs.declared.rows.Change.TheVariants.{AddBankLines}
 use Rattle.clear_book.specs.Accounts.{credit_key}
-use Rattle.clear_book.specs.Book.{Book, Entry, newer, is_registration, latest_lines}
+use Rattle.clear_book.specs.Book.{Book, Entry, entry, entry_under, newer, is_registration, latest_lines}
 use Rattle.clear_book.specs.Judge.{Verdict, new_reply, judge}
 use Rattle.clear_book.specs.Keyed.{find_row, with_rows, AreOnce}
 use Rattle.clear_book.specs.Lines.{lines_seen, lines_standing, rows_brought, credits_of_lines}
 use Rattle.clear_book.specs.Machine.{step, after, appended}
 use Rattle.clear_book.specs.Tables.{Tables, Stands, bank_key, changed, noted}
+use Rattle.clear_book.proofs.JudgeLemmas.{unrefused}
+use Rattle.clear_book.proofs.RequestLemmas.{requests_found, requests_still_in_order}
 use Rattle.clear_book.proofs.LinesLemmas.{references_new, credits_new, credits_of_lines-append, standing_seen}
 use Rattle.clear_book.proofs.KeyedRowsLemmas.{AreNew, find_row-append, find_row-with_rows, AreInOrder-with_rows}
 use Rattle.clear_book.proofs.VersionLemmas.{version_of-other}
@@ -35,7 +37,10 @@ grown key table rows news same new once k =
 
 module _ (b : Book) (t : Tables) (stands : Stands b t) (caller : Caller) (number day : ℕ) (file : List ℕ) (reply : Reply) (judged : judge b (Do caller number day (ImportBank file)) ≡ new_reply reply) where
   abbrev import : Entry
-  import = record { caller = caller; number = number; day = day; command = ImportBank file; reply = reply }
+  import = entry caller number day (ImportBank file) reply
+
+  no_number : entry_under b.entries caller number ≡ None
+  no_number = (unrefused b caller number day (ImportBank file) reply judged).free
 
   abbrev seen : List BankRow
   seen = lines_seen b.entries
@@ -56,7 +61,7 @@ module _ (b : Book) (t : Tables) (stands : Stands b t) (caller : Caller) (number
   new_credits_there : AreNew credit_key (credits_of_lines standing) (credits_of_lines rows)
   new_credits_there = (credits_new b.entries file).1
 
-  imported_tables : Stands (appended b import) (noted day (changed (AddBankLines rows) t))
+  imported_tables : Stands (appended b import) (noted import (changed (AddBankLines rows) t))
   imported_tables = record {
     rates = stands.rates;
     day = refl;
@@ -76,10 +81,12 @@ module _ (b : Book) (t : Tables) (stands : Stands b t) (caller : Caller) (number
         grown credit_key t.credits (credits_of_lines standing) (credits_of_lines rows) stands.credits new_credits_there (credits_new b.entries file).0 k
         ∙ ap (λ (all : List CreditRow). find_row credit_key all k) (sym (ap credits_of_lines stand_now ∙ credits_of_lines-append standing rows));
     credits_in_order = AreInOrder-with_rows credit_key t.credits (credits_of_lines rows) stands.credits_in_order (still_new credit_key t.credits (credits_of_lines standing) (credits_of_lines rows) stands.credits new_credits_there) (credits_new b.entries file).0;
+    requests = requests_found b t stands import no_number;
+    requests_in_order = requests_still_in_order b t stands import no_number;
     serial = omega (arith, stands.serial, length-append seen rows);
     unfilled = stands.unfilled;
   }
 
-  pub Stands-imported : (new : List BankRow) → new ≡ rows → Stands (step b (Do caller number day (ImportBank file))) (noted day (changed (AddBankLines new) t))
+  pub Stands-imported : (new : List BankRow) → new ≡ rows → Stands (step b (Do caller number day (ImportBank file))) (noted import (changed (AddBankLines new) t))
   Stands-imported new same =
-      subst (λ (p : Verdict × List BankRow). Stands (after b (Do caller number day (ImportBank file)) p.0) (noted day (changed (AddBankLines p.1) t))) (λ i. (sym judged i, sym same i)) imported_tables
+      subst (λ (p : Verdict × List BankRow). Stands (after b (Do caller number day (ImportBank file)) p.0) (noted import (changed (AddBankLines p.1) t))) (λ i. (sym judged i, sym same i)) imported_tables

@@ -3,8 +3,11 @@ pub mod ChargesLemmas
 pub mod ChecksLemmas
 pub mod CreditsLemmas
 pub mod DistinctLemmas
+pub mod FaultLemmas
+pub mod FrontLemmas
 pub mod ImportTablesLemmas
 pub mod JudgeLemmas
+pub mod KeptLemmas
 pub mod KeyedChangesLemmas
 pub mod KeyedLemmas
 pub mod KeyedRowsLemmas
@@ -15,7 +18,9 @@ pub mod ListLemmas
 pub mod OneTableLemmas
 pub mod RatesLemmas
 pub mod ReferenceLemmas
+pub mod RepeatLemmas
 pub mod ReportTablesLemmas
+pub mod RequestLemmas
 pub mod RowRangeLemmas
 pub mod SeenLemmas
 pub mod SetOffLemmas

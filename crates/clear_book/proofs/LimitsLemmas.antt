@@ -49,14 +49,14 @@ none_large (l ∷ ls) h =
 at_most : (n : ℕ) → nat_lt 500 n ≡ false → n ≤ 500
 at_most n h = grind (arith, nat_tests)
 
-few_lines : (start version : Option ℕ) (t m : ℕ) (lines : List WageLine) → own_report start version t m lines ≡ None → AreFew lines
+pub few_lines : (start version : Option ℕ) (t m : ℕ) (lines : List WageLine) → own_report start version t m lines ≡ None → AreFew lines
 few_lines start version t m lines h =
     let none = none_applies (report_rules start version t m lines) h in record {
       few = at_most (length lines) (when-none (nat_lt most_lines (length lines)) (OverLimit Lines) none.1.1.1.1.1.0);
       small = none_large lines (when-none (has_large_gross lines) (OverLimit Gross) none.1.1.1.1.1.1.0);
     }
 
-few_corrected : (start version : Option ℕ) (t : ℕ) (c : Correction) → own_correct start version t c ≡ None → AreFew c.report.lines
+pub few_corrected : (start version : Option ℕ) (t : ℕ) (c : Correction) → own_correct start version t c ≡ None → AreFew c.report.lines
 few_corrected start version t c h =
     let none = none_applies (correct_rules start version t c) h in record {
       few = at_most (length c.report.lines) (when-none (nat_lt most_lines (length c.report.lines)) (OverLimit Lines) none.1.1.1.1.1.1.0);
@@ -85,7 +85,8 @@ reported_few b t (Correct c) e m lines own h =
 pub accepted : (rates : List Rate) (x : Entry) (xs : List Entry) → AreJudged rates (x ∷ xs) → (nat_le most_entries (length xs) ≡ false) × (own_rule (record { opening = rates; entries = xs }) x.day x.command ≡ None)
 accepted rates x xs h =
     let b : Book = record { opening = rates; entries = xs } in
-    unrefused b x.caller x.number x.day x.command x.reply h.2
+    let said = unrefused b x.caller x.number x.day x.command x.reply h.2 in
+    (said.room, said.unruled)
 
 pub lawful_few : (rates : List Rate) (xs : List Entry) → AreJudged rates xs → (e m : ℕ) (lines : List WageLine) → latest_lines xs e m ≡ Some lines → AreFew lines
 lawful_few rates [] h e m lines is = absurd (cc)

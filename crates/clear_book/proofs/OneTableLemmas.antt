@@ -7,7 +7,7 @@ use Rattle.clear_book.specs.declared.rows.WageRow.{WageRow}
 use Rattle.clear_book.specs.Accounts.{credit_key}
 use Rattle.clear_book.specs.Book.{Book, Member}
 use Rattle.clear_book.specs.Keyed.{find_row, AreInOrder}
-use Rattle.clear_book.specs.Tables.{Tables, Stands, employer_key, report_key, wage_key, bank_key}
+use Rattle.clear_book.specs.Tables.{Tables, Stands, employer_key, report_key, wage_key, bank_key, request_key}
 use Rattle.clear_book.proofs.KeyedLemmas.{found_key}
 use Rattle.clear_book.proofs.KeyedRowsLemmas.{same_rows}
 use Rattle.clear_book.proofs.KeyedChangesLemmas.{same_rows_by_key}
@@ -90,6 +90,11 @@ module _ (b : Book) (t u : Tables) (left : Stands b t) (right : Stands b u) wher
   same_credits =
       same_rows credit_key t.credits u.credits left.credits_in_order right.credits_in_order (λ k. left.credits k ∙ sym (right.credits k))
 
+  -- the accepted requests agree
+  same_requests : t.requests ≡ u.requests
+  same_requests =
+      same_rows request_key t.requests u.requests left.requests_in_order right.requests_in_order (λ k. left.requests k ∙ sym (right.requests k))
+
   -- and so do the numbers, and the tables that no command fills yet
   pub same_tables : t ≡ u
   same_tables =
@@ -101,10 +106,9 @@ module _ (b : Book) (t u : Tables) (left : Stands b t) (right : Stands b u) wher
       let lists : t.lists ≡ u.lists = left.unfilled.1 ∙ sym right.unfilled.1 in
       let runs : t.runs ≡ u.runs = left.unfilled.2 ∙ sym right.unfilled.2 in
       let reminders : t.reminders ≡ u.reminders = left.unfilled.3 ∙ sym right.unfilled.3 in
-      let requests : t.requests ≡ u.requests = left.unfilled.4 ∙ sym right.unfilled.4 in
-      let last_claim : t.last_claim ≡ u.last_claim = left.unfilled.5 ∙ sym right.unfilled.5 in
-      let last_list : t.last_list ≡ u.last_list = left.unfilled.6 ∙ sym right.unfilled.6 in
-      let last_run : t.last_run ≡ u.last_run = left.unfilled.7 ∙ sym right.unfilled.7 in
+      let last_claim : t.last_claim ≡ u.last_claim = left.unfilled.4 ∙ sym right.unfilled.4 in
+      let last_list : t.last_list ≡ u.last_list = left.unfilled.5 ∙ sym right.unfilled.5 in
+      let last_run : t.last_run ≡ u.last_run = left.unfilled.6 ∙ sym right.unfilled.6 in
       (λ i.
       record {
         rates = rates i;
@@ -117,7 +121,7 @@ module _ (b : Book) (t u : Tables) (left : Stands b t) (right : Stands b u) wher
         lists = lists i;
         runs = runs i;
         reminders = reminders i;
-        requests = requests i;
+        requests = same_requests i;
         day = day i;
         entries = entries i;
         serial = serial i;

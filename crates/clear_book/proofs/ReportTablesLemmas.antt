@@ -14,7 +14,7 @@ use Rattle.clear_book.specs.declared.rows.ReportRow.{ReportRow}
 use Rattle.clear_book.specs.declared.rows.WageRow.{WageRow}
 use Rattle.clear_book.specs.declared.texts.WageLine.{WageLine}
 use Rattle.clear_book.specs.Accounts.{credit_key}
-use Rattle.clear_book.specs.Book.{Book, Entry, is_for, newer, registered_by, member_of, start_of, is_registration, reported_by, latest_lines, is_report_of, version_of, reported_version}
+use Rattle.clear_book.specs.Book.{Book, Entry, entry, entry_under, is_for, newer, registered_by, member_of, start_of, is_registration, reported_by, latest_lines, is_report_of, version_of, reported_version}
 use Rattle.clear_book.specs.Judge.{Verdict, new_reply, judge}
 use Rattle.clear_book.specs.Keyed.{find_row, put_row}
 use Rattle.clear_book.specs.Lines.{lines_seen, credits_of_lines, rows_by}
@@ -28,6 +28,7 @@ use Rattle.clear_book.proofs.DistinctLemmas.{AreDistinct, distinct}
 use Rattle.clear_book.proofs.JudgeLemmas.{unrefused}
 use Rattle.clear_book.proofs.KeyedChangesLemmas.{find_row-put_row, AreInOrder-put_row, put_row-new}
 use Rattle.clear_book.proofs.LinesLemmas.{none_brought, none_moved}
+use Rattle.clear_book.proofs.RequestLemmas.{requests_found, requests_still_in_order}
 use Rattle.clear_book.proofs.TablesLemmas.{no_map}
 use Rattle.clear_book.proofs.VersionLemmas.{version_of-other, version_of-more, version_of-none, unreported, corrected, reported_some, reported_none, key_is}
 use Rattle.clear_book.proofs.WagesLemmas.{gross_at-with_wages, with_wages-in_order, with_wages-first}
@@ -59,7 +60,7 @@ pub record Reports (xs : List Entry) (x : Entry) (r : WageReport) : Type 0 where
 abbrev version_in : ReportRow → ℕ
 version_in row = row.version
 
-module _ (b : Book) (t : Tables) (stands : Stands b t) (x : Entry) (r : WageReport) (reports : Reports b.entries x r) (version : ℕ) (next : version_of b.entries r.employer r.month + 1 ≡ version) (apart : AreDistinct r.lines) where
+module _ (b : Book) (t : Tables) (stands : Stands b t) (x : Entry) (r : WageReport) (reports : Reports b.entries x r) (version : ℕ) (next : version_of b.entries r.employer r.month + 1 ≡ version) (apart : AreDistinct r.lines) (free : entry_under b.entries x.caller x.number ≡ None) where
   abbrev row : ReportRow
   row = record { employer = r.employer; month = r.month; version = version }
 
@@ -91,7 +92,7 @@ module _ (b : Book) (t : Tables) (stands : Stands b t) (x : Entry) (r : WageRepo
       ∙ ap (λ (o : Option (List WageLine)). reported_gross (newer o (latest_lines b.entries e m)) w) (sym (reports.lines e m))
 
   -- the month's row and wages in the place of what stood
-  pub replaced_tables : Stands (appended b x) (noted x.day (changed (ReplaceReport row r.lines) t))
+  pub replaced_tables : Stands (appended b x) (noted x (changed (ReplaceReport row r.lines) t))
   replaced_tables = record {
     rates = stands.rates;
     day = refl;
@@ -109,14 +110,16 @@ module _ (b : Book) (t : Tables) (stands : Stands b t) (x : Entry) (r : WageRepo
     bank_in_order = stands.bank_in_order;
     credits = λ k. stands.credits k ∙ ap (λ (rows : List BankRow). find_row credit_key (credits_of_lines rows) k) (sym (none_moved b.entries x reports.no_rows));
     credits_in_order = stands.credits_in_order;
+    requests = requests_found b t stands x free;
+    requests_in_order = requests_still_in_order b t stands x free;
     serial = stands.serial ∙ sym (none_brought b.entries x reports.no_rows);
     unfilled = stands.unfilled;
   }
 
   -- for a month that has none, they are one more
-  pub first_tables : find_row report_key t.reports (r.employer ∷ r.month ∷ []) ≡ None → ((w : ℕ) → gross_at t.wages r.employer r.month w ≡ None) → Stands (appended b x) (noted x.day (changed (AddReport row r.lines) t))
+  pub first_tables : find_row report_key t.reports (r.employer ∷ r.month ∷ []) ≡ None → ((w : ℕ) → gross_at t.wages r.employer r.month w ≡ None) → Stands (appended b x) (noted x (changed (AddReport row r.lines) t))
   first_tables no_row no_wages =
-      subst (λ (p : List ReportRow × List WageRow). Stands (appended b x) (noted x.day (record t { reports = p.0; wages = p.1 })))
+      subst (λ (p : List ReportRow × List WageRow). Stands (appended b x) (noted x (record t { reports = p.0; wages = p.1 })))
       (λ i. (put_row-new report_key t.reports row no_row i, with_wages-first r.employer r.month r.lines t.wages no_wages i))
       replaced_tables
 
@@ -124,27 +127,29 @@ module _ (b : Book) (t : Tables) (stands : Stands b t) (x : Entry) (r : WageRepo
 
 module _ (b : Book) (t : Tables) (stands : Stands b t) (caller : Caller) (number day : ℕ) where
   pub Stands-reported : (r : WageReport) (reply : Reply) → judge b (Do caller number day (Report r)) ≡ new_reply reply → (lines : List WageLine) → lines ≡ r.lines
-      → Stands (step b (Do caller number day (Report r))) (noted day (changed (AddReport (record { employer = r.employer; month = r.month; version = 1 }) lines) t))
+      → Stands (step b (Do caller number day (Report r))) (noted (entry caller number day (Report r) reply) (changed (AddReport (record { employer = r.employer; month = r.month; version = 1 }) lines) t))
   Stands-reported r reply judged lines same =
-      let own = (unrefused b caller number day (Report r) reply judged).1 in
+      let said = unrefused b caller number day (Report r) reply judged in
+      let own = said.unruled in
       let none = unreported (start_of (member_of b.entries r.employer)) (reported_version b.entries r.employer r.month) day r.month r.lines own in
       let no_lines = reported_none b.entries r.employer r.month none in
       let zero : version_of b.entries r.employer r.month ≡ 0 = version_of-none b.entries r.employer r.month no_lines in
-      let x : Entry = record { caller = caller; number = number; day = day; command = Report r; reply = reply } in
+      let x = entry caller number day (Report r) reply in
       let there = first_tables b t stands x r (record { lines = λ e m. refl; counted = λ e m. refl; nobody = λ e. refl; no_registration = refl; no_rows = refl }) 1 (omega (arith, zero))
-      (report_distinct (start_of (member_of b.entries r.employer)) (reported_version b.entries r.employer r.month) day r.month r.lines own)
+      (report_distinct (start_of (member_of b.entries r.employer)) (reported_version b.entries r.employer r.month) day r.month r.lines own) said.free
       (no_map version_in (find_row report_key t.reports (r.employer ∷ r.month ∷ [])) (stands.reports r.employer r.month ∙ none))
       (λ w. stands.wages r.employer r.month w ∙ ap (λ (o : Option (List WageLine)). reported_gross o w) no_lines) in
-      subst (λ (p : Verdict × List WageLine). Stands (after b (Do caller number day (Report r)) p.0) (noted day (changed (AddReport (record { employer = r.employer; month = r.month; version = 1 }) p.1) t))) (λ i. (sym judged i, sym same i)) there
+      subst (λ (p : Verdict × List WageLine). Stands (after b (Do caller number day (Report r)) p.0) (noted x (changed (AddReport (record { employer = r.employer; month = r.month; version = 1 }) p.1) t))) (λ i. (sym judged i, sym same i)) there
 
   pub Stands-corrected : (c : Correction) (reply : Reply) → judge b (Do caller number day (Correct c)) ≡ new_reply reply → (version : ℕ) → version ≡ c.version + 1 → (lines : List WageLine) → lines ≡ c.report.lines
-      → Stands (step b (Do caller number day (Correct c))) (noted day (changed (ReplaceReport (record { employer = c.report.employer; month = c.report.month; version = version }) lines) t))
+      → Stands (step b (Do caller number day (Correct c))) (noted (entry caller number day (Correct c) reply) (changed (ReplaceReport (record { employer = c.report.employer; month = c.report.month; version = version }) lines) t))
   Stands-corrected c reply judged version more lines same =
-      let own = (unrefused b caller number day (Correct c) reply judged).1 in
+      let said = unrefused b caller number day (Correct c) reply judged in
+      let own = said.unruled in
       let start = start_of (member_of b.entries c.report.employer) in
       let latest = corrected start (reported_version b.entries c.report.employer c.report.month) day c own in
       let now : version_of b.entries c.report.employer c.report.month ≡ c.version = reported_some b.entries c.report.employer c.report.month c.version latest.0 in
-      let x : Entry = record { caller = caller; number = number; day = day; command = Correct c; reply = reply } in
+      let x = entry caller number day (Correct c) reply in
       let there = replaced_tables b t stands x c.report (record { lines = λ e m. refl; counted = λ e m. refl; nobody = λ e. refl; no_registration = refl; no_rows = refl }) version (omega (arith, now, more))
-      (correction_distinct start (reported_version b.entries c.report.employer c.report.month) day c own) in
-      subst (λ (p : Verdict × List WageLine). Stands (after b (Do caller number day (Correct c)) p.0) (noted day (changed (ReplaceReport (record { employer = c.report.employer; month = c.report.month; version = version }) p.1) t))) (λ i. (sym judged i, sym same i)) there
+      (correction_distinct start (reported_version b.entries c.report.employer c.report.month) day c own) said.free in
+      subst (λ (p : Verdict × List WageLine). Stands (after b (Do caller number day (Correct c)) p.0) (noted x (changed (ReplaceReport (record { employer = c.report.employer; month = c.report.month; version = version }) p.1) t))) (λ i. (sym judged i, sym same i)) there

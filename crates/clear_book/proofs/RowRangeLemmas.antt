@@ -19,22 +19,24 @@ use Rattle.clear_book.specs.declared.rows.EmployerRow.{EmployerRow}
 use Rattle.clear_book.specs.declared.rows.ReportRow.{ReportRow}
 use Rattle.clear_book.specs.declared.rows.WageRow.{WageRow}
 use Rattle.clear_book.specs.Accounts.{credit_key}
-use Rattle.clear_book.specs.Book.{Book, Entry, Member, ledger_day, newer, registered_by, member_of, is_for, reported_by, latest_lines, is_report_of, version_of, reported_version}
-use Rattle.clear_book.specs.Keyed.{AreOnce, in_key_order}
+use Rattle.clear_book.specs.Book.{Book, Entry, Member, ledger_day, newer, registered_by, member_of, start_of, is_for, reported_by, latest_lines, is_report_of, version_of, reported_version}
+use Rattle.clear_book.specs.Judge.{own_rule, reply_to}
+use Rattle.clear_book.specs.Keyed.{is_key, find_row, AreOnce, in_key_order}
 use Rattle.clear_book.specs.Lines.{lines_in, new_lines, employer_of_line, rows_from, lines_of_rows, rows_by, lines_seen, lines_standing, credit_of_line, line_credit, credits_of_lines}
 use Rattle.clear_book.specs.Machine.{AreRates, AreJudged, IsLawful}
 use Rattle.clear_book.specs.Ranges.{IsWageLine, IsReport, IsCommand}
-use Rattle.clear_book.specs.RowRanges.{IsSerial, IsEmployerRow, IsReportRow, IsWageRow, IsBankRow, IsCreditRow, AreInRange}
-use Rattle.clear_book.specs.Tables.{Tables, Stands, employer_key, report_key, wage_key, bank_key, gross_of, reported_gross}
+use Rattle.clear_book.specs.RowRanges.{IsSerial, IsReply, IsRequestRow, IsEmployerRow, IsReportRow, IsWageRow, IsBankRow, IsCreditRow, AreInRange}
+use Rattle.clear_book.specs.Tables.{RequestRow, Tables, Stands, employer_key, report_key, wage_key, bank_key, request_key, request_row, requests_of, gross_of, reported_gross}
 use Rattle.clear_book.specs.Texts.{IsName}
 use Rattle.clear_book.proofs.CreditsLemmas.{credits-standing}
 use Rattle.clear_book.proofs.DistinctLemmas.{same_worker}
+use Rattle.clear_book.proofs.JudgeLemmas.{unrefused}
 use Rattle.clear_book.proofs.KeyedChangesLemmas.{all_from_found, AllByRecursion-in_key_order}
 use Rattle.clear_book.proofs.KeyedRowsLemmas.{ordered}
-use Rattle.clear_book.proofs.LimitsLemmas.{lawful_rates, lawful_few, lawful_entries}
+use Rattle.clear_book.proofs.LimitsLemmas.{lawful_rates, lawful_few, lawful_entries, few_lines, few_corrected, few_charge}
 use Rattle.clear_book.proofs.LinesLemmas.{standing_seen, references_once, serials_small}
-use Rattle.clear_book.proofs.SeenLemmas.{both, chosen, HasRanges, lines-in-range, seen-in-range, seen-few, of_credits, of_standing}
-use Rattle.clear_book.proofs.VersionLemmas.{key_is, no_report, version_of-more, version_of-other, lawful_versions, reported_some}
+use Rattle.clear_book.proofs.SeenLemmas.{both, by-few, chosen, file-few, HasRanges, lines-in-range, seen-in-range, seen-few, of_credits, of_standing}
+use Rattle.clear_book.proofs.VersionLemmas.{corrected, key_is, no_report, version_of-more, version_of-other, lawful_versions, reported_some}
 
 -- the newer of two is one of them
 newer_means : {A : Type 0} (o old : Option A) (x : A) → newer o old ≡ Some x → (o ≡ Some x) ⊎ (old ≡ Some x)
@@ -247,6 +249,46 @@ credit_row row e is h credit made =
     } in
     subst IsCreditRow same right
 
+-- ---- accepted requests
+
+-- the numbers of the reply to a command that no rule refuses are in range
+reply-in-range : (b : Book) (t : ℕ) (command : Command) → IsLawful b → own_rule b t command ≡ None → IsReply (reply_to b command)
+reply-in-range b t (Register r) lawful own = tt
+reply-in-range b t (Report r) lawful own =
+    let few = few_lines (start_of (member_of b.entries r.employer)) (reported_version b.entries r.employer r.month) t r.month r.lines own in
+    (omega arith, omega arith, few_charge b.opening r.month r.lines (lawful_rates b.opening b.entries lawful).ranges few)
+reply-in-range b t (Correct c) lawful own =
+    let start = start_of (member_of b.entries c.report.employer) in
+    let version = reported_version b.entries c.report.employer c.report.month in
+    let few = few_corrected start version t c own in
+    let last = (corrected start version t c own).1 in
+    (omega arith, omega (arith, last), few_charge b.opening c.report.month c.report.lines (lawful_rates b.opening b.entries lawful).ranges few)
+reply-in-range b t (ImportBank file) lawful own =
+    let rows = by-few b.entries (lines_seen b.entries) (ImportBank file) in
+    (rows, omega (arith, file-few file))
+
+-- so the row of each accepted request is in range
+entry-in-range : (rates : List Rate) (x : Entry) (xs : List Entry) → AreJudged rates (x ∷ xs) → IsRequestRow (request_row x)
+entry-in-range rates x xs h =
+    let b : Book = record { opening = rates; entries = xs } in
+    let said = unrefused b x.caller x.number x.day x.command x.reply h.2 in
+    record {
+      caller = h.1.0;
+      number = h.1.1;
+      day = h.1.2;
+      reply = subst IsReply said.replied (reply-in-range b x.day x.command h.0 said.unruled);
+    }
+
+kept_row : (rates : List Rate) (xs : List Entry) → AreJudged rates xs → (k : List ℕ) (row : RequestRow) → find_row request_key (requests_of xs) k ≡ Some row → IsRequestRow row
+kept_row rates [] h k row is = absurd (cc)
+kept_row rates (x ∷ xs) h k row is = told (is_key (request_key (request_row x)) k) is (kept_row rates xs h.0 k row)
+  where
+    told : (b : Bool) → cond b (Some (request_row x)) (find_row request_key (requests_of xs) k) ≡ Some row → (find_row request_key (requests_of xs) k ≡ Some row → IsRequestRow row) → IsRequestRow row
+    told true here rest =
+        let same : request_row x ≡ row = cc in
+        subst IsRequestRow same (entry-in-range rates x xs h)
+    told false here rest = rest here
+
 -- ---- each table, then all
 
 -- the day of the last request
@@ -281,12 +323,18 @@ module _ (b : Book) (t : Tables) (lawful : IsLawful b) (stands : Stands b t) whe
       subst (AllByRecursion IsBankRow) (sym same)
       (AllByRecursion-in_key_order bank_key IsBankRow (lines_standing b.entries) (standing-rows b.opening b.entries lawful))
 
-  -- and the credits
+  -- the credits
   credits-in-range : AllByRecursion IsCreditRow t.credits
   credits-in-range =
       subst (AllByRecursion IsCreditRow) (sym (credits-standing b t stands))
       (AllByRecursion-in_key_order credit_key IsCreditRow (credits_of_lines (lines_standing b.entries))
       (of_credits IsBankRow IsCreditRow credit_row (lines_standing b.entries) (standing-rows b.opening b.entries lawful)))
+
+  -- and the accepted requests
+  requests-in-range : AllByRecursion IsRequestRow t.requests
+  requests-in-range =
+      all_from_found request_key IsRequestRow t.requests stands.requests_in_order
+      (λ row found. kept_row b.opening b.entries lawful (request_key row) row (sym (stands.requests (request_key row)) ∙ found))
 
 -- each row of the tables of a lawful book lies in its ranges
 pub rows_in_range : (b : Book) (t : Tables) → IsLawful b → Stands b t → AreInRange t
@@ -297,6 +345,7 @@ rows_in_range b t lawful stands = record {
   wages = wages-in-range b t lawful stands;
   bank = bank-in-range b t lawful stands;
   credits = credits-in-range b t lawful stands;
+  requests = requests-in-range b t lawful stands;
   day = subst (λ (o : Option ℕ). IfSome o IsDay) (sym stands.day) (last-day b.opening b.entries lawful);
   entries = subst (λ (n : ℕ). n ≤ 50000000) (sym stands.entries) (lawful_entries b.opening b.entries lawful);
   serial = subst (λ (n : ℕ). n ≤ 500000000000) (sym stands.serial) (few-serials b.opening b.entries lawful);

@@ -23,7 +23,7 @@ use Rattle.clear_book.specs.Lines.{lines_or_none, lines_in, new_lines, rows_from
 use Rattle.clear_book.specs.Machine.{AreJudged}
 use Rattle.clear_book.specs.Own.ImportBank.{ahead_rule, is_ahead, import_rules}
 use Rattle.clear_book.proofs.ChecksLemmas.{none_applies, when-none}
-use Rattle.clear_book.proofs.JudgeLemmas.{in_order}
+use Rattle.clear_book.proofs.JudgeLemmas.{unrefused}
 use Rattle.clear_book.proofs.KeyedChangesLemmas.{AllByRecursion-in_key_order}
 use Rattle.clear_book.proofs.LimitsLemmas.{accepted}
 use Rattle.clear_book.proofs.LinesLemmas.{length-rows_from, standing_seen}
@@ -84,7 +84,7 @@ seen-in-range (x ∷ xs) = both HasRanges (lines_seen xs) (rows_by xs (lines_see
 
 -- ---- each request brings at most 10,000 lines
 
-file-few : (file : List ℕ) → length (lines_in file) ≤ 10000
+pub file-few : (file : List ℕ) → length (lines_in file) ≤ 10000
 unfolding lines_in
 file-few file = told (file_lines 10000 file) refl
   where
@@ -104,7 +104,7 @@ placed-length : (n : ℕ) (lines : List BankLine) → length (enumerate_from n l
 placed-length n [] = refl
 placed-length n (line ∷ lines) = let rest = placed-length (n + 1) lines in omega (arith, rest)
 
-by-few : (xs : List Entry) (seen : List BankRow) (command : Command) → length (rows_by xs seen command) ≤ 10000
+pub by-few : (xs : List Entry) (seen : List BankRow) (command : Command) → length (rows_by xs seen command) ≤ 10000
 by-few xs seen (Register r) = omega arith
 by-few xs seen (Report r) = omega arith
 by-few xs seen (Correct c) = omega arith
@@ -153,7 +153,7 @@ seen-come : (rates : List Rate) (xs : List Entry) → AreJudged rates xs → All
 seen-come rates [] h = tt
 seen-come rates (x ∷ xs) h =
     let b : Book = record { opening = rates; entries = xs } in
-    let order = in_order b x.caller x.number x.day x.command x.reply h.2 in
+    let order = (unrefused b x.caller x.number x.day x.command x.reply h.2).in_order in
     both (λ row. row.line.value ≤ x.day) (lines_seen xs) (rows_by xs (lines_seen xs) x.command)
     (each (λ row. IsBy (ledger_day xs) row.line.value) (λ row. row.line.value ≤ x.day) (λ row by. still_by (ledger_day xs) x.day row.line.value order by) (lines_seen xs) (seen-come rates xs h.0))
     (by-come b x.day x.command (accepted rates x xs h).1)

@@ -10,7 +10,7 @@ use Rattle.clear_book.specs.declared.outcomes.Reply.{Reply}
 use Rattle.clear_book.specs.declared.rows.BankRow.{BankRow}
 use Rattle.clear_book.specs.declared.rows.EmployerRow.{EmployerRow}
 use Rattle.clear_book.specs.declared.rows.Change.TheVariants.{AddEmployer}
-use Rattle.clear_book.specs.Book.{Book, Entry, Member, newer, registered_by, member_of, is_registration, latest_lines}
+use Rattle.clear_book.specs.Book.{Book, Entry, Member, entry, entry_under, newer, registered_by, member_of, is_registration, latest_lines}
 use Rattle.clear_book.specs.Accounts.{credit_key}
 use Rattle.clear_book.specs.Lines.{credits_of_lines}
 use Rattle.clear_book.specs.Judge.{Verdict, new_reply, judge}
@@ -21,6 +21,7 @@ use Rattle.clear_book.specs.Tables.{Tables, Stands, employer_key, bank_key, chan
 use Rattle.clear_book.proofs.JudgeLemmas.{unrefused}
 use Rattle.clear_book.proofs.KeyedLemmas.{find_row-with_row, length-with_row, AreInOrder-with_row}
 use Rattle.clear_book.proofs.LinesLemmas.{none_brought, none_moved}
+use Rattle.clear_book.proofs.RequestLemmas.{requests_found, requests_still_in_order}
 use Rattle.clear_book.proofs.VersionLemmas.{version_of-other}
 
 no_some : {A : Type 0} (o : Option A) → is_some o ≡ false → o ≡ None
@@ -50,15 +51,18 @@ module _ (b : Book) (t : Tables) (stands : Stands b t) (caller : Caller) (number
     registration_row = record { employer = r.employer; name = r.name; start = r.start; last = None }
 
     abbrev registration : Entry
-    registration = record { caller = caller; number = number; day = day; command = Register r; reply = reply }
+    registration = entry caller number day (Register r) reply
+
+    no_number : entry_under b.entries caller number ≡ None
+    no_number = (unrefused b caller number day (Register r) reply judged).free
 
     no_member : member_of b.entries r.employer ≡ None
-    no_member = no_some _ (unregistered _ _ _ (unrefused b caller number day (Register r) reply judged).1)
+    no_member = no_some _ (unregistered _ _ _ (unrefused b caller number day (Register r) reply judged).unruled)
 
     no_row : find_row employer_key t.employers (r.employer ∷ []) ≡ None
     no_row = no_map member_in _ (stands.employers r.employer ∙ no_member)
 
-    registered_tables : Stands (appended b registration) (noted day (changed (AddEmployer registration_row) t))
+    registered_tables : Stands (appended b registration) (noted registration (changed (AddEmployer registration_row) t))
     registered_tables = record {
       rates = stands.rates;
       day = refl;
@@ -77,10 +81,12 @@ module _ (b : Book) (t : Tables) (stands : Stands b t) (caller : Caller) (number
       bank_in_order = stands.bank_in_order;
       credits = λ k. stands.credits k ∙ ap (λ (rows : List BankRow). find_row credit_key (credits_of_lines rows) k) (sym (none_moved b.entries registration refl));
       credits_in_order = stands.credits_in_order;
+      requests = requests_found b t stands registration no_number;
+      requests_in_order = requests_still_in_order b t stands registration no_number;
       serial = stands.serial ∙ sym (none_brought b.entries registration refl);
       unfilled = stands.unfilled;
     }
 
-    pub Stands-registered : (name : List ℕ) → name ≡ r.name → Stands (step b (Do caller number day (Register r))) (noted day (changed (AddEmployer (record { employer = r.employer; name = name; start = r.start; last = None })) t))
+    pub Stands-registered : (name : List ℕ) → name ≡ r.name → Stands (step b (Do caller number day (Register r))) (noted registration (changed (AddEmployer (record { employer = r.employer; name = name; start = r.start; last = None })) t))
     Stands-registered name same =
-        subst (λ (p : Verdict × List ℕ). Stands (after b (Do caller number day (Register r)) p.0) (noted day (changed (AddEmployer (record { employer = r.employer; name = p.1; start = r.start; last = None })) t))) (λ i. (sym judged i, sym same i)) registered_tables
+        subst (λ (p : Verdict × List ℕ). Stands (after b (Do caller number day (Register r)) p.0) (noted registration (changed (AddEmployer (record { employer = r.employer; name = p.1; start = r.start; last = None })) t))) (λ i. (sym judged i, sym same i)) registered_tables

@@ -7,10 +7,12 @@ use Rattle.clear_book.specs.declared.texts.WageLine.{WageLine}
 use Rattle.clear_book.specs.declared.calls.Call.{Call}
 use Rattle.clear_book.specs.declared.calls.Call.TheVariants.{Do}
 use Rattle.clear_book.specs.declared.calls.Caller.{Caller}
+use Rattle.clear_book.specs.declared.calls.Caller.TheVariants.{Firm, Clerk}
 use Rattle.clear_book.specs.declared.calls.Command.{Command}
 use Rattle.clear_book.specs.declared.calls.Command.TheVariants.{Register, Report, Correct}
 use Rattle.clear_book.specs.declared.calls.WageReport.{WageReport}
 use Rattle.clear_book.specs.declared.outcomes.Reply.{Reply}
+use Rattle.clear_book.specs.Keyed.{find_row}
 
 -- an accepted request with its reply
 pub record Entry : Type 0 where
@@ -19,6 +21,11 @@ pub record Entry : Type 0 where
   pub day : ℕ
   pub command : Command
   pub reply : Reply
+
+-- the entry of a command, with the reply to it
+abbrev pub entry : Caller → ℕ → ℕ → Command → Reply → Entry
+entry caller number day command reply =
+    record { caller = caller; number = number; day = day; command = command; reply = reply }
 
 -- the call that was accepted
 abbrev pub call_of : Entry → Call
@@ -33,6 +40,20 @@ pub record Book : Type 0 where
 abbrev pub ledger_day : List Entry → Option ℕ
 ledger_day [] = None
 ledger_day (x ∷ xs) = Some x.day
+
+-- the number that a caller is known by: a firm's own, and 0 for all clerks
+abbrev pub caller_number : Caller → ℕ
+caller_number Clerk = 0
+caller_number (Firm e) = e
+
+-- what a request is known by: its caller, and the number that this gave it
+abbrev pub request_number : Caller → ℕ → List ℕ
+request_number caller number = caller_number caller ∷ number ∷ []
+
+-- the accepted request that stands under a caller's number, if there is one
+abbrev pub entry_under : List Entry → Caller → ℕ → Option Entry
+entry_under xs caller number =
+    find_row (λ x. request_number x.caller x.number) xs (request_number caller number)
 
 -- the rate rows of a book
 abbrev pub rates_of : Book → List Rate

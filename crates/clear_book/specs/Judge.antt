@@ -1,7 +1,7 @@
 -- The judge: the first rule that applies to a call, or the reply or answer. What a command's own
 -- rules say stands in its module of `Own`; here is the one order of all checks.
 use Rattle.std.specs.Prelude.{ℕ, [], ◌∷◌, Option, Some, None, Bool, not, nat_lt, nat_le, length}
-use Rattle.std.specs.Prelude.{is_some}
+use Rattle.std.specs.Prelude.{is_some, if◌then◌else◌}
 use Rattle.clear_money.specs.Rates.{rate_in_force}
 use Rattle.clear_book.specs.declared.calls.Call.{Call}
 use Rattle.clear_book.specs.declared.calls.Call.TheVariants.{Do, Ask}
@@ -16,12 +16,14 @@ use Rattle.clear_book.specs.declared.outcomes.Outcome.TheVariants.{Replied, Answ
 use Rattle.clear_book.specs.declared.outcomes.Reply.{Reply}
 use Rattle.clear_book.specs.declared.rules.Limit.TheVariants.{Book as BookLimit}
 use Rattle.clear_book.specs.declared.rules.Rule.{Rule}
-use Rattle.clear_book.specs.declared.rules.Rule.TheVariants.{NotYours, DayBack, OverLimit}
+use Rattle.clear_book.specs.declared.rules.Rule.TheVariants.{NotYours, NumberReused, DayBack}
+use Rattle.clear_book.specs.declared.rules.Rule.TheVariants.{OverLimit}
 use Rattle.clear_book.specs.Access.{may_do, may_query}
 use Rattle.clear_book.specs.Accounts.{charges_of, credits_of}
-use Rattle.clear_book.specs.Book.{Book, rates_of, ledger_day, member_of, start_of, employer_count}
-use Rattle.clear_book.specs.Book.{reported_version}
+use Rattle.clear_book.specs.Book.{Book, Entry, entry_under, rates_of, ledger_day, member_of}
+use Rattle.clear_book.specs.Book.{start_of, employer_count, reported_version}
 use Rattle.clear_book.specs.Checks.{when, first_of}
+use Rattle.clear_book.specs.Kept.{same_command}
 use Rattle.clear_book.specs.Limits.{most_entries}
 use Rattle.clear_book.specs.Lines.{lines_of_rows, lines_seen, lines_standing, rows_brought}
 use Rattle.clear_book.specs.Lines.{credit_count, suspense_count}
@@ -91,15 +93,28 @@ abbrev pub refused_or : Option Rule → Verdict → Verdict
 refused_or None said = said
 refused_or (Some rule) said = a_refusal rule
 
--- the one order of checks for a command: access, the day, the book's limit, the own rules; then the
--- reply
-abbrev pub judged_do : Bool → Option Rule → Bool → Option Rule → Reply → Verdict
-judged_do may back full own reply = refused_or (first_of (
-    when (not may) NotYours
-    ∷ back
+-- what is said of a command whose number stands already: the reply that stands, if it is the same
+-- command, and else that the number is used
+abbrev pub said_before : Option Entry → Command → Option Verdict
+said_before None command = None
+said_before (Some x) command =
+    Some (if same_command x.command command then kept_reply x.reply else a_refusal NumberReused)
+
+-- what was said before, if something was
+abbrev pub before_or : Option Verdict → Verdict → Verdict
+before_or None said = said
+before_or (Some before) said = before
+
+-- the one order of checks for a command: access, a number that stands, the day, the book's limit,
+-- the own rules; then the reply
+abbrev pub judged_do :
+    Bool → Option Verdict → Option Rule → Bool → Option Rule → Reply → Verdict
+judged_do may before back full own reply =
+    refused_or (when (not may) NotYours) (before_or before (refused_or (first_of (
+    back
     ∷ when full (OverLimit BookLimit)
     ∷ own
-    ∷ [])) (new_reply reply)
+    ∷ [])) (new_reply reply)))
 
 -- and for a query: access, the day, the own rules; then the answer
 abbrev pub judged_ask : Bool → Option Rule → Option Rule → Answer → Verdict
@@ -112,8 +127,10 @@ judged_ask may back own answer = refused_or (first_of (
 -- what is said of a call on a book
 abbrev pub judge : Book → Call → Verdict
 judge b (Do caller number day command) =
-    judged_do (may_do caller command) (day_back (ledger_day b.entries) day)
-    (is_full (length b.entries)) (own_rule b day command) (reply_to b command)
+    judged_do (may_do caller command)
+    (said_before (entry_under b.entries caller number) command)
+    (day_back (ledger_day b.entries) day) (is_full (length b.entries)) (own_rule b day command)
+    (reply_to b command)
 judge b (Ask caller day query) =
     judged_ask (may_query caller query) (day_back (ledger_day b.entries) day) (own_query b query)
     (answer_to b day query)

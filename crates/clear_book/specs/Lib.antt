@@ -3,6 +3,7 @@ pub mod Accounts
 pub mod Book
 pub mod Checks
 pub mod Judge
+pub mod Kept
 pub mod Keyed
 pub mod Laws
 pub mod Limits

@@ -8,7 +8,7 @@ use Rattle.clear_book.specs.declared.rules.Rule.TheVariants.{Memory, Store, Fail
 use Rattle.clear_book.specs.declared.rules.StoreCause.TheVariants.{Other}
 use Rattle.clear_book.specs.declared.outcomes.Outcome.{Outcome}
 use Rattle.clear_book.specs.declared.outcomes.Outcome.TheVariants.{Refused}
-use Rattle.clear_book.specs.Book.{Entry, Book, call_of}
+use Rattle.clear_book.specs.Book.{Entry, Book, call_of, entry}
 use Rattle.clear_book.specs.Judge.{Verdict, new_reply, judge, outcome_of}
 use Rattle.clear_book.specs.Access.{may_do, may_query}
 use Rattle.clear_book.specs.Ranges.{IsCall}
@@ -20,8 +20,7 @@ appended b x = record { opening = b.opening; entries = x ∷ b.entries }
 -- a command with a new reply is appended with it; all else leaves the book
 abbrev pub after : Book → Call → Verdict → Book
 after b (Do caller number day command) (new_reply reply) =
-    appended b
-    (record { caller = caller; number = number; day = day; command = command; reply = reply })
+    appended b (entry caller number day command reply)
 after b call said = b
 
 -- what a call makes of a book

@@ -1,13 +1,11 @@
 -- The rules: the number and the name of each, and what it carries; the words for limits and causes.
 use Rattle.std.specs.Prelude.{ℕ, List, codes}
 use Rattle.clear_book.specs.declared.rules.Carried.{Carried}
-use Rattle.clear_book.specs.declared.rules.Carried.TheVariants.{Nothing, Member, Day, Month, Number}
+use Rattle.clear_book.specs.declared.rules.Carried.TheVariants.{Nothing, Day, Month, Number}
 use Rattle.clear_book.specs.declared.rules.Carried.TheVariants.{Field, Limit, Table}
 use Rattle.clear_book.specs.declared.rules.Limit.TheVariants.{Book, Employers, Lines, Gross}
 use Rattle.clear_book.specs.declared.rules.Limit.TheVariants.{Versions, File, Suspense, Credits}
 use Rattle.clear_book.specs.declared.rules.Limit.{Limit as LimitOn}
-use Rattle.clear_book.specs.declared.rules.Member.{Member as MemberOf}
-use Rattle.clear_book.specs.declared.rules.Member.TheVariants.{RequestNumber, Body}
 use Rattle.clear_book.specs.declared.rules.OldTable.{OldTable}
 use Rattle.clear_book.specs.declared.rules.OldTable.TheVariants as table
 use Rattle.clear_book.specs.declared.rules.Rule.{Rule}
@@ -51,7 +49,7 @@ entry_of NoRoute = entry 4 (codes "NoRoute") Nothing
 entry_of BadMethod = entry 5 (codes "BadMethod") Nothing
 entry_of UnknownKey = entry 6 (codes "UnknownKey") Nothing
 entry_of NotYours = entry 7 (codes "NotYours") Nothing
-entry_of (BadBody member) = entry 8 (codes "BadBody") (Member member)
+entry_of BadBody = entry 8 (codes "BadBody") Nothing
 entry_of NumberReused = entry 9 (codes "NumberReused") Nothing
 entry_of (DayBack day) = entry 10 (codes "DayBack") (Day day)
 entry_of UnknownEmployer = entry 11 (codes "UnknownEmployer") Nothing
@@ -105,11 +103,6 @@ word_of Versions = codes "versions"
 word_of File = codes "file"
 word_of Suspense = codes "suspense"
 word_of Credits = codes "credits"
-
--- the word that names a part of a request
-abbrev pub member_word : MemberOf → List ℕ
-member_word RequestNumber = codes "Request-Number"
-member_word Body = codes "body"
 
 -- the name of a table of an older store
 abbrev pub table_word : OldTable → List ℕ

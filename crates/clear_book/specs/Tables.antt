@@ -23,8 +23,9 @@ use Rattle.clear_book.specs.declared.rows.Change.{Change}
 use Rattle.clear_book.specs.declared.rows.Change.TheVariants.{AddEmployer, AddReport}
 use Rattle.clear_book.specs.declared.rows.Change.TheVariants.{ReplaceReport, AddBankLines}
 use Rattle.clear_book.specs.Accounts.{month_charge, credit_key, credits_under}
-use Rattle.clear_book.specs.Book.{Book, Member, rates_of, ledger_day, member_of, employer_count}
-use Rattle.clear_book.specs.Book.{latest_lines, reported_version}
+use Rattle.clear_book.specs.Book.{Book, Entry, Member, rates_of, request_number, ledger_day}
+use Rattle.clear_book.specs.Book.{member_of, employer_count, latest_lines, reported_version}
+use Rattle.clear_book.specs.Kept.{command_bytes}
 use Rattle.clear_book.specs.Keyed.{find_row, with_row, with_rows, put_row, without_rows}
 use Rattle.clear_book.specs.Keyed.{AreInOrder}
 use Rattle.clear_book.specs.Lines.{lines_standing, credits_of_lines, serial_count}
@@ -78,6 +79,10 @@ wage_key row = row.employer ∷ row.month ∷ row.worker ∷ []
 abbrev pub bank_key : BankRow → List ℕ
 bank_key row = row.line.reference
 
+-- a caller and the number that it gave the request
+abbrev pub request_key : RequestRow → List ℕ
+request_key row = request_number row.caller row.number
+
 -- ---- look-ups
 
 -- an employer, if it is registered
@@ -104,12 +109,26 @@ abbrev pub reported_gross : Option (List WageLine) → ℕ → Option ℕ
 reported_gross None w = None
 reported_gross (Some lines) w = gross_of lines w
 
+-- the row that keeps an accepted request
+abbrev pub request_row : Entry → RequestRow
+request_row x = record {
+  caller = x.caller;
+  number = x.number;
+  day = x.day;
+  command = command_bytes x.command;
+  reply = x.reply;
+}
+
+-- the rows of all accepted requests, the last one first
+abbrev pub requests_of : List Entry → List RequestRow
+requests_of xs = map request_row xs
+
 -- ---- the tables of a book, row by row
 
 -- the tables that no command fills yet are empty, and none of their numbers was given
 abbrev pub AreUnfilled : Tables → Type 0
 AreUnfilled t =
-    (t.claims ≡ []) × (t.lists ≡ []) × (t.runs ≡ []) × (t.reminders ≡ []) × (t.requests ≡ [])
+    (t.claims ≡ []) × (t.lists ≡ []) × (t.runs ≡ []) × (t.reminders ≡ [])
     × (t.last_claim ≡ 0) × (t.last_list ≡ 0) × (t.last_run ≡ 0)
 
 -- the tables are those of the book: each look-up says what the book says, and the keys rise
@@ -131,6 +150,9 @@ pub record Stands (b : Book) (t : Tables) : Type 0 where
   pub credits : (k : List ℕ) → find_row credit_key t.credits k
       ≡ find_row credit_key (credits_of_lines (lines_standing b.entries)) k
   pub credits_in_order : AreInOrder credit_key t.credits
+  pub requests : (k : List ℕ) → find_row request_key t.requests k
+      ≡ find_row request_key (requests_of b.entries) k
+  pub requests_in_order : AreInOrder request_key t.requests
   pub serial : t.serial ≡ serial_count b.entries
   pub unfilled : AreUnfilled t
 
@@ -193,6 +215,12 @@ changed (AddBankLines rows) t =
       serial = t.serial + length rows;
     }
 
--- what is noted of each accepted request besides: its day, and that it is one more
-abbrev pub noted : ℕ → Tables → Tables
-noted day t = record t { day = Some day; entries = t.entries + 1 }
+-- the day of an accepted request, and that it is one more
+abbrev pub dated : ℕ → Tables → Tables
+dated day t = record t { day = Some day; entries = t.entries + 1 }
+
+-- what is noted of each accepted request besides its change: its day, that it is one more, and the
+-- row that keeps it
+abbrev pub noted : Entry → Tables → Tables
+noted x t =
+    record (dated x.day t) { requests = with_row request_key t.requests (request_row x) }

@@ -1,20 +1,28 @@
 //! Laws: what follows from the definitions alone. A law has no parameters and no effect; its
 //! contract is the law.
-ghost use Rattle.std.specs.Prelude.{◌≡◌, ℕ, List, [], Bool, true};
+ghost use Rattle.std.specs.Prelude.{◌≡◌, ◌↔◌, ℕ, List, [], Bool, true, IsTrue};
 ghost use Rattle.std.specs.List.{AllByRecursion};
 ghost use Rattle.clear_money.specs.Rates.{Rate};
 ghost use Rattle.clear_bank.specs.Laws.{HasNoReferenceTwice};
 ghost use Rattle.clear_book.specs.declared.calls.Call.{Call};
+ghost use Rattle.clear_book.specs.declared.calls.Call.TheVariants.{Do};
+ghost use Rattle.clear_book.specs.declared.calls.Caller.{Caller};
+ghost use Rattle.clear_book.specs.declared.calls.Command.{Command};
 ghost use Rattle.clear_book.specs.declared.outcomes.Outcome.{Outcome};
 ghost use Rattle.clear_book.specs.declared.outcomes.Outcome.TheVariants.{Refused};
-ghost use Rattle.clear_book.specs.declared.rules.Rule.TheVariants.{Failed};
+ghost use Rattle.clear_book.specs.declared.outcomes.Reply.{Reply};
+ghost use Rattle.clear_book.specs.declared.rules.Rule.TheVariants.{Failed, Store};
+ghost use Rattle.clear_book.specs.declared.rules.StoreCause.{StoreCause};
+ghost use Rattle.clear_book.specs.declared.rules.StoreCause.TheVariants.{Other};
 ghost use Rattle.clear_book.specs.Accounts.{charges_of, credit_key, credits_of, credits_standing};
 ghost use Rattle.clear_book.specs.Book.{Book};
+ghost use Rattle.clear_book.specs.Judge.{judge, kept_reply, new_reply};
+ghost use Rattle.clear_book.specs.Kept.{command_bytes, same_command};
 ghost use Rattle.clear_book.specs.Laws.{AreCounted, AreSorted, IsSmall};
 ghost use Rattle.clear_book.specs.Lines.{credits_of_lines, lines_of_rows, lines_seen};
 ghost use Rattle.clear_book.specs.Lines.{lines_standing};
-ghost use Rattle.clear_book.specs.Machine.{AreRates, IsLawful, Runs};
-ghost use Rattle.clear_book.specs.Ranges.{IsCall};
+ghost use Rattle.clear_book.specs.Machine.{AreRates, Goes, IsLawful, Runs, step};
+ghost use Rattle.clear_book.specs.Ranges.{IsCall, IsCommand};
 ghost use Rattle.clear_book.specs.RowRanges.{AreInRange};
 ghost use Rattle.clear_book.specs.Tables.{Tables, Stands, table_charges, table_credits};
 
@@ -38,6 +46,13 @@ pub fn law_failed()
         → AllByRecursion (λ outcome. outcome ≡ Refused Failed) outcomes }
     ensures book { (end : Bool) (b : Book) (calls : List Call) (outcomes : List Outcome)
         (last : Book) → Runs true end b calls outcomes last → last ≡ b }
+{}
+
+/// A call that is answered with a fault of the store is so because the store failed: no key that
+/// stands already and no value out of its range is ever to blame.
+pub fn law_store_fault()
+    ensures { (failed then : Bool) (b : Book) (call : Call) (cause : StoreCause) (next : Book)
+        → Goes failed then b call (Refused (Store cause)) next → cause ≡ Other }
 {}
 
 /// A lawful book has at most 50,000,000 entries, its reports at most 10,000 versions of at most 500
@@ -85,4 +100,23 @@ pub fn law_credits_standing()
 /// day, then serial.
 pub fn law_credits()
     ensures { (b : Book) (t : Tables) (e : ℕ) → Stands b t → table_credits t e ≡ credits_of b e }
+{}
+
+/// A command that was accepted and comes again under its number, on any day and after any further
+/// calls, has the reply that it had, and leaves the book.
+pub fn law_2()
+    ensures { (b : Book) (caller : Caller) (number day : ℕ) (command : Command) (reply : Reply)
+        → judge b (Do caller number day command) ≡ new_reply reply
+        → (failed end : Bool) (calls : List Call) (outcomes : List Outcome) (last : Book)
+        → Runs failed end (step b (Do caller number day command)) calls outcomes last
+        → (later : ℕ) → (judge last (Do caller number later command) ≡ kept_reply reply)
+        × (step last (Do caller number later command) ≡ last) }
+{}
+
+/// Two commands are the same exactly where their kinds and each of their values are, and different
+/// commands whose values lie in their ranges have different bytes.
+pub fn law_4()
+    ensures same { (c d : Command) → IsTrue (same_command c d) ↔ (c ≡ d) }
+    ensures bytes { (c d : Command) → IsCommand c → IsCommand d
+        → command_bytes c ≡ command_bytes d → c ≡ d }
 {}

@@ -10,6 +10,7 @@
 pub mod access;
 pub mod calls;
 pub mod files;
+pub mod kept;
 pub mod laws;
 pub mod limits;
 pub mod numbers;

@@ -1,7 +1,7 @@
 //! The rules by which a call is refused: the number and the name of each, and what it carries.
 ghost use Rattle.std.specs.Prelude.{◌≡◌};
 ghost use Rattle.clear_book.specs.Rules.{Known, entry_of, known, number_of, name_of, carried_by};
-ghost use Rattle.clear_book.specs.Rules.{word_of, member_word, table_word, cause_of};
+ghost use Rattle.clear_book.specs.Rules.{word_of, table_word, cause_of};
 
 use clear_money::days::Day;
 use clear_money::months::Month;
@@ -26,15 +26,6 @@ pub enum Limit {
     Suspense,
     /// 100,000 credits of a firm for contributions, and as many for interest.
     Credits,
-}
-
-/// The part of a request that a fault is in.
-#[derive(Clone, Copy, Debug, PartialEq, Eq)]
-pub enum Member {
-    /// The field that gives a command's number.
-    RequestNumber,
-    /// The body.
-    Body,
 }
 
 /// Why the records could not be read or written.
@@ -74,8 +65,9 @@ pub enum Rule {
     UnknownKey,
     /// A firm names another firm, or gives what only a clerk may.
     NotYours,
-    /// The member of the request is missing, of another kind, or out of its range.
-    BadBody(Member),
+    /// A part of the request is missing, of another kind, out of its range, or too much. Which one
+    /// it is stands beside the rule, where the request is refused.
+    BadBody,
     /// The caller's number stands with another command.
     NumberReused,
     /// The day lies before the ledger day, which stands here.
@@ -145,7 +137,6 @@ pub enum Rule {
 #[derive(Clone, Copy)]
 pub enum Carried {
     Nothing,
-    Member(Member),
     Day(Day),
     Month(Month),
     Number(u64),
@@ -197,7 +188,7 @@ impl Rule {
             Rule::BadMethod => entry(5, "BadMethod", Carried::Nothing),
             Rule::UnknownKey => entry(6, "UnknownKey", Carried::Nothing),
             Rule::NotYours => entry(7, "NotYours", Carried::Nothing),
-            Rule::BadBody(member) => entry(8, "BadBody", Carried::Member(member)),
+            Rule::BadBody => entry(8, "BadBody", Carried::Nothing),
             Rule::NumberReused => entry(9, "NumberReused", Carried::Nothing),
             Rule::DayBack(day) => entry(10, "DayBack", Carried::Day(day)),
             Rule::UnknownEmployer => entry(11, "UnknownEmployer", Carried::Nothing),
@@ -268,18 +259,6 @@ impl Limit {
             Limit::File => "file",
             Limit::Suspense => "suspense",
             Limit::Credits => "credits",
-        }
-    }
-}
-
-impl Member {
-    /// The word that names the part of a request.
-    pub fn word(self) -> &'static str
-        ensures { result.now ≡ member_word self }
-    {
-        match self {
-            Member::RequestNumber => "Request-Number",
-            Member::Body => "body",
         }
     }
 }

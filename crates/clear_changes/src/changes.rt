@@ -2,7 +2,7 @@
 ghost use Rattle.std.specs.Prelude.{◌≡◌, IfErr, IsTrue, OnOk};
 ghost use Rattle.sqlite.specs.Held.{state};
 ghost use Rattle.sqlite.specs.State.{HasCleanDisk, KeepsCommit, Survives};
-ghost use Rattle.clear_book.specs.Tables.{Tables, changed, noted};
+ghost use Rattle.clear_book.specs.Tables.{Tables, changed, dated};
 ghost use Rattle.clear_schema.specs.Held.{HasTables};
 ghost use Rattle.clear_schema.specs.Values.{counts_of};
 ghost use Rattle.clear_firms.specs.Counts.{as_stored};
@@ -39,7 +39,7 @@ pub fn put_change<S: Alter>(
     ensures put { HasCleanDisk (state S.Store tx.new.conn.now)
         → (t : Tables) → HasTables t (state S.Store tx.old.conn.now).now
         → as_stored counts.now ≡ counts_of t → IsThere change.now t
-        → OnOk result (HasTables (noted day (changed change.now t))
+        → OnOk result (HasTables (dated day (changed change.now t))
         (state S.Store tx.new.conn.now).now) }
     ensures cause { HasCleanDisk (state S.Store tx.new.conn.now)
         → (t : Tables) → HasTables t (state S.Store tx.old.conn.now).now

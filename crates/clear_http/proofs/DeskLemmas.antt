@@ -5,7 +5,7 @@ use Rattle.clear_book.specs.Book.{Book}
 use Rattle.clear_book.specs.Machine.{IsLawful}
 use Rattle.clear_office.specs.Office.{IsHonest, Keeps}
 use Rattle.clear_answers.specs.declared.said.Said.{Said}
-use Rattle.clear_routes.specs.Callers.{KeyOf}
+use Rattle.clear_callers.specs.Callers.{KeyOf}
 use Rattle.clear_routes.specs.Reading.{Reads}
 use Rattle.clear_wire.specs.Head.{Heading}
 use Rattle.clear_http.specs.declared.desk.Desk.{Desk}

@@ -1,24 +1,48 @@
 -- Of a stream that is served: one answer more, the end, and a break.
-use Rattle.std.proofs.Common.{◌≡◌, ℕ, ◌+◌, ◌<◌, Bool, eqb, List, [], ◌∷◌, ◌++◌, Option, refl, sym, ap, ◌∙◌, subst, arith, inl, inr}
+use Rattle.std.proofs.Common.{◌≡◌, ◌⊎◌, ℕ, ◌+◌, ◌<◌, Bool, true, false, cond, eqb, List, [], ◌∷◌, ◌++◌, Option, Some, None, refl, sym, ap, ◌∙◌, subst, arith, inl, inr}
 use Rattle.std.proofs.lemmas.List.{append-nil, append_assoc, length-append}
-use Rattle.std.specs.Prelude.{IfSome, false, length, codes}
+use Rattle.std.specs.Prelude.{IfSome, length, codes}
 use Rattle.std.specs.Io.KnownBytes.{Appends}
 use Rattle.clear_book.specs.declared.rules.Rule.TheVariants.{Memory}
 use Rattle.clear_answers.specs.declared.said.Said.{Said}
-use Rattle.clear_answers.specs.Answer.{answer_of, first_lines, key_field, close_field, sent_body, body_of}
+use Rattle.clear_answers.specs.declared.said.Said.TheVariants.{Reply, Answer, No}
+use Rattle.clear_answers.specs.Answer.{answer_of, first_lines, further_field, close_field, sent_body, body_of}
 use Rattle.clear_answers.specs.Said.{refused_by}
 use Rattle.clear_wire.specs.Head.{Heading}
 use Rattle.clear_wire.specs.Stream.{NextItem, ended, Next}
-use Rattle.clear_wire.specs.Cut.{left_after, left_after_all, Cuts}
+use Rattle.clear_wire.specs.Cut.{left_after, left_after_all, BeginsCut, Cuts}
 use Rattle.clear_wire.specs.Known.{Leads}
 use Rattle.clear_wire.specs.Limits.{request_limit}
-use Rattle.clear_wire.proofs.CutLemmas.{Cuts-append, left_after_all-append, cut_ended, cut_full, cut_begun}
+use Rattle.clear_wire.proofs.CutLemmas.{Cuts-append, left_after_all-append, cut_ended, cut_full, cut_begun, nothing_cut}
 use Rattle.clear_wire.proofs.KnownLemmas.{Leads-refl, Leads-then, Appends-nil, Appends-then}
-use Rattle.clear_http.specs.Serve.{was_done, MaySend, Says, Responds, is_bare, item_answer, answer_text, AnswersOne, BreaksOff, Progress, Serves, ServesPart}
+use Rattle.clear_http.specs.Serve.{ends_stream, left_then, NoneEnds, LastEnds, IsCutBy, was_done, MaySend, Says, Responds, is_bare, item_answer, answer_text, AnswersOne, BreaksOff, Progress, Serves, ServesPart}
 
-pub same_answer : (left : ℕ) (p : NextItem) (said : Said) (bare : Bool) (after : ℕ) → bare ≡ is_bare p → after ≡ left_after left p
+-- ---- what ends a stream
+
+-- what wasn't done ends none
+not_ending : (said : Said) → was_done said ≡ false → ends_stream said ≡ false
+not_ending (Reply reply) h = refl
+not_ending (Answer answer) h = refl
+not_ending (No refused) h = h
+
+-- what is sent ends it just as what was wanted
+pub sent_ends : (wanted said : Said) → MaySend wanted said → ends_stream wanted ≡ ends_stream said
+sent_ends wanted said (inl same) = ap ends_stream (sym same)
+sent_ends wanted said (inr memory) = not_ending wanted memory.0 ∙ sym (ap ends_stream memory.1)
+
+pub same_answer : (left : ℕ) (p : NextItem) (wanted said : Said) (bare : Bool) (after : ℕ) → bare ≡ is_bare p → after ≡ left_then left p wanted → MaySend wanted said
     → answer_of said (eqb after 0) bare ≡ item_answer left p said
-same_answer left p said bare after b a = λ i. answer_of said (eqb (a i) 0) (b i)
+same_answer left p wanted said bare after b a sent =
+    let same : after ≡ left_then left p said = a ∙ ap (λ t. cond t 0 (left_after left p)) (sent_ends wanted said sent) in
+    (λ i. answer_of said (eqb (same i) 0) (b i))
+
+none_more : (saids : List Said) (said : Said) → NoneEnds saids → ends_stream said ≡ false → NoneEnds (saids ++ said ∷ [])
+none_more [] said none is = (is, tt)
+none_more (s ∷ saids) said none is = (none.0, none_more saids said none.1 is)
+
+if_some : {A : Type 0} {P Q : A → Type 0} → ((x : A) → P x → Q x) → (o : Option A) → IfSome o P → IfSome o Q
+if_some f None h = tt
+if_some f (Some x) h = f x h
 
 module _ {H : Type 0} (responds : H → Heading → List ℕ → Said → H → Type 0) where
   -- what is sent for an item may be said to it
@@ -44,70 +68,97 @@ module _ {H : Type 0} (responds : H → Heading → List ℕ → Said → H → 
       ∙ sym (append_assoc (item_answer left p s) _ _)
 
   module _ (h : H) (bytes mid written wmid : Option (List ℕ)) (left : ℕ) (now : H) (answered : ℕ) (x : Progress responds h bytes mid written wmid left now answered) where
-    text_then : (qs : List NextItem) (ts : List Said) → answer_text request_limit (x.items ++ qs) (x.saids ++ ts) ≡ answer_text request_limit x.items x.saids ++ answer_text left qs ts
-    text_then qs ts = answer_text-append request_limit h x.items qs x.saids ts now x.runs
-        ∙ ap (λ n. answer_text request_limit x.items x.saids ++ answer_text n qs ts) (sym x.left_is)
+    -- where a request may follow, nothing has ended the stream
+    module _ (some : 0 < left) where
+      so_far : (left ≡ left_after_all request_limit x.items) × NoneEnds x.saids
+      so_far = elim x.left_is [
+        | inl both ↦ both
+        | inr over ↦ absurd (omega (arith, some, over.0))
+      ]
 
-    left_then : (qs : List NextItem) → left_after_all request_limit (x.items ++ qs) ≡ left_after_all left qs
-    left_then qs = left_after_all-append request_limit x.items qs ∙ ap (λ n. left_after_all n qs) (sym x.left_is)
+      left_is : left ≡ left_after_all request_limit x.items
+      left_is = so_far.0
 
-    cuts_then : (qs : List NextItem) (b m r : List ℕ) → Cuts request_limit b x.items m → Cuts left m qs r → Cuts request_limit b (x.items ++ qs) r
-    cuts_then qs b m r c d = Cuts-append request_limit b x.items qs m r c (subst (λ n. Cuts n m qs r) x.left_is d)
+      text_then : (qs : List NextItem) (ts : List Said) → answer_text request_limit (x.items ++ qs) (x.saids ++ ts) ≡ answer_text request_limit x.items x.saids ++ answer_text left qs ts
+      text_then qs ts = answer_text-append request_limit h x.items qs x.saids ts now x.runs
+          ∙ ap (λ n. answer_text request_limit x.items x.saids ++ answer_text n qs ts) (sym left_is)
 
-    pub progress_more : (bytes' written' : Option (List ℕ)) (after : ℕ) (next : H) → 0 < left → AnswersOne responds left now mid bytes' wmid written' after next
-        → Progress responds h bytes bytes' written written' after next (answered + 1)
-    progress_more bytes' written' after next some one = record {
-      items = x.items ++ one.0 ∷ [];
-      saids = x.saids ++ one.1 ∷ [];
-      cuts = Leads-then _ (λ b r. Next b one.0 r) _ (λ b m r c n. cuts_then (one.0 ∷ []) b m r c (some, one.2, r, n, refl)) bytes mid bytes' x.cuts one.3;
-      runs = Responds-append h x.items (one.0 ∷ []) x.saids (one.1 ∷ []) now next x.runs (next, one.5, refl);
-      left_is = one.4 ∙ sym (left_then (one.0 ∷ []));
-      wrote = subst (Appends written written')
-          (ap (λ t. answer_text request_limit x.items x.saids ++ t) (sym (append-nil (item_answer left one.0 one.1))) ∙ sym (text_then (one.0 ∷ []) (one.1 ∷ [])))
-          (Appends-then written wmid written' _ _ x.wrote one.6);
-      count = omega (arith, x.count, length-append x.items (one.0 ∷ []));
-    }
+      cuts_then : (qs : List NextItem) (b m r : List ℕ) → Cuts request_limit b x.items m → Cuts left m qs r → Cuts request_limit b (x.items ++ qs) r
+      cuts_then qs b m r c d = Cuts-append request_limit b x.items qs m r c (subst (λ n. Cuts n m qs r) left_is d)
 
-    pub progress_over : (bytes' written' : Option (List ℕ)) (next : H) → Leads (λ b r. Next b ended r) mid bytes' → next ≡ now → written' ≡ wmid
-        → Serves responds h bytes written written' next answered
-    progress_over bytes' written' next over same kept = record {
-      items = x.items;
-      saids = x.saids;
-      cut = cut_ended x.items bytes mid bytes' x.cuts over;
-      runs = subst (Responds responds h x.items x.saids) (sym same) x.runs;
-      wrote = subst (λ w. Appends written w (answer_text request_limit x.items x.saids)) (sym kept) x.wrote;
-      count = x.count;
-    }
+      -- how many may follow one item more
+      left_more : (item : NextItem) (said : Said) (after : ℕ) (ends : Bool) → ends_stream said ≡ ends → after ≡ cond ends 0 (left_after left item)
+          → ((after ≡ left_after_all request_limit (x.items ++ item ∷ [])) × NoneEnds (x.saids ++ said ∷ [])) ⊎ ((after ≡ 0) × LastEnds (x.saids ++ said ∷ []))
+      left_more item said after false is follows =
+          let all : left_after_all request_limit (x.items ++ item ∷ []) ≡ left_after left item = left_after_all-append request_limit x.items (item ∷ []) ∙ ap (λ n. left_after n item) (sym left_is) in
+          inl (follows ∙ sym all, none_more x.saids said so_far.1 is)
+      left_more item said after true is follows = inr (follows, (x.saids, said, refl, so_far.1, is))
+
+      pub progress_more : (bytes' written' : Option (List ℕ)) (after : ℕ) (next : H) → AnswersOne responds left now mid bytes' wmid written' after next
+          → Progress responds h bytes bytes' written written' after next (answered + 1)
+      progress_more bytes' written' after next one = record {
+        items = x.items ++ one.0 ∷ [];
+        saids = x.saids ++ one.1 ∷ [];
+        cuts = Leads-then _ (λ b r. Next b one.0 r) _ (λ b m r c n. cuts_then (one.0 ∷ []) b m r c (some, one.2, r, n, refl)) bytes mid bytes' x.cuts one.3;
+        runs = Responds-append h x.items (one.0 ∷ []) x.saids (one.1 ∷ []) now next x.runs (next, one.5, refl);
+        left_is = left_more one.0 one.1 after (ends_stream one.1) refl one.4;
+        wrote = subst (Appends written written')
+            (ap (λ t. answer_text request_limit x.items x.saids ++ t) (sym (append-nil (item_answer left one.0 one.1))) ∙ sym (text_then (one.0 ∷ []) (one.1 ∷ [])))
+            (Appends-then written wmid written' _ _ x.wrote one.6);
+        count = omega (arith, x.count, length-append x.items (one.0 ∷ []));
+      }
+
+      pub progress_over : (bytes' written' : Option (List ℕ)) (next : H) → Leads (λ b r. Next b ended r) mid bytes' → next ≡ now → written' ≡ wmid
+          → Serves responds h bytes written written' next answered
+      progress_over bytes' written' next over same kept = record {
+        items = x.items;
+        saids = x.saids;
+        cut = if_some (λ b whole_cut. inl (whole_cut, so_far.1)) bytes (cut_ended x.items bytes mid bytes' x.cuts over);
+        runs = subst (Responds responds h x.items x.saids) (sym same) x.runs;
+        wrote = subst (λ w. Appends written w (answer_text request_limit x.items x.saids)) (sym kept) x.wrote;
+        count = x.count;
+      }
+
+      pub progress_break : (written' : Option (List ℕ)) (next : H) → BreaksOff responds left now mid wmid written' next → ServesPart responds h bytes written written' next answered
+      progress_break written' next b = record {
+        items = x.items;
+        saids = x.saids;
+        last = b.0;
+        last_said = b.1;
+        begins = cut_begun x.items b.0 bytes mid x.cuts (left_same b.0 mid b.5);
+        runs = Responds-append h x.items b.0 x.saids b.1 now next x.runs b.6;
+        goes_on = so_far.1;
+        one = b.4;
+        part = b.2;
+        rest = b.3;
+        wrote = Appends-then written wmid written' _ _ x.wrote b.7;
+        split = text_then b.0 b.1 ∙ ap (λ t. answer_text request_limit x.items x.saids ++ t) b.8;
+        proper = b.9;
+        count = x.count;
+      }
+        where
+          left_same : (qs : List NextItem) (a : Option (List ℕ)) → IfSome a (λ m. (r : List ℕ) × Cuts left m qs r) → IfSome a (λ m. (r : List ℕ) × Cuts (left_after_all request_limit x.items) m qs r)
+          left_same qs a q = subst (λ n. IfSome a (λ m. (r : List ℕ) × Cuts n m qs r)) left_is q
+
+    -- no request may follow
+    all_cut : left ≡ 0 → IfSome bytes (λ b. IsCutBy b x.items x.saids)
+    all_cut none = elim x.left_is [
+      | inl both ↦ if_some (λ b whole_cut. inl (whole_cut, both.1)) bytes (cut_full x.items bytes mid (sym both.0 ∙ none) x.cuts)
+      | inr over ↦ if_some (λ b begun. inr (begun, over.1)) bytes begins
+    ]
+      where
+        begins : IfSome bytes (λ b. BeginsCut b x.items)
+        begins = subst (λ (q : List NextItem). IfSome bytes (λ b. BeginsCut b q)) (append-nil x.items) (cut_begun x.items [] bytes mid x.cuts (nothing_cut (left_after_all request_limit x.items) mid))
 
     pub progress_full : left ≡ 0 → Serves responds h bytes written wmid now answered
     progress_full none = record {
       items = x.items;
       saids = x.saids;
-      cut = cut_full x.items bytes mid (sym x.left_is ∙ none) x.cuts;
+      cut = all_cut none;
       runs = x.runs;
       wrote = x.wrote;
       count = x.count;
     }
-
-    pub progress_break : (written' : Option (List ℕ)) (next : H) → BreaksOff responds left now mid wmid written' next → ServesPart responds h bytes written written' next answered
-    progress_break written' next b = record {
-      items = x.items;
-      saids = x.saids;
-      last = b.0;
-      last_said = b.1;
-      begins = cut_begun x.items b.0 bytes mid x.cuts (left_same b.0 mid b.5);
-      runs = Responds-append h x.items b.0 x.saids b.1 now next x.runs b.6;
-      one = b.4;
-      part = b.2;
-      rest = b.3;
-      wrote = Appends-then written wmid written' _ _ x.wrote b.7;
-      split = text_then b.0 b.1 ∙ ap (λ t. answer_text request_limit x.items x.saids ++ t) b.8;
-      proper = b.9;
-      count = x.count;
-    }
-      where
-        left_same : (qs : List NextItem) (a : Option (List ℕ)) → IfSome a (λ m. (r : List ℕ) × Cuts left m qs r) → IfSome a (λ m. (r : List ℕ) × Cuts (left_after_all request_limit x.items) m qs r)
-        left_same qs a q = subst (λ n. IfSome a (λ m. (r : List ℕ) × Cuts n m qs r)) x.left_is q
 
   -- before the first request
   pub progress_none : (h : H) (bytes written : Option (List ℕ)) → Progress responds h bytes bytes written written request_limit h 0
@@ -116,7 +167,7 @@ module _ {H : Type 0} (responds : H → Heading → List ℕ → Said → H → 
     saids = [];
     cuts = Leads-refl (λ b r. Cuts request_limit b [] r) (λ b. refl) bytes;
     runs = refl;
-    left_is = refl;
+    left_is = inl (refl, tt);
     wrote = Appends-nil written;
     count = refl;
   }
@@ -134,6 +185,6 @@ pub answer_some : (said : Said) (close bare : Bool) → 0 < length (answer_of sa
 unfolding answer_of
 answer_some said close bare =
     let lines = first_lines said (length (body_of said)) in
-    front_some (lines ++ key_field said ++ close_field close ++ codes "\r\n") (sent_body bare (body_of said))
-    (front_some (lines ++ key_field said ++ close_field close) (codes "\r\n")
-    (front_some (lines ++ key_field said) (close_field close) (front_some lines (key_field said) (lines_some said (length (body_of said))))))
+    front_some (lines ++ further_field said ++ close_field close ++ codes "\r\n") (sent_body bare (body_of said))
+    (front_some (lines ++ further_field said ++ close_field close) (codes "\r\n")
+    (front_some (lines ++ further_field said) (close_field close) (front_some lines (further_field said) (lines_some said (length (body_of said))))))

@@ -5,8 +5,9 @@ use Rattle.clear_book.specs.declared.calls.Call.{Call}
 use Rattle.clear_book.specs.declared.calls.Call.TheVariants.{Do, Ask}
 use Rattle.clear_book.specs.declared.outcomes.Outcome.{Outcome}
 use Rattle.clear_book.specs.declared.outcomes.Outcome.TheVariants.{Refused}
-use Rattle.clear_book.specs.declared.rules.Rule.{Rule}
-use Rattle.clear_book.specs.declared.rules.Rule.TheVariants.{Failed}
+use Rattle.clear_routes.specs.declared.refused.Refused.{Refused as Refusal}
+use Rattle.clear_book.specs.declared.rules.Rule.TheVariants.{Store}
+use Rattle.clear_book.specs.declared.rules.StoreCause.TheVariants.{Other}
 use Rattle.clear_book.specs.Book.{Book}
 use Rattle.clear_book.specs.Judge.{Verdict, new_reply, kept_reply, an_answer, a_refusal, judge, outcome_of}
 use Rattle.clear_book.specs.Machine.{IsLawful, Goes, after}
@@ -27,50 +28,46 @@ after_stays b (Do caller number day command) (an_answer answer) none = refl
 after_stays b (Do caller number day command) (a_refusal why) none = refl
 after_stays b (Ask caller day query) said none = refl
 
--- the book stays
-stays_without_reply : (failed then : Bool) (b : Book) (call : Call) (o : Outcome) (next : Book) → was_done (said_of o) ≡ false → Goes failed then b call o next → next ≡ b
-stays_without_reply false false b call o next none (inl (is, goes)) =
-    goes ∙ after_stays b call (judge b call) (subst (λ (o : Outcome). was_done (said_of o) ≡ false) is none)
-stays_without_reply false false b call o next none (inr memory) = memory.2
-stays_without_reply false true b call o next none faults = faults.2
-stays_without_reply true true b call o next none failed = failed.1
-stays_without_reply true false b call o next none never = absurd never
+-- the book stays, and the office hasn't failed now
+stays_undone : (failed then : Bool) (b : Book) (call : Call) (o : Outcome) (next : Book) → was_done (said_of o) ≡ false → Goes failed then b call o next → (then ≡ failed) × (next ≡ b)
+stays_undone false false b call o next none (inl (is, goes)) =
+    (refl, goes ∙ after_stays b call (judge b call) (subst (λ (o : Outcome). was_done (said_of o) ≡ false) is none))
+stays_undone false false b call o next none (inr memory) = (refl, memory.2)
+stays_undone false true b call o next none faults =
+    let told : was_done (said_of (Refused (Store Other))) ≡ false = subst (λ (o : Outcome). was_done (said_of o) ≡ false) faults.0 none in
+    absurd (cc told)
+stays_undone true true b call o next none failed = (refl, failed.1)
+stays_undone true false b call o next none never = absurd never
 
 module _ {S : Type 0} (g : Ghosts S) where
-  pub goes_on_without_reply : (old new : AtOffice S) (call : Call) (o : Outcome) → was_done (said_of o) ≡ false
-      → (old.failed ≡ true → (o ≡ Refused Failed) × (new ≡ old)) → Steps g old call o new
-      → KeepsOn g old new
-  goes_on_without_reply old new call o none failed steps = (
-    λ is. ap (λ (a : AtOffice S). a.failed) (failed is).1 ∙ is,
-    λ honest b lawful keeps.
-        let there = steps honest b lawful keeps in
-        subst (Keeps g new) (stays_without_reply old.failed new.failed b call o there.0 none there.1) there.3,
-  )
+  pub goes_on_undone : (old new : AtOffice S) (call : Call) (o : Outcome) → was_done (said_of o) ≡ false → Steps g old call o new → KeepsOn g old new
+  goes_on_undone old new call o none steps honest b lawful keeps =
+      let there = steps honest b lawful keeps in
+      let stays = stays_undone old.failed new.failed b call o there.0 none there.1 in
+      (stays.0, subst (Keeps g new) stays.1 there.3)
 
   pub goes_on_unchanged : (old new : AtOffice S) → new ≡ old → KeepsOn g old new
-  goes_on_unchanged old new same = (
-    λ is. ap (λ (a : AtOffice S). a.failed) same ∙ is,
-    λ honest b lawful keeps. subst (λ (a : AtOffice S). Keeps g a b) (sym same) keeps,
-  )
+  goes_on_unchanged old new same honest b lawful keeps =
+      (ap (λ (a : AtOffice S). a.failed) same, subst (λ (a : AtOffice S). Keeps g a b) (sym same) keeps)
 
 -- ---- over a book
 
-module _ {S : Type 0} (g : Ghosts S) (reads : Heading → List ℕ → Result Call Rule → Type 0) where
+module _ {S : Type 0} (g : Ghosts S) (reads : Heading → List ℕ → Result Call Refusal → Type 0) where
   -- the book after an item
   abbrev GoesItem : AtOffice S → Book → NextItem → Said → AtOffice S → Type 0
   GoesItem old b item told new =
       (next : Book) × ItemTakes reads old.failed new.failed b item told next × IsLawful next × Keeps g new next
 
-  goes_call : (b : Book) (heading : Heading) (body : List ℕ) (read : Result Call Rule) → reads heading body read
+  goes_call : (b : Book) (heading : Heading) (body : List ℕ) (read : Result Call Refusal) → reads heading body read
       → (old : AtOffice S) (told : Said) (new : AtOffice S) → IsHonest g new → IsLawful b → Keeps g old b
       → CallSteps g reads read old told new
       → GoesItem old b (whole heading body) told new
   goes_call b heading body (Ok call) is old told new honest lawful keeps steps =
       let there = steps.2 honest b lawful keeps in
       (there.0, inl (Ok call, is, (steps.0, steps.1, there.1)), there.2, there.3)
-  goes_call b heading body (Err rule) is old told new honest lawful keeps steps =
-      let kept = (goes_on_unchanged g old new steps.1).1 honest b lawful keeps in
-      (b, inl (Err rule, is, (steps.0, refl, ap (λ (a : AtOffice S). a.failed) steps.1)), lawful, kept)
+  goes_call b heading body (Err refused) is old told new honest lawful keeps steps =
+      let kept = goes_on_unchanged g old new steps.1 honest b lawful keeps in
+      (b, inl (Err refused, is, (steps.0, refl, kept.0)), lawful, kept.1)
 
   goes_whole : (b : Book) (heading : Heading) (body : List ℕ) (old : AtOffice S) (told : Said) (new : AtOffice S)
       → IsHonest g new → IsLawful b → Keeps g old b → RequestSteps g reads old heading body told new
@@ -78,7 +75,8 @@ module _ {S : Type 0} (g : Ghosts S) (reads : Heading → List ℕ → Result Ca
   goes_whole b heading body old told new honest lawful keeps (inl steps) =
       goes_call b heading body steps.0 steps.1 old told new honest lawful keeps steps.2
   goes_whole b heading body old told new honest lawful keeps (inr none) =
-      (b, inr (none.0, refl, none.1.0), lawful, none.1.1 honest b lawful keeps)
+      let kept = none.1 honest b lawful keeps in
+      (b, inr (none.0, refl, kept.0), lawful, kept.1)
 
   module _ {D : Type 0} (office_of : D → AtOffice S) (IsSame : D → Type 0)
       (responds : D → Heading → List ℕ → Said → D → Type 0)
@@ -163,6 +161,7 @@ module _ {S : Type 0} (g : Ghosts S) (reads : Heading → List ℕ → Result Ca
           rest = all.rest;
           wrote = all.wrote;
           split = all.split;
+          goes_on = all.goes_on;
           proper = all.proper;
           count = all.count;
           lawful = there.2;

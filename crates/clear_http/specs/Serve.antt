@@ -1,9 +1,12 @@
 -- What is served: the items of a stream, what is said to each, and the bytes of their answers.
 -- `responds` says what may be said to a request, and what the one who answers is then.
 use Rattle.std.specs.Prelude.{◌≡◌, ℕ, ◌≤◌, ◌<◌, ◌⊎◌, Bool, true, false, List, [], ◌∷◌, ◌++◌}
-use Rattle.std.specs.Prelude.{length, Option, ◌==◌, IfSome, ⊤}
+use Rattle.std.specs.Prelude.{Result, Ok, Err}
+use Rattle.std.specs.Prelude.{length, Option, ◌==◌, IfSome, ⊤, if◌then◌else◌}
+use Rattle.std.specs.List.{AllByRecursion}
 use Rattle.std.specs.Io.KnownBytes.{Appends}
-use Rattle.clear_book.specs.declared.rules.Rule.TheVariants.{Memory}
+use Rattle.clear_book.specs.declared.rules.Rule.{Rule}
+use Rattle.clear_book.specs.declared.rules.Rule.TheVariants.{Memory, Store, Failed}
 use Rattle.clear_answers.specs.declared.said.Said.{Said}
 use Rattle.clear_answers.specs.declared.said.Said.TheVariants.{Reply, Answer, No}
 use Rattle.clear_answers.specs.Answer.{answer_of}
@@ -14,6 +17,8 @@ use Rattle.clear_wire.specs.Known.{Leads}
 use Rattle.clear_wire.specs.Limits.{request_limit}
 use Rattle.clear_wire.specs.Method.{is_head}
 use Rattle.clear_wire.specs.Stream.{NextItem, whole, bad, ended, Next}
+use Rattle.clear_http.specs.declared.serve.ServeFault.{ServeFault}
+use Rattle.clear_http.specs.declared.serve.Served.{Served}
 
 -- an answer without a body
 abbrev pub is_bare : NextItem → Bool
@@ -21,9 +26,24 @@ is_bare (whole heading body) = is_head heading.method
 is_bare (bad rule bare) = bare
 is_bare ended = false
 
+-- the rule says that the store has failed
+abbrev pub tells_fault : Rule → Bool
+tells_fault (Store cause) = true
+tells_fault rule = false
+
+-- what is said ends the stream: the store has failed
+abbrev pub ends_stream : Said → Bool
+ends_stream (Reply reply) = false
+ends_stream (Answer answer) = false
+ends_stream (No refused) = tells_fault refused.rule
+
+-- how many requests may follow an item to which this is said, where so many might come with it
+abbrev pub left_then : ℕ → NextItem → Said → ℕ
+left_then left item said = if ends_stream said then 0 else left_after left item
+
 -- the bytes of one answer, where so many requests may still come with its item
 abbrev pub item_answer : ℕ → NextItem → Said → List ℕ
-item_answer left item said = answer_of said (left_after left item == 0) (is_bare item)
+item_answer left item said = answer_of said (left_then left item said == 0) (is_bare item)
 
 -- the bytes of all answers
 abbrev pub answer_text : ℕ → List NextItem → List Said → List ℕ
@@ -32,11 +52,28 @@ answer_text left (item ∷ items) [] = []
 answer_text left (item ∷ items) (said ∷ saids) =
     item_answer left item said ++ answer_text (left_after left item) items saids
 
--- something was done for what is said: only a reply to a command says so
+-- something was done for what is said, or may have been: a command has its reply, or the store has
+-- failed
 abbrev pub was_done : Said → Bool
 was_done (Reply reply) = true
 was_done (Answer answer) = false
-was_done (No refused) = false
+was_done (No refused) = tells_fault refused.rule
+
+-- nothing of what is said ends the stream
+abbrev pub NoneEnds : List Said → Type 0
+NoneEnds saids = AllByRecursion (λ said. ends_stream said ≡ false) saids
+
+-- what is said last ends the stream, and nothing before it does
+abbrev pub LastEnds : List Said → Type 0
+LastEnds saids =
+    (front : List Said) × (last : Said) × (saids ≡ front ++ last ∷ []) × NoneEnds front
+    × (ends_stream last ≡ true)
+
+-- the items are all those of the stream that have an answer; or, where the store has failed, those
+-- up to this
+abbrev pub IsCutBy : List ℕ → List NextItem → List Said → Type 0
+IsCutBy bytes items saids =
+    (IsCut bytes items × NoneEnds saids) ⊎ (BeginsCut bytes items × LastEnds saids)
 
 -- what may be sent for what is to be said: that, or, where nothing was done, that there is no
 -- memory
@@ -47,6 +84,18 @@ MaySend wanted said = (said ≡ wanted) ⊎ ((was_done wanted ≡ false) × (sai
 abbrev pub IsProper : List NextItem → List ℕ → Type 0
 IsProper [] rest = ⊤
 IsProper (item ∷ items) rest = 0 < length rest
+
+-- the one answer of an office that has failed before, which ends the stream
+abbrev pub failed_answer : List ℕ
+failed_answer = answer_of (refused_by Failed) true false
+
+-- this answer is written, and counted; or, after a fault, a front of it that isn't all of it
+abbrev pub TellsFailed : Option (List ℕ) → Option (List ℕ) → Result Served ServeFault → Type 0
+TellsFailed written written' (Ok served) =
+    (served.requests ≡ 1) × Appends written written' failed_answer
+TellsFailed written written' (Err fault) =
+    (fault.answered ≡ 0) × (part : List ℕ) × (rest : List ℕ) × (failed_answer ≡ part ++ rest)
+    × (0 < length rest) × Appends written written' part
 
 module _ {H : Type 0} (responds : H → Heading → List ℕ → Said → H → Type 0) where
   -- a request is answered; a rule that ends the stream is told, or, in its place, want of memory
@@ -70,7 +119,7 @@ module _ {H : Type 0} (responds : H → Heading → List ℕ → Said → H → 
   AnswersOne left h bytes bytes' written written' after h' =
       (item : NextItem) × (said : Said) × IsAnswered item
       × Leads (λ b r. Next b item r) bytes bytes'
-      × (after ≡ left_after left item) × Says h item said h'
+      × (after ≡ left_then left item said) × Says h item said h'
       × Appends written written' (item_answer left item said)
 
   -- at most one item more was taken, and a front of its answer is written
@@ -89,7 +138,8 @@ module _ {H : Type 0} (responds : H → Heading → List ℕ → Said → H → 
     pub saids : List Said
     pub cuts : Leads (λ b r. Cuts request_limit b items r) bytes bytes'
     pub runs : Responds h items saids h'
-    pub left_is : left ≡ left_after_all request_limit items
+    pub left_is : ((left ≡ left_after_all request_limit items) × NoneEnds saids)
+        ⊎ ((left ≡ 0) × LastEnds saids)
     pub wrote : Appends written written' (answer_text request_limit items saids)
     pub count : answered ≡ length items
 
@@ -98,7 +148,7 @@ module _ {H : Type 0} (responds : H → Heading → List ℕ → Said → H → 
       (h : H) (bytes written written' : Option (List ℕ)) (h' : H) (answered : ℕ) : Type 0 where
     pub items : List NextItem
     pub saids : List Said
-    pub cut : IfSome bytes (λ b. IsCut b items)
+    pub cut : IfSome bytes (λ b. IsCutBy b items saids)
     pub runs : Responds h items saids h'
     pub wrote : Appends written written' (answer_text request_limit items saids)
     pub count : answered ≡ length items
@@ -113,6 +163,7 @@ module _ {H : Type 0} (responds : H → Heading → List ℕ → Said → H → 
     pub last_said : List Said
     pub begins : IfSome bytes (λ b. BeginsCut b (items ++ last))
     pub runs : Responds h (items ++ last) (saids ++ last_said) h'
+    pub goes_on : NoneEnds saids
     pub one : length last ≤ 1
     pub part : List ℕ
     pub rest : List ℕ

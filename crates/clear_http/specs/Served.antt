@@ -1,12 +1,12 @@
 -- What is served over a book: the outcomes of the machine, and their answers. `reads` says which
 -- call a request is, or what refuses it before the office sees it.
-use Rattle.std.specs.Prelude.{◌≡◌, ℕ, ◌≤◌, ◌⊎◌, ◌++◌, Bool, true, List, [], ◌∷◌, length, Option}
+use Rattle.std.specs.Prelude.{◌≡◌, ℕ, ◌≤◌, ◌⊎◌, ◌++◌, Bool, List, [], ◌∷◌, length, Option}
 use Rattle.std.specs.Prelude.{Result, Ok, Err, IfSome}
 use Rattle.std.specs.Io.KnownBytes.{Appends}
 use Rattle.sqlite.specs.Store.{Ghosts}
 use Rattle.clear_book.specs.declared.calls.Call.{Call}
 use Rattle.clear_book.specs.declared.outcomes.Outcome.{Outcome}
-use Rattle.clear_book.specs.declared.rules.Rule.{Rule}
+use Rattle.clear_routes.specs.declared.refused.Refused.{Refused}
 use Rattle.clear_book.specs.declared.rules.Rule.TheVariants.{Memory}
 use Rattle.clear_book.specs.Book.{Book}
 use Rattle.clear_book.specs.Machine.{IsLawful, Goes}
@@ -14,51 +14,51 @@ use Rattle.clear_office.specs.Office.{AtOffice, IsHonest, Keeps, Steps}
 use Rattle.clear_answers.specs.declared.said.Said.{Said}
 use Rattle.clear_answers.specs.declared.said.Said.TheVariants.{No}
 use Rattle.clear_answers.specs.Said.{by_stream, refused_by, said_of}
-use Rattle.clear_wire.specs.Cut.{IsCut, BeginsCut}
+use Rattle.clear_wire.specs.Cut.{BeginsCut}
 use Rattle.clear_wire.specs.Head.{Heading}
 use Rattle.clear_wire.specs.Limits.{request_limit}
 use Rattle.clear_wire.specs.Stream.{NextItem, whole, bad, ended}
-use Rattle.clear_http.specs.Serve.{answer_text, IsProper}
+use Rattle.clear_http.specs.Serve.{answer_text, IsCutBy, IsProper, NoneEnds}
 
 -- ---- over offices
 
 module _ {S : Type 0} (g : Ghosts S) where
-  -- an office that had failed has failed, and it keeps each lawful book that it kept
+  -- an office keeps each lawful book that it kept, and has failed just if it had
   abbrev pub KeepsOn : AtOffice S → AtOffice S → Type 0
   KeepsOn old new =
-      (old.failed ≡ true → new.failed ≡ true)
-      × (IsHonest g new → (b : Book) → IsLawful b → Keeps g old b → Keeps g new b)
+      IsHonest g new → (b : Book) → IsLawful b → Keeps g old b
+      → (new.failed ≡ old.failed) × Keeps g new b
 
   -- want of memory is told, and nothing was done
   abbrev pub ForgetsMemory : Said → AtOffice S → AtOffice S → Type 0
   ForgetsMemory told old new = (told ≡ refused_by Memory) × KeepsOn old new
 
-  module _ (reads : Heading → List ℕ → Result Call Rule → Type 0) where
-    abbrev pub CallSteps : Result Call Rule → AtOffice S → Said → AtOffice S → Type 0
+  module _ (reads : Heading → List ℕ → Result Call Refused → Type 0) where
+    abbrev pub CallSteps : Result Call Refused → AtOffice S → Said → AtOffice S → Type 0
     CallSteps (Ok call) old told new = (o : Outcome) × (told ≡ said_of o) × Steps g old call o new
-    CallSteps (Err rule) old told new = (told ≡ refused_by rule) × (new ≡ old)
+    CallSteps (Err refused) old told new = (told ≡ No refused) × (new ≡ old)
 
     -- a request goes as its call, or is refused before; or there is no memory
     abbrev pub RequestSteps : AtOffice S → Heading → List ℕ → Said → AtOffice S → Type 0
     RequestSteps old heading body told new =
-        ((read : Result Call Rule) × reads heading body read × CallSteps read old told new)
+        ((read : Result Call Refused) × reads heading body read × CallSteps read old told new)
         ⊎ ForgetsMemory told old new
 
 -- ---- over books: by whether the office has failed before, and whether it has then
 
-module _ (reads : Heading → List ℕ → Result Call Rule → Type 0) where
-  abbrev pub CallTakes : Bool → Bool → Book → Result Call Rule → Said → Book → Type 0
+module _ (reads : Heading → List ℕ → Result Call Refused → Type 0) where
+  abbrev pub CallTakes : Bool → Bool → Book → Result Call Refused → Said → Book → Type 0
   CallTakes failed then b (Ok call) told next =
       (o : Outcome) × (told ≡ said_of o) × Goes failed then b call o next
-  CallTakes failed then b (Err rule) told next =
-      (told ≡ refused_by rule) × (next ≡ b) × (then ≡ failed)
+  CallTakes failed then b (Err refused) told next =
+      (told ≡ No refused) × (next ≡ b) × (then ≡ failed)
 
   -- a request goes as its call, or is refused before; a rule of the stream is told; or there is no
   -- memory
   abbrev pub ItemTakes : Bool → Bool → Book → NextItem → Said → Book → Type 0
   ItemTakes failed then b (whole heading body) told next =
-      ((read : Result Call Rule) × reads heading body read × CallTakes failed then b read told next)
-      ⊎ ((told ≡ refused_by Memory) × (next ≡ b) × (failed ≡ true → then ≡ true))
+      ((read : Result Call Refused) × reads heading body read × CallTakes failed then b read told next)
+      ⊎ ((told ≡ refused_by Memory) × (next ≡ b) × (then ≡ failed))
   ItemTakes failed then b (bad rule bare) told next =
       ((told ≡ No (by_stream rule)) ⊎ (told ≡ refused_by Memory)) × (next ≡ b) × (then ≡ failed)
   ItemTakes failed then b ended told next = ⊥
@@ -72,10 +72,10 @@ module _ (reads : Heading → List ℕ → Result Call Rule → Type 0) where
   ItemsTake failed end b [] (told ∷ rest) last = ⊥
   ItemsTake failed end b (item ∷ items) [] last = ⊥
 
-module _ {S : Type 0} (g : Ghosts S) (reads : Heading → List ℕ → Result Call Rule → Type 0) where
+module _ {S : Type 0} (g : Ghosts S) (reads : Heading → List ℕ → Result Call Refused → Type 0) where
   -- all of a stream was served over a book: one outcome for each request in its bytes and for the
-  -- rule that ends it, the answers to these were written and nothing else, and the office keeps the
-  -- book that was left
+  -- rule that ends it, or, where the store has failed, for those up to this; the answers to these
+  -- were written and nothing else, and the office keeps the book that was left
   pub record IsServed
       (old : AtOffice S) (b : Book) (bytes written written' : Option (List ℕ)) (new : AtOffice S)
       (answered : ℕ)
@@ -83,7 +83,7 @@ module _ {S : Type 0} (g : Ghosts S) (reads : Heading → List ℕ → Result Ca
     pub items : List NextItem
     pub saids : List Said
     pub last : Book
-    pub cut : IfSome bytes (λ bs. IsCut bs items)
+    pub cut : IfSome bytes (λ bs. IsCutBy bs items saids)
     pub takes : ItemsTake reads old.failed new.failed b items saids last
     pub wrote : Appends written written' (answer_text request_limit items saids)
     pub count : answered ≡ length items
@@ -103,6 +103,7 @@ module _ {S : Type 0} (g : Ghosts S) (reads : Heading → List ℕ → Result Ca
     pub last : Book
     pub begins : IfSome bytes (λ bs. BeginsCut bs (items ++ more))
     pub takes : ItemsTake reads old.failed new.failed b (items ++ more) (saids ++ more_said) last
+    pub goes_on : NoneEnds saids
     pub one : length more ≤ 1
     pub part : List ℕ
     pub rest : List ℕ

@@ -7,17 +7,17 @@ ghost use Rattle.clear_office.specs.Office.{IsHonest, Keeps};
 ghost use Rattle.clear_wire.specs.Counted.{inner, has_failed, reads_of};
 ghost use Rattle.clear_wire.specs.Limits.{read_limit};
 ghost use Rattle.clear_routes.specs.Reading.{Reads};
-ghost use Rattle.clear_http.specs.Serve.{was_done};
+ghost use Rattle.clear_http.specs.Serve.{was_done, TellsFailed};
 ghost use Rattle.clear_http.specs.Served.{CallSteps, KeepsOn, IsServed, IsServedPart};
 
-use crate::serve::{Fault, Responder, ServeFault, Served, serve_stream};
-use clear_answers::said::{Refused, Said};
+use crate::serve::{Fault, Responder, ServeFault, Served, serve_stream, tell_failed};
+use clear_answers::said::Said;
 use clear_book::calls::Call;
+use clear_callers::directory::Directory;
 use clear_money::days::Day;
 use clear_office::office::Office;
-use clear_routes::callers::Directory;
-use clear_routes::reading::read_call;
-use clear_routes::routes::Routes;
+use clear_paths::routes::Routes;
+use clear_routes::command::to_command;
 use clear_wire::counted::Counted;
 use clear_wire::request::Request;
 use sqlite::Alter;
@@ -40,9 +40,9 @@ impl<S: Alter> Responder for Desk<S> {
     ghost responds = { MaySay S.Store };
 
     fn respond(&mut self, request: &Request) -> Said {
-        match read_call(self.alloc, &self.routes, &self.directory, self.day, request) {
+        match to_command(self.alloc, &self.routes, &self.directory, self.day, request) {
             Ok(call) => self.take(&call),
-            Err(rule) => Said::No(Refused::by(rule)),
+            Err(refused) => Said::No(refused),
         }
     }
 }
@@ -93,7 +93,10 @@ impl<S: Alter> Desk<S> {
     }
 }
 
-/// Serves the requests in the bytes of a reader: their answers are written, one after another.
+/// Serves the requests in the bytes of a reader: their answers are written, one after another, up to
+/// the end of the stream or the first fault of the store, which ends it.
+///
+/// Of an office that has failed before nothing is read, and the one answer says so.
 ///
 /// Whatever lawful book the office keeps, the answers are those of the clearing machine over that
 /// book, and the office then keeps the book that it leaves, so far as its disk returned what was
@@ -108,13 +111,18 @@ pub fn serve<S: Alter, R: Read, W: Write>(
 ) -> Result<Served, ServeFault>
     requires read { has_failed reader.old ≡ false }
     requires write { has_failed writer.old ≡ false }
-    ensures served { IfOk result (λ served. IsHonest S.Store desk.new.office
+    ensures failed { desk.old.office.failed ≡ true
+        → (reader.new ≡ reader.old) × (desk.new ≡ desk.old)
+        × TellsFailed (W.contents (inner writer.old)) (W.contents (inner writer.new)) result }
+    ensures served { desk.old.office.failed ≡ false
+        → IfOk result (λ served. IsHonest S.Store desk.new.office
         → (b : Book) → IsLawful b → Keeps S.Store desk.old.office b
         → IsServed S.Store (Reads desk.old.directory desk.old.day) desk.old.office b
         (R.remaining (inner reader.old))
         (W.contents (inner writer.old)) (W.contents (inner writer.new))
         desk.new.office served.requests) }
-    ensures fault { IfErr result (λ fault. IsHonest S.Store desk.new.office
+    ensures fault { desk.old.office.failed ≡ false
+        → IfErr result (λ fault. IsHonest S.Store desk.new.office
         → (b : Book) → IsLawful b → Keeps S.Store desk.old.office b
         → IsServedPart S.Store (Reads desk.old.directory desk.old.day) desk.old.office b
         (R.remaining (inner reader.old))
@@ -131,5 +139,8 @@ pub fn serve<S: Alter, R: Read, W: Write>(
     ensures writer_well { IfErr result (λ fault. fault.fault ≢ Fault.Write
         → has_failed writer.new ≡ false) }
 {
+    if desk.office.failed() {
+        return tell_failed(writer);
+    }
     serve_stream(desk.alloc, desk, reader, writer)
 }

@@ -18,7 +18,9 @@ pub mod desk;
 pub mod serve;
 
 pub use clear_answers::said;
-pub use clear_routes::{callers, reading, routes};
+pub use clear_callers::directory;
+pub use clear_paths::routes;
+pub use clear_routes::command;
 pub use clear_wire::{counted, request};
 
 #[cfg(test)]

@@ -6,17 +6,20 @@ ghost use Rattle.clear_book.specs.declared.rules.Rule.TheVariants.{Memory as no_
 ghost use Rattle.clear_answers.specs.Answer.{answer_of};
 ghost use Rattle.clear_answers.specs.Said.{refused_by};
 ghost use Rattle.clear_wire.specs.Counted.{inner, has_failed, reads_of, noted_of, Notes};
-ghost use Rattle.clear_wire.specs.Cut.{left_after, IsAnswered};
+ghost use Rattle.clear_wire.specs.Cut.{IsAnswered};
 ghost use Rattle.clear_wire.specs.Input.{stream, reads_made, failed_of, CountsReads, KeepsBorrow};
 ghost use Rattle.clear_wire.specs.Known.{Leads};
 ghost use Rattle.clear_wire.specs.Limits.{read_limit};
 ghost use Rattle.clear_wire.specs.Request.{next_item};
-ghost use Rattle.clear_wire.specs.Stream.{ended, Next};
-ghost use Rattle.clear_http.specs.Serve.{is_bare, was_done, MaySend, Says, AnswersOne, BreaksOff};
-ghost use Rattle.clear_http.specs.Serve.{Serves, ServesPart};
+ghost use Rattle.clear_wire.specs.Parsed.{heading};
+ghost use Rattle.clear_wire.specs.Stream.{ended, whole, Next};
+ghost use Rattle.clear_http.specs.Serve.{is_bare, was_done, ends_stream, left_then, MaySend};
+ghost use Rattle.clear_http.specs.Serve.{Says, AnswersOne, BreaksOff, Serves, ServesPart};
+ghost use Rattle.clear_http.specs.Serve.{TellsFailed};
 
-use clear_answers::answer::{answer_bytes, memory_text};
+use clear_answers::answer::{answer_bytes, failed_text, memory_text};
 use clear_answers::said::{Refused, Said};
+use clear_book::rules::Rule;
 use clear_wire::counted::{Counted, NotedRead};
 use clear_wire::input::{Input, ReadFault};
 use clear_wire::limits::MAX_REQUESTS;
@@ -127,11 +130,49 @@ fn put<W: Write>(writer: &mut Counted<W>, text: &[u8]) -> Result<(), Fault>
     }
 }
 
-// Something was done for what is said.
+// Tells that the office has failed before: the one answer to a stream of which nothing is read.
+pub(crate) fn tell_failed<W: Write>(writer: &mut Counted<W>) -> Result<Served, ServeFault>
+    requires { has_failed writer.old ≡ false }
+    ensures told { TellsFailed (W.contents (inner writer.old)) (W.contents (inner writer.new))
+        result }
+    ensures failed { IfErr result (λ fault.
+        (fault.fault ≡ Fault.Write) × (has_failed writer.new ≡ true)) }
+{
+    match put(writer, failed_text(true, false)) {
+        Ok(()) => Ok(Served { requests: 1 }),
+        Err(fault) => Err(ServeFault { fault, answered: 0 }),
+    }
+}
+
+// What is said ends the stream: the store has failed.
+fn ends_stream(said: &Said) -> bool
+    ensures { result ≡ ends_stream said.now }
+{
+    match said {
+        Said::Reply(_) => false,
+        Said::Answer(_) => false,
+        Said::No(refused) => matches!(refused.rule, Rule::Store(_)),
+    }
+}
+
+// Something was done for what is said, or may have been.
 fn was_done(said: &Said) -> bool
     ensures { result ≡ was_done said.now }
 {
-    matches!(said, Said::Reply(_))
+    matches!(said, Said::Reply(_)) || ends_stream(said)
+}
+
+// How many requests may follow a request to which this is said.
+fn left_behind(request: &Request, said: &Said, left: u32) -> u32
+    requires { 0 < left }
+    ensures { result ≡ left_then left (whole (heading request.now.head) request.now.body.items)
+        said.now }
+{
+    if ends_stream(said) || request.head.closes {
+        0
+    } else {
+        left - 1
+    }
 }
 
 // What is to be sent for what a stream goes on with; nothing at its end.
@@ -145,16 +186,17 @@ fn respond_to<H: Responder>(responder: &mut H, item: Item, left: u32) -> Option<
     ensures memory { IfSome result (λ due. was_done due.said ≡ false
         → Says H.responds responder.old (next_item item) (refused_by no_memory) responder.new) }
     ensures bare { IfSome result (λ due. due.bare ≡ is_bare (next_item item)) }
-    ensures after { IfSome result (λ due. due.after ≡ left_after left (next_item item)) }
+    ensures after { IfSome result (λ due. due.after ≡ left_then left (next_item item) due.said) }
     ensures falls { IfSome result (λ due. due.after < left) }
 {
     match item {
         Item::Whole(request) => {
             let said = responder.respond(&request);
+            let after = left_behind(&request, &said, left);
             Some(Due {
                 said,
                 bare: request.head.method.is_head(),
-                after: if request.head.closes { 0 } else { left - 1 },
+                after,
             })
         }
         Item::Bad { rule, bare } => Some(Due {

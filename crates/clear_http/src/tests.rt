@@ -1,8 +1,8 @@
-//! Streams in any pieces, and readers and writers that fail, where nobody knows a route.
+//! Streams in any pieces, and readers and writers that fail, where each request is refused.
 
 use crate::serve::{Fault, Responder, serve_stream};
 use clear_answers::said::{Refused, Said};
-use clear_book::rules::Rule;
+use clear_book::rules::{Rule, StoreCause};
 use clear_wire::counted::Counted;
 use clear_wire::request::Request;
 use std::alloc::{AllocError, Global};
@@ -28,17 +28,30 @@ const NO_ROUTE: &str = "HTTP/1.1 404 Not Found\r\nContent-Type: application/json
 
 const ANSWERS: [&str; 3] = [NO_ROUTE, NO_ROUTE, NO_ROUTE];
 
-// Who knows no route.
-#[derive(Drop)]
-struct Nobody;
+const STORE_FAILED: &str = "HTTP/1.1 500 Internal Server Error\r\n\
+    Content-Type: application/json\r\nContent-Length: 38\r\nConnection: close\r\n\r\n\
+    {\"detail\":\"\",\"name\":\"Store\",\"rule\":41}";
 
-impl Responder for Nobody {
+// Who refuses each request by a rule.
+#[derive(Drop)]
+struct Refuser {
+    rule: Rule,
+}
+
+impl Responder for Refuser {
     ghost use Rattle.std.specs.Prelude.{⊤};
 
     ghost responds = { λ old heading body said new. ⊤ };
 
     fn respond(&mut self, _request: &Request) -> Said {
-        Said::No(Refused::by(Rule::NoRoute))
+        Said::No(Refused::by(self.rule))
+    }
+}
+
+// Who knows no route.
+fn nobody() -> Refuser {
+    Refuser {
+        rule: Rule::NoRoute,
     }
 }
 
@@ -76,7 +89,7 @@ impl Read for Halves<'_> {
 fn written<R: Read + Drop>(alloc: Global, reader: R) -> Result<Vec<u8>, Fail> {
     let mut reader = Counted::new(reader);
     let mut writer = Counted::new(Vec::new(alloc));
-    serve_stream(alloc, &mut Nobody, &mut reader, &mut writer)
+    serve_stream(alloc, &mut nobody(), &mut reader, &mut writer)
         .ok()
         .ok_or("not served")?;
     Ok(writer.into_inner())
@@ -100,6 +113,22 @@ fn answers_the_same_in_any_pieces(rt: HostRuntime) -> Result<(), Fail> {
         let text = written(alloc, Drip { rest, step })?;
         assert!(rt; text.as_slice() == wanted.as_slice(), "in pieces of {step}");
     }
+    Ok(())
+}
+
+// Nothing is read or answered after a fault of the store.
+#[test]
+fn a_fault_of_the_store_ends_the_stream(rt: HostRuntime) -> Result<(), Fail> {
+    let alloc = rt.alloc();
+    let bytes = joined(alloc, &REQUESTS)?;
+    let mut refuser = Refuser {
+        rule: Rule::Store(StoreCause::Other),
+    };
+    let mut reader = Counted::new(bytes.as_slice());
+    let mut writer = Counted::new(Vec::new(alloc));
+    let served = serve_stream(alloc, &mut refuser, &mut reader, &mut writer);
+    assert!(rt; matches!(served, Ok(served) if served.requests == 1));
+    assert!(rt; writer.into_inner().as_slice() == STORE_FAILED.as_bytes());
     Ok(())
 }
 
@@ -203,7 +232,7 @@ fn tells_at_which_read_it_failed(rt: HostRuntime) -> Result<(), Fail> {
             left: reads,
         });
         let mut writer = Counted::new(Vec::new(alloc));
-        let Err(stopped) = serve_stream(alloc, &mut Nobody, &mut reader, &mut writer) else {
+        let Err(stopped) = serve_stream(alloc, &mut nobody(), &mut reader, &mut writer) else {
             return Err("served".into());
         };
         assert!(rt; matches!(stopped.fault, Fault::Read));
@@ -226,7 +255,7 @@ fn tells_at_which_write_it_failed(rt: HostRuntime) -> Result<(), Fail> {
             taken: Vec::new(alloc),
             left: writes,
         });
-        let Err(stopped) = serve_stream(alloc, &mut Nobody, &mut reader, &mut writer) else {
+        let Err(stopped) = serve_stream(alloc, &mut nobody(), &mut reader, &mut writer) else {
             return Err("served".into());
         };
         assert!(rt; matches!(stopped.fault, Fault::Write));
@@ -250,7 +279,7 @@ fn ends_after_the_most_reads(rt: HostRuntime) -> Result<(), Fail> {
         step: 1,
     });
     let mut writer = Counted::new(Vec::new(alloc));
-    let Err(stopped) = serve_stream(alloc, &mut Nobody, &mut reader, &mut writer) else {
+    let Err(stopped) = serve_stream(alloc, &mut nobody(), &mut reader, &mut writer) else {
         return Err("served".into());
     };
     assert!(rt; matches!(stopped.fault, Fault::Reads));

@@ -50,7 +50,7 @@ module _ {S : Type 0} (g : Ghosts S) (call : Call) where
   accepted old new reply admitted done honest b lawful (t, stands, holds) =
       let got = done honest t holds.now in
       let said = got.1 admitted b lawful stands in
-      let takes : Takes b call (Replied reply) (step b call) = inl (sym (ap outcome_of said.0), refl) in
+      let takes : Takes b call (Replied reply) (step b call) = inl (sym said.0, refl) in
       (step b call, takes, takes_lawful b call (Replied reply) (step b call) takes admitted.0 lawful, (got.0, said.1, record { now = got.2; committed = got.3; left = got.4 }))
 
   -- a query that was answered

@@ -1,5 +1,5 @@
 -- What an office owes over its store, whatever lawful book that stands for.
-use Rattle.std.specs.Prelude.{Bool, true, false, List, Result, Ok, Err}
+use Rattle.std.specs.Prelude.{◌≡◌, Bool, true, false, List, [], ◌∷◌, Result, Ok, Err}
 use Rattle.std.specs.Coded.{Coded, code_by, coded×, coded_bool}
 use Rattle.std.specs.Prelude.{refl}
 use Rattle.sqlite.specs.Held.{Held, held_code, state}
@@ -12,8 +12,9 @@ use Rattle.clear_book.specs.declared.outcomes.Outcome.{Outcome}
 use Rattle.clear_book.specs.declared.outcomes.Outcome.TheVariants.{Replied, Answered, Refused}
 use Rattle.clear_book.specs.declared.outcomes.Reply.{Reply}
 use Rattle.clear_book.specs.declared.rules.Rule.{Rule}
+use Rattle.clear_book.specs.declared.rules.Rule.TheVariants.{NotYours, Failed}
 use Rattle.clear_book.specs.Book.{Book}
-use Rattle.clear_book.specs.Machine.{IsLawful, Goes, Runs}
+use Rattle.clear_book.specs.Machine.{IsLawful, is_allowed, Goes, Runs}
 use Rattle.clear_book.specs.Tables.{Tables, Stands}
 use Rattle.clear_schema.specs.Held.{HasTables, StandsFor}
 
@@ -26,6 +27,21 @@ replied (Err rule) = Refused rule
 abbrev pub answered : Result Answer Rule → Outcome
 answered (Ok answer) = Answered answer
 answered (Err rule) = Refused rule
+
+-- what access makes of a call, by whether the office has failed before it, and whether it has then:
+-- one that has says so; else a call that isn't allowed is refused for that
+abbrev pub IsGuarded : Bool → Bool → Call → Outcome → Type 0
+IsGuarded true then call outcome = (outcome ≡ Refused Failed) × (then ≡ true)
+IsGuarded false then call outcome =
+    is_allowed call ≡ false → (outcome ≡ Refused NotYours) × (then ≡ false)
+
+-- and of the calls of a list, one after another
+abbrev pub AreGuarded : Bool → Bool → List Call → List Outcome → Type 0
+AreGuarded failed end [] [] = end ≡ failed
+AreGuarded failed end (call ∷ calls) (outcome ∷ outcomes) =
+    (then : Bool) × IsGuarded failed then call outcome × AreGuarded then end calls outcomes
+AreGuarded failed end [] (outcome ∷ outcomes) = ⊥
+AreGuarded failed end (call ∷ calls) [] = ⊥
 
 -- an office: the connection of its store, and whether that has failed
 pub record AtOffice (S : Type 0) : Type 0 where

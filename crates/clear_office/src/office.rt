@@ -8,10 +8,11 @@ ghost use Rattle.clear_book.specs.Machine.{is_allowed};
 ghost use Rattle.clear_book.specs.Tables.{Tables};
 ghost use Rattle.clear_schema.specs.Held.{HasTables};
 ghost use Rattle.clear_office.specs.Bodies.{FailsBy, IsAdmitted, TellsOf};
-ghost use Rattle.clear_office.specs.Office.{Holds, IsHonest, RunsOffice, Steps, answered, replied};
+ghost use Rattle.clear_office.specs.Office.{AreGuarded, Holds, IsHonest, RunsOffice, Steps};
+ghost use Rattle.clear_office.specs.Office.{answered, replied};
 
 use crate::inquiry::Inquiry;
-use crate::submission::Submission;
+use crate::submission::{Origin, Submission};
 use clear_book::access::{may, may_ask};
 use clear_book::calls::{Call, Caller, Command, Query};
 use clear_book::numbers::RequestNo;
@@ -130,11 +131,14 @@ impl<S: Alter> Office<S> {
             (replied result) self.new }
         ensures clean { IsHonest S.Store self.new → IsHonest S.Store self.old }
     {
-        let submission = Submission {
-            alloc: self.alloc,
+        let origin = Origin {
             caller,
             number,
             day,
+        };
+        let submission = Submission {
+            alloc: self.alloc,
+            origin: &origin,
             command,
         };
         match self.store.within(submission) {
@@ -221,6 +225,9 @@ impl<S: Alter> Office<S> {
         // the machine over it, and the store then holds the tables of the lawful book that it leaves.
         ensures runs { IfOk result (λ outcomes.
             RunsOffice S.Store self.old calls.now outcomes.items self.new) }
+        // This holds even for a store that stands for no lawful book.
+        ensures access { IfOk result (λ outcomes.
+            AreGuarded self.old.failed self.new.failed calls.now outcomes.items) }
         ensures err { OnErr result (self.new ≡ self.old) }
         ensures clean { IsHonest S.Store self.new → IsHonest S.Store self.old }
     {

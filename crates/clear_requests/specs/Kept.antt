@@ -1,12 +1,10 @@
 -- Accepted requests as they are kept, each under its caller and number.
-use Rattle.std.specs.Prelude.{ℕ, ◌≤◌, List, [], ◌∷◌}
+use Rattle.std.specs.Prelude.{ℕ, List}
 use Rattle.clear_money.specs.Calendar.{IsDay}
 use Rattle.clear_book.specs.declared.calls.Caller.{Caller}
 use Rattle.clear_book.specs.declared.outcomes.Reply.{Reply}
-use Rattle.clear_book.specs.declared.outcomes.Reply.TheVariants.{Done, Reported, Imported}
-use Rattle.clear_book.specs.Limits.{most_base, most_records, most_versions}
+use Rattle.clear_book.specs.RowRanges.{IsReply}
 use Rattle.clear_book.specs.Tables.{RequestRow}
-use Rattle.clear_schema.specs.Values.{caller_number}
 use Rattle.clear_requests.specs.declared.requests.KeptRequest.{KeptRequest}
 
 -- the day of a request, the bytes of its command, and its reply
@@ -36,18 +34,6 @@ row_of caller number kept = record {
   command = kept.command;
   reply = kept.reply;
 }
-
--- the key of that row
-abbrev pub key_of : Caller → ℕ → List ℕ
-key_of caller number = caller_number caller ∷ number ∷ []
-
--- the numbers of a reply are those that a book can come to: a contribution is at most its base, and
--- a bank file has so many records at most
-abbrev pub IsReply : Reply → Type 0
-IsReply Done = Unit {0}
-IsReply (Reported version charge) =
-    (1 ≤ version) × (version ≤ most_versions) × (charge ≤ most_base)
-IsReply (Imported new repeats) = (new ≤ most_records) × (repeats ≤ most_records)
 
 -- the day and the reply are in their ranges
 pub record IsKept (k : Kept) : Type 0 where

@@ -1,7 +1,7 @@
 //! Replies as the numbers that they are kept as.
 ghost use Rattle.std.specs.Prelude.{◌≡◌, ◌↔◌, Some, IfSome, IsTrue};
 ghost use Rattle.clear_book.specs.declared.outcomes.Reply.{Reply};
-ghost use Rattle.clear_requests.specs.Kept.{IsReply};
+ghost use Rattle.clear_book.specs.RowRanges.{IsReply};
 ghost use Rattle.clear_requests.specs.Shown.{AreSmall, numbers_of};
 
 use clear_book::limits::{MAX_BASE, MAX_RECORDS, MAX_VERSIONS};

@@ -5,10 +5,12 @@ ghost use Rattle.std.specs.Option.{option_map};
 ghost use Rattle.sqlite.specs.Held.{state};
 ghost use Rattle.sqlite.specs.State.{HasCleanDisk, IsUnchanged, KeepsCommit, Survives};
 ghost use Rattle.sqlite.specs.Values.{bound};
+ghost use Rattle.clear_book.specs.Book.{request_number};
 ghost use Rattle.clear_book.specs.Keyed.{find_row, with_row};
-ghost use Rattle.clear_book.specs.Tables.{RequestRow, Tables};
-ghost use Rattle.clear_schema.specs.Held.{HasTables, request_key};
-ghost use Rattle.clear_requests.specs.Kept.{IsKept, IsReply, as_kept, kept_of, key_of, row_of};
+ghost use Rattle.clear_book.specs.RowRanges.{IsReply};
+ghost use Rattle.clear_book.specs.Tables.{RequestRow, Tables, request_key};
+ghost use Rattle.clear_schema.specs.Held.{HasTables};
+ghost use Rattle.clear_requests.specs.Kept.{IsKept, as_kept, kept_of, row_of};
 ghost use Rattle.clear_requests.specs.Shown.{kept_shown, numbers_of, request_shown};
 
 use crate::columns::bytes_at;
@@ -55,11 +57,11 @@ pub fn insert_request<S: Alter>(
         (state S.Store tx.new.conn.now).now) }
     ensures free { HasCleanDisk (state S.Store tx.new.conn.now)
         → (t : Tables) → HasTables t (state S.Store tx.old.conn.now).now
-        → OnOk result (find_row request_key t.requests (key_of caller number) ≡ None) }
+        → OnOk result (find_row request_key t.requests (request_number caller number) ≡ None) }
     ensures cause { HasCleanDisk (state S.Store tx.new.conn.now)
         → (t : Tables) → HasTables t (state S.Store tx.old.conn.now).now
         → IfErr result (λ fault. fault ≡ Fault.Store StoreCause.Constraint
-        → IsSome (find_row request_key t.requests (key_of caller number))) }
+        → IsSome (find_row request_key t.requests (request_number caller number))) }
     ensures good { OnOk result (IsReply request.now.reply) }
     ensures range { IfErr result (λ fault. fault ≡ Fault.Store StoreCause.Row
         → ¬ IsReply request.now.reply) }
@@ -94,7 +96,7 @@ pub fn find_request<S: Alter>(
     ensures found { HasCleanDisk (state S.Store tx.new.conn.now)
         → (t : Tables) → HasTables t (state S.Store tx.old.conn.now).now
         → IfOk result (λ found. option_map as_kept found
-        ≡ option_map kept_of (find_row request_key t.requests (key_of caller number))) }
+        ≡ option_map kept_of (find_row request_key t.requests (request_number caller number))) }
     ensures good { IfOk result (λ found. IfSome found (λ request. IsKept (as_kept request))) }
     ensures cause { HasCleanDisk (state S.Store tx.new.conn.now)
         → (t : Tables) → HasTables t (state S.Store tx.old.conn.now).now
@@ -102,7 +104,7 @@ pub fn find_request<S: Alter>(
     ensures range { HasCleanDisk (state S.Store tx.new.conn.now)
         → (t : Tables) → HasTables t (state S.Store tx.old.conn.now).now
         → IfErr result (λ fault. fault ≡ Fault.Store StoreCause.Row
-        → (x : RequestRow) × (find_row request_key t.requests (key_of caller number) ≡ Some x)
+        → (x : RequestRow) × (find_row request_key t.requests (request_number caller number) ≡ Some x)
         × ¬ IsKept (kept_of x)) }
     ensures same { HasCleanDisk (state S.Store tx.new.conn.now)
         → (t : Tables) → HasTables t (state S.Store tx.old.conn.now).now

@@ -1,5 +1,3 @@
-pub mod Callers
-pub mod Parts
-pub mod Routes
-pub mod Bodies
+pub mod Called
 pub mod Reading
+pub mod Refusals

@@ -6,7 +6,7 @@ use Rattle.clear_book.specs.declared.calls.Call.TheVariants.{Do}
 use Rattle.clear_book.specs.declared.rows.Decision.{Decision}
 use Rattle.clear_book.specs.declared.rules.Rule.{Rule}
 use Rattle.clear_book.specs.declared.rules.Rule.TheVariants.{Memory}
-use Rattle.clear_book.specs.Book.{Book}
+use Rattle.clear_book.specs.Book.{Book, entry}
 use Rattle.clear_book.specs.Judge.{new_reply, judge, own_rule, reply_to}
 use Rattle.clear_book.specs.Machine.{step, IsLawful}
 use Rattle.clear_book.specs.Tables.{Tables, Stands, changed, noted}
@@ -32,4 +32,5 @@ abbrev pub TakesTables : Book → ℕ → Command → Decision → Type 0
 TakesTables b day command d =
     (t : Tables) (caller : Caller) (number : ℕ) → IsLawful b → Stands b t
     → judge b (Do caller number day command) ≡ new_reply d.reply
-    → Stands (step b (Do caller number day command)) (noted day (changed d.change t))
+    → Stands (step b (Do caller number day command))
+    (noted (entry caller number day command d.reply) (changed d.change t))

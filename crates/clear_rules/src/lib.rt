@@ -11,7 +11,7 @@
 pub mod decide;
 pub mod gate;
 
-pub use clear_book::{access, calls, laws, outcomes, rows, rules};
+pub use clear_book::{access, calls, kept, laws, outcomes, rows, rules};
 
 #[cfg(test)]
 mod tests;

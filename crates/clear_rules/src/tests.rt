@@ -2,14 +2,15 @@ use crate::decide::correct::decide_correct;
 use crate::decide::import::{EmployerCredits, ImportView, decide_import};
 use crate::decide::register::{RegisterView, decide_register};
 use crate::decide::report::ReportView;
-use clear_book::calls::{Correction, Registration, WageReport};
+use clear_book::calls::{Command, Correction, Registration, WageReport};
 use clear_book::files::BankFile;
+use clear_book::kept::command_bytes;
 use clear_book::numbers::SerialCount;
 use clear_book::rules::{Limit, Rule};
-use clear_book::texts::{Name, WageLines};
+use clear_book::texts::{Name, WageLine, WageLines};
 use clear_money::days::Day;
 use clear_money::months::Month;
-use clear_money::numbers::EmployerNo;
+use clear_money::numbers::{EmployerNo, WorkerNo};
 use std::alloc::Global;
 use std::test::Fail;
 
@@ -109,5 +110,74 @@ fn the_last_version(rt: HostRuntime) -> Result<(), Fail> {
     view.version = Some(10_000);
     let refused = decide_correct(alloc, day, &correction, &view);
     assert!(rt; matches!(refused, Err(Rule::OverLimit(Limit::Versions))));
+    Ok(())
+}
+
+// A report of firm 1001 for January 2024, with a line for each worker and gross amount.
+fn report(alloc: Global, lines: &[(u64, u64)]) -> Result<WageReport, Fail> {
+    let mut wages = Vec::new(alloc);
+    for (worker, gross) in lines {
+        wages.push(WageLine {
+            worker: WorkerNo::new(*worker).ok_or("no worker number")?,
+            gross: *gross,
+        })?;
+    }
+    Ok(WageReport {
+        employer: employer(1001)?,
+        month: Month::read(b"2024-01").ok_or("no month")?,
+        lines: WageLines::new(wages),
+    })
+}
+
+// The registration of firm 1001 from January 2024.
+fn registration(alloc: Global) -> Result<Command, Fail> {
+    Ok(Command::Register(Registration {
+        employer: employer(1001)?,
+        name: Name::new(String::from_str(alloc, "Bau Nord")?).ok_or("no name")?,
+        start: Month::read(b"2024-01").ok_or("no month")?,
+    }))
+}
+
+// Version 2 of that month: worker 7 alone.
+fn correction(alloc: Global) -> Result<Command, Fail> {
+    Ok(Command::Correct(Correction {
+        report: report(alloc, &[(7, 500_000)])?,
+        version: 1,
+    }))
+}
+
+// Whether a command is kept as this text.
+fn is_kept_as(alloc: Global, command: Command, text: &str) -> Result<bool, Fail> {
+    let bytes = command_bytes(alloc, &command)?;
+    Ok(bytes.as_slice() == text.as_bytes())
+}
+
+// Whether a report of these lines is kept as this text.
+fn is_report_kept_as(alloc: Global, lines: &[(u64, u64)], text: &str) -> Result<bool, Fail> {
+    is_kept_as(alloc, Command::Report(report(alloc, lines)?), text)
+}
+
+// Whether a bank file is kept as this text.
+fn is_file_kept_as(alloc: Global, file: &[u8], text: &str) -> Result<bool, Fail> {
+    let bytes = Vec::from_slice(alloc, file)?;
+    is_kept_as(alloc, Command::ImportBank(BankFile::new(bytes)), text)
+}
+
+// The bytes under which each command is kept.
+#[test]
+fn the_bytes_of_commands(rt: HostRuntime) -> Result<(), Fail> {
+    let alloc = rt.alloc();
+    assert!(rt;
+        is_kept_as(
+            alloc,
+            registration(alloc)?,
+            "employer 1001 2024-01 Bau Nord"
+        )?
+    );
+    let two = "report 1001 2024-01 7:1000000 8:50000";
+    assert!(rt; is_report_kept_as(alloc, &[(7, 1_000_000), (8, 50_000)], two)?);
+    assert!(rt; is_report_kept_as(alloc, &[], "report 1001 2024-01")?);
+    assert!(rt; is_kept_as(alloc, correction(alloc)?, "correct 1001 2024-01 1 7:500000")?);
+    assert!(rt; is_file_kept_as(alloc, b"reference\nB1,2", "bank reference\nB1,2")?);
     Ok(())
 }

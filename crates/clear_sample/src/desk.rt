@@ -3,15 +3,15 @@ ghost use Rattle.std.specs.Prelude.{◌≡◌, [], codes, IfSome};
 ghost use Rattle.sqlite.specs.Files.{over_files};
 ghost use Rattle.clear_money.specs.Texts.{day_text};
 ghost use Rattle.clear_book.specs.Machine.{IsLawful};
-ghost use Rattle.clear_routes.specs.Callers.{sample_keys};
+ghost use Rattle.clear_callers.specs.Callers.{sample_keys};
 ghost use Rattle.clear_office.specs.Office.{IsHonest, Keeps};
 ghost use Rattle.clear_sample.specs.Samples.{sample_rates};
 
 use crate::memory::office_in_memory;
 use crate::samples::{sample_day, sample_rates};
+use clear_callers::directory::Directory;
 use clear_http::desk::Desk;
-use clear_routes::callers::Directory;
-use clear_routes::routes::Routes;
+use clear_paths::routes::Routes;
 use sqlite::FileStore;
 use sqlite_disk::Memory;
 use std::alloc::Global;

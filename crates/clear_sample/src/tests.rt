@@ -24,37 +24,39 @@ fn day() -> Option<Day> {
     Day::read(b"2024-04-30")
 }
 
-fn command(command: Command) -> Option<Call> {
+fn command(number: u64, command: Command) -> Option<Call> {
     Some(Call::Do {
         caller: Caller::Clerk,
-        number: RequestNo::new(1)?,
+        number: RequestNo::new(number)?,
         day: day()?,
         command,
     })
 }
 
 fn register(alloc: Global) -> Option<Call> {
-    command(Command::Register(Registration {
+    let registration = Registration {
         employer: employer()?,
         name: Name::new(String::from_str(alloc, "Bau Nord").ok()?)?,
         start: Month::read(b"2024-01")?,
-    }))
+    };
+    command(1, Command::Register(registration))
 }
 
-fn report(alloc: Global, month: &[u8], gross: u64) -> Option<Call> {
+fn report(alloc: Global, number: u64, month: &[u8], gross: u64) -> Option<Call> {
     let mut lines = Vec::new(alloc);
     let worker = WorkerNo::new(7)?;
     lines.push(WageLine { worker, gross }).ok()?;
-    command(Command::Report(WageReport {
+    let report = WageReport {
         employer: employer()?,
         month: Month::read(month)?,
         lines: WageLines::new(lines),
-    }))
+    };
+    command(number, Command::Report(report))
 }
 
 fn import(alloc: Global) -> Option<Call> {
     let bytes = Vec::from_slice(alloc, FILE.as_bytes()).ok()?;
-    command(Command::ImportBank(BankFile::new(bytes)))
+    command(4, Command::ImportBank(BankFile::new(bytes)))
 }
 
 fn ask() -> Option<Call> {
@@ -70,8 +72,8 @@ fn ask() -> Option<Call> {
 fn first_account(alloc: Global) -> Option<[Call; 5]> {
     Some([
         register(alloc)?,
-        report(alloc, b"2024-01", 1_000_000)?,
-        report(alloc, b"2024-02", 500_050)?,
+        report(alloc, 2, b"2024-01", 1_000_000)?,
+        report(alloc, 3, b"2024-02", 500_050)?,
         import(alloc)?,
         ask()?,
     ])

@@ -179,6 +179,8 @@ first_stands rates = record {
   bank_in_order = tt;
   credits = λ k. refl;
   credits_in_order = tt;
+  requests = λ k. refl;
+  requests_in_order = tt;
   serial = refl;
-  unfilled = (refl, refl, refl, refl, refl, refl, refl, refl);
+  unfilled = (refl, refl, refl, refl, refl, refl, refl);
 }

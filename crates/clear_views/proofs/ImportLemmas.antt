@@ -61,9 +61,9 @@ counted_if_none serving test rows found n none is counted =
 -- the counts of tables in their ranges are in theirs
 pub counts_in_range : (t : Tables) → AreInRange t → AreCounts (counts_of t)
 counts_in_range t within =
-    let claim = within.unfilled.5 in
-    let list = within.unfilled.6 in
-    let run = within.unfilled.7 in
+    let claim = within.unfilled.4 in
+    let list = within.unfilled.5 in
+    let run = within.unfilled.6 in
     record { day = within.day; entries = within.entries; serial = within.serial; claims = omega (arith, claim); lists = omega (arith, list); runs = omega (arith, run) }
 
 -- the number that serves for a count, or else the count

@@ -7,7 +7,7 @@ use Rattle.clear_schema.specs.Values.{with_counts}
 use Rattle.clear_firms.specs.Counts.{as_stored}
 use Rattle.clear_changes.specs.Changes.{counts_after, serials_taken}
 use Rattle.clear_changes.proofs.JoinLemmas.{was_clean}
-use Rattle.clear_changes.proofs.ChangeLemmas.{there_with, free_with, noted_is}
+use Rattle.clear_changes.proofs.ChangeLemmas.{there_with, free_with, dated_is}
 use Rattle.clear_changes.proofs.changes.put_change.Goals as goal
 
 pub returns-in-Ok-clause-put : goal.returns-in-Ok-clause-put
@@ -18,7 +18,7 @@ returns-in-Ok-clause-put g c clean t has counts there =
     let after = counts_after c.args.day (serials_taken change) (as_stored c.args.counts.now) in
     let before = was_clean mid last c.put_rows.ensures.survives clean in
     let counted : HasTables (with_counts after t) mid.now = rw c.serials_taken-serials.ensures at (c.in-Ok.ensures.put before t has) in
-    on_ok_weaker c.put_rows.result (subst (λ (u : Tables). HasTables u last.now) (noted_is c.args.day change (as_stored c.args.counts.now) t counts))
+    on_ok_weaker c.put_rows.result (subst (λ (u : Tables). HasTables u last.now) (dated_is c.args.day change (as_stored c.args.counts.now) t counts))
     (c.put_rows.ensures.put clean (with_counts after t) counted (there_with change after t there))
 
 pub returns-in-Ok-clause-cause : goal.returns-in-Ok-clause-cause

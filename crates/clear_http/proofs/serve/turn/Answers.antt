@@ -1,11 +1,12 @@
-use Rattle.std.proofs.Common.{◌∷◌, ◌++◌, [], refl, sym, ap, ◌∙◌, subst, arith}
+use Rattle.std.proofs.Common.{Bool, cond, ◌∷◌, ◌++◌, [], refl, sym, ap, ◌∙◌, subst, arith}
 use Rattle.std.proofs.lemmas.List.{append-nil}
 use Rattle.std.specs.Io.KnownBytes.{Appends}
 use Rattle.clear_wire.specs.Counted.{inner}
+use Rattle.clear_wire.specs.Cut.{left_after}
 use Rattle.clear_wire.specs.Request.{next_item}
 use Rattle.clear_wire.proofs.CutLemmas.{cuts_one, nothing_cut}
 use Rattle.clear_wire.proofs.KnownLemmas.{Appends-nil}
-use Rattle.clear_http.proofs.ServeLemmas.{same_answer, says}
+use Rattle.clear_http.proofs.ServeLemmas.{same_answer, says, sent_ends}
 use Rattle.clear_http.proofs.serve.turn.Goals as goal
 
 pub returns-in-Ok-send-clause-answered : goal.returns-in-Ok-send-clause-answered
@@ -15,25 +16,25 @@ returns-in-Ok-send-clause-answered g c =
     let e = c.in-Some.ensures in
     let w = c.in-Ok-send.ensures.wrote in
     let said = says g.H.Responder.responds c.args.responder.now p due.said w.0 c.respond_to.new.responder e.says e.memory w.3 in
-    let same = same_answer c.args.left p w.0 due.bare due.after e.bare e.after in (
+    let same = same_answer c.args.left p due.said w.0 due.bare due.after e.bare e.after w.3 in (
       p,
       w.0,
       e.answered,
       c.in-Ok.ensures.next,
-      e.after,
+      e.after ∙ ap (λ (t : Bool). cond t 0 (left_after c.args.left p)) (sent_ends due.said w.0 w.3),
       said,
       subst (Appends (g.W.Write.contents (inner c.args.writer.now)) (g.W.Write.contents (inner c.send.new.writer)))
           (sym (append-nil w.1) ∙ ap (λ t. w.1 ++ t) (sym w.6) ∙ sym w.4 ∙ same) w.5,
     )
 
-pub returns-in-Err-send-clause-fault : goal.returns-in-Err-send-clause-fault
-returns-in-Err-send-clause-fault g c =
+pub returns-in-Some-clause-fault : goal.returns-in-Some-clause-fault
+returns-in-Some-clause-fault g c =
     let p = next_item c.in-Ok.item in
     let due = c.in-Some.due in
     let e = c.in-Some.ensures in
     let w = c.in-Err-send.ensures.wrote in
     let said = says g.H.Responder.responds c.args.responder.now p due.said w.0 c.respond_to.new.responder e.says e.memory w.3 in
-    let same = same_answer c.args.left p w.0 due.bare due.after e.bare e.after in (
+    let same = same_answer c.args.left p due.said w.0 due.bare due.after e.bare e.after w.3 in (
       p ∷ [],
       w.0 ∷ [],
       w.1,
@@ -46,6 +47,6 @@ returns-in-Err-send-clause-fault g c =
       w.7,
     )
 
-pub returns-in-Err-clause-fault : goal.returns-in-Err-clause-fault
-returns-in-Err-clause-fault g c =
+pub returns-clause-fault : goal.returns-clause-fault
+returns-clause-fault g c =
     ([], [], [], [], omega arith, nothing_cut c.args.left _, refl, Appends-nil _, refl, tt)

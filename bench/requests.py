@@ -1,0 +1,136 @@
+#!/usr/bin/env python3
+"""Whether a request costs more as the book grows: books of 1,000 and of 100,000 accepted requests.
+
+    python3 bench/requests.py [REPEATS [PAGES]]
+
+It proves and builds a program of the sources in bench/requests, in the copy of the repository that bench/rows.py
+uses, too, outside of it: some 9 minutes the first time where the crates are proved. The program makes a store of
+each size in a temporary file: it registers 250 firms, and fills the book through the office with bank files that
+have no lines. Then it takes 1,000 requests of each kind on a fresh copy of either store, one size after the other:
+reports of one line, each a firm's first of its month; the same again, which are answered as before; bank files of
+one new line; and what a firm owes. Each is a transaction of the office, its commit included. The whole is done
+three times if no other number is given. PAGES is how many pages of 4,096 bytes the store keeps in memory, 2,000
+if not given, which is the kit's own number.
+
+The files lie on /dev/shm where there is one, so that the figures are the program's and not the disk's: a commit
+on a disk waits for it, at any size of the book. Starting the program and opening the file don't count. Of
+each time the least is taken, both by processor time and by the clock. The table has the microseconds of one
+request at either size and their ratio, and the same for one request of each kind together.
+
+Of the tables only that of the kept requests is larger in the large store, and each new request goes to its end. No
+bank lines come in while the book is filled, so the table doesn't show what an import costs once 100,000 lines came
+in: from then on it counts the lines in suspense and the credits of its firms by reading them. Nor is a registration
+measured, which reads all firms once there are 10,000 requests.
+"""
+import argparse
+import glob
+import os
+import shutil
+import subprocess
+import sys
+import tempfile
+import time
+
+ROOT = os.path.dirname(os.path.dirname(os.path.abspath(__file__)))
+SOURCES = os.path.join(ROOT, "bench", "requests")
+COPY = os.path.join(tempfile.gettempdir(), "clearing-bench")
+CRATE = os.path.join(COPY, "crates", "bench_requests")
+PROGRAM = os.path.join(CRATE, "out", "bench_requests")
+# The program's line in crates.txt.
+LIBRARIES = "bench_requests: clear_office clear_schema clear_book clear_money sqlite sqlite_std_file\n"
+MEMORY = "/dev/shm"
+SIZES = (1_000, 100_000)
+# How many requests the program takes of each kind, and the kinds in its order.
+REQUESTS = 1_000
+KINDS = ("report", "repeat", "import", "owed")
+
+
+def copy_crates():
+    """The crates as they stand. What was proved of them is copied once, and then kept."""
+    for name in os.listdir(os.path.join(ROOT, "crates")):
+        crate = os.path.join(COPY, "crates", name)
+        was_built = os.path.isdir(os.path.join(crate, "out"))
+        for part in glob.glob(os.path.join(crate, "*")):
+            if os.path.basename(part) != "out":
+                shutil.rmtree(part) if os.path.isdir(part) else os.remove(part)
+        left_out = shutil.ignore_patterns("out") if was_built else None
+        shutil.copytree(os.path.join(ROOT, "crates", name), crate, dirs_exist_ok=True, ignore=left_out)
+
+
+def build():
+    """Proves and builds the program where a source is newer; without words it does nothing."""
+    print(f"building in {COPY}", file=sys.stderr)
+    copy_crates()
+    os.makedirs(os.path.join(CRATE, "src"), exist_ok=True)
+    for name in os.listdir(SOURCES):
+        shutil.copy2(os.path.join(SOURCES, name), os.path.join(CRATE, "src", name.removesuffix(".in")))
+    with open(os.path.join(ROOT, "crates.txt")) as crates, open(os.path.join(COPY, "crates.txt"), "w") as copy:
+        copy.write(crates.read() + LIBRARIES)
+    made = subprocess.run(["rt", "run"], cwd=CRATE, stdin=subprocess.DEVNULL, capture_output=True, text=True)
+    if made.returncode != 0:
+        sys.exit(made.stdout + made.stderr)
+
+
+def run(*words):
+    """What the program prints."""
+    return subprocess.run([PROGRAM, *map(str, words)], check=True, stdout=subprocess.PIPE, text=True).stdout
+
+
+def make(store, size, pages):
+    """Makes a store, and tells how long that took."""
+    begun = time.perf_counter()
+    run(store, "make", size, pages)
+    seconds = time.perf_counter() - begun
+    kilobytes = os.path.getsize(store) // 1024
+    print(f"made a book of {size:,} requests: {seconds:.1f} s, {kilobytes:,} kB", file=sys.stderr)
+
+
+def measure(store, size, pages):
+    """For each kind the microseconds of one request by processor time and by the clock, on a copy of a store."""
+    copy = store + ".copy"
+    shutil.copyfile(store, copy)
+    lines = run(copy, "measure", size, pages).splitlines()
+    for name in (copy, copy + "-wal"):
+        if os.path.exists(name):
+            os.remove(name)
+    return [tuple(int(spent) / REQUESTS / 1_000 for spent in line.split()) for line in lines]
+
+
+def least(old, new):
+    return tuple(map(min, old, new)) if old else new
+
+
+def main():
+    words = argparse.ArgumentParser(
+        description=__doc__, formatter_class=argparse.RawDescriptionHelpFormatter)
+    words.add_argument("repeats", type=int, nargs="?", default=3)
+    words.add_argument("pages", type=int, nargs="?", default=2_000)
+    given = words.parse_args()
+    build()
+    found = {}
+    with tempfile.TemporaryDirectory(dir=MEMORY if os.path.isdir(MEMORY) else None) as folder:
+        stores = {size: os.path.join(folder, f"store{size}") for size in SIZES}
+        for size, store in stores.items():
+            make(store, size, given.pages)
+        for turn in range(given.repeats):
+            print(f"measuring, {turn + 1} of {given.repeats}", file=sys.stderr)
+            for size, store in stores.items():
+                for kind, spent in zip(KINDS, measure(store, size, given.pages), strict=True):
+                    found[kind, size] = least(found.get((kind, size)), spent)
+    show(found)
+
+
+def show(found):
+    small, large = SIZES
+    print("| Request | Processor at 1,000 | At 100,000 | Ratio | Clock at 1,000 | At 100,000 | Ratio |")
+    print("|---|---|---|---|---|---|---|")
+    for name, kinds in [*((kind, (kind,)) for kind in KINDS), ("all together", KINDS)]:
+        cells = []
+        for part in range(2):
+            few, many = (sum(found[kind, size][part] for kind in kinds) for size in (small, large))
+            cells += [f"{few:.1f} µs", f"{many:.1f} µs", f"{many / few:.2f}"]
+        print(f"| {name} | {' | '.join(cells)} |")
+
+
+if __name__ == "__main__":
+    main()

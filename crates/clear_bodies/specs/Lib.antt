@@ -1,0 +1,5 @@
+pub mod Bodies
+pub mod Faults
+pub mod Further
+pub mod InOrder
+pub mod Members

@@ -1,0 +1,161 @@
+//! What single members of a JSON object say. A reader takes the object and the member's name.
+ghost use Rattle.std.specs.Prelude.{◌≡◌, option_map, IfOk};
+ghost use Rattle.clear_money.specs.WrittenRate.{month_spelled};
+ghost use Rattle.serde_json.specs.View.{view, items_view};
+ghost use Rattle.clear_bodies.specs.Members.{number_at, text_at, array_at, employer_at, worker_at};
+ghost use Rattle.clear_bodies.specs.Members.{version_at, name_in, name_at, month_at, line_in};
+ghost use Rattle.clear_bodies.specs.Members.{lines_in, lines_at};
+
+use crate::further::least_further;
+use clear_book::texts::{Name, WageLine, WageLines};
+use clear_money::months::Month;
+use clear_money::numbers::{EmployerNo, WorkerNo};
+use serde_json::Value;
+use std::alloc::{AllocError, Global};
+
+// The greatest version that a body may name.
+const MAX_VERSION: u64 = 4_294_967_295;
+
+// The number of a firm, 1 to 99,999,999.
+pub(crate) fn employer_at(value: &Value, name: &str) -> Option<EmployerNo>
+    ensures { result ≡ employer_at name.now (view value.now) }
+{
+    let Some(number) = number_at(value, name) else {
+        return None;
+    };
+    EmployerNo::new(number)
+}
+
+// The number of a worker, 1 to 999,999,999.
+pub(crate) fn worker_at(value: &Value, name: &str) -> Option<WorkerNo>
+    ensures { result ≡ worker_at name.now (view value.now) }
+{
+    let Some(number) = number_at(value, name) else {
+        return None;
+    };
+    WorkerNo::new(number)
+}
+
+// A version, 1 to 4,294,967,295.
+pub(crate) fn version_at(value: &Value, name: &str) -> Option<u32>
+    ensures { result ≡ version_at name.now (view value.now) }
+{
+    let Some(number) = number_at(value, name) else {
+        return None;
+    };
+    if number < 1 || number > MAX_VERSION {
+        return None;
+    }
+    Some(number as u32)
+}
+
+// A month from 2000-01 to 2199-12.
+pub(crate) fn month_at(value: &Value, name: &str) -> Option<Month>
+    ensures { result ≡ month_at name.now (view value.now) }
+{
+    let Some(text) = text_at(value, name) else {
+        return None;
+    };
+    month_in(text)
+}
+
+// A name, of 1 to 60 bytes without control characters.
+pub(crate) fn name_at(alloc: Global, value: &Value, name: &str) -> Result<Option<Name>, AllocError>
+    ensures { IfOk result (λ found. found ≡ name_at name.now (view value.now)) }
+{
+    let Some(text) = text_at(value, name) else {
+        return Ok(None);
+    };
+    name_in(alloc, text)
+}
+
+// Wage lines: an array of objects with just the members `gross`, cents of 64 bits, and `worker`.
+pub(crate) fn lines_at(
+    alloc: Global,
+    value: &Value,
+    name: &str,
+) -> Result<Option<WageLines>, AllocError>
+    ensures { IfOk result (λ found. found ≡ lines_at name.now (view value.now)) }
+{
+    let Some(values) = array_at(value, name) else {
+        return Ok(None);
+    };
+    lines_in(alloc, values)
+}
+
+fn lines_in(alloc: Global, values: &[Value]) -> Result<Option<WageLines>, AllocError>
+    ensures { IfOk result (λ found. found ≡ lines_in (items_view values.now)) }
+{
+    let mut lines = Vec::new(alloc);
+    for value in values {
+        let Some(line) = line_in(value) else {
+            return Ok(None);
+        };
+        lines.push(line)?;
+    }
+    Ok(Some(WageLines::new(lines)))
+}
+
+fn line_in(value: &Value) -> Option<WageLine>
+    ensures { result ≡ line_in (view value.now) }
+{
+    let Some(members) = value.as_object() else {
+        return None;
+    };
+    let Some(gross) = number_at(value, "gross") else {
+        return None;
+    };
+    let Some(worker) = worker_at(value, "worker") else {
+        return None;
+    };
+    match least_further(members, &["gross", "worker"]) {
+        Some(_name) => None,
+        None => Some(WageLine { worker, gross }),
+    }
+}
+
+fn month_in(text: &str) -> Option<Month>
+    ensures { result ≡ month_spelled text.now }
+{
+    Month::read(text.as_bytes())
+}
+
+fn name_in(alloc: Global, text: &str) -> Result<Option<Name>, AllocError>
+    ensures { IfOk result (λ found. found ≡ name_in text.now) }
+{
+    Ok(Name::new(String::from_str(alloc, text)?))
+}
+
+// The whole number of 64 bits that a member is.
+fn number_at(value: &Value, name: &str) -> Option<u64>
+    ensures { result ≡ number_at name.now (view value.now) }
+{
+    let Some(member) = value.get(name) else {
+        return None;
+    };
+    member.as_u64()
+}
+
+// The text that a member is.
+fn text_at<'a>(value: &'a Value, name: &str) -> Option<&'a str>
+    ensures { option_map (λ text. text.now) result ≡ text_at name.now (view value.now) }
+{
+    let Some(member) = value.get(name) else {
+        return None;
+    };
+    member.as_str()
+}
+
+// The array that a member is.
+fn array_at<'a>(value: &'a Value, name: &str) -> Option<&'a [Value]>
+    ensures { option_map (λ values. items_view values.now) result
+        ≡ array_at name.now (view value.now) }
+{
+    let Some(member) = value.get(name) else {
+        return None;
+    };
+    match member.as_array() {
+        Some(values) => Some(values.as_slice()),
+        None => None,
+    }
+}

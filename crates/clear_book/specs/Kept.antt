@@ -1,0 +1,54 @@
+-- Commands as values: when two are the same, and the bytes under which one is kept.
+use Rattle.std.specs.Prelude.{ℕ, List, ◌++◌, Bool, false, ◌&&◌, ◌==◌, bytes_eq, codes}
+use Rattle.std.specs.Cmp.Lexicographic.{pointwise}
+use Rattle.std.specs.List.{flat_map}
+use Rattle.std.specs.Fmt.{decimal}
+use Rattle.clear_money.specs.Texts.{month_text}
+use Rattle.clear_book.specs.declared.texts.WageLine.{WageLine}
+use Rattle.clear_book.specs.declared.calls.Command.{Command}
+use Rattle.clear_book.specs.declared.calls.Command.TheVariants.{Register, Report, Correct}
+use Rattle.clear_book.specs.declared.calls.Command.TheVariants.{ImportBank}
+use Rattle.clear_book.specs.declared.calls.WageReport.{WageReport}
+
+-- ---- the same as values
+
+-- the same worker and gross amount
+abbrev pub same_line : WageLine → WageLine → Bool
+same_line a b = (a.worker == b.worker) && (a.gross == b.gross)
+
+-- the same employer and month, and the same lines in the same order
+abbrev pub same_report : WageReport → WageReport → Bool
+same_report r s =
+    (r.employer == s.employer) && (r.month == s.month) && pointwise same_line r.lines s.lines
+
+-- the same kind of command, and each of its values the same
+abbrev pub same_command : Command → Command → Bool
+same_command (Register r) (Register s) =
+    (r.employer == s.employer) && bytes_eq r.name s.name && (r.start == s.start)
+same_command (Report r) (Report s) = same_report r s
+same_command (Correct c) (Correct d) = same_report c.report d.report && (c.version == d.version)
+same_command (ImportBank f) (ImportBank g) = bytes_eq f g
+same_command c d = false
+
+-- ---- the kept bytes
+
+-- a worker and a gross amount, behind a space
+abbrev pub line_text : WageLine → List ℕ
+line_text line = codes " " ++ decimal line.worker ++ codes ":" ++ decimal line.gross
+
+-- the lines of a report
+abbrev pub lines_text : List WageLine → List ℕ
+lines_text lines = flat_map line_text lines
+
+-- the word of a command and its values, with a space between them; a name stands last, and so do
+-- the bytes of a bank file
+abbrev pub command_bytes : Command → List ℕ
+command_bytes (Register r) =
+    codes "employer " ++ decimal r.employer ++ codes " " ++ month_text r.start
+    ++ codes " " ++ r.name
+command_bytes (Report r) =
+    codes "report " ++ decimal r.employer ++ codes " " ++ month_text r.month ++ lines_text r.lines
+command_bytes (Correct c) =
+    codes "correct " ++ decimal c.report.employer ++ codes " " ++ month_text c.report.month
+    ++ codes " " ++ decimal c.version ++ lines_text c.report.lines
+command_bytes (ImportBank file) = codes "bank " ++ file

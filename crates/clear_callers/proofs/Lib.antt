@@ -1,0 +1,2 @@
+pub mod CallerLemmas
+pub mod CallerFileLemmas

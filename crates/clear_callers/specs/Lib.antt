@@ -1,0 +1,2 @@
+pub mod Callers
+pub mod CallerFile

@@ -1,9 +1,0 @@
-use Rattle.std.proofs.Common.{◌≡◌, ℕ, List, [], map, fold, take}
-use Rattle.std.specs.Borrow.{Bor}
-use Rattle.clear_routes.specs.declared.routes.Path.{Path}
-use Rattle.clear_routes.specs.Routes.{add}
-use Rattle.clear_routes.proofs.routes.add_all.Given as goal
-
-abbrev pub invariant-loop-text : goal.invariant-loop-text
-invariant-loop-text l =
-    l.router ≡ fold add [] (map (λ (entry : Bor (List ℕ) × Path). (entry.0.now, entry.1)) (take l.text-index l.text-items))

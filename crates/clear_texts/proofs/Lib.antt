@@ -1,0 +1,4 @@
+pub mod AmountLemmas
+pub mod LawLemmas
+pub mod PartLemmas
+pub mod RowLemmas

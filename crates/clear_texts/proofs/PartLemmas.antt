@@ -1,0 +1,7 @@
+-- Parts appended one after the other, over plain variables.
+use Rattle.std.proofs.Common.{◌≡◌, ℕ, List, ◌++◌, codes, append_assoc}
+
+pub charge_parts : (s m d v x y z : List ℕ)
+    → s ++ codes "charge " ++ m ++ codes " due " ++ d ++ codes " version " ++ v ++ codes " " ++ x ++ codes " " ++ y ++ codes " " ++ z ++ codes "\n"
+    ≡ s ++ (codes "charge " ++ m ++ codes " due " ++ d ++ codes " version " ++ v ++ codes " " ++ x ++ codes " " ++ y ++ codes " " ++ z ++ codes "\n")
+charge_parts s m d v x y z = simp append_assoc

@@ -1,0 +1,126 @@
+//! The lines of documents. Each ends with LF. An `Err` of these functions may leave a part of a
+//! line.
+ghost use Rattle.std.specs.Prelude.{◌≡◌, ◌++◌, IfOk, string_bytes};
+ghost use Rattle.std.specs.Fmt.{decimal};
+ghost use Rattle.std.specs.Str.{IsAscii};
+ghost use Rattle.clear_money.specs.Texts.{day_text, month_text};
+ghost use Rattle.clear_texts.specs.Lines.{charge_line, payment_line};
+ghost use Rattle.clear_texts.specs.Lines.{interest_paid_line, missing_line};
+ghost use Rattle.clear_texts.specs.RowSteps.{row_lines};
+
+use crate::amounts::append_amount;
+use crate::rows::{ChargeRow, Payment};
+use clear_money::days::Day;
+use clear_money::months::Month;
+use std::alloc::AllocError;
+use std::fmt::Write;
+use std::str;
+
+/// Appends the lines that a row adds behind a row of this month: of its charge, if its month is
+/// another one, and of its piece.
+pub(crate) fn append_row(
+    text: &mut String,
+    before: Option<Month>,
+    row: &ChargeRow,
+) -> Result<(), AllocError>
+    ensures { IfOk result (λ _. string_bytes text.new
+        ≡ string_bytes text.old ++ row_lines before row.now) }
+{
+    if before != Some(row.month) {
+        append_charge(text, row)?;
+    }
+    match &row.piece {
+        Some(piece) => append_payment(text, "  paid", piece),
+        None => Ok(()),
+    }
+}
+
+/// Appends the line of a charge.
+#[tactic(auto, unfolding(crate::specs::Lines::charge_line))]
+pub(crate) fn append_charge(text: &mut String, row: &ChargeRow) -> Result<(), AllocError>
+    ensures { IfOk result (λ _. string_bytes text.new
+        ≡ string_bytes text.old ++ charge_line row.now) }
+{
+    append_month(text, "charge ", row.month)?;
+    append_day(text, " due ", row.due)?;
+    append_number(text, " version ", u64::from(row.version))?;
+    append_amount(text, " ", row.contribution)?;
+    append_amount(text, " ", row.left)?;
+    append_amount(text, " ", row.interest)?;
+    text.push_str("\n")?;
+    Ok(())
+}
+
+/// Appends the line of a credit for interest.
+#[tactic(auto, unfolding(crate::specs::Lines::interest_paid_line))]
+pub(crate) fn append_interest_credit(text: &mut String, credit: &Payment) -> Result<(), AllocError>
+    ensures { IfOk result (λ _. string_bytes text.new
+        ≡ string_bytes text.old ++ interest_paid_line credit.now) }
+{
+    append_payment(text, "interest-paid", credit)
+}
+
+/// Appends the line of a payment, behind a word.
+#[tactic(auto, unfolding(crate::specs::Lines::payment_line))]
+fn append_payment(text: &mut String, word: &str, payment: &Payment) -> Result<(), AllocError>
+    ensures { IfOk result (λ _. string_bytes text.new
+        ≡ string_bytes text.old ++ payment_line word.now payment.now) }
+{
+    text.push_str(word)?;
+    append_day(text, " ", payment.day)?;
+    append_amount(text, " ", payment.cents)?;
+    text.push_str(" ")?;
+    text.push_str(payment.reference.as_str())?;
+    text.push_str("\n")?;
+    Ok(())
+}
+
+/// Appends the line of a month without a report.
+#[tactic(auto, unfolding(crate::specs::Lines::missing_line))]
+pub(crate) fn append_missing(text: &mut String, month: Month) -> Result<(), AllocError>
+    ensures { IfOk result (λ _. string_bytes text.new
+        ≡ string_bytes text.old ++ missing_line month) }
+{
+    append_month(text, "missing ", month)?;
+    text.push_str("\n")?;
+    Ok(())
+}
+
+/// Appends a text, and a number in decimal.
+pub(crate) fn append_number(text: &mut String, before: &str, number: u64) -> Result<(), AllocError>
+    ensures { IfOk result (λ _. string_bytes text.new
+        ≡ string_bytes text.old ++ before.now ++ decimal number) }
+{
+    write!(text, "{before}{number}")
+}
+
+/// Appends a text, and a month.
+pub(crate) fn append_month(text: &mut String, before: &str, month: Month) -> Result<(), AllocError>
+    ensures { IfOk result (λ _. string_bytes text.new
+        ≡ string_bytes text.old ++ before.now ++ month_text month) }
+{
+    let _in_range = month.number();
+    append_ascii(text, before, month.text().as_slice())
+}
+
+/// Appends a text, and a day.
+pub(crate) fn append_day(text: &mut String, before: &str, day: Day) -> Result<(), AllocError>
+    ensures { IfOk result (λ _. string_bytes text.new
+        ≡ string_bytes text.old ++ before.now ++ day_text day) }
+{
+    let _month_in_range = day.month_number();
+    let _place_in_range = day.day_of_month();
+    append_ascii(text, before, day.text().as_slice())
+}
+
+fn append_ascii(text: &mut String, before: &str, bytes: &[u8]) -> Result<(), AllocError>
+    requires { IsAscii bytes.now }
+    ensures { IfOk result (λ _. string_bytes text.new
+        ≡ string_bytes text.old ++ before.now ++ bytes.now) }
+{
+    text.push_str(before)?;
+    match str::from_utf8(bytes) {
+        Ok(written) => text.push_str(written),
+        Err(_) => unreachable!(),
+    }
+}

@@ -1,0 +1,116 @@
+//! The rows of a firm's charges, one at a time.
+ghost use Rattle.std.specs.Prelude.{◌≡◌, List, IfErr, IfOk, Option};
+ghost use Rattle.clear_texts.specs.Rows.{GivesFirst};
+
+use clear_book::rules::StoreCause;
+use clear_book::texts::CreditReference;
+use clear_money::days::Day;
+use clear_money::months::Month;
+use std::alloc::AllocError;
+use std::marker::Model;
+use std::vec::IntoIter;
+
+/// The rows of an account: 100,000 credits, and twice 2,400 months.
+pub const MAX_ROWS: u32 = 104_800;
+
+/// A credit, or a part of it.
+#[derive(Drop)]
+pub struct Payment {
+    /// The day of the credit.
+    pub day: Day,
+    /// So much of it.
+    pub cents: u64,
+    pub reference: CreditReference,
+}
+
+/// The charge of a month, and at most one piece of a credit that pays it. A charge with several
+/// pieces is as many rows, one after the other; amounts are in cents.
+#[derive(Drop)]
+pub struct ChargeRow {
+    pub month: Month,
+    /// The day on which the charge is due.
+    pub due: Day,
+    /// The version of the month's report.
+    pub version: u32,
+    pub contribution: u64,
+    /// How much of the contribution is open.
+    pub left: u64,
+    pub interest: u64,
+    pub piece: Option<Payment>,
+}
+
+/// Why no row can be told.
+#[derive(Clone, Copy, Debug, PartialEq, Eq)]
+pub enum RowFault {
+    /// There was no memory.
+    Memory,
+    /// The records could not be read.
+    Store(StoreCause),
+}
+
+impl From<AllocError> for RowFault {
+    ghost use Rattle.clear_texts.specs.declared.rows.RowFault.TheVariants.{Memory};
+
+    ghost from_gives = { λ _ fault. fault ≡ Memory };
+
+    fn from(_error: AllocError) -> RowFault {
+        RowFault::Memory
+    }
+}
+
+/// A source of the rows of a firm's charges.
+pub trait ChargeRows {
+    ghost use Rattle.std.specs.Prelude.{Option};
+    ghost use Rattle.clear_texts.specs.declared.rows.ChargeRow.{ChargeRow};
+    ghost use Rattle.clear_texts.specs.declared.rows.RowFault.{RowFault};
+
+    /// A call at the first source gives this, and leaves the second.
+    ghost next_gives: { Self → Option ChargeRow → Self → Type 0 };
+
+    /// A call at the first source is refused for this, and leaves the second.
+    ghost next_refuses: { Self → RowFault → Self → Type 0 };
+
+    /// The next row, and none past the last.
+    fn next(&mut self) -> Result<Option<ChargeRow>, RowFault>
+        ensures gives { IfOk result (λ found. next_gives self.old found self.new) }
+        ensures refuses { IfErr result (λ fault. next_refuses self.old fault self.new) };
+}
+
+/// Rows in the order of a list. A contract sees those that are still to come.
+#[derive(Drop)]
+pub struct ListedRows {
+    rows: IntoIter<ChargeRow>,
+}
+
+impl Model for ListedRows {
+    ghost use Rattle.std.specs.Prelude.{List};
+    ghost use Rattle.std.specs.Vec.Iter.{into_iter_items};
+    ghost use Rattle.clear_texts.specs.declared.rows.ChargeRow.{ChargeRow};
+
+    ghost Value = { List ChargeRow };
+
+    ghost view = { λ a. into_iter_items a.rows };
+}
+
+impl ListedRows {
+    /// All of these are still to come.
+    pub fn new(rows: Vec<ChargeRow>) -> ListedRows
+        ensures { result ≡ rows.items }
+    {
+        ListedRows {
+            rows: rows.into_iter(),
+        }
+    }
+}
+
+impl ChargeRows for ListedRows {
+    ghost use Rattle.clear_texts.specs.Rows.{GivesFirst};
+
+    ghost next_gives = { GivesFirst };
+
+    ghost next_refuses = { λ _ _ _. ⊥ };
+
+    fn next(&mut self) -> Result<Option<ChargeRow>, RowFault> {
+        Ok(self.rows.next())
+    }
+}

@@ -1,0 +1,181 @@
+//! The statement of a firm's account.
+ghost use Rattle.std.specs.Prelude.{◌≡◌, ◌++◌, ◌≤◌, List, None, codes, length, string_bytes};
+ghost use Rattle.std.specs.Prelude.{IfErr, IfOk, OnErr};
+ghost use Rattle.std.specs.Iterator.{YieldsThen};
+ghost use Rattle.std.specs.List.{flat_map};
+ghost use Rattle.clear_texts.specs.Lines.{interest_paid_line, missing_line};
+ghost use Rattle.clear_texts.specs.Charges.{charge_lines};
+ghost use Rattle.clear_texts.specs.RowSteps.{IsNotTheEnd};
+ghost use Rattle.clear_texts.specs.Rows.{IsRefused, most_rows};
+ghost use Rattle.clear_texts.specs.declared.rows.ChargeRow.{ChargeRow};
+ghost use Rattle.clear_texts.specs.Statement.{firm_lines, last_text, sum_lines, statement_text};
+
+use crate::amounts::append_amount;
+use crate::lines::{
+    append_day, append_interest_credit, append_missing, append_month, append_number, append_row,
+};
+use crate::rows::{ChargeRows, MAX_ROWS, Payment, RowFault};
+use clear_book::rules::StoreCause;
+use clear_book::texts::Name;
+use clear_money::days::Day;
+use clear_money::months::Month;
+use clear_money::numbers::EmployerNo;
+use std::alloc::{AllocError, Global};
+
+/// What the statement of a firm tells beside its charges. Amounts are in cents.
+#[derive(Drop)]
+pub struct FirmAccount {
+    pub employer: EmployerNo,
+    /// The day of the statement.
+    pub day: Day,
+    pub name: Name,
+    /// The first month of the membership.
+    pub start: Month,
+    /// The last month of the membership, if it has one.
+    pub last: Option<Month>,
+    /// The credits for interest by day and serial.
+    pub interest_credits: Vec<Payment>,
+    /// The months without a report, rising.
+    pub missing: Vec<Month>,
+    /// What is credited and not yet charged.
+    pub prepaid: u64,
+    /// The open parts of the charges that are due.
+    pub arrears: u64,
+    /// The interest that is not yet paid.
+    pub interest: u64,
+}
+
+/// Appends the statement of a firm, whose charges are the rows that the source gives up to its end.
+/// A refusal leaves the text as it was: there was no memory, the source refused a row, or it gave
+/// more than `MAX_ROWS`, which is `StoreCause::Row`.
+#[tactic(auto, unfolding(crate::specs::Statement::statement_text))]
+pub fn statement<R: ChargeRows>(
+    alloc: Global,
+    firm: &FirmAccount,
+    rows: &mut R,
+    text: &mut String,
+) -> Result<(), RowFault>
+    ensures written { IfOk result (λ _. (given : List ChargeRow)
+        × YieldsThen R.next_gives rows.old given None rows.new
+        × (length given ≤ most_rows)
+        × (string_bytes text.new ≡ string_bytes text.old ++ statement_text firm.now given)) }
+    ensures unchanged { OnErr result (string_bytes text.new ≡ string_bytes text.old) }
+    ensures refused { IfErr result (λ fault.
+        IsRefused R.next_gives R.next_refuses rows.old fault rows.new) }
+{
+    let mut written = String::new(alloc);
+    append_firm(&mut written, firm)?;
+    append_charges(&mut written, rows)?;
+    append_rest(&mut written, firm)?;
+    text.push_str(written.as_str())?;
+    Ok(())
+}
+
+// The lines on the firm.
+#[tactic(auto, unfolding(crate::specs::Statement::firm_lines))]
+fn append_firm(text: &mut String, firm: &FirmAccount) -> Result<(), AllocError>
+    ensures { IfOk result (λ _. string_bytes text.new
+        ≡ string_bytes text.old ++ firm_lines firm.now) }
+{
+    append_number(text, "statement ", u64::from(firm.employer.number()))?;
+    append_day(text, " ", firm.day)?;
+    text.push_str("\nname ")?;
+    text.push_str(firm.name.as_str())?;
+    append_month(text, "\nmember ", firm.start)?;
+    append_last(text, firm.last)?;
+    text.push_str("\n")?;
+    Ok(())
+}
+
+// A space, and the last month or a dash.
+fn append_last(text: &mut String, last: Option<Month>) -> Result<(), AllocError>
+    ensures { IfOk result (λ _. string_bytes text.new
+        ≡ string_bytes text.old ++ codes " " ++ last_text last) }
+{
+    match last {
+        Some(month) => append_month(text, " ", month),
+        None => text.push_str(" -"),
+    }
+}
+
+// The lines of all charges that the source gives up to its end.
+fn append_charges<R: ChargeRows>(text: &mut String, rows: &mut R) -> Result<(), RowFault>
+    ensures written { IfOk result (λ _. (given : List ChargeRow)
+        × YieldsThen R.next_gives rows.old given None rows.new
+        × (length given ≤ most_rows)
+        × (string_bytes text.new ≡ string_bytes text.old ++ charge_lines given)) }
+    ensures refused { IfErr result (λ fault.
+        IsRefused R.next_gives R.next_refuses rows.old fault rows.new) }
+{
+    let mut before = None;
+    for _count in 0..MAX_ROWS {
+        match rows.next() {
+            Ok(Some(row)) => {
+                append_row(text, before, &row)?;
+                before = Some(row.month);
+            }
+            Ok(None) => return Ok(()),
+            Err(fault) => return Err(fault),
+        }
+    }
+    end_rows(rows)
+}
+
+// The source gives no further row.
+fn end_rows<R: ChargeRows>(rows: &mut R) -> Result<(), RowFault>
+    ensures ends { IfOk result (λ _. R.next_gives rows.old None rows.new) }
+    ensures refused { IfErr result (λ fault.
+        IsNotTheEnd R.next_gives R.next_refuses rows.old fault rows.new) }
+{
+    match rows.next() {
+        Ok(Some(_)) => Err(RowFault::Store(StoreCause::Row)),
+        Ok(None) => Ok(()),
+        Err(fault) => Err(fault),
+    }
+}
+
+// The lines below those of the charges.
+fn append_rest(text: &mut String, firm: &FirmAccount) -> Result<(), AllocError>
+    ensures { IfOk result (λ _. string_bytes text.new
+        ≡ string_bytes text.old
+        ++ flat_map interest_paid_line firm.now.interest_credits.items
+        ++ flat_map missing_line firm.now.missing.items
+        ++ sum_lines firm.now) }
+{
+    append_interest_credits(text, firm.interest_credits.as_slice())?;
+    append_missing_months(text, firm.missing.as_slice())?;
+    append_sums(text, firm)?;
+    Ok(())
+}
+
+fn append_interest_credits(text: &mut String, credits: &[Payment]) -> Result<(), AllocError>
+    ensures { IfOk result (λ _. string_bytes text.new
+        ≡ string_bytes text.old ++ flat_map interest_paid_line credits.now) }
+{
+    for credit in credits {
+        append_interest_credit(text, credit)?;
+    }
+    Ok(())
+}
+
+fn append_missing_months(text: &mut String, months: &[Month]) -> Result<(), AllocError>
+    ensures { IfOk result (λ _. string_bytes text.new
+        ≡ string_bytes text.old ++ flat_map missing_line months.now) }
+{
+    for month in months {
+        append_missing(text, *month)?;
+    }
+    Ok(())
+}
+
+#[tactic(auto, unfolding(crate::specs::Statement::sum_lines))]
+fn append_sums(text: &mut String, firm: &FirmAccount) -> Result<(), AllocError>
+    ensures { IfOk result (λ _. string_bytes text.new
+        ≡ string_bytes text.old ++ sum_lines firm.now) }
+{
+    append_amount(text, "prepaid ", firm.prepaid)?;
+    append_amount(text, "\narrears ", firm.arrears)?;
+    append_amount(text, "\ninterest ", firm.interest)?;
+    text.push_str("\n")?;
+    Ok(())
+}
