@@ -1,0 +1,14 @@
+mod CommandLemmas
+mod FirstLemmas
+mod LevelLemmas
+mod LineLemmas
+mod SameLemmas
+mod SampleLemmas
+mod Levels
+mod NumberLemmas
+mod OptionLemmas
+mod ReadingLemmas
+mod SaidLemmas
+mod ToldLemmas
+mod TopLemmas
+mod WordLemmas
