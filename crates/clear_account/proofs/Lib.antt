@@ -7,3 +7,5 @@ pub mod ShareLemmas
 pub mod OpenLemmas
 pub mod LawLemmas
 pub mod PieceLemmas
+pub mod SettledLemmas
+pub mod CountLemmas

@@ -48,20 +48,20 @@ used s p [] k ks h = refl
 used s p (c ∷ cs) k ks h =
     (λ i. (credit_before s (s + c.cents) c p (p + k.cents) k h i ++ pieces_from s (s + c.cents) c (p + k.cents) ks) ++ used (s + c.cents) p cs k ks (omega arith) i)
 
-next_charge : (s p : ℕ) (c : Charge) (cs : List Charge) (k : Credit) (ks : List Credit) → s + c.cents ≤ p + k.cents → right_from s p (c ∷ cs) (k ∷ ks) ≡ piece_in s (s + c.cents) c p (p + k.cents) k ++ right_from (s + c.cents) p cs (k ∷ ks)
+pub next_charge : (s p : ℕ) (c : Charge) (cs : List Charge) (k : Credit) (ks : List Credit) → s + c.cents ≤ p + k.cents → right_from s p (c ∷ cs) (k ∷ ks) ≡ piece_in s (s + c.cents) c p (p + k.cents) k ++ right_from (s + c.cents) p cs (k ∷ ks)
 next_charge s p c cs k ks h =
     let e : ℕ = s + c.cents in
     let one : List Piece = piece_in s e c p (p + k.cents) k in
     ap (λ xs. (one ++ xs) ++ right_from e p cs (k ∷ ks)) (past s e c (p + k.cents) ks h) ∙ append_assoc one [] (right_from e p cs (k ∷ ks))
 
-next_credit : (s p : ℕ) (c : Charge) (cs : List Charge) (k : Credit) (ks : List Credit) → p + k.cents ≤ s + c.cents → right_from s p (c ∷ cs) (k ∷ ks) ≡ piece_in s (s + c.cents) c p (p + k.cents) k ++ right_from s (p + k.cents) (c ∷ cs) ks
+pub next_credit : (s p : ℕ) (c : Charge) (cs : List Charge) (k : Credit) (ks : List Credit) → p + k.cents ≤ s + c.cents → right_from s p (c ∷ cs) (k ∷ ks) ≡ piece_in s (s + c.cents) c p (p + k.cents) k ++ right_from s (p + k.cents) (c ∷ cs) ks
 next_credit s p c cs k ks h =
     let e : ℕ = s + c.cents in
     let r : ℕ = p + k.cents in
     let one : List Piece = piece_in s e c p r k in
     ap (λ xs. (one ++ pieces_from s e c r ks) ++ xs) (used e p cs k ks h) ∙ append_assoc one (pieces_from s e c r ks) (right_from e r cs ks)
 
-no_credits : (s p : ℕ) (cs : List Charge) → right_from s p cs [] ≡ []
+pub no_credits : (s p : ℕ) (cs : List Charge) → right_from s p cs [] ≡ []
 no_credits s p [] = refl
 no_credits s p (c ∷ cs) = no_credits (s + c.cents) p cs
 

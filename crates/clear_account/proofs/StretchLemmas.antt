@@ -24,15 +24,15 @@ module _ {X : Type 0} (f : X → ℕ) where
 
 module _ {X : Type 0} (f : X → ℕ) (d : X) where
   -- where the elements before sum to p, the next one begins at p and ends at its own amount behind p
-  record At (all before : List X) (x : X) (xs : List X) (n p : ℕ) : Type 0 where
-    front : all ≡ (before ++ x ∷ []) ++ xs
-    place : n + 1 ≡ length (before ++ x ∷ [])
-    ends : p + f x ≡ sum_by f (before ++ x ∷ [])
-    start : sum_by f (take n all) ≡ p
-    end : sum_by f (take (n + 1) all) ≡ p + f x
-    item : get_or all n d ≡ x
+  pub record At (all before : List X) (x : X) (xs : List X) (n p : ℕ) : Type 0 where
+    pub front : all ≡ (before ++ x ∷ []) ++ xs
+    pub place : n + 1 ≡ length (before ++ x ∷ [])
+    pub ends : p + f x ≡ sum_by f (before ++ x ∷ [])
+    pub start : sum_by f (take n all) ≡ p
+    pub end : sum_by f (take (n + 1) all) ≡ p + f x
+    pub item : get_or all n d ≡ x
 
-  at : (all before : List X) (x : X) (xs : List X) (n p : ℕ) → all ≡ before ++ x ∷ xs → n ≡ length before → p ≡ sum_by f before → At all before x xs n p
+  pub at : (all before : List X) (x : X) (xs : List X) (n p : ℕ) → all ≡ before ++ x ∷ xs → n ≡ length before → p ≡ sum_by f before → At all before x xs n p
   at all before x xs n p e l s =
       let front : all ≡ (before ++ x ∷ []) ++ xs = e ∙ sym (append_assoc before (x ∷ []) xs) in
       let place : n + 1 ≡ length (before ++ x ∷ []) = omega (arith, length_push before x) in

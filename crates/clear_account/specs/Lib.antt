@@ -3,3 +3,5 @@ pub mod Allocation
 pub mod Arrears
 pub mod Interest
 pub mod Laws
+pub mod Settled
+pub mod Walk

@@ -1,7 +1,7 @@
 //! Laws of accounts, over the definitions alone. Each function does nothing: its contract is the
 //! law.
-ghost use Rattle.clear_account.specs.Laws.{CreditsKept, OnePiece, PiecesSum, SharesSum};
-ghost use Rattle.clear_account.specs.Laws.{WeightByPieces};
+ghost use Rattle.clear_account.specs.Laws.{CreditsKept, FewPieces, FewShares, OnePiece, PiecesSum};
+ghost use Rattle.clear_account.specs.Laws.{ShareAPiece, SharesSum, WeightByPieces};
 
 /// The shares of a charge sum to what the payments reach of it.
 pub fn shares_sum()
@@ -26,4 +26,19 @@ pub fn weight_by_pieces()
 /// Each charge and each payment with a share have one piece, and no other piece names the two.
 pub fn one_piece()
     ensures { OnePiece }
+{}
+
+/// There are at most as many pieces as charges and payments together.
+pub fn few_pieces()
+    ensures { FewPieces }
+{}
+
+/// The shares of all charges, as a settled account tells them, are as many as the pieces.
+pub fn share_a_piece()
+    ensures { ShareAPiece }
+{}
+
+/// The shares of all charges are at most as many as charges and payments together.
+pub fn few_shares()
+    ensures { FewShares }
 {}

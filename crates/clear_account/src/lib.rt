@@ -4,8 +4,9 @@
 //! Payments in order of day and serial pay charges in month order, each cent of the payments the
 //! cent of the charges at the same place. A keeper is seen as its two lists; its pieces, open
 //! parts, weights and sums are the definitions of `specs/` over these lists, whatever it keeps
-//! besides. Only what grows a list takes memory, and a refusal leaves the keeper as it was. That a
-//! call with memory at hand succeeds is shown by tests.
+//! besides. `Plain::settle` tells all charges on a day in one walk along both lists. Only what
+//! grows a list takes memory, and a refusal leaves the keeper as it was. That a call with memory
+//! at hand succeeds is shown by tests.
 #![tactic(auto)]
 
 mod allocation;
@@ -15,6 +16,7 @@ pub mod laws;
 mod lists;
 pub mod owed;
 pub mod plain;
+pub mod settled;
 #[cfg(test)]
 mod tests;
 mod weights;

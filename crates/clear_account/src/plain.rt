@@ -5,6 +5,7 @@ use crate::keeper::{Keeper, MAX_CREDITS};
 use crate::lists::{
     add_charges, add_credits, add_due, find_serial, open_cents, place_of, put_charge, put_credit,
 };
+use crate::settled::{Settled, settle_all};
 use crate::weights::{first_day, weigh};
 use clear_money::days::Day;
 use clear_money::months::Month;
@@ -29,7 +30,9 @@ impl Model for Plain {
 }
 
 impl Plain {
-    ghost use Rattle.std.specs.Prelude.{◌≡◌, []};
+    ghost use Rattle.std.specs.Prelude.{◌≡◌, ◌≤◌, [], All, IfErr, IfOk};
+    ghost use Rattle.clear_account.specs.Account.{last_day};
+    ghost use Rattle.clear_account.specs.Settled.{all_settled_on};
 
     /// An account without charges and payments.
     pub fn new(alloc: Global) -> Plain
@@ -38,6 +41,22 @@ impl Plain {
         Plain {
             charges: Vec::new(alloc),
             credits: Vec::new(alloc),
+        }
+    }
+
+    /// Each charge in month order: what is open of it, its weight on a day, and what each payment
+    /// pays of it. The day is not before the last payment's. Takes one step for each charge and
+    /// each payment.
+    pub fn settle(&self, alloc: Global, day: Day) -> Result<Vec<Settled>, AccountFault>
+        requires { last_day self.now.credits ≤ day }
+        ensures settled { IfOk result (λ all. all.items
+            ≡ all_settled_on self.now.charges self.now.credits day) }
+        ensures range { IfOk result (λ all. All (λ s. s.weight ≤ 12_060_000_000_000) all.items) }
+        ensures err { IfErr result (λ fault. fault ≡ AccountFault.Memory) }
+    {
+        match settle_all(alloc, self.charges.as_slice(), self.credits.as_slice(), day) {
+            Ok(all) => Ok(all),
+            Err(_) => Err(AccountFault::Memory),
         }
     }
 }

@@ -4,6 +4,7 @@ use crate::entries::{AccountFault, Charge, Credit, Piece};
 use crate::keeper::Keeper;
 use crate::owed::{arrears, has_rates, interest};
 use crate::plain::Plain;
+use crate::settled::Settled;
 use clear_money::days::Day;
 use clear_money::months::Month;
 use clear_money::numbers::Amount;
@@ -135,6 +136,35 @@ fn an_account_tells_its_lists(rt: HostRuntime) -> Result<(), Fail> {
     assert_eq!(rt; account.charge_count(), 2);
     assert_eq!(rt; account.charge_at(1).map(|c| c.cents), Some(100_010));
     assert!(rt; account.last_day() == day("2024-04-21")?);
+    Ok(())
+}
+
+// Whether a charge has so much open, this weight, and these shares of (place, cents).
+fn is_settled(charge: &Settled, left: u64, weight: u64, shares: &[(usize, u64)]) -> bool {
+    let found = charge.shares();
+    if charge.left() != left || charge.weight() != weight || found.len() != shares.len() {
+        return false;
+    }
+    for (share, (place, cents)) in found.iter().zip(shares) {
+        if share.place != *place || share.cents != *cents {
+            return false;
+        }
+    }
+    true
+}
+
+#[test]
+fn settles_each_charge(rt: HostRuntime) -> Result<(), Fail> {
+    let alloc = rt.alloc();
+    let account = first_account(alloc)?;
+    let today = day("2024-04-30")?;
+    if today < account.last_day() {
+        return Err(Fail::new("day"));
+    }
+    let all = account.settle(alloc, today)?;
+    assert_eq!(rt; all.len(), 2);
+    assert!(rt; is_settled(&all[0], 0, 300_000, &[(0, 150_000), (1, 50_000)]));
+    assert!(rt; is_settled(&all[1], 0, 200_020, &[(1, 100_010)]));
     Ok(())
 }
 

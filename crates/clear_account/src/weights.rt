@@ -34,15 +34,15 @@ pub(crate) fn weigh(charges: &[Charge], credits: &[Credit], place: usize, day: D
     weight + weigh_part(open_cents(charges, credits, place), charge.due, day)
 }
 
-// What two stretches of cents have in common.
-fn common(start: u64, end: u64, other_start: u64, other_end: u64) -> u64
+/// What two stretches of cents have in common.
+pub(crate) fn common(start: u64, end: u64, other_start: u64, other_end: u64) -> u64
     ensures { result ≡ min end other_end - max start other_start }
 {
     end.min(other_end).saturating_sub(start.max(other_start))
 }
 
-// Some cents, once for each month begun from the due day to a day.
-fn weigh_part(cents: u64, due: Day, day: Day) -> u64
+/// Some cents, once for each month begun from the due day to a day.
+pub(crate) fn weigh_part(cents: u64, due: Day, day: Day) -> u64
     requires cents { cents ≤ most_base }
     requires due { day_of_month due ≤ 28 }
     ensures { result ≡ cents * begun_months due day }

@@ -10,7 +10,7 @@ use Rattle.clear_book.specs.Rules.{word_of, table_word}
 use Rattle.clear_book.specs.declared.outcomes.Reply.{Reply}
 use Rattle.clear_book.specs.declared.outcomes.Reply.TheVariants.{Done, Reported, Imported}
 use Rattle.clear_book.specs.declared.outcomes.Answer.{Answer}
-use Rattle.clear_book.specs.declared.outcomes.Answer.TheVariants.{Owed}
+use Rattle.clear_book.specs.declared.outcomes.Answer.TheVariants.{Owed, Text}
 use Rattle.clear_book.specs.declared.rules.Carried.{Carried}
 use Rattle.clear_book.specs.declared.rules.Carried.TheVariants.{Nothing, Day, Month, Number}
 use Rattle.clear_book.specs.declared.rules.Carried.TheVariants.{Field, Limit, Table}
@@ -110,12 +110,21 @@ query_body (Owed charged credited arrears prepaid) =
     ++ codes ",\"credited\":" ++ decimal credited
     ++ codes ",\"prepaid\":" ++ decimal prepaid
     ++ codes "}"
+query_body (Text document) = document
 
--- the body of an answer: compact JSON, members in the order of their bytes
+-- the body of an answer: the document that it is, or compact JSON, members in the order of their
+-- bytes
 abbrev pub body_of : Said → List ℕ
 body_of (said.Reply reply) = reply_body reply
 body_of (said.Answer answer) = query_body answer
 body_of (said.No refused) = refused_body refused
+
+-- what the body of an answer is: a document is text in UTF-8, and all else is JSON
+abbrev pub content_type : Said → List ℕ
+content_type (said.Answer (Text document)) = codes "text/plain; charset=utf-8"
+content_type (said.Answer (Owed charged credited arrears prepaid)) = codes "application/json"
+content_type (said.Reply reply) = codes "application/json"
+content_type (said.No refused) = codes "application/json"
 
 -- the field that lists the methods of a path, where a refusal tells them
 abbrev pub allow_field : Extra → List ℕ
@@ -145,8 +154,8 @@ sent_body bare body = if bare then [] else body
 unfoldable pub first_lines : Said → ℕ → List ℕ
 first_lines said len =
     codes "HTTP/1.1 " ++ status_of said
-    ++ codes "\r\nContent-Type: application/json\r\n"
-    ++ codes "Content-Length: " ++ decimal len
+    ++ codes "\r\nContent-Type: " ++ content_type said
+    ++ codes "\r\nContent-Length: " ++ decimal len
     ++ codes "\r\n"
 
 -- an answer: the lines up to the length of its body, the fields, an empty line, and the body

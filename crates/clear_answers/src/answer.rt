@@ -6,8 +6,9 @@ ghost use Rattle.clear_book.specs.declared.rules.Rule.TheVariants.{Memory, Faile
 ghost use Rattle.clear_answers.specs.Said.{refused_by};
 ghost use Rattle.clear_answers.specs.Answer.{framing_status, status_by, status_of, carried_text};
 ghost use Rattle.clear_answers.specs.Answer.{detail_of, quoted, refused_body, reply_body};
-ghost use Rattle.clear_answers.specs.Answer.{query_body, body_of, allow_field, further_field};
-ghost use Rattle.clear_answers.specs.Answer.{close_field, sent_body, first_lines, answer_of};
+ghost use Rattle.clear_answers.specs.Answer.{query_body, body_of, content_type, allow_field};
+ghost use Rattle.clear_answers.specs.Answer.{further_field, close_field, sent_body, first_lines};
+ghost use Rattle.clear_answers.specs.Answer.{answer_of};
 
 use crate::said::{Extra, Refused, Said};
 use clear_book::outcomes::{Answer, Reply};
@@ -165,19 +166,23 @@ fn reply_body(alloc: Global, reply: &Reply) -> Result<Vec<u8>, AllocError>
 fn query_body(alloc: Global, answer: &Answer) -> Result<Vec<u8>, AllocError>
     ensures { IfOk result (λ body. body.items ≡ query_body answer.now) }
 {
-    let Answer::Owed {
-        charged,
-        credited,
-        arrears,
-        prepaid,
-    } = answer;
-    let mut body = Vec::new(alloc);
-    append_number(&mut body, b"{\"arrears\":", *arrears)?;
-    append_number(&mut body, b",\"charged\":", *charged)?;
-    append_number(&mut body, b",\"credited\":", *credited)?;
-    append_number(&mut body, b",\"prepaid\":", *prepaid)?;
-    body.extend_from_slice(b"}")?;
-    Ok(body)
+    match answer {
+        Answer::Owed {
+            charged,
+            credited,
+            arrears,
+            prepaid,
+        } => {
+            let mut body = Vec::new(alloc);
+            append_number(&mut body, b"{\"arrears\":", *arrears)?;
+            append_number(&mut body, b",\"charged\":", *charged)?;
+            append_number(&mut body, b",\"credited\":", *credited)?;
+            append_number(&mut body, b",\"prepaid\":", *prepaid)?;
+            body.extend_from_slice(b"}")?;
+            Ok(body)
+        }
+        Answer::Text(document) => Vec::from_slice(alloc, document.as_str().as_bytes()),
+    }
 }
 
 fn body_of(alloc: Global, said: &Said) -> Result<Vec<u8>, AllocError>
@@ -187,6 +192,16 @@ fn body_of(alloc: Global, said: &Said) -> Result<Vec<u8>, AllocError>
         Said::Reply(reply) => reply_body(alloc, reply),
         Said::Answer(answer) => query_body(alloc, answer),
         Said::No(refused) => refused_body(alloc, refused),
+    }
+}
+
+/// What the body of an answer is.
+fn content_type(said: &Said) -> &'static [u8]
+    ensures { result.now ≡ content_type said.now }
+{
+    match said {
+        Said::Answer(Answer::Text(_)) => b"text/plain; charset=utf-8",
+        Said::Answer(Answer::Owed { .. }) | Said::Reply(_) | Said::No(_) => b"application/json",
     }
 }
 
@@ -240,8 +255,9 @@ fn first_lines(alloc: Global, said: &Said, length: usize) -> Result<Vec<u8>, All
 {
     let mut text = Vec::from_slice(alloc, b"HTTP/1.1 ")?;
     text.extend_from_slice(status_of(said))?;
-    text.extend_from_slice(b"\r\nContent-Type: application/json\r\n")?;
-    append_number(&mut text, b"Content-Length: ", length as u64)?;
+    text.extend_from_slice(b"\r\nContent-Type: ")?;
+    text.extend_from_slice(content_type(said))?;
+    append_number(&mut text, b"\r\nContent-Length: ", length as u64)?;
     text.extend_from_slice(b"\r\n")?;
     Ok(text)
 }

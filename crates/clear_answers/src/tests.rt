@@ -2,7 +2,8 @@
 use crate::answer::answer_bytes;
 use crate::said::{Extra, Refused, Said};
 use clear_bodies::faults::Member;
-use clear_book::outcomes::Reply;
+use clear_book::documents::Document;
+use clear_book::outcomes::{Answer, Reply};
 use clear_book::rules::{Rule, StoreCause};
 use clear_money::months::Month;
 use clear_paths::allow::Allow;
@@ -38,6 +39,18 @@ fn answers_byte_by_byte(rt: HostRuntime) -> Result<(), Fail> {
             false,
             b"before HTTP/1.1 200 OK\r\nContent-Type: application/json\r\n\
             Content-Length: 21\r\n\r\n{\"new\":2,\"repeats\":0}"
+        )?
+    );
+    let missing_month = String::from_str(alloc, "missing 2024-03\n")?;
+    let document = Said::Answer(Answer::Text(Document::new(missing_month)));
+    assert!(rt;
+        is_answer(
+            alloc,
+            &document,
+            false,
+            false,
+            b"before HTTP/1.1 200 OK\r\nContent-Type: text/plain; charset=utf-8\r\n\
+            Content-Length: 16\r\n\r\nmissing 2024-03\n"
         )?
     );
     let stranger = Said::No(Refused::by(Rule::UnknownKey));

@@ -45,7 +45,14 @@ fn serve_sample(rt: &HostRuntime) -> Result<Served, Fault> {
     };
     let mut reader = Counted::new(rt.reader());
     let mut writer = Counted::new(io::writer(rt));
-    match serve(&mut desk, &mut reader, &mut writer) {
+    match serve(
+        rt.alloc(),
+        &mut desk.office,
+        &desk.directory,
+        desk.day,
+        &mut reader,
+        &mut writer,
+    ) {
         Ok(served) => Ok(served),
         Err(stopped) => Err(stopped.fault),
     }

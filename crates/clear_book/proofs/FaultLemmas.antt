@@ -10,7 +10,7 @@ use Rattle.clear_book.specs.declared.calls.Call.TheVariants.{Do, Ask}
 use Rattle.clear_book.specs.declared.calls.Command.{Command}
 use Rattle.clear_book.specs.declared.calls.Command.TheVariants.{Register, Report, Correct, ImportBank}
 use Rattle.clear_book.specs.declared.calls.Query.{Query}
-use Rattle.clear_book.specs.declared.calls.Query.TheVariants.{Owed}
+use Rattle.clear_book.specs.declared.calls.Query.TheVariants.{Owed, Statement}
 use Rattle.clear_book.specs.declared.outcomes.Answer.{Answer}
 use Rattle.clear_book.specs.declared.outcomes.Outcome.TheVariants.{Refused}
 use Rattle.clear_book.specs.declared.outcomes.Reply.{Reply}
@@ -93,6 +93,7 @@ own_other b t (ImportBank file) =
 
 query_other : (b : Book) (query : Query) → IsOther (own_query b query)
 query_other b (Owed employer) = when_other _ _ refl
+query_other b (Statement employer) = when_other _ _ refl
 
 back_other : (ledger : Option ℕ) (t : ℕ) → IsOther (day_back ledger t)
 back_other None t = tt

@@ -5,7 +5,7 @@ use Rattle.clear_book.specs.declared.calls.Caller.TheVariants.{Firm, Clerk}
 use Rattle.clear_book.specs.declared.calls.Command.{Command}
 use Rattle.clear_book.specs.declared.calls.Command.TheVariants.{Report, Correct}
 use Rattle.clear_book.specs.declared.calls.Query.{Query}
-use Rattle.clear_book.specs.declared.calls.Query.TheVariants.{Owed}
+use Rattle.clear_book.specs.declared.calls.Query.TheVariants.{Owed, Statement}
 
 -- a firm may report its own wages and correct its reports, and give no other command
 abbrev pub may_do : Caller → Command → Bool
@@ -18,3 +18,4 @@ may_do (Firm e) command = false
 abbrev pub may_query : Caller → Query → Bool
 may_query Clerk query = true
 may_query (Firm e) (Owed employer) = e == employer
+may_query (Firm e) (Statement employer) = e == employer

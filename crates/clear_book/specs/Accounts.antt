@@ -76,6 +76,10 @@ credits_standing xs = in_key_order credit_key (credits_of_lines (lines_standing 
 abbrev pub credits_under : List CreditRow → ℕ → Purpose → List Credit
 credits_under rows e purpose = map row_credit (filter (is_credit_of e purpose) rows)
 
+-- the rows of a firm's credits for a purpose, by day, and on one day by serial
+abbrev pub credit_rows_of : Book → ℕ → Purpose → List CreditRow
+credit_rows_of b e purpose = filter (is_credit_of e purpose) (credits_standing b.entries)
+
 -- a firm's credits for contributions, by day, and on one day by serial
 abbrev pub credits_of : Book → ℕ → List Credit
 credits_of b e = credits_under (credits_standing b.entries) e Contribution

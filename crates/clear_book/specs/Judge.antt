@@ -1,7 +1,8 @@
 -- The judge: the first rule that applies to a call, or the reply or answer. What a command's own
 -- rules say stands in its module of `Own`; here is the one order of all checks.
-use Rattle.std.specs.Prelude.{ℕ, [], ◌∷◌, Option, Some, None, Bool, not, nat_lt, nat_le, length}
-use Rattle.std.specs.Prelude.{is_some, if◌then◌else◌}
+use Rattle.std.specs.Prelude.{ℕ, List, [], ◌∷◌, Option, Some, None, Bool, not, nat_lt, nat_le}
+use Rattle.std.specs.Prelude.{length, is_some, if◌then◌else◌}
+use Rattle.std.specs.Option.{option_map_or}
 use Rattle.clear_money.specs.Rates.{rate_in_force}
 use Rattle.clear_book.specs.declared.calls.Call.{Call}
 use Rattle.clear_book.specs.declared.calls.Call.TheVariants.{Do, Ask}
@@ -9,8 +10,9 @@ use Rattle.clear_book.specs.declared.calls.Command.{Command}
 use Rattle.clear_book.specs.declared.calls.Command.TheVariants.{Register, Report, Correct}
 use Rattle.clear_book.specs.declared.calls.Command.TheVariants.{ImportBank}
 use Rattle.clear_book.specs.declared.calls.Query.{Query}
-use Rattle.clear_book.specs.declared.calls.Query.TheVariants.{Owed}
+use Rattle.clear_book.specs.declared.calls.Query.TheVariants.{Owed, Statement}
 use Rattle.clear_book.specs.declared.outcomes.Answer.{Answer}
+use Rattle.clear_book.specs.declared.outcomes.Answer.TheVariants.{Text}
 use Rattle.clear_book.specs.declared.outcomes.Outcome.{Outcome}
 use Rattle.clear_book.specs.declared.outcomes.Outcome.TheVariants.{Replied, Answered, Refused}
 use Rattle.clear_book.specs.declared.outcomes.Reply.{Reply}
@@ -19,10 +21,12 @@ use Rattle.clear_book.specs.declared.rules.Rule.{Rule}
 use Rattle.clear_book.specs.declared.rules.Rule.TheVariants.{NotYours, NumberReused, DayBack}
 use Rattle.clear_book.specs.declared.rules.Rule.TheVariants.{OverLimit}
 use Rattle.clear_book.specs.Access.{may_do, may_query}
-use Rattle.clear_book.specs.Accounts.{charges_of, credits_of}
+use Rattle.clear_bank.specs.declared.lines.Purpose.TheVariants.{Contribution, Interest}
+use Rattle.clear_book.specs.Accounts.{charges_of, credit_rows_of, credits_of}
 use Rattle.clear_book.specs.Book.{Book, Entry, entry_under, rates_of, ledger_day, member_of}
 use Rattle.clear_book.specs.Book.{start_of, employer_count, reported_version}
 use Rattle.clear_book.specs.Checks.{when, first_of}
+use Rattle.clear_book.specs.Documents.Statement.{statement_text}
 use Rattle.clear_book.specs.Kept.{same_command}
 use Rattle.clear_book.specs.Limits.{most_entries}
 use Rattle.clear_book.specs.Lines.{lines_of_rows, lines_seen, lines_standing, rows_brought}
@@ -32,6 +36,7 @@ use Rattle.clear_book.specs.Own.ImportBank.{own_import, import_reply}
 use Rattle.clear_book.specs.Own.Owed.{own_owed, owed_by}
 use Rattle.clear_book.specs.Own.Register.{own_register, register_reply}
 use Rattle.clear_book.specs.Own.Report.{own_report, report_reply}
+use Rattle.clear_book.specs.Own.Statement.{own_statement, statement_of}
 
 -- what is said of a call: a reply to a new request, the reply that stands for one already, the
 -- answer to a query, or the rule that refuses it
@@ -83,10 +88,19 @@ reply_to b (ImportBank file) =
 -- the first of a query's own rules that applies
 abbrev pub own_query : Book → Query → Option Rule
 own_query b (Owed employer) = own_owed (is_some (member_of b.entries employer))
+own_query b (Statement employer) = own_statement (is_some (member_of b.entries employer))
+
+-- the statement of an employer on a day, and nothing of one that isn't registered
+abbrev pub statement_on : Book → ℕ → ℕ → List ℕ
+statement_on b t e =
+    option_map_or (λ member. statement_text (statement_of (rates_of b) (charges_of b e)
+    (credit_rows_of b e Contribution) (credit_rows_of b e Interest)
+    (reported_version b.entries e) t e member)) (member_of b.entries e) []
 
 -- the answer to a query that no rule refuses
 abbrev pub answer_to : Book → ℕ → Query → Answer
 answer_to b t (Owed employer) = owed_by t (charges_of b employer) (credits_of b employer)
+answer_to b t (Statement employer) = Text (statement_on b t employer)
 
 -- the rule in place of what is said, if one applies
 abbrev pub refused_or : Option Rule → Verdict → Verdict

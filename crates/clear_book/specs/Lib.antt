@@ -2,6 +2,7 @@ pub mod Access
 pub mod Accounts
 pub mod Book
 pub mod Checks
+pub mod Documents
 pub mod Judge
 pub mod Kept
 pub mod Keyed

@@ -5,3 +5,4 @@ pub mod Lines
 pub mod Owed
 pub mod Register
 pub mod Report
+pub mod Statement

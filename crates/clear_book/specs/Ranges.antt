@@ -12,7 +12,7 @@ use Rattle.clear_book.specs.declared.calls.Command.TheVariants.{ImportBank}
 use Rattle.clear_book.specs.declared.calls.Caller.{Caller}
 use Rattle.clear_book.specs.declared.calls.Caller.TheVariants.{Firm, Clerk}
 use Rattle.clear_book.specs.declared.calls.Query.{Query}
-use Rattle.clear_book.specs.declared.calls.Query.TheVariants.{Owed}
+use Rattle.clear_book.specs.declared.calls.Query.TheVariants.{Owed, Statement}
 use Rattle.clear_book.specs.declared.calls.WageReport.{WageReport}
 use Rattle.clear_book.specs.declared.calls.Call.{Call}
 use Rattle.clear_book.specs.declared.calls.Call.TheVariants.{Do, Ask}
@@ -36,6 +36,7 @@ IsCommand (ImportBank file) = Unit {0}
 -- the values of a query
 abbrev pub IsQuery : Query → Type 0
 IsQuery (Owed employer) = IsEmployerNo employer
+IsQuery (Statement employer) = IsEmployerNo employer
 
 -- the number of a firm that calls
 abbrev pub IsCaller : Caller → Type 0

@@ -27,6 +27,7 @@ pub fn may_ask(caller: Caller, query: &Query) -> bool
         Caller::Clerk => true,
         Caller::Firm(firm) => match query {
             Query::Owed { employer } => firm == *employer,
+            Query::Statement { employer } => firm == *employer,
         },
     }
 }

@@ -52,6 +52,8 @@ pub enum Command {
 pub enum Query {
     /// What a firm owes.
     Owed { employer: EmployerNo },
+    /// The statement of a firm's account.
+    Statement { employer: EmployerNo },
 }
 
 /// A command or a query on a day.

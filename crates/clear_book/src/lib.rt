@@ -9,6 +9,7 @@
 
 pub mod access;
 pub mod calls;
+pub mod documents;
 pub mod files;
 pub mod kept;
 pub mod laws;

@@ -1,5 +1,6 @@
 //! What a call is answered: a reply, an answer, or the rule that refuses it.
 
+use crate::documents::Document;
 use crate::rules::Rule;
 
 /// What an accepted command is answered.
@@ -12,20 +13,22 @@ pub enum Reply {
     Imported { new: u64, repeats: u64 },
 }
 
-/// What a query is answered, in cents.
-#[derive(Debug, PartialEq, Eq, Drop)]
+/// What a query is answered.
+#[derive(Drop)]
 pub enum Answer {
-    /// All contributions, all payments of contributions, what is in arrears, and what is prepaid.
+    /// All contributions, all payments of contributions, what is in arrears, and what is prepaid,
+    /// in cents.
     Owed {
         charged: u64,
         credited: u64,
         arrears: u64,
         prepaid: u64,
     },
+    Text(Document),
 }
 
 /// What a call of a run is answered.
-#[derive(Debug, PartialEq, Eq, Drop)]
+#[derive(Drop)]
 pub enum Outcome {
     Replied(Reply),
     Answered(Answer),

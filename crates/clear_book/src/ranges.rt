@@ -67,8 +67,14 @@ pub fn command_in_range(command: &Command)
 pub fn query_in_range(query: &Query)
     ensures { IsQuery query.now }
 {
-    let Query::Owed { employer } = query;
-    let _employer = employer.number();
+    match query {
+        Query::Owed { employer } => {
+            let _employer = employer.number();
+        }
+        Query::Statement { employer } => {
+            let _employer = employer.number();
+        }
+    }
 }
 
 /// The rates are a table that a book may begin with: one row at least, the first months rising, and

@@ -160,6 +160,14 @@ impl CreditReference {
     {
         self.text.as_str()
     }
+
+    /// A copy of the reference.
+    pub fn copied(&self) -> Result<CreditReference, AllocError>
+        ensures { IfOk result (λ reference. reference ≡ self.now) }
+    {
+        let text = self.text.clone()?;
+        Ok(CreditReference { text })
+    }
 }
 
 // Whether the bytes are `set-off ` and the number of a claim.

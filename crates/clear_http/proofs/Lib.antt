@@ -1,3 +1,4 @@
 pub mod DeskLemmas
+pub mod GuardedLemmas
 pub mod ServeLemmas
 pub mod ServedLemmas

@@ -20,7 +20,7 @@ use Rattle.clear_http.specs.Serve.{ends_stream, left_then, NoneEnds, LastEnds, I
 -- ---- what ends a stream
 
 -- what wasn't done ends none
-not_ending : (said : Said) → was_done said ≡ false → ends_stream said ≡ false
+pub not_ending : (said : Said) → was_done said ≡ false → ends_stream said ≡ false
 not_ending (Reply reply) h = refl
 not_ending (Answer answer) h = refl
 not_ending (No refused) h = h
@@ -171,6 +171,11 @@ module _ {H : Type 0} (responds : H → Heading → List ℕ → Said → H → 
     wrote = Appends-nil written;
     count = refl;
   }
+
+  -- where nothing was read or written
+  pub nothing_served : (h : H) (bytes written : Option (List ℕ)) → ServesPart responds h bytes written written h 0
+  nothing_served h bytes written = progress_break h bytes bytes written written request_limit h 0 (progress_none h bytes written) (omega arith) written h
+      ([], [], [], [], omega arith, nothing_cut request_limit bytes, refl, Appends-nil written, refl, tt)
 
 -- ---- an answer has bytes
 

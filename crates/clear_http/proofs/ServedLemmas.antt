@@ -78,58 +78,53 @@ module _ {S : Type 0} (g : Ghosts S) (reads : Heading → List ℕ → Result Ca
       let kept = none.1 honest b lawful keeps in
       (b, inr (none.0, refl, kept.0), lawful, kept.1)
 
-  module _ {D : Type 0} (office_of : D → AtOffice S) (IsSame : D → Type 0)
-      (responds : D → Heading → List ℕ → Said → D → Type 0)
-      (steps : (old : D) (heading : Heading) (body : List ℕ) (told : Said) (new : D) → IsSame old
+  module _ (responds : AtOffice S → Heading → List ℕ → Said → AtOffice S → Type 0)
+      (steps : (old : AtOffice S) (heading : Heading) (body : List ℕ) (told : Said) (new : AtOffice S)
       → responds old heading body told new
-      → IsSame new × (IsHonest g (office_of new) → IsHonest g (office_of old))
-      × RequestSteps g reads (office_of old) heading body told (office_of new)) where
+      → (IsHonest g new → IsHonest g old) × RequestSteps g reads old heading body told new) where
     -- an end that is honest was so before
-    was_honest : (old : D) → IsSame old → (items : List NextItem) (saids : List Said) (new : D)
-        → Responds responds old items saids new → IsHonest g (office_of new) → IsHonest g (office_of old)
-    was_honest old same [] [] new runs honest = subst (λ (d : D). IsHonest g (office_of d)) runs honest
-    was_honest old same [] (told ∷ saids) new runs honest = absurd runs
-    was_honest old same (item ∷ items) [] new runs honest = absurd runs
-    was_honest old same (whole heading body ∷ items) (told ∷ saids) new runs honest =
-        let step = steps old heading body told runs.0 same runs.1 in
-        step.1 (was_honest runs.0 step.0 items saids new runs.2 honest)
-    was_honest old same (bad rule bare ∷ items) (told ∷ saids) new runs honest =
-        subst (λ (d : D). IsHonest g (office_of d)) runs.1.1
-        (was_honest runs.0 (subst IsSame (sym runs.1.1) same) items saids new runs.2 honest)
-    was_honest old same (ended ∷ items) (told ∷ saids) new runs honest = absurd runs.1
+    was_honest : (old : AtOffice S) (items : List NextItem) (saids : List Said) (new : AtOffice S)
+        → Responds responds old items saids new → IsHonest g new → IsHonest g old
+    was_honest old [] [] new runs honest = subst (λ (a : AtOffice S). IsHonest g a) runs honest
+    was_honest old [] (told ∷ saids) new runs honest = absurd runs
+    was_honest old (item ∷ items) [] new runs honest = absurd runs
+    was_honest old (whole heading body ∷ items) (told ∷ saids) new runs honest =
+        (steps old heading body told runs.0 runs.1).0 (was_honest runs.0 items saids new runs.2 honest)
+    was_honest old (bad rule bare ∷ items) (told ∷ saids) new runs honest =
+        subst (λ (a : AtOffice S). IsHonest g a) runs.1.1 (was_honest runs.0 items saids new runs.2 honest)
+    was_honest old (ended ∷ items) (told ∷ saids) new runs honest = absurd runs.1
 
     -- the book after all items
-    abbrev AllGo : D → Book → List NextItem → List Said → D → Type 0
+    abbrev AllGo : AtOffice S → Book → List NextItem → List Said → AtOffice S → Type 0
     AllGo old b items saids new =
-        (last : Book) × ItemsTake reads (office_of old).failed (office_of new).failed b items saids last
-        × IsLawful last × Keeps g (office_of new) last
+        (last : Book) × ItemsTake reads old.failed new.failed b items saids last
+        × IsLawful last × Keeps g new last
 
-    items_go : (old : D) → IsSame old → (items : List NextItem) (saids : List Said) (new : D)
-        → Responds responds old items saids new → IsHonest g (office_of new)
-        → (b : Book) → IsLawful b → Keeps g (office_of old) b
+    items_go : (old : AtOffice S) (items : List NextItem) (saids : List Said) (new : AtOffice S)
+        → Responds responds old items saids new → IsHonest g new
+        → (b : Book) → IsLawful b → Keeps g old b
         → AllGo old b items saids new
-    items_go old same [] [] new runs honest b lawful keeps =
-        (b, (ap (λ (d : D). (office_of d).failed) runs, refl), lawful, subst (λ (d : D). Keeps g (office_of d) b) (sym runs) keeps)
-    items_go old same [] (told ∷ saids) new runs honest b lawful keeps = absurd runs
-    items_go old same (item ∷ items) [] new runs honest b lawful keeps = absurd runs
-    items_go old same (whole heading body ∷ items) (told ∷ saids) new runs honest b lawful keeps =
-        let step = steps old heading body told runs.0 same runs.1 in
-        let here = was_honest runs.0 step.0 items saids new runs.2 honest in
-        let one = goes_whole b heading body (office_of old) told (office_of runs.0) here lawful keeps step.2 in
-        let rest = items_go runs.0 step.0 items saids new runs.2 honest one.0 one.2 one.3 in
-        (rest.0, ((office_of runs.0).failed, one.0, one.1, rest.1), rest.2, rest.3)
-    items_go old same (bad rule bare ∷ items) (told ∷ saids) new runs honest b lawful keeps =
-        let kept : Keeps g (office_of runs.0) b = subst (λ (d : D). Keeps g (office_of d) b) (sym runs.1.1) keeps in
-        let rest = items_go runs.0 (subst IsSame (sym runs.1.1) same) items saids new runs.2 honest b lawful kept in
-        (rest.0, ((office_of runs.0).failed, b, (runs.1.0, refl, ap (λ (d : D). (office_of d).failed) runs.1.1), rest.1), rest.2, rest.3)
-    items_go old same (ended ∷ items) (told ∷ saids) new runs honest b lawful keeps = absurd runs.1
+    items_go old [] [] new runs honest b lawful keeps =
+        (b, (ap (λ (a : AtOffice S). a.failed) runs, refl), lawful, subst (λ (a : AtOffice S). Keeps g a b) (sym runs) keeps)
+    items_go old [] (told ∷ saids) new runs honest b lawful keeps = absurd runs
+    items_go old (item ∷ items) [] new runs honest b lawful keeps = absurd runs
+    items_go old (whole heading body ∷ items) (told ∷ saids) new runs honest b lawful keeps =
+        let here = was_honest runs.0 items saids new runs.2 honest in
+        let one = goes_whole b heading body old told runs.0 here lawful keeps (steps old heading body told runs.0 runs.1).1 in
+        let rest = items_go runs.0 items saids new runs.2 honest one.0 one.2 one.3 in
+        (rest.0, (runs.0.failed, one.0, one.1, rest.1), rest.2, rest.3)
+    items_go old (bad rule bare ∷ items) (told ∷ saids) new runs honest b lawful keeps =
+        let kept : Keeps g runs.0 b = subst (λ (a : AtOffice S). Keeps g a b) (sym runs.1.1) keeps in
+        let rest = items_go runs.0 items saids new runs.2 honest b lawful kept in
+        (rest.0, (runs.0.failed, b, (runs.1.0, refl, ap (λ (a : AtOffice S). a.failed) runs.1.1), rest.1), rest.2, rest.3)
+    items_go old (ended ∷ items) (told ∷ saids) new runs honest b lawful keeps = absurd runs.1
 
-    pub served : (old : D) → IsSame old → (bytes written written' : Option (List ℕ)) (new : D) (answered : ℕ)
-        → Serves responds old bytes written written' new answered → IsHonest g (office_of new)
-        → (b : Book) → IsLawful b → Keeps g (office_of old) b
-        → IsServed g reads (office_of old) b bytes written written' (office_of new) answered
-    served old same bytes written written' new answered all honest b lawful keeps =
-        let there = items_go old same all.items all.saids new all.runs honest b lawful keeps in
+    pub served : (old : AtOffice S) (bytes written written' : Option (List ℕ)) (new : AtOffice S) (answered : ℕ)
+        → Serves responds old bytes written written' new answered → IsHonest g new
+        → (b : Book) → IsLawful b → Keeps g old b
+        → IsServed g reads old b bytes written written' new answered
+    served old bytes written written' new answered all honest b lawful keeps =
+        let there = items_go old all.items all.saids new all.runs honest b lawful keeps in
         record {
           items = all.items;
           saids = all.saids;
@@ -142,12 +137,12 @@ module _ {S : Type 0} (g : Ghosts S) (reads : Heading → List ℕ → Result Ca
           keeps = there.3;
         }
 
-    pub served_part : (old : D) → IsSame old → (bytes written written' : Option (List ℕ)) (new : D) (answered : ℕ)
-        → ServesPart responds old bytes written written' new answered → IsHonest g (office_of new)
-        → (b : Book) → IsLawful b → Keeps g (office_of old) b
-        → IsServedPart g reads (office_of old) b bytes written written' (office_of new) answered
-    served_part old same bytes written written' new answered all honest b lawful keeps =
-        let there = items_go old same (all.items ++ all.last) (all.saids ++ all.last_said) new all.runs honest b lawful keeps in
+    pub served_part : (old : AtOffice S) (bytes written written' : Option (List ℕ)) (new : AtOffice S) (answered : ℕ)
+        → ServesPart responds old bytes written written' new answered → IsHonest g new
+        → (b : Book) → IsLawful b → Keeps g old b
+        → IsServedPart g reads old b bytes written written' new answered
+    served_part old bytes written written' new answered all honest b lawful keeps =
+        let there = items_go old (all.items ++ all.last) (all.saids ++ all.last_said) new all.runs honest b lawful keeps in
         record {
           items = all.items;
           saids = all.saids;

@@ -1,3 +1,4 @@
 pub mod Desk
+pub mod Guarded
 pub mod Serve
 pub mod Served

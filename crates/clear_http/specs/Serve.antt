@@ -1,5 +1,5 @@
 -- What is served: the items of a stream, what is said to each, and the bytes of their answers.
--- `responds` says what may be said to a request, and what the one who answers is then.
+-- `responds` says what may be said to a request in a state, and what the state is then.
 use Rattle.std.specs.Prelude.{◌≡◌, ℕ, ◌≤◌, ◌<◌, ◌⊎◌, Bool, true, false, List, [], ◌∷◌, ◌++◌}
 use Rattle.std.specs.Prelude.{Result, Ok, Err}
 use Rattle.std.specs.Prelude.{length, Option, ◌==◌, IfSome, ⊤, if◌then◌else◌}

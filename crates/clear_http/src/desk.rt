@@ -1,14 +1,18 @@
 //! The desk: an office with the keys of its callers, on one day. It answers the requests of a
 //! stream.
-ghost use Rattle.std.specs.Prelude.{◌≡◌, ◌≢◌, ◌+◌, false, true, Ok, IfOk, IfErr};
+ghost use Rattle.std.specs.Prelude.{◌≡◌, ◌≢◌, ◌+◌, false, true, IfOk, IfErr};
+ghost use Rattle.clear_book.specs.declared.outcomes.Outcome.{Outcome};
+ghost use Rattle.clear_book.specs.declared.rules.Rule.TheVariants.{NotYours as not_yours};
 ghost use Rattle.clear_book.specs.Book.{Book};
-ghost use Rattle.clear_book.specs.Machine.{IsLawful};
-ghost use Rattle.clear_office.specs.Office.{IsHonest, Keeps};
+ghost use Rattle.clear_book.specs.Machine.{IsLawful, is_allowed};
+ghost use Rattle.clear_office.specs.Office.{IsHonest, Keeps, Steps};
+ghost use Rattle.clear_answers.specs.Said.{refused_by, said_of};
 ghost use Rattle.clear_wire.specs.Counted.{inner, has_failed, reads_of};
 ghost use Rattle.clear_wire.specs.Limits.{read_limit};
 ghost use Rattle.clear_routes.specs.Reading.{Reads};
-ghost use Rattle.clear_http.specs.Serve.{was_done, TellsFailed};
-ghost use Rattle.clear_http.specs.Served.{CallSteps, KeepsOn, IsServed, IsServedPart};
+ghost use Rattle.clear_http.specs.Guarded.{Guards};
+ghost use Rattle.clear_http.specs.Serve.{ends_stream, was_done, Serves, ServesPart, TellsFailed};
+ghost use Rattle.clear_http.specs.Served.{KeepsOn, IsServed, IsServedPart};
 
 use crate::serve::{Fault, Responder, ServeFault, Served, serve_stream, tell_failed};
 use clear_answers::said::Said;
@@ -24,73 +28,41 @@ use sqlite::Alter;
 use std::alloc::Global;
 use std::io::{Read, Write};
 
-/// An office, the keys of its callers, and the day on which it is asked.
+// The keys of an office's callers, and the day on which it is asked. Who answers is the office.
 #[derive(Drop)]
-pub struct Desk<S: Alter> {
+struct Desk<'a> {
     alloc: Global,
-    pub office: Office<S>,
-    pub directory: Directory,
-    routes: Routes,
-    pub day: Day,
+    routes: &'a Routes,
+    directory: &'a Directory,
+    day: Day,
 }
 
-impl<S: Alter> Responder for Desk<S> {
+impl<S: Alter> Responder<Office<S>> for Desk<'_> {
     ghost use Rattle.clear_http.specs.Desk.{MaySay};
 
-    ghost responds = { MaySay S.Store };
+    ghost responds = { λ self. MaySay S.Store self.directory.now self.day };
 
-    fn respond(&mut self, request: &Request) -> Said {
-        match to_command(self.alloc, &self.routes, &self.directory, self.day, request) {
-            Ok(call) => self.take(&call),
+    fn respond(&self, office: &mut Office<S>, request: &Request) -> Said {
+        match to_command(self.alloc, self.routes, self.directory, self.day, request) {
+            Ok(call) => take(office, &call),
             Err(refused) => Said::No(refused),
         }
     }
 }
 
-impl<S: Alter> Desk<S> {
-    /// A desk over an office, with the keys of its callers, on a day.
-    pub fn new(
-        alloc: Global,
-        office: Office<S>,
-        directory: Directory,
-        routes: Routes,
-        day: Day,
-    ) -> Desk<S>
-        ensures office { result.office ≡ office }
-        ensures directory { result.directory ≡ directory }
-        ensures day { result.day ≡ day }
-    {
-        Desk {
-            alloc,
-            office,
-            directory,
-            routes,
-            day,
-        }
-    }
-
-    /// From now on it is another day.
-    pub fn set_day(&mut self, day: Day)
-        ensures office { self.new.office ≡ self.old.office }
-        ensures directory { self.new.directory ≡ self.old.directory }
-        ensures day { self.new.day ≡ day }
-    {
-        self.day = day;
-    }
-
-    // Takes a call to the office.
-    fn take(&mut self, call: &Call) -> Said
-        ensures said { CallSteps S.Store (Reads self.old.directory self.old.day) (Ok call.now)
-            self.old.office result self.new.office }
-        ensures undone { was_done result ≡ false
-            → KeepsOn S.Store self.old.office self.new.office }
-        ensures clean { IsHonest S.Store self.new.office → IsHonest S.Store self.old.office }
-        ensures directory { self.new.directory ≡ self.old.directory }
-        ensures day { self.new.day ≡ self.old.day }
-    {
-        let outcome = self.office.take(call);
-        Said::of(outcome)
-    }
+// Takes a call to the office.
+fn take<S: Alter>(office: &mut Office<S>, call: &Call) -> Said
+    ensures said { (outcome : Outcome) × (result ≡ said_of outcome)
+        × Steps S.Store office.old call.now outcome office.new }
+    ensures access { office.old.failed ≡ false → is_allowed call.now ≡ false
+        → (result ≡ refused_by not_yours) × (office.new ≡ office.old) }
+    ensures told { office.old.failed ≡ false → ends_stream result ≡ false
+        → office.new.failed ≡ false }
+    ensures undone { was_done result ≡ false → KeepsOn S.Store office.old office.new }
+    ensures clean { IsHonest S.Store office.new → IsHonest S.Store office.old }
+{
+    let outcome = office.take(call);
+    Said::of(outcome)
 }
 
 /// Serves the requests in the bytes of a reader: their answers are written, one after another, up to
@@ -100,34 +72,51 @@ impl<S: Alter> Desk<S> {
 ///
 /// Whatever lawful book the office keeps, the answers are those of the clearing machine over that
 /// book, and the office then keeps the book that it leaves, so far as its disk returned what was
-/// written. After a fault, what was written is the answers to the first requests, so many as the
-/// fault says, and a front of the next one's that isn't all of it. `Read` and `Write` come only
-/// where a call of this reader or writer failed, `Reads` only after 1,000,000 reads of this reader,
-/// and the other faults only where no call failed.
+/// written. Whatever the records hold, a request that reads as a call for which access says no is
+/// answered by `NotYours`, or by `Memory`.
+///
+/// After a fault, what was written is the answers to the first requests, so many as the fault says,
+/// and a front of the next one's that isn't all of it. `Read` and `Write` come only where a call of
+/// this reader or writer failed, `Reads` only after 1,000,000 reads of this reader, and the other
+/// faults only where no call failed.
 pub fn serve<S: Alter, R: Read, W: Write>(
-    desk: &mut Desk<S>,
+    alloc: Global,
+    office: &mut Office<S>,
+    directory: &Directory,
+    day: Day,
     reader: &mut Counted<R>,
     writer: &mut Counted<W>,
 ) -> Result<Served, ServeFault>
     requires read { has_failed reader.old ≡ false }
     requires write { has_failed writer.old ≡ false }
-    ensures failed { desk.old.office.failed ≡ true
-        → (reader.new ≡ reader.old) × (desk.new ≡ desk.old)
+    ensures failed { office.old.failed ≡ true
+        → (reader.new ≡ reader.old) × (office.new ≡ office.old)
         × TellsFailed (W.contents (inner writer.old)) (W.contents (inner writer.new)) result }
-    ensures served { desk.old.office.failed ≡ false
-        → IfOk result (λ served. IsHonest S.Store desk.new.office
-        → (b : Book) → IsLawful b → Keeps S.Store desk.old.office b
-        → IsServed S.Store (Reads desk.old.directory desk.old.day) desk.old.office b
+    ensures served { office.old.failed ≡ false
+        → IfOk result (λ served. IsHonest S.Store office.new
+        → (b : Book) → IsLawful b → Keeps S.Store office.old b
+        → IsServed S.Store (Reads directory.now day) office.old b
         (R.remaining (inner reader.old))
         (W.contents (inner writer.old)) (W.contents (inner writer.new))
-        desk.new.office served.requests) }
-    ensures fault { desk.old.office.failed ≡ false
-        → IfErr result (λ fault. IsHonest S.Store desk.new.office
-        → (b : Book) → IsLawful b → Keeps S.Store desk.old.office b
-        → IsServedPart S.Store (Reads desk.old.directory desk.old.day) desk.old.office b
+        office.new served.requests) }
+    ensures fault { office.old.failed ≡ false
+        → IfErr result (λ fault. IsHonest S.Store office.new
+        → (b : Book) → IsLawful b → Keeps S.Store office.old b
+        → IsServedPart S.Store (Reads directory.now day) office.old b
         (R.remaining (inner reader.old))
         (W.contents (inner writer.old)) (W.contents (inner writer.new))
-        desk.new.office fault.answered) }
+        office.new fault.answered) }
+    // These two hold whatever the records are, also those of no lawful book.
+    ensures access { office.old.failed ≡ false
+        → IfOk result (λ served. Serves (Guards (Reads directory.now day)) false
+        (R.remaining (inner reader.old))
+        (W.contents (inner writer.old)) (W.contents (inner writer.new))
+        office.new.failed served.requests) }
+    ensures access_fault { office.old.failed ≡ false
+        → IfErr result (λ fault. ServesPart (Guards (Reads directory.now day)) false
+        (R.remaining (inner reader.old))
+        (W.contents (inner writer.old)) (W.contents (inner writer.new))
+        office.new.failed fault.answered) }
     ensures read_failed { IfErr result (λ fault. fault.fault ≡ Fault.Read
         → has_failed reader.new ≡ true) }
     ensures write_failed { IfErr result (λ fault. fault.fault ≡ Fault.Write
@@ -139,8 +128,23 @@ pub fn serve<S: Alter, R: Read, W: Write>(
     ensures writer_well { IfErr result (λ fault. fault.fault ≢ Fault.Write
         → has_failed writer.new ≡ false) }
 {
-    if desk.office.failed() {
+    if office.failed() {
         return tell_failed(writer);
     }
-    serve_stream(desk.alloc, desk, reader, writer)
+    let routes = match Routes::new(alloc) {
+        Ok(routes) => routes,
+        Err(_) => {
+            return Err(ServeFault {
+                fault: Fault::Memory,
+                answered: 0,
+            });
+        }
+    };
+    let desk = Desk {
+        alloc,
+        routes: &routes,
+        directory,
+        day,
+    };
+    serve_stream(alloc, &desk, office, reader, writer)
 }

@@ -8,10 +8,10 @@
 //! where none of these is. The loop knows nothing of the trade: it goes by what a `Responder` may
 //! say.
 //!
-//! The desk is a `Responder`: an office over its store, with the keys of its callers, on one day.
-//! Whatever lawful book the store stands for, what it says to the requests of a stream are the
-//! answers of the clearing machine over that book, and the store then stands for the book that the
-//! machine leaves.
+//! `desk::serve` is that loop over an office, with the keys of its callers, on one day. Whatever
+//! lawful book the store stands for, what is said to the requests of a stream are the answers of
+//! the clearing machine over that book, and the store then stands for the book that the machine
+//! leaves. Whatever the store holds, what access doesn't allow is refused for that.
 #![tactic(auto)]
 
 pub mod desk;

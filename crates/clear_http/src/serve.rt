@@ -28,8 +28,8 @@ use std::alloc::Global;
 use std::io;
 use std::io::{Read, Write};
 
-/// Who answers requests.
-pub trait Responder {
+/// Who answers requests from a state, which they may change.
+pub trait Responder<T> {
     ghost use Rattle.std.specs.Prelude.{ℕ, List, ◌≡◌, false};
     ghost use Rattle.clear_book.specs.declared.rules.Rule.TheVariants.{Memory as no_memory};
     ghost use Rattle.clear_answers.specs.declared.said.Said.{Said};
@@ -38,17 +38,17 @@ pub trait Responder {
     ghost use Rattle.clear_wire.specs.Parsed.{heading};
     ghost use Rattle.clear_http.specs.Serve.{was_done};
 
-    /// What may be said to a request, and what the responder is then.
-    ghost responds: { Self → Heading → List ℕ → Said → Self → Type 0 };
+    /// What may be said to a request in a state, and what the state is then.
+    ghost responds: { Self → T → Heading → List ℕ → Said → T → Type 0 };
 
     /// Answers a request. Where nothing was done for it, want of memory may be told in the answer's
     /// place.
-    fn respond(&mut self, request: &Request) -> Said
-        ensures said { responds self.old (heading request.now.head) request.now.body.items
-            result self.new }
+    fn respond(&self, state: &mut T, request: &Request) -> Said
+        ensures said { responds self.now state.old (heading request.now.head)
+            request.now.body.items result state.new }
         ensures memory { was_done result ≡ false
-            → responds self.old (heading request.now.head) request.now.body.items
-            (refused_by no_memory) self.new };
+            → responds self.now state.old (heading request.now.head) request.now.body.items
+            (refused_by no_memory) state.new };
 }
 
 /// Why a stream is not served to its end.
@@ -176,22 +176,28 @@ fn left_behind(request: &Request, said: &Said, left: u32) -> u32
 }
 
 // What is to be sent for what a stream goes on with; nothing at its end.
-fn respond_to<H: Responder>(responder: &mut H, item: Item, left: u32) -> Option<Due>
+fn respond_to<T, H: Responder<T>>(
+    responder: &H,
+    state: &mut T,
+    item: Item,
+    left: u32,
+) -> Option<Due>
     requires { 0 < left }
     ensures none { IfNone result
-        ((next_item item ≡ ended) × (responder.new ≡ responder.old)) }
+        ((next_item item ≡ ended) × (state.new ≡ state.old)) }
     ensures answered { IfSome result (λ due. IsAnswered (next_item item)) }
     ensures says { IfSome result (λ due.
-        Says H.responds responder.old (next_item item) due.said responder.new) }
+        Says (H.responds responder.now) state.old (next_item item) due.said state.new) }
     ensures memory { IfSome result (λ due. was_done due.said ≡ false
-        → Says H.responds responder.old (next_item item) (refused_by no_memory) responder.new) }
+        → Says (H.responds responder.now) state.old (next_item item) (refused_by no_memory)
+        state.new) }
     ensures bare { IfSome result (λ due. due.bare ≡ is_bare (next_item item)) }
     ensures after { IfSome result (λ due. due.after ≡ left_then left (next_item item) due.said) }
     ensures falls { IfSome result (λ due. due.after < left) }
 {
     match item {
         Item::Whole(request) => {
-            let said = responder.respond(&request);
+            let said = responder.respond(state, &request);
             let after = left_behind(&request, &said, left);
             Some(Due {
                 said,
@@ -231,26 +237,27 @@ fn send<W: Write>(alloc: Global, writer: &mut Counted<W>, due: &Due) -> Result<(
 
 // Answers what the stream goes on with, and says how many requests may follow; none where the
 // stream is over.
-fn turn<H: Responder, R: NotedRead, W: Write>(
+fn turn<T, H: Responder<T>, R: NotedRead, W: Write>(
     alloc: Global,
-    responder: &mut H,
+    responder: &H,
+    state: &mut T,
     input: &mut Input<R>,
     writer: &mut Counted<W>,
     left: u32,
 ) -> Result<Option<u32>, Fault>
     requires { 0 < left }
     ensures answered { IfOk result (λ after. IfSome after (λ after.
-        AnswersOne H.responds left responder.old
+        AnswersOne (H.responds responder.now) left state.old
         (stream R.remaining input.old) (stream R.remaining input.new)
-        (W.contents (inner writer.old)) (W.contents (inner writer.new)) after responder.new)) }
+        (W.contents (inner writer.old)) (W.contents (inner writer.new)) after state.new)) }
     ensures falls { IfOk result (λ after. IfSome after (λ after. after < left)) }
     ensures over { IfOk result (λ after. IfNone after (
         Leads (λ bytes rest. Next bytes ended rest)
         (stream R.remaining input.old) (stream R.remaining input.new)
-        × (responder.new ≡ responder.old) × (writer.new ≡ writer.old))) }
-    ensures fault { OnErr result (BreaksOff H.responds left responder.old
+        × (state.new ≡ state.old) × (writer.new ≡ writer.old))) }
+    ensures fault { OnErr result (BreaksOff (H.responds responder.now) left state.old
         (stream R.remaining input.old)
-        (W.contents (inner writer.old)) (W.contents (inner writer.new)) responder.new) }
+        (W.contents (inner writer.old)) (W.contents (inner writer.new)) state.new) }
     ensures borrow { KeepsBorrow R.noted input.old input.new }
     ensures counts { CountsReads R.noted input.old input.new }
     ensures read { result ≡ Err Fault.Read → failed_of R.noted input.new ≡ true }
@@ -261,7 +268,7 @@ fn turn<H: Responder, R: NotedRead, W: Write>(
     ensures writer { result ≢ Err Fault.Write → has_failed writer.new ≡ has_failed writer.old }
 {
     match read_request(input) {
-        Ok(item) => match respond_to(responder, item, left) {
+        Ok(item) => match respond_to(responder, state, item, left) {
             Some(due) => match send(alloc, writer, &due) {
                 Ok(()) => Ok(Some(due.after)),
                 Err(fault) => Err(fault),
@@ -273,20 +280,21 @@ fn turn<H: Responder, R: NotedRead, W: Write>(
 }
 
 // Serves what an input has left.
-fn serve_input<H: Responder, R: NotedRead, W: Write>(
+fn serve_input<T, H: Responder<T>, R: NotedRead, W: Write>(
     alloc: Global,
-    responder: &mut H,
+    responder: &H,
+    state: &mut T,
     input: &mut Input<R>,
     writer: &mut Counted<W>,
 ) -> Result<Served, ServeFault>
-    ensures served { IfOk result (λ served. Serves H.responds responder.old
+    ensures served { IfOk result (λ served. Serves (H.responds responder.now) state.old
         (stream R.remaining input.old)
         (W.contents (inner writer.old)) (W.contents (inner writer.new))
-        responder.new served.requests) }
-    ensures fault { IfErr result (λ fault. ServesPart H.responds responder.old
+        state.new served.requests) }
+    ensures fault { IfErr result (λ fault. ServesPart (H.responds responder.now) state.old
         (stream R.remaining input.old)
         (W.contents (inner writer.old)) (W.contents (inner writer.new))
-        responder.new fault.answered) }
+        state.new fault.answered) }
     ensures borrow { KeepsBorrow R.noted input.old input.new }
     ensures counts { CountsReads R.noted input.old input.new }
     ensures read { IfErr result (λ fault. fault.fault ≡ Fault.Read
@@ -303,7 +311,7 @@ fn serve_input<H: Responder, R: NotedRead, W: Write>(
     let mut left = MAX_REQUESTS;
     let mut answered: u64 = 0;
     'turns: while left > 0 {
-        match turn(alloc, responder, input, writer, left) {
+        match turn(alloc, responder, state, input, writer, left) {
             Ok(Some(after)) => {
                 left = after;
                 answered += 1;
@@ -322,22 +330,23 @@ fn serve_input<H: Responder, R: NotedRead, W: Write>(
 /// that isn't all of it. `Read` and `Write` come only where a call of this reader or writer failed,
 /// `Reads` only after 1,000,000 reads of this reader, and the other faults only where no call
 /// failed.
-pub fn serve_stream<H: Responder, R: Read, W: Write>(
+pub fn serve_stream<T, H: Responder<T>, R: Read, W: Write>(
     alloc: Global,
-    responder: &mut H,
+    responder: &H,
+    state: &mut T,
     reader: &mut Counted<R>,
     writer: &mut Counted<W>,
 ) -> Result<Served, ServeFault>
     requires read { has_failed reader.old ≡ false }
     requires write { has_failed writer.old ≡ false }
-    ensures served { IfOk result (λ served. Serves H.responds responder.old
+    ensures served { IfOk result (λ served. Serves (H.responds responder.now) state.old
         (R.remaining (inner reader.old))
         (W.contents (inner writer.old)) (W.contents (inner writer.new))
-        responder.new served.requests) }
-    ensures fault { IfErr result (λ fault. ServesPart H.responds responder.old
+        state.new served.requests) }
+    ensures fault { IfErr result (λ fault. ServesPart (H.responds responder.now) state.old
         (R.remaining (inner reader.old))
         (W.contents (inner writer.old)) (W.contents (inner writer.new))
-        responder.new fault.answered) }
+        state.new fault.answered) }
     ensures read_failed { IfErr result (λ fault. fault.fault ≡ Fault.Read
         → has_failed reader.new ≡ true) }
     ensures write_failed { IfErr result (λ fault. fault.fault ≡ Fault.Write
@@ -350,7 +359,7 @@ pub fn serve_stream<H: Responder, R: Read, W: Write>(
         → has_failed writer.new ≡ false) }
 {
     let mut input = Input::new(alloc, reader);
-    let result = serve_input(alloc, responder, &mut input, writer);
+    let result = serve_input(alloc, responder, state, &mut input, writer);
     // No effect at run time. The proof reads what the reader is from this use of it.
     let reader = input.into_reader();
     let _ = &*reader;

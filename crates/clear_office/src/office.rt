@@ -3,6 +3,7 @@ ghost use Rattle.std.specs.Prelude.{◌≡◌, ◌+◌, ◌<◌, ◌≤◌, ◌+
 ghost use Rattle.std.specs.Prelude.{vec_capacity, Err, IfOk, IsTrue, OnErr};
 ghost use Rattle.sqlite.specs.Held.{state};
 ghost use Rattle.clear_book.specs.declared.calls.Caller.{Caller};
+ghost use Rattle.clear_book.specs.declared.rules.StoreCause.{StoreCause as Cause};
 ghost use Rattle.clear_book.specs.Access.{may_do, may_query};
 ghost use Rattle.clear_book.specs.Machine.{is_allowed};
 ghost use Rattle.clear_book.specs.Tables.{Tables};
@@ -99,6 +100,8 @@ impl<S: Alter> Office<S> {
         // This holds even for a store that stands for no lawful book.
         ensures access { self.old.failed ≡ false → may_do caller command.now ≡ false
             → (result ≡ Err Rule.NotYours) × (self.new ≡ self.old) }
+        ensures told { self.old.failed ≡ false → self.new.failed ≡ true
+            → (cause : Cause) × (result ≡ Err (Rule.Store cause)) }
         ensures failed { self.old.failed ≡ true
             → (result ≡ Err Rule.Failed) × (self.new ≡ self.old) }
         ensures clean { IsHonest S.Store self.new → IsHonest S.Store self.old }
@@ -129,6 +132,8 @@ impl<S: Alter> Office<S> {
         requires admitted { IsAdmitted (Call.Do caller number day command.now) }
         ensures step { Steps S.Store self.old (Call.Do caller number day command.now)
             (replied result) self.new }
+        ensures told { self.new.failed ≡ true
+            → (cause : Cause) × (result ≡ Err (Rule.Store cause)) }
         ensures clean { IsHonest S.Store self.new → IsHonest S.Store self.old }
     {
         let origin = Origin {
@@ -158,6 +163,8 @@ impl<S: Alter> Office<S> {
         // This holds even for a store that stands for no lawful book.
         ensures access { self.old.failed ≡ false → may_query caller query.now ≡ false
             → (result ≡ Err Rule.NotYours) × (self.new ≡ self.old) }
+        ensures told { self.old.failed ≡ false → self.new.failed ≡ true
+            → (cause : Cause) × (result ≡ Err (Rule.Store cause)) }
         ensures failed { self.old.failed ≡ true
             → (result ≡ Err Rule.Failed) × (self.new ≡ self.old) }
         ensures clean { IsHonest S.Store self.new → IsHonest S.Store self.old }
@@ -176,6 +183,8 @@ impl<S: Alter> Office<S> {
         requires working { self.old.failed ≡ false }
         ensures step { (caller : Caller) → may_query caller query.now ≡ true
             → Steps S.Store self.old (Call.Ask caller day query.now) (answered result) self.new }
+        ensures told { self.new.failed ≡ true
+            → (cause : Cause) × (result ≡ Err (Rule.Store cause)) }
         ensures clean { IsHonest S.Store self.new → IsHonest S.Store self.old }
     {
         let inquiry = Inquiry {
@@ -195,6 +204,9 @@ impl<S: Alter> Office<S> {
         ensures step { Steps S.Store self.old call.now result self.new }
         ensures access { self.old.failed ≡ false → is_allowed call.now ≡ false
             → (result ≡ Outcome.Refused Rule.NotYours) × (self.new ≡ self.old) }
+        // An office fails only where its outcome tells of it.
+        ensures told { self.old.failed ≡ false → self.new.failed ≡ true
+            → (cause : Cause) × (result ≡ Outcome.Refused (Rule.Store cause)) }
         ensures failed { self.old.failed ≡ true
             → (result ≡ Outcome.Refused Rule.Failed) × (self.new ≡ self.old) }
         ensures clean { IsHonest S.Store self.new → IsHonest S.Store self.old }

@@ -12,7 +12,7 @@ use Rattle.matchit.proofs.OnLiterals.{matchit_on_literals}
 use Rattle.clear_paths.specs.Written.{Piece, word, open_part, IsParameter, IsWritten}
 use Rattle.clear_paths.specs.Paths.{Rows, table, shape}
 use Rattle.clear_paths.specs.declared.paths.Path.{Path}
-use Rattle.clear_paths.specs.declared.paths.Path.TheVariants.{Employers, Reports, Owed, Bank}
+use Rattle.clear_paths.specs.declared.paths.Path.TheVariants.{Employers, Reports, Owed, Statement, Bank}
 use Rattle.clear_paths.proofs.WalkLemmas.{Fits, Ends, Simple, Bytes, In, RowsSimple}
 use Rattle.clear_paths.proofs.FitLemmas.{apart, no_two, one_fit, found_fits, fits_found}
 
@@ -199,7 +199,8 @@ AllRight ((t, r) ∷ rs) = Right t r × AllRight rs
 
 all_right : AllRight table
 unfolding table matchit_on_literals
-all_right = ((refl, refl, refl, refl), ((refl, refl, refl, refl), ((refl, refl, refl, refl), ((refl, refl, refl, refl), tt))))
+all_right =
+    ((refl, refl, refl, refl), ((refl, refl, refl, refl), ((refl, refl, refl, refl), ((refl, refl, refl, refl), ((refl, refl, refl, refl), tt)))))
 
 right_row : (rs : Rows) (t : List ℕ) (r : RouteOf Path) → AllRight rs → In t r rs → Right t r
 right_row [] t r a h = absurd h
@@ -223,18 +224,21 @@ in_table Employers = refl
 in_table Reports = refl
 in_table Bank = refl
 in_table Owed = refl
+in_table Statement = refl
 
 words : (path : Path) → words_ok (shape path) ≡ true
 words Employers = refl
 words Reports = refl
 words Bank = refl
 words Owed = refl
+words Statement = refl
 
 few : (path : Path) → opens (shape path) ≤ 2
 few Employers = omega arith
 few Reports = omega arith
 few Bank = omega arith
 few Owed = omega arith
+few Statement = omega arith
 
 row_of : (o : Option (RouteOf Path)) (path : Path) → option_map value_of o ≡ Some path → (r : RouteOf Path) × (o ≡ Some r) × (r.value ≡ path)
 row_of None path e = cc e

@@ -19,7 +19,7 @@ use Rattle.clear_paths.specs.Places.{IsPlace, path_of, values_for}
 use Rattle.clear_paths.specs.declared.paths.Path.{Path}
 use Rattle.clear_paths.specs.declared.paths.Path.TheVariants as path
 use Rattle.clear_paths.specs.declared.place.Place.{Place}
-use Rattle.clear_paths.specs.declared.place.Place.TheVariants.{Employers, Reports, Owed, Bank}
+use Rattle.clear_paths.specs.declared.place.Place.TheVariants.{Employers, Reports, Owed, Statement, Bank}
 use Rattle.clear_paths.proofs.PathLemmas.{one_way}
 
 -- the target of a path with these parameters
@@ -77,6 +77,7 @@ all_parts Employers h = tt
 all_parts (Reports employer month) h = (number_part employer (omega (arith, h.0.1)), (month_part month h.1, tt))
 all_parts Bank h = tt
 all_parts (Owed employer) h = (number_part employer (omega (arith, h.1)), tt)
+all_parts (Statement employer) h = (number_part employer (omega (arith, h.1)), tt)
 
 -- the target is the place's path with its parameters
 abbrev pub IsAt : Place → List ℕ → Type 0
@@ -146,12 +147,14 @@ words_ascii path.Employers = (refl, tt)
 words_ascii path.Reports = (refl, (refl, tt))
 words_ascii path.Bank = (refl, tt)
 words_ascii path.Owed = (refl, (refl, tt))
+words_ascii path.Statement = (refl, (refl, tt))
 
 values_ascii : (place : Place) → IsPlace place → AsciiValues (values_for place)
 values_ascii Employers h = tt
 values_ascii (Reports employer month) h = (IsAscii-decimal employer (omega (arith, h.0.1)), (month_ascii month h.1, tt))
 values_ascii Bank h = tt
 values_ascii (Owed employer) h = (IsAscii-decimal employer (omega (arith, h.1)), tt)
+values_ascii (Statement employer) h = (IsAscii-decimal employer (omega (arith, h.1)), tt)
 
 at_ascii : (place : Place) (target : List ℕ) → IsPlace place → IsAt place target → IsAscii target
 at_ascii place target h w =

@@ -13,7 +13,7 @@ use Rattle.clear_paths.specs.Routes.{target_of, method_for, IsRoute, place_of}
 use Rattle.clear_paths.specs.declared.place.Place.{Place}
 use Rattle.clear_paths.specs.declared.place.Place.TheVariants as place
 use Rattle.clear_paths.specs.declared.route.Route.{Route}
-use Rattle.clear_paths.specs.declared.route.Route.TheVariants.{Employers, Report, Correction, Owed, Bank}
+use Rattle.clear_paths.specs.declared.route.Route.TheVariants.{Employers, Report, Correction, Owed, Statement, Bank}
 use Rattle.clear_paths.specs.declared.route.Unrouted.TheVariants.{BadMethod}
 use Rattle.clear_paths.proofs.PathLemmas.{one_way}
 use Rattle.clear_paths.proofs.PlaceLemmas.{IsAt, spelled, is_spelled, at_spelled}
@@ -56,6 +56,8 @@ same_place (place.Reports employer month) (place.Reports employer2 month2) ha hb
     (λ i. place.Reports (e i) (g i))
 same_place (place.Owed employer) (place.Owed employer2) ha hb p v =
     ap place.Owed (decimal_injective employer employer2 (omega (arith, ha.1)) (omega (arith, hb.1)) (head _ _ _ _ v))
+same_place (place.Statement employer) (place.Statement employer2) ha hb p v =
+    ap place.Statement (decimal_injective employer employer2 (omega (arith, ha.1)) (omega (arith, hb.1)) (head _ _ _ _ v))
 same_place place.Bank place.Bank ha hb p v = refl
 same_place a b ha hb p v = cc p
 
@@ -71,6 +73,7 @@ place_in_range Employers h = h
 place_in_range (Report employer month) h = h
 place_in_range (Correction employer month) h = h
 place_in_range (Owed employer) h = h
+place_in_range (Statement employer) h = h
 place_in_range Bank h = h
 
 in_range : (route : Route) → IsPlace (place_of route) → IsRoute route
@@ -78,6 +81,7 @@ in_range Employers h = h
 in_range (Report employer month) h = h
 in_range (Correction employer month) h = h
 in_range (Owed employer) h = h
+in_range (Statement employer) h = h
 in_range Bank h = h
 
 target_spelled : (route : Route) → target_of route ≡ spelled (shape (path_of (place_of route))) (values_for (place_of route))
@@ -85,6 +89,7 @@ target_spelled Employers = refl
 target_spelled (Report employer month) = simp (append_assoc, append-nil) refl
 target_spelled (Correction employer month) = simp (append_assoc, append-nil) refl
 target_spelled (Owed employer) = simp (append_assoc, append-nil) refl
+target_spelled (Statement employer) = simp (append_assoc, append-nil) refl
 target_spelled Bank = refl
 
 -- a route's target is at its place
@@ -115,6 +120,9 @@ same_route (Correction employer month) (Correction employer2 month2) p m =
 same_route (Owed employer) (Owed employer2) p m =
     let e : employer ≡ employer2 = cc p in
     ap Owed e
+same_route (Statement employer) (Statement employer2) p m =
+    let e : employer ≡ employer2 = cc p in
+    ap Statement e
 same_route Bank Bank p m = refl
 same_route (Report employer month) (Correction employer2 month2) p m = cc m
 same_route (Correction employer month) (Report employer2 month2) p m = cc m
@@ -130,6 +138,7 @@ allowed Employers = refl
 allowed (Report employer month) = inl refl
 allowed (Correction employer month) = inr refl
 allowed (Owed employer) = refl
+allowed (Statement employer) = refl
 allowed Bank = refl
 
 allowed_with : (place : Place) (m : Method) → Allows (allow_of place) m → (route : Route) × (place_of route ≡ place) × (m ≡ method_for route)
@@ -137,12 +146,14 @@ allowed_with place.Employers m h = (Employers, refl, h)
 allowed_with (place.Reports employer month) m (inl h) = (Report employer month, refl, h)
 allowed_with (place.Reports employer month) m (inr h) = (Correction employer month, refl, h)
 allowed_with (place.Owed employer) m h = (Owed employer, refl, h)
+allowed_with (place.Statement employer) m h = (Statement employer, refl, h)
 allowed_with place.Bank m h = (Bank, refl, h)
 
 some_route : (place : Place) → (route : Route) × (place_of route ≡ place)
 some_route place.Employers = (Employers, refl)
 some_route (place.Reports employer month) = (Report employer month, refl)
 some_route (place.Owed employer) = (Owed employer, refl)
+some_route (place.Statement employer) = (Statement employer, refl)
 some_route place.Bank = (Bank, refl)
 
 -- ---- the whole of `find`

@@ -36,7 +36,7 @@ AllNew rows (entry ∷ entries) = IsNew rows entry × AllNew (add rows entry) en
 
 all_new : AllNew [] paths
 unfolding matchit_on_literals
-all_new = (refl, (refl, (refl, (refl, tt))))
+all_new = (refl, (refl, (refl, (refl, (refl, tt)))))
 
 abbrev pub shown : Bor (List ℕ) × Path → List ℕ × Path
 shown entry = (entry.0.now, entry.1)

@@ -7,7 +7,8 @@ use Rattle.matchit.specs.Router.{RouteOf, route_from, nearest}
 use Rattle.matchit.specs.declared.error.InsertError.{InsertError}
 use Rattle.clear_paths.specs.Written.{Piece, word, open_part}
 use Rattle.clear_paths.specs.declared.paths.Path.{Path}
-use Rattle.clear_paths.specs.declared.paths.Path.TheVariants.{Employers, Reports, Owed, Bank}
+use Rattle.clear_paths.specs.declared.paths.Path.TheVariants.{Employers, Reports}
+use Rattle.clear_paths.specs.declared.paths.Path.TheVariants.{Owed, Statement, Bank}
 use Rattle.clear_paths.specs.declared.paths.Parameters.{Parameters}
 use Rattle.clear_paths.specs.declared.paths.Parameters.TheVariants.{Zero, One, Two}
 
@@ -17,6 +18,7 @@ shape Employers = word (codes "employers") ∷ []
 shape Reports =
     word (codes "employers") ∷ open_part ∷ word (codes "reports") ∷ open_part ∷ []
 shape Owed = word (codes "employers") ∷ open_part ∷ word (codes "owed") ∷ []
+shape Statement = word (codes "employers") ∷ open_part ∷ word (codes "statement") ∷ []
 shape Bank = word (codes "bank") ∷ []
 
 -- the paths in the router's own spelling
@@ -25,6 +27,7 @@ paths =
     (codes "/employers", Employers)
     ∷ (codes "/employers/{e}/reports/{m}", Reports)
     ∷ (codes "/employers/{e}/owed", Owed)
+    ∷ (codes "/employers/{e}/statement", Statement)
     ∷ (codes "/bank", Bank)
     ∷ []
 

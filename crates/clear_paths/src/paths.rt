@@ -19,6 +19,7 @@ pub(crate) enum Path {
     Employers,
     Reports,
     Owed,
+    Statement,
     Bank,
 }
 
@@ -51,13 +52,14 @@ pub(crate) fn router_over_paths(alloc: Global) -> Result<Router<Path>, InsertErr
     Ok(router)
 }
 
-fn all_paths() -> [(&'static str, Path); 4]
+fn all_paths() -> [(&'static str, Path); 5]
     ensures { map (λ entry. (entry.0.now, entry.1)) result ≡ paths }
 {
     [
         ("/employers", Path::Employers),
         ("/employers/{e}/reports/{m}", Path::Reports),
         ("/employers/{e}/owed", Path::Owed),
+        ("/employers/{e}/statement", Path::Statement),
         ("/bank", Path::Bank),
     ]
 }

@@ -26,6 +26,8 @@ pub enum Place {
     Reports { employer: EmployerNo, month: Month },
     /// `/employers/{e}/owed`
     Owed { employer: EmployerNo },
+    /// `/employers/{e}/statement`
+    Statement { employer: EmployerNo },
     /// `/bank`
     Bank,
 }
@@ -39,6 +41,7 @@ impl Place {
             Place::Employers => Allow::Post,
             Place::Reports { .. } => Allow::PostPut,
             Place::Owed { .. } => Allow::Get,
+            Place::Statement { .. } => Allow::Get,
             Place::Bank => Allow::Post,
         }
     }
@@ -65,6 +68,11 @@ impl Place {
             },
             Place::Owed { employer } => {
                 (method == Method::Get).then_some(Route::Owed {
+                    employer: *employer,
+                })
+            }
+            Place::Statement { employer } => {
+                (method == Method::Get).then_some(Route::Statement {
                     employer: *employer,
                 })
             }
@@ -99,7 +107,7 @@ fn without_parameters(path: Path) -> Option<Place>
     match path {
         Path::Employers => Some(Place::Employers),
         Path::Bank => Some(Place::Bank),
-        Path::Reports | Path::Owed => None,
+        Path::Reports | Path::Owed | Path::Statement => None,
     }
 }
 
@@ -116,6 +124,12 @@ fn with_one(path: Path, first: &str) -> Option<Place>
                 return None;
             };
             Some(Place::Owed { employer })
+        }
+        Path::Statement => {
+            let Some(employer) = employer_in(first) else {
+                return None;
+            };
+            Some(Place::Statement { employer })
         }
         Path::Employers | Path::Reports | Path::Bank => None,
     }
@@ -138,7 +152,7 @@ fn with_two(path: Path, first: &str, second: &str) -> Option<Place>
             };
             Some(Place::Reports { employer, month })
         }
-        Path::Employers | Path::Owed | Path::Bank => None,
+        Path::Employers | Path::Owed | Path::Statement | Path::Bank => None,
     }
 }
 

@@ -14,6 +14,8 @@ pub enum Route {
     Correction { employer: EmployerNo, month: Month },
     /// `GET /employers/{e}/owed`
     Owed { employer: EmployerNo },
+    /// `GET /employers/{e}/statement`
+    Statement { employer: EmployerNo },
     /// `POST /bank`
     Bank,
 }

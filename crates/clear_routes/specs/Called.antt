@@ -16,7 +16,7 @@ use Rattle.clear_book.specs.declared.calls.WageReport.{WageReport}
 use Rattle.clear_book.specs.declared.texts.WageLine.{WageLine}
 use Rattle.clear_paths.specs.declared.route.Route.{Route}
 use Rattle.clear_paths.specs.declared.route.Route.TheVariants.{Employers, Report, Correction}
-use Rattle.clear_paths.specs.declared.route.Route.TheVariants.{Owed, Bank}
+use Rattle.clear_paths.specs.declared.route.Route.TheVariants.{Owed, Statement, Bank}
 use Rattle.clear_wire.specs.Head.{Heading}
 
 -- the number, if the text is its decimal digits and it is 1 to 999,999,999,999,999,999
@@ -76,5 +76,7 @@ called_for (Report employer month) caller day heading body =
 called_for (Correction employer month) caller day heading body =
     call_to_do caller day heading (correction_in employer month body)
 called_for (Owed employer) caller day heading body = Ok (Ask caller day (query.Owed employer))
+called_for (Statement employer) caller day heading body =
+    Ok (Ask caller day (query.Statement employer))
 called_for Bank caller day heading body =
     call_to_do caller day heading (Ok (command.ImportBank body))

@@ -1,7 +1,7 @@
 //! What a request calls for.
 ghost use Rattle.std.specs.Prelude.{◌≡◌, Ok};
 ghost use Rattle.clear_bodies.specs.Faults.{Gives};
-ghost use Rattle.clear_book.specs.declared.calls.Call.TheVariants.{Do};
+ghost use Rattle.clear_book.specs.declared.calls.Call.TheVariants.{Do, Ask};
 ghost use Rattle.clear_book.specs.declared.calls.Command.TheVariants.{ImportBank};
 ghost use Rattle.clear_wire.specs.Parsed.{heading};
 ghost use Rattle.clear_routes.specs.Called.{number_spelled, number_of, called_for};
@@ -91,13 +91,14 @@ fn called_for(
             let correction = correction_in(alloc, *employer, *month, body)?;
             Ok(to_do(caller, number, day, correction))
         }
-        Route::Owed { employer } => Ok(Call::Ask {
-            caller,
-            day,
-            query: Query::Owed {
-                employer: *employer,
-            },
-        }),
+        Route::Owed { employer } => {
+            let employer = *employer;
+            Ok(to_ask(caller, day, Query::Owed { employer }))
+        }
+        Route::Statement { employer } => {
+            let employer = *employer;
+            Ok(to_ask(caller, day, Query::Statement { employer }))
+        }
         Route::Bank => Ok(to_do(caller, number?, day, file_in(alloc, body)?)),
     }
 }
@@ -112,6 +113,13 @@ fn to_do(caller: Caller, number: RequestNo, day: Day, command: Command) -> Call
         day,
         command,
     }
+}
+
+/// The call to ask this.
+fn to_ask(caller: Caller, day: Day, query: Query) -> Call
+    ensures { result ≡ Ask caller day query }
+{
+    Call::Ask { caller, day, query }
 }
 
 /// The number of a command.

@@ -7,6 +7,7 @@
 #![tactic(auto)]
 
 pub mod command;
+pub mod laws;
 pub mod refused;
 #[cfg(test)]
 mod tests;

@@ -10,15 +10,23 @@ ghost use Rattle.clear_sample.specs.Samples.{sample_rates};
 use crate::memory::office_in_memory;
 use crate::samples::{sample_day, sample_rates};
 use clear_callers::directory::Directory;
-use clear_http::desk::Desk;
-use clear_paths::routes::Routes;
+use clear_money::days::Day;
+use clear_office::office::Office;
 use sqlite::FileStore;
 use sqlite_disk::Memory;
 use std::alloc::Global;
 
+/// An office over a store in memory, the keys of its callers, and the day on which it is asked.
+#[derive(Drop)]
+pub struct Desk {
+    pub office: Office<FileStore<Memory>>,
+    pub directory: Directory,
+    pub day: Day,
+}
+
 /// A desk over an office without requests in a new store in memory, with the sample's rates,
 /// callers and day. None where there is no memory for it.
-pub fn sample_desk(alloc: Global) -> Option<Desk<FileStore<Memory>>>
+pub fn sample_desk(alloc: Global) -> Option<Desk>
     ensures keeps { IfSome result (λ desk. IsHonest over_files desk.office
         → Keeps over_files desk.office (record { opening = sample_rates; entries = [] })) }
     ensures lawful { IfSome result (λ desk.
@@ -32,8 +40,11 @@ pub fn sample_desk(alloc: Global) -> Option<Desk<FileStore<Memory>>>
     let Ok(directory) = Directory::sample(alloc) else {
         return None;
     };
-    let routes = Routes::new(alloc).ok()?;
     let day = sample_day()?;
     let office = office_in_memory(alloc, &rates)?;
-    Some(Desk::new(alloc, office, directory, routes, day))
+    Some(Desk {
+        office,
+        directory,
+        day,
+    })
 }

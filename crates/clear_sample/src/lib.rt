@@ -5,4 +5,6 @@ pub mod desk;
 pub mod memory;
 pub mod samples;
 #[cfg(test)]
+mod stream_tests;
+#[cfg(test)]
 mod tests;

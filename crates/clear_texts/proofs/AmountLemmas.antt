@@ -7,7 +7,7 @@ use Rattle.std.specs.List.{repeat}
 use Rattle.std.proofs.lemmas.Bool.{cases_lt}
 use Rattle.std.proofs.lemmas.Fmt.{decimal_digit, decimal_step}
 use Rattle.clear_money.specs.Texts.{two_digits}
-use Rattle.clear_texts.specs.Amounts.{amount_text}
+use Rattle.clear_book.specs.Documents.Amounts.{amount_text}
 
 spaces : (n : ℕ) → repeat {A = ℕ} n (32 ∷ []) ≡ replicate n 32
 spaces zero = refl

@@ -5,55 +5,53 @@ use Rattle.std.specs.Iterator.{Yields}
 use Rattle.std.specs.List.{flat_map}
 use Rattle.std.proofs.lemmas.List.Concat.{flat_map-cons}
 use Rattle.clear_texts.specs.Charges.{charge_lines}
-use Rattle.clear_texts.specs.Laws.{Charge, row_of, rows_with, rows_of, charge_text, IsRising}
-use Rattle.clear_texts.specs.Lines.{charge_line, payment_line}
+use Rattle.clear_texts.specs.Laws.{row_of, rows_with, rows_of, IsRising}
+use Rattle.clear_book.specs.Documents.Statement.{PaidCharge, Statement, charge_text, statement_text}
+use Rattle.clear_texts.specs.Text.{text_of_rows}
+use Rattle.clear_book.specs.Documents.Lines.{charge_line, payment_line}
 use Rattle.clear_texts.specs.RowSteps.{is_month_of}
 use Rattle.clear_texts.specs.Rows.{GivesFirst}
 use Rattle.clear_texts.specs.declared.rows.ChargeRow.{ChargeRow}
-use Rattle.clear_texts.specs.declared.rows.Payment.{Payment}
+use Rattle.clear_book.specs.declared.documents.Payment.{Payment}
 use Rattle.clear_texts.proofs.RowLemmas.{lines_after, charge_lines_is}
 
 -- further pieces of a charge, behind a row of it
-further : (charge : Charge) (pieces : List Payment) (rest : List ChargeRow) → lines_after (Some charge.month) (map (λ p. row_of charge (Some p)) pieces ++ rest)
-    ≡ flat_map (payment_line (codes "  paid")) pieces ++ lines_after (Some charge.month) rest
+further : (charge : PaidCharge) (pieces : List Payment) (rest : List ChargeRow) → lines_after (Some charge.state.month) (map (λ p. row_of charge (Some p)) pieces ++ rest)
+    ≡ flat_map (payment_line (codes "  paid")) pieces ++ lines_after (Some charge.state.month) rest
 further charge [] rest = refl
 further charge (piece ∷ pieces) rest =
-    let same : (charge.month == charge.month) ≡ true = grind arith in
+    let same : (charge.state.month == charge.state.month) ≡ true = grind arith in
     rw (same, further charge pieces rest) (simp (flat_map-cons, append_assoc))
 
-line_with_piece : (charge : Charge) (piece : Payment) → charge_line (row_of charge (Some piece)) ≡ charge_line (row_of charge None)
-unfolding charge_line
-line_with_piece charge piece = refl
-
 -- a charge behind a row of another month
-whole : (before : Option ℕ) (charge : Charge) (pieces : List Payment) (rest : List ChargeRow) → is_month_of before charge.month ≡ false
-    → lines_after before (rows_with charge pieces ++ rest) ≡ charge_line (row_of charge None) ++ flat_map (payment_line (codes "  paid")) pieces ++ lines_after (Some charge.month) rest
+whole : (before : Option ℕ) (charge : PaidCharge) (pieces : List Payment) (rest : List ChargeRow) → is_month_of before charge.state.month ≡ false
+    → lines_after before (rows_with charge pieces ++ rest) ≡ charge_line charge.state ++ flat_map (payment_line (codes "  paid")) pieces ++ lines_after (Some charge.state.month) rest
 whole before charge [] rest other = rw other refl
-whole before charge (piece ∷ pieces) rest other = rw (other, line_with_piece charge piece, further charge pieces rest) (simp (flat_map-cons, append_assoc))
+whole before charge (piece ∷ pieces) rest other = rw (other, further charge pieces rest) (simp (flat_map-cons, append_assoc))
 
 -- the first of the charges is of another month
-abbrev IsAfter : Option ℕ → List Charge → Type 0
+abbrev IsAfter : Option ℕ → List PaidCharge → Type 0
 IsAfter before [] = Unit {0}
-IsAfter before (charge ∷ charges) = is_month_of before charge.month ≡ false
+IsAfter before (charge ∷ charges) = is_month_of before charge.state.month ≡ false
 
-rising_after : (charge : Charge) (charges : List Charge) → IsRising (charge ∷ charges) → IsAfter (Some charge.month) charges
+rising_after : (charge : PaidCharge) (charges : List PaidCharge) → IsRising (charge ∷ charges) → IsAfter (Some charge.state.month) charges
 rising_after charge [] rising = tt
 rising_after charge (next ∷ charges) rising = grind (arith, rising.0)
 
-rising_rest : (charge : Charge) (charges : List Charge) → IsRising (charge ∷ charges) → IsRising charges
+rising_rest : (charge : PaidCharge) (charges : List PaidCharge) → IsRising (charge ∷ charges) → IsRising charges
 rising_rest charge [] rising = tt
 rising_rest charge (next ∷ charges) rising = rising.1
 
-lines_of_charges : (before : Option ℕ) (charges : List Charge) → IsAfter before charges → IsRising charges → lines_after before (flat_map rows_of charges) ≡ flat_map charge_text charges
+lines_of_charges : (before : Option ℕ) (charges : List PaidCharge) → IsAfter before charges → IsRising charges → lines_after before (flat_map rows_of charges) ≡ flat_map charge_text charges
 lines_of_charges before [] other rising = refl
 lines_of_charges before (charge ∷ charges) other rising =
-    rw (flat_map-cons rows_of charge charges, flat_map-cons charge_text charge charges, whole before charge charge.pieces (flat_map rows_of charges) other, lines_of_charges (Some charge.month) charges (rising_after charge charges rising) (rising_rest charge charges rising)) refl
+    rw (flat_map-cons rows_of charge charges, flat_map-cons charge_text charge charges, whole before charge charge.pieces (flat_map rows_of charges) other, lines_of_charges (Some charge.state.month) charges (rising_after charge charges rising) (rising_rest charge charges rising)) refl
 
-starts : (charges : List Charge) → IsAfter None charges
+starts : (charges : List PaidCharge) → IsAfter None charges
 starts [] = tt
 starts (charge ∷ charges) = refl
 
-pub charges_law : (charges : List Charge) → IsRising charges → charge_lines (flat_map rows_of charges) ≡ flat_map charge_text charges
+pub charges_law : (charges : List PaidCharge) → IsRising charges → charge_lines (flat_map rows_of charges) ≡ flat_map charge_text charges
 charges_law charges rising = sym (charge_lines_is (flat_map rows_of charges)) ∙ lines_of_charges None charges (starts charges) rising
 
 -- listed rows are given all
@@ -65,3 +63,7 @@ listed_law (row ∷ rows) (x ∷ given) left last (j, step, run) end =
     let same : x ≡ row = cc step.0 in
     let rest : given ≡ rows = listed_law rows given left last (subst (λ s. Yields GivesFirst s given last) step.1 run) end in
     λ i. same i ∷ rest i
+
+pub statement_law : (s : Statement) → IsRising s.charges → text_of_rows s.firm s.interest_credits s.missing (flat_map rows_of s.charges) ≡ statement_text s
+unfolding text_of_rows statement_text
+statement_law s rising = rw (charges_law s.charges rising) refl

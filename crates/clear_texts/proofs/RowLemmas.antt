@@ -4,8 +4,8 @@ use Rattle.std.specs.Prelude.{Option, None, Some, ◌==◌, if◌then◌else◌}
 use Rattle.std.specs.Iterator.{Yields, YieldsThen}
 use Rattle.std.specs.List.{flat_map}
 use Rattle.std.proofs.lemmas.List.Concat.{flat_map-cons}
-use Rattle.clear_texts.specs.Lines.{charge_line, paid_line}
-use Rattle.clear_texts.specs.Charges.{MonthRows, with_row, by_month, month_lines, charge_lines}
+use Rattle.clear_book.specs.Documents.Lines.{charge_line}
+use Rattle.clear_texts.specs.Charges.{piece_line, MonthRows, with_row, by_month, month_lines, charge_lines}
 use Rattle.clear_texts.specs.RowSteps.{row_lines, IsNotTheEnd}
 use Rattle.clear_texts.specs.Rows.{most_rows, IsRefused}
 use Rattle.clear_book.specs.declared.rules.StoreCause.TheVariants.{Row}
@@ -16,24 +16,24 @@ use Rattle.clear_texts.specs.declared.rows.ChargeRow.{ChargeRow}
 -- the month of the last row, or this one without rows
 abbrev pub month_after : Option ℕ → List ChargeRow → Option ℕ
 month_after month [] = month
-month_after month (row ∷ rows) = month_after (Some row.month) rows
+month_after month (row ∷ rows) = month_after (Some row.state.month) rows
 
 -- the lines of rows behind a row of this month
 abbrev pub lines_after : Option ℕ → List ChargeRow → List ℕ
 lines_after month [] = []
-lines_after month (row ∷ rows) = row_lines month row ++ lines_after (Some row.month) rows
+lines_after month (row ∷ rows) = row_lines month row ++ lines_after (Some row.state.month) rows
 
-pub month_after-append : (month : Option ℕ) (rows : List ChargeRow) (row : ChargeRow) → month_after month (rows ++ row ∷ []) ≡ Some row.month
+pub month_after-append : (month : Option ℕ) (rows : List ChargeRow) (row : ChargeRow) → month_after month (rows ++ row ∷ []) ≡ Some row.state.month
 month_after-append month [] row = refl
-month_after-append month (x ∷ rows) row = month_after-append (Some x.month) rows row
+month_after-append month (x ∷ rows) row = month_after-append (Some x.state.month) rows row
 
 pub lines_after-append : (month : Option ℕ) (rows : List ChargeRow) (row : ChargeRow) → lines_after month (rows ++ row ∷ []) ≡ lines_after month rows ++ row_lines (month_after month rows) row
 lines_after-append month [] row = append-nil _
-lines_after-append month (x ∷ rows) row = rw (lines_after-append (Some x.month) rows row) (sym (append_assoc (row_lines month x) (lines_after (Some x.month) rows) (row_lines (month_after (Some x.month) rows) row)))
+lines_after-append month (x ∷ rows) row = rw (lines_after-append (Some x.state.month) rows row) (sym (append_assoc (row_lines month x) (lines_after (Some x.state.month) rows) (row_lines (month_after (Some x.state.month) rows) row)))
 
 -- the lines of the pieces of a month
 abbrev paid_lines : MonthRows → List ℕ
-paid_lines group = flat_map (λ row. paid_line row.piece) (group.first ∷ group.more)
+paid_lines group = flat_map (λ row. piece_line row.piece) (group.first ∷ group.more)
 
 -- the lines of groups, where this stands in front of the pieces of the first one
 abbrev lines_with : List ℕ → List MonthRows → List ℕ
@@ -43,45 +43,45 @@ lines_with front (group ∷ groups) = front ++ paid_lines group ++ flat_map mont
 -- the lines of groups behind a row of this month
 abbrev grouped_after : ℕ → List MonthRows → List ℕ
 grouped_after month [] = []
-grouped_after month (group ∷ groups) = lines_with (if month == group.first.month then [] else charge_line group.first) (group ∷ groups)
+grouped_after month (group ∷ groups) = lines_with (if month == group.first.state.month then [] else charge_line group.first.state) (group ∷ groups)
 
 -- a row in front of groups
-put : (front : List ℕ) (row : ChargeRow) (groups : List MonthRows) → front ++ paid_line row.piece ++ grouped_after row.month groups ≡ lines_with front (with_row row groups)
+put : (front : List ℕ) (row : ChargeRow) (groups : List MonthRows) → front ++ piece_line row.piece ++ grouped_after row.state.month groups ≡ lines_with front (with_row row groups)
 put front row [] = simp (flat_map-cons, append_assoc, append-nil)
-put front row (group ∷ groups) = by (row.month == group.first.month)
+put front row (group ∷ groups) = by (row.state.month == group.first.state.month)
   where
-    by : (t : Bool) → front ++ paid_line row.piece ++ lines_with (if t then [] else charge_line group.first) (group ∷ groups)
+    by : (t : Bool) → front ++ piece_line row.piece ++ lines_with (if t then [] else charge_line group.first.state) (group ∷ groups)
         ≡ lines_with front (if t then record { first = row; more = group.first ∷ group.more } ∷ groups else record { first = row; more = [] } ∷ group ∷ groups)
     by true = simp (flat_map-cons, append_assoc, append-nil)
     by false = simp (flat_map-cons, append_assoc, append-nil)
 
 -- the first group with a row begins with it
-begins_after : (month : ℕ) (row : ChargeRow) (groups : List MonthRows) → grouped_after month (with_row row groups) ≡ lines_with (if month == row.month then [] else charge_line row) (with_row row groups)
+begins_after : (month : ℕ) (row : ChargeRow) (groups : List MonthRows) → grouped_after month (with_row row groups) ≡ lines_with (if month == row.state.month then [] else charge_line row.state) (with_row row groups)
 begins_after month row [] = refl
-begins_after month row (group ∷ groups) = by (row.month == group.first.month)
+begins_after month row (group ∷ groups) = by (row.state.month == group.first.state.month)
   where
     by : (t : Bool) → grouped_after month (if t then record { first = row; more = group.first ∷ group.more } ∷ groups else record { first = row; more = [] } ∷ group ∷ groups)
-        ≡ lines_with (if month == row.month then [] else charge_line row) (if t then record { first = row; more = group.first ∷ group.more } ∷ groups else record { first = row; more = [] } ∷ group ∷ groups)
+        ≡ lines_with (if month == row.state.month then [] else charge_line row.state) (if t then record { first = row; more = group.first ∷ group.more } ∷ groups else record { first = row; more = [] } ∷ group ∷ groups)
     by true = refl
     by false = refl
 
-begins : (row : ChargeRow) (groups : List MonthRows) → flat_map month_lines (with_row row groups) ≡ lines_with (charge_line row) (with_row row groups)
+begins : (row : ChargeRow) (groups : List MonthRows) → flat_map month_lines (with_row row groups) ≡ lines_with (charge_line row.state) (with_row row groups)
 begins row [] = simp (flat_map-cons, append_assoc, append-nil)
-begins row (group ∷ groups) = by (row.month == group.first.month)
+begins row (group ∷ groups) = by (row.state.month == group.first.state.month)
   where
     by : (t : Bool) → flat_map month_lines (if t then record { first = row; more = group.first ∷ group.more } ∷ groups else record { first = row; more = [] } ∷ group ∷ groups)
-        ≡ lines_with (charge_line row) (if t then record { first = row; more = group.first ∷ group.more } ∷ groups else record { first = row; more = [] } ∷ group ∷ groups)
+        ≡ lines_with (charge_line row.state) (if t then record { first = row; more = group.first ∷ group.more } ∷ groups else record { first = row; more = [] } ∷ group ∷ groups)
     by true = simp (flat_map-cons, append_assoc, append-nil)
     by false = simp (flat_map-cons, append_assoc, append-nil)
 
 after_is : (month : ℕ) (rows : List ChargeRow) → lines_after (Some month) rows ≡ grouped_after month (by_month rows)
 after_is month [] = refl
-after_is month (row ∷ rows) = rw (after_is row.month rows) (put (if month == row.month then [] else charge_line row) row (by_month rows) ∙ sym (begins_after month row (by_month rows)))
+after_is month (row ∷ rows) = rw (after_is row.state.month rows) (put (if month == row.state.month then [] else charge_line row.state) row (by_month rows) ∙ sym (begins_after month row (by_month rows)))
 
 pub charge_lines_is : (rows : List ChargeRow) → lines_after None rows ≡ charge_lines rows
 unfolding charge_lines
 charge_lines_is [] = refl
-charge_lines_is (row ∷ rows) = rw (after_is row.month rows) (put (charge_line row) row (by_month rows) ∙ sym (begins row (by_month rows)))
+charge_lines_is (row ∷ rows) = rw (after_is row.state.month rows) (put (charge_line row.state) row (by_month rows) ∙ sym (begins row (by_month rows)))
 
 -- ---- a run of calls
 
@@ -103,7 +103,7 @@ begun gives old start = record { given = []; run = refl; few = refl; last = refl
 
 pub goes_on : {S : Type 0} (gives : S → Option ChargeRow → S → Type 0) (old mid new : S) (count : ℕ) (month : Option ℕ) (start text next : List ℕ) (row : ChargeRow)
     → HasGiven gives old mid count month start text → gives mid (Some row) new → next ≡ text ++ row_lines month row
-    → HasGiven gives old new (count + 1) (Some row.month) start next
+    → HasGiven gives old new (count + 1) (Some row.state.month) start next
 goes_on gives old mid new count month start text next row so_far step added = record {
   given = so_far.given ++ row ∷ [];
   run = Yields-append gives old so_far.given mid row new so_far.run step;

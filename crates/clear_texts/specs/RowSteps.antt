@@ -2,7 +2,8 @@
 use Rattle.std.specs.Prelude.{◌≡◌, ◌⊎◌, ◌==◌, ℕ, Bool, false, List, [], ◌++◌}
 use Rattle.std.specs.Prelude.{Option, None, Some, if◌then◌else◌}
 use Rattle.clear_book.specs.declared.rules.StoreCause.TheVariants.{Row}
-use Rattle.clear_texts.specs.Lines.{charge_line, paid_line}
+use Rattle.clear_book.specs.Documents.Lines.{charge_line}
+use Rattle.clear_texts.specs.Charges.{piece_line}
 use Rattle.clear_texts.specs.declared.rows.ChargeRow.{ChargeRow}
 use Rattle.clear_texts.specs.declared.rows.RowFault.{RowFault}
 use Rattle.clear_texts.specs.declared.rows.RowFault.TheVariants.{Store}
@@ -16,7 +17,8 @@ is_month_of (Some before) month = before == month
 -- and of its piece
 abbrev pub row_lines : Option ℕ → ChargeRow → List ℕ
 row_lines before row =
-    (if is_month_of before row.month then [] else charge_line row) ++ paid_line row.piece
+    (if is_month_of before row.state.month then [] else charge_line row.state)
+    ++ piece_line row.piece
 
 -- why a call does not tell the end: it gave a row, for which there is no room, or was refused for
 -- this

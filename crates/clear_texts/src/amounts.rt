@@ -1,6 +1,6 @@
 //! Amounts of money as documents write them.
 ghost use Rattle.std.specs.Prelude.{◌≡◌, ◌++◌, IfOk, string_bytes};
-ghost use Rattle.clear_texts.specs.Amounts.{amount_text};
+ghost use Rattle.clear_book.specs.Documents.Amounts.{amount_text};
 
 use std::alloc::AllocError;
 use std::fmt::Write;

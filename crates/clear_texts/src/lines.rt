@@ -4,12 +4,13 @@ ghost use Rattle.std.specs.Prelude.{◌≡◌, ◌++◌, IfOk, string_bytes};
 ghost use Rattle.std.specs.Fmt.{decimal};
 ghost use Rattle.std.specs.Str.{IsAscii};
 ghost use Rattle.clear_money.specs.Texts.{day_text, month_text};
-ghost use Rattle.clear_texts.specs.Lines.{charge_line, payment_line};
-ghost use Rattle.clear_texts.specs.Lines.{interest_paid_line, missing_line};
+ghost use Rattle.clear_book.specs.Documents.Lines.{charge_line, payment_line};
+ghost use Rattle.clear_book.specs.Documents.Lines.{interest_paid_line, missing_line};
 ghost use Rattle.clear_texts.specs.RowSteps.{row_lines};
 
 use crate::amounts::append_amount;
-use crate::rows::{ChargeRow, Payment};
+use crate::rows::ChargeRow;
+use clear_book::documents::{ChargeState, Payment};
 use clear_money::days::Day;
 use clear_money::months::Month;
 use std::alloc::AllocError;
@@ -26,8 +27,8 @@ pub(crate) fn append_row(
     ensures { IfOk result (λ _. string_bytes text.new
         ≡ string_bytes text.old ++ row_lines before row.now) }
 {
-    if before != Some(row.month) {
-        append_charge(text, row)?;
+    if before != Some(row.state.month) {
+        append_charge(text, &row.state)?;
     }
     match &row.piece {
         Some(piece) => append_payment(text, "  paid", piece),
@@ -36,23 +37,23 @@ pub(crate) fn append_row(
 }
 
 /// Appends the line of a charge.
-#[tactic(auto, unfolding(crate::specs::Lines::charge_line))]
-pub(crate) fn append_charge(text: &mut String, row: &ChargeRow) -> Result<(), AllocError>
+#[tactic(auto, unfolding(clear_book::specs::Documents::Lines::charge_line))]
+pub(crate) fn append_charge(text: &mut String, charge: &ChargeState) -> Result<(), AllocError>
     ensures { IfOk result (λ _. string_bytes text.new
-        ≡ string_bytes text.old ++ charge_line row.now) }
+        ≡ string_bytes text.old ++ charge_line charge.now) }
 {
-    append_month(text, "charge ", row.month)?;
-    append_day(text, " due ", row.due)?;
-    append_number(text, " version ", u64::from(row.version))?;
-    append_amount(text, " ", row.contribution)?;
-    append_amount(text, " ", row.left)?;
-    append_amount(text, " ", row.interest)?;
+    append_month(text, "charge ", charge.month)?;
+    append_day(text, " due ", charge.due)?;
+    append_number(text, " version ", u64::from(charge.version))?;
+    append_amount(text, " ", charge.contribution)?;
+    append_amount(text, " ", charge.left)?;
+    append_amount(text, " ", charge.interest)?;
     text.push_str("\n")?;
     Ok(())
 }
 
 /// Appends the line of a credit for interest.
-#[tactic(auto, unfolding(crate::specs::Lines::interest_paid_line))]
+#[tactic(auto, unfolding(clear_book::specs::Documents::Lines::interest_paid_line))]
 pub(crate) fn append_interest_credit(text: &mut String, credit: &Payment) -> Result<(), AllocError>
     ensures { IfOk result (λ _. string_bytes text.new
         ≡ string_bytes text.old ++ interest_paid_line credit.now) }
@@ -61,7 +62,7 @@ pub(crate) fn append_interest_credit(text: &mut String, credit: &Payment) -> Res
 }
 
 /// Appends the line of a payment, behind a word.
-#[tactic(auto, unfolding(crate::specs::Lines::payment_line))]
+#[tactic(auto, unfolding(clear_book::specs::Documents::Lines::payment_line))]
 fn append_payment(text: &mut String, word: &str, payment: &Payment) -> Result<(), AllocError>
     ensures { IfOk result (λ _. string_bytes text.new
         ≡ string_bytes text.old ++ payment_line word.now payment.now) }
@@ -76,7 +77,7 @@ fn append_payment(text: &mut String, word: &str, payment: &Payment) -> Result<()
 }
 
 /// Appends the line of a month without a report.
-#[tactic(auto, unfolding(crate::specs::Lines::missing_line))]
+#[tactic(auto, unfolding(clear_book::specs::Documents::Lines::missing_line))]
 pub(crate) fn append_missing(text: &mut String, month: Month) -> Result<(), AllocError>
     ensures { IfOk result (λ _. string_bytes text.new
         ≡ string_bytes text.old ++ missing_line month) }

@@ -2,10 +2,8 @@
 ghost use Rattle.std.specs.Prelude.{◌≡◌, List, IfErr, IfOk, Option};
 ghost use Rattle.clear_texts.specs.Rows.{GivesFirst};
 
+use clear_book::documents::{ChargeState, Payment};
 use clear_book::rules::StoreCause;
-use clear_book::texts::CreditReference;
-use clear_money::days::Day;
-use clear_money::months::Month;
 use std::alloc::AllocError;
 use std::marker::Model;
 use std::vec::IntoIter;
@@ -13,29 +11,11 @@ use std::vec::IntoIter;
 /// The rows of an account: 100,000 credits, and twice 2,400 months.
 pub const MAX_ROWS: u32 = 104_800;
 
-/// A credit, or a part of it.
-#[derive(Drop)]
-pub struct Payment {
-    /// The day of the credit.
-    pub day: Day,
-    /// So much of it.
-    pub cents: u64,
-    pub reference: CreditReference,
-}
-
 /// The charge of a month, and at most one piece of a credit that pays it. A charge with several
-/// pieces is as many rows, one after the other; amounts are in cents.
+/// pieces is as many rows, one after the other.
 #[derive(Drop)]
 pub struct ChargeRow {
-    pub month: Month,
-    /// The day on which the charge is due.
-    pub due: Day,
-    /// The version of the month's report.
-    pub version: u32,
-    pub contribution: u64,
-    /// How much of the contribution is open.
-    pub left: u64,
-    pub interest: u64,
+    pub state: ChargeState,
     pub piece: Option<Payment>,
 }
 

@@ -3,62 +3,42 @@ ghost use Rattle.std.specs.Prelude.{◌≡◌, ◌++◌, ◌≤◌, List, None, 
 ghost use Rattle.std.specs.Prelude.{IfErr, IfOk, OnErr};
 ghost use Rattle.std.specs.Iterator.{YieldsThen};
 ghost use Rattle.std.specs.List.{flat_map};
-ghost use Rattle.clear_texts.specs.Lines.{interest_paid_line, missing_line};
+ghost use Rattle.clear_book.specs.Documents.Lines.{interest_paid_line, missing_line};
+ghost use Rattle.clear_book.specs.Documents.Statement.{firm_lines, last_text, sum_lines};
 ghost use Rattle.clear_texts.specs.Charges.{charge_lines};
 ghost use Rattle.clear_texts.specs.RowSteps.{IsNotTheEnd};
 ghost use Rattle.clear_texts.specs.Rows.{IsRefused, most_rows};
 ghost use Rattle.clear_texts.specs.declared.rows.ChargeRow.{ChargeRow};
-ghost use Rattle.clear_texts.specs.Statement.{firm_lines, last_text, sum_lines, statement_text};
+ghost use Rattle.clear_texts.specs.Text.{text_of_rows};
 
 use crate::amounts::append_amount;
 use crate::lines::{
     append_day, append_interest_credit, append_missing, append_month, append_number, append_row,
 };
-use crate::rows::{ChargeRows, MAX_ROWS, Payment, RowFault};
+use crate::rows::{ChargeRows, MAX_ROWS, RowFault};
+use clear_book::documents::{FirmAccount, Payment};
 use clear_book::rules::StoreCause;
-use clear_book::texts::Name;
-use clear_money::days::Day;
 use clear_money::months::Month;
-use clear_money::numbers::EmployerNo;
 use std::alloc::{AllocError, Global};
 
-/// What the statement of a firm tells beside its charges. Amounts are in cents.
-#[derive(Drop)]
-pub struct FirmAccount {
-    pub employer: EmployerNo,
-    /// The day of the statement.
-    pub day: Day,
-    pub name: Name,
-    /// The first month of the membership.
-    pub start: Month,
-    /// The last month of the membership, if it has one.
-    pub last: Option<Month>,
-    /// The credits for interest by day and serial.
-    pub interest_credits: Vec<Payment>,
-    /// The months without a report, rising.
-    pub missing: Vec<Month>,
-    /// What is credited and not yet charged.
-    pub prepaid: u64,
-    /// The open parts of the charges that are due.
-    pub arrears: u64,
-    /// The interest that is not yet paid.
-    pub interest: u64,
-}
-
-/// Appends the statement of a firm, whose charges are the rows that the source gives up to its end.
+/// Appends the statement of a firm with these credits for interest and months without a report,
+/// whose charges are the rows that the source gives up to its end.
 /// A refusal leaves the text as it was: there was no memory, the source refused a row, or it gave
 /// more than `MAX_ROWS`, which is `StoreCause::Row`.
-#[tactic(auto, unfolding(crate::specs::Statement::statement_text))]
+#[tactic(auto, unfolding(crate::specs::Text::text_of_rows))]
 pub fn statement<R: ChargeRows>(
     alloc: Global,
     firm: &FirmAccount,
+    interest_credits: &[Payment],
+    missing: &[Month],
     rows: &mut R,
     text: &mut String,
 ) -> Result<(), RowFault>
     ensures written { IfOk result (λ _. (given : List ChargeRow)
         × YieldsThen R.next_gives rows.old given None rows.new
         × (length given ≤ most_rows)
-        × (string_bytes text.new ≡ string_bytes text.old ++ statement_text firm.now given)) }
+        × (string_bytes text.new ≡ string_bytes text.old
+        ++ text_of_rows firm.now interest_credits.now missing.now given)) }
     ensures unchanged { OnErr result (string_bytes text.new ≡ string_bytes text.old) }
     ensures refused { IfErr result (λ fault.
         IsRefused R.next_gives R.next_refuses rows.old fault rows.new) }
@@ -66,13 +46,15 @@ pub fn statement<R: ChargeRows>(
     let mut written = String::new(alloc);
     append_firm(&mut written, firm)?;
     append_charges(&mut written, rows)?;
-    append_rest(&mut written, firm)?;
+    append_interest_credits(&mut written, interest_credits)?;
+    append_missing_months(&mut written, missing)?;
+    append_sums(&mut written, firm)?;
     text.push_str(written.as_str())?;
     Ok(())
 }
 
 // The lines on the firm.
-#[tactic(auto, unfolding(crate::specs::Statement::firm_lines))]
+#[tactic(auto, unfolding(clear_book::specs::Documents::Statement::firm_lines))]
 fn append_firm(text: &mut String, firm: &FirmAccount) -> Result<(), AllocError>
     ensures { IfOk result (λ _. string_bytes text.new
         ≡ string_bytes text.old ++ firm_lines firm.now) }
@@ -112,7 +94,7 @@ fn append_charges<R: ChargeRows>(text: &mut String, rows: &mut R) -> Result<(), 
         match rows.next() {
             Ok(Some(row)) => {
                 append_row(text, before, &row)?;
-                before = Some(row.month);
+                before = Some(row.state.month);
             }
             Ok(None) => return Ok(()),
             Err(fault) => return Err(fault),
@@ -132,20 +114,6 @@ fn end_rows<R: ChargeRows>(rows: &mut R) -> Result<(), RowFault>
         Ok(None) => Ok(()),
         Err(fault) => Err(fault),
     }
-}
-
-// The lines below those of the charges.
-fn append_rest(text: &mut String, firm: &FirmAccount) -> Result<(), AllocError>
-    ensures { IfOk result (λ _. string_bytes text.new
-        ≡ string_bytes text.old
-        ++ flat_map interest_paid_line firm.now.interest_credits.items
-        ++ flat_map missing_line firm.now.missing.items
-        ++ sum_lines firm.now) }
-{
-    append_interest_credits(text, firm.interest_credits.as_slice())?;
-    append_missing_months(text, firm.missing.as_slice())?;
-    append_sums(text, firm)?;
-    Ok(())
 }
 
 fn append_interest_credits(text: &mut String, credits: &[Payment]) -> Result<(), AllocError>
@@ -168,7 +136,7 @@ fn append_missing_months(text: &mut String, months: &[Month]) -> Result<(), Allo
     Ok(())
 }
 
-#[tactic(auto, unfolding(crate::specs::Statement::sum_lines))]
+#[tactic(auto, unfolding(clear_book::specs::Documents::Statement::sum_lines))]
 fn append_sums(text: &mut String, firm: &FirmAccount) -> Result<(), AllocError>
     ensures { IfOk result (λ _. string_bytes text.new
         ≡ string_bytes text.old ++ sum_lines firm.now) }

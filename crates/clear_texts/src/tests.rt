@@ -1,7 +1,8 @@
 //! A statement byte by byte, and what a refusal leaves.
 use crate::amounts::append_amount;
-use crate::rows::{ChargeRow, ChargeRows, ListedRows, Payment, RowFault};
-use crate::statement::{FirmAccount, statement};
+use crate::rows::{ChargeRow, ChargeRows, ListedRows, RowFault};
+use crate::statement::statement;
+use clear_book::documents::{ChargeState, FirmAccount, Payment};
 use clear_book::rules::StoreCause;
 use clear_book::texts::{CreditReference, Name};
 use clear_money::days::Day;
@@ -30,24 +31,28 @@ fn payment(alloc: Global, on: &str, cents: u64, reference: &str) -> Result<Payme
 // A row of the charge of 2024-01, and of 2024-02.
 fn january(piece: Payment) -> Result<ChargeRow, Fail> {
     Ok(ChargeRow {
-        month: month("2024-01")?,
-        due: day("2024-02-20")?,
-        version: 1,
-        contribution: 200_000,
-        left: 0,
-        interest: 3_000,
+        state: ChargeState {
+            month: month("2024-01")?,
+            due: day("2024-02-20")?,
+            version: 1,
+            contribution: 200_000,
+            left: 0,
+            interest: 3_000,
+        },
         piece: Some(piece),
     })
 }
 
 fn february(piece: Payment) -> Result<ChargeRow, Fail> {
     Ok(ChargeRow {
-        month: month("2024-02")?,
-        due: day("2024-03-20")?,
-        version: 1,
-        contribution: 100_010,
-        left: 0,
-        interest: 2_000,
+        state: ChargeState {
+            month: month("2024-02")?,
+            due: day("2024-03-20")?,
+            version: 1,
+            contribution: 100_010,
+            left: 0,
+            interest: 2_000,
+        },
         piece: Some(piece),
     })
 }
@@ -61,16 +66,12 @@ fn rows(alloc: Global) -> Result<ListedRows, Fail> {
 }
 
 fn account(alloc: Global) -> Result<FirmAccount, Fail> {
-    let mut missing = Vec::new(alloc);
-    missing.push(month("2024-03")?)?;
     Ok(FirmAccount {
         employer: EmployerNo::new(1001).ok_or("no employer")?,
         day: day("2024-04-30")?,
         name: Name::new(String::from_str(alloc, "Bau Nord")?).ok_or("no name")?,
         start: month("2024-01")?,
         last: None,
-        interest_credits: Vec::new(alloc),
-        missing,
         prepaid: 49_990,
         arrears: 0,
         interest: 5_000,
@@ -81,7 +82,16 @@ fn account(alloc: Global) -> Result<FirmAccount, Fail> {
 fn a_statement(rt: HostRuntime) -> Result<(), Fail> {
     let alloc = rt.alloc();
     let mut text = String::from_str(alloc, "before\n")?;
-    assert!(rt; statement(alloc, &account(alloc)?, &mut rows(alloc)?, &mut text) == Ok(()));
+    let missing = [month("2024-03")?];
+    let outcome = statement(
+        alloc,
+        &account(alloc)?,
+        &[],
+        &missing,
+        &mut rows(alloc)?,
+        &mut text,
+    );
+    assert!(rt; outcome == Ok(()));
     assert!(rt;
         text.as_str()
             == "before\n\
@@ -143,7 +153,7 @@ fn a_refused_row(rt: HostRuntime) -> Result<(), Fail> {
             rows: rows(alloc)?,
             given,
         };
-        let outcome = statement(alloc, &account(alloc)?, &mut source, &mut text);
+        let outcome = statement(alloc, &account(alloc)?, &[], &[], &mut source, &mut text);
         assert!(rt; outcome == Err(RowFault::Store(StoreCause::Other)));
         assert!(rt; text.as_str() == "before");
     }

@@ -6,5 +6,6 @@ pub mod ImportLemmas
 pub mod OwedLemmas
 pub mod ReadLemmas
 pub mod SerialLemmas
+pub mod StatementLemmas
 pub mod StillLemmas
 pub mod ViewLemmas

@@ -1,3 +1,4 @@
 pub mod Imports
 pub mod Owed
 pub mod Reads
+pub mod Statement

@@ -5,10 +5,9 @@
 #![tactic(auto)]
 
 use clear_http::counted::Counted;
-use clear_http::desk::{Desk, serve};
+use clear_http::desk::serve;
 use clear_money::days::Day;
-use clear_sample::desk::sample_desk;
-use sqlite::Alter;
+use clear_sample::desk::{Desk, sample_desk};
 use std::process::ExitCode;
 use std::{env, fs, io};
 
@@ -27,7 +26,7 @@ fn take_words(rt: &HostRuntime) -> Option<()> {
         if word.as_str() == "office" {
             desk = sample_desk(rt.alloc())?;
         } else if let Some(day) = Day::read(word.as_str().as_bytes()) {
-            desk.set_day(day);
+            desk.day = day;
         } else {
             serve_file(rt, &mut desk, word.as_str())?;
         }
@@ -36,11 +35,13 @@ fn take_words(rt: &HostRuntime) -> Option<()> {
 }
 
 // Writes the name of a file, and the answers to its requests.
-fn serve_file<S: Alter>(rt: &HostRuntime, desk: &mut Desk<S>, name: &str) -> Option<()> {
+fn serve_file(rt: &HostRuntime, desk: &mut Desk, name: &str) -> Option<()> {
     let bytes = fs::read(rt, name).ok()?;
     println!(rt; "== {name}").ok()?;
     let mut reader = Counted::new(bytes.as_slice());
     let mut writer = Counted::new(io::writer(rt));
-    serve(desk, &mut reader, &mut writer).ok()?;
+    let office = &mut desk.office;
+    let keys = &desk.directory;
+    serve(rt.alloc(), office, keys, desk.day, &mut reader, &mut writer).ok()?;
     println!(rt; "").ok()
 }

@@ -4,13 +4,13 @@ use Rattle.clear_http.proofs.ServeLemmas.{progress_none, progress_more, progress
 use Rattle.clear_http.proofs.serve.serve_input.Goals as goal
 
 pub turns-init : goal.turns-init
-turns-init g c = record { progress = progress_none g.H.Responder.responds _ _ _; borrow = refl; counts = refl; reader = refl; writer = refl; few = omega arith }
+turns-init g c = record { progress = progress_none (g.H.Responder.responds c.args.responder.now) _ _ _; borrow = refl; counts = refl; reader = refl; writer = refl; few = omega arith }
 
 pub turns-preserved : goal.turns-preserved
 turns-preserved g c =
     let falls = rw c.in-Ok-Some.field-0-is at c.in-Ok-Some.ensures.falls in
     record {
-      progress = progress_more g.H.Responder.responds _ _ _ _ _ _ _ _ c.turns.invariant.progress c.turns-test.true _ _ _ _ (rw c.in-Ok-Some.field-0-is at c.in-Ok-Some.ensures.answered);
+      progress = progress_more (g.H.Responder.responds c.args.responder.now) _ _ _ _ _ _ _ _ c.turns.invariant.progress c.turns-test.true _ _ _ _ (rw c.in-Ok-Some.field-0-is at c.in-Ok-Some.ensures.answered);
       borrow = c.in-Ok-Some.ensures.borrow ∙ c.turns.invariant.borrow;
       counts = omega (arith, c.in-Ok-Some.ensures.counts, c.turns.invariant.counts);
       reader = c.in-Ok-Some.ensures.reader (λ h. cc) ∙ c.turns.invariant.reader;
@@ -21,7 +21,7 @@ turns-preserved g c =
 pub returns-in-Ok-None-clause-served : goal.returns-in-Ok-None-clause-served
 returns-in-Ok-None-clause-served g c =
     let over = rw c.in-Ok-None.field-0-is at c.in-Ok-None.ensures.over in
-    progress_over g.H.Responder.responds _ _ _ _ _ _ _ _ c.turns.invariant.progress c.turns-test.true _ _ _ over.0 over.1 (ap (λ w. g.W.Write.contents (inner w)) over.2)
+    progress_over (g.H.Responder.responds c.args.responder.now) _ _ _ _ _ _ _ _ c.turns.invariant.progress c.turns-test.true _ _ _ over.0 over.1 (ap (λ w. g.W.Write.contents (inner w)) over.2)
 
 pub returns-in-Err-clause-fault : goal.returns-in-Err-clause-fault
-returns-in-Err-clause-fault g c = progress_break g.H.Responder.responds _ _ _ _ _ _ _ _ c.turns.invariant.progress c.turns-test.true _ _ c.in-Err.ensures.fault
+returns-in-Err-clause-fault g c = progress_break (g.H.Responder.responds c.args.responder.now) _ _ _ _ _ _ _ _ c.turns.invariant.progress c.turns-test.true _ _ c.in-Err.ensures.fault

@@ -15,7 +15,7 @@ returns-in-Ok-send-clause-answered g c =
     let due = c.in-Some.due in
     let e = c.in-Some.ensures in
     let w = c.in-Ok-send.ensures.wrote in
-    let said = says g.H.Responder.responds c.args.responder.now p due.said w.0 c.respond_to.new.responder e.says e.memory w.3 in
+    let said = says (g.H.Responder.responds c.args.responder.now) c.args.state.now p due.said w.0 c.respond_to.new.state e.says e.memory w.3 in
     let same = same_answer c.args.left p due.said w.0 due.bare due.after e.bare e.after w.3 in (
       p,
       w.0,
@@ -33,7 +33,7 @@ returns-in-Some-clause-fault g c =
     let due = c.in-Some.due in
     let e = c.in-Some.ensures in
     let w = c.in-Err-send.ensures.wrote in
-    let said = says g.H.Responder.responds c.args.responder.now p due.said w.0 c.respond_to.new.responder e.says e.memory w.3 in
+    let said = says (g.H.Responder.responds c.args.responder.now) c.args.state.now p due.said w.0 c.respond_to.new.state e.says e.memory w.3 in
     let same = same_answer c.args.left p due.said w.0 due.bare due.after e.bare e.after w.3 in (
       p ∷ [],
       w.0 ∷ [],
@@ -41,7 +41,7 @@ returns-in-Some-clause-fault g c =
       w.2,
       omega arith,
       cuts_one c.args.left p _ _ c.requires e.answered c.in-Ok.ensures.next,
-      (c.respond_to.new.responder, said, refl),
+      (c.respond_to.new.state, said, refl),
       w.5,
       append-nil _ ∙ sym same ∙ w.4,
       w.7,

@@ -1,6 +1,6 @@
 use Rattle.std.proofs.Common.{◌≡◌, ◌++◌, ◌∷◌, ◌/◌, ◌%◌, sym}
 use Rattle.std.specs.Fmt.{styled_decimal}
-use Rattle.clear_texts.specs.Amounts.{amount_text}
+use Rattle.clear_book.specs.Documents.Amounts.{amount_text}
 use Rattle.clear_texts.proofs.AmountLemmas.{amount_parts}
 use Rattle.clear_texts.proofs.amounts.write_amount.Goals as goal
 

@@ -1,5 +1,5 @@
 use Rattle.std.proofs.Common.{append_assoc}
-use Rattle.clear_texts.specs.Lines.{missing_line}
+use Rattle.clear_book.specs.Documents.Lines.{missing_line}
 use Rattle.clear_texts.proofs.lines.append_missing.Goals as goal
 
 pub returns : goal.returns

@@ -1,6 +1,6 @@
 use Rattle.std.proofs.Common.{◌≡◌, ◌++◌, string_bytes, take}
 use Rattle.std.specs.List.{flat_map}
-use Rattle.clear_texts.specs.Lines.{interest_paid_line}
+use Rattle.clear_book.specs.Documents.Lines.{interest_paid_line}
 use Rattle.clear_texts.proofs.statement.append_interest_credits.Given as goal
 
 abbrev pub invariant-loop-credit : goal.invariant-loop-credit

@@ -5,8 +5,8 @@ use Rattle.clear_views.proofs.owed.owed.Goals as goal
 pub returns-in-Ok-clause-answer : goal.returns-in-Ok-clause-answer
 returns-in-Ok-clause-answer g c clean t has b lawful stands =
     let e = c.args.employer in
-    let charges = c.in-Ok.ensures.charges clean t has ∙ charges_read b t lawful stands e in
-    let credits = c.in-Ok.ensures.credits clean t has ∙ credits_read b t lawful stands e in
+    let charges = c.in-Ok.ensures.charged clean t has ∙ charges_read b t lawful stands e in
+    let credits = c.in-Ok.ensures.paid clean t has ∙ credits_read b t lawful stands e in
     cc
 
 pub returns-in-Err-clause-fault : goal.returns-in-Err-clause-fault

@@ -1,0 +1,193 @@
+//! What an account tells of each of its charges on a day.
+ghost use Rattle.std.specs.Prelude.{◌≡◌, ◌++◌, ◌+◌, ◌^◌, ◌<◌, ◌≤◌, All, IfOk, OnOk, length, sum_by};
+ghost use Rattle.clear_money.specs.Calendar.{day_of_month};
+ghost use Rattle.clear_money.specs.Limits.{most_base};
+ghost use Rattle.clear_account.specs.Account.{IsAccount, charged_up_to};
+ghost use Rattle.clear_account.specs.Settled.{all_settled_on, settled_on, share_at};
+ghost use Rattle.clear_account.specs.Walk.{Stands, late_cents, shares_between};
+
+use crate::entries::{Charge, Credit};
+use crate::weights::{common, weigh_part};
+use clear_money::days::Day;
+use std::alloc::{AllocError, Global};
+use std::marker::Model;
+
+/// So many cents of the payment at a place, counted from 0 in the account's order.
+#[derive(Clone, Copy)]
+pub struct Share {
+    pub place: usize,
+    /// 1 cent or more.
+    pub cents: u64,
+}
+
+/// A charge as its account tells it on a day. Amounts are in cents.
+#[derive(Drop)]
+pub struct Settled {
+    left: u64,
+    weight: u64,
+    shares: Vec<Share>,
+}
+
+impl Model for Settled {
+    ghost use Rattle.std.specs.Prelude.{◌≤◌};
+    ghost use Rattle.clear_account.specs.Settled.{SettledCharge};
+
+    ghost Value = { SettledCharge };
+
+    ghost view = { λ a. record { left = a.left; weight = a.weight; shares = a.shares.items } };
+
+    ghost invariant = { λ a. a.weight ≤ 12_060_000_000_000 };
+}
+
+impl Settled {
+    /// What is open of the charge.
+    pub fn left(&self) -> u64
+        ensures { result ≡ self.now.left }
+    {
+        self.left
+    }
+
+    /// The open parts on the days on which a month of delay begins, summed: the base of the
+    /// charge's interest.
+    pub fn weight(&self) -> u64
+        ensures value { result ≡ self.now.weight }
+        ensures range { result ≤ 12_060_000_000_000 }
+    {
+        self.weight
+    }
+
+    /// What pays the charge, in the order of the payments.
+    pub fn shares(&self) -> &[Share]
+        ensures { result.now ≡ self.now.shares }
+    {
+        self.shares.as_slice()
+    }
+}
+
+/// Each charge in month order, by one walk along the charges and the payments.
+pub(crate) fn settle_all(
+    alloc: Global,
+    charges: &[Charge],
+    credits: &[Credit],
+    day: Day,
+) -> Result<Vec<Settled>, AllocError>
+    requires account { IsAccount charges.now credits.now }
+    requires day { All (λ k. k.day ≤ day) credits.now }
+    ensures { IfOk result (λ all. all.items ≡ all_settled_on charges.now credits.now day) }
+{
+    let mut all = Vec::new(alloc);
+    let mut walk = Walk {
+        charged: 0,
+        place: 0,
+        credited: 0,
+    };
+    for place in 0..charges.len() {
+        all.push(settle_charge(alloc, charges, credits, place, &mut walk, day)?)?;
+    }
+    Ok(all)
+}
+
+// A walk along charges and payments: so many cents of charges are walked, and it stands at the
+// payment of a place, with so many cents of payments before that.
+#[derive(Clone, Copy)]
+struct Walk {
+    charged: u64,
+    place: usize,
+    credited: u64,
+}
+
+// The charge at a place, which the walk has come to.
+fn settle_charge(
+    alloc: Global,
+    charges: &[Charge],
+    credits: &[Credit],
+    place: usize,
+    walk: &mut Walk,
+    day: Day,
+) -> Result<Settled, AllocError>
+    requires account { IsAccount charges.now credits.now }
+    requires place { place < length charges.now }
+    requires stands { Stands credits.now walk.old }
+    requires charged { walk.old.charged ≡ charged_up_to charges.now place }
+    requires day { All (λ k. k.day ≤ day) credits.now }
+    ensures settled { IfOk result (λ settled. settled
+        ≡ settled_on charges.now credits.now place day) }
+    ensures stands { Stands credits.now walk.new }
+    ensures charged { walk.new.charged ≡ charged_up_to charges.now (place + 1) }
+{
+    let charge = &charges[place];
+    let end = walk.charged + charge.cents;
+    let shares = find_shares(alloc, credits, end, walk)?;
+    let left = charge.cents - add_shares(shares.as_slice());
+    let weight = weigh_shares(shares.as_slice(), credits, charge.due);
+    Ok(Settled {
+        left,
+        weight: weight + weigh_part(left, charge.due, day),
+        shares,
+    })
+}
+
+// What the payments have in common with the stretch of cents from where the walk stands to an end,
+// which it walks on to.
+fn find_shares(
+    alloc: Global,
+    credits: &[Credit],
+    end: u64,
+    walk: &mut Walk,
+) -> Result<Vec<Share>, AllocError>
+    requires order { walk.old.charged ≤ end }
+    requires small { end ≤ 12_000_000_000_000 }
+    requires stands { Stands credits.now walk.old }
+    ensures shares { IfOk result (λ shares. shares.items
+        ≡ shares_between walk.old.charged end credits.now) }
+    ensures stands { Stands credits.now walk.new }
+    ensures charged { walk.new.charged ≡ end }
+{
+    let start = walk.charged;
+    walk.charged = end;
+    let mut shares = Vec::new(alloc);
+    while walk.place < credits.len() {
+        let credit = &credits[walk.place];
+        let credit_end = walk.credited + credit.cents.cents();
+        let cents = common(start, end, walk.credited, credit_end);
+        add_share(&mut shares, walk.place, cents)?;
+        if end <= credit_end {
+            return Ok(shares);
+        }
+        walk.credited = credit_end;
+        walk.place += 1;
+    }
+    Ok(shares)
+}
+
+// Adds so many cents of the payment at a place, if they are more than 0.
+fn add_share(shares: &mut Vec<Share>, place: usize, cents: u64) -> Result<(), AllocError>
+    ensures { OnOk result (shares.new.items ≡ shares.old.items ++ share_at place cents) }
+{
+    if cents > 0 {
+        shares.push(Share { place, cents })?;
+    }
+    Ok(())
+}
+
+// The shares, in cents.
+fn add_shares(shares: &[Share]) -> u64
+    requires { sum_by (λ s. s.cents) shares.now < 2 ^ 64 }
+    ensures { result ≡ sum_by (λ s. s.cents) shares.now }
+{
+    shares.iter().map(|s| s.cents).sum()
+}
+
+// The shares of a charge, each once for each month begun from the due day until it was paid.
+fn weigh_shares(shares: &[Share], credits: &[Credit], due: Day) -> u64
+    requires due { day_of_month due ≤ 28 }
+    requires places { All (λ s. s.place < length credits.now) shares.now }
+    requires cents { sum_by (λ s. s.cents) shares.now ≤ most_base }
+    ensures { result ≡ sum_by (λ s. late_cents credits.now due s) shares.now }
+{
+    let mut weight = 0;
+    for share in shares {
+        weight += weigh_part(share.cents, due, credits[share.place].day);
+    }
+    weight
+}

@@ -1,0 +1,4 @@
+-- The documents that queries are answered with.
+pub mod Amounts
+pub mod Lines
+pub mod Statement

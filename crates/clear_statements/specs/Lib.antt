@@ -1,0 +1,2 @@
+pub mod Records
+pub mod Told
