@@ -27,7 +27,7 @@ use std::alloc::Global;
 
 // The account of a firm, and what it was filled from.
 #[derive(Drop)]
-pub(crate) struct FirmAccount {
+pub(crate) struct ReadAccount {
     // The rates of all months.
     pub(crate) rates: RateTable,
     // The latest report of each month, the months rising.
@@ -42,7 +42,7 @@ pub(crate) fn read_account<S: Alter>(
     alloc: Global,
     tx: &mut Transaction<'_, S>,
     employer: EmployerNo,
-) -> Result<FirmAccount, Fault>
+) -> Result<ReadAccount, Fault>
     ensures same_reference { tx.new.conn.ghost_name ≡ tx.old.conn.ghost_name }
     ensures rates { HasCleanDisk (state S.Store tx.new.conn.now)
         → (t : Tables) → HasTables t (state S.Store tx.old.conn.now).now
@@ -89,7 +89,7 @@ pub(crate) fn read_account<S: Alter>(
         Ok(credits) => credits,
         Err(fault) => return Err(fault),
     };
-    Ok(FirmAccount {
+    Ok(ReadAccount {
         rates,
         reports,
         credits,

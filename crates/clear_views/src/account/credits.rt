@@ -1,5 +1,6 @@
 //! The payments of a firm, added to its account.
-ghost use Rattle.std.specs.Prelude.{◌≡◌, ◌≤◌, ◌+◌, ◌↔◌, [], IfErr, IfOk, IsTrue, OnOk, length, map};
+ghost use Rattle.std.specs.Prelude.{◌≡◌, ◌≤◌, ◌+◌, ◌↔◌, [], IfErr, IfOk, IsTrue, OnOk};
+ghost use Rattle.std.specs.Prelude.{length, map};
 ghost use Rattle.clear_account.specs.Account.{HoldsSerial, with_credit};
 ghost use Rattle.clear_book.specs.Accounts.{row_credit};
 ghost use Rattle.clear_book.specs.Keyed.{AreOnce};
