@@ -1,0 +1,99 @@
+//! The connections of a listener.
+
+use clear_callers::directory::Directory;
+use clear_http::desk::serve;
+use clear_http::serve::Fault;
+use clear_money::days::Day;
+use clear_office::office::Office;
+use clear_wire::counted::Counted;
+use sqlite::Alter;
+use std::alloc::Global;
+use std::io;
+use std::io::{Read, Write};
+use std::net::{Shutdown, TcpListener, TcpStream};
+use std::time::Duration;
+
+// For so many seconds a peer may send nothing, or take nothing: then it loses its connection.
+const PATIENCE: u64 = 10;
+
+// How many seconds a peer that was answered may go on sending before its connection is closed, and
+// how many reads are made of what it sends.
+const LAST_PATIENCE: u64 = 1;
+const LAST_READS: u32 = 64;
+
+/// Serves so many connections, one after another. A connection whose stream isn't served to its end
+/// is told on the error writer, and ends alone: `rule 40 Memory` for want of memory, else
+/// `fault net`.
+///
+/// A peer that sends nothing, or takes nothing, for 10 seconds loses its connection.
+pub fn serve_connections<S: Alter, E: Write>(
+    alloc: Global,
+    listener: &TcpListener,
+    count: u32,
+    office: &mut Office<S>,
+    directory: &Directory,
+    day: Day,
+    errors: &mut E,
+) {
+    for _ in 0..count {
+        match serve_next(alloc, listener, office, directory, day) {
+            Ok(()) => {}
+            Err(fault) => tell(errors, fault),
+        }
+    }
+}
+
+// The next connection. A reader and a writer over one stream are two shared references to it.
+fn serve_next<S: Alter>(
+    alloc: Global,
+    listener: &TcpListener,
+    office: &mut Office<S>,
+    directory: &Directory,
+    day: Day,
+) -> Result<(), Fault> {
+    let Ok((stream, _peer)) = listener.accept() else {
+        return Err(Fault::Read);
+    };
+    if set_patience(&stream).is_err() {
+        return Err(Fault::Read);
+    }
+    let mut reader = Counted::new(&stream);
+    let mut writer = Counted::new(&stream);
+    match serve(alloc, office, directory, day, &mut reader, &mut writer) {
+        Ok(_) => {
+            let _ = part(&stream);
+            Ok(())
+        }
+        Err(stopped) => Err(stopped.fault),
+    }
+}
+
+fn set_patience(stream: &TcpStream) -> io::Result<()> {
+    let patience = Duration::from_secs(PATIENCE);
+    stream.set_read_timeout(Some(patience))?;
+    stream.set_write_timeout(Some(patience))
+}
+
+// Ends what is sent, and lets a peer that still sends read its answer: a connection that is closed
+// over bytes that weren't read is reset, and the peer may lose what was sent to it.
+fn part(stream: &TcpStream) -> io::Result<()> {
+    stream.shutdown(Shutdown::Write)?;
+    stream.set_read_timeout(Some(Duration::from_secs(LAST_PATIENCE)))?;
+    let mut reader = stream;
+    let mut rest = [0u8; 4096];
+    for _ in 0..LAST_READS {
+        if reader.read(&mut rest)? == 0 {
+            return Ok(());
+        }
+    }
+    Ok(())
+}
+
+// Tells why a connection ended. What can't be told is lost.
+fn tell<E: Write>(errors: &mut E, fault: Fault) {
+    let line = match fault {
+        Fault::Memory => "rule 40 Memory\n",
+        Fault::Read | Fault::Write | Fault::Reads => "fault net\n",
+    };
+    let _ = errors.write_all(line.as_bytes());
+}
