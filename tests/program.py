@@ -406,6 +406,9 @@ class Serve(Program):
 
 
 if __name__ == "__main__":
-    if len(sys.argv) > 1 and not sys.argv[1].startswith("-") and "." not in sys.argv[1].split("/")[-1]:
+    if len(sys.argv) > 1 and Path(sys.argv[1]).is_file():
         Program.program = Path(sys.argv.pop(1)).resolve()
-    unittest.main()
+    tests = unittest.main(exit=False).result
+    failed = len(tests.failures) + len(tests.errors)
+    print(f"{tests.testsRun - failed} passed, {failed} failed")
+    sys.exit(failed > 0)
