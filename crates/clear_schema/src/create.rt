@@ -52,6 +52,7 @@ pub fn create_in<S: Alter>(conn: &mut Connection<S>, rates: &RateTable) -> Resul
         → OnOk result ⊥
         × IfErr result (λ fault. (told : ℕ) → fault ≡ OpenFault.WrongVersion told
         → told ≡ number) }
+    ensures clean { HasCleanDisk (state S.Store conn.new) → HasCleanDisk (state S.Store conn.old) }
     ensures book { Stands (record { opening = rates.now; entries = [] }) (first_tables rates.now) }
 {
     if is_empty(conn.schema()) {
@@ -94,6 +95,7 @@ pub fn create_tables<S: Alter>(conn: &mut Connection<S>, rates: &RateTable) -> R
     ensures undone { HasCleanDisk (state S.Store conn.new) → IsTrue (state S.Store conn.new).is_open
         → OnErr result (((state S.Store conn.new).now ≡ (state S.Store conn.old).committed)
         × ((state S.Store conn.new).committed ≡ (state S.Store conn.old).committed)) }
+    ensures clean { HasCleanDisk (state S.Store conn.new) → HasCleanDisk (state S.Store conn.old) }
     ensures book { Stands (record { opening = rates.now; entries = [] }) (first_tables rates.now) }
 {
     let mut tx = conn.transaction();

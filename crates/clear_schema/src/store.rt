@@ -70,6 +70,10 @@ impl<S: Alter> Store<S> {
             → (told : ℕ) → left.fault ≡ OpenFault.WrongVersion told → told ≡ number) }
         ensures only_empty { IfOk result (λ store. HasCleanDisk (state S.Store store.conn)
             → (number : ℕ) (t : Tables) → IsStore number t (state S.Store connection).now → ⊥) }
+        ensures clean { IfOk result (λ store. HasCleanDisk (state S.Store store.conn)
+            → HasCleanDisk (state S.Store connection)) }
+        ensures clean_left { IfErr result (λ left. HasCleanDisk (state S.Store left.connection)
+            → HasCleanDisk (state S.Store connection)) }
         ensures book { StandsForBook (record { opening = rates.now; entries = [] })
             (first_tables rates.now) }
     {
