@@ -92,8 +92,9 @@ fn month_text(alloc: Global, month: Month) -> Result<String, AllocError>
     String::from_utf8_lossy(alloc, month.text().as_slice())
 }
 
-/// What a rule carries, as a text.
-fn carried_text(alloc: Global, carried: Carried) -> Result<String, AllocError>
+/// What a rule carries, as a text: a day, a month, a number in decimal, a line and a field as
+/// `2:4`, or the word of a limit or of a table. Empty where it carries nothing.
+pub fn carried_text(alloc: Global, carried: Carried) -> Result<String, AllocError>
     ensures { IfOk result (λ text. string_bytes text ≡ carried_text carried) }
 {
     match carried {

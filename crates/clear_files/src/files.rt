@@ -1,8 +1,10 @@
 //! Files that are read whole.
 ghost use Rattle.std.specs.Prelude.{◌≤◌, IfOk, length};
 
-use clear_callers::directory::{Directory, DirectoryFault};
-use clear_money::rates::{RateFault, RateTable, read_rates};
+use clear_callers::caller_file::DirectoryFault;
+use clear_callers::directory::Directory;
+use clear_money::rate_file::{RateFault, read_rates};
+use clear_money::rates::RateTable;
 use std::fs::File;
 use std::io;
 use std::io::Read;

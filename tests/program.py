@@ -1,0 +1,411 @@
+"""Runs the built program as its users do: by its words, on real files, over real connections.
+
+    python3 tests/program.py [PROGRAM]
+
+PROGRAM is crates/clear_app/out/clear_app where it isn't given, as `rt ci` leaves it. Each message and each
+status of the program is met at least once. Where the tests run as root, the program runs as nobody, since
+root may write everywhere.
+"""
+
+import os
+import resource
+import shutil
+import socket
+import sqlite3
+import struct
+import subprocess
+import sys
+import tempfile
+import time
+import unittest
+from pathlib import Path
+
+ROOT = Path(__file__).resolve().parent.parent
+BUILT = ROOT / "crates/clear_app/out/clear_app"
+NOBODY = 65534 if os.geteuid() == 0 else None
+MAX_FILE = 4_194_304
+
+# What the requests of the first run are answered: the gate compares it with what the program writes.
+FIRST_REQUESTS = (ROOT / "crates/clear_app/stdin").read_bytes()
+FIRST_ANSWERS = (ROOT / "crates/clear_app/stdout").read_bytes()
+
+ROW_2024 = """[[rate]]
+from = "2024-01"
+contribution = 2000
+report_day = 15
+due_day = 20
+interest = 100
+entitlement = 1425
+"""
+ROW_2025 = """[[rate]]
+from = "2025-01"
+contribution = 1900
+report_day = 15
+due_day = 20
+interest = 90
+entitlement = 1425
+"""
+RATES = ROW_2024 + ROW_2025
+CALLERS = "desk = 0\nk1001 = 1001\nk1002 = 1002\n"
+HEADER = "reference,value_date,employer,cents,purpose,note\n"
+BANK = HEADER + "B1,2024-02-25,1001,150000,C,\nB2,2024-04-21,1001,200000,,January rest\n"
+DAY = "2024-04-30"
+
+# Worked out by hand: 2,000.00 for January and 1,000.10 for February at 20 per cent, due on the 20th of the
+# next month; three begun months of January's payments and two of February's bear 1 per cent each.
+STATEMENT = """statement 1001 2024-04-30
+name Bau Nord
+member 2024-01 -
+charge 2024-01 due 2024-02-20 version 1        2000.00           0.00          30.00
+  paid 2024-02-25        1500.00 B1
+  paid 2024-04-21         500.00 B2
+charge 2024-02 due 2024-03-20 version 1        1000.10           0.00          20.00
+  paid 2024-04-21        1000.10 B2
+missing 2024-03
+prepaid         499.90
+arrears           0.00
+interest          50.00
+"""
+
+
+def post(path, number, body, key="desk"):
+    """The bytes of a request with a body."""
+    body = body.encode()
+    head = f"POST {path} HTTP/1.1\r\nHost: office\r\nOffice-Key: {key}\r\nRequest-Number: {number}\r\n"
+    return f"{head}Content-Length: {len(body)}\r\n\r\n".encode() + body
+
+
+REGISTRATION = post("/employers", 1, '{"employer":1001,"name":"Bau Nord","start":"2024-01"}')
+JANUARY = post("/employers/1001/reports/2024-01", 1, '{"lines":[{"gross":1000000,"worker":7}]}', "k1001")
+FEBRUARY = post("/employers/1001/reports/2024-02", 2, '{"lines":[{"gross":500050,"worker":7}]}', "k1001")
+
+
+class Program(unittest.TestCase):
+    """A folder with the sample's files, in which the program runs."""
+
+    program = BUILT
+
+    def setUp(self):
+        self.folder = Path(tempfile.mkdtemp(prefix="clearing-"))
+        self.addCleanup(shutil.rmtree, self.folder)
+        self.folder.chmod(0o777)
+        shutil.copy(self.program, self.folder / "clearing")
+        (self.folder / "clearing").chmod(0o755)
+        self.write("rates.toml", RATES)
+        self.write("callers.toml", CALLERS)
+        self.write("bank.csv", BANK)
+
+    def write(self, name, content):
+        path = self.folder / name
+        path.write_bytes(content if isinstance(content, bytes) else content.encode())
+        path.chmod(0o666)
+        return path
+
+    def start(self, *words, **options):
+        """Starts the program with these words; its standard streams are pipes where nothing else is said."""
+        streams = {it: subprocess.PIPE for it in ("stdin", "stdout", "stderr")}
+        command = [str(self.folder / "clearing"), *words]
+        return subprocess.Popen(command, cwd=self.folder, user=NOBODY, **{**streams, **options})
+
+    def run_program(self, *words, stdin=b"", **options):
+        """Status, standard output and standard error of the program with these words."""
+        with self.start(*words, **options) as running:
+            output, errors = running.communicate(stdin, timeout=60)
+        return running.returncode, (output or b"").decode(), errors.decode()
+
+    def expect(self, words, status, output="", errors="", **options):
+        self.assertEqual(self.run_program(*words, **options), (status, output, errors), words)
+
+    def init(self, store="fund.db"):
+        self.expect(["init", store, "rates.toml"], 0, "schema 0\n")
+
+    def filled(self):
+        """A store with the firm 1001 and its reports for two months."""
+        self.init()
+        server = self.serving(1)
+        answers = self.send(server, REGISTRATION + JANUARY + FEBRUARY)
+        self.assertEqual(answers.count(b"HTTP/1.1 200 OK"), 3, answers)
+        self.assertEqual(self.ended(server), (0, "served 1\n", ""))
+
+    # ---- servers
+
+    def serving(self, count, day=DAY):
+        """The program as it serves so many connections of the store, on a port that is free."""
+        with socket.create_server(("127.0.0.1", 0)) as probe:
+            port = probe.getsockname()[1]
+        words = ["serve", "fund.db", "callers.toml", day, str(port), str(count)]
+        server = self.start(*words, stdin=subprocess.DEVNULL)
+        server.port = port
+        self.addCleanup(server.kill)
+        return server
+
+    def connect(self, server):
+        """A connection, as soon as the server takes one."""
+        for _ in range(500):
+            try:
+                return socket.create_connection(("127.0.0.1", server.port), timeout=30)
+            except ConnectionRefusedError:
+                self.assertIsNone(server.poll(), "the server has ended")
+                time.sleep(0.02)
+        raise AssertionError("no connection in 10 seconds")
+
+    def send(self, server, requests):
+        """What a peer reads that sends these bytes, ends its side, and reads to the end."""
+        with self.connect(server) as peer:
+            peer.sendall(requests)
+            peer.shutdown(socket.SHUT_WR)
+            return self.read_all(peer)
+
+    def read_all(self, peer):
+        parts = []
+        while part := peer.recv(65536):
+            parts.append(part)
+        return b"".join(parts)
+
+    def ended(self, server):
+        output, errors = server.communicate(timeout=60)
+        return server.returncode, output.decode(), errors.decode()
+
+
+class Words(Program):
+    """The words are judged before any file is looked at."""
+
+    def test_lines_that_are_not_understood(self):
+        for line in [
+            "push fund.db",
+            "statement fund.db",
+            "init fund.db rates.toml more",
+            "statement fund.db 2024-4-30 1001",
+            "statement fund.db 2024-04-30 0",
+            "statement fund.db 2024-04-30 100000000",
+            "import fund.db 2024-04-30 0 bank.csv",
+            "import fund.db 2024-04-30 01 bank.csv",
+            "serve fund.db callers.toml 2024-04-30 0 1",
+            "serve fund.db callers.toml 2024-04-30 65536 1",
+            "serve fund.db callers.toml 2024-04-30 8080 0",
+            "serve fund.db callers.toml 2024-04-30 8080 1000001",
+            "migrate fund.db",
+        ]:
+            self.expect(line.split(), 2, "", "fault command line\n")
+        self.assertFalse((self.folder / "fund.db").exists())
+
+    def test_a_word_that_is_no_text(self):
+        self.expect([b"init", b"\xff", b"rates.toml"], 2, "", "fault command line\n")
+
+    def test_help(self):
+        for words in (["--help"], ["init", "--help"]):
+            status, output, errors = self.run_program(*words)
+            self.assertEqual((status, errors), (0, ""))
+            self.assertIn("Usage: clearing", output)
+
+
+class Init(Program):
+    def test_a_new_store(self):
+        self.init()
+        with sqlite3.connect(self.folder / "fund.db") as store:
+            self.assertEqual(store.execute("PRAGMA integrity_check").fetchall(), [("ok",)])
+            self.assertEqual(store.execute("SELECT first FROM rates ORDER BY first").fetchall(), [(288,), (300,)])
+        store.close()
+
+    def test_an_empty_file_is_taken(self):
+        self.write("fund.db", "")
+        self.init()
+
+    def test_a_store_is_left_as_it_is(self):
+        self.filled()
+        self.expect(["init", "fund.db", "rates.toml"], 3, "", "rule 43 WrongVersion 0\n")
+        self.expect(["import", "fund.db", DAY, "2", "bank.csv"], 0, "new 2 repeats 0\n")
+
+    def test_another_database_is_left_as_it_is(self):
+        other = sqlite3.connect(self.write("fund.db", ""))
+        other.execute("CREATE TABLE note (id INTEGER PRIMARY KEY, title TEXT NOT NULL)")
+        other.commit()
+        other.close()
+        for words in (["init", "fund.db", "rates.toml"], ["statement", "fund.db", DAY, "1001"]):
+            self.expect(words, 3, "", "rule 43 WrongVersion 0\n")
+
+    def test_rate_files(self):
+        exchanged = ROW_2025 + ROW_2024
+        for text in ["", "rate = 1\n", RATES.replace("20\n", "29\n"), exchanged, "rate =\n", b"\xff"]:
+            self.write("rates.toml", text)
+            self.expect(["init", "fund.db", "rates.toml"], 2, "", "fault file\n")
+        self.expect(["init", "fund.db", "no.toml"], 2, "", "fault file\n")
+        self.expect(["init", "fund.db", "."], 2, "", "fault file\n")
+        self.assertFalse((self.folder / "fund.db").exists())
+
+    def test_a_file_may_be_so_large(self):
+        largest = (RATES + "#").ljust(MAX_FILE, ".")
+        self.write("rates.toml", largest + ".")
+        self.expect(["init", "fund.db", "rates.toml"], 2, "", "fault file\n")
+        self.write("rates.toml", largest)
+        self.init()
+
+    def test_no_place_for_a_store(self):
+        self.write("text", "a text of more than nothing\n" * 200)
+        closed = self.folder / "closed"
+        closed.mkdir(mode=0o755)
+        for store in ("no/fund.db", ".", "text", ":memory:", "", "closed/fund.db" if NOBODY else "no/more"):
+            self.expect(["init", store, "rates.toml"], 3, "", "rule 41 Store\n")
+        self.assertEqual((self.folder / "text").read_text(), "a text of more than nothing\n" * 200)
+
+
+class Import(Program):
+    def test_a_file_twice(self):
+        self.filled()
+        for _ in range(2):
+            self.expect(["import", "fund.db", DAY, "2", "bank.csv"], 0, "new 2 repeats 0\n")
+        self.expect(["import", "fund.db", DAY, "3", "bank.csv"], 0, "new 0 repeats 2\n")
+
+    def test_refusals(self):
+        self.filled()
+        records = {
+            "rule 20 BadCsv 2:4": "B3,2024-04-21,1001,0,C,\n",
+            "rule 20 BadCsv 3:0": "B3,2024-04-21,1001,1,C,\nB4,2024-04-21\n",
+            "rule 22 ValueAhead 2": "B3,2024-05-01,1001,1,C,\n",
+            "rule 21 RefConflict 3": "B3,2024-04-21,1001,1,C,\nB3,2024-04-21,1001,2,C,\n",
+            "rule 18 OverLimit file": "B3,2024-04-21,1001,1,C,\n" * 10_001,
+        }
+        for refusal, lines in records.items():
+            self.write("bad.csv", HEADER + lines)
+            self.expect(["import", "fund.db", DAY, "2", "bad.csv"], 1, "", refusal + "\n")
+        self.expect(["import", "fund.db", "2024-04-29", "2", "bank.csv"], 1, "", f"rule 10 DayBack {DAY}\n")
+        self.expect(["import", "fund.db", DAY, "1", "bank.csv"], 1, "", "rule 9 NumberReused\n")
+
+    def test_files(self):
+        self.filled()
+        self.write("large.csv", HEADER.ljust(MAX_FILE + 1, "\n"))
+        for file in ("no.csv", ".", "large.csv"):
+            self.expect(["import", "fund.db", DAY, "2", file], 2, "", "fault file\n")
+        # The file is judged before the store.
+        self.expect(["import", "no.db", DAY, "2", "no.csv"], 2, "", "fault file\n")
+
+    def test_a_store_that_is_in_use(self):
+        self.filled()
+        server = self.serving(1)
+        with self.connect(server) as peer:
+            self.expect(["import", "fund.db", DAY, "2", "bank.csv"], 3, "", "rule 41 Store\n")
+            peer.shutdown(socket.SHUT_WR)
+            self.assertEqual(self.read_all(peer), b"")
+        self.assertEqual(self.ended(server), (0, "served 1\n", ""))
+
+    def test_want_of_memory(self):
+        self.filled()
+        self.write("large.csv", HEADER.ljust(MAX_FILE, "\n"))
+        small = {"preexec_fn": lambda: resource.setrlimit(resource.RLIMIT_AS, (1 << 23, 1 << 23))}
+        self.expect(["import", "fund.db", DAY, "2", "large.csv"], 3, "", "rule 40 Memory\n", **small)
+
+
+class Statement(Program):
+    def test_a_statement(self):
+        self.filled()
+        self.run_program("import", "fund.db", DAY, "2", "bank.csv")
+        self.expect(["statement", "fund.db", DAY, "1001"], 0, STATEMENT)
+
+    def test_refusals(self):
+        self.init()
+        self.expect(["statement", "fund.db", DAY, "1002"], 1, "", "rule 11 UnknownEmployer\n")
+        self.write("empty", "")
+        self.expect(["statement", "empty", DAY, "1002"], 3, "", "rule 43 WrongVersion 0\n")
+
+    def test_no_file_is_made(self):
+        for line in ["statement no.db 2024-04-30 1001", "import no.db 2024-04-30 2 bank.csv",
+                     "serve no.db callers.toml 2024-04-30 8080 1"]:
+            self.expect(line.split(), 3, "", "rule 41 Store\n")
+        self.assertFalse((self.folder / "no.db").exists())
+
+    def test_a_damaged_store(self):
+        self.filled()
+        path = self.folder / "fund.db"
+        content = bytearray(path.read_bytes())
+        content[4096 + 8:4096 + 40] = b"\xff" * 32
+        self.write("fund.db", bytes(content))
+        self.expect(["statement", "fund.db", DAY, "1001"], 3, "", "rule 41 Store\n")
+
+
+class Stream(Program):
+    def test_the_first_run(self):
+        for words in ([], ["stream", "sample", "sample", DAY], ["stream", "rates.toml", "callers.toml", DAY]):
+            self.expect(words, 0, FIRST_ANSWERS.decode(), stdin=FIRST_REQUESTS)
+
+    def test_files_in_their_order(self):
+        self.expect(["stream", "sample", "no.toml", DAY], 2, "", "fault file\n")
+        self.expect(["stream", "no.toml", "sample", DAY], 2, "", "fault file\n")
+        self.write("callers.toml", "desk = -1\n")
+        self.expect(["stream", "sample", "callers.toml", DAY], 2, "", "fault file\n")
+
+    def test_input_that_fails(self):
+        with self.start(stdin=os.open(self.folder, os.O_RDONLY)) as running:
+            output, errors = running.communicate(timeout=60)
+        self.assertEqual((running.returncode, output, errors), (3, b"", b"fault stream\n"))
+
+    def test_output_that_fails(self):
+        with open("/dev/full", "wb") as full:
+            self.expect([], 3, "", "fault stream\n", stdin=FIRST_REQUESTS, stdout=full)
+            self.expect(["init", "fund.db", "rates.toml"], 3, "", "fault stream\n", stdout=full)
+
+
+class Serve(Program):
+    def test_the_first_run(self):
+        self.init()
+        server = self.serving(1)
+        self.assertEqual(self.send(server, FIRST_REQUESTS), FIRST_ANSWERS)
+        self.assertEqual(self.ended(server), (0, "served 1\n", ""))
+
+    def test_connections_one_after_another(self):
+        self.init()
+        server = self.serving(3)
+        self.assertIn(b'{"done":true}', self.send(server, REGISTRATION))
+        # A refused request doesn't change the status.
+        self.assertIn(b'"rule":12', self.send(server, REGISTRATION.replace(b"Number: 1", b"Number: 2")))
+        self.assertIn(b'"version":1', self.send(server, JANUARY))
+        self.assertEqual(self.ended(server), (0, "served 3\n", ""))
+
+    def test_a_peer_that_goes_on_sending_reads_its_answer(self):
+        self.init()
+        server = self.serving(1)
+        with self.connect(server) as peer:
+            peer.sendall(b"no request\r\n\r\n" + b"x" * 20_000)
+            self.assertIn(b"HTTP/1.1 400 Bad Request", self.read_all(peer))
+        self.assertEqual(self.ended(server), (0, "served 1\n", ""))
+
+    def test_a_fault_ends_its_connection_alone(self):
+        self.init()
+        server = self.serving(3)
+        with self.connect(server) as reset:
+            reset.sendall(REGISTRATION[:40])
+            time.sleep(0.2)
+            # It is closed with a reset.
+            reset.setsockopt(socket.SOL_SOCKET, socket.SO_LINGER, struct.pack("ii", 1, 0))
+        silent = self.connect(server)
+        self.addCleanup(silent.close)
+        self.assertIn(b'{"done":true}', self.send(server, REGISTRATION))
+        self.assertEqual(self.ended(server), (0, "served 3\n", "fault net\n" * 2))
+
+    def test_a_port_that_is_taken(self):
+        self.init()
+        with socket.create_server(("127.0.0.1", 0)) as taken:
+            port = str(taken.getsockname()[1])
+            self.expect(["serve", "fund.db", "callers.toml", DAY, port, "1"], 3, "", "fault net\n")
+            # The store is judged before the port, and the callers before the store.
+            self.expect(["serve", "no.db", "callers.toml", DAY, port, "1"], 3, "", "rule 41 Store\n")
+            self.expect(["serve", "no.db", "no.toml", DAY, port, "1"], 2, "", "fault file\n")
+
+    def test_what_was_acknowledged_survives_a_kill(self):
+        self.init()
+        server = self.serving(9)
+        with self.connect(server) as peer:
+            peer.sendall(REGISTRATION + JANUARY + FEBRUARY)
+            answers = b""
+            while answers.count(b"HTTP/1.1 200 OK") < 3 or not answers.endswith(b"}"):
+                answers += peer.recv(65536)
+            server.kill()
+        server.communicate()
+        again = self.serving(1)
+        self.assertEqual(self.send(again, REGISTRATION + JANUARY + FEBRUARY), answers)
+        self.assertEqual(self.ended(again), (0, "served 1\n", ""))
+
+
+if __name__ == "__main__":
+    if len(sys.argv) > 1 and not sys.argv[1].startswith("-") and "." not in sys.argv[1].split("/")[-1]:
+        Program.program = Path(sys.argv.pop(1)).resolve()
+    unittest.main()
