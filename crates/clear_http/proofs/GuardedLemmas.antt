@@ -1,5 +1,5 @@
 -- A stream over a desk is one that access guards.
-use Rattle.std.proofs.Common.{◌≡◌, ◌∙◌, ℕ, Bool, false, List, [], ◌∷◌, ◌++◌, Option, Ok, Err, ap, subst, inl, inr}
+use Rattle.std.proofs.Common.{◌≡◌, ◌∙◌, ◌⊎◌, ℕ, Bool, true, false, List, [], ◌∷◌, ◌++◌, Option, Result, Ok, Err, refl, ap, subst, inl, inr}
 use Rattle.clear_book.specs.declared.calls.Call.{Call}
 use Rattle.clear_book.specs.declared.rules.Rule.TheVariants.{Memory, NotYours}
 use Rattle.clear_book.specs.Machine.{is_allowed}
@@ -7,12 +7,13 @@ use Rattle.clear_answers.specs.declared.said.Said.{Said}
 use Rattle.clear_answers.specs.declared.said.Said.TheVariants.{No}
 use Rattle.clear_answers.specs.Said.{refused_by, by_rule}
 use Rattle.clear_callers.specs.Callers.{KeyOf}
+use Rattle.clear_office.specs.Office.{AtOffice}
 use Rattle.clear_routes.proofs.ReadingLemmas.{one_reading}
 use Rattle.clear_routes.specs.declared.refused.Refused.{Refused}
 use Rattle.clear_routes.specs.Reading.{Reads}
 use Rattle.clear_wire.specs.Head.{Heading}
 use Rattle.clear_wire.specs.Stream.{NextItem, whole, bad, ended}
-use Rattle.clear_http.specs.Guarded.{Guards, IsGuarded}
+use Rattle.clear_http.specs.Guarded.{Guards, IsAllowed, IsGuarded}
 use Rattle.clear_http.specs.Serve.{ends_stream, Responds, Serves, ServesPart}
 
 -- ---- one request
@@ -48,13 +49,22 @@ module _ (keys : List KeyOf) (day : ℕ) (heading : Heading) (body : List ℕ) w
       guarded : IsGuarded (Reads keys day) heading body (No refused)
       guarded other there denied = inr (ap No (forgets other there))
 
+-- an office that stays at a call that access doesn't allow stays but for one that it allows
+pub stays_unless : {S : Type 0} (reads : Heading → List ℕ → Result Call Refused → Type 0) (old new : AtOffice S) (heading : Heading) (body : List ℕ)
+    (call : Call) → reads heading body (Ok call) → (is_allowed call ≡ false → new ≡ old) → (new ≡ old) ⊎ IsAllowed reads heading body
+stays_unless reads old new heading body call here stays = by_access (is_allowed call) refl
+  where
+    by_access : (allowed : Bool) → is_allowed call ≡ allowed → (new ≡ old) ⊎ IsAllowed reads heading body
+    by_access true is = inr (call, here, is)
+    by_access false is = inl (stays is)
+
 -- ---- all requests of a stream
 
 module _ {S T : Type 0} (seen : S → T)
     (responds : S → Heading → List ℕ → Said → S → Type 0) (guards : T → Heading → List ℕ → Said → T → Type 0)
     (step : (old : S) (heading : Heading) (body : List ℕ) (told : Said) (new : S)
     → responds old heading body told new → guards (seen old) heading body told (seen new)) where
-  responds_as : (old : S) (items : List NextItem) (saids : List Said) (new : S)
+  pub responds_as : (old : S) (items : List NextItem) (saids : List Said) (new : S)
       → Responds responds old items saids new → Responds guards (seen old) items saids (seen new)
   responds_as old [] [] new runs = ap seen runs
   responds_as old [] (told ∷ saids) new runs = absurd runs

@@ -83,7 +83,7 @@ module _ {S : Type 0} (g : Ghosts S) (reads : Heading → List ℕ → Result Ca
       → responds old heading body told new
       → (IsHonest g new → IsHonest g old) × RequestSteps g reads old heading body told new) where
     -- an end that is honest was so before
-    was_honest : (old : AtOffice S) (items : List NextItem) (saids : List Said) (new : AtOffice S)
+    pub was_honest : (old : AtOffice S) (items : List NextItem) (saids : List Said) (new : AtOffice S)
         → Responds responds old items saids new → IsHonest g new → IsHonest g old
     was_honest old [] [] new runs honest = subst (λ (a : AtOffice S). IsHonest g a) runs honest
     was_honest old [] (told ∷ saids) new runs honest = absurd runs
@@ -95,12 +95,12 @@ module _ {S : Type 0} (g : Ghosts S) (reads : Heading → List ℕ → Result Ca
     was_honest old (ended ∷ items) (told ∷ saids) new runs honest = absurd runs.1
 
     -- the book after all items
-    abbrev AllGo : AtOffice S → Book → List NextItem → List Said → AtOffice S → Type 0
+    abbrev pub AllGo : AtOffice S → Book → List NextItem → List Said → AtOffice S → Type 0
     AllGo old b items saids new =
         (last : Book) × ItemsTake reads old.failed new.failed b items saids last
         × IsLawful last × Keeps g new last
 
-    items_go : (old : AtOffice S) (items : List NextItem) (saids : List Said) (new : AtOffice S)
+    pub items_go : (old : AtOffice S) (items : List NextItem) (saids : List Said) (new : AtOffice S)
         → Responds responds old items saids new → IsHonest g new
         → (b : Book) → IsLawful b → Keeps g old b
         → AllGo old b items saids new

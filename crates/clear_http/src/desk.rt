@@ -10,6 +10,7 @@ ghost use Rattle.clear_answers.specs.Said.{refused_by, said_of};
 ghost use Rattle.clear_wire.specs.Counted.{inner, has_failed, reads_of};
 ghost use Rattle.clear_wire.specs.Limits.{read_limit};
 ghost use Rattle.clear_routes.specs.Reading.{Reads};
+ghost use Rattle.clear_http.specs.Desk.{MayServe};
 ghost use Rattle.clear_http.specs.Guarded.{Guards};
 ghost use Rattle.clear_http.specs.Serve.{ends_stream, was_done, Serves, ServesPart, TellsFailed};
 ghost use Rattle.clear_http.specs.Served.{KeepsOn, IsServed, IsServedPart};
@@ -56,6 +57,7 @@ fn take<S: Alter>(office: &mut Office<S>, call: &Call) -> Said
         × Steps S.Store office.old call.now outcome office.new }
     ensures access { office.old.failed ≡ false → is_allowed call.now ≡ false
         → (result ≡ refused_by not_yours) × (office.new ≡ office.old) }
+    ensures stays { is_allowed call.now ≡ false → office.new ≡ office.old }
     ensures told { office.old.failed ≡ false → ends_stream result ≡ false
         → office.new.failed ≡ false }
     ensures undone { was_done result ≡ false → KeepsOn S.Store office.old office.new }
@@ -106,7 +108,8 @@ pub fn serve<S: Alter, R: Read, W: Write>(
         (R.remaining (inner reader.old))
         (W.contents (inner writer.old)) (W.contents (inner writer.new))
         office.new fault.answered) }
-    // These two hold whatever the records are, also those of no lawful book.
+    // These hold whatever the records are, also those of no lawful book.
+    ensures said { MayServe S.Store directory.now day office.old office.new }
     ensures access { office.old.failed ≡ false
         → IfOk result (λ served. Serves (Guards (Reads directory.now day)) false
         (R.remaining (inner reader.old))

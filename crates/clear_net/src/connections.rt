@@ -1,4 +1,9 @@
 //! The connections of a listener.
+ghost use Rattle.std.specs.Prelude.{◌≡◌, true};
+ghost use Rattle.clear_office.specs.Office.{IsHonest};
+ghost use Rattle.clear_routes.specs.Reading.{Reads};
+ghost use Rattle.clear_http.specs.Desk.{MayServe};
+ghost use Rattle.clear_net.specs.Talks.{AreServed};
 
 use clear_callers::directory::Directory;
 use clear_http::desk::serve;
@@ -25,6 +30,12 @@ const LAST_READS: u32 = 64;
 /// is told on the error writer, and ends alone: `rule 40 Memory` for want of memory, else
 /// `fault net`.
 ///
+/// Whatever peers connect and send: whatever lawful book the office keeps, what is said on the
+/// connections is what the clearing machine says over it, and the office then keeps the book that it
+/// leaves, so far as its disk returned what was written. Whatever the records hold, a request that
+/// reads as a call for which access says no is turned away, and the office stays but for a call that
+/// access allows. An office that has failed stays as it is.
+///
 /// A peer that sends nothing, or takes nothing, for 10 seconds loses its connection.
 pub fn serve_connections<S: Alter, E: Write>(
     alloc: Global,
@@ -34,8 +45,12 @@ pub fn serve_connections<S: Alter, E: Write>(
     directory: &Directory,
     day: Day,
     errors: &mut E,
-) {
-    for _ in 0..count {
+)
+    ensures served { AreServed S.Store (Reads directory.now day) count office.old office.new }
+    ensures failed { office.old.failed ≡ true → office.new ≡ office.old }
+    ensures clean { IsHonest S.Store office.new → IsHonest S.Store office.old }
+{
+    for _served in 0..count {
         match serve_next(alloc, listener, office, directory, day) {
             Ok(()) => {}
             Err(fault) => tell(errors, fault),
@@ -50,7 +65,10 @@ fn serve_next<S: Alter>(
     office: &mut Office<S>,
     directory: &Directory,
     day: Day,
-) -> Result<(), Fault> {
+) -> Result<(), Fault>
+    ensures said { MayServe S.Store directory.now day office.old office.new }
+    ensures failed { office.old.failed ≡ true → office.new ≡ office.old }
+{
     let Ok((stream, _peer)) = listener.accept() else {
         return Err(Fault::Read);
     };

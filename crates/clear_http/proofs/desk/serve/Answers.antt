@@ -1,6 +1,6 @@
 use Rattle.std.proofs.lemmas.Result.{IfOk-weaker, IfErr-weaker}
 use Rattle.clear_http.specs.Desk.{MaySay}
-use Rattle.clear_http.proofs.DeskLemmas.{desk_guarded, desk_guarded_part, desk_served, desk_served_part}
+use Rattle.clear_http.proofs.DeskLemmas.{desk_guarded, desk_guarded_part, desk_served, desk_served_part, nothing_said, said_all}
 use Rattle.clear_http.proofs.ServeLemmas.{nothing_served}
 use Rattle.clear_http.proofs.desk.serve.Goals as goal
 
@@ -29,3 +29,6 @@ returns-clause-access g c working = IfOk-weaker c.serve_stream.result _ _ (λ se
 
 pub returns-clause-access_fault : goal.returns-clause-access_fault
 returns-clause-access_fault g c working = IfErr-weaker c.serve_stream.result _ _ (λ fault. desk_guarded_part g.S.Store _ _ _ working _ _ _ _ fault.answered) c.serve_stream.ensures.fault
+
+pub returns-clause-said : goal.returns-clause-said
+returns-clause-said g c = said_all g.S.Store _ _ _ _ _ _ _ c.serve_stream.result c.serve_stream.ensures.served c.serve_stream.ensures.fault
