@@ -170,7 +170,7 @@ class Taken:
 
 
 class Comparison:
-    """Counts equal answers, and ends at the first that differ."""
+    """Counts equal answers, and ends at the first that differ, or that refuse what isn't odd."""
 
     def __init__(self, servers):
         self.names, self.equal = [server.name for server in servers], 0
@@ -179,6 +179,8 @@ class Comparison:
         for (kind, data), answer, other in zip(requests, answers, others, strict=True):
             if answer != other:
                 sys.exit(self.difference(kind, data, b"\n".join(answer), b"\n".join(other)))
+            if kind != "odd" and answer[0] != b"HTTP/1.1 200 OK":
+                sys.exit(f"{kind}: both refuse {data[:400]!r}: {answer}")
             self.equal += 1
 
     def difference(self, kind, data, answer, other):
@@ -227,7 +229,7 @@ def send_both(servers, comparison, requests):
 
 
 def grow(servers, comparison, requests, count):
-    """Sends so many commands, each of which must be accepted."""
+    """Sends so many commands."""
     stream = islice(requests.growth, count)
     while part := list(islice(stream, 1_000)):
         send_both(servers, comparison, part)
