@@ -1,37 +1,51 @@
 //! Files that are read whole.
-ghost use Rattle.std.specs.Prelude.{◌≤◌, IfOk, length};
+ghost use Rattle.std.specs.Prelude.{◌≡◌, ◌≤◌, length, IfOk, IfSome};
+ghost use Rattle.clear_money.specs.RateFile.{rates_of};
+ghost use Rattle.clear_book.specs.Machine.{AreRates};
+ghost use Rattle.clear_callers.specs.CallerFile.{directory_of};
+ghost use Rattle.clear_files.specs.Contents.{SomeFileSays, most_file_bytes};
 
+use clear_book::ranges::rates_in_range;
 use clear_callers::caller_file::DirectoryFault;
 use clear_callers::directory::Directory;
 use clear_money::rate_file::{RateFault, read_rates};
 use clear_money::rates::RateTable;
+use std::alloc::Global;
 use std::fs::File;
 use std::io;
 use std::io::Read;
 
-/// The greatest file in bytes.
+/// The greatest length of a file that is read whole, in bytes.
 pub const MAX_FILE: usize = 4_194_304;
 
 /// Why a file gives nothing.
 #[derive(Clone, Copy, Debug, PartialEq, Eq)]
 pub enum FileFault {
-    /// It can't be opened or read, has more than 4,194,304 bytes, or isn't the file that it should
+    /// It can't be opened or read, has more than `MAX_FILE` bytes, or isn't the file that it should
     /// be.
     Unusable,
     /// There was no memory.
     Memory,
 }
 
-/// The bytes of a file.
+/// The bytes of a file, at most `MAX_FILE`.
 pub fn read_file(rt: &HostRuntime, path: &str) -> Result<Vec<u8>, FileFault>
-    ensures { IfOk result (λ bytes. length bytes.items ≤ 4_194_304) }
+    ensures { IfOk result (λ bytes. length bytes.items ≤ most_file_bytes) }
 {
-    let file = match File::open(rt, path) {
-        Ok(file) => file,
-        Err(error) => return Err(fault_of(&error)),
-    };
-    let mut bytes = Vec::new(rt.alloc());
-    match file.take(4_194_305).read_to_end(&mut bytes) {
+    match File::open(rt, path) {
+        Ok(file) => read_whole(rt.alloc(), file),
+        Err(error) => Err(fault_of(&error)),
+    }
+}
+
+/// All bytes that a reader has, at most `MAX_FILE`. `Unusable` where there are more, or where a read
+/// fails for another cause than memory.
+pub fn read_whole<R: Read + Drop>(alloc: Global, reader: R) -> Result<Vec<u8>, FileFault>
+    ensures whole { IfSome (R.remaining reader) (λ all. IfOk result (λ bytes. bytes.items ≡ all)) }
+    ensures few { IfOk result (λ bytes. length bytes.items ≤ most_file_bytes) }
+{
+    let mut bytes = Vec::new(alloc);
+    match reader.take(MAX_FILE as u64 + 1).read_to_end(&mut bytes) {
         Ok(_) => {}
         Err(error) => return Err(fault_of(&error)),
     }
@@ -41,26 +55,36 @@ pub fn read_file(rt: &HostRuntime, path: &str) -> Result<Vec<u8>, FileFault>
     Ok(bytes)
 }
 
-/// The rates of a rate file.
-pub fn read_rate_file(rt: &HostRuntime, path: &str) -> Result<RateTable, FileFault> {
+/// The rates of a rate file: those that `read_rates` reads from its bytes.
+pub fn read_rate_file(rt: &HostRuntime, path: &str) -> Result<RateTable, FileFault>
+    ensures said { IfOk result (SomeFileSays rates_of) }
+    ensures lawful { IfOk result AreRates }
+{
     let bytes = read_file(rt, path)?;
     match read_rates(rt.alloc(), bytes.as_slice()) {
-        Ok(rates) => Ok(rates),
+        Ok(rates) => {
+            // No effect at run time: the proof reads from this call that the rates are lawful.
+            rates_in_range(&rates);
+            Ok(rates)
+        }
         Err(RateFault::Memory) => Err(FileFault::Memory),
         Err(_) => Err(FileFault::Unusable),
     }
 }
 
-/// The keys of a caller file.
-pub fn read_caller_file(rt: &HostRuntime, path: &str) -> Result<Directory, FileFault> {
-    let bytes = read_file(rt, path)?;
-    match Directory::read(rt.alloc(), bytes.as_slice()) {
+/// The keys of a caller file: those that `Directory::read` reads from its bytes.
+pub fn read_caller_file(rt: &HostRuntime, path: &str) -> Result<Directory, FileFault>
+    ensures { IfOk result (SomeFileSays directory_of) }
+{
+    let text = read_file(rt, path)?;
+    match Directory::read(rt.alloc(), text.as_slice()) {
         Ok(keys) => Ok(keys),
         Err(DirectoryFault::Memory) => Err(FileFault::Memory),
         Err(_) => Err(FileFault::Unusable),
     }
 }
 
+// Want of memory, or any other fault of a file.
 fn fault_of(error: &io::Error) -> FileFault {
     if error.kind() == io::ErrorKind::OutOfMemory {
         FileFault::Memory

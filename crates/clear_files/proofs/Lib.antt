@@ -1,0 +1,5 @@
+pub mod BlankLemmas
+pub mod OfficeLemmas
+pub mod ReadLemmas
+pub mod RefusalLemmas
+pub mod StoreLemmas

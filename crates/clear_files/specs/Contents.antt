@@ -1,0 +1,63 @@
+-- What the files of the program hold. No contract knows that, so clauses speak of each content.
+use Rattle.std.specs.Prelude.{◌≡◌, ◌≤◌, ⊤, ℕ, List, [], length, Result, Ok}
+use Rattle.sqlite_disk.specs.declared.Disk.{Ghosts}
+use Rattle.sqlite_store.specs.declared.store.FileStore.{FileStore}
+use Rattle.sqlite_wal.specs.Recovery.{Image}
+use Rattle.sqlite.specs.Files.{HoldsDatabase, file_state}
+use Rattle.sqlite.specs.State.{HasCleanDisk}
+use Rattle.sqlite.specs.Tree.{Trees}
+use Rattle.clear_money.specs.Rates.{Rate}
+use Rattle.clear_book.specs.Book.{Book}
+use Rattle.clear_book.specs.Tables.{Tables, Stands}
+use Rattle.clear_schema.specs.Held.{StandsAs, this_schema}
+use Rattle.clear_schema.specs.Opening.{IfNotTaken}
+use Rattle.clear_schema.specs.declared.fault.OpenFault.{OpenFault}
+use Rattle.clear_schema.specs.declared.fault.OpenFault.TheVariants.{WrongVersion, Failed}
+use Rattle.clear_schema.specs.declared.files.FilesRefusal.{FilesRefusal}
+use Rattle.clear_schema.specs.declared.files.FilesRefusal.TheVariants.{Unopened, NotTaken}
+
+-- ---- a file that is read whole
+
+-- the greatest length of such a file, in bytes
+abbrev pub most_file_bytes : ℕ
+most_file_bytes = 4194304
+
+-- some bytes, no more than a file may have, read as this
+abbrev pub SomeFileSays : {A E : Type 0} → (List ℕ → Result A E) → A → Type 0
+SomeFileSays read it = (bytes : List ℕ) × (length bytes ≤ most_file_bytes) × (read bytes ≡ Ok it)
+
+-- ---- a store, in its log and its database file
+
+-- they hold a store of this number, with these tables
+abbrev pub HoldsStore : ℕ → Tables → Image → Type 0
+HoldsStore number t image = (trees : Trees) × HoldsDatabase image trees × StandsAs number t trees
+
+-- they hold a store of this program, with the tables of the book
+abbrev pub HoldsBook : Book → Image → Type 0
+HoldsBook b image = (t : Tables) × Stands b t × HoldsStore this_schema t image
+
+-- the book without entries, with these opening rates
+abbrev pub first_book : List Rate → Book
+first_book rates = record { opening = rates; entries = [] }
+
+-- where the fault tells a number, it is this one
+abbrev pub TellsOnly : ℕ → OpenFault → Type 0
+TellsOnly number (WrongVersion told) = told ≡ number
+TellsOnly number (Failed fault) = ⊤
+
+-- the fault tells no number
+abbrev pub TellsNone : OpenFault → Type 0
+TellsNone (WrongVersion told) = ⊥
+TellsNone (Failed fault) = ⊤
+
+module _ {D : Type 0} {g : Ghosts D} where
+  -- what a caller is told where the files are refused
+  abbrev pub told_fault : FilesRefusal D g → OpenFault
+  told_fault (Unopened fault) = Failed fault
+  told_fault (NotTaken refusal) = refusal.fault
+
+  -- where the files were opened and their database was not taken, and the disk has so far returned
+  -- what was written, the fault is so
+  abbrev pub IfRefused : (OpenFault → Type 0) → FilesRefusal D g → Type 0
+  IfRefused P =
+      IfNotTaken (λ refusal. HasCleanDisk (file_state refusal.connection) → P refusal.fault)
