@@ -1,5 +1,5 @@
 -- A stream over a desk is one that access guards.
-use Rattle.std.proofs.Common.{◌≡◌, ◌∙◌, ◌⊎◌, ℕ, Bool, true, false, List, [], ◌∷◌, ◌++◌, Option, Result, Ok, Err, refl, ap, subst, inl, inr}
+use Rattle.std.proofs.Common.{◌≡◌, ◌∙◌, ◌⊎◌, ℕ, Bool, true, false, List, [], ◌∷◌, ◌++◌, Option, Ok, Err, refl, ap, subst, inl, inr}
 use Rattle.clear_book.specs.declared.calls.Call.{Call}
 use Rattle.clear_book.specs.declared.rules.Rule.TheVariants.{Memory, NotYours}
 use Rattle.clear_book.specs.Machine.{is_allowed}
@@ -49,14 +49,14 @@ module _ (keys : List KeyOf) (day : ℕ) (heading : Heading) (body : List ℕ) w
       guarded : IsGuarded (Reads keys day) heading body (No refused)
       guarded other there denied = inr (ap No (forgets other there))
 
--- an office that stays at a call that access doesn't allow stays but for one that it allows
-pub stays_unless : {S : Type 0} (reads : Heading → List ℕ → Result Call Refused → Type 0) (old new : AtOffice S) (heading : Heading) (body : List ℕ)
-    (call : Call) → reads heading body (Ok call) → (is_allowed call ≡ false → new ≡ old) → (new ≡ old) ⊎ IsAllowed reads heading body
-stays_unless reads old new heading body call here stays = by_access (is_allowed call) refl
-  where
-    by_access : (allowed : Bool) → is_allowed call ≡ allowed → (new ≡ old) ⊎ IsAllowed reads heading body
-    by_access true is = inr (call, here, is)
-    by_access false is = inl (stays is)
+  -- an office that stays at a call that access doesn't allow stays but for one that it allows
+  pub stays_unless : {S : Type 0} (old new : AtOffice S) (call : Call) → Reads keys day heading body (Ok call)
+      → (is_allowed call ≡ false → new ≡ old) → (new ≡ old) ⊎ IsAllowed (Reads keys day) heading body
+  stays_unless old new call here stays = by_access (is_allowed call) refl
+    where
+      by_access : (allowed : Bool) → is_allowed call ≡ allowed → (new ≡ old) ⊎ IsAllowed (Reads keys day) heading body
+      by_access true is = inr (call, here, is)
+      by_access false is = inl (stays is)
 
 -- ---- all requests of a stream
 

@@ -1,3 +1,4 @@
+use Rattle.std.proofs.Common.{refl}
 use Rattle.std.proofs.lemmas.Result.{IfOk-weaker, IfErr-weaker}
 use Rattle.clear_http.specs.Desk.{MaySay}
 use Rattle.clear_http.proofs.DeskLemmas.{desk_guarded, desk_guarded_part, desk_served, desk_served_part, nothing_said, said_all}
@@ -29,6 +30,12 @@ returns-clause-access g c working = IfOk-weaker c.serve_stream.result _ _ (λ se
 
 pub returns-clause-access_fault : goal.returns-clause-access_fault
 returns-clause-access_fault g c working = IfErr-weaker c.serve_stream.result _ _ (λ fault. desk_guarded_part g.S.Store _ _ _ working _ _ _ _ fault.answered) c.serve_stream.ensures.fault
+
+pub returns-then-failed-clause-said : goal.returns-then-failed-clause-said
+returns-then-failed-clause-said g c = nothing_said g.S.Store _ _ _ _ refl
+
+pub returns-in-Err-clause-said : goal.returns-in-Err-clause-said
+returns-in-Err-clause-said g c = nothing_said g.S.Store _ _ _ _ refl
 
 pub returns-clause-said : goal.returns-clause-said
 returns-clause-said g c = said_all g.S.Store _ _ _ _ _ _ _ c.serve_stream.result c.serve_stream.ensures.served c.serve_stream.ensures.fault

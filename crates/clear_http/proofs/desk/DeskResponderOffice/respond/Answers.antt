@@ -11,7 +11,7 @@ returns-in-Ok-clause-said g c =
       inl (Ok c.in-Ok.call, c.in-Ok.ensures, take.said),
       (
         guards_call _ _ _ _ _ c.in-Ok.call _ _ c.in-Ok.ensures (λ working denied. (take.access working denied).0) take.told,
-        stays_unless _ _ _ _ _ c.in-Ok.call c.in-Ok.ensures take.stays,
+        stays_unless _ _ _ _ _ _ c.in-Ok.call c.in-Ok.ensures take.stays,
       ),
     )
 
@@ -21,7 +21,7 @@ returns-in-Ok-clause-memory g c none = (
   inr (refl, c.take.ensures.undone none),
   (
     (λ working. ((λ call there denied. inr refl), λ _. c.take.ensures.told working (not_ending _ none))),
-    stays_unless _ _ _ _ _ c.in-Ok.call c.in-Ok.ensures c.take.ensures.stays,
+    stays_unless _ _ _ _ _ _ c.in-Ok.call c.in-Ok.ensures c.take.ensures.stays,
   ),
 )
 

@@ -1,0 +1,9 @@
+use Rattle.std.proofs.Common.{◌≡◌, true}
+use Rattle.clear_net.proofs.TalkLemmas.{Talked}
+use Rattle.clear_net.proofs.connections.serve_connections.Given as goal
+
+abbrev pub invariant-loop-served : goal.invariant-loop-served
+invariant-loop-served g l = record {
+  talked : Talked g.S.Store l.directory l.day l._served l.fn.office l.office;
+  failed : l.fn.office.failed ≡ true → l.office ≡ l.fn.office;
+}
