@@ -1,9 +1,7 @@
 -- Talks, one more after others, and what follows from them.
-use Rattle.std.proofs.Common.{◌≡◌, ℕ, ◌+◌, Bool, true, false, List, [], ◌∷◌, ◌++◌, length, Result, refl, sym, ap, ◌∙◌, subst, arith}
+use Rattle.std.proofs.Common.{◌≡◌, ℕ, ◌+◌, List, [], ◌∷◌, ◌++◌, length, refl, sym, ap, ◌∙◌, subst}
 use Rattle.std.proofs.lemmas.List.{length-append}
 use Rattle.sqlite.specs.Store.{Ghosts}
-use Rattle.clear_book.specs.Book.{Book}
-use Rattle.clear_book.specs.Machine.{IsLawful}
 use Rattle.clear_office.specs.Office.{AtOffice, IsHonest, Keeps}
 use Rattle.clear_answers.specs.declared.said.Said.{Said}
 use Rattle.clear_callers.specs.Callers.{KeyOf}
@@ -14,7 +12,7 @@ use Rattle.clear_http.proofs.ServedLemmas.{items_go, was_honest}
 use Rattle.clear_http.specs.Desk.{MaySay, MayServe}
 use Rattle.clear_http.specs.Guarded.{Admits}
 use Rattle.clear_http.specs.Served.{RequestSteps}
-use Rattle.clear_net.specs.Talks.{Talk, Talks, TalksTake, RunsTalks, AreServed}
+use Rattle.clear_net.specs.Talks.{Talk, Talks, RunsTalks, AreServed}
 
 module _ {H : Type 0} (responds : H → Heading → List ℕ → Said → H → Type 0) where
   talks_then : (a : H) (xs ys : List Talk) (b c : H) → Talks responds a xs b → Talks responds b ys c → Talks responds a (xs ++ ys) c

@@ -24,6 +24,7 @@ const PATIENCE: u64 = 10;
 // How many seconds a peer that was answered may go on sending before its connection is closed, and
 // how many reads are made of what it sends.
 const LAST_PATIENCE: u64 = 1;
+
 const LAST_READS: u32 = 64;
 
 /// Serves so many connections, one after another. A connection whose stream isn't served to its end

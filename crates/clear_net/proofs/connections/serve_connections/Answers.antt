@@ -1,6 +1,7 @@
-use Rattle.std.proofs.Common.{refl, ap, ◌∙◌}
-use Rattle.clear_office.specs.Office.{AtOffice}
-use Rattle.clear_net.proofs.TalkLemmas.{none_talked, one_more_talked}
+use Rattle.std.proofs.Common.{◌≡◌, refl, ap, ◌∙◌, subst, arith}
+use Rattle.clear_routes.specs.Reading.{Reads}
+use Rattle.clear_net.specs.Talks.{AreServed}
+use Rattle.clear_net.proofs.TalkLemmas.{clean, none_talked, one_more_talked, served}
 use Rattle.clear_net.proofs.connections.serve_connections.Goals as goal
 
 pub loop-served-init : goal.loop-served-init
@@ -16,3 +17,12 @@ loop-served-preserved g c = record {
       let same = c.loop-served.invariant.failed was in
       c.serve_next.ensures.failed (ap (λ a. a.failed) same ∙ was) ∙ same;
 }
+
+pub returns-clause-served : goal.returns-clause-served
+returns-clause-served g c =
+    let all : c.loop-served._served ≡ c.args.count = omega (arith, c.loop-served.auto._served-end, c.loop-served-test.false) in
+    subst (λ n. AreServed g.S.Store (Reads c.args.directory.now c.args.day) n c.args.office.now c.loop-served.office) all
+    (served g.S.Store _ _ _ _ _ c.loop-served.invariant.talked)
+
+pub returns-clause-clean : goal.returns-clause-clean
+returns-clause-clean g c = clean g.S.Store _ _ _ _ _ c.loop-served.invariant.talked
