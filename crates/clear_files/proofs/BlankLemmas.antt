@@ -1,5 +1,5 @@
 -- Files that hold no database yet are opened with an empty one.
-use Rattle.std.proofs.Common.{◌≡◌, ◌∙◌, ◌≤◌, ◌<◌, ◌+◌, ℕ, Bool, true, false, List, [], length, take, slice_index, Option, Some, unwrap_or, sym, ap, subst, inl, inr, arith, get_or-take}
+use Rattle.std.proofs.Common.{◌≡◌, ◌∙◌, ◌≤◌, ◌<◌, ℕ, true, false, List, [], length, take, slice_index, Option, Some, unwrap_or, sym, ap, inl, inr, arith, get_or-take}
 use Rattle.std.proofs.Math.Logic.{∥∥₁_elim}
 use Rattle.std.proofs.lemmas.List.{length-take}
 use Rattle.sqlite_wal.specs.Recovery.{Image}
