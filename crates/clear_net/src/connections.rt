@@ -34,10 +34,10 @@ const LAST_READS: u32 = 64;
 /// `fault net`.
 ///
 /// Whatever peers connect and send: whatever lawful book the office keeps, what is said on the
-/// connections is what the clearing machine says over it, and the office then keeps the book that it
-/// leaves, so far as its disk returned what was written. Whatever the records hold, a request that
-/// reads as a call for which access says no is turned away, and the office stays but for a call that
-/// access allows. An office that has failed stays as it is.
+/// connections is what the clearing machine says over it, and the office then keeps the book that
+/// it leaves, so far as its disk returned what was written. Whatever the records hold, a request
+/// that reads as a call for which access says no is turned away, and the office stays but for a
+/// call that access allows. An office that has failed stays as it is.
 ///
 /// A peer that sends nothing, or takes nothing, for 10 seconds loses its connection.
 pub fn serve_connections<S: Alter, E: Write>(
