@@ -51,10 +51,11 @@ impl Stop {
 
 /// Tells why the program ends, and gives its status. What can't be written is lost.
 pub fn tell<E: Write>(alloc: Global, errors: &mut E, stop: Stop) -> u8 {
+    let status = stop.status();
     match stop.line(alloc) {
         Ok(line) => {
             let _ = errors.write_all(line.as_bytes());
-            stop.status()
+            status
         }
         Err(AllocError) => {
             let _ = errors.write_all(b"rule 40 Memory\n");
@@ -100,8 +101,10 @@ fn status_by(rule: Rule) -> u8 {
 
 // A rule by its number and its name, and what it carries.
 fn rule_line(alloc: Global, rule: Rule) -> Result<String, AllocError> {
+    let number = rule.number();
+    let name = rule.name();
     let carried = carried_text(alloc, rule.carried())?;
-    let mut line = format!(in alloc; "rule {} {}", rule.number(), rule.name())?;
+    let mut line = format!(in alloc; "rule {number} {name}")?;
     if !carried.is_empty() {
         line.push_str(" ")?;
         line.push_str(carried.as_str())?;

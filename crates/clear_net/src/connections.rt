@@ -1,9 +1,11 @@
 //! The connections of a listener.
-ghost use Rattle.std.specs.Prelude.{◌≡◌, true};
+ghost use Rattle.std.specs.Prelude.{◌≡◌, true, OnOk};
+ghost use Rattle.std.specs.Io.KnownBytes.{Appends};
 ghost use Rattle.clear_office.specs.Office.{IsHonest};
 ghost use Rattle.clear_routes.specs.Reading.{Reads};
 ghost use Rattle.clear_http.specs.Desk.{MayServe};
 ghost use Rattle.clear_net.specs.Talks.{AreServed};
+ghost use Rattle.clear_net.specs.Told.{fault_line};
 
 use clear_callers::directory::Directory;
 use clear_http::desk::serve;
@@ -32,10 +34,10 @@ const LAST_READS: u32 = 64;
 /// `fault net`.
 ///
 /// Whatever peers connect and send: whatever lawful book the office keeps, what is said on the
-/// connections is what the clearing machine says over it, and the office then keeps the book that it
-/// leaves, so far as its disk returned what was written. Whatever the records hold, a request that
-/// reads as a call for which access says no is turned away, and the office stays but for a call that
-/// access allows. An office that has failed stays as it is.
+/// connections is what the clearing machine says over it, and the office then keeps the book that
+/// it leaves, so far as its disk returned what was written. Whatever the records hold, a request
+/// that reads as a call for which access says no is turned away, and the office stays but for a
+/// call that access allows. An office that has failed stays as it is.
 ///
 /// A peer that sends nothing, or takes nothing, for 10 seconds loses its connection.
 pub fn serve_connections<S: Alter, E: Write>(
@@ -54,7 +56,10 @@ pub fn serve_connections<S: Alter, E: Write>(
     for _served in 0..count {
         match serve_next(alloc, listener, office, directory, day) {
             Ok(()) => {}
-            Err(fault) => tell(errors, fault),
+            Err(fault) => {
+                // What can't be told is lost.
+                let _ = tell(errors, fault);
+            }
         }
     }
 }
@@ -108,11 +113,20 @@ fn part(stream: &TcpStream) -> io::Result<()> {
     Ok(())
 }
 
-// Tells why a connection ended. What can't be told is lost.
-fn tell<E: Write>(errors: &mut E, fault: Fault) {
-    let line = match fault {
-        Fault::Memory => "rule 40 Memory\n",
-        Fault::Read | Fault::Write | Fault::Reads => "fault net\n",
-    };
-    let _ = errors.write_all(line.as_bytes());
+// The line that tells why a connection ended.
+fn fault_line(fault: Fault) -> &'static [u8]
+    ensures { result.now ≡ fault_line fault }
+{
+    match fault {
+        Fault::Memory => b"rule 40 Memory\n",
+        Fault::Read | Fault::Write | Fault::Reads => b"fault net\n",
+    }
+}
+
+// Tells why a connection ended.
+fn tell<E: Write>(errors: &mut E, fault: Fault) -> io::Result<()>
+    ensures { OnOk result
+        (Appends (E.contents errors.old) (E.contents errors.new) (fault_line fault)) }
+{
+    errors.write_all(fault_line(fault))
 }

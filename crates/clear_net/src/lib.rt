@@ -1,14 +1,15 @@
 //! The connections of a listener, served one after another.
 //!
 //! Whatever peers connect and send, the office goes from call to call as the clearing machine does,
-//! with the keys of one directory on one day, and access guards each request. An error line is
-//! written for a connection that wasn't served to its end, and nothing else.
+//! with the keys of one directory on one day, and access guards each request. A line tells of each
+//! connection that wasn't served to its end.
 //!
 //! No contract can say what a socket gives or takes. So none says that a connection was accepted,
 //! which bytes came, that an answer arrived, or that a silent peer loses its connection: that what
 //! was taken and written is the items of a stream and their answers is said where the bytes are
 //! known, of the serve loop. Here they stand in a list of talks, one for each connection, which is
-//! empty where none was accepted.
+//! empty where none was accepted. Nor does one say what stands on the error writer once a write to
+//! it has failed, so the lines are pinned one at a time, where they are written.
 #![tactic(auto)]
 
 pub mod connections;
