@@ -22,7 +22,7 @@ fn main(rt: HostRuntime) -> ExitCode {
             &mut rt.stdout(),
             &mut errors,
         ),
-        Err(error) => tell(rt.alloc(), &mut errors, stop_at_words(&error)),
+        Err(error) => tell(rt.alloc(), &mut errors, &stop_at_words(&error)),
     };
     ExitCode::from(status)
 }

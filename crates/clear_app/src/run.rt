@@ -1,7 +1,8 @@
 //! What the program does, by its words.
 
-use crate::stop::{NO_MEMORY, Stop};
-use crate::stop::{stop_at_file, stop_at_records, stop_at_store, stop_at_stream, tell};
+use crate::stop::{
+    NO_MEMORY, Stop, stop_at_file, stop_at_records, stop_at_store, stop_at_stream, tell,
+};
 use clear_book::calls::{Caller, Command, Query};
 use clear_book::files::BankFile;
 use clear_book::numbers::RequestNo;
@@ -47,7 +48,7 @@ pub fn run_words<I: Read, O: Write, E: Write>(
     };
     match done {
         Ok(()) => 0,
-        Err(stop) => tell(rt.alloc(), errors, stop),
+        Err(stop) => tell(rt.alloc(), errors, &stop),
     }
 }
 

@@ -9,7 +9,7 @@ use std::alloc::{AllocError, Global};
 use std::io::Write;
 
 /// Why the program ends before its work is done.
-#[derive(Clone, Copy, Debug, PartialEq, Eq)]
+#[derive(Clone, Copy)]
 pub enum Stop {
     /// A request or the store is refused, or there was no memory.
     Rule(Rule),
@@ -29,16 +29,16 @@ pub const NO_MEMORY: Stop = Stop::Rule(Rule::Memory);
 impl Stop {
     /// The status with which the program ends: 1 for a refused request, 2 for the command line and
     /// its files, and 3 for a fault of the store, of memory, of the port or of a stream.
-    pub fn status(self) -> u8 {
+    pub fn status(&self) -> u8 {
         match self {
-            Stop::Rule(rule) => status_by(rule),
+            Stop::Rule(rule) => status_by(*rule),
             Stop::Line | Stop::File => 2,
             Stop::Net | Stop::Stream => 3,
         }
     }
 
     // What is told on standard error.
-    fn line(self, alloc: Global) -> Result<String, AllocError> {
+    fn line(&self, alloc: Global) -> Result<String, AllocError> {
         match self {
             Stop::Rule(rule) => rule_line(alloc, rule),
             Stop::Line => String::from_str(alloc, "fault command line\n"),
@@ -50,12 +50,11 @@ impl Stop {
 }
 
 /// Tells why the program ends, and gives its status. What can't be written is lost.
-pub fn tell<E: Write>(alloc: Global, errors: &mut E, stop: Stop) -> u8 {
-    let status = stop.status();
+pub fn tell<E: Write>(alloc: Global, errors: &mut E, stop: &Stop) -> u8 {
     match stop.line(alloc) {
         Ok(line) => {
             let _ = errors.write_all(line.as_bytes());
-            status
+            stop.status()
         }
         Err(AllocError) => {
             let _ = errors.write_all(b"rule 40 Memory\n");
@@ -100,7 +99,7 @@ fn status_by(rule: Rule) -> u8 {
 }
 
 // A rule by its number and its name, and what it carries.
-fn rule_line(alloc: Global, rule: Rule) -> Result<String, AllocError> {
+fn rule_line(alloc: Global, rule: &Rule) -> Result<String, AllocError> {
     let number = rule.number();
     let name = rule.name();
     let carried = carried_text(alloc, rule.carried())?;

@@ -83,11 +83,10 @@ fn serve_next<S: Alter>(
     }
     let mut reader = Counted::new(&stream);
     let mut writer = Counted::new(&stream);
-    match serve(alloc, office, directory, day, &mut reader, &mut writer) {
-        Ok(_) => {
-            let _ = part(&stream);
-            Ok(())
-        }
+    let served = serve(alloc, office, directory, day, &mut reader, &mut writer);
+    let _ = part(&stream);
+    match served {
+        Ok(_) => Ok(()),
         Err(stopped) => Err(stopped.fault),
     }
 }
