@@ -2,8 +2,8 @@
 
     python3 tests/program.py [PROGRAM]
 
-PROGRAM is crates/clear_app/out/clear_app where it isn't given, as `rt ci` leaves it. Each message and each
-status of the program is met at least once. Where the tests run as root, the program runs as nobody, since
+PROGRAM is crates/clear_app/out/clear_app where it isn't given, as `rt ci` leaves it. Each status and each kind
+of message that can come today is met at least once. Where the tests run as root, the program runs as nobody, since
 root may write everywhere.
 """
 
