@@ -338,6 +338,13 @@ class Stream(Program):
             output, errors = running.communicate(timeout=60)
         self.assertEqual((running.returncode, output, errors), (3, b"", b"fault stream\n"))
 
+    def test_other_rates_and_callers_than_the_samples(self):
+        self.write("rates.toml", ROW_2024.replace("2000", "1500"))
+        self.write("callers.toml", "clerk = 0\nnord = 1001\n")
+        requests = FIRST_REQUESTS.replace(b"desk", b"clerk").replace(b"k1001", b"nord")
+        answers = FIRST_ANSWERS.replace(b"200000", b"150000").decode()
+        self.expect(["stream", "rates.toml", "callers.toml", DAY], 0, answers, stdin=requests)
+
     def test_output_that_fails(self):
         with open("/dev/full", "wb") as full:
             self.expect([], 3, "", "fault stream\n", stdin=FIRST_REQUESTS, stdout=full)
