@@ -159,8 +159,9 @@ fn serve_port<E: Write>(
     let Ok(listener) = TcpListener::bind(rt, (Ipv4Addr::LOCALHOST, port)) else {
         return Err(Stop::Net);
     };
+    // What can't be told of a connection is lost.
     let alloc = rt.alloc();
-    serve_connections(alloc, &listener, count, &mut office, directory, day, errors);
+    let _ = serve_connections(alloc, &listener, count, &mut office, directory, day, errors);
     close(office);
     Ok(())
 }

@@ -1,5 +1,5 @@
 -- What the files of the program hold. No contract knows that, so clauses speak of each content.
-use Rattle.std.specs.Prelude.{◌≡◌, ◌≤◌, ⊤, ℕ, List, [], length, Result, Ok}
+use Rattle.std.specs.Prelude.{◌≡◌, ◌≤◌, ⊤, ℕ, List, [], length, IfSome, None, Option, Result, Ok}
 use Rattle.sqlite_disk.specs.declared.Disk.{Ghosts}
 use Rattle.sqlite_wal.specs.Recovery.{Image}
 use Rattle.sqlite.specs.Files.{HoldsDatabase, file_state}
@@ -21,9 +21,15 @@ use Rattle.clear_schema.specs.declared.files.FilesRefusal.TheVariants.{Unopened,
 abbrev pub most_file_bytes : ℕ
 most_file_bytes = 4194304
 
--- some bytes, no more than a file may have, read as this
+-- bytes, no more than a file may have, read as this; they are the reader's, where those are known
+abbrev pub BytesSay : {A E : Type 0} → Option (List ℕ) → (List ℕ → Result A E) → A → Type 0
+BytesSay known read it =
+    (bytes : List ℕ) × IfSome known (λ all. bytes ≡ all) × (length bytes ≤ most_file_bytes)
+    × (read bytes ≡ Ok it)
+
+-- a file's bytes are not known
 abbrev pub SomeFileSays : {A E : Type 0} → (List ℕ → Result A E) → A → Type 0
-SomeFileSays read it = (bytes : List ℕ) × (length bytes ≤ most_file_bytes) × (read bytes ≡ Ok it)
+SomeFileSays read it = BytesSay None read it
 
 -- ---- a store, in its log and its database file
 

@@ -3,7 +3,7 @@ ghost use Rattle.std.specs.Prelude.{◌≡◌, ◌≤◌, length, IfOk, IfSome};
 ghost use Rattle.clear_money.specs.RateFile.{rates_of};
 ghost use Rattle.clear_book.specs.Machine.{AreRates};
 ghost use Rattle.clear_callers.specs.CallerFile.{directory_of};
-ghost use Rattle.clear_files.specs.Contents.{SomeFileSays, most_file_bytes};
+ghost use Rattle.clear_files.specs.Contents.{BytesSay, SomeFileSays, most_file_bytes};
 
 use clear_book::ranges::rates_in_range;
 use clear_callers::caller_file::DirectoryFault;
@@ -19,7 +19,7 @@ use std::io::Read;
 pub const MAX_FILE: usize = 4_194_304;
 
 /// Why a file gives nothing.
-#[derive(Clone, Copy, Debug, PartialEq, Eq)]
+#[derive(Clone, Copy)]
 pub enum FileFault {
     /// It can't be opened or read, has more than `MAX_FILE` bytes, or isn't the file that it should
     /// be.
@@ -32,10 +32,22 @@ pub enum FileFault {
 pub fn read_file(rt: &HostRuntime, path: &str) -> Result<Vec<u8>, FileFault>
     ensures { IfOk result (λ bytes. length bytes.items ≤ most_file_bytes) }
 {
-    match File::open(rt, path) {
-        Ok(file) => read_whole(rt.alloc(), file),
-        Err(error) => Err(fault_of(&error)),
-    }
+    read_whole(rt.alloc(), open_file(rt, path)?)
+}
+
+/// The rates of a rate file: those that `read_rates_from` reads from its bytes.
+pub fn read_rate_file(rt: &HostRuntime, path: &str) -> Result<RateTable, FileFault>
+    ensures said { IfOk result (SomeFileSays rates_of) }
+    ensures lawful { IfOk result AreRates }
+{
+    read_rates_from(rt.alloc(), open_file(rt, path)?)
+}
+
+/// The keys of a caller file: those that `read_callers_from` reads from its bytes.
+pub fn read_caller_file(rt: &HostRuntime, path: &str) -> Result<Directory, FileFault>
+    ensures { IfOk result (SomeFileSays directory_of) }
+{
+    read_callers_from(rt.alloc(), open_file(rt, path)?)
 }
 
 /// All bytes that a reader has, at most `MAX_FILE`. `Unusable` where there are more, or where a read
@@ -55,13 +67,14 @@ pub fn read_whole<R: Read + Drop>(alloc: Global, reader: R) -> Result<Vec<u8>, F
     Ok(bytes)
 }
 
-/// The rates of a rate file: those that `read_rates` reads from its bytes.
-pub fn read_rate_file(rt: &HostRuntime, path: &str) -> Result<RateTable, FileFault>
-    ensures said { IfOk result (SomeFileSays rates_of) }
+/// The rates that all bytes of a reader say, as a rate file does. `Unusable` also where they say
+/// none.
+pub fn read_rates_from<R: Read + Drop>(alloc: Global, reader: R) -> Result<RateTable, FileFault>
+    ensures said { IfOk result (BytesSay (R.remaining reader) rates_of) }
     ensures lawful { IfOk result AreRates }
 {
-    let bytes = read_file(rt, path)?;
-    match read_rates(rt.alloc(), bytes.as_slice()) {
+    let bytes = read_whole(alloc, reader)?;
+    match read_rates(alloc, bytes.as_slice()) {
         Ok(rates) => {
             // No effect at run time: the proof reads from this call that the rates are lawful.
             rates_in_range(&rates);
@@ -72,15 +85,23 @@ pub fn read_rate_file(rt: &HostRuntime, path: &str) -> Result<RateTable, FileFau
     }
 }
 
-/// The keys of a caller file: those that `Directory::read` reads from its bytes.
-pub fn read_caller_file(rt: &HostRuntime, path: &str) -> Result<Directory, FileFault>
-    ensures { IfOk result (SomeFileSays directory_of) }
+/// The keys that all bytes of a reader say, as a caller file does. `Unusable` also where they say
+/// none.
+pub fn read_callers_from<R: Read + Drop>(alloc: Global, reader: R) -> Result<Directory, FileFault>
+    ensures { IfOk result (BytesSay (R.remaining reader) directory_of) }
 {
-    let text = read_file(rt, path)?;
-    match Directory::read(rt.alloc(), text.as_slice()) {
+    let text = read_whole(alloc, reader)?;
+    match Directory::read(alloc, text.as_slice()) {
         Ok(keys) => Ok(keys),
         Err(DirectoryFault::Memory) => Err(FileFault::Memory),
         Err(_) => Err(FileFault::Unusable),
+    }
+}
+
+fn open_file(rt: &HostRuntime, path: &str) -> Result<File, FileFault> {
+    match File::open(rt, path) {
+        Ok(file) => Ok(file),
+        Err(error) => Err(fault_of(&error)),
     }
 }
 

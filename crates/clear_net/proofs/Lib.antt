@@ -1,1 +1,2 @@
 mod TalkLemmas
+mod ToldLemmas

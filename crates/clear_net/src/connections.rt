@@ -5,7 +5,7 @@ ghost use Rattle.clear_office.specs.Office.{IsHonest};
 ghost use Rattle.clear_routes.specs.Reading.{Reads};
 ghost use Rattle.clear_http.specs.Desk.{MayServe};
 ghost use Rattle.clear_net.specs.Talks.{AreServed};
-ghost use Rattle.clear_net.specs.Told.{fault_line};
+ghost use Rattle.clear_net.specs.Told.{AreTold, fault_line};
 
 use clear_callers::directory::Directory;
 use clear_http::desk::serve;
@@ -40,6 +40,9 @@ const LAST_READS: u32 = 64;
 /// call that access allows. An office that has failed stays as it is.
 ///
 /// A peer that sends nothing, or takes nothing, for 10 seconds loses its connection.
+///
+/// The connections are served whether or not the error writer takes its lines. The result is its
+/// first fault; where it had none, nothing else was written to it.
 pub fn serve_connections<S: Alter, E: Write>(
     alloc: Global,
     listener: &TcpListener,
@@ -48,20 +51,21 @@ pub fn serve_connections<S: Alter, E: Write>(
     directory: &Directory,
     day: Day,
     errors: &mut E,
-)
+) -> io::Result<()>
     ensures served { AreServed S.Store (Reads directory.now day) count office.old office.new }
     ensures failed { office.old.failed ≡ true → office.new ≡ office.old }
     ensures clean { IsHonest S.Store office.new → IsHonest S.Store office.old }
+    ensures told { OnOk result
+        (AreTold count (E.contents errors.old) (E.contents errors.new)) }
 {
+    let mut told = Ok(());
     for _served in 0..count {
         match serve_next(alloc, listener, office, directory, day) {
             Ok(()) => {}
-            Err(fault) => {
-                // What can't be told is lost.
-                let _ = tell(errors, fault);
-            }
+            Err(fault) => told = told.and(tell(errors, fault)),
         }
     }
+    told
 }
 
 // The next connection. A reader and a writer over one stream are two shared references to it.

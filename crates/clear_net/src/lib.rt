@@ -9,7 +9,7 @@
 //! was taken and written is the items of a stream and their answers is said where the bytes are
 //! known, of the serve loop. Here they stand in a list of talks, one for each connection, which is
 //! empty where none was accepted. Nor does one say what stands on the error writer once a write to
-//! it has failed, so the lines are pinned one at a time, where they are written.
+//! it has failed, or which connection a line tells of.
 #![tactic(auto)]
 
 pub mod connections;

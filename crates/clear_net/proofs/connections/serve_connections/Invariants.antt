@@ -1,4 +1,5 @@
-use Rattle.std.proofs.Common.{◌≡◌, true}
+use Rattle.std.proofs.Common.{◌≡◌, true, OnOk}
+use Rattle.clear_net.specs.Told.{AreTold}
 use Rattle.clear_net.proofs.TalkLemmas.{Talked}
 use Rattle.clear_net.proofs.connections.serve_connections.Given as goal
 
@@ -6,4 +7,5 @@ abbrev pub invariant-loop-served : goal.invariant-loop-served
 invariant-loop-served g l = record {
   talked : Talked g.S.Store l.directory l.day l._served l.fn.office l.office;
   failed : l.fn.office.failed ≡ true → l.office ≡ l.fn.office;
+  told : OnOk l.told (AreTold l._served (g.E.Write.contents l.fn.errors) (g.E.Write.contents l.errors));
 }
