@@ -327,6 +327,14 @@ class Stream(Program):
         for words in ([], ["stream", "sample", "sample", DAY], ["stream", "rates.toml", "callers.toml", DAY]):
             self.expect(words, 0, FIRST_ANSWERS.decode(), stdin=FIRST_REQUESTS)
 
+    def test_no_request_and_more_than_the_most(self):
+        self.expect([], 0)
+        asked = b"GET /employers/1001/owed HTTP/1.1\r\nHost: office\r\nOffice-Key: k1001\r\n\r\n"
+        head = "HTTP/1.1 409 Conflict\r\nContent-Type: application/json\r\nContent-Length: 48\r\n"
+        body = '\r\n{"detail":"","name":"UnknownEmployer","rule":11}'
+        last = "Connection: close\r\n"
+        self.expect([], 0, (head + body) * 999 + head + last + body, stdin=asked * 1_001)
+
     def test_files_in_their_order(self):
         self.expect(["stream", "sample", "no.toml", DAY], 2, "", "fault file\n")
         self.expect(["stream", "no.toml", "sample", DAY], 2, "", "fault file\n")
