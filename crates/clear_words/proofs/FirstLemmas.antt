@@ -15,15 +15,15 @@ use Rattle.clap.specs.declared.error.ErrorKind.TheVariants as kind
 use Rattle.clap.proofs.FaultLemmas.{turn_is}
 use Rattle.clap.proofs.OnLiterals.{clap_on_literals}
 use Rattle.clear_words.specs.Command.{command_line}
-use Rattle.clear_words.specs.Lines.{Says, table, asks, asks_behind, asks_help, calls_help, places, plain_words}
+use Rattle.clear_words.specs.Lines.{Says, table, asks, asks_behind, asks_help, calls_help, places}
 use Rattle.clear_words.specs.Rows.{Names, subcommand_for}
 use Rattle.clear_words.specs.declared.words.Words.{Words}
 use Rattle.clear_words.specs.declared.subcommands.Subcommand.{Subcommand}
 use Rattle.clear_words.specs.declared.subcommands.Subcommand.TheVariants as subcommand
 use Rattle.clear_words.proofs.LevelLemmas.{AreTexts}
 use Rattle.clear_words.proofs.OptionLemmas.{HasHelp, long_answers, short_answers}
-use Rattle.clear_words.proofs.SaidLemmas.{args_for, name_of, words_are}
-use Rattle.clear_words.proofs.ToldLemmas.{IsTold, among_asked, answers_help, answers_none, init_told, stream_told, serve_told, import_told, statement_told, migrate_told}
+use Rattle.clear_words.proofs.SaidLemmas.{name_of, says_parts}
+use Rattle.clear_words.proofs.ToldLemmas.{IsTold, among_asked, answers_help, answers_none, told as name_told}
 use Rattle.clear_words.proofs.WordLemmas.{Answers, Kind, dashes, help, is_dashes, is_long, is_plain, is_short, kind_of_word, plain_met}
 
 -- the word is the name of no subcommand, and isn't `help`
@@ -101,23 +101,6 @@ first_answers : (asked : Bool) (kinds more : Kinds) → Answers asked kinds → 
 first_answers true kinds more a = ap (λ ks. or_else ks more) a
 first_answers false kinds more a = (a.0, ap (λ ks. or_else ks more) a.1, a.2)
 
--- the first word is the name of what is said
-says_first : (name : Text) (rest : List Text) (said : Words) → Says (name ∷ rest) said → name ≡ name_of (subcommand_for said)
-says_first name rest said h = by (plain_words rest) refl
-  where
-    nothing : {X : Type 0} {x : X} → ◌≡◌ {A = Option X} None (Some x) → ⊥
-    nothing e = search rules
-
-    some_same : (xs ys : List Text) → ◌≡◌ {A = Option (List Text)} (Some xs) (Some ys) → xs ≡ ys
-    some_same xs ys e = cc
-
-    by : (o : Option (List Text)) → plain_words rest ≡ o → name ≡ name_of (subcommand_for said)
-    by None e = absurd (nothing (sym (ap (option_map (λ l. name ∷ l)) e) ∙ h.0))
-    by (Some args) e =
-        let line : name ∷ args ≡ name_of (subcommand_for said) ∷ args_for said =
-        some_same (name ∷ args) (name_of (subcommand_for said) ∷ args_for said) (sym (ap (option_map (λ l. name ∷ l)) e) ∙ h.0 ∙ ap (λ l. Some l) (words_are said)) in
-        cc
-
 kept : (kinds more last : Kinds) (k : ErrorKind) (ks : Kinds) → kinds ≡ k ∷ ks → or_else (or_else kinds more) last ≡ k ∷ ks
 kept [] more last k ks e = absurd cc
 kept (x ∷ xs) more last k ks e = e
@@ -131,7 +114,7 @@ module _ (name : Text) (none : IsNoName name) where
 
   says_none : (rest : List Text) (said : Words) → Says (name ∷ rest) said → ⊥
   says_none rest said h =
-      let bad : true ≡ false = sym ((bytes_eq-Decides (name_of (subcommand_for said)) name).1 (sym (says_first name rest said h))) ∙ none.missing (subcommand_for said) in
+      let bad : true ≡ false = sym ((bytes_eq-Decides (name_of (subcommand_for said)) name).1 (sym (says_parts name rest said h).0)) ∙ none.missing (subcommand_for said) in
       absurd cc
 
   asks_is : (rest : List Text) → asks_help (name ∷ rest) ≡ asks name
@@ -211,11 +194,7 @@ help_told rest = record {
 
     no_name_help : (v : Subcommand) → bytes_eq (name_of v) (codes "help") ≡ false
     no_name_help subcommand.Init = refl
-    no_name_help subcommand.Stream = refl
-    no_name_help subcommand.Serve = refl
-    no_name_help subcommand.Import = refl
-    no_name_help subcommand.Statement = refl
-    no_name_help subcommand.Migrate = refl
+    no_name_help _ = refl
 
     no_help : (said : Words) → codes "help" ≡ name_of (subcommand_for said) → ⊥
     no_help said e =
@@ -223,7 +202,7 @@ help_told rest = record {
         absurd cc
 
     says_name : (said : Words) → Says (codes "help" ∷ rest) said → codes "help" ≡ name_of (subcommand_for said)
-    says_name said h = says_first (codes "help") rest said h
+    says_name said h = (says_parts (codes "help") rest said h).0
 
 -- what is told of any words, but none
 pub told : (words : List Text) → words ≢ [] → AreTexts words → IsTold words
@@ -231,11 +210,6 @@ told [] some texts = absurd (some refl)
 told (name ∷ rest) some texts = by (first_word name) texts.0
   where
     by : {name : Text} → First name → IsUtf8 name → IsTold (name ∷ rest)
-    by (is_name subcommand.Init) text = init_told rest texts.1
-    by (is_name subcommand.Stream) text = stream_told rest texts.1
-    by (is_name subcommand.Serve) text = serve_told rest texts.1
-    by (is_name subcommand.Import) text = import_told rest texts.1
-    by (is_name subcommand.Statement) text = statement_told rest texts.1
-    by (is_name subcommand.Migrate) text = migrate_told rest texts.1
+    by (is_name v) text = name_told v rest texts.1
     by is_help text = help_told rest
     by (is_other {name = name} none) text = other_told name none rest (kind_of_word name) text

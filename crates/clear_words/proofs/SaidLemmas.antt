@@ -1,10 +1,10 @@
 -- What is said, as a subcommand and the words behind it.
-use Rattle.std.proofs.Common.{◌≡◌, List, [], ◌∷◌, refl, length, map}
-use Rattle.std.specs.Prelude.{Option, Some, codes}
+use Rattle.std.proofs.Common.{◌≡◌, List, [], ◌∷◌, refl, sym, ap, ◌∙◌, length, map, rules}
+use Rattle.std.specs.Prelude.{Option, Some, None, codes, option_map}
 use Rattle.std.specs.Fmt.{decimal}
 use Rattle.clap.specs.Words.{Row, Text, first_of}
 use Rattle.clear_money.specs.Texts.{day_text}
-use Rattle.clear_words.specs.Lines.{IsInRange, words_for}
+use Rattle.clear_words.specs.Lines.{IsInRange, Says, plain_words, words_for}
 use Rattle.clear_words.specs.Rows.{HasWords, subcommand_for, subcommand_named}
 use Rattle.clear_words.specs.declared.words.Words.{Words}
 use Rattle.clear_words.specs.declared.words.Words.TheVariants.{Init, Stream, Serve, Import, Statement, Migrate}
@@ -37,27 +37,34 @@ args_for (Migrate s) = s.now ∷ []
 
 pub words_are : (said : Words) → words_for said ≡ name_of (subcommand_for said) ∷ args_for said
 words_are (Init s r) = refl
-words_are (Stream r c d) = refl
-words_are (Serve s c d p n) = refl
-words_are (Import s d n f) = refl
-words_are (Statement s d e) = refl
-words_are (Migrate s) = refl
+words_are _ = refl
 
 pub enough_args : (said : Words) → length (args_for said) ≡ length (ids (subcommand_for said))
 enough_args (Init s r) = refl
-enough_args (Stream r c d) = refl
-enough_args (Serve s c d p n) = refl
-enough_args (Import s d n f) = refl
-enough_args (Statement s d e) = refl
-enough_args (Migrate s) = refl
+enough_args _ = refl
 
 pub named : (v : Subcommand) → subcommand_named (name_of v) ≡ Some v
 named subcommand.Init = refl
-named subcommand.Stream = refl
-named subcommand.Serve = refl
-named subcommand.Import = refl
-named subcommand.Statement = refl
-named subcommand.Migrate = refl
+named _ = refl
+
+pub some_same : (xs ys : List Text) → ◌≡◌ {A = Option (List Text)} (Some xs) (Some ys) → xs ≡ ys
+some_same xs ys e = cc
+
+-- words say a subcommand and the words behind it
+pub says_parts : (name : Text) (rest : List Text) (said : Words) → Says (name ∷ rest) said
+    → (name ≡ name_of (subcommand_for said)) × (plain_words rest ≡ Some (args_for said))
+says_parts name rest said says = by (plain_words rest) refl
+  where
+    nothing : {X : Type 0} {x : X} → ◌≡◌ {A = Option X} None (Some x) → ⊥
+    nothing e = search rules
+
+    by : (o : Option (List Text)) → plain_words rest ≡ o → (name ≡ name_of (subcommand_for said)) × (plain_words rest ≡ Some (args_for said))
+    by None e = absurd (nothing (sym (ap (option_map (λ l. name ∷ l)) e) ∙ says.0))
+    by (Some args) e =
+        let line : name ∷ args ≡ name_of (subcommand_for said) ∷ args_for said =
+        some_same (name ∷ args) (name_of (subcommand_for said) ∷ args_for said) (sym (ap (option_map (λ l. name ∷ l)) e) ∙ says.0 ∙ ap (λ l. Some l) (words_are said)) in
+        let args_are : args ≡ args_for said = cc in
+        (cc, e ∙ ap (λ l. Some l) args_are)
 
 abbrev pub given : List Row → List Text → List (Option Text)
 given rows names = map (λ id. first_of id rows) names
