@@ -1,5 +1,5 @@
 -- What a reading of the command line by `clap` says.
-use Rattle.std.specs.Prelude.{◌≡◌, List, Option, Some, None, if◌then◌else◌, codes}
+use Rattle.std.specs.Prelude.{◌≡◌, ℕ, List, Option, Some, None, IfSome, IfNone, if◌then◌else◌, codes}
 use Rattle.std.specs.Str.{bytes_eq}
 use Rattle.std.specs.Fmt.{decimal}
 use Rattle.clap.specs.Words.{Row, Text, first_of}
@@ -26,6 +26,11 @@ subcommand_named name = if bytes_eq name (codes "init") then Some subcommand.Ini
 -- the word that was given in a place
 abbrev pub IsWord : List Row → Text → Text → Type 0
 IsWord rows id text = first_of id rows ≡ Some text
+
+-- a place read as a number: the one that its word writes, if one of those meant is written there
+abbrev pub ReadsPlace : List Row → Text → (ℕ → Text) → (ℕ → Type 0) → Option ℕ → Type 0
+ReadsPlace rows id written IsMeant result = IfSome result (λ n. IsWord rows id (written n) × IsMeant n)
+    × IfNone result ((n : ℕ) → IsMeant n → ¬ IsWord rows id (written n))
 
 -- the subcommand of what is said
 abbrev pub subcommand_for : Words → Subcommand
@@ -55,6 +60,11 @@ HasWords rows (Statement s d e) = IsWord rows (codes "STORE") s.now
     × (IsWord rows (codes "DAY") (day_text d) × IsDay d)
     × (IsWord rows (codes "EMPLOYER") (decimal e) × IsEmployerNo e)
 HasWords rows (Migrate s) = IsWord rows (codes "STORE") s.now
+
+-- the words read for a subcommand: what they say, if they say something
+abbrev pub ReadsWords : List Row → Subcommand → Option Words → Type 0
+ReadsWords rows v result = IfSome result (λ said. (subcommand_for said ≡ v) × HasWords rows said)
+    × IfNone result ((said : Words) → subcommand_for said ≡ v → ¬ HasWords rows said)
 
 -- a reading names what is said
 abbrev pub Names : Option (Text × List Row) → Words → Type 0
