@@ -1,22 +1,22 @@
 -- The level of a subcommand, for any names of its places: each plain word goes to the next place.
-use Rattle.std.proofs.Common.{◌≡◌, ℕ, Bool, true, false, List, [], ◌∷◌, ◌++◌, refl, sym, ap, subst, ◌∙◌, ◌+◌, ◌<◌, ◌≤◌, length, map, arith}
-use Rattle.std.specs.Prelude.{Some, None, fold, if◌then◌else◌, min, ◌&&◌, slice_get, option_and_then}
+use Rattle.std.proofs.Common.{◌≡◌, ℕ, Bool, true, false, List, [], ◌∷◌, ◌++◌, refl, sym, ap, subst, ◌∙◌, ◌+◌, ◌<◌, ◌≤◌, length, arith}
+use Rattle.std.specs.Prelude.{Some, None, fold, if◌then◌else◌, min, ◌&&◌}
 use Rattle.std.specs.List.{list_any}
 use Rattle.std.specs.Option.{option_map_or}
 use Rattle.std.proofs.Math.Bool.{and-false, or-false, or-true}
 use Rattle.std.proofs.Math.Nat.{min-eq_left}
 use Rattle.std.proofs.lemmas.List.{append-nil, append_assoc, length-append}
-use Rattle.std.proofs.lemmas.Simd.{map-map}
 use Rattle.clap.specs.Faults.{check_fault, defaults_fault, given_default_fault, positional_fault, settle_fault, step_fault, stray_fault, use_fault}
 use Rattle.clap.specs.Kinds.{check_kinds, or_else}
 use Rattle.clap.specs.Lexer.{usize_max}
 use Rattle.clap.specs.Simple.{new_shape}
 use Rattle.clap.specs.Walk.{Held, Row, Rule, Text, arg_by_id, arg_by_index, finished, has_row, idle, is_pending, more_values, nothing_held, positional_held, pushed, settled, to_positional, used, used_by_id, value, with_default, with_values}
-use Rattle.clap.specs.Words.{Shape, first_of}
+use Rattle.clap.specs.Words.{Shape}
 use Rattle.clap.specs.declared.error.ErrorKind.TheVariants as kind
 use Rattle.clap.specs.declared.parser.matches.ValueSource.TheVariants.{CommandLine}
+use Rattle.clear_words.specs.Rows.{AreWords}
 use Rattle.clear_words.proofs.LevelLemmas.{Free, IsLevel, More, Settles, place, tail_fault}
-use Rattle.clear_words.proofs.PlaceLemmas.{are_apart, at_no_row, found, lacks, long_help, no_place, none_lacks, place_at, place_rule, row, rows_for, rows_found, rows_or_none, rules_from, short_help, some_lacks, wants_is, words_found}
+use Rattle.clear_words.proofs.PlaceLemmas.{are_apart, at_no_row, lacks, long_help, no_place, none_lacks, place_at, place_rule, row, rows_for, rows_found, rows_or_none, rules_from, short_help, some_lacks, wants_is, words_found}
 use Rattle.clear_words.proofs.WordLemmas.{help}
 
 -- a subcommand with these places, as it is built below the program's command
@@ -115,11 +115,8 @@ module _ (ids : List Text) (apart : are_apart ids ≡ true) where
   finished_is : (xs : List Text) → length xs ≤ length ids → finished (rules_from 1 ids) (held_for ids xs) ≡ rows_for ids xs
   finished_is xs le = ap (λ (h : Held). fold with_default h.rows (rules_from 1 ids)) (stands xs le).rows ∙ no_defaults 1 ids (rows_for ids xs)
 
-  pub finds : (xs : List Text) → length xs ≡ length ids → map (λ id. first_of id (finished (rules_from 1 ids) (held_for ids xs))) ids ≡ map (λ x. Some x) xs
-  finds xs all = ap (λ rows. map (λ id. first_of id rows) ids) (finished_is xs (omega (arith, all)))
-      ∙ sym (map-map (option_and_then (λ (r : Row). slice_get r.values 0)) (found (rows_for ids xs)) ids)
-      ∙ ap (map (option_and_then (λ (r : Row). slice_get r.values 0))) (rows_found ids xs apart)
-      ∙ words_found ids xs all
+  pub finds : (xs : List Text) → length xs ≡ length ids → AreWords (finished (rules_from 1 ids) (held_for ids xs)) ids xs
+  finds xs all = subst (λ rows. AreWords rows ids xs) (sym (finished_is xs (omega (arith, all)))) (words_found (rows_for ids xs) ids xs (rows_found ids xs apart) all)
 
   module _ (name : Text) where
     tail_is : (xs : List Text) → length xs ≤ length ids → tail_fault (level name ids) (held_for ids xs) ≡ check_kinds false false (list_any lacks (rows_or_none ids xs))

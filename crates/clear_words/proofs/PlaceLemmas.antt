@@ -13,6 +13,7 @@ use Rattle.clap.specs.Takes.{is_given}
 use Rattle.clap.specs.Walk.{Row, Rule, Text, arg_by_id, arg_by_index, arg_by_long, arg_by_short, at_row, has_row, reading_by}
 use Rattle.clap.specs.declared.parser.matches.ValueSource.TheVariants.{CommandLine}
 use Rattle.clear_words.specs.Command.{required}
+use Rattle.clear_words.specs.Rows.{AreWords}
 use Rattle.clear_words.proofs.WordLemmas.{help}
 
 -- the rule of the i-th place
@@ -184,8 +185,11 @@ some_lacks [] xs lt = absurd (omega arith)
 some_lacks (id ∷ ids) [] lt = refl
 some_lacks (id ∷ ids) (x ∷ xs) lt = some_lacks ids xs (omega arith)
 
-pub words_found : (ids xs : List Text) → length xs ≡ length ids → map (option_and_then (λ (r : Row). slice_get r.values 0)) (rows_or_none ids xs) ≡ map (λ x. Some x) xs
-words_found [] [] all = refl
-words_found [] (x ∷ xs) all = absurd (omega arith)
-words_found (id ∷ ids) [] all = absurd (omega arith)
-words_found (id ∷ ids) (x ∷ xs) all = ap (λ os. Some x ∷ os) (words_found ids xs (omega arith))
+pub words_found : (rows : List Row) (ids xs : List Text) → map (found rows) ids ≡ rows_or_none ids xs → length xs ≡ length ids → AreWords rows ids xs
+words_found rows [] [] e all = tt
+words_found rows [] (x ∷ xs) e all = absurd (omega arith)
+words_found rows (id ∷ ids) [] e all = absurd (omega arith)
+words_found rows (id ∷ ids) (x ∷ xs) e all =
+    let first : found rows id ≡ Some (row id x) = cc in
+    let rest : map (found rows) ids ≡ rows_or_none ids xs = cc in
+    (ap (option_and_then (λ (r : Row). slice_get r.values 0)) first, words_found rows ids xs rest (omega arith))

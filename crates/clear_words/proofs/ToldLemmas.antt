@@ -1,5 +1,5 @@
 -- The words of a command line, by its subcommand.
-use Rattle.std.proofs.Common.{◌≡◌, ◌≢◌, ⊎_elim, ℕ, ◌<◌, Bool, true, false, List, [], ◌∷◌, refl, sym, ap, subst, ◌∙◌, length, map, arith}
+use Rattle.std.proofs.Common.{◌≡◌, ◌≢◌, ⊎_elim, ℕ, ◌<◌, Bool, true, false, List, [], ◌∷◌, refl, sym, ap, subst, ◌∙◌, length, arith}
 use Rattle.std.specs.Prelude.{Some, find, option_map, ◌||◌}
 use Rattle.std.specs.Option.{option_map_or}
 use Rattle.clap.specs.Kinds.{IsAmong, Kinds}
@@ -12,32 +12,32 @@ use Rattle.clap.specs.declared.error.ErrorKind.TheVariants as kind
 use Rattle.clap.proofs.OnLiterals.{clap_on_literals}
 use Rattle.clear_words.specs.Command.{command_line}
 use Rattle.clear_words.specs.Lines.{Says, asks, asks_behind, asks_help, calls_help, places, plain_words}
-use Rattle.clear_words.specs.Rows.{HasWords, Names, subcommand_for, subcommand_named}
+use Rattle.clear_words.specs.Rows.{AreWords, HasWords, Names, args_for, name_of, places_of, subcommand_for, subcommand_named}
 use Rattle.clear_words.specs.declared.words.Words.{Words}
 use Rattle.clear_words.specs.declared.subcommands.Subcommand.{Subcommand}
 use Rattle.clear_words.specs.declared.subcommands.Subcommand.TheVariants as subcommand
 use Rattle.clear_words.proofs.LevelLemmas.{AreTexts, IsRead, IsRefused, level_reads}
 use Rattle.clear_words.proofs.Levels.{finds, held_for, level, level_is}
 use Rattle.clear_words.proofs.PlaceLemmas.{are_apart}
-use Rattle.clear_words.proofs.SaidLemmas.{args_for, enough_args, given, has_words, ids, name_of, named, same_texts, says_parts, some_same, words_are, words_had}
+use Rattle.clear_words.proofs.SaidLemmas.{enough_args, named, same_words, says_parts, some_same, words_are}
 use Rattle.clear_words.proofs.TopLemmas.{entered_is, fault_is, own_fault}
 use Rattle.clear_words.proofs.WordLemmas.{Answers}
 
 -- the subcommand as it is built below the program's command
 abbrev level_of : Subcommand → Shape
-level_of v = level (name_of v) (ids v)
+level_of v = level (name_of v) (places_of v)
 
 -- ---- the table's rows
 
-apart : (v : Subcommand) → are_apart (ids v) ≡ true
+apart : (v : Subcommand) → are_apart (places_of v) ≡ true
 apart subcommand.Init = refl
 apart _ = refl
 
-small : (v : Subcommand) → length (ids v) < usize_max
+small : (v : Subcommand) → length (places_of v) < usize_max
 small subcommand.Init = omega arith
 small _ = omega arith
 
-in_table : (v : Subcommand) → places (name_of v) ≡ Some (length (ids v))
+in_table : (v : Subcommand) → places (name_of v) ≡ Some (length (places_of v))
 in_table subcommand.Init = refl
 in_table _ = refl
 
@@ -103,10 +103,10 @@ module _ (v : Subcommand) (rest : List Text) where
   s = level_of v
 
   abbrev n : ℕ
-  n = length (ids v)
+  n = length (places_of v)
 
   abbrev held : List Text → Held
-  held = held_for (ids v)
+  held = held_for (places_of v)
 
   asks_is : asks_help (name_of v ∷ rest) ≡ asks_behind n rest
   asks_is = ap (λ t. t || option_map_or (λ n. asks_behind n rest) (places (name_of v)) false) (no_help v)
@@ -132,31 +132,33 @@ module _ (v : Subcommand) (rest : List Text) where
     sound = λ said passes names. absurd (answers_none (asks_behind n rest) _ r.answers (sym (fault v rest) ∙ passes));
     complete = λ said says.
         let this = says_this said says in
-        absurd (r.other (args_for said) this.1 (enough_args said ∙ sym (ap (λ u. length (ids u)) this.0)));
+        absurd (r.other (args_for said) this.1 (enough_args said ∙ sym (ap (λ u. length (places_of u)) this.0)));
     helps = λ asked. fault v rest ∙ answers_help (asks_behind n rest) _ r.answers (sym asks_is ∙ asked);
     asked = λ among. ap (λ t. t || calls_help (name_of v ∷ rest)) (asks_is ∙ among_asked (asks_behind n rest) _ r.answers (subst (IsAmong kind.DisplayHelp) (fault v rest) among));
   }
 
-  -- the rows have the words that were given
-  given_is : (r : IsRead s n held rest) (said : Words) → v ≡ subcommand_for said → given (rows_after s.rules [] rest) (ids (subcommand_for said)) ≡ map (λ t. Some t) r.args
-  given_is r said this = sym (ap (λ u. given (rows_after s.rules [] rest) (ids u)) this) ∙ ap (λ rows. given rows (ids v)) r.rows ∙ finds (ids v) (apart v) r.args r.all
+  -- the words behind the name stand in the places of what is said
+  in_places : (r : IsRead s n held rest) (said : Words) → v ≡ subcommand_for said → AreWords (rows_after s.rules [] rest) (places_of (subcommand_for said)) r.args
+  in_places r said this = subst (λ u. AreWords (rows_after s.rules [] rest) (places_of u) r.args) this
+      (subst (λ rows. AreWords rows (places_of v) r.args) (sym r.rows) (finds (places_of v) (apart v) r.args r.all))
 
   read_sound : (r : IsRead s n held rest) (said : Words) → Names (subcommand_of command_line (name_of v ∷ rest)) said → Says (name_of v ∷ rest) said
   read_sound r said names =
       let this = names_is said names in
-      let had = has_words (rows_after s.rules [] rest) said this.1 in
-      let args_are : r.args ≡ args_for said = same_texts r.args (args_for said) (sym (given_is r said this.0) ∙ had.0) in (
+      let args_are = same_words (rows_after s.rules [] rest) (places_of (subcommand_for said)) r.args (args_for said) (in_places r said this.0) this.1.0 in (
         ap (option_map (λ l. name_of v ∷ l)) r.plain
             ∙ (λ i. Some (name_of (this.0 i) ∷ args_are i)) ∙ sym (ap (λ l. Some l) (words_are said)),
-        had.1,
+        this.1.1,
       )
 
   read_complete : (r : IsRead s n held rest) (said : Words) → Says (name_of v ∷ rest) said → Names (subcommand_of command_line (name_of v ∷ rest)) said
   read_complete r said says =
       let this = says_this said says in
       let args_are : r.args ≡ args_for said = some_same r.args (args_for said) (sym r.plain ∙ this.1) in
-      subst (λ o. Names o said) (sym (entered v rest))
-      (named v ∙ ap (λ u. Some u) this.0, words_had (rows_after s.rules [] rest) said (given_is r said this.0 ∙ ap (map (λ t. Some t)) args_are) says.1)
+      subst (λ o. Names o said) (sym (entered v rest)) (
+        named v ∙ ap (λ u. Some u) this.0,
+        (subst (AreWords (rows_after s.rules [] rest) (places_of (subcommand_for said))) args_are (in_places r said this.0), says.1),
+      )
 
   read : IsRead s n held rest → IsTold (name_of v ∷ rest)
   read r = record {
@@ -168,4 +170,4 @@ module _ (v : Subcommand) (rest : List Text) where
 
   pub told : AreTexts rest → IsTold (name_of v ∷ rest)
   told texts = ⊎_elim (λ (r : IsRead s n held rest). read r) (λ (r : IsRefused s n rest). refused r)
-      (level_reads s n held (level_is (ids v) (apart v) (name_of v) (small v)) rest texts)
+      (level_reads s n held (level_is (places_of v) (apart v) (name_of v) (small v)) rest texts)

@@ -22,20 +22,14 @@ pub(crate) enum Subcommand {
 fn subcommand_named(name: &str) -> Option<Subcommand>
     ensures { result ≡ subcommand_named name.now }
 {
-    if name == "init" {
-        Some(Subcommand::Init)
-    } else if name == "stream" {
-        Some(Subcommand::Stream)
-    } else if name == "serve" {
-        Some(Subcommand::Serve)
-    } else if name == "import" {
-        Some(Subcommand::Import)
-    } else if name == "statement" {
-        Some(Subcommand::Statement)
-    } else if name == "migrate" {
-        Some(Subcommand::Migrate)
-    } else {
-        None
+    match name {
+        "init" => Some(Subcommand::Init),
+        "stream" => Some(Subcommand::Stream),
+        "serve" => Some(Subcommand::Serve),
+        "import" => Some(Subcommand::Import),
+        "statement" => Some(Subcommand::Statement),
+        "migrate" => Some(Subcommand::Migrate),
+        _ => None,
     }
 }
 
@@ -118,8 +112,7 @@ pub(crate) fn read_subcommand<'a>(name: &str, words: &ArgMatches<'a>) -> Option<
     ensures only { IfNone result ((said : Words) →
         ¬ Names (Some (name.now, rows_of (found_of words.now))) said) }
 {
-    let subcommand = subcommand_named(name)?;
-    match subcommand {
+    match subcommand_named(name)? {
         Subcommand::Init => read_init(words),
         Subcommand::Stream => read_stream(words),
         Subcommand::Serve => read_serve(words),
