@@ -4,6 +4,7 @@ use Rattle.std.specs.Prelude.{Option, Some, None, codes, find, if◌then◌else�
 use Rattle.std.specs.Option.{option_map_or}
 use Rattle.std.specs.Str.{IsUtf8, bytes_eq}
 use Rattle.std.proofs.Math.Bool.{or-false}
+use Rattle.std.proofs.lemmas.Option.{none-some}
 use Rattle.std.proofs.lemmas.Slice.Eq.{bytes_eq-Decides}
 use Rattle.clap.specs.Kinds.{IsAmong, Kinds, or_else}
 use Rattle.clap.specs.Faults.{other_fault, turn_fault, walk_fault, word_fault}
@@ -24,7 +25,7 @@ use Rattle.clear_words.proofs.LevelLemmas.{AreTexts}
 use Rattle.clear_words.proofs.OptionLemmas.{HasHelp, long_answers, short_answers}
 use Rattle.clear_words.proofs.SaidLemmas.{named, says_parts}
 use Rattle.clear_words.proofs.ToldLemmas.{IsTold, among_asked, answers_help, answers_none, told as name_told}
-use Rattle.clear_words.proofs.WordLemmas.{Answers, Kind, dashes, help, is_dashes, is_long, is_plain, is_short, kind_of_word, plain_met}
+use Rattle.clear_words.proofs.WordLemmas.{Answers, Kind, dashes, first_answers, help, is_dashes, is_long, is_plain, is_short, kind_of_word, plain_met}
 
 -- what the first word is
 pub data First : Text → Type 0 where
@@ -32,12 +33,9 @@ pub data First : Text → Type 0 where
   is_help : First (codes "help")
   is_other : {name : Text} → subcommand_named name ≡ None → bytes_eq (codes "help") name ≡ false → First name
 
-nothing : {X : Type 0} {x : X} → ◌≡◌ {A = Option X} (Some x) None → ⊥
-nothing e = search rules
-
 -- what is found passes
 find_passes : {X : Type 0} (p : X → Bool) (xs : List X) (y : X) → find p xs ≡ Some y → p y ≡ true
-find_passes p [] y e = absurd (nothing (sym e))
+find_passes p [] y e = absurd (none-some y e)
 find_passes p (x ∷ xs) y e = by (p x) refl (find_passes p xs y)
   where
     by : (t : Bool) → p x ≡ t → (find p xs ≡ Some y → p y ≡ true) → p y ≡ true
@@ -64,14 +62,14 @@ none_answers name (v ∷ vs) more none = by (bytes_eq (name_of v) name) refl (no
     by : (t : Bool) → bytes_eq (name_of v) name ≡ t
         → (find (λ v. bytes_eq (name_of v) name) vs ≡ None → find (answers_to name) (map (λ v. (name_of v, [])) vs ++ more) ≡ find (answers_to name) more)
         → find (answers_to name) (map (λ v. (name_of v, [])) (v ∷ vs) ++ more) ≡ find (answers_to name) more
-    by true is next = absurd (nothing (sym (ap (λ t. if t then Some v else find (λ v. bytes_eq (name_of v) name) vs) is) ∙ none))
+    by true is next = absurd (none-some v (sym none ∙ ap (λ t. if t then Some v else find (λ v. bytes_eq (name_of v) name) vs) is))
     by false is next = ap (λ t. if t || false then Some (name_of v, []) else find (answers_to name) (map (λ v. (name_of v, [])) vs ++ more)) is
         ∙ next (sym (ap (λ t. if t then Some v else find (λ v. bytes_eq (name_of v) name) vs) is) ∙ none)
 
 -- what is said begins with the name of a subcommand
 says_none : (name : Text) (rest : List Text) (said : Words) → subcommand_named name ≡ None → Says (name ∷ rest) said → ⊥
 says_none name rest said none says =
-    nothing (sym (named (subcommand_for said)) ∙ ap subcommand_named (sym (says_parts name rest said says).0) ∙ none)
+    none-some (subcommand_for said) (sym none ∙ ap subcommand_named (says_parts name rest said says).0 ∙ named (subcommand_for said))
 
 top_help : HasHelp (built command_line).top
 unfolding clap_on_literals command_line
@@ -83,10 +81,6 @@ top_help = record {
 -- what the level of the program makes of a first word
 abbrev first_fault : Text → Kinds
 first_fault name = turn_fault (built command_line).top (names_of (built command_line)) (walk_from nothing_held) name
-
-first_answers : (asked : Bool) (kinds more : Kinds) → Answers asked kinds → Answers asked (or_else kinds more)
-first_answers true kinds more a = ap (λ ks. or_else ks more) a
-first_answers false kinds more a = (a.0, ap (λ ks. or_else ks more) a.1, a.2)
 
 kept : (kinds more last : Kinds) (k : ErrorKind) (ks : Kinds) → kinds ≡ k ∷ ks → or_else (or_else kinds more) last ≡ k ∷ ks
 kept [] more last k ks e = absurd cc

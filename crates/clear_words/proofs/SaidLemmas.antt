@@ -1,6 +1,7 @@
 -- What is said, as a subcommand and the words behind it.
-use Rattle.std.proofs.Common.{◌≡◌, List, [], ◌∷◌, refl, sym, ap, ◌∙◌, length, rules}
+use Rattle.std.proofs.Common.{◌≡◌, List, [], ◌∷◌, refl, sym, ap, ◌∙◌, length}
 use Rattle.std.specs.Prelude.{Option, Some, None, option_map}
+use Rattle.std.proofs.lemmas.Option.{none-some}
 use Rattle.clap.specs.Words.{Row, Text}
 use Rattle.clear_words.specs.Lines.{Says, plain_words, words_for}
 use Rattle.clear_words.specs.Rows.{AreWords, args_for, name_of, places_of, subcommand_for, subcommand_named}
@@ -8,6 +9,7 @@ use Rattle.clear_words.specs.declared.words.Words.{Words}
 use Rattle.clear_words.specs.declared.words.Words.TheVariants.{Init}
 use Rattle.clear_words.specs.declared.subcommands.Subcommand.{Subcommand}
 use Rattle.clear_words.specs.declared.subcommands.Subcommand.TheVariants as subcommand
+use Rattle.clear_words.proofs.WordLemmas.{some_same}
 
 pub words_are : (said : Words) → words_for said ≡ name_of (subcommand_for said) ∷ args_for said
 words_are (Init s r) = refl
@@ -21,19 +23,13 @@ pub named : (v : Subcommand) → subcommand_named (name_of v) ≡ Some v
 named subcommand.Init = refl
 named _ = refl
 
-pub some_same : (xs ys : List Text) → ◌≡◌ {A = Option (List Text)} (Some xs) (Some ys) → xs ≡ ys
-some_same xs ys e = cc
-
 -- words say a subcommand and the words behind it
 pub says_parts : (name : Text) (rest : List Text) (said : Words) → Says (name ∷ rest) said
     → (name ≡ name_of (subcommand_for said)) × (plain_words rest ≡ Some (args_for said))
 says_parts name rest said says = by (plain_words rest) refl
   where
-    nothing : {X : Type 0} {x : X} → ◌≡◌ {A = Option X} None (Some x) → ⊥
-    nothing e = search rules
-
     by : (o : Option (List Text)) → plain_words rest ≡ o → (name ≡ name_of (subcommand_for said)) × (plain_words rest ≡ Some (args_for said))
-    by None e = absurd (nothing (sym (ap (option_map (λ l. name ∷ l)) e) ∙ says.0))
+    by None e = absurd (none-some _ (sym (ap (option_map (λ l. name ∷ l)) e) ∙ says.0))
     by (Some args) e =
         let line : name ∷ args ≡ name_of (subcommand_for said) ∷ args_for said =
         some_same (name ∷ args) (name_of (subcommand_for said) ∷ args_for said) (sym (ap (option_map (λ l. name ∷ l)) e) ∙ says.0 ∙ ap (λ l. Some l) (words_are said)) in

@@ -19,9 +19,9 @@ use Rattle.clear_words.specs.declared.subcommands.Subcommand.TheVariants as subc
 use Rattle.clear_words.proofs.LevelLemmas.{AreTexts, IsRead, IsRefused, level_reads}
 use Rattle.clear_words.proofs.Levels.{finds, held_for, level, level_is}
 use Rattle.clear_words.proofs.PlaceLemmas.{are_apart}
-use Rattle.clear_words.proofs.SaidLemmas.{enough_args, named, same_words, says_parts, some_same, words_are}
+use Rattle.clear_words.proofs.SaidLemmas.{enough_args, named, same_words, says_parts, words_are}
 use Rattle.clear_words.proofs.TopLemmas.{entered_is, fault_is, own_fault}
-use Rattle.clear_words.proofs.WordLemmas.{Answers}
+use Rattle.clear_words.proofs.WordLemmas.{Answers, some_same}
 
 -- the subcommand as it is built below the program's command
 abbrev level_of : Subcommand → Shape
@@ -114,7 +114,7 @@ module _ (v : Subcommand) (rest : List Text) where
 
   -- what is said is of this subcommand
   of_this : (said : Words) → subcommand_named (name_of v) ≡ Some (subcommand_for said) → v ≡ subcommand_for said
-  of_this said e = let same : Some v ≡ Some (subcommand_for said) = sym (named v) ∙ e in cc
+  of_this said e = some_same v (subcommand_for said) (sym (named v) ∙ e)
 
   says_this : (said : Words) → Says (name_of v ∷ rest) said → (v ≡ subcommand_for said) × (plain_words rest ≡ Some (args_for said))
   says_this said says =
