@@ -1,90 +1,75 @@
 -- The words of any command line, by the first of them.
-use Rattle.std.proofs.Common.{◌≡◌, ◌≢◌, ⊎_elim, Bool, true, false, List, [], ◌∷◌, refl, sym, ap, subst, ◌∙◌, rules}
-use Rattle.std.specs.Prelude.{⊤, Option, Some, None, codes, find, if◌then◌else◌, length, option_map, ◌||◌, ◌==◌}
+use Rattle.std.proofs.Common.{◌≡◌, ◌≢◌, ◌++◌, map, ⊎_elim, Bool, true, false, List, [], ◌∷◌, refl, sym, ap, subst, ◌∙◌, rules}
+use Rattle.std.specs.Prelude.{Option, Some, None, codes, find, if◌then◌else◌, length, option_map, ◌||◌, ◌==◌}
 use Rattle.std.specs.Option.{option_map_or}
 use Rattle.std.specs.Str.{IsUtf8, bytes_eq}
 use Rattle.std.proofs.Math.Bool.{or-false}
+use Rattle.std.proofs.lemmas.Option.{none-some}
 use Rattle.std.proofs.lemmas.Slice.Eq.{bytes_eq-Decides}
 use Rattle.clap.specs.Kinds.{IsAmong, Kinds, or_else}
 use Rattle.clap.specs.Faults.{other_fault, turn_fault, walk_fault, word_fault}
 use Rattle.clap.specs.Simple.{built, names_of}
-use Rattle.clap.specs.Walk.{Text, answers_to, idle, nothing_held, subcommand_met, subcommand_or_other, value, walk_from, word_met}
+use Rattle.clap.specs.Walk.{Names, Text, answers_to, idle, nothing_held, subcommand_met, subcommand_or_other, value, walk_from, word_met}
 use Rattle.clap.specs.Words.{fault_of, subcommand_of}
 use Rattle.clap.specs.declared.error.ErrorKind.{ErrorKind}
 use Rattle.clap.specs.declared.error.ErrorKind.TheVariants as kind
 use Rattle.clap.proofs.FaultLemmas.{turn_is}
+use Rattle.clap.proofs.WalkLemmas.{find-map}
 use Rattle.clap.proofs.OnLiterals.{clap_on_literals}
 use Rattle.clear_words.specs.Command.{command_line}
-use Rattle.clear_words.specs.Lines.{Says, table, asks, asks_behind, asks_help, calls_help, places, plain_words}
-use Rattle.clear_words.specs.Rows.{Names, subcommand_for}
+use Rattle.clear_words.specs.Lines.{Says, asks, asks_behind, asks_help, calls_help, places}
+use Rattle.clear_words.specs.Rows.{Names as NamesWords, name_of, places_of, subcommand_for, subcommand_named, subcommands}
 use Rattle.clear_words.specs.declared.words.Words.{Words}
 use Rattle.clear_words.specs.declared.subcommands.Subcommand.{Subcommand}
-use Rattle.clear_words.specs.declared.subcommands.Subcommand.TheVariants as subcommand
 use Rattle.clear_words.proofs.LevelLemmas.{AreTexts}
 use Rattle.clear_words.proofs.OptionLemmas.{HasHelp, long_answers, short_answers}
-use Rattle.clear_words.proofs.SaidLemmas.{args_for, name_of, words_are}
-use Rattle.clear_words.proofs.ToldLemmas.{IsTold, among_asked, answers_help, answers_none, init_told, stream_told, serve_told, import_told, statement_told, migrate_told}
-use Rattle.clear_words.proofs.WordLemmas.{Answers, Kind, dashes, help, is_dashes, is_long, is_plain, is_short, kind_of_word, plain_met}
-
--- the word is the name of no subcommand, and isn't `help`
-pub record IsNoName (name : Text) : Type 0 where
-  pub missing : (v : Subcommand) → bytes_eq (name_of v) name ≡ false
-  pub met : subcommand_met (names_of (built command_line)) idle name ≡ None
-  pub table : places name ≡ None
+use Rattle.clear_words.proofs.SaidLemmas.{named, says_parts}
+use Rattle.clear_words.proofs.ToldLemmas.{IsTold, among_asked, answers_help, answers_none, told as name_told}
+use Rattle.clear_words.proofs.WordLemmas.{Answers, Kind, dashes, first_answers, help, is_dashes, is_long, is_plain, is_short, kind_of_word, plain_met}
 
 -- what the first word is
 pub data First : Text → Type 0 where
   is_name : (v : Subcommand) → First (name_of v)
   is_help : First (codes "help")
-  is_other : {name : Text} → IsNoName name → First name
+  is_other : {name : Text} → subcommand_named name ≡ None → bytes_eq (codes "help") name ≡ false → First name
 
--- no element passes
-abbrev Misses : {X : Type 0} → (X → Bool) → List X → Type 0
-Misses p [] = ⊤
-Misses p (x ∷ xs) = (p x ≡ false) × Misses p xs
-
-find_none : {X : Type 0} (p : X → Bool) (xs : List X) → Misses p xs → find p xs ≡ None
-find_none p [] m = refl
-find_none p (x ∷ xs) m = ap (λ t. if t then Some x else find p xs) m.0 ∙ find_none p xs m.1
-
-no_name : (name : Text) → ((v : Subcommand) → bytes_eq (name_of v) name ≡ false) → bytes_eq (codes "help") name ≡ false → IsNoName name
-unfolding clap_on_literals command_line
-no_name name other not_help =
-    let met : Misses (answers_to name) (names_of (built command_line)) =
-    (ap (λ t. t || false) (other subcommand.Init), (ap (λ t. t || false) (other subcommand.Stream), (ap (λ t. t || false) (other subcommand.Serve), (ap (λ t. t || false) (other subcommand.Import), (ap (λ t. t || false) (other subcommand.Statement), (ap (λ t. t || false) (other subcommand.Migrate), (ap (λ t. t || false) not_help, tt))))))) in
-    let none : Misses (λ (row : Text × List Text). bytes_eq row.0 name) table =
-    (other subcommand.Init, (other subcommand.Stream, (other subcommand.Serve, (other subcommand.Import, (other subcommand.Statement, (other subcommand.Migrate, tt)))))) in
-    record {
-      missing = other;
-      met = ap (λ (o : Option (Text × List Text)). option_map (λ s. s.0) o) (find_none (answers_to name) (names_of (built command_line)) met);
-      table = ap (λ (o : Option (Text × List Text)). option_map (λ row. length row.1) o) (find_none (λ (row : Text × List Text). bytes_eq row.0 name) table none);
-    }
-
--- a word is the name, or other than it
-by_name : (name : Text) (n : Text) → First n → (bytes_eq n name ≡ false → First name) → First name
-by_name name n is other = go (bytes_eq n name) refl
+-- what is found passes
+find_passes : {X : Type 0} (p : X → Bool) (xs : List X) (y : X) → find p xs ≡ Some y → p y ≡ true
+find_passes p [] y e = absurd (none-some y e)
+find_passes p (x ∷ xs) y e = by (p x) refl (find_passes p xs y)
   where
-    go : (t : Bool) → bytes_eq n name ≡ t → First name
-    go true e = subst First ((bytes_eq-Decides n name).0 e) is
-    go false e = other e
+    by : (t : Bool) → p x ≡ t → (find p xs ≡ Some y → p y ≡ true) → p y ≡ true
+    by true is next = let same : Some x ≡ Some y = sym (ap (λ t. if t then Some x else find p xs) is) ∙ e in cc
+    by false is next = next (sym (ap (λ t. if t then Some x else find p xs) is) ∙ e)
 
 pub first_word : (name : Text) → First name
-first_word name =
-    by_name name (codes "init") (is_name subcommand.Init) (λ init.
-    by_name name (codes "stream") (is_name subcommand.Stream) (λ stream.
-    by_name name (codes "serve") (is_name subcommand.Serve) (λ serve.
-    by_name name (codes "import") (is_name subcommand.Import) (λ import.
-    by_name name (codes "statement") (is_name subcommand.Statement) (λ statement.
-    by_name name (codes "migrate") (is_name subcommand.Migrate) (λ migrate.
-    by_name name (codes "help") is_help (λ not_help.
-    is_other (no_name name (λ v. elim v as (λ u. bytes_eq (name_of u) name ≡ false) [
-      | subcommand.Init ↦ init
-      | subcommand.Stream ↦ stream
-      | subcommand.Serve ↦ serve
-      | subcommand.Import ↦ import
-      | subcommand.Statement ↦ statement
-      | subcommand.Migrate ↦ migrate
-    ]) not_help))))))))
+first_word name = by (subcommand_named name) refl
+  where
+    by_help : (t : Bool) → bytes_eq (codes "help") name ≡ t → subcommand_named name ≡ None → First name
+    by_help true e none = subst First ((bytes_eq-Decides (codes "help") name).0 e) is_help
+    by_help false e none = is_other none e
+
+    by : (o : Option Subcommand) → subcommand_named name ≡ o → First name
+    by (Some v) e = subst First ((bytes_eq-Decides (name_of v) name).0 (find_passes (λ u. bytes_eq (name_of u) name) subcommands v e)) (is_name v)
+    by None e = by_help (bytes_eq (codes "help") name) refl e
+
+-- subcommands of other names are passed over
+none_answers : (name : Text) (vs : List Subcommand) (more : Names) → find (λ v. bytes_eq (name_of v) name) vs ≡ None
+    → find (answers_to name) (map (λ v. (name_of v, [])) vs ++ more) ≡ find (answers_to name) more
+none_answers name [] more none = refl
+none_answers name (v ∷ vs) more none = by (bytes_eq (name_of v) name) refl (none_answers name vs more)
+  where
+    by : (t : Bool) → bytes_eq (name_of v) name ≡ t
+        → (find (λ v. bytes_eq (name_of v) name) vs ≡ None → find (answers_to name) (map (λ v. (name_of v, [])) vs ++ more) ≡ find (answers_to name) more)
+        → find (answers_to name) (map (λ v. (name_of v, [])) (v ∷ vs) ++ more) ≡ find (answers_to name) more
+    by true is next = absurd (none-some v (sym none ∙ ap (λ t. if t then Some v else find (λ v. bytes_eq (name_of v) name) vs) is))
+    by false is next = ap (λ t. if t || false then Some (name_of v, []) else find (answers_to name) (map (λ v. (name_of v, [])) vs ++ more)) is
+        ∙ next (sym (ap (λ t. if t then Some v else find (λ v. bytes_eq (name_of v) name) vs) is) ∙ none)
+
+-- what is said begins with the name of a subcommand
+says_none : (name : Text) (rest : List Text) (said : Words) → subcommand_named name ≡ None → Says (name ∷ rest) said → ⊥
+says_none name rest said none says =
+    none-some (subcommand_for said) (sym none ∙ ap subcommand_named (says_parts name rest said says).0 ∙ named (subcommand_for said))
 
 top_help : HasHelp (built command_line).top
 unfolding clap_on_literals command_line
@@ -97,45 +82,28 @@ top_help = record {
 abbrev first_fault : Text → Kinds
 first_fault name = turn_fault (built command_line).top (names_of (built command_line)) (walk_from nothing_held) name
 
-first_answers : (asked : Bool) (kinds more : Kinds) → Answers asked kinds → Answers asked (or_else kinds more)
-first_answers true kinds more a = ap (λ ks. or_else ks more) a
-first_answers false kinds more a = (a.0, ap (λ ks. or_else ks more) a.1, a.2)
-
--- the first word is the name of what is said
-says_first : (name : Text) (rest : List Text) (said : Words) → Says (name ∷ rest) said → name ≡ name_of (subcommand_for said)
-says_first name rest said h = by (plain_words rest) refl
-  where
-    nothing : {X : Type 0} {x : X} → ◌≡◌ {A = Option X} None (Some x) → ⊥
-    nothing e = search rules
-
-    some_same : (xs ys : List Text) → ◌≡◌ {A = Option (List Text)} (Some xs) (Some ys) → xs ≡ ys
-    some_same xs ys e = cc
-
-    by : (o : Option (List Text)) → plain_words rest ≡ o → name ≡ name_of (subcommand_for said)
-    by None e = absurd (nothing (sym (ap (option_map (λ l. name ∷ l)) e) ∙ h.0))
-    by (Some args) e =
-        let line : name ∷ args ≡ name_of (subcommand_for said) ∷ args_for said =
-        some_same (name ∷ args) (name_of (subcommand_for said) ∷ args_for said) (sym (ap (option_map (λ l. name ∷ l)) e) ∙ h.0 ∙ ap (λ l. Some l) (words_are said)) in
-        cc
-
 kept : (kinds more last : Kinds) (k : ErrorKind) (ks : Kinds) → kinds ≡ k ∷ ks → or_else (or_else kinds more) last ≡ k ∷ ks
 kept [] more last k ks e = absurd cc
 kept (x ∷ xs) more last k ks e = e
 
-module _ (name : Text) (none : IsNoName name) where
+module _ (name : Text) (none : subcommand_named name ≡ None) (not_help : bytes_eq (codes "help") name ≡ false) where
+  no_subcommand : subcommand_met (names_of (built command_line)) idle name ≡ None
+  unfolding clap_on_literals command_line
+  no_subcommand = ap (option_map (λ s. s.0)) (none_answers name subcommands ((codes "help", []) ∷ []) none
+      ∙ ap (λ t. if t || false then Some (codes "help", []) else None) not_help)
+
+  not_in_table : places name ≡ None
+  not_in_table = ap (λ (o : Option (Text × List Text)). option_map (λ row. length row.1) o)
+      (sym (find-map (λ (row : Text × List Text). bytes_eq row.0 name) (λ v. (name_of v, places_of v)) subcommands) ∙ ap (option_map (λ v. (name_of v, places_of v))) none)
+
   as_level : word_fault (built command_line).top (names_of (built command_line)) false idle name nothing_held ≡ word_fault (built command_line).top [] false idle name nothing_held
-  as_level = ap (λ o. other_fault (built command_line).top o name nothing_held) none.met
+  as_level = ap (λ o. other_fault (built command_line).top o name nothing_held) no_subcommand
 
   met_level : word_met (built command_line).top.rules (names_of (built command_line)) false idle 1 name nothing_held ≡ word_met (built command_line).top.rules [] false idle 1 name nothing_held
-  met_level = ap (λ o. subcommand_or_other (built command_line).top.rules o idle 1 name nothing_held) none.met
-
-  says_none : (rest : List Text) (said : Words) → Says (name ∷ rest) said → ⊥
-  says_none rest said h =
-      let bad : true ≡ false = sym ((bytes_eq-Decides (name_of (subcommand_for said)) name).1 (sym (says_first name rest said h))) ∙ none.missing (subcommand_for said) in
-      absurd cc
+  met_level = ap (λ o. subcommand_or_other (built command_line).top.rules o idle 1 name nothing_held) no_subcommand
 
   asks_is : (rest : List Text) → asks_help (name ∷ rest) ≡ asks name
-  asks_is rest = ap (λ o. asks name || option_map_or (λ n. asks_behind n rest) o false) none.table ∙ or-false (asks name)
+  asks_is rest = ap (λ o. asks name || option_map_or (λ n. asks_behind n rest) o false) not_in_table ∙ or-false (asks name)
 
   -- the first word is an option
   option_told : (rest : List Text) → Answers (asks name) (word_fault (built command_line).top [] false idle name nothing_held) → IsTold (name ∷ rest)
@@ -145,7 +113,7 @@ module _ (name : Text) (none : IsNoName name) where
       let c : Answers (asks name) (fault_of command_line (name ∷ rest)) = first_answers (asks name) _ _ (first_answers (asks name) _ _ (first_answers (asks name) _ _ b)) in
       record {
         sound = λ said passes names. absurd (answers_none (asks name) _ c passes);
-        complete = λ said says. absurd (says_none rest said says);
+        complete = λ said says. absurd (says_none name rest said none says);
         helps = λ asked. answers_help (asks name) _ c (sym (asks_is rest) ∙ asked);
         asked = λ among. ap (λ t. t || calls_help (name ∷ rest)) (asks_is rest ∙ among_asked (asks name) _ c among);
       }
@@ -153,7 +121,7 @@ module _ (name : Text) (none : IsNoName name) where
   stray_told : (rest : List Text) → asks name ≡ false → fault_of command_line (name ∷ rest) ≡ kind.UnknownArgument ∷ kind.InvalidSubcommand ∷ [] → IsTold (name ∷ rest)
   stray_told rest a e = record {
     sound = λ said passes names. let bad : kind.UnknownArgument ∷ kind.InvalidSubcommand ∷ [] ≡ [] = sym e ∙ passes in absurd cc;
-    complete = λ said says. absurd (says_none rest said says);
+    complete = λ said says. absurd (says_none name rest said none says);
     helps = λ asked. let bad : true ≡ false = sym asked ∙ asks_is rest ∙ a in absurd cc;
     asked = λ among. absurd (not_among (subst (IsAmong kind.DisplayHelp) e among));
   }
@@ -173,35 +141,35 @@ module _ (name : Text) (none : IsNoName name) where
       kept (first_fault name) _ _ _ _ (sym turn)
 
 -- `--` in the first place leaves no place for any word
-dashes_told : (rest : List Text) → IsNoName dashes → IsTold (dashes ∷ rest)
+dashes_told : (rest : List Text) → IsTold (dashes ∷ rest)
 unfolding clap_on_literals command_line
-dashes_told [] none = record {
-  sound = λ said passes names. absurd (subst (λ o. Names o said) nothing names);
-  complete = λ said says. absurd (says_none dashes none [] said says);
+dashes_told [] = record {
+  sound = λ said passes names. absurd (subst (λ o. NamesWords o said) no_name names);
+  complete = λ said says. absurd (says_none dashes [] said refl says);
   helps = λ asked. let bad : false ≡ true = asked in absurd cc;
   asked = λ among. absurd (subst (IsAmong kind.DisplayHelp) quiet among);
 }
   where
-    nothing : subcommand_of command_line (dashes ∷ []) ≡ None
-    nothing = refl
+    no_name : subcommand_of command_line (dashes ∷ []) ≡ None
+    no_name = refl
 
     quiet : fault_of command_line (dashes ∷ []) ≡ []
     quiet = refl
-dashes_told (w ∷ ws) none = stray_told dashes none (w ∷ ws) refl refl
+dashes_told (w ∷ ws) = stray_told dashes refl refl (w ∷ ws) refl refl
 
-other_told : (name : Text) → IsNoName name → (rest : List Text) → Kind name → IsUtf8 name → IsTold (name ∷ rest)
+other_told : (name : Text) → subcommand_named name ≡ None → bytes_eq (codes "help") name ≡ false → (rest : List Text) → Kind name → IsUtf8 name → IsTold (name ∷ rest)
 unfolding clap_on_literals command_line
-other_told _ none rest is_dashes text = dashes_told rest none
-other_told _ none rest (is_long y ys) text = option_told _ none rest (long_answers (built command_line).top top_help nothing_held refl y ys)
-other_told _ none rest (is_short y ys d) text = option_told _ none rest (short_answers (built command_line).top top_help nothing_held refl y ys d refl text)
-other_told name none rest (is_plain d l o p a) text = stray_told name none rest a (plain_fault name none rest (plain_met (built command_line).top 1 name nothing_held d l o))
+other_told _ none other rest is_dashes text = dashes_told rest
+other_told _ none other rest (is_long y ys) text = option_told _ none other rest (long_answers (built command_line).top top_help nothing_held refl y ys)
+other_told _ none other rest (is_short y ys d) text = option_told _ none other rest (short_answers (built command_line).top top_help nothing_held refl y ys d refl text)
+other_told name none other rest (is_plain d l o p a) text = stray_told name none other rest a (plain_fault name none other rest (plain_met (built command_line).top 1 name nothing_held d l o))
 
 -- `help` answers with help, or refuses the name behind it
 help_told : (rest : List Text) → IsTold (codes "help" ∷ rest)
 unfolding clap_on_literals command_line
 help_told rest = record {
   sound = λ said passes names. let bad : kind.DisplayHelp ∷ kind.InvalidSubcommand ∷ [] ≡ [] = sym fault ∙ passes in absurd cc;
-  complete = λ said says. absurd (no_help said (says_name said says));
+  complete = λ said says. absurd (says_none (codes "help") rest said refl says);
   helps = λ asked. let bad : false ≡ true = asked in absurd cc;
   asked = λ among. refl;
 }
@@ -209,33 +177,12 @@ help_told rest = record {
     fault : fault_of command_line (codes "help" ∷ rest) ≡ kind.DisplayHelp ∷ kind.InvalidSubcommand ∷ []
     fault = refl
 
-    no_name_help : (v : Subcommand) → bytes_eq (name_of v) (codes "help") ≡ false
-    no_name_help subcommand.Init = refl
-    no_name_help subcommand.Stream = refl
-    no_name_help subcommand.Serve = refl
-    no_name_help subcommand.Import = refl
-    no_name_help subcommand.Statement = refl
-    no_name_help subcommand.Migrate = refl
-
-    no_help : (said : Words) → codes "help" ≡ name_of (subcommand_for said) → ⊥
-    no_help said e =
-        let bad : true ≡ false = sym ((bytes_eq-Decides (name_of (subcommand_for said)) (codes "help")).1 (sym e)) ∙ no_name_help (subcommand_for said) in
-        absurd cc
-
-    says_name : (said : Words) → Says (codes "help" ∷ rest) said → codes "help" ≡ name_of (subcommand_for said)
-    says_name said h = says_first (codes "help") rest said h
-
 -- what is told of any words, but none
 pub told : (words : List Text) → words ≢ [] → AreTexts words → IsTold words
 told [] some texts = absurd (some refl)
 told (name ∷ rest) some texts = by (first_word name) texts.0
   where
     by : {name : Text} → First name → IsUtf8 name → IsTold (name ∷ rest)
-    by (is_name subcommand.Init) text = init_told rest texts.1
-    by (is_name subcommand.Stream) text = stream_told rest texts.1
-    by (is_name subcommand.Serve) text = serve_told rest texts.1
-    by (is_name subcommand.Import) text = import_told rest texts.1
-    by (is_name subcommand.Statement) text = statement_told rest texts.1
-    by (is_name subcommand.Migrate) text = migrate_told rest texts.1
+    by (is_name v) text = name_told v rest texts.1
     by is_help text = help_told rest
-    by (is_other {name = name} none) text = other_told name none rest (kind_of_word name) text
+    by (is_other {name = name} none other) text = other_told name none other rest (kind_of_word name) text

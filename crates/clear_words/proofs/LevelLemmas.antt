@@ -12,7 +12,7 @@ use Rattle.clap.specs.declared.error.ErrorKind.TheVariants as kind
 use Rattle.clap.proofs.WalkLemmas.{walked_is}
 use Rattle.clap.proofs.FaultLemmas.{turn_is}
 use Rattle.clear_words.specs.Lines.{asks, asks_behind, is_option, plain_words}
-use Rattle.clear_words.proofs.WordLemmas.{Answers, Kind, dashes, is_dashes, is_long, is_plain, is_short, kind_of_word, plain_met}
+use Rattle.clear_words.proofs.WordLemmas.{Answers, Kind, dashes, fails_by, first_answers, is_dashes, is_long, is_plain, is_short, kind_of_word, plain_met, some_same, unknown}
 use Rattle.clear_words.proofs.OptionLemmas.{HasHelp, long_answers, short_answers}
 
 abbrev pub AreTexts : List Text → Type 0
@@ -91,9 +91,6 @@ module _ (s : Shape) (n : ℕ) (held : List Text → Held) where
     stops b xs x ws met e = goes b xs x ws met
         ∙ ap (λ ks. or_else ks (walk_fault s [] (to_positional s.rules (arg_by_index s.rules (length xs + 1)) x (place held xs b) (held xs)) ws)) (ap (λ (k : ℕ). step_fault s (k + 1) (held xs) value) e ∙ is.full (held xs))
 
-    unknown : (kinds : Kinds) → kinds ≡ kind.UnknownArgument ∷ [] → Answers false kinds
-    unknown kinds e = (kind.UnknownArgument, e, λ bad. search rules)
-
     none : (b : Bool) (k : ℕ) (xs : List Text) → Fits b k xs []
     unfolding walk_fault
     none true k xs = record { args = []; plain = refl; few = omega arith; quiet = refl; passes = refl; ends = ap held (sym (append-nil xs)) }
@@ -105,46 +102,24 @@ module _ (s : Shape) (n : ℕ) (held : List Text → Held) where
     more_behind k xs x ws lt f = record {
       args = x ∷ ws;
       plain = refl;
-      few =
-          let same : length f.args ≡ length ws = ap (λ o. option_length o) (sym f.plain) in
-          omega (arith, f.few, same);
+      few = omega (arith, f.few, ap length (some_same ws f.args f.plain));
       quiet = refl;
       passes = goes_on true xs x ws (refl, refl) lt ∙ f.passes;
-      ends =
-          let same : f.args ≡ ws = ap (λ o. option_value o) (sym f.plain) in
-          ap (λ (w : Walk). w.held) (went true xs x ws (refl, refl) lt) ∙ f.ends ∙ ap (λ l. held ((xs ++ x ∷ []) ++ l)) same ∙ ap held (append_assoc xs (x ∷ []) ws);
+      ends = ap (λ (w : Walk). w.held) (went true xs x ws (refl, refl) lt) ∙ f.ends
+          ∙ ap (λ l. held ((xs ++ x ∷ []) ++ l)) (sym (some_same ws f.args f.plain)) ∙ ap held (append_assoc xs (x ∷ []) ws);
     }
-      where
-        option_value : Option (List Text) → List Text
-        option_value None = []
-        option_value (Some l) = l
-
-        option_length : Option (List Text) → ℕ
-        option_length o = length (option_value o)
 
     fails_behind : (k : ℕ) (xs : List Text) (x : Text) (ws : List Text) → length xs < n → Fails true k (xs ++ x ∷ []) ws → Fails true (suc k) xs (x ∷ ws)
     fails_behind k xs x ws lt f = record {
-      many = λ args e.
-          let same : length args ≡ suc (length ws) = ap (λ o. option_length o) (sym e) in
-          omega (arith, f.many ws refl, same);
+      many = λ args e. omega (arith, f.many ws refl, ap length (some_same (x ∷ ws) args e));
       answers = subst (Answers false) (sym (goes_on true xs x ws (refl, refl) lt)) f.answers;
     }
-      where
-        option_length : Option (List Text) → ℕ
-        option_length None = 0
-        option_length (Some l) = length l
 
     stops_behind : (xs : List Text) (x : Text) (ws : List Text) → length xs ≡ n → Fails true 0 xs (x ∷ ws)
     stops_behind xs x ws e = record {
-      many = λ args eq.
-          let same : length args ≡ suc (length ws) = ap (λ o. option_length o) (sym eq) in
-          omega (arith, same);
-      answers = unknown _ (stops true xs x ws (refl, refl) e);
+      many = λ args eq. omega (arith, ap length (some_same (x ∷ ws) args eq));
+      answers = unknown false _ refl (stops true xs x ws (refl, refl) e);
     }
-      where
-        option_length : Option (List Text) → ℕ
-        option_length None = 0
-        option_length (Some l) = length l
 
     reads_behind : (k : ℕ) (xs ws : List Text) → length xs + k ≡ n → Fits true k xs ws ⊎ Fails true k xs ws
     reads_behind k xs [] e = inl (none true k xs)
@@ -165,10 +140,6 @@ module _ (s : Shape) (n : ℕ) (held : List Text → Held) where
     unfolding walk_fault walked
     fails_dashes zero xs ws f = record { many = f.many; answers = f.answers }
     fails_dashes (suc k) xs ws f = record { many = f.many; answers = f.answers }
-
-    first_answers : (asked : Bool) (kinds more : Kinds) → Answers asked kinds → Answers asked (or_else kinds more)
-    first_answers true kinds more a = ap (λ ks. or_else ks more) a
-    first_answers false kinds more a = (a.0, ap (λ ks. or_else ks more) a.1, a.2)
 
     -- an option is met
     refuses : (k : ℕ) (xs : List Text) (x : Text) (ws : List Text) → bytes_eq x dashes ≡ false → is_option x ≡ true
@@ -193,11 +164,7 @@ module _ (s : Shape) (n : ℕ) (held : List Text → Held) where
 
     last_of : (x : Text) (o : Option (List Text)) (args : List Text) → option_map (λ l. x ∷ l) o ≡ Some args → (l : List Text) × (o ≡ Some l) × (length args ≡ suc (length l))
     last_of x None args e = absurd cc
-    last_of x (Some l) args e = (l, refl, ap (λ o. option_length o) (sym e))
-      where
-        option_length : Option (List Text) → ℕ
-        option_length None = 0
-        option_length (Some l) = length l
+    last_of x (Some l) args e = (l, refl, ap length (sym (some_same (x ∷ l) args e)))
 
     module _ (x : Text) (d : bytes_eq x dashes ≡ false) (o : is_option x ≡ false) (a : asks x ≡ false) (xs ws : List Text)
         (met : (word_met s.rules [] false idle (length xs + 1) x (held xs) ≡ (held xs, value)) × (word_fault s [] false idle x (held xs) ≡ [])) where
@@ -206,7 +173,7 @@ module _ (s : Shape) (n : ℕ) (held : List Text → Held) where
         many = λ args eq.
             let l = last_of x (plain_words ws) args (sym (plain_first x ws d o) ∙ eq) in
             omega (arith, l.2);
-        answers = subst (λ t. Answers t (walk_fault s [] (place held xs false) (x ∷ ws))) (sym a) (unknown _ (stops false xs x ws met e));
+        answers = subst (λ t. Answers t (walk_fault s [] (place held xs false) (x ∷ ws))) (sym a) (unknown false _ refl (stops false xs x ws met e));
       }
 
       plain_more : (k : ℕ) → length xs < n → Fits false k (xs ++ x ∷ []) ws → Fits false (suc k) xs (x ∷ ws)
@@ -289,11 +256,7 @@ module _ (s : Shape) (n : ℕ) (held : List Text → Held) (is : IsLevel s n hel
   start = ap (λ h. record (walk_from nothing_held) { held = h }) is.begins
 
   same_args : (args others : List Text) → plain_words ws ≡ Some args → plain_words ws ≡ Some others → length others ≡ length args
-  same_args args others e f = let same : Some args ≡ Some others = sym e ∙ f in ap (λ o. option_length o) (sym same)
-    where
-      option_length : Option (List Text) → ℕ
-      option_length None = 0
-      option_length (Some l) = length l
+  same_args args others e f = ap length (sym (some_same args others (sym e ∙ f)))
 
   walk_is : (f : Fits s n held false n [] ws) → walk_fault s [] (walk_from nothing_held) ws ≡ []
   walk_is f = ap (λ (w : Walk). walk_fault s [] w ws) (sym start) ∙ f.passes
@@ -314,20 +277,16 @@ module _ (s : Shape) (n : ℕ) (held : List Text → Held) (is : IsLevel s n hel
     rows = ap (finished s.rules) (end_is f);
   }
 
-  missing : (asked : Bool) (kinds : Kinds) → asked ≡ false → kinds ≡ kind.MissingRequiredArgument ∷ [] → Answers asked kinds
-  missing true kinds a e = absurd cc
-  missing false kinds a e = (kind.MissingRequiredArgument, e, λ bad. search rules)
-
   fits_few : (f : Fits s n held false n [] ws) → length f.args < n → IsRefused s n ws
   fits_few f lt = record {
     other = λ args e is_all. omega (arith, lt, is_all, same_args f.args args f.plain e);
-    answers = missing (asks_behind n ws) _ f.quiet (fits_fault f ∙ is.few f.args lt);
+    answers = fails_by kind.MissingRequiredArgument (λ bad. search rules) (asks_behind n ws) _ f.quiet (fits_fault f ∙ is.few f.args lt);
   }
 
   fails : Fails s n held false n [] ws → IsRefused s n ws
   fails f = record {
     other = λ args e is_all. omega (arith, f.many args e, is_all);
-    answers = first_answers s n held is.places (asks_behind n ws) _ _ (subst (λ (w : Walk). Answers (asks_behind n ws) (walk_fault s [] w ws)) start f.answers);
+    answers = first_answers (asks_behind n ws) _ _ (subst (λ (w : Walk). Answers (asks_behind n ws) (walk_fault s [] w ws)) start f.answers);
   }
 
   pub level_reads : AreTexts ws → IsRead s n held ws ⊎ IsRefused s n ws

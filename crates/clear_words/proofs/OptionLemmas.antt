@@ -4,6 +4,7 @@ use Rattle.std.specs.Prelude.{Option, Some, None, is_some, codes, if◌then◌el
 use Rattle.std.specs.List.{list_any, before_first, after_first, position_or_len}
 use Rattle.std.specs.Option.{option_map_or}
 use Rattle.std.specs.Str.{IsUtf8, bytes_eq, chars}
+use Rattle.std.proofs.Math.Bool.{and-false, and-true, or-false}
 use Rattle.std.proofs.lemmas.Slice.Eq.{bytes_eq-Decides}
 use Rattle.std.proofs.Math.Utf8.{encodes}
 use Rattle.clap.specs.Lexer.{long_of, long_of_rest, has_byte, name_and_value}
@@ -13,7 +14,7 @@ use Rattle.clap.specs.Simple.{Shape}
 use Rattle.clap.specs.Walk.{Held, Text, arg_by_long, arg_by_short, idle, reacted, settled}
 use Rattle.clap.specs.declared.error.ErrorKind.TheVariants as kind
 use Rattle.clear_words.specs.Lines.{asks}
-use Rattle.clear_words.proofs.WordLemmas.{Answers, behind_dash, h_first, help}
+use Rattle.clear_words.proofs.WordLemmas.{Answers, behind_dash, fails_by, h_first, help, unknown}
 
 -- a list in which none passes stands before the first that passes
 before_none : (p : ℕ → Bool) (xs : List ℕ) → list_any p xs ≡ false → before_first p xs ≡ xs
@@ -26,14 +27,6 @@ before_none p (x ∷ xs) e = by (p x) refl (before_none p xs)
         let rest : list_any p xs ≡ false = sym (ap (λ b. b || list_any p xs) t) ∙ e in
         let next : 1 + position_or_len p xs ≡ suc (position_or_len p xs) = omega arith in
         rw t (ap (λ (m : ℕ). take m (x ∷ xs)) next ∙ ap (λ ys. x ∷ ys) (more rest))
-
-unknown : (asked : Bool) (kinds : Kinds) → asked ≡ false → kinds ≡ kind.UnknownArgument ∷ [] → Answers asked kinds
-unknown true kinds a e = absurd cc
-unknown false kinds a e = (kind.UnknownArgument, e, λ bad. search rules)
-
-too_many : (asked : Bool) (kinds : Kinds) → asked ≡ false → kinds ≡ kind.TooManyValues ∷ [] → Answers asked kinds
-too_many true kinds a e = absurd cc
-too_many false kinds a e = (kind.TooManyValues, e, λ bad. search rules)
 
 helped : (asked : Bool) (kinds : Kinds) → asked ≡ true → kinds ≡ kind.DisplayHelp ∷ [] → Answers asked kinds
 helped true kinds a e = e
@@ -60,7 +53,7 @@ module _ (s : Shape) (has : HasHelp s) (h : Held) (settles : settle_fault s.rule
           → Answers wants (long_fault s.rules s.args_override_self (arg_by_long s.rules name) v h)
       by false e v w = unknown wants _ (w ∙ ap (λ b. b && not (is_some v)) e) (ap (λ a. long_fault s.rules s.args_override_self a v h) (found false e))
       by true e None w = helped wants _ (w ∙ ap (λ b. b && true) e) (ap (λ a. long_fault s.rules s.args_override_self a None h) (found true e) ∙ asked)
-      by true e (Some x) w = too_many wants _ (w ∙ ap (λ b. b && false) e) (ap (λ a. long_fault s.rules s.args_override_self a (Some x) h) (found true e))
+      by true e (Some x) w = fails_by kind.TooManyValues (λ bad. search rules) wants _ (w ∙ ap (λ b. b && false) e) (ap (λ a. long_fault s.rules s.args_override_self a (Some x) h) (found true e))
 
   long_asks : (y : ℕ) (ys : List ℕ) → asks (45 ∷ 45 ∷ y ∷ ys) ≡ (bytes_eq (codes "help") (before_first (λ x. x == 61) (y ∷ ys)) && not (has_byte 61 (y ∷ ys)))
   long_asks y ys = by (has_byte 61 (y ∷ ys)) refl
@@ -75,18 +68,6 @@ module _ (s : Shape) (has : HasHelp s) (h : Held) (settles : settle_fault s.rule
 
       whole : asks (45 ∷ 45 ∷ y ∷ ys) ≡ bytes_eq (y ∷ ys) (codes "help")
       whole = or-false (bytes_eq (y ∷ ys) (codes "help"))
-        where
-          or-false : (b : Bool) → (b || false) ≡ b
-          or-false true = refl
-          or-false false = refl
-
-      and-false : (b : Bool) → (b && false) ≡ false
-      and-false true = refl
-      and-false false = refl
-
-      and-true : (b : Bool) → (b && true) ≡ b
-      and-true true = refl
-      and-true false = refl
 
       no_value : (t : Bool) → bytes_eq (y ∷ ys) (codes "help") ≡ t → has_byte 61 (y ∷ ys) ≡ true → t ≡ false
       no_value false e f = refl
@@ -140,10 +121,6 @@ module _ (s : Shape) (has : HasHelp s) (h : Held) (settles : settle_fault s.rule
 
       wanted : asks (45 ∷ y ∷ ys) ≡ (104 == y)
       wanted = ap (λ t. (t && bytes_eq ys (codes "help")) || ((104 == y) && true)) e ∙ and-true (104 == y)
-        where
-          and-true : (b : Bool) → (b && true) ≡ b
-          and-true true = refl
-          and-true false = refl
 
       begins : (cs : List ℕ) → chars (y ∷ ys) ≡ cs
           → Answers (asks (45 ∷ y ∷ ys)) (flags_fault s.rules s.args_override_self (length (y ∷ ys)) (y ∷ ys) 0 (record h { skip = 0 }))

@@ -1,7 +1,6 @@
 -- Words say one thing at most.
-use Rattle.std.proofs.Common.{◌≡◌, ℕ, ◌<◌, ◌^◌, List, ◌∷◌, sym, ap, ap₂, ◌∙◌, arith}
+use Rattle.std.proofs.Common.{◌≡◌, ℕ, List, ◌∷◌, sym, ap, ap₂, ◌∙◌, arith}
 use Rattle.std.specs.Prelude.{Some, ◌/◌, ◌%◌, ◌+◌}
-use Rattle.std.specs.Fmt.{decimal}
 use Rattle.std.proofs.lemmas.Fmt.{decimal_injective}
 use Rattle.clear_money.specs.Calendar.{IsDay, day_in, day_of_month, month_of}
 use Rattle.clear_money.specs.Texts.{day_text}
@@ -9,10 +8,10 @@ use Rattle.clear_money.proofs.DateLemmas.{dated-civil}
 use Rattle.clear_money.proofs.DayTextLemmas.{date_text-injective}
 use Rattle.clear_money.proofs.MonthLemmas.{day_in-parts, day_of_month_bounds, month_length_bounds}
 use Rattle.clear_words.specs.Lines.{IsInRange, IsSame, Says, words_for}
-use Rattle.clear_words.specs.Rows.{subcommand_for, subcommand_named}
+use Rattle.clear_words.specs.Rows.{args_for, name_of, subcommand_for, subcommand_named}
 use Rattle.clear_words.specs.declared.words.Words.{Words}
 use Rattle.clear_words.specs.declared.words.Words.TheVariants.{Init, Stream, Serve, Import, Statement, Migrate}
-use Rattle.clear_words.proofs.SaidLemmas.{args_for, name_of, named, words_are}
+use Rattle.clear_words.proofs.SaidLemmas.{named, words_are}
 
 -- a text spells one day
 one_day : (d e : ℕ) → IsDay d → IsDay e → day_text d ≡ day_text e → d ≡ e
@@ -35,47 +34,15 @@ one_subcommand a b same =
     let some : Some (subcommand_for a) ≡ Some (subcommand_for b) = sym (named (subcommand_for a)) ∙ ap subcommand_named name ∙ named (subcommand_for b) in
     cc
 
-one_number : (m n : ℕ) → m < 2 ^ 64 → n < 2 ^ 64 → decimal m ≡ decimal n → m ≡ n
-one_number m n small small₂ same = decimal_injective m n small small₂ same
-
 said_once : (a b : Words) → subcommand_for a ≡ subcommand_for b → words_for a ≡ words_for b → IsInRange a → IsInRange b → IsSame a b
 said_once (Init s r) (Init t q) e w x y = (cc, cc)
 said_once (Stream r c d) (Stream q b f) e w x y = (cc, cc, one_day d f x y cc)
 said_once (Serve s c d p n) (Serve t b f o m) e w x y =
-    (cc, cc, one_day d f x.0 y.0 cc, one_number p o (omega (arith, x.1.1)) (omega (arith, y.1.1)) cc, one_number n m (omega (arith, x.2.1)) (omega (arith, y.2.1)) cc)
-said_once (Import s d n f) (Import t g m h) e w x y = (cc, one_day d g x.0 y.0 cc, one_number n m (omega (arith, x.1.1)) (omega (arith, y.1.1)) cc, cc)
-said_once (Statement s d n) (Statement t g m) e w x y = (cc, one_day d g x.0 y.0 cc, one_number n m (omega (arith, x.1.1)) (omega (arith, y.1.1)) cc)
+    (cc, cc, one_day d f x.0 y.0 cc, decimal_injective p o (omega (arith, x.1.1)) (omega (arith, y.1.1)) cc, decimal_injective n m (omega (arith, x.2.1)) (omega (arith, y.2.1)) cc)
+said_once (Import s d n f) (Import t g m h) e w x y = (cc, one_day d g x.0 y.0 cc, decimal_injective n m (omega (arith, x.1.1)) (omega (arith, y.1.1)) cc, cc)
+said_once (Statement s d n) (Statement t g m) e w x y = (cc, one_day d g x.0 y.0 cc, decimal_injective n m (omega (arith, x.1.1)) (omega (arith, y.1.1)) cc)
 said_once (Migrate s) (Migrate t) e w x y = cc
-said_once (Init s r) (Stream t q f) e w x y = absurd cc
-said_once (Init s r) (Serve t b f o m) e w x y = absurd cc
-said_once (Init s r) (Import t g m h) e w x y = absurd cc
-said_once (Init s r) (Statement t g m) e w x y = absurd cc
-said_once (Init s r) (Migrate t) e w x y = absurd cc
-said_once (Stream s r d) (Init t q) e w x y = absurd cc
-said_once (Stream s r d) (Serve t b f o m) e w x y = absurd cc
-said_once (Stream s r d) (Import t g m h) e w x y = absurd cc
-said_once (Stream s r d) (Statement t g m) e w x y = absurd cc
-said_once (Stream s r d) (Migrate t) e w x y = absurd cc
-said_once (Serve s c d p n) (Init t q) e w x y = absurd cc
-said_once (Serve s c d p n) (Stream t q f) e w x y = absurd cc
-said_once (Serve s c d p n) (Import t g m h) e w x y = absurd cc
-said_once (Serve s c d p n) (Statement t g m) e w x y = absurd cc
-said_once (Serve s c d p n) (Migrate t) e w x y = absurd cc
-said_once (Import s d n f) (Init t q) e w x y = absurd cc
-said_once (Import s d n f) (Stream t q z) e w x y = absurd cc
-said_once (Import s d n f) (Serve t b z o m) e w x y = absurd cc
-said_once (Import s d n f) (Statement t g m) e w x y = absurd cc
-said_once (Import s d n f) (Migrate t) e w x y = absurd cc
-said_once (Statement s d n) (Init t q) e w x y = absurd cc
-said_once (Statement s d n) (Stream t q f) e w x y = absurd cc
-said_once (Statement s d n) (Serve t b f o m) e w x y = absurd cc
-said_once (Statement s d n) (Import t g m h) e w x y = absurd cc
-said_once (Statement s d n) (Migrate t) e w x y = absurd cc
-said_once (Migrate s) (Init t q) e w x y = absurd cc
-said_once (Migrate s) (Stream t q f) e w x y = absurd cc
-said_once (Migrate s) (Serve t b f o m) e w x y = absurd cc
-said_once (Migrate s) (Import t g m h) e w x y = absurd cc
-said_once (Migrate s) (Statement t g m) e w x y = absurd cc
+said_once _ _ e w x y = absurd cc
 
 pub one_thing : (words : List (List ℕ)) (a b : Words) → Says words a → Says words b → IsSame a b
 one_thing words a b p q =

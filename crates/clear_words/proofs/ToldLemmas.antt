@@ -1,39 +1,80 @@
 -- The words of a command line, by its subcommand.
-use Rattle.std.proofs.Common.{◌≡◌, ◌≢◌, ⊎_elim, ℕ, Bool, true, false, List, [], ◌∷◌, refl, sym, ap, subst, ◌∙◌, length, map, arith, rules}
-use Rattle.std.specs.Prelude.{Option, Some, None, codes, option_map, ◌||◌}
+use Rattle.std.proofs.Common.{◌≡◌, ◌≢◌, ⊎_elim, ℕ, ◌<◌, Bool, true, false, List, [], ◌∷◌, refl, sym, ap, subst, ◌∙◌, length, arith}
+use Rattle.std.specs.Prelude.{Some, find, option_map, ◌||◌}
 use Rattle.std.specs.Option.{option_map_or}
 use Rattle.clap.specs.Kinds.{IsAmong, Kinds}
-use Rattle.clap.specs.Faults.{level_fault}
-use Rattle.clap.specs.Simple.{Shape, built}
-use Rattle.clap.specs.Walk.{Text, finished, nothing_held, rows_after}
+use Rattle.clap.specs.Faults.{level_fault, word_fault}
+use Rattle.clap.specs.Lexer.{usize_max}
+use Rattle.clap.specs.Simple.{Shape, built, label_of, names_of}
+use Rattle.clap.specs.Walk.{Held, Text, answers_to, idle, nothing_held, rows_after, subcommand as subcommand_step, walk_from, word_met}
 use Rattle.clap.specs.Words.{fault_of, subcommand_of}
 use Rattle.clap.specs.declared.error.ErrorKind.TheVariants as kind
 use Rattle.clap.proofs.OnLiterals.{clap_on_literals}
 use Rattle.clear_words.specs.Command.{command_line}
-use Rattle.clear_words.specs.Lines.{IsInRange, Says, asks, asks_behind, asks_help, calls_help, places, plain_words}
-use Rattle.clear_words.specs.Rows.{HasWords, Names, subcommand_for, subcommand_named}
+use Rattle.clear_words.specs.Lines.{Says, asks, asks_behind, asks_help, calls_help, places, plain_words}
+use Rattle.clear_words.specs.Rows.{AreWords, HasWords, Names, args_for, name_of, places_of, subcommand_for, subcommand_named}
 use Rattle.clear_words.specs.declared.words.Words.{Words}
 use Rattle.clear_words.specs.declared.subcommands.Subcommand.{Subcommand}
 use Rattle.clear_words.specs.declared.subcommands.Subcommand.TheVariants as subcommand
-use Rattle.clear_words.proofs.LevelLemmas.{AreTexts, IsLevel, IsRead, IsRefused, level_reads}
-use Rattle.clear_words.proofs.Levels.{held_by, init_is, init_level, stream_is, stream_level, serve_is, serve_level, import_is, import_level, statement_is, statement_level, migrate_is, migrate_level}
-use Rattle.clear_words.proofs.SaidLemmas.{args_for, enough_args, given, has_words, ids, name_of, named, same_texts, words_are, words_had}
-use Rattle.clear_words.proofs.TopLemmas.{entered_is, fault_is}
-use Rattle.clear_words.proofs.WordLemmas.{Answers}
+use Rattle.clear_words.proofs.LevelLemmas.{AreTexts, IsRead, IsRefused, level_reads}
+use Rattle.clear_words.proofs.Levels.{finds, held_for, level, level_is}
+use Rattle.clear_words.proofs.PlaceLemmas.{are_apart}
+use Rattle.clear_words.proofs.SaidLemmas.{enough_args, named, same_words, says_parts, words_are}
+use Rattle.clear_words.proofs.TopLemmas.{entered_is, fault_is, own_fault}
+use Rattle.clear_words.proofs.WordLemmas.{Answers, some_same}
 
--- what the words behind a subcommand are found to be
-abbrev pub Finds : Subcommand → Shape → ℕ → Type 0
-Finds v s n = (args : List Text) → length args ≡ n → given (finished s.rules (held_by s args)) (ids v) ≡ map (λ t. Some t) args
+-- the subcommand as it is built below the program's command
+abbrev level_of : Subcommand → Shape
+level_of v = level (name_of v) (places_of v)
 
--- the subcommand is read on a level of its own
-pub record IsOwn (v : Subcommand) (s : Shape) (n : ℕ) : Type 0 where
-  pub level : IsLevel s n (held_by s)
-  pub count : length (ids v) ≡ n
-  pub finds : Finds v s n
-  pub table : places (name_of v) ≡ Some n
-  pub first : asks (name_of v) ≡ false
-  pub fault : (rest : List Text) → fault_of command_line (name_of v ∷ rest) ≡ level_fault s [] nothing_held rest false []
-  pub entered : (rest : List Text) → subcommand_of command_line (name_of v ∷ rest) ≡ Some (name_of v, rows_after s.rules [] rest)
+-- ---- the table's rows
+
+apart : (v : Subcommand) → are_apart (places_of v) ≡ true
+apart subcommand.Init = refl
+apart _ = refl
+
+small : (v : Subcommand) → length (places_of v) < usize_max
+small subcommand.Init = omega arith
+small _ = omega arith
+
+in_table : (v : Subcommand) → places (name_of v) ≡ Some (length (places_of v))
+in_table subcommand.Init = refl
+in_table _ = refl
+
+no_help : (v : Subcommand) → asks (name_of v) ≡ false
+no_help subcommand.Init = refl
+no_help _ = refl
+
+-- what the program's command makes of the name as a first word
+met : (v : Subcommand)
+    → word_met (built command_line).top.rules (names_of (built command_line)) false idle 1 (name_of v) nothing_held ≡ (nothing_held, subcommand_step (name_of v))
+unfolding clap_on_literals command_line
+met subcommand.Init = refl
+met _ = refl
+
+quiet : (v : Subcommand) → word_fault (built command_line).top (names_of (built command_line)) false idle (name_of v) nothing_held ≡ []
+unfolding clap_on_literals command_line
+quiet subcommand.Init = refl
+quiet _ = refl
+
+found : (v : Subcommand) → find (λ s. answers_to (name_of v) (label_of s)) (built command_line).subs ≡ Some (level_of v)
+unfolding clap_on_literals command_line
+found subcommand.Init = refl
+found _ = refl
+
+no_own_fault : own_fault (built command_line) true (walk_from nothing_held) ≡ []
+unfolding clap_on_literals command_line
+no_own_fault = refl
+
+fault : (v : Subcommand) (rest : List Text) → fault_of command_line (name_of v ∷ rest) ≡ level_fault (level_of v) [] nothing_held rest false []
+unfolding command_line
+fault v rest = fault_is (built command_line) (name_of v) rest (level_of v) (met v) (quiet v) (found v) no_own_fault
+
+entered : (v : Subcommand) (rest : List Text) → subcommand_of command_line (name_of v ∷ rest) ≡ Some (name_of v, rows_after (level_of v).rules [] rest)
+unfolding command_line
+entered v rest = entered_is (built command_line) (name_of v) rest (level_of v) (met v) (quiet v) (found v) no_own_fault
+
+-- ---- the words behind a subcommand
 
 -- what is told of the words
 pub record IsTold (words : List Text) : Type 0 where
@@ -57,228 +98,76 @@ among_asked false kinds a among = ⊎_elim
     (λ (no : ⊥). absurd no)
     (subst (IsAmong kind.DisplayHelp) a.1 among)
 
-module _ (v : Subcommand) (s : Shape) (n : ℕ) (is : IsOwn v s n) (rest : List Text) where
+module _ (v : Subcommand) (rest : List Text) where
+  abbrev s : Shape
+  s = level_of v
+
+  abbrev n : ℕ
+  n = length (places_of v)
+
+  abbrev held : List Text → Held
+  held = held_for (places_of v)
+
   asks_is : asks_help (name_of v ∷ rest) ≡ asks_behind n rest
-  asks_is = ap (λ t. t || option_map_or (λ n. asks_behind n rest) (places (name_of v)) false) is.first
-      ∙ ap (λ o. option_map_or (λ n. asks_behind n rest) o false) is.table
+  asks_is = ap (λ t. t || option_map_or (λ n. asks_behind n rest) (places (name_of v)) false) (no_help v)
+      ∙ ap (λ o. option_map_or (λ n. asks_behind n rest) o false) (in_table v)
 
   -- what is said is of this subcommand
   of_this : (said : Words) → subcommand_named (name_of v) ≡ Some (subcommand_for said) → v ≡ subcommand_for said
-  of_this said e = let same : Some v ≡ Some (subcommand_for said) = sym (named v) ∙ e in cc
+  of_this said e = some_same v (subcommand_for said) (sym (named v) ∙ e)
 
-  some_same : (xs ys : List Text) → ◌≡◌ {A = Option (List Text)} (Some xs) (Some ys) → xs ≡ ys
-  some_same xs ys e = cc
-
-  says_this : (said : Words) → Says (name_of v ∷ rest) said → (v ≡ subcommand_for said) × (plain_words rest ≡ Some (args_for said)) × IsInRange said
-  says_this said h = by (plain_words rest) refl
-    where
-      by : (o : Option (List Text)) → plain_words rest ≡ o → (v ≡ subcommand_for said) × (plain_words rest ≡ Some (args_for said)) × IsInRange said
-      by None e = absurd (none (sym (ap (option_map (λ l. name_of v ∷ l)) e) ∙ h.0))
-        where
-          none : {X : Type 0} {x : X} → ◌≡◌ {A = Option X} None (Some x) → ⊥
-          none e = search rules
-      by (Some args) e =
-          let line : name_of v ∷ args ≡ name_of (subcommand_for said) ∷ args_for said =
-          some_same (name_of v ∷ args) (name_of (subcommand_for said) ∷ args_for said) (sym (ap (option_map (λ l. name_of v ∷ l)) e) ∙ h.0 ∙ ap (λ l. Some l) (words_are said)) in
-          let name : name_of v ≡ name_of (subcommand_for said) = cc in
-          let args_are : args ≡ args_for said = cc in
-          (of_this said (ap subcommand_named name ∙ named (subcommand_for said)), e ∙ ap (λ l. Some l) args_are, h.1)
+  says_this : (said : Words) → Says (name_of v ∷ rest) said → (v ≡ subcommand_for said) × (plain_words rest ≡ Some (args_for said))
+  says_this said says =
+      let parts = says_parts (name_of v) rest said says in
+      (of_this said (ap subcommand_named parts.0 ∙ named (subcommand_for said)), parts.1)
 
   names_is : (said : Words) → Names (subcommand_of command_line (name_of v ∷ rest)) said
       → (v ≡ subcommand_for said) × HasWords (rows_after s.rules [] rest) said
   names_is said h =
-      let read : Names (Some (name_of v, rows_after s.rules [] rest)) said = subst (λ o. Names o said) (is.entered rest) h in
+      let read : Names (Some (name_of v, rows_after s.rules [] rest)) said = subst (λ o. Names o said) (entered v rest) h in
       (of_this said read.0, read.1)
 
   refused : IsRefused s n rest → IsTold (name_of v ∷ rest)
   refused r = record {
-    sound = λ said passes names. absurd (answers_none (asks_behind n rest) _ r.answers (sym (is.fault rest) ∙ passes));
+    sound = λ said passes names. absurd (answers_none (asks_behind n rest) _ r.answers (sym (fault v rest) ∙ passes));
     complete = λ said says.
         let this = says_this said says in
-        absurd (r.other (args_for said) this.1 (enough_args said ∙ sym (ap (λ u. length (ids u)) this.0) ∙ is.count));
-    helps = λ asked. is.fault rest ∙ answers_help (asks_behind n rest) _ r.answers (sym asks_is ∙ asked);
-    asked = λ among. ap (λ t. t || calls_help (name_of v ∷ rest)) (asks_is ∙ among_asked (asks_behind n rest) _ r.answers (subst (IsAmong kind.DisplayHelp) (is.fault rest) among));
+        absurd (r.other (args_for said) this.1 (enough_args said ∙ sym (ap (λ u. length (places_of u)) this.0)));
+    helps = λ asked. fault v rest ∙ answers_help (asks_behind n rest) _ r.answers (sym asks_is ∙ asked);
+    asked = λ among. ap (λ t. t || calls_help (name_of v ∷ rest)) (asks_is ∙ among_asked (asks_behind n rest) _ r.answers (subst (IsAmong kind.DisplayHelp) (fault v rest) among));
   }
 
-  read_sound : (r : IsRead s n (held_by s) rest) (said : Words) → Names (subcommand_of command_line (name_of v ∷ rest)) said → Says (name_of v ∷ rest) said
+  -- the words behind the name stand in the places of what is said
+  in_places : (r : IsRead s n held rest) (said : Words) → v ≡ subcommand_for said → AreWords (rows_after s.rules [] rest) (places_of (subcommand_for said)) r.args
+  in_places r said this = subst (λ u. AreWords (rows_after s.rules [] rest) (places_of u) r.args) this
+      (subst (λ rows. AreWords rows (places_of v) r.args) (sym r.rows) (finds (places_of v) (apart v) r.args r.all))
+
+  read_sound : (r : IsRead s n held rest) (said : Words) → Names (subcommand_of command_line (name_of v ∷ rest)) said → Says (name_of v ∷ rest) said
   read_sound r said names =
       let this = names_is said names in
-      let had = has_words (rows_after s.rules [] rest) said this.1 in
-      let found : map (λ t. Some t) r.args ≡ map (λ t. Some t) (args_for said) =
-      sym (is.finds r.args r.all) ∙ sym (ap (λ rows. given rows (ids v)) r.rows) ∙ ap (λ u. given (rows_after s.rules [] rest) (ids u)) this.0 ∙ had.0 in
-      let args_are : r.args ≡ args_for said = same_texts r.args (args_for said) found in (
+      let args_are = same_words (rows_after s.rules [] rest) (places_of (subcommand_for said)) r.args (args_for said) (in_places r said this.0) this.1.0 in (
         ap (option_map (λ l. name_of v ∷ l)) r.plain
             ∙ (λ i. Some (name_of (this.0 i) ∷ args_are i)) ∙ sym (ap (λ l. Some l) (words_are said)),
-        had.1,
+        this.1.1,
       )
 
-  read_complete : (r : IsRead s n (held_by s) rest) (said : Words) → Says (name_of v ∷ rest) said → Names (subcommand_of command_line (name_of v ∷ rest)) said
+  read_complete : (r : IsRead s n held rest) (said : Words) → Says (name_of v ∷ rest) said → Names (subcommand_of command_line (name_of v ∷ rest)) said
   read_complete r said says =
       let this = says_this said says in
       let args_are : r.args ≡ args_for said = some_same r.args (args_for said) (sym r.plain ∙ this.1) in
-      let found : given (rows_after s.rules [] rest) (ids (subcommand_for said)) ≡ map (λ t. Some t) (args_for said) =
-      sym (ap (λ u. given (rows_after s.rules [] rest) (ids u)) this.0) ∙ ap (λ rows. given rows (ids v)) r.rows ∙ is.finds r.args r.all ∙ ap (map (λ t. Some t)) args_are in
-      subst (λ o. Names o said) (sym (is.entered rest))
-      (named v ∙ ap (λ u. Some u) this.0, words_had (rows_after s.rules [] rest) said found this.2)
+      subst (λ o. Names o said) (sym (entered v rest)) (
+        named v ∙ ap (λ u. Some u) this.0,
+        (subst (AreWords (rows_after s.rules [] rest) (places_of (subcommand_for said))) args_are (in_places r said this.0), says.1),
+      )
 
-  read : IsRead s n (held_by s) rest → IsTold (name_of v ∷ rest)
+  read : IsRead s n held rest → IsTold (name_of v ∷ rest)
   read r = record {
     sound = λ said passes names. read_sound r said names;
-    complete = λ said says. (is.fault rest ∙ r.passes, read_complete r said says);
+    complete = λ said says. (fault v rest ∙ r.passes, read_complete r said says);
     helps = λ asked. let bad : true ≡ false = sym asked ∙ asks_is ∙ r.quiet in absurd cc;
-    asked = λ among. absurd (subst (IsAmong kind.DisplayHelp) (is.fault rest ∙ r.passes) among);
+    asked = λ among. absurd (subst (IsAmong kind.DisplayHelp) (fault v rest ∙ r.passes) among);
   }
 
   pub told : AreTexts rest → IsTold (name_of v ∷ rest)
-  told texts = ⊎_elim (λ (r : IsRead s n (held_by s) rest). read r) (λ (r : IsRefused s n rest). refused r)
-      (level_reads s n (held_by s) is.level rest texts)
-
--- ---- init
-
-init_finds : Finds subcommand.Init init_level 2
-unfolding clap_on_literals
-init_finds [] all = absurd (omega arith)
-init_finds (a ∷ []) all = absurd (omega arith)
-init_finds (a ∷ b ∷ []) all = refl
-init_finds (a ∷ b ∷ c ∷ rest) all = absurd (omega arith)
-
-init_own : IsOwn subcommand.Init init_level 2
-unfolding clap_on_literals command_line
-init_own = record {
-  level = init_is;
-  count = refl;
-  finds = init_finds;
-  table = refl;
-  first = refl;
-  fault = λ rest. fault_is (built command_line) (codes "init") rest init_level refl refl refl refl;
-  entered = λ rest. entered_is (built command_line) (codes "init") rest init_level refl refl refl refl;
-}
-
-pub init_told : (rest : List Text) → AreTexts rest → IsTold (codes "init" ∷ rest)
-init_told rest = told subcommand.Init init_level 2 init_own rest
-
--- ---- stream
-
-stream_finds : Finds subcommand.Stream stream_level 3
-unfolding clap_on_literals
-stream_finds [] all = absurd (omega arith)
-stream_finds (a ∷ []) all = absurd (omega arith)
-stream_finds (a ∷ b ∷ []) all = absurd (omega arith)
-stream_finds (a ∷ b ∷ c ∷ []) all = refl
-stream_finds (a ∷ b ∷ c ∷ d ∷ rest) all = absurd (omega arith)
-
-stream_own : IsOwn subcommand.Stream stream_level 3
-unfolding clap_on_literals command_line
-stream_own = record {
-  level = stream_is;
-  count = refl;
-  finds = stream_finds;
-  table = refl;
-  first = refl;
-  fault = λ rest. fault_is (built command_line) (codes "stream") rest stream_level refl refl refl refl;
-  entered = λ rest. entered_is (built command_line) (codes "stream") rest stream_level refl refl refl refl;
-}
-
-pub stream_told : (rest : List Text) → AreTexts rest → IsTold (codes "stream" ∷ rest)
-stream_told rest = told subcommand.Stream stream_level 3 stream_own rest
-
--- ---- serve
-
-serve_finds : Finds subcommand.Serve serve_level 5
-unfolding clap_on_literals
-serve_finds [] all = absurd (omega arith)
-serve_finds (a ∷ []) all = absurd (omega arith)
-serve_finds (a ∷ b ∷ []) all = absurd (omega arith)
-serve_finds (a ∷ b ∷ c ∷ []) all = absurd (omega arith)
-serve_finds (a ∷ b ∷ c ∷ d ∷ []) all = absurd (omega arith)
-serve_finds (a ∷ b ∷ c ∷ d ∷ e ∷ []) all = refl
-serve_finds (a ∷ b ∷ c ∷ d ∷ e ∷ f ∷ rest) all = absurd (omega arith)
-
-serve_own : IsOwn subcommand.Serve serve_level 5
-unfolding clap_on_literals command_line
-serve_own = record {
-  level = serve_is;
-  count = refl;
-  finds = serve_finds;
-  table = refl;
-  first = refl;
-  fault = λ rest. fault_is (built command_line) (codes "serve") rest serve_level refl refl refl refl;
-  entered = λ rest. entered_is (built command_line) (codes "serve") rest serve_level refl refl refl refl;
-}
-
-pub serve_told : (rest : List Text) → AreTexts rest → IsTold (codes "serve" ∷ rest)
-serve_told rest = told subcommand.Serve serve_level 5 serve_own rest
-
--- ---- import
-
-import_finds : Finds subcommand.Import import_level 4
-unfolding clap_on_literals
-import_finds [] all = absurd (omega arith)
-import_finds (a ∷ []) all = absurd (omega arith)
-import_finds (a ∷ b ∷ []) all = absurd (omega arith)
-import_finds (a ∷ b ∷ c ∷ []) all = absurd (omega arith)
-import_finds (a ∷ b ∷ c ∷ d ∷ []) all = refl
-import_finds (a ∷ b ∷ c ∷ d ∷ e ∷ rest) all = absurd (omega arith)
-
-import_own : IsOwn subcommand.Import import_level 4
-unfolding clap_on_literals command_line
-import_own = record {
-  level = import_is;
-  count = refl;
-  finds = import_finds;
-  table = refl;
-  first = refl;
-  fault = λ rest. fault_is (built command_line) (codes "import") rest import_level refl refl refl refl;
-  entered = λ rest. entered_is (built command_line) (codes "import") rest import_level refl refl refl refl;
-}
-
-pub import_told : (rest : List Text) → AreTexts rest → IsTold (codes "import" ∷ rest)
-import_told rest = told subcommand.Import import_level 4 import_own rest
-
--- ---- statement
-
-statement_finds : Finds subcommand.Statement statement_level 3
-unfolding clap_on_literals
-statement_finds [] all = absurd (omega arith)
-statement_finds (a ∷ []) all = absurd (omega arith)
-statement_finds (a ∷ b ∷ []) all = absurd (omega arith)
-statement_finds (a ∷ b ∷ c ∷ []) all = refl
-statement_finds (a ∷ b ∷ c ∷ d ∷ rest) all = absurd (omega arith)
-
-statement_own : IsOwn subcommand.Statement statement_level 3
-unfolding clap_on_literals command_line
-statement_own = record {
-  level = statement_is;
-  count = refl;
-  finds = statement_finds;
-  table = refl;
-  first = refl;
-  fault = λ rest. fault_is (built command_line) (codes "statement") rest statement_level refl refl refl refl;
-  entered = λ rest. entered_is (built command_line) (codes "statement") rest statement_level refl refl refl refl;
-}
-
-pub statement_told : (rest : List Text) → AreTexts rest → IsTold (codes "statement" ∷ rest)
-statement_told rest = told subcommand.Statement statement_level 3 statement_own rest
-
--- ---- migrate
-
-migrate_finds : Finds subcommand.Migrate migrate_level 1
-unfolding clap_on_literals
-migrate_finds [] all = absurd (omega arith)
-migrate_finds (a ∷ []) all = refl
-migrate_finds (a ∷ b ∷ rest) all = absurd (omega arith)
-
-migrate_own : IsOwn subcommand.Migrate migrate_level 1
-unfolding clap_on_literals command_line
-migrate_own = record {
-  level = migrate_is;
-  count = refl;
-  finds = migrate_finds;
-  table = refl;
-  first = refl;
-  fault = λ rest. fault_is (built command_line) (codes "migrate") rest migrate_level refl refl refl refl;
-  entered = λ rest. entered_is (built command_line) (codes "migrate") rest migrate_level refl refl refl refl;
-}
-
-pub migrate_told : (rest : List Text) → AreTexts rest → IsTold (codes "migrate" ∷ rest)
-migrate_told rest = told subcommand.Migrate migrate_level 1 migrate_own rest
+  told texts = ⊎_elim (λ (r : IsRead s n held rest). read r) (λ (r : IsRefused s n rest). refused r)
+      (level_reads s n held (level_is (places_of v) (apart v) (name_of v) (small v)) rest texts)

@@ -1,6 +1,6 @@
 -- What a level of the command line without subcommands makes of one word.
-use Rattle.std.proofs.Common.{◌≡◌, ◌≢◌, ⊎_elim, ℕ, Bool, true, false, List, [], ◌∷◌, ◌++◌, refl, sym, ap, subst, ◌∙◌, arith}
-use Rattle.std.specs.Prelude.{Some, None, codes, if◌then◌else◌, ◌==◌, ◌||◌, ◌&&◌, nat_eq, slice_get, option_and_then}
+use Rattle.std.proofs.Common.{◌≡◌, ◌≢◌, ⊎_elim, ℕ, Bool, true, false, List, [], ◌∷◌, ◌++◌, refl, sym, ap, subst, ◌∙◌, arith, rules}
+use Rattle.std.specs.Prelude.{Option, Some, None, codes, if◌then◌else◌, ◌==◌, ◌||◌, ◌&&◌, nat_eq, slice_get, option_and_then}
 use Rattle.std.specs.List.{starts_with}
 use Rattle.std.specs.Option.{option_map_or}
 use Rattle.std.specs.Str.{IsUtf8, bytes_eq, chars}
@@ -15,6 +15,9 @@ use Rattle.clap.specs.Walk.{Held, Rule, Text, idle, long_or_other, short_or_plai
 use Rattle.clap.specs.declared.error.ErrorKind.{ErrorKind}
 use Rattle.clap.specs.declared.error.ErrorKind.TheVariants as kind
 use Rattle.clear_words.specs.Lines.{asks, is_option}
+
+pub some_same : {X : Type 0} (a b : X) → ◌≡◌ {A = Option X} (Some a) (Some b) → a ≡ b
+some_same a b e = cc
 
 abbrev pub dashes : Text
 dashes = 45 ∷ 45 ∷ []
@@ -73,14 +76,23 @@ kind_of_word (a ∷ b ∷ r) = ⊎_elim
 
 -- ---- faults
 
-pub or_else-none : (a b : Kinds) → or_else a b ≡ [] → (a ≡ []) × (b ≡ [])
-or_else-none [] b e = (refl, e)
-or_else-none (k ∷ ks) b e = absurd cc
-
 -- the kinds are that of help where it is asked for, and else another one
 abbrev pub Answers : Bool → Kinds → Type 0
 Answers true kinds = kinds ≡ kind.DisplayHelp ∷ []
 Answers false kinds = (k : ErrorKind) × (kinds ≡ k ∷ []) × (k ≢ kind.DisplayHelp)
+
+-- a fault that comes first is the answer
+pub first_answers : (asked : Bool) (kinds more : Kinds) → Answers asked kinds → Answers asked (or_else kinds more)
+first_answers true kinds more a = ap (λ ks. or_else ks more) a
+first_answers false kinds more a = (a.0, ap (λ ks. or_else ks more) a.1, a.2)
+
+-- the fault is of another kind, where help isn't asked for
+pub fails_by : (k : ErrorKind) → k ≢ kind.DisplayHelp → (asked : Bool) (kinds : Kinds) → asked ≡ false → kinds ≡ k ∷ [] → Answers asked kinds
+fails_by k other true kinds a e = absurd cc
+fails_by k other false kinds a e = (k, e, other)
+
+pub unknown : (asked : Bool) (kinds : Kinds) → asked ≡ false → kinds ≡ kind.UnknownArgument ∷ [] → Answers asked kinds
+unknown = fails_by kind.UnknownArgument (λ bad. search rules)
 
 -- the flag by which help is asked for
 abbrev pub help : Rule

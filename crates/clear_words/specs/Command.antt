@@ -29,6 +29,10 @@ no_program_word a = record a { top = record a.top { no_binary_name = true } }
 abbrev pub and : App → Text × List Text → App
 and a p = with_subcommand a (subcommand_with p.0 p.1)
 
+-- the program's command without its subcommands
+abbrev pub program : App
+program = no_program_word (new_app (codes "clearing"))
+
 -- the program's command, given the words after the program's own name
 unfoldable pub command_line : App
-command_line = fold and (no_program_word (new_app (codes "clearing"))) table
+command_line = fold and program table

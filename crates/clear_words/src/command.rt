@@ -1,12 +1,41 @@
 //! The command line, as `clap` is told of it.
-ghost use Rattle.std.specs.Prelude.{◌≡◌, IfOk, map, codes, false, ◌++◌, ◌∷◌, [], ℕ, List};
-ghost use Rattle.clap.specs.Words.{app_of, shape_of, new_app, with_subcommand};
+ghost use Rattle.std.specs.Prelude.{◌≡◌, IfOk, map, false, ◌++◌, ◌∷◌, [], ℕ, List};
+ghost use Rattle.clap.specs.Words.{app_of, shape_of, with_subcommand};
 ghost use Rattle.clap.specs.declared.Command.TheViews.{out-Command as fields_of};
-ghost use Rattle.clear_words.specs.Command.{subcommand_with, with_words, no_program_word};
-ghost use Rattle.clear_words.specs.Command.{command_line};
+ghost use Rattle.clear_words.specs.Command.{subcommand_with, with_words, program, command_line};
 
 use clap::{Arg, Command};
 use std::alloc::{AllocError, Global};
+
+// Each subcommand with what help says of it, and with its words.
+const SUBCOMMANDS: [(&str, &str, &[&str]); 6] = [
+    ("init", "Makes a store in a new file", &["STORE", "RATES"]),
+    (
+        "stream",
+        "Serves standard input over an office in memory",
+        &["RATES", "CALLERS", "DAY"],
+    ),
+    (
+        "serve",
+        "Serves COUNT connections on PORT of 127.0.0.1",
+        &["STORE", "CALLERS", "DAY", "PORT", "COUNT"],
+    ),
+    (
+        "import",
+        "Imports a bank file as the clerk",
+        &["STORE", "DAY", "NUMBER", "FILE"],
+    ),
+    (
+        "statement",
+        "Prints the statement of a firm",
+        &["STORE", "DAY", "EMPLOYER"],
+    ),
+    (
+        "migrate",
+        "Brings a store to the current schema",
+        &["STORE"],
+    ),
+];
 
 // The command with one word more, which is required.
 fn with_word<'a>(
@@ -58,7 +87,7 @@ fn and<'a>(
 
 // The command without its subcommands. Its name is given apart, since the words begin behind it.
 fn program<'a>(alloc: Global) -> Result<Command<'a>, AllocError>
-    ensures { IfOk result (λ c. app_of c ≡ no_program_word (new_app (codes "clearing"))) }
+    ensures { IfOk result (λ c. app_of c ≡ program) }
 {
     let command = Command::new(alloc, "clearing")
         .about("The clearing office. Without words it serves the sample from standard input.")
@@ -70,47 +99,9 @@ fn program<'a>(alloc: Global) -> Result<Command<'a>, AllocError>
 pub(crate) fn command_line<'a>(alloc: Global) -> Result<Command<'a>, AllocError>
     ensures { IfOk result (λ c. app_of c ≡ command_line) }
 {
-    let command = program(alloc)?;
-    let command = and(
-        alloc,
-        command,
-        "init",
-        "Makes a store in a new file",
-        &["STORE", "RATES"],
-    )?;
-    let command = and(
-        alloc,
-        command,
-        "stream",
-        "Serves standard input over an office in memory",
-        &["RATES", "CALLERS", "DAY"],
-    )?;
-    let command = and(
-        alloc,
-        command,
-        "serve",
-        "Serves COUNT connections on PORT of 127.0.0.1",
-        &["STORE", "CALLERS", "DAY", "PORT", "COUNT"],
-    )?;
-    let command = and(
-        alloc,
-        command,
-        "import",
-        "Imports a bank file as the clerk",
-        &["STORE", "DAY", "NUMBER", "FILE"],
-    )?;
-    let command = and(
-        alloc,
-        command,
-        "statement",
-        "Prints the statement of a firm",
-        &["STORE", "DAY", "EMPLOYER"],
-    )?;
-    and(
-        alloc,
-        command,
-        "migrate",
-        "Brings a store to the current schema",
-        &["STORE"],
-    )
+    let mut command = program(alloc)?;
+    for (name, about, words) in SUBCOMMANDS {
+        command = and(alloc, command, name, about, words)?;
+    }
+    Ok(command)
 }

@@ -1,5 +1,5 @@
 //! The words behind a subcommand, each by the name of its place.
-ghost use Rattle.std.specs.Prelude.{◌≡◌, ℕ, ◌<◌, ◌^◌, IfSome, IfNone, codes, option_map};
+ghost use Rattle.std.specs.Prelude.{◌≡◌, ◌<◌, ◌≤◌, ◌^◌, codes, option_map};
 ghost use Rattle.std.specs.Fmt.{decimal};
 ghost use Rattle.clap.specs.Words.{found_of, rows_of, first_of};
 ghost use Rattle.clear_money.specs.Calendar.{IsDay};
@@ -7,7 +7,7 @@ ghost use Rattle.clear_money.specs.Numbers.{IsEmployerNo};
 ghost use Rattle.clear_money.specs.Texts.{day_text};
 ghost use Rattle.clear_book.specs.Numbers.{IsRequestNo};
 ghost use Rattle.clear_words.specs.Lines.{IsPort, IsCount};
-ghost use Rattle.clear_words.specs.Rows.{IsWord};
+ghost use Rattle.clear_words.specs.Rows.{ReadsPlace};
 
 use clap::ArgMatches;
 use clear_book::numbers::RequestNo;
@@ -33,102 +33,57 @@ pub(crate) fn word<'a>(words: &ArgMatches<'a>, id: &str) -> Option<&'a str>
 
 // The number in a place.
 fn number(words: &ArgMatches<'_>, id: &str) -> Option<u64>
-    ensures found { IfSome result (λ n.
-        IsWord (rows_of (found_of words.now)) id.now (decimal n) × (n < 2 ^ 64)) }
-    ensures only { IfNone result ((n : ℕ) →
-        n < 2 ^ 64 → ¬ IsWord (rows_of (found_of words.now)) id.now (decimal n)) }
+    ensures { ReadsPlace (rows_of (found_of words.now)) id.now decimal (λ n. n < 2 ^ 64) result }
 {
-    let Some(text) = word(words, id) else {
+    read_number(word(words, id)?.as_bytes())
+}
+
+// The number in a place, within these bounds.
+fn number_within(words: &ArgMatches<'_>, id: &str, least: u64, greatest: u64) -> Option<u64>
+    ensures { ReadsPlace (rows_of (found_of words.now)) id.now decimal
+        (λ n. (least ≤ n) × (n ≤ greatest)) result }
+{
+    let number = number(words, id)?;
+    if number < least || number > greatest {
         return None;
-    };
-    match read_number(text.as_bytes()) {
-        Some(number) => Some(number),
-        None => None,
     }
+    Some(number)
 }
 
 // The day of the command line.
 pub(crate) fn day(words: &ArgMatches<'_>) -> Option<Day>
-    ensures found { IfSome result (λ d.
-        IsWord (rows_of (found_of words.now)) (codes "DAY") (day_text d) × IsDay d) }
-    ensures only { IfNone result ((d : ℕ) →
-        IsDay d → ¬ IsWord (rows_of (found_of words.now)) (codes "DAY") (day_text d)) }
+    ensures { ReadsPlace (rows_of (found_of words.now)) (codes "DAY") day_text IsDay result }
 {
-    let Some(text) = word(words, "DAY") else {
-        return None;
-    };
-    match Day::read(text.as_bytes()) {
-        Some(day) => Some(day),
-        None => None,
-    }
+    Day::read(word(words, "DAY")?.as_bytes())
 }
 
 // The port on which connections are served.
 pub(crate) fn port(words: &ArgMatches<'_>) -> Option<u16>
-    ensures found { IfSome result (λ n.
-        IsWord (rows_of (found_of words.now)) (codes "PORT") (decimal n) × IsPort n) }
-    ensures only { IfNone result ((n : ℕ) →
-        IsPort n → ¬ IsWord (rows_of (found_of words.now)) (codes "PORT") (decimal n)) }
+    ensures { ReadsPlace (rows_of (found_of words.now)) (codes "PORT") decimal IsPort result }
 {
-    let Some(number) = number(words, "PORT") else {
-        return None;
-    };
-    if number < MIN_PORT {
-        return None;
-    }
-    if number > MAX_PORT {
-        return None;
-    }
+    let number = number_within(words, "PORT", MIN_PORT, MAX_PORT)?;
     Some(number as u16)
 }
 
 // How many connections are served.
 pub(crate) fn count(words: &ArgMatches<'_>) -> Option<u32>
-    ensures found { IfSome result (λ n.
-        IsWord (rows_of (found_of words.now)) (codes "COUNT") (decimal n) × IsCount n) }
-    ensures only { IfNone result ((n : ℕ) →
-        IsCount n → ¬ IsWord (rows_of (found_of words.now)) (codes "COUNT") (decimal n)) }
+    ensures { ReadsPlace (rows_of (found_of words.now)) (codes "COUNT") decimal IsCount result }
 {
-    let Some(number) = number(words, "COUNT") else {
-        return None;
-    };
-    if number < MIN_COUNT {
-        return None;
-    }
-    if number > MAX_COUNT {
-        return None;
-    }
+    let number = number_within(words, "COUNT", MIN_COUNT, MAX_COUNT)?;
     Some(number as u32)
 }
 
 // The number of a request.
 pub(crate) fn request(words: &ArgMatches<'_>) -> Option<RequestNo>
-    ensures found { IfSome result (λ n.
-        IsWord (rows_of (found_of words.now)) (codes "NUMBER") (decimal n) × IsRequestNo n) }
-    ensures only { IfNone result ((n : ℕ) →
-        IsRequestNo n → ¬ IsWord (rows_of (found_of words.now)) (codes "NUMBER") (decimal n)) }
+    ensures { ReadsPlace (rows_of (found_of words.now)) (codes "NUMBER") decimal IsRequestNo result }
 {
-    let Some(number) = number(words, "NUMBER") else {
-        return None;
-    };
-    match RequestNo::new(number) {
-        Some(number) => Some(number),
-        None => None,
-    }
+    RequestNo::new(number(words, "NUMBER")?)
 }
 
 // The number of a firm.
 pub(crate) fn employer(words: &ArgMatches<'_>) -> Option<EmployerNo>
-    ensures found { IfSome result (λ n.
-        IsWord (rows_of (found_of words.now)) (codes "EMPLOYER") (decimal n) × IsEmployerNo n) }
-    ensures only { IfNone result ((n : ℕ) →
-        IsEmployerNo n → ¬ IsWord (rows_of (found_of words.now)) (codes "EMPLOYER") (decimal n)) }
+    ensures { ReadsPlace (rows_of (found_of words.now)) (codes "EMPLOYER") decimal IsEmployerNo
+        result }
 {
-    let Some(number) = number(words, "EMPLOYER") else {
-        return None;
-    };
-    match EmployerNo::new(number) {
-        Some(employer) => Some(employer),
-        None => None,
-    }
+    EmployerNo::new(number(words, "EMPLOYER")?)
 }

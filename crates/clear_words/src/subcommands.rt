@@ -1,7 +1,7 @@
 //! The subcommands, each read from the words behind it.
 ghost use Rattle.std.specs.Prelude.{◌≡◌, Some, IfSome, IfNone};
 ghost use Rattle.clap.specs.Words.{found_of, rows_of};
-ghost use Rattle.clear_words.specs.Rows.{subcommand_named, subcommand_for, HasWords, Names};
+ghost use Rattle.clear_words.specs.Rows.{subcommand_named, Names, ReadsWords};
 ghost use Rattle.clear_words.specs.declared.words.Words.{Words};
 
 use crate::places::{count, day, employer, port, request, word};
@@ -22,53 +22,31 @@ pub(crate) enum Subcommand {
 fn subcommand_named(name: &str) -> Option<Subcommand>
     ensures { result ≡ subcommand_named name.now }
 {
-    if name == "init" {
-        Some(Subcommand::Init)
-    } else if name == "stream" {
-        Some(Subcommand::Stream)
-    } else if name == "serve" {
-        Some(Subcommand::Serve)
-    } else if name == "import" {
-        Some(Subcommand::Import)
-    } else if name == "statement" {
-        Some(Subcommand::Statement)
-    } else if name == "migrate" {
-        Some(Subcommand::Migrate)
-    } else {
-        None
+    match name {
+        "init" => Some(Subcommand::Init),
+        "stream" => Some(Subcommand::Stream),
+        "serve" => Some(Subcommand::Serve),
+        "import" => Some(Subcommand::Import),
+        "statement" => Some(Subcommand::Statement),
+        "migrate" => Some(Subcommand::Migrate),
+        _ => None,
     }
 }
 
 fn read_init<'a>(words: &ArgMatches<'a>) -> Option<Words<'a>>
-    ensures found { IfSome result (λ said. (subcommand_for said ≡ Subcommand.Init)
-        × HasWords (rows_of (found_of words.now)) said) }
-    ensures only { IfNone result ((said : Words) → subcommand_for said ≡ Subcommand.Init
-        → ¬ HasWords (rows_of (found_of words.now)) said) }
+    ensures { ReadsWords (rows_of (found_of words.now)) Subcommand.Init result }
 {
-    let Some(store) = word(words, "STORE") else {
-        return None;
-    };
-    let Some(rates) = word(words, "RATES") else {
-        return None;
-    };
+    let store = word(words, "STORE")?;
+    let rates = word(words, "RATES")?;
     Some(Words::Init { store, rates })
 }
 
 fn read_stream<'a>(words: &ArgMatches<'a>) -> Option<Words<'a>>
-    ensures found { IfSome result (λ said. (subcommand_for said ≡ Subcommand.Stream)
-        × HasWords (rows_of (found_of words.now)) said) }
-    ensures only { IfNone result ((said : Words) → subcommand_for said ≡ Subcommand.Stream
-        → ¬ HasWords (rows_of (found_of words.now)) said) }
+    ensures { ReadsWords (rows_of (found_of words.now)) Subcommand.Stream result }
 {
-    let Some(rates) = word(words, "RATES") else {
-        return None;
-    };
-    let Some(callers) = word(words, "CALLERS") else {
-        return None;
-    };
-    let Some(day) = day(words) else {
-        return None;
-    };
+    let rates = word(words, "RATES")?;
+    let callers = word(words, "CALLERS")?;
+    let day = day(words)?;
     Some(Words::Stream {
         rates,
         callers,
@@ -77,26 +55,13 @@ fn read_stream<'a>(words: &ArgMatches<'a>) -> Option<Words<'a>>
 }
 
 fn read_serve<'a>(words: &ArgMatches<'a>) -> Option<Words<'a>>
-    ensures found { IfSome result (λ said. (subcommand_for said ≡ Subcommand.Serve)
-        × HasWords (rows_of (found_of words.now)) said) }
-    ensures only { IfNone result ((said : Words) → subcommand_for said ≡ Subcommand.Serve
-        → ¬ HasWords (rows_of (found_of words.now)) said) }
+    ensures { ReadsWords (rows_of (found_of words.now)) Subcommand.Serve result }
 {
-    let Some(store) = word(words, "STORE") else {
-        return None;
-    };
-    let Some(callers) = word(words, "CALLERS") else {
-        return None;
-    };
-    let Some(day) = day(words) else {
-        return None;
-    };
-    let Some(port) = port(words) else {
-        return None;
-    };
-    let Some(count) = count(words) else {
-        return None;
-    };
+    let store = word(words, "STORE")?;
+    let callers = word(words, "CALLERS")?;
+    let day = day(words)?;
+    let port = port(words)?;
+    let count = count(words)?;
     Some(Words::Serve {
         store,
         callers,
@@ -107,23 +72,12 @@ fn read_serve<'a>(words: &ArgMatches<'a>) -> Option<Words<'a>>
 }
 
 fn read_import<'a>(words: &ArgMatches<'a>) -> Option<Words<'a>>
-    ensures found { IfSome result (λ said. (subcommand_for said ≡ Subcommand.Import)
-        × HasWords (rows_of (found_of words.now)) said) }
-    ensures only { IfNone result ((said : Words) → subcommand_for said ≡ Subcommand.Import
-        → ¬ HasWords (rows_of (found_of words.now)) said) }
+    ensures { ReadsWords (rows_of (found_of words.now)) Subcommand.Import result }
 {
-    let Some(store) = word(words, "STORE") else {
-        return None;
-    };
-    let Some(day) = day(words) else {
-        return None;
-    };
-    let Some(number) = request(words) else {
-        return None;
-    };
-    let Some(file) = word(words, "FILE") else {
-        return None;
-    };
+    let store = word(words, "STORE")?;
+    let day = day(words)?;
+    let number = request(words)?;
+    let file = word(words, "FILE")?;
     Some(Words::Import {
         store,
         day,
@@ -133,20 +87,11 @@ fn read_import<'a>(words: &ArgMatches<'a>) -> Option<Words<'a>>
 }
 
 fn read_statement<'a>(words: &ArgMatches<'a>) -> Option<Words<'a>>
-    ensures found { IfSome result (λ said. (subcommand_for said ≡ Subcommand.Statement)
-        × HasWords (rows_of (found_of words.now)) said) }
-    ensures only { IfNone result ((said : Words) → subcommand_for said ≡ Subcommand.Statement
-        → ¬ HasWords (rows_of (found_of words.now)) said) }
+    ensures { ReadsWords (rows_of (found_of words.now)) Subcommand.Statement result }
 {
-    let Some(store) = word(words, "STORE") else {
-        return None;
-    };
-    let Some(day) = day(words) else {
-        return None;
-    };
-    let Some(employer) = employer(words) else {
-        return None;
-    };
+    let store = word(words, "STORE")?;
+    let day = day(words)?;
+    let employer = employer(words)?;
     Some(Words::Statement {
         store,
         day,
@@ -155,14 +100,9 @@ fn read_statement<'a>(words: &ArgMatches<'a>) -> Option<Words<'a>>
 }
 
 fn read_migrate<'a>(words: &ArgMatches<'a>) -> Option<Words<'a>>
-    ensures found { IfSome result (λ said. (subcommand_for said ≡ Subcommand.Migrate)
-        × HasWords (rows_of (found_of words.now)) said) }
-    ensures only { IfNone result ((said : Words) → subcommand_for said ≡ Subcommand.Migrate
-        → ¬ HasWords (rows_of (found_of words.now)) said) }
+    ensures { ReadsWords (rows_of (found_of words.now)) Subcommand.Migrate result }
 {
-    let Some(store) = word(words, "STORE") else {
-        return None;
-    };
+    let store = word(words, "STORE")?;
     Some(Words::Migrate { store })
 }
 
@@ -172,10 +112,7 @@ pub(crate) fn read_subcommand<'a>(name: &str, words: &ArgMatches<'a>) -> Option<
     ensures only { IfNone result ((said : Words) →
         ¬ Names (Some (name.now, rows_of (found_of words.now))) said) }
 {
-    let Some(subcommand) = subcommand_named(name) else {
-        return None;
-    };
-    match subcommand {
+    match subcommand_named(name)? {
         Subcommand::Init => read_init(words),
         Subcommand::Stream => read_stream(words),
         Subcommand::Serve => read_serve(words),
