@@ -10,6 +10,7 @@ root may write everywhere.
 import os
 import resource
 import shutil
+import signal
 import socket
 import sqlite3
 import struct
@@ -129,12 +130,12 @@ class Program(unittest.TestCase):
 
     # ---- servers
 
-    def serving(self, count, day=DAY):
+    def serving(self, count, day=DAY, **options):
         """The program as it serves so many connections of the store, on a port that is free."""
         with socket.create_server(("127.0.0.1", 0)) as probe:
             port = probe.getsockname()[1]
         words = ["serve", "fund.db", "callers.toml", day, str(port), str(count)]
-        server = self.start(*words, stdin=subprocess.DEVNULL)
+        server = self.start(*words, stdin=subprocess.DEVNULL, **options)
         server.port = port
         self.addCleanup(server.kill)
         return server
@@ -175,7 +176,11 @@ class Words(Program):
             "push fund.db",
             "statement fund.db",
             "init fund.db rates.toml more",
+            "init -x rates.toml",
+            "--version",
+            "migrate fund.db rates.toml",
             "statement fund.db 2024-4-30 1001",
+            "statement fund.db 2024-04-31 1001",
             "statement fund.db 2024-04-30 0",
             "statement fund.db 2024-04-30 100000000",
             "import fund.db 2024-04-30 0 bank.csv",
@@ -192,9 +197,13 @@ class Words(Program):
     def test_a_word_that_is_no_text(self):
         self.expect([b"init", b"\xff", b"rates.toml"], 2, "", "fault command line\n")
 
+    def test_words_that_begin_with_a_minus(self):
+        self.expect(["init", "--", "-x", "rates.toml"], 0, "schema 0\n")
+        self.assertTrue((self.folder / "-x").exists())
+
     def test_help(self):
-        for words in (["--help"], ["init", "--help"]):
-            status, output, errors = self.run_program(*words)
+        for line in ("help", "-h", "--help", "help init", "init --help"):
+            status, output, errors = self.run_program(*line.split())
             self.assertEqual((status, errors), (0, ""))
             self.assertIn("Usage: clearing", output)
 
@@ -338,8 +347,16 @@ class Stream(Program):
     def test_files_in_their_order(self):
         self.expect(["stream", "sample", "no.toml", DAY], 2, "", "fault file\n")
         self.expect(["stream", "no.toml", "sample", DAY], 2, "", "fault file\n")
-        self.write("callers.toml", "desk = -1\n")
-        self.expect(["stream", "sample", "callers.toml", DAY], 2, "", "fault file\n")
+        for callers in ("desk = -1\n", 'desk = "clerk"\n', "desk =\n"):
+            self.write("callers.toml", callers)
+            self.expect(["stream", "sample", "callers.toml", DAY], 2, "", "fault file\n")
+
+    def test_a_further_member_and_what_is_missing(self):
+        refused = lambda detail: '{"detail":"' + detail + '","name":"BadBody","rule":8}'
+        further = post("/employers", 1, '{"employer":1001,"name":"Bau Nord","start":"2024-01","a\\"b":1}')
+        self.assertIn(refused('a\\"b'), self.run_program(stdin=further)[1])
+        missing = REGISTRATION.replace(b"Request-Number: 1\r\n", b"")
+        self.assertIn(refused("Request-Number"), self.run_program(stdin=missing)[1])
 
     def test_input_that_fails(self):
         with self.start(stdin=os.open(self.folder, os.O_RDONLY)) as running:
@@ -374,6 +391,44 @@ class Serve(Program):
         self.assertIn(b'"rule":12', self.send(server, REGISTRATION.replace(b"Number: 1", b"Number: 2")))
         self.assertIn(b'"version":1', self.send(server, JANUARY))
         self.assertEqual(self.ended(server), (0, "served 3\n", ""))
+
+    def test_requests_in_any_pieces(self):
+        # Under their own numbers, the requests have the same answers on each connection.
+        size = len(FIRST_REQUESTS)
+        cuts = [[at] for at in range(1, size)] + [range(0, size, step) for step in (1, 2, 3, 7)]
+        self.init()
+        server = self.serving(len(cuts))
+        for at in cuts:
+            ends = [0, *at, size]
+            with self.connect(server) as peer:
+                peer.setsockopt(socket.IPPROTO_TCP, socket.TCP_NODELAY, 1)
+                for start, end in zip(ends, ends[1:]):
+                    peer.sendall(FIRST_REQUESTS[start:end])
+                    time.sleep(0.0005)
+                peer.shutdown(socket.SHUT_WR)
+                self.assertEqual(self.read_all(peer), FIRST_ANSWERS, at)
+        self.assertEqual(self.ended(server), (0, f"served {len(cuts)}\n", ""))
+
+    def test_a_fault_of_the_store(self):
+        self.init()
+
+        def no_room():
+            """No file takes a byte behind its first 4,096."""
+            signal.signal(signal.SIGXFSZ, signal.SIG_IGN)
+            resource.setrlimit(resource.RLIMIT_FSIZE, (4_096, 4_096))
+
+        server = self.serving(2, preexec_fn=no_room)
+        head = b"HTTP/1.1 500 Internal Server Error\r\nContent-Type: application/json\r\nContent-Length: "
+        close = b"\r\nConnection: close\r\n\r\n"
+        failing = head + b"38" + close + b'{"detail":"","name":"Store","rule":41}'
+        failed = head + b"39" + close + b'{"detail":"","name":"Failed","rule":42}'
+        # Nothing is answered behind it, and then only that the office has failed.
+        self.assertEqual(self.send(server, REGISTRATION + JANUARY), failing)
+        self.assertEqual(self.send(server, JANUARY), failed)
+        self.assertEqual(self.ended(server), (0, "served 2\n", ""))
+        again = self.serving(1)
+        self.assertIn(b'{"done":true}', self.send(again, REGISTRATION))
+        self.assertEqual(self.ended(again), (0, "served 1\n", ""))
 
     def test_a_peer_that_goes_on_sending_reads_its_answer(self):
         self.init()

@@ -11,5 +11,3 @@
 
 pub mod answer;
 pub mod said;
-#[cfg(test)]
-mod tests;

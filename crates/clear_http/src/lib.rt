@@ -22,6 +22,3 @@ pub use clear_callers::directory;
 pub use clear_paths::routes;
 pub use clear_routes::command;
 pub use clear_wire::{counted, request};
-
-#[cfg(test)]
-mod tests;

@@ -52,7 +52,7 @@ pub trait Responder<T> {
 }
 
 /// Why a stream is not served to its end.
-#[derive(Clone, Copy, Debug, PartialEq, Eq)]
+#[derive(Clone, Copy)]
 pub enum Fault {
     /// A call of the reader failed.
     Read,
