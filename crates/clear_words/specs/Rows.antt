@@ -39,7 +39,8 @@ IsWord rows id text = first_of id rows ≡ Some text
 
 -- a place read as a number: the one that its word writes, if one of those meant is written there
 abbrev pub ReadsPlace : List Row → Text → (ℕ → Text) → (ℕ → Type 0) → Option ℕ → Type 0
-ReadsPlace rows id written IsMeant result = IfSome result (λ n. IsWord rows id (written n) × IsMeant n)
+ReadsPlace rows id written IsMeant result =
+    IfSome result (λ n. IsWord rows id (written n) × IsMeant n)
     × IfNone result ((n : ℕ) → IsMeant n → ¬ IsWord rows id (written n))
 
 -- the subcommand of what is said

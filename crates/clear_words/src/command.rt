@@ -46,7 +46,8 @@ fn with_word<'a>(
     ensures app { IfOk result (λ c. (name : List ℕ) (before : List (List ℕ))
         → app_of command.entry ≡ with_words name before
         → app_of c ≡ with_words name (before ++ word.entry.now ∷ [])) }
-    ensures local { IfOk result (λ c. (fields_of c).has_globals ≡ (fields_of command.entry).has_globals) }
+    ensures local { IfOk result (λ c.
+        (fields_of c).has_globals ≡ (fields_of command.entry).has_globals) }
 {
     let arg = Arg::new(alloc, word).required(true);
     command.arg(arg)

@@ -75,7 +75,8 @@ pub(crate) fn count(words: &ArgMatches<'_>) -> Option<u32>
 
 // The number of a request.
 pub(crate) fn request(words: &ArgMatches<'_>) -> Option<RequestNo>
-    ensures { ReadsPlace (rows_of (found_of words.now)) (codes "NUMBER") decimal IsRequestNo result }
+    ensures { ReadsPlace (rows_of (found_of words.now)) (codes "NUMBER") decimal IsRequestNo
+        result }
 {
     RequestNo::new(number(words, "NUMBER")?)
 }

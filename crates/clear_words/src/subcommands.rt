@@ -36,17 +36,27 @@ fn subcommand_named(name: &str) -> Option<Subcommand>
 fn read_init<'a>(words: &ArgMatches<'a>) -> Option<Words<'a>>
     ensures { ReadsWords (rows_of (found_of words.now)) Subcommand.Init result }
 {
-    let store = word(words, "STORE")?;
-    let rates = word(words, "RATES")?;
+    let Some(store) = word(words, "STORE") else {
+        return None;
+    };
+    let Some(rates) = word(words, "RATES") else {
+        return None;
+    };
     Some(Words::Init { store, rates })
 }
 
 fn read_stream<'a>(words: &ArgMatches<'a>) -> Option<Words<'a>>
     ensures { ReadsWords (rows_of (found_of words.now)) Subcommand.Stream result }
 {
-    let rates = word(words, "RATES")?;
-    let callers = word(words, "CALLERS")?;
-    let day = day(words)?;
+    let Some(rates) = word(words, "RATES") else {
+        return None;
+    };
+    let Some(callers) = word(words, "CALLERS") else {
+        return None;
+    };
+    let Some(day) = day(words) else {
+        return None;
+    };
     Some(Words::Stream {
         rates,
         callers,
@@ -57,11 +67,21 @@ fn read_stream<'a>(words: &ArgMatches<'a>) -> Option<Words<'a>>
 fn read_serve<'a>(words: &ArgMatches<'a>) -> Option<Words<'a>>
     ensures { ReadsWords (rows_of (found_of words.now)) Subcommand.Serve result }
 {
-    let store = word(words, "STORE")?;
-    let callers = word(words, "CALLERS")?;
-    let day = day(words)?;
-    let port = port(words)?;
-    let count = count(words)?;
+    let Some(store) = word(words, "STORE") else {
+        return None;
+    };
+    let Some(callers) = word(words, "CALLERS") else {
+        return None;
+    };
+    let Some(day) = day(words) else {
+        return None;
+    };
+    let Some(port) = port(words) else {
+        return None;
+    };
+    let Some(count) = count(words) else {
+        return None;
+    };
     Some(Words::Serve {
         store,
         callers,
@@ -74,10 +94,18 @@ fn read_serve<'a>(words: &ArgMatches<'a>) -> Option<Words<'a>>
 fn read_import<'a>(words: &ArgMatches<'a>) -> Option<Words<'a>>
     ensures { ReadsWords (rows_of (found_of words.now)) Subcommand.Import result }
 {
-    let store = word(words, "STORE")?;
-    let day = day(words)?;
-    let number = request(words)?;
-    let file = word(words, "FILE")?;
+    let Some(store) = word(words, "STORE") else {
+        return None;
+    };
+    let Some(day) = day(words) else {
+        return None;
+    };
+    let Some(number) = request(words) else {
+        return None;
+    };
+    let Some(file) = word(words, "FILE") else {
+        return None;
+    };
     Some(Words::Import {
         store,
         day,
@@ -89,9 +117,15 @@ fn read_import<'a>(words: &ArgMatches<'a>) -> Option<Words<'a>>
 fn read_statement<'a>(words: &ArgMatches<'a>) -> Option<Words<'a>>
     ensures { ReadsWords (rows_of (found_of words.now)) Subcommand.Statement result }
 {
-    let store = word(words, "STORE")?;
-    let day = day(words)?;
-    let employer = employer(words)?;
+    let Some(store) = word(words, "STORE") else {
+        return None;
+    };
+    let Some(day) = day(words) else {
+        return None;
+    };
+    let Some(employer) = employer(words) else {
+        return None;
+    };
     Some(Words::Statement {
         store,
         day,
@@ -102,7 +136,9 @@ fn read_statement<'a>(words: &ArgMatches<'a>) -> Option<Words<'a>>
 fn read_migrate<'a>(words: &ArgMatches<'a>) -> Option<Words<'a>>
     ensures { ReadsWords (rows_of (found_of words.now)) Subcommand.Migrate result }
 {
-    let store = word(words, "STORE")?;
+    let Some(store) = word(words, "STORE") else {
+        return None;
+    };
     Some(Words::Migrate { store })
 }
 
