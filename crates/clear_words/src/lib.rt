@@ -9,6 +9,4 @@ mod command;
 pub mod line;
 mod places;
 mod subcommands;
-#[cfg(test)]
-mod tests;
 pub mod words;
