@@ -21,7 +21,7 @@ loop-served-preserved g c = record {
       let same = c.loop-served.invariant.failed was in
       c.serve_next.ensures.failed (ap (λ a. a.failed) same ∙ was) ∙ same;
   told = elim c.match-serve_next.branch [
-    in-Ok w ↦ served_told c.loop-served._served (g.E.Write.contents c.args.errors.now) _ _ _ _ w.told-is (ap g.E.Write.contents w.errors-is) c.loop-served.invariant.told
+    | in-Ok w ↦ served_told c.loop-served._served (g.E.Write.contents c.args.errors.now) _ _ _ _ w.told-is (ap g.E.Write.contents w.errors-is) c.loop-served.invariant.told
     | in-Err w ↦ fault_told c.loop-served._served (g.E.Write.contents c.args.errors.now) _ _ _ _ _ _ _ (w.told-is ∙ w.and-told.ensures) (ap g.E.Write.contents w.errors-is) c.loop-served.invariant.told w.tell.ensures
   ];
 }
