@@ -352,11 +352,11 @@ class Stream(Program):
             self.expect(["stream", "sample", "callers.toml", DAY], 2, "", "fault file\n")
 
     def test_a_further_member_and_what_is_missing(self):
-        refused = lambda detail: '{"detail":"' + detail + '","name":"BadBody","rule":8}'
+        refused = '{"detail":"%s","name":"BadBody","rule":8}'
         further = post("/employers", 1, '{"employer":1001,"name":"Bau Nord","start":"2024-01","a\\"b":1}')
-        self.assertIn(refused('a\\"b'), self.run_program(stdin=further)[1])
+        self.assertIn(refused % 'a\\"b', self.run_program(stdin=further)[1])
         missing = REGISTRATION.replace(b"Request-Number: 1\r\n", b"")
-        self.assertIn(refused("Request-Number"), self.run_program(stdin=missing)[1])
+        self.assertIn(refused % "Request-Number", self.run_program(stdin=missing)[1])
 
     def test_input_that_fails(self):
         with self.start(stdin=os.open(self.folder, os.O_RDONLY)) as running:
