@@ -4,7 +4,7 @@ use clear_money::months::Month;
 use clear_money::numbers::Amount;
 
 /// The contribution that a firm owes for a month.
-#[derive(Clone, Copy, Debug, PartialEq, Eq)]
+#[derive(Clone, Copy)]
 pub struct Charge {
     pub month: Month,
     /// The day on which it is due.
@@ -19,7 +19,7 @@ impl Charge {
 }
 
 /// A payment of a firm, or what was set off for it.
-#[derive(Clone, Copy, Debug, PartialEq, Eq)]
+#[derive(Clone, Copy)]
 pub struct Credit {
     /// The day from which it counts as paid.
     pub day: Day,
@@ -41,7 +41,7 @@ impl Credit {
 }
 
 /// What a payment pays of the charge of a month: 1 cent or more.
-#[derive(Clone, Copy, Debug, PartialEq, Eq)]
+#[derive(Clone, Copy)]
 pub struct Piece {
     pub month: Month,
     /// The serial of the payment.
@@ -50,7 +50,7 @@ pub struct Piece {
 }
 
 /// Why an account is not changed.
-#[derive(Clone, Copy, Debug, PartialEq, Eq)]
+#[derive(Clone, Copy)]
 pub enum AccountFault {
     /// It has `MAX_CREDITS` payments.
     OverLimit,

@@ -17,6 +17,4 @@ mod lists;
 pub mod owed;
 pub mod plain;
 pub mod settled;
-#[cfg(test)]
-mod tests;
 mod weights;

@@ -13,7 +13,7 @@ use std::alloc::Global;
 use std::marker::Model;
 
 /// A keeper that computes each answer from its two lists.
-#[derive(Debug, Drop)]
+#[derive(Drop)]
 pub struct Plain {
     charges: Vec<Charge>,
     credits: Vec<Credit>,

@@ -5,7 +5,7 @@ use std::alloc::{AllocError, AllocFailed};
 pub const FIRST_ROW: usize = 2;
 
 /// Why a bank file is refused. Its records are numbered from 1, the header being the first.
-#[derive(Clone, Copy, Debug, PartialEq, Eq)]
+#[derive(Clone, Copy)]
 pub enum BankFault {
     /// More data records than the limit.
     OverLimit,

@@ -16,6 +16,4 @@ pub mod laws;
 pub mod lines;
 pub mod newness;
 mod records;
-#[cfg(test)]
-mod tests;
 pub mod texts;

@@ -8,14 +8,14 @@ use clear_money::numbers::{Amount, EmployerNo};
 use std::alloc::AllocError;
 
 /// What a payment is for.
-#[derive(Clone, Copy, Debug, PartialEq, Eq)]
+#[derive(Clone, Copy, PartialEq, Eq)]
 pub enum Purpose {
     Contribution,
     Interest,
 }
 
 /// A payment that came in at the bank.
-#[derive(Debug, Drop, PartialEq, Eq)]
+#[derive(Drop)]
 pub struct BankLine {
     pub reference: Reference,
     /// The value date.

@@ -12,7 +12,7 @@ use std::alloc::{AllocError, Global};
 use std::collections::BTreeMap;
 
 /// What a file adds.
-#[derive(Debug, Drop)]
+#[derive(Drop)]
 pub struct Judged {
     /// The places of the new lines in the file, from 0.
     pub new: Vec<usize>,

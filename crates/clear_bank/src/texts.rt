@@ -14,7 +14,7 @@ use std::str;
 /// The reference of a bank line: 1 to 35 bytes from 0x21 to 0x7E.
 ///
 /// A contract sees its bytes.
-#[derive(Debug, Drop)]
+#[derive(Drop)]
 pub struct Reference {
     code: String,
 }
@@ -102,7 +102,7 @@ impl Reference {
 /// The note of a bank line: 0 to 140 bytes of UTF-8 without bytes below 0x20 and without 0x7F.
 ///
 /// A contract sees its bytes.
-#[derive(Debug, Drop)]
+#[derive(Drop)]
 pub struct Note {
     text: String,
 }

@@ -8,7 +8,7 @@ use clear_money::months::Month;
 use clear_money::numbers::EmployerNo;
 
 /// Who calls. All clerks are one caller, and a firm is one whatever its keys.
-#[derive(Clone, Copy, Debug, PartialEq, Eq)]
+#[derive(Clone, Copy)]
 pub enum Caller {
     Firm(EmployerNo),
     Clerk,

@@ -64,11 +64,4 @@ impl BankRows {
     {
         self.rows.as_slice()
     }
-
-    /// The rows themselves, in their order.
-    pub fn into_vec(self) -> Vec<BankRow>
-        ensures { result.items ≡ self }
-    {
-        self.rows
-    }
 }

@@ -4,7 +4,7 @@ use crate::documents::Document;
 use crate::rules::Rule;
 
 /// What an accepted command is answered.
-#[derive(Clone, Copy, Debug, PartialEq, Eq)]
+#[derive(Clone, Copy)]
 pub enum Reply {
     Done,
     /// The version of the month's report, and the month's contribution in cents.

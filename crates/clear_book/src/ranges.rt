@@ -4,36 +4,12 @@ ghost use Rattle.std.specs.Prelude.{◌≡◌};
 ghost use Rattle.std.specs.List.{AllByRecursion};
 ghost use Rattle.clear_money.specs.Rates.{IsRate};
 ghost use Rattle.clear_book.specs.Machine.{AreRates};
-ghost use Rattle.clear_book.specs.Ranges.{IsCall, IsCaller, IsCommand, IsQuery, IsReport};
+ghost use Rattle.clear_book.specs.Ranges.{IsCaller, IsCommand, IsReport};
 ghost use Rattle.clear_book.specs.Ranges.{IsWageLine};
 
-use crate::calls::{Call, Caller, Command, Query, WageReport};
+use crate::calls::{Caller, Command, WageReport};
 use crate::texts::WageLine;
 use clear_money::rates::{RateRow, RateTable};
-
-/// The values of the call lie in their ranges.
-pub fn call_in_range(call: &Call)
-    ensures { IsCall call.now }
-{
-    match call {
-        Call::Do {
-            caller,
-            number,
-            day,
-            command,
-        } => {
-            caller_in_range(caller);
-            let _number = number.number();
-            let _day = day.number();
-            command_in_range(command);
-        }
-        Call::Ask { caller, day, query } => {
-            caller_in_range(caller);
-            let _day = day.number();
-            query_in_range(query);
-        }
-    }
-}
 
 /// The values of the caller lie in their ranges.
 pub fn caller_in_range(caller: &Caller)
@@ -60,20 +36,6 @@ pub fn command_in_range(command: &Command)
             report_in_range(&correction.report);
         }
         Command::ImportBank(_) => {}
-    }
-}
-
-/// The values of the query lie in their ranges.
-pub fn query_in_range(query: &Query)
-    ensures { IsQuery query.now }
-{
-    match query {
-        Query::Owed { employer } => {
-            let _employer = employer.number();
-        }
-        Query::Statement { employer } => {
-            let _employer = employer.number();
-        }
     }
 }
 

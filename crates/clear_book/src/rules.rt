@@ -8,7 +8,7 @@ use clear_money::months::Month;
 use clear_money::numbers::WorkerNo;
 
 /// What a limit is set on.
-#[derive(Clone, Copy, Debug, PartialEq, Eq)]
+#[derive(Clone, Copy)]
 pub enum Limit {
     /// 50,000,000 accepted requests.
     Book,
@@ -29,7 +29,7 @@ pub enum Limit {
 }
 
 /// Why the records could not be read or written.
-#[derive(Clone, Copy, Debug, PartialEq, Eq)]
+#[derive(Clone, Copy)]
 pub enum StoreCause {
     /// A key or a unique value stood already.
     Constraint,
@@ -39,7 +39,7 @@ pub enum StoreCause {
 }
 
 /// A table whose rows are judged where an older store is taken over.
-#[derive(Clone, Copy, Debug, PartialEq, Eq)]
+#[derive(Clone, Copy)]
 pub enum OldTable {
     Bank,
     Rates,
@@ -49,7 +49,7 @@ pub enum OldTable {
 }
 
 /// The rule by which a call is refused.
-#[derive(Clone, Copy, Debug, PartialEq, Eq)]
+#[derive(Clone, Copy)]
 pub enum Rule {
     /// The bytes are no head of a request.
     BadHead,

@@ -14,7 +14,7 @@ use std::collections::BTreeMap;
 use toml::{Table, Value};
 
 /// Why a text is no caller file.
-#[derive(Clone, Copy, Debug, PartialEq, Eq)]
+#[derive(Clone, Copy)]
 pub enum DirectoryFault {
     /// The bytes are not UTF-8, or no TOML; also where a key is repeated, or where a whole number
     /// is outside `i64`.

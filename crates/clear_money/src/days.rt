@@ -15,7 +15,7 @@ use std::marker::Model;
 /// A day from 2000-01-01 to 2200-12-31.
 ///
 /// A contract sees its day number, 1970-01-01 being 0.
-#[derive(Clone, Copy, Debug, PartialEq, Eq, PartialOrd, Ord)]
+#[derive(Clone, Copy, PartialEq, Eq, PartialOrd, Ord)]
 pub struct Day {
     number: u32,
 }

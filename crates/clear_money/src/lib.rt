@@ -12,5 +12,3 @@ pub mod months;
 pub mod numbers;
 pub mod rate_file;
 pub mod rates;
-#[cfg(test)]
-mod tests;

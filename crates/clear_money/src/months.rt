@@ -9,7 +9,7 @@ use std::marker::Model;
 /// A month from 2000-01 to 2199-12.
 ///
 /// A contract sees its number: twelve times the year, and the months of the year before it.
-#[derive(Clone, Copy, Debug, PartialEq, Eq, PartialOrd, Ord)]
+#[derive(Clone, Copy, PartialEq, Eq, PartialOrd, Ord)]
 pub struct Month {
     number: u16,
 }

@@ -7,7 +7,7 @@ use std::marker::Model;
 use std::str;
 
 /// The number of a firm, 1 to 99,999,999.
-#[derive(Clone, Copy, Debug, PartialEq, Eq, PartialOrd, Ord)]
+#[derive(Clone, Copy, PartialEq, Eq, PartialOrd, Ord)]
 pub struct EmployerNo {
     number: u32,
 }
@@ -53,7 +53,7 @@ impl EmployerNo {
 }
 
 /// The number of a worker, 1 to 999,999,999.
-#[derive(Clone, Copy, Debug, PartialEq, Eq, PartialOrd, Ord)]
+#[derive(Clone, Copy, PartialEq, Eq, PartialOrd, Ord)]
 pub struct WorkerNo {
     number: u32,
 }
@@ -99,7 +99,7 @@ impl WorkerNo {
 }
 
 /// An amount that is paid or claimed, 1 to 100,000,000,000 cents.
-#[derive(Clone, Copy, Debug, PartialEq, Eq, PartialOrd, Ord)]
+#[derive(Clone, Copy, PartialEq, Eq, PartialOrd, Ord)]
 pub struct Amount {
     cents: u64,
 }

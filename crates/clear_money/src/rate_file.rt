@@ -19,7 +19,7 @@ use std::alloc::Global;
 use toml::{Table, Value};
 
 /// Why a text is no rate file. Rows are counted from 1, and 0 is the top level of the document.
-#[derive(Clone, Copy, Debug, PartialEq, Eq)]
+#[derive(Clone, Copy)]
 pub enum RateFault {
     /// The bytes are not UTF-8, or no TOML; also where a whole number is outside `i64`.
     Text,
@@ -217,6 +217,3 @@ fn rate_meant(row: &WrittenRow) -> Option<RateRow>
 pub fn law_written_rates()
     ensures { WrittenRatesAreRead }
 {}
-
-#[cfg(test)]
-mod tests;

@@ -10,7 +10,7 @@ use std::alloc::{AllocError, Global};
 use std::marker::Model;
 
 /// The rates from a month on.
-#[derive(Clone, Copy, Debug, PartialEq, Eq)]
+#[derive(Clone, Copy)]
 pub struct RateRow {
     first: Month,
     contribution_rate: u16,
@@ -159,7 +159,7 @@ pub fn contribution(base: u64, rate: u16) -> u64
 }
 
 /// Rate rows, one at least, whose first months rise. A contract sees them as a list.
-#[derive(Debug, Drop)]
+#[derive(Drop)]
 pub struct RateTable {
     rows: Vec<RateRow>,
 }
@@ -176,7 +176,7 @@ impl Model for RateTable {
 }
 
 /// Why a row is not added.
-#[derive(Clone, Copy, Debug, PartialEq, Eq)]
+#[derive(Clone, Copy)]
 pub enum PushFault {
     /// Its first month is not after the last row's.
     RateOrder,

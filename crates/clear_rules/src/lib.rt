@@ -12,6 +12,3 @@ pub mod decide;
 pub mod gate;
 
 pub use clear_book::{access, calls, kept, laws, outcomes, rows, rules};
-
-#[cfg(test)]
-mod tests;

@@ -4,7 +4,3 @@
 pub mod desk;
 pub mod memory;
 pub mod samples;
-#[cfg(test)]
-mod stream_tests;
-#[cfg(test)]
-mod tests;

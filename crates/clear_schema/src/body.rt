@@ -13,7 +13,7 @@ use crate::fault::{Fault, fault_of};
 use sqlite::{Alter, Connection, Transaction};
 
 /// Why a body ends with nothing done.
-#[derive(Debug, Drop)]
+#[derive(Drop)]
 pub enum Stop<R> {
     /// A rule refuses it.
     Refused(R),

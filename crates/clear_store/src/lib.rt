@@ -8,6 +8,3 @@ pub use clear_firms::{counts, employers, rates, reports, wages};
 pub use clear_ledger::{bank, credits};
 pub use clear_requests::requests;
 pub use clear_schema::{body, fault, files, store};
-
-#[cfg(test)]
-mod tests;

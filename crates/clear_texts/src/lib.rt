@@ -12,5 +12,3 @@ pub mod laws;
 mod lines;
 pub mod rows;
 pub mod statement;
-#[cfg(test)]
-mod tests;

@@ -20,7 +20,7 @@ pub struct ChargeRow {
 }
 
 /// Why no row can be told.
-#[derive(Clone, Copy, Debug, PartialEq, Eq)]
+#[derive(Clone, Copy)]
 pub enum RowFault {
     /// There was no memory.
     Memory,

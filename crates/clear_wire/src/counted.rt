@@ -30,18 +30,6 @@ impl<T> Counted<T> {
         }
     }
 
-    /// The reader or writer.
-    pub fn into_inner(self) -> T
-        ensures { result ≡ inner self }
-    {
-        let Counted {
-            inner,
-            failed: _,
-            reads: _,
-        } = self;
-        inner
-    }
-
     /// Whether a call of it has failed: it gave an error, or a write took none of some bytes.
     pub fn has_failed(&self) -> bool
         ensures { result ≡ has_failed self.now }

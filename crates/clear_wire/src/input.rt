@@ -17,7 +17,7 @@ use std::mem;
 const CHUNK: usize = 4096;
 
 /// Why reading stopped before it could say what the stream goes on with.
-#[derive(Clone, Copy, Debug, PartialEq, Eq)]
+#[derive(Clone, Copy)]
 pub enum ReadFault {
     /// A call of the reader failed.
     Read,

@@ -19,5 +19,3 @@ mod lines;
 pub mod method;
 pub mod request;
 pub mod rule;
-#[cfg(test)]
-mod tests;

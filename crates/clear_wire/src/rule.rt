@@ -1,7 +1,7 @@
 //! The rules that end a stream.
 
 /// The rule that a stream breaks, and that ends it.
-#[derive(Clone, Copy, Debug, PartialEq, Eq)]
+#[derive(Clone, Copy)]
 pub enum StreamRule {
     /// The bytes are no head.
     BadHead,
@@ -12,7 +12,7 @@ pub enum StreamRule {
 }
 
 /// Why it isn't clear how long a body is, as the status of the answer says it.
-#[derive(Clone, Copy, Debug, PartialEq, Eq)]
+#[derive(Clone, Copy)]
 pub enum FramingStatus {
     /// 501: the body comes in a transfer coding.
     NotImplemented,

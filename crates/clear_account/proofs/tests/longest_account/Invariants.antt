@@ -1,6 +1,0 @@
-use Rattle.std.proofs.Common.{◌<◌}
-use Rattle.std.specs.List.{All}
-use Rattle.clear_account.proofs.tests.longest_account.Given as goal
-
-abbrev pub invariant-loop-serial : goal.invariant-loop-serial
-invariant-loop-serial l = All (λ k. k.serial < l.serial) l.account.credits

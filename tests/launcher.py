@@ -1,0 +1,395 @@
+"""Runs ./clearing and ./try over a stub of the kit's command rt: no crate is proved, and nothing need be built.
+
+    python3 tests/launcher.py
+
+Each test has a copy of both scripts in a folder of its own, with three small crates. The stub writes a program, and keeps
+a list of its calls.
+"""
+
+import os
+import re
+import shutil
+import signal
+import subprocess
+import tempfile
+import time
+import unittest
+from pathlib import Path
+
+ROOT = Path(__file__).resolve().parent.parent
+NOBODY = 65534 if os.geteuid() == 0 else None
+# All that the scripts call. The PATH of a test has these, and rt.
+TOOLS = "awk bash cat dirname env find flock mkdir nproc readlink sed sh sleep touch wc".split()
+CRATES = "# as in the repository\nlow: std_of_the_kit\nhigh: low\nclear_app: high low\nother: low\n"
+KIT = "kit of the tests"
+
+# In the folder `state` beside the kit, a file of the name of a step has the stub wait in that step, `refused` names a step
+# that fails, and `busy` has it say that it waits.
+STUB = r"""#!/bin/sh
+PATH=/usr/bin:/bin
+state=$(dirname "$(readlink -f "$0")")/../../state
+[ "$*" = version ] || echo "${PWD##*/}: $*" >>"$state/calls"
+step() {
+    echo $$ >"$state/process"
+    while [ -e "$state/$1" ]; do sleep 0.02; done
+    [ "$(cat "$state/refused" 2>/dev/null)" != "$1" ]
+}
+case $* in
+    version) cat "$state/version" ;;
+    "all check --jobs "*)
+        [ ! -e "$state/busy" ] || echo "rt: waiting for another rt to finish in low" >&2
+        for crate in low high clear_app; do
+            step "$crate" && line="logic=proved functions=1" || line="fn $crate::f: not proved"
+            printf '%s\n' "== $crate" "statements std: modules loaded=0 checked=0" "$line"
+            [ "$line" = "logic=proved functions=1" ] || exit 1
+        done
+        printf '%s\n' "== summary" "3 of 3 crates ok"
+        ;;
+    run)
+        printf '#!/bin/sh\necho "half a program"\n' >out/clear_app
+        chmod +x out/clear_app
+        step run || { echo "no linker" >&2; exit 1; }
+        cp "$state/program" out/clear_app
+        echo "logic=proved functions=1"
+        ;;
+    try*) printf '%s\n' "$@"; cat ;;
+esac
+"""
+# It tells its folder, its words and its standard input.
+PROGRAM = """#!/bin/sh
+echo "${PWD##*/}"
+printf '%s\\n' "$@"
+cat
+echo "told by the program" >&2
+exit 3
+"""
+
+
+class Launcher(unittest.TestCase):
+    def setUp(self):
+        self.addCleanup(os.umask, os.umask(0o022))
+        self.folder = Path(tempfile.mkdtemp(prefix="launcher-"))
+        self.addCleanup(self.remove)
+        self.folder.chmod(0o755)
+        self.state, self.root, self.bin = (self.folder / it for it in ("state", "checkout", "bin"))
+        self.program = self.root / "crates/clear_app/out/clear_app"
+        self.kit = self.root / "crates/clear_app/out/clear_app.kit"
+        self.write("state/version", KIT + "\n")
+        self.write("state/program", PROGRAM).chmod(0o755)
+        self.write("kit/bin/rt", STUB).chmod(0o755)
+        self.bin.mkdir()
+        (self.bin / "rt").symlink_to("../kit/bin/rt")
+        for it in TOOLS:
+            (self.bin / it).symlink_to(shutil.which(it))
+        self.write("checkout/crates.txt", CRATES)
+        for it in ("low", "high", "other"):
+            self.write(f"checkout/crates/{it}/src/lib.rt", "")
+        self.write("checkout/crates/low/specs/low.antt", "")
+        self.write("checkout/crates/high/proofs/deep/high.antt", "")
+        self.write("checkout/crates/clear_app/src/main.rt", "")
+        for it in ("clearing", "try"):
+            shutil.copy(ROOT / it, self.root)
+            (self.root / it).chmod(0o755)
+        long_ago = time.time() - 3_600
+        for it in self.root.rglob("*"):
+            os.utime(it, (long_ago, long_ago))
+
+    def remove(self):
+        self.make_writable(True)
+        shutil.rmtree(self.folder)
+
+    def make_writable(self, is_writable):
+        for it in [self.root, *self.root.rglob("*")]:
+            mode = it.stat().st_mode
+            it.chmod(mode | 0o200 if is_writable else mode & ~0o222)
+
+    def write(self, name, text):
+        path = self.folder / name
+        path.parent.mkdir(parents=True, exist_ok=True)
+        path.write_text(text)
+        return path
+
+    def start(self, *words, script="checkout/clearing", folder=None, **options):
+        """Starts a script. Where this is run in the background, SIGINT is ignored, which the script would inherit."""
+        how = {it: subprocess.PIPE for it in ("stdin", "stdout", "stderr")}
+        how.update(text=True, cwd=folder or self.folder, env={"PATH": str(self.bin)})
+        how["preexec_fn"] = lambda: signal.signal(signal.SIGINT, signal.SIG_DFL)
+        running = subprocess.Popen([str(self.folder / script), *words], **{**how, **options})
+        self.addCleanup(running.wait)
+        self.addCleanup(running.kill)
+        return running
+
+    def ended(self, running, stdin=""):
+        """Status, standard output and standard error."""
+        output, errors = running.communicate(stdin, timeout=30)
+        return running.returncode, output, errors
+
+    def run_script(self, *words, stdin="", **options):
+        return self.ended(self.start(*words, **options), stdin)
+
+    def runs(self, **options):
+        """The program is run. Returns the lines of the launcher."""
+        status, output, errors = self.run_script("a word", stdin="input\n", folder=self.state, **options)
+        self.assertEqual((status, output), (3, "state\na word\ninput\n"), errors)
+        self.assertTrue(errors.endswith("told by the program\n"), errors)
+        return errors.splitlines()[:-1]
+
+    def fails(self, *parts, **options):
+        """The launcher fails, and standard error has these parts. Returns its lines."""
+        status, output, errors = self.run_script("a word", **options)
+        self.assertEqual((status, output), (70, ""), errors)
+        for it in parts:
+            self.assertIn(it, errors)
+        return errors.splitlines()
+
+    def calls(self):
+        """The calls of rt since the last look. How many crates are proved at a time is left out."""
+        path = self.state / "calls"
+        text = path.read_text() if path.exists() else ""
+        path.unlink(missing_ok=True)
+        return [re.sub(r"--jobs [1-9]\d*$", "--jobs N", it) for it in text.splitlines()]
+
+    def builds(self, **options):
+        """One call of rt proves all, and a second one builds."""
+        lines = self.runs(**options)
+        self.assertEqual(self.calls(), ["clear_app: all check --jobs N", "clear_app: run"])
+        return lines
+
+    def runs_at_once(self, **options):
+        self.assertEqual(self.runs(**options), [])
+        self.assertEqual(self.calls(), [])
+
+    def holds(self, step):
+        """Has the stub wait in a step."""
+        return self.write(f"state/{step}", "")
+
+    def wait_for(self, what):
+        for _ in range(1_000):
+            if what():
+                return
+            time.sleep(0.01)
+        raise AssertionError("not in 10 seconds")
+
+
+class Builds(Launcher):
+    def test_the_first_start_builds_and_the_second_does_not(self):
+        lines = self.builds()
+        self.assertIn("3 crates", lines[0])
+        proved = [f"clearing: proved {it}, {at} of 3" for at, it in enumerate(("low", "high", "clear_app"), 1)]
+        self.assertEqual(lines[1:], [*proved, "clearing: building the program"])
+        self.runs_at_once()
+
+    def test_another_rt_that_works_there_is_told(self):
+        self.write("state/busy", "")
+        self.assertIn("clearing: waiting for another rt to finish in low", self.builds())
+
+    def test_words_and_streams(self):
+        self.runs()
+        words = ["", "two words", "*", "-x", "--", "$HOME"]
+        output = "launcher-\n" + "".join(f"{it}\n" for it in words)
+        status, found, errors = self.run_script(*words)
+        self.assertEqual((status, found.replace(self.folder.name, "launcher-"), errors), (3, output, "told by the program\n"))
+        self.assertEqual(self.run_script(stdin="input")[1], f"{self.folder.name}\n\ninput")
+
+    def test_no_standard_input(self):
+        closed = {"preexec_fn": lambda: os.close(0)}
+        for _ in range(2):
+            self.assertEqual(self.run_script("a word", **closed)[0], 3)
+        self.assertEqual(len(self.calls()), 2)
+
+    def test_through_links(self):
+        links = self.folder / "elsewhere"
+        links.mkdir()
+        (links / "first").symlink_to("../checkout/clearing")
+        (self.folder / "second").symlink_to(links / "first")
+        self.builds(script="second")
+        self.runs_at_once(script="elsewhere/first")
+        self.runs_at_once()
+
+    def test_a_folder_with_a_space(self):
+        self.root.rename(self.folder / "check out")
+        self.root = self.folder / "check out"
+        self.builds(script="check out/clearing")
+        self.runs_at_once(script="check out/clearing")
+
+    def test_sources(self):
+        self.runs()
+        self.calls()
+        for it in ("crates.txt", "crates/low/specs/low.antt", "crates/high/proofs/deep/high.antt", "crates/high/src/lib.rt",
+                   "crates/clear_app/src/main.rt"):
+            with self.subTest(it):
+                os.utime(self.root / it)
+                self.builds()
+                self.runs_at_once()
+        # The program doesn't stand on this one.
+        os.utime(self.root / "crates/other/src/lib.rt")
+        self.runs_at_once()
+        (self.root / "crates/low/specs/low.antt").unlink()
+        self.builds()
+
+    def test_a_source_that_is_saved_during_the_build(self):
+        held = self.holds("run")
+        first = self.start()
+        self.wait_for(lambda: self.program.exists())
+        os.utime(self.root / "crates/low/src/lib.rt")
+        held.unlink()
+        self.assertEqual(self.ended(first)[0], 3)
+        self.calls()
+        self.builds()
+        self.runs_at_once()
+
+    def test_another_kit(self):
+        for it in ("state/version", "kit/KIT-ID"):
+            with self.subTest(it):
+                self.write(it, "one kit\n")
+                self.builds()
+                self.runs_at_once()
+                self.write(it, "another kit\n")
+                self.builds()
+                self.assertEqual(self.kit.read_text(), "another kit\n")
+                self.runs_at_once()
+
+    def test_what_rt_ci_leaves_is_run(self):
+        self.runs()
+        self.calls()
+        self.kit.unlink()
+        self.runs_at_once()
+
+    def test_without_rt_the_program_runs_where_it_is_built(self):
+        self.runs()
+        self.calls()
+        (self.bin / "rt").unlink()
+        self.runs_at_once()
+
+    def test_two_starts_at_once_build_once(self):
+        held = self.holds("high")
+        first = self.start("first")
+        self.wait_for(lambda: (self.state / "process").exists())
+        second = self.start("second")
+        waits = "clearing: another start builds the program; this one waits for it\n"
+        self.assertEqual(second.stderr.readline(), waits)
+        held.unlink()
+        for running, word in ((first, "first"), (second, "second")):
+            status, output, errors = self.ended(running)
+            self.assertEqual((status, output), (3, f"{self.folder.name}\n{word}\n"), errors)
+        self.assertEqual(len(self.calls()), 2)
+        self.runs_at_once()
+
+    def test_a_program_that_runs_holds_no_lock(self):
+        self.runs()
+        self.kit.write_text("")
+        first = self.start()
+        self.wait_for(lambda: (self.state / "calls").read_text().count("run") == 2 and self.kit.read_text())
+        # It still reads its standard input.
+        os.utime(self.root / "crates.txt")
+        self.runs()
+        self.assertIsNone(first.poll())
+        self.assertEqual(self.ended(first)[0], 3)
+
+
+class Faults(Launcher):
+    def test_a_build_that_is_broken_off(self):
+        for number, status in ((signal.SIGHUP, 129), (signal.SIGINT, 130), (signal.SIGTERM, 143), (signal.SIGKILL, -9)):
+            for step in ("high", "run"):
+                with self.subTest(f"{number.name} in {step}"):
+                    held = self.holds(step)
+                    first = self.start()
+                    waits_in = "run" if step == "run" else "all check"
+                    calls = self.state / "calls"
+                    self.wait_for(lambda: calls.exists() and waits_in in calls.read_text().splitlines()[-1])
+                    if step == "run":
+                        self.wait_for(lambda: os.access(self.program, os.X_OK))
+                    stub = int((self.state / "process").read_text() or 0)
+                    first.send_signal(number)
+                    self.assertEqual(self.ended(first)[0], status)
+                    # rt has ended with it; where it was killed, rt ends as soon as it writes.
+                    if number != signal.SIGKILL and stub:
+                        self.assertFalse(Path(f"/proc/{stub}").exists())
+                    held.unlink()
+                    self.calls()
+                    # Half a program is never run.
+                    (self.bin / "rt").rename(self.folder / "rt")
+                    self.fails("rt")
+                    (self.folder / "rt").rename(self.bin / "rt")
+                    self.builds()
+                    self.runs_at_once()
+                    self.kit.unlink()
+                    self.program.unlink()
+
+    def test_a_proof_that_fails(self):
+        self.write("state/refused", "high")
+        lines = self.fails("clearing: proved low, 1 of 3\n", "\n== high\nfn high::f: not proved\nclearing: ")
+        self.assertFalse([it for it in lines if "proved high" in it or "building" in it or it.startswith("statements")])
+        self.fails("fn high::f: not proved\n")
+        (self.state / "refused").unlink()
+        self.calls()
+        self.builds()
+
+    def test_a_program_that_cannot_be_built(self):
+        self.write("state/refused", "run")
+        self.fails("clearing: building the program\n", "\nno linker\n")
+        (self.state / "refused").unlink()
+        self.calls()
+        self.builds()
+
+    def test_what_is_missing(self):
+        for it in ("rt", "flock"):
+            (self.bin / it).rename(self.folder / it)
+            self.assertEqual(len(self.fails(f"command {it}")), 1)
+            (self.folder / it).rename(self.bin / it)
+        self.builds()
+
+    def test_a_program_that_cannot_be_run(self):
+        self.runs()
+        self.program.write_text("#!/no/such/shell\n")
+        self.fails("clear_app: ")
+
+    def test_a_checkout_that_is_read_only(self):
+        self.make_writable(False)
+        self.assertEqual(len(self.fails("no file can be written", user=NOBODY)), 1)
+        self.make_writable(True)
+        self.builds()
+        self.make_writable(False)
+        self.runs_at_once(user=NOBODY)
+        os.utime(self.root / "crates.txt")
+        self.assertEqual(len(self.fails("no file can be written", user=NOBODY)), 1)
+
+
+class Try(Launcher):
+    def test_words_that_work_on_a_store(self):
+        for it in ("init", "serve", "import", "statement", "migrate"):
+            lines = self.fails_to_try(it, "fund.db", "rates.toml")
+            self.assertEqual(len(lines), 1)
+            self.assertIn(f"use ./clearing {it}", lines[0])
+        self.assertEqual(self.calls(), [])
+
+    def fails_to_try(self, *words):
+        status, output, errors = self.run_script(*words, script="checkout/try")
+        self.assertEqual((status, output), (70, ""))
+        return errors.splitlines()
+
+    def tried(self, *words, **options):
+        """What the stub is called with."""
+        status, output, errors = self.run_script(*words, stdin="input\n", folder=self.state, **options)
+        self.assertEqual(status, 0)
+        self.assertIn("try: nothing of this run is proved", errors)
+        self.assertEqual(self.calls()[0][:11], "clear_app: ")
+        self.assertTrue(output.endswith("\ninput\n"), output)
+        return output.splitlines()[:-1]
+
+    def test_other_words_are_passed_on(self):
+        for words in ([], ["help"], ["--help"], ["stream", "sample", "sample", "2024-04-30"], ["two words"]):
+            self.assertEqual(self.tried(*words, script="checkout/try"), ["try", "--", *words])
+
+    def test_files_that_words_name(self):
+        rates, callers = self.write("state/rates.toml", ""), self.write("state/below/of callers.toml", "")
+        given = ["try", "--data", f"rates.toml={rates}", "--data", f"below/of callers.toml={callers}", "--"]
+        words = ["stream", "rates.toml", "below/of callers.toml", "2024-04-30"]
+        (self.folder / "link").symlink_to("checkout/try")
+        for it in ("checkout/try", "link"):
+            self.assertEqual(self.tried(*words, script=it), [*given, *words])
+        self.assertEqual(self.tried("stream", str(rates), script="link"), ["try", "--", "stream", str(rates)])
+
+
+if __name__ == "__main__":
+    unittest.main()
