@@ -1,157 +1,156 @@
-//! What the words of the command line ask for.
+//! What the words of the command line ask for, with what the files say that they name.
 
-use crate::stop::{NO_MEMORY, Stop, stop_at_records};
-use crate::stores::Stores;
-use clear_book::calls::{Caller, Command, Query};
+use crate::stop::{NO_MEMORY, Stop};
+use clear_book::calls::Command;
 use clear_book::files::BankFile;
 use clear_book::numbers::RequestNo;
-use clear_book::outcomes::{Answer, Reply};
 use clear_callers::directory::Directory;
 use clear_files::files::{read_caller_file, read_file, read_rate_file};
-use clear_http::desk::serve;
-use clear_http::serve::{ServeFault, Served};
 use clear_money::days::Day;
 use clear_money::numbers::EmployerNo;
 use clear_money::rates::RateTable;
-use clear_net::connections::serve_connections;
-use clear_office::office::Office;
 use clear_sample::samples::sample_rates;
-use clear_schema::store::SCHEMA;
-use clear_wire::counted::Counted;
-use sqlite::Alter;
-use std::alloc::{AllocError, Global};
-use std::io::{Read, Write};
-use std::net::{Ipv4Addr, TcpListener};
+use clear_words::line::read_words;
+use clear_words::words::{LineFault, Words};
+use std::alloc::AllocError;
+use std::{env, io};
 
 // The word that names the sample's rates or callers in the place of a file.
 const SAMPLE: &str = "sample";
 
-/// Makes a store in a new file, with the rates of a rate file.
-pub fn init<F: Alter, M: Alter, T: Stores<F, M>, O: Write>(
-    rt: &HostRuntime,
-    stores: &T,
-    store: &str,
-    rates: &str,
-    output: &mut O,
-) -> Result<(), Stop> {
-    let rates = read_rate_file(rt, rates)?;
-    let office = stores.create(store, &rates)?;
-    stores.close(office);
-    say_line(output, format!(in rt.alloc(); "schema {SCHEMA}\n"))
+/// What the program is to do.
+#[derive(Drop)]
+pub enum Task<'a> {
+    /// Writes a text.
+    Say(String),
+    /// Makes a store at a path.
+    Init {
+        store: &'a str,
+        rates: RateTable,
+    },
+    /// Serves the input over a new office in memory.
+    Stream {
+        rates: RateTable,
+        directory: Directory,
+        day: Day,
+    },
+    /// Opens the store at a path, and works on it.
+    Open {
+        store: &'a str,
+        work: Work,
+    },
 }
 
-/// Serves the requests of the input over a new office in memory.
-pub fn stream<F: Alter, M: Alter, T: Stores<F, M>, I: Read, O: Write>(
-    rt: &HostRuntime,
-    stores: &T,
-    rates: &str,
-    callers: &str,
-    day: Day,
-    input: &mut I,
-    output: &mut O,
-) -> Result<(), Stop> {
-    let rates = rates_or_sample(rt, rates)?;
-    let directory = callers_or_sample(rt, callers)?;
-    let mut office = match stores.create_in_memory(&rates) {
-        Some(office) => office,
-        None => return Err(NO_MEMORY),
+/// What is done with a store that stands.
+#[derive(Drop)]
+pub enum Work {
+    /// Serves so many connections on a port of this machine.
+    Serve {
+        directory: Directory,
+        day: Day,
+        port: u16,
+        count: u32,
+    },
+    /// Imports a bank file as the clerk, as the request of this number.
+    Import {
+        day: Day,
+        number: RequestNo,
+        command: Command,
+    },
+    /// Tells a firm's statement, as the clerk asks for it.
+    Statement {
+        day: Day,
+        employer: EmployerNo,
+    },
+}
+
+/// The words behind the program's own name. They can't be had where one of them isn't UTF-8, or for
+/// want of memory.
+pub fn words_of(rt: &HostRuntime) -> Result<Vec<String>, Stop> {
+    let mut given = match env::args(rt) {
+        Ok(given) => given,
+        Err(error) => return Err(stop_at_words(&error)),
     };
-    let served = serve_once(rt.alloc(), &mut office, &directory, day, input, output);
-    stores.forget(office);
-    match served {
-        Ok(_) => Ok(()),
-        Err(stopped) => Err(Stop::from(stopped.fault)),
+    let _program = given.next();
+    match given.collect(rt.alloc()) {
+        Ok(words) => Ok(words),
+        Err(AllocError) => Err(NO_MEMORY),
     }
 }
 
-fn serve_once<M: Alter, I: Read, O: Write>(
-    alloc: Global,
-    office: &mut Office<M>,
-    directory: &Directory,
-    day: Day,
-    input: &mut I,
-    output: &mut O,
-) -> Result<Served, ServeFault> {
-    let mut reader = Counted::new(input);
-    let mut writer = Counted::new(output);
-    serve(alloc, office, directory, day, &mut reader, &mut writer)
+fn stop_at_words(error: &io::Error) -> Stop {
+    if error.kind() == io::ErrorKind::OutOfMemory {
+        NO_MEMORY
+    } else {
+        Stop::Line
+    }
 }
 
-/// Serves so many connections on a port of this machine, over the store in a file. Why a connection
-/// ended early is told on `errors`.
-pub fn serve_port<F: Alter, M: Alter, T: Stores<F, M>, O: Write, E: Write>(
-    rt: &HostRuntime,
-    stores: &T,
-    store: &str,
-    callers: &str,
-    day: Day,
-    port_and_count: (u16, u32),
-    output: &mut O,
-    errors: &mut E,
-) -> Result<(), Stop> {
-    let (port, count) = port_and_count;
-    let directory = read_caller_file(rt, callers)?;
-    let mut office = stores.open(store)?;
-    let listener = match TcpListener::bind(rt, (Ipv4Addr::LOCALHOST, port)) {
-        Ok(listener) => listener,
-        Err(_) => {
-            stores.close(office);
-            return Err(Stop::Net);
+/// The task that the words name. The files that they name are read, and no store is touched.
+pub fn read_task<'a>(rt: &HostRuntime, words: &'a [String]) -> Result<Task<'a>, Stop> {
+    match read_words(rt.alloc(), words) {
+        Ok(words) => prepare(rt, words),
+        Err(LineFault::Help(text)) => Ok(Task::Say(text)),
+        Err(LineFault::Line) => Err(Stop::Line),
+        Err(LineFault::Memory) => Err(NO_MEMORY),
+    }
+}
+
+fn prepare<'a>(rt: &HostRuntime, words: Words<'a>) -> Result<Task<'a>, Stop> {
+    match words {
+        Words::Init { store, rates } => Ok(Task::Init {
+            store,
+            rates: read_rate_file(rt, rates)?,
+        }),
+        Words::Stream {
+            rates,
+            callers,
+            day,
+        } => Ok(Task::Stream {
+            rates: rates_or_sample(rt, rates)?,
+            directory: callers_or_sample(rt, callers)?,
+            day,
+        }),
+        Words::Serve {
+            store,
+            callers,
+            day,
+            port,
+            count,
+        } => {
+            let directory = read_caller_file(rt, callers)?;
+            let work = Work::Serve {
+                directory,
+                day,
+                port,
+                count,
+            };
+            Ok(Task::Open { store, work })
         }
-    };
-    // What can't be told of a connection is lost.
-    let alloc = rt.alloc();
-    let _ = serve_connections(
-        alloc,
-        &listener,
-        count,
-        &mut office,
-        &directory,
-        day,
-        errors,
-    );
-    stores.close(office);
-    say_line(output, format!(in alloc; "served {count}\n"))
-}
-
-/// Imports a bank file as the clerk, as the request of this number.
-pub fn import<F: Alter, M: Alter, T: Stores<F, M>, O: Write>(
-    rt: &HostRuntime,
-    stores: &T,
-    store: &str,
-    day: Day,
-    number: RequestNo,
-    file: &str,
-    output: &mut O,
-) -> Result<(), Stop> {
-    let command = Command::ImportBank(BankFile::new(read_file(rt, file)?));
-    let mut office = stores.open(store)?;
-    let replied = office.submit(Caller::Clerk, number, day, &command);
-    stores.close(office);
-    match replied? {
-        Reply::Imported { new, repeats } => say_line(
-            output,
-            format!(in rt.alloc(); "new {new} repeats {repeats}\n"),
-        ),
-        Reply::Done | Reply::Reported { .. } => Err(stop_at_records()),
-    }
-}
-
-/// Writes a firm's statement, as the clerk asks for it.
-pub fn statement<F: Alter, M: Alter, T: Stores<F, M>, O: Write>(
-    rt: &HostRuntime,
-    stores: &T,
-    store: &str,
-    day: Day,
-    employer: EmployerNo,
-    output: &mut O,
-) -> Result<(), Stop> {
-    let mut office = stores.open(store)?;
-    let answered = office.ask(Caller::Clerk, day, &Query::Statement { employer });
-    stores.close(office);
-    match answered? {
-        Answer::Text(document) => say(output, document.as_str()),
-        Answer::Owed { .. } => Err(stop_at_records()),
+        Words::Import {
+            store,
+            day,
+            number,
+            file,
+        } => {
+            let command = Command::ImportBank(BankFile::new(read_file(rt, file)?));
+            let work = Work::Import {
+                day,
+                number,
+                command,
+            };
+            Ok(Task::Open { store, work })
+        }
+        Words::Statement {
+            store,
+            day,
+            employer,
+        } => {
+            let work = Work::Statement { day, employer };
+            Ok(Task::Open { store, work })
+        }
+        // There is one schema so far, so that no store can be migrated.
+        Words::Migrate { store: _ } => Err(Stop::Line),
     }
 }
 
@@ -169,17 +168,4 @@ fn callers_or_sample(rt: &HostRuntime, path: &str) -> Result<Directory, Stop> {
     } else {
         Ok(read_caller_file(rt, path)?)
     }
-}
-
-// Writes a line that there may have been no memory for.
-fn say_line<O: Write>(output: &mut O, line: Result<String, AllocError>) -> Result<(), Stop> {
-    say(output, line?.as_str())
-}
-
-/// Writes a text on standard output.
-pub fn say<O: Write>(output: &mut O, text: &str) -> Result<(), Stop> {
-    if output.write_all(text.as_bytes()).is_err() || output.flush().is_err() {
-        return Err(Stop::Stream);
-    }
-    Ok(())
 }

@@ -1,0 +1,147 @@
+//! A list of calls, taken by an office over a store in memory.
+use clear_book::calls::{Call, Caller, Command, Query, Registration, WageReport};
+use clear_book::files::BankFile;
+use clear_book::numbers::RequestNo;
+use clear_book::outcomes::{Answer, Outcome, Reply};
+use clear_book::texts::{Name, WageLine, WageLines};
+use clear_money::days::Day;
+use clear_money::months::Month;
+use clear_money::numbers::{EmployerNo, WorkerNo};
+use clear_office::office::Office;
+use clear_sample::memory::office_in_memory;
+use clear_sample::samples::sample_rates;
+use sqlite::Alter;
+use std::alloc::Global;
+
+const FILE: &str = "reference,value_date,employer,cents,purpose,note\n\
+    B1,2024-02-25,1001,150000,C,\nB2,2024-04-21,1001,200000,,January rest\n";
+
+fn employer() -> Option<EmployerNo> {
+    EmployerNo::new(1001)
+}
+
+fn day() -> Option<Day> {
+    Day::read(b"2024-04-30")
+}
+
+fn command(number: u64, command: Command) -> Option<Call> {
+    Some(Call::Do {
+        caller: Caller::Clerk,
+        number: RequestNo::new(number)?,
+        day: day()?,
+        command,
+    })
+}
+
+fn register(alloc: Global) -> Option<Call> {
+    let name = String::from_str(alloc, "Bau Nord").ok()?;
+    let registration = Registration {
+        employer: employer()?,
+        name: Name::new(name)?,
+        start: Month::read(b"2024-01")?,
+    };
+    command(1, Command::Register(registration))
+}
+
+fn report(alloc: Global, number: u64, month: &[u8], gross: u64) -> Option<Call> {
+    let worker = WorkerNo::new(7)?;
+    let lines = vec![in alloc; WageLine { worker, gross }].ok()?;
+    let report = WageReport {
+        employer: employer()?,
+        month: Month::read(month)?,
+        lines: WageLines::new(lines),
+    };
+    command(number, Command::Report(report))
+}
+
+fn import(alloc: Global) -> Option<Call> {
+    let bytes = Vec::from_slice(alloc, FILE.as_bytes()).ok()?;
+    command(4, Command::ImportBank(BankFile::new(bytes)))
+}
+
+fn ask() -> Option<Call> {
+    let employer = employer()?;
+    Some(Call::Ask {
+        caller: Caller::Firm(employer),
+        day: day()?,
+        query: Query::Owed { employer },
+    })
+}
+
+fn first_account(alloc: Global) -> Option<[Call; 5]> {
+    Some([
+        register(alloc)?,
+        report(alloc, 2, b"2024-01", 1_000_000)?,
+        report(alloc, 3, b"2024-02", 500_050)?,
+        import(alloc)?,
+        ask()?,
+    ])
+}
+
+// Whether this is what a firm owes that has charges of 300,010 cents and paid 350,000.
+fn is_owed(outcome: &Outcome) -> bool {
+    match outcome {
+        Outcome::Answered(
+            Answer::Owed {
+                charged,
+                credited,
+                arrears,
+                prepaid,
+            },
+        ) => *charged == 300_010 && *credited == 350_000 && *arrears == 0 && *prepaid == 49_990,
+        _ => false,
+    }
+}
+
+fn is_done(outcome: &Outcome) -> bool {
+    matches!(outcome, Outcome::Replied(Reply::Done))
+}
+
+fn is_reported(outcome: &Outcome, cents: u64) -> bool {
+    match outcome {
+        Outcome::Replied(Reply::Reported { version, charge }) => *version == 1 && *charge == cents,
+        _ => false,
+    }
+}
+
+fn is_imported(outcome: &Outcome) -> bool {
+    matches!(
+        outcome,
+        Outcome::Replied(Reply::Imported { new: 2, repeats: 0 })
+    )
+}
+
+fn runs_nothing<S: Alter>(alloc: Global, office: &mut Office<S>) -> bool {
+    match office.run(alloc, &[]) {
+        Ok(outcomes) => outcomes.is_empty(),
+        Err(_) => false,
+    }
+}
+
+fn runs_first_account<S: Alter>(alloc: Global, office: &mut Office<S>) -> bool {
+    let Some(calls) = first_account(alloc) else {
+        return false;
+    };
+    let Ok(outcomes) = office.run(alloc, &calls) else {
+        return false;
+    };
+    match outcomes.as_slice() {
+        [registered, january, february, imported, owed] => {
+            is_done(registered)
+                && is_reported(january, 200_000)
+                && is_reported(february, 100_010)
+                && is_imported(imported)
+                && is_owed(owed)
+        }
+        _ => false,
+    }
+}
+
+#[test]
+fn an_office_takes_calls_one_after_another(rt: HostRuntime) {
+    let alloc = rt.alloc();
+    let rates = sample_rates(alloc).expect(&rt, "no rates");
+    let mut office = office_in_memory(alloc, &rates).expect(&rt, "no office");
+    assert!(rt; runs_nothing(alloc, &mut office));
+    assert!(rt; runs_first_account(alloc, &mut office));
+}
