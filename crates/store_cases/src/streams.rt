@@ -126,11 +126,11 @@ fn answers_all<S: Alter>(alloc: Global, office: &mut Office<S>, bytes: &[u8]) ->
 // How many of these texts end at or before a place, laid end to end.
 fn whole_before(texts: &[&str], place: usize) -> u64 {
     let mut end: usize = 0;
-    let mut count = 0;
+    let mut count: u64 = 0;
     for text in texts {
         end = end.saturating_add(text.len());
         if end <= place {
-            count += 1;
+            count = count.saturating_add(1);
         }
     }
     count
