@@ -10,6 +10,7 @@ use Rattle.clear_book.specs.declared.calls.Caller.{Caller}
 use Rattle.clear_book.specs.declared.calls.Caller.TheVariants.{Firm, Clerk}
 use Rattle.clear_book.specs.declared.calls.Command.{Command}
 use Rattle.clear_book.specs.declared.calls.Command.TheVariants.{Register, Report, Correct}
+use Rattle.clear_book.specs.declared.calls.Command.TheVariants.{ImportBank}
 use Rattle.clear_book.specs.declared.calls.WageReport.{WageReport}
 use Rattle.clear_book.specs.declared.outcomes.Reply.{Reply}
 use Rattle.clear_book.specs.Keyed.{find_row}
@@ -79,7 +80,9 @@ start_of (Some member) = Some member.start
 abbrev pub registered_by : Command → ℕ → Option Member
 registered_by (Register r) e =
     if r.employer == e then Some (record { name = r.name; start = r.start; last = None }) else None
-registered_by command e = None
+registered_by (Report r) e = None
+registered_by (Correct c) e = None
+registered_by (ImportBank file) e = None
 
 -- an employer, if it is registered
 abbrev pub member_of : List Entry → ℕ → Option Member
@@ -89,7 +92,9 @@ member_of (x ∷ xs) e = newer (registered_by x.command e) (member_of xs e)
 -- a command that registers an employer
 abbrev pub is_registration : Command → Bool
 is_registration (Register r) = true
-is_registration command = false
+is_registration (Report r) = false
+is_registration (Correct c) = false
+is_registration (ImportBank file) = false
 
 -- how many employers there are
 abbrev pub employer_count : List Entry → ℕ
@@ -102,9 +107,10 @@ is_for e m r = (r.employer == e) && (r.month == m)
 -- the lines that a command reports for an employer and a month, be it the first report or a
 -- correction
 abbrev pub reported_by : Command → ℕ → ℕ → Option (List WageLine)
+reported_by (Register r) e m = None
 reported_by (Report r) e m = if is_for e m r then Some r.lines else None
 reported_by (Correct c) e m = if is_for e m c.report then Some c.report.lines else None
-reported_by command e m = None
+reported_by (ImportBank file) e m = None
 
 -- the lines of the last report of an employer and a month
 abbrev pub latest_lines : List Entry → ℕ → ℕ → Option (List WageLine)
@@ -113,9 +119,10 @@ latest_lines (x ∷ xs) e m = newer (reported_by x.command e m) (latest_lines xs
 
 -- a command that reports for the employer and the month
 abbrev pub is_report_of : ℕ → ℕ → Command → Bool
+is_report_of e m (Register r) = false
 is_report_of e m (Report r) = is_for e m r
 is_report_of e m (Correct c) = is_for e m c.report
-is_report_of e m command = false
+is_report_of e m (ImportBank file) = false
 
 -- how many reports of a month there were
 abbrev pub version_of : List Entry → ℕ → ℕ → ℕ

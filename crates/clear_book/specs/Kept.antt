@@ -8,6 +8,8 @@ use Rattle.clear_book.specs.declared.texts.WageLine.{WageLine}
 use Rattle.clear_book.specs.declared.calls.Command.{Command}
 use Rattle.clear_book.specs.declared.calls.Command.TheVariants.{Register, Report, Correct}
 use Rattle.clear_book.specs.declared.calls.Command.TheVariants.{ImportBank}
+use Rattle.clear_book.specs.declared.calls.Correction.{Correction}
+use Rattle.clear_book.specs.declared.calls.Registration.{Registration}
 use Rattle.clear_book.specs.declared.calls.WageReport.{WageReport}
 
 -- ---- the same as values
@@ -21,14 +23,41 @@ abbrev pub same_report : WageReport → WageReport → Bool
 same_report r s =
     (r.employer == s.employer) && (r.month == s.month) && pointwise same_line r.lines s.lines
 
+-- the registration of the same employer, name and first month
+abbrev pub is_registration_of : Registration → Command → Bool
+is_registration_of r (Register s) =
+    (r.employer == s.employer) && bytes_eq r.name s.name && (r.start == s.start)
+is_registration_of r (Report s) = false
+is_registration_of r (Correct d) = false
+is_registration_of r (ImportBank g) = false
+
+-- the same report
+abbrev pub reports_the_same : WageReport → Command → Bool
+reports_the_same r (Register s) = false
+reports_the_same r (Report s) = same_report r s
+reports_the_same r (Correct d) = false
+reports_the_same r (ImportBank g) = false
+
+-- the same report in the place of the same version
+abbrev pub corrects_the_same : Correction → Command → Bool
+corrects_the_same c (Register s) = false
+corrects_the_same c (Report s) = false
+corrects_the_same c (Correct d) = same_report c.report d.report && (c.version == d.version)
+corrects_the_same c (ImportBank g) = false
+
+-- the same bytes of a bank file
+abbrev pub imports_the_same : List ℕ → Command → Bool
+imports_the_same f (Register s) = false
+imports_the_same f (Report s) = false
+imports_the_same f (Correct d) = false
+imports_the_same f (ImportBank g) = bytes_eq f g
+
 -- the same kind of command, and each of its values the same
 abbrev pub same_command : Command → Command → Bool
-same_command (Register r) (Register s) =
-    (r.employer == s.employer) && bytes_eq r.name s.name && (r.start == s.start)
-same_command (Report r) (Report s) = same_report r s
-same_command (Correct c) (Correct d) = same_report c.report d.report && (c.version == d.version)
-same_command (ImportBank f) (ImportBank g) = bytes_eq f g
-same_command c d = false
+same_command (Register r) command = is_registration_of r command
+same_command (Report r) command = reports_the_same r command
+same_command (Correct c) command = corrects_the_same c command
+same_command (ImportBank f) command = imports_the_same f command
 
 -- ---- the kept bytes
 

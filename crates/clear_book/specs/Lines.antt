@@ -10,6 +10,7 @@ use Rattle.clear_bank.specs.Files.{file_lines}
 use Rattle.clear_bank.specs.Lines.{same_purpose}
 use Rattle.clear_bank.specs.Newness.{Placed, is_new}
 use Rattle.clear_book.specs.declared.calls.Command.{Command}
+use Rattle.clear_book.specs.declared.calls.Command.TheVariants.{Register, Report, Correct}
 use Rattle.clear_book.specs.declared.calls.Command.TheVariants.{ImportBank}
 use Rattle.clear_book.specs.declared.rows.BankRow.{BankRow}
 use Rattle.clear_book.specs.declared.rows.CreditRow.{CreditRow}
@@ -64,8 +65,10 @@ rows_brought xs seen file =
 
 -- the rows that a command brings to a book
 abbrev pub rows_by : List Entry → List BankRow → Command → List BankRow
+rows_by xs seen (Register r) = []
+rows_by xs seen (Report r) = []
+rows_by xs seen (Correct c) = []
 rows_by xs seen (ImportBank file) = rows_brought xs seen file
-rows_by xs seen command = []
 
 -- the lines that the files of all imports brought, in the order in which they came, each under the
 -- firm that was found for it then

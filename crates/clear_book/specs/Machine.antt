@@ -9,7 +9,8 @@ use Rattle.clear_book.specs.declared.rules.StoreCause.TheVariants.{Other}
 use Rattle.clear_book.specs.declared.outcomes.Outcome.{Outcome}
 use Rattle.clear_book.specs.declared.outcomes.Outcome.TheVariants.{Refused}
 use Rattle.clear_book.specs.Book.{Entry, Book, call_of, entry}
-use Rattle.clear_book.specs.Judge.{Verdict, new_reply, judge, outcome_of}
+use Rattle.clear_book.specs.Judge.{Verdict, new_reply, kept_reply, an_answer, a_refusal}
+use Rattle.clear_book.specs.Judge.{judge, outcome_of}
 use Rattle.clear_book.specs.Access.{may_do, may_query}
 use Rattle.clear_book.specs.Ranges.{IsCall}
 
@@ -21,7 +22,10 @@ appended b x = record { opening = b.opening; entries = x ∷ b.entries }
 abbrev pub after : Book → Call → Verdict → Book
 after b (Do caller number day command) (new_reply reply) =
     appended b (entry caller number day command reply)
-after b call said = b
+after b (Do caller number day command) (kept_reply reply) = b
+after b (Do caller number day command) (an_answer answer) = b
+after b (Do caller number day command) (a_refusal rule) = b
+after b (Ask caller day query) said = b
 
 -- what a call makes of a book
 abbrev pub step : Book → Call → Book
