@@ -3,3 +3,4 @@ pub mod Faults
 pub mod Further
 pub mod InOrder
 pub mod Members
+pub mod Object

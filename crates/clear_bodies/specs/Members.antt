@@ -43,9 +43,9 @@ employer_at name d = number_at name d >>= within 1 99999999
 abbrev pub worker_at : List ℕ → Data → Option ℕ
 worker_at name d = number_at name d >>= within 1 999999999
 
--- the version that the member is
-abbrev pub version_at : List ℕ → Data → Option ℕ
-version_at name d = number_at name d >>= within 1 4294967295
+-- the number from low to high that the member is
+abbrev pub within_at : ℕ → ℕ → List ℕ → Data → Option ℕ
+within_at low high name d = number_at name d >>= within low high
 
 -- the byte is that of no control character
 abbrev pub is_printable : ℕ → Bool

@@ -1,20 +1,19 @@
 //! The bodies of requests, each a JSON object with just the members that are listed.
 ghost use Rattle.std.specs.Prelude.{◌≡◌, IfErr};
-ghost use Rattle.serde_json.specs.View.{view};
-ghost use Rattle.clear_bodies.specs.Faults.{Gives, GivesSeen};
-ghost use Rattle.clear_bodies.specs.Bodies.{document, registration_of, report_of};
+ghost use Rattle.clear_bodies.specs.Faults.{Gives};
+ghost use Rattle.clear_bodies.specs.Bodies.{registration_of, report_of};
 ghost use Rattle.clear_bodies.specs.Bodies.{correction_of, nothing_of};
 ghost use Rattle.clear_bodies.specs.declared.faults.BodyFault.TheVariants as fault;
 ghost use Rattle.clear_bodies.specs.declared.faults.Member.TheVariants as member;
 
-use crate::faults::{BodyFault, Member, wanted};
-use crate::further::check_only;
-use crate::members::{employer_at, lines_at, month_at, name_at, version_at};
+use crate::faults::{BodyFault, Member};
+use crate::object::read_body;
+use crate::within::Within;
 use clear_book::calls::Registration;
-use clear_book::texts::WageLines;
-use serde_json::Value;
+use clear_book::texts::{Name, WageLines};
+use clear_money::months::Month;
+use clear_money::numbers::EmployerNo;
 use std::alloc::Global;
-use std::str;
 
 /// What the body of a correction says.
 #[derive(Drop)]
@@ -25,18 +24,19 @@ pub struct CorrectionBody {
     pub version: u32,
 }
 
+type Version = Within<1, 4_294_967_295>;
+
 /// The registration of a firm: `employer`, a number from 1 to 99,999,999, `name`, a text of 1 to
 /// 60 bytes without control characters, and `start`, a month `YYYY-MM` from 2000-01 to 2199-12.
 #[tactic(auto, unfolding(crate::specs::Bodies::registration_of))]
 pub fn read_registration(alloc: Global, body: &[u8]) -> Result<Registration, BodyFault>
     ensures { Gives result (registration_of body.now) }
 {
-    let value = document(alloc, body)?;
-    let members = wanted(value.as_object(), Member::Body)?;
-    let employer = wanted(employer_at(&value, "employer"), Member::Employer)?;
-    let name = wanted(name_at(alloc, &value, "name")?, Member::Name)?;
-    let start = wanted(month_at(&value, "start"), Member::Start)?;
-    check_only(alloc, members, &["employer", "name", "start"])?;
+    let (employer, (name, (start, ()))) = read_body::<(EmployerNo, (Name, (Month, ())))>(
+        alloc,
+        body,
+        &["employer", "name", "start"],
+    )?;
     Ok(Registration {
         employer,
         name,
@@ -50,10 +50,7 @@ pub fn read_registration(alloc: Global, body: &[u8]) -> Result<Registration, Bod
 pub fn read_report(alloc: Global, body: &[u8]) -> Result<WageLines, BodyFault>
     ensures { Gives result (report_of body.now) }
 {
-    let value = document(alloc, body)?;
-    let members = wanted(value.as_object(), Member::Body)?;
-    let lines = wanted(lines_at(alloc, &value, "lines")?, Member::Lines)?;
-    check_only(alloc, members, &["lines"])?;
+    let (lines, ()) = read_body::<(WageLines, ())>(alloc, body, &["lines"])?;
     Ok(lines)
 }
 
@@ -63,12 +60,15 @@ pub fn read_report(alloc: Global, body: &[u8]) -> Result<WageLines, BodyFault>
 pub fn read_correction(alloc: Global, body: &[u8]) -> Result<CorrectionBody, BodyFault>
     ensures { Gives result (correction_of body.now) }
 {
-    let value = document(alloc, body)?;
-    let members = wanted(value.as_object(), Member::Body)?;
-    let lines = wanted(lines_at(alloc, &value, "lines")?, Member::Lines)?;
-    let version = wanted(version_at(&value, "version"), Member::Version)?;
-    check_only(alloc, members, &["lines", "version"])?;
-    Ok(CorrectionBody { lines, version })
+    let (lines, (version, ())) = read_body::<(WageLines, (Version, ()))>(
+        alloc,
+        body,
+        &["lines", "version"],
+    )?;
+    Ok(CorrectionBody {
+        lines,
+        version: version.number() as u32,
+    })
 }
 
 /// The body of a request that has none: it is empty, or else it is wrong.
@@ -80,24 +80,5 @@ pub fn read_nothing(body: &[u8]) -> Result<(), BodyFault>
         Ok(())
     } else {
         Err(BodyFault::Bad(Member::Body))
-    }
-}
-
-// The JSON document that the bytes are.
-fn document(alloc: Global, bytes: &[u8]) -> Result<Value, BodyFault>
-    ensures { GivesSeen view result (document bytes.now) }
-{
-    let Ok(text) = str::from_utf8(bytes) else {
-        return Err(BodyFault::Bad(Member::Body));
-    };
-    match Value::from_str(alloc, text) {
-        Ok(value) => Ok(value),
-        Err(e) => {
-            if e.is_memory() {
-                Err(BodyFault::Memory)
-            } else {
-                Err(BodyFault::Bad(Member::Body))
-            }
-        }
     }
 }

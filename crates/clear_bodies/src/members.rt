@@ -2,85 +2,103 @@
 ghost use Rattle.std.specs.Prelude.{◌≡◌, option_map, IfOk};
 ghost use Rattle.clear_money.specs.WrittenRate.{month_spelled};
 ghost use Rattle.serde_json.specs.View.{view, items_view};
-ghost use Rattle.clear_bodies.specs.Members.{number_at, text_at, array_at, employer_at, worker_at};
-ghost use Rattle.clear_bodies.specs.Members.{version_at, name_in, name_at, month_at, line_in};
-ghost use Rattle.clear_bodies.specs.Members.{lines_in, lines_at};
+ghost use Rattle.clear_bodies.specs.Members.{number_at, text_at, array_at, worker_at, name_in};
+ghost use Rattle.clear_bodies.specs.Members.{line_in, lines_in};
 
 use crate::further::least_further;
+use crate::object::FromMember;
+use crate::within::Within;
 use clear_book::texts::{Name, WageLine, WageLines};
 use clear_money::months::Month;
 use clear_money::numbers::{EmployerNo, WorkerNo};
 use serde_json::Value;
 use std::alloc::{AllocError, Global};
 
-// The greatest version that a body may name.
-const MAX_VERSION: u64 = 4_294_967_295;
+impl FromMember for EmployerNo {
+    ghost use Rattle.clear_bodies.specs.Members.{employer_at};
 
-// The number of a firm, 1 to 99,999,999.
-pub(crate) fn employer_at(value: &Value, name: &str) -> Option<EmployerNo>
-    ensures { result ≡ employer_at name.now (view value.now) }
-{
-    let Some(number) = number_at(value, name) else {
-        return None;
-    };
-    EmployerNo::new(number)
+    ghost value_at = { employer_at };
+
+    fn from_member(
+        _alloc: Global,
+        value: &Value,
+        name: &str,
+    ) -> Result<Option<EmployerNo>, AllocError> {
+        let Some(number) = number_at(value, name) else {
+            return Ok(None);
+        };
+        Ok(EmployerNo::new(number))
+    }
+}
+
+impl<const LOW: u64, const HIGH: u64> FromMember for Within<LOW, HIGH> {
+    ghost use Rattle.clear_bodies.specs.Members.{within_at};
+
+    ghost value_at = { within_at LOW HIGH };
+
+    fn from_member(
+        _alloc: Global,
+        value: &Value,
+        name: &str,
+    ) -> Result<Option<Within<LOW, HIGH>>, AllocError> {
+        let Some(number) = number_at(value, name) else {
+            return Ok(None);
+        };
+        Ok(Within::new(number))
+    }
+}
+
+impl FromMember for Month {
+    ghost use Rattle.clear_bodies.specs.Members.{month_at};
+
+    ghost value_at = { month_at };
+
+    fn from_member(_alloc: Global, value: &Value, name: &str) -> Result<Option<Month>, AllocError> {
+        let Some(text) = text_at(value, name) else {
+            return Ok(None);
+        };
+        Ok(month_in(text))
+    }
+}
+
+impl FromMember for Name {
+    ghost use Rattle.clear_bodies.specs.Members.{name_at};
+
+    ghost value_at = { name_at };
+
+    fn from_member(alloc: Global, value: &Value, name: &str) -> Result<Option<Name>, AllocError> {
+        let Some(text) = text_at(value, name) else {
+            return Ok(None);
+        };
+        name_in(alloc, text)
+    }
+}
+
+impl FromMember for WageLines {
+    ghost use Rattle.clear_bodies.specs.Members.{lines_at};
+
+    ghost value_at = { lines_at };
+
+    fn from_member(
+        alloc: Global,
+        value: &Value,
+        name: &str,
+    ) -> Result<Option<WageLines>, AllocError> {
+        let Some(values) = array_at(value, name) else {
+            return Ok(None);
+        };
+        lines_in(alloc, values)
+    }
 }
 
 // The number of a worker, 1 to 999,999,999.
-pub(crate) fn worker_at(value: &Value, name: &str) -> Option<WorkerNo>
+fn worker_at(value: &Value, name: &str) -> Option<WorkerNo>
     ensures { result ≡ worker_at name.now (view value.now) }
 {
     let Some(number) = number_at(value, name) else {
         return None;
     };
     WorkerNo::new(number)
-}
-
-// A version, 1 to 4,294,967,295.
-pub(crate) fn version_at(value: &Value, name: &str) -> Option<u32>
-    ensures { result ≡ version_at name.now (view value.now) }
-{
-    let Some(number) = number_at(value, name) else {
-        return None;
-    };
-    if number < 1 || number > MAX_VERSION {
-        return None;
-    }
-    Some(number as u32)
-}
-
-// A month from 2000-01 to 2199-12.
-pub(crate) fn month_at(value: &Value, name: &str) -> Option<Month>
-    ensures { result ≡ month_at name.now (view value.now) }
-{
-    let Some(text) = text_at(value, name) else {
-        return None;
-    };
-    month_in(text)
-}
-
-// A name, of 1 to 60 bytes without control characters.
-pub(crate) fn name_at(alloc: Global, value: &Value, name: &str) -> Result<Option<Name>, AllocError>
-    ensures { IfOk result (λ found. found ≡ name_at name.now (view value.now)) }
-{
-    let Some(text) = text_at(value, name) else {
-        return Ok(None);
-    };
-    name_in(alloc, text)
-}
-
-// Wage lines: an array of objects with just the members `gross`, cents of 64 bits, and `worker`.
-pub(crate) fn lines_at(
-    alloc: Global,
-    value: &Value,
-    name: &str,
-) -> Result<Option<WageLines>, AllocError>
-    ensures { IfOk result (λ found. found ≡ lines_at name.now (view value.now)) }
-{
-    let Some(values) = array_at(value, name) else {
-        return Ok(None);
-    };
-    lines_in(alloc, values)
 }
 
 fn lines_in(alloc: Global, values: &[Value]) -> Result<Option<WageLines>, AllocError>

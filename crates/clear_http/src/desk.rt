@@ -21,8 +21,8 @@ use clear_book::calls::Call;
 use clear_callers::directory::Directory;
 use clear_money::days::Day;
 use clear_office::office::Office;
-use clear_paths::routes::Routes;
-use clear_routes::command::to_command;
+use clear_routes::call::find_call;
+use clear_routes::routes::Routes;
 use clear_wire::counted::Counted;
 use clear_wire::request::Request;
 use sqlite::Alter;
@@ -44,7 +44,7 @@ impl<S: Alter> Responder<Office<S>> for Desk<'_> {
     ghost responds = { λ self. MaySay S.Store self.directory.now self.day };
 
     fn respond(&self, office: &mut Office<S>, request: &Request) -> Said {
-        match to_command(self.alloc, self.routes, self.directory, self.day, request) {
+        match find_call(self.alloc, self.routes, self.directory, self.day, request) {
             Ok(call) => take(office, &call),
             Err(refused) => Said::No(refused),
         }

@@ -19,6 +19,6 @@ pub mod serve;
 
 pub use clear_answers::said;
 pub use clear_callers::directory;
-pub use clear_paths::routes;
-pub use clear_routes::command;
+pub use clear_routes::call::find_call as to_command;
+pub use clear_routes::routes;
 pub use clear_wire::{counted, request};

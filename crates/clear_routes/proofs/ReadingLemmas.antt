@@ -1,17 +1,20 @@
 -- A request that reads as a call reads as no other.
-use Rattle.std.proofs.Common.{◌≡◌, ◌∙◌, ℕ, List, Some, Result, Ok, Err, refl, sym, ap, inl, inr}
+use Rattle.std.proofs.Common.{◌≡◌, ◌∙◌, ℕ, List, Some, Result, Ok, Err, refl, sym, ap, subst, inl, inr}
 use Rattle.clear_bodies.specs.Faults.{Part, part_of}
 use Rattle.clear_book.specs.declared.calls.Call.{Call}
 use Rattle.clear_book.specs.declared.calls.Caller.{Caller}
 use Rattle.clear_book.specs.declared.rules.Rule.{Rule}
 use Rattle.clear_book.specs.declared.rules.Rule.TheVariants.{NoRoute, BadMethod, UnknownKey, BadBody, Memory}
 use Rattle.clear_callers.specs.Callers.{KeyOf}
-use Rattle.clear_paths.proofs.RouteLemmas.{one_route}
-use Rattle.clear_paths.specs.declared.route.Route.{Route}
+use Rattle.clear_routes.proofs.RouteLemmas.{one_route}
+use Rattle.clear_routes.specs.declared.route.Route.{Route}
 use Rattle.clear_routes.specs.Called.{called_for}
 use Rattle.clear_routes.specs.Laws.{OneReading}
 use Rattle.clear_routes.specs.Reading.{AsksFor, CallsFor, IsRefused, caller_at}
-use Rattle.clear_routes.specs.Refusals.{by_rule}
+use Rattle.clear_routes.specs.Allowed.{IsUnrouted}
+use Rattle.clear_routes.specs.declared.route.Unrouted.{Unrouted}
+use Rattle.clear_routes.specs.declared.route.Unrouted.TheVariants as unrouted
+use Rattle.clear_routes.specs.Refusals.{by_rule, by_route}
 use Rattle.clear_routes.specs.declared.refused.Extra.{Extra}
 use Rattle.clear_routes.specs.declared.refused.Extra.TheVariants.{Nothing, Allow, Member}
 use Rattle.clear_routes.specs.declared.refused.Refused.{Refused}
@@ -23,7 +26,7 @@ module _ (keys : List KeyOf) (day : ℕ) (heading : Heading) (body : List ℕ) w
 
   -- a head asks for one route
   same_route : (r s : Route) → AsksFor heading r → AsksFor heading s → r ≡ s
-  same_route r s x y = one_route r s x.0 y.0 (sym x.1 ∙ y.1) (sym x.2 ∙ y.2)
+  same_route r s x y = one_route heading.method heading.target r s x y
 
   pub one_call : (x y : Result Call Part) → CallsFor keys day heading body x → CallsFor keys day heading body y → x ≡ y
   one_call x y a b =
@@ -31,10 +34,20 @@ module _ (keys : List KeyOf) (day : ℕ) (heading : Heading) (body : List ℕ) w
       let caller = same_caller a.1 b.1 a.3 b.3 in
       sym a.4 ∙ (λ i. called_for (route i) (caller i) day heading body) ∙ b.4
 
+  -- what asks for nothing is refused so
+  pub refused_by_route : (target : List ℕ) (why : Unrouted) (refused : Refused) → target ≡ heading.target → refused ≡ by_route why
+      → IsUnrouted heading.method target why → IsRefused keys day heading body refused.rule refused.extra
+  refused_by_route target why refused t e h =
+      subst (λ (r : Refused). IsRefused keys day heading body r.rule r.extra) (sym e) (by why (subst (λ (x : List ℕ). IsUnrouted heading.method x why) t h))
+    where
+      by : (u : Unrouted) → IsUnrouted heading.method heading.target u → IsRefused keys day heading body (by_route u).rule (by_route u).extra
+      by unrouted.NoRoute h = h
+      by (unrouted.BadMethod allow) h = h
+
   refused_for : (call : Call) (rule : Rule) (extra : Extra) → CallsFor keys day heading body (Ok call)
       → IsRefused keys day heading body rule extra → (rule ≡ Memory) × (extra ≡ Nothing)
-  refused_for call NoRoute Nothing calls not = absurd (not (calls.0, calls.2.0, calls.2.2))
-  refused_for call BadMethod (Allow allow) calls not = absurd (not.1 (calls.0, calls.2.0, calls.2.1, calls.2.2))
+  refused_for call NoRoute Nothing calls not = absurd (not (heading.method, (calls.0, calls.2)))
+  refused_for call BadMethod (Allow allow) calls not = absurd (not.1 (calls.0, calls.2))
   refused_for call UnknownKey Nothing calls not = absurd (cc (calls.3, not.1))
   refused_for call BadBody (Member member) calls not = absurd (cc (one_call (Ok call) (Err (part_of member)) calls not))
   refused_for call Memory Nothing calls not = (refl, refl)

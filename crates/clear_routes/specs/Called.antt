@@ -3,20 +3,27 @@ use Rattle.std.specs.Prelude.{ℕ, List, Option, Some, None, Result, Ok, ◌&&�
 use Rattle.std.specs.Prelude.{bytes_eq, if◌then◌else◌, option_and_then}
 use Rattle.std.specs.Fmt.{decimal}
 use Rattle.std.specs.Str.Parse.{digits_value}
-use Rattle.clear_bodies.specs.Bodies.{◌>>=◌, registration_of, report_of, correction_of}
-use Rattle.clear_bodies.specs.Faults.{Part, request_number, or_fault}
-use Rattle.clear_book.specs.Limits.{most_request_no}
 use Rattle.clear_book.specs.declared.calls.Call.{Call}
 use Rattle.clear_book.specs.declared.calls.Call.TheVariants.{Do, Ask}
-use Rattle.clear_book.specs.declared.calls.Caller.{Caller}
 use Rattle.clear_book.specs.declared.calls.Command.{Command}
 use Rattle.clear_book.specs.declared.calls.Command.TheVariants as command
+use Rattle.clear_book.specs.declared.calls.Query.{Query}
 use Rattle.clear_book.specs.declared.calls.Query.TheVariants as query
+use Rattle.clear_bodies.specs.Bodies.{registration_of, report_of, correction_of}
+use Rattle.clear_bodies.specs.Faults.{Part, request_number, or_fault}
+use Rattle.clear_bodies.specs.Object.{◌>>=◌}
+use Rattle.clear_book.specs.Limits.{most_request_no}
+use Rattle.clear_book.specs.declared.calls.Caller.{Caller}
 use Rattle.clear_book.specs.declared.calls.WageReport.{WageReport}
 use Rattle.clear_book.specs.declared.texts.WageLine.{WageLine}
-use Rattle.clear_paths.specs.declared.route.Route.{Route}
-use Rattle.clear_paths.specs.declared.route.Route.TheVariants.{Employers, Report, Correction}
-use Rattle.clear_paths.specs.declared.route.Route.TheVariants.{Owed, Statement, Bank}
+use Rattle.clear_routes.specs.declared.methods.Action.{Action}
+use Rattle.clear_routes.specs.declared.methods.Action.TheVariants as action
+use Rattle.clear_routes.specs.declared.methods.CommandKind.{CommandKind}
+use Rattle.clear_routes.specs.declared.methods.CommandKind.TheVariants as kind
+use Rattle.clear_routes.specs.declared.methods.QueryKind.{QueryKind}
+use Rattle.clear_routes.specs.declared.methods.QueryKind.TheVariants as asked
+use Rattle.clear_routes.specs.declared.parameters.Parameters.{Parameters}
+use Rattle.clear_routes.specs.declared.route.Route.{Route}
 use Rattle.clear_wire.specs.Head.{Heading}
 
 -- the number, if the text is its decimal digits and it is 1 to 999,999,999,999,999,999
@@ -34,49 +41,36 @@ number_of heading =
     or_fault request_number (option_and_then number_spelled heading.request_number)
 
 -- the report of an employer's month with these lines
-abbrev pub report_with : ℕ → ℕ → List WageLine → WageReport
-report_with employer month lines =
-    record { employer = employer; month = month; lines = lines }
+abbrev pub report_with : Parameters → List WageLine → WageReport
+report_with at lines = record { employer = at.employer; month = at.month; lines = lines }
 
--- the registration that the body is
-abbrev pub registration_in : List ℕ → Result Command Part
-registration_in body = do
+-- the command of this kind that the path's parameters and the body make
+abbrev pub command_for : CommandKind → Parameters → List ℕ → Result Command Part
+command_for kind.Register at body = do
   registration ← registration_of body
   Ok (command.Register registration)
-
--- the report of an employer's month that the body is
-abbrev pub report_in : ℕ → ℕ → List ℕ → Result Command Part
-report_in employer month body = do
+command_for kind.Report at body = do
   lines ← report_of body
-  Ok (command.Report (report_with employer month lines))
-
--- the correction of an employer's month that the body is
-abbrev pub correction_in : ℕ → ℕ → List ℕ → Result Command Part
-correction_in employer month body = do
+  Ok (command.Report (report_with at lines))
+command_for kind.Correct at body = do
   said ← correction_of body
-  Ok (command.Correct (record {
-    report = report_with employer month said.lines;
-    version = said.version;
-  }))
+  Ok (command.Correct (record { report = report_with at said.lines; version = said.version }))
+command_for kind.ImportBank at body = Ok (command.ImportBank body)
 
--- a call to do what a body says: the number in the head is judged before the body
-abbrev pub call_to_do : Caller → ℕ → Heading → Result Command Part → Result Call Part
-call_to_do caller day heading said = do
+-- the query of this kind about the path's parameters
+abbrev pub query_for : QueryKind → Parameters → Query
+query_for asked.Owed at = query.Owed at.employer
+query_for asked.Statement at = query.Statement at.employer
+
+-- what a request of this route and this caller calls for on a day. Of a command the number in the
+-- head is judged before the body; a query needs no number, and its body isn't looked at
+abbrev pub called_by : Action → Parameters → Caller → ℕ → Heading → List ℕ → Result Call Part
+called_by (action.Do what) at caller day heading body = do
   number ← number_of heading
-  what ← said
-  Ok (Do caller number day what)
+  told ← command_for what at body
+  Ok (Do caller number day told)
+called_by (action.Ask what) at caller day heading body = Ok (Ask caller day (query_for what at))
 
--- what a request of this route and this caller calls for on a day; a query needs no number, and
--- its body isn't looked at
 abbrev pub called_for : Route → Caller → ℕ → Heading → List ℕ → Result Call Part
-called_for Employers caller day heading body =
-    call_to_do caller day heading (registration_in body)
-called_for (Report employer month) caller day heading body =
-    call_to_do caller day heading (report_in employer month body)
-called_for (Correction employer month) caller day heading body =
-    call_to_do caller day heading (correction_in employer month body)
-called_for (Owed employer) caller day heading body = Ok (Ask caller day (query.Owed employer))
-called_for (Statement employer) caller day heading body =
-    Ok (Ask caller day (query.Statement employer))
-called_for Bank caller day heading body =
-    call_to_do caller day heading (Ok (command.ImportBank body))
+called_for route caller day heading body =
+    called_by route.action route.parameters caller day heading body

@@ -8,10 +8,10 @@ use Rattle.clear_book.specs.declared.rules.Rule.{Rule}
 use Rattle.clear_book.specs.declared.rules.Rule.TheVariants.{NoRoute, BadMethod, UnknownKey}
 use Rattle.clear_book.specs.declared.rules.Rule.TheVariants.{BadBody, Memory}
 use Rattle.clear_callers.specs.Callers.{KeyOf, caller_of}
-use Rattle.clear_paths.specs.Allowed.{IsUnrouted}
-use Rattle.clear_paths.specs.Routes.{IsRoute, method_for, target_of}
-use Rattle.clear_paths.specs.declared.route.Route.{Route}
-use Rattle.clear_paths.specs.declared.route.Unrouted.TheVariants as unrouted
+use Rattle.clear_routes.specs.Allowed.{IsUnrouted}
+use Rattle.clear_routes.specs.Routes.{IsRoute}
+use Rattle.clear_routes.specs.declared.route.Route.{Route}
+use Rattle.clear_routes.specs.declared.route.Unrouted.TheVariants as unrouted
 use Rattle.clear_routes.specs.Called.{called_for}
 use Rattle.clear_routes.specs.declared.refused.Extra.{Extra}
 use Rattle.clear_routes.specs.declared.refused.Extra.TheVariants.{Nothing, Allow, Member}
@@ -20,8 +20,7 @@ use Rattle.clear_wire.specs.Head.{Heading}
 
 -- the head asks for this route
 abbrev pub AsksFor : Heading → Route → Type 0
-AsksFor heading route =
-    IsRoute route × (heading.method ≡ method_for route) × (heading.target ≡ target_of route)
+AsksFor heading route = IsRoute heading.method heading.target route
 
 -- who calls, if the key stands just once and is somebody's
 abbrev pub caller_at : List KeyOf → Heading → Option Caller

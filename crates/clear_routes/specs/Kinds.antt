@@ -1,0 +1,53 @@
+-- The kinds of parameters: the values of each, how they are written, and where they go.
+use Rattle.std.specs.Prelude.{ℕ, List, [], ◌∷◌, ⊤}
+use Rattle.std.specs.Fmt.{decimal}
+use Rattle.clear_money.specs.Calendar.{IsMonth}
+use Rattle.clear_money.specs.Numbers.{IsEmployerNo}
+use Rattle.clear_money.specs.Texts.{month_text}
+use Rattle.clear_routes.specs.declared.kinds.Kind.{Kind}
+use Rattle.clear_routes.specs.declared.kinds.Kind.TheVariants.{Employer, Month}
+use Rattle.clear_routes.specs.declared.kinds.Kinds.{Kinds}
+use Rattle.clear_routes.specs.declared.kinds.Kinds.TheVariants.{Zero, One, Two}
+use Rattle.clear_routes.specs.declared.parameters.Parameters.{Parameters}
+
+-- the number is a value of the kind
+abbrev pub IsOfKind : Kind → ℕ → Type 0
+IsOfKind Employer n = IsEmployerNo n
+IsOfKind Month n = IsMonth n
+
+-- how a value of the kind is written
+abbrev pub spelling : Kind → ℕ → List ℕ
+spelling Employer n = decimal n
+spelling Month n = month_text n
+
+-- the parameters with this value in the place of its kind
+abbrev pub with_value : Kind → ℕ → Parameters → Parameters
+with_value Employer n p = record p { employer = n }
+with_value Month n p = record p { month = n }
+
+-- the least value of each kind
+abbrev pub least : Parameters
+least = record { employer = 1; month = 24000 }
+
+-- the kinds in their order
+abbrev pub kinds_in : Kinds → List Kind
+kinds_in Zero = []
+kinds_in (One kind) = kind ∷ []
+kinds_in (Two kind next) = kind ∷ next ∷ []
+
+-- as many values as kinds, each a value of its kind
+abbrev pub AreOfKinds : List Kind → List ℕ → Type 0
+AreOfKinds [] [] = ⊤
+AreOfKinds [] (n ∷ ns) = ⊥
+AreOfKinds (kind ∷ kinds) [] = ⊥
+AreOfKinds (kind ∷ kinds) (n ∷ ns) = IsOfKind kind n × AreOfKinds kinds ns
+
+-- how the values are written
+abbrev pub spellings : List Kind → List ℕ → List (List ℕ)
+spellings (kind ∷ kinds) (n ∷ ns) = spelling kind n ∷ spellings kinds ns
+spellings kinds ns = []
+
+-- the values in the places of their kinds; of a kind that isn't listed, the least
+abbrev pub parameters : List Kind → List ℕ → Parameters
+parameters (kind ∷ kinds) (n ∷ ns) = with_value kind n (parameters kinds ns)
+parameters kinds ns = least

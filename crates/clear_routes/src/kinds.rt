@@ -1,0 +1,18 @@
+//! The kinds of parameters.
+
+/// What a path's parameter is.
+#[derive(Clone, Copy)]
+pub enum Kind {
+    /// A firm's number.
+    Employer,
+    /// A month, `YYYY-MM`.
+    Month,
+}
+
+/// The kinds of a path's parameters, in their order.
+#[derive(Clone, Copy)]
+pub enum Kinds {
+    Zero,
+    One(Kind),
+    Two(Kind, Kind),
+}
