@@ -1,4 +1,5 @@
-//! The bodies of requests, each a JSON object with just the members that are listed.
+//! What the bodies of commands say, each a JSON object with just the members that are listed. What
+//! the path says besides is passed along.
 ghost use Rattle.std.specs.Prelude.{◌≡◌, IfErr};
 ghost use Rattle.clear_bodies.specs.Faults.{Gives};
 ghost use Rattle.clear_bodies.specs.Bodies.{registration_of, report_of};
@@ -9,21 +10,13 @@ ghost use Rattle.clear_bodies.specs.declared.faults.Member.TheVariants as member
 use crate::faults::{BodyFault, Member};
 use crate::object::read_body;
 use crate::within::Within;
-use clear_book::calls::Registration;
+use clear_book::calls::{Correction, Registration, WageReport};
 use clear_book::texts::{Name, WageLines};
 use clear_money::months::Month;
 use clear_money::numbers::EmployerNo;
 use std::alloc::Global;
 
-/// What the body of a correction says.
-#[derive(Drop)]
-pub struct CorrectionBody {
-    /// The lines that take the place of those reported.
-    pub lines: WageLines,
-    /// The version that they are to replace, 1 to 4,294,967,295.
-    pub version: u32,
-}
-
+/// The version that a correction is to replace.
 type Version = Within<1, 4_294_967_295>;
 
 /// The registration of a firm: `employer`, a number from 1 to 99,999,999, `name`, a text of 1 to
@@ -44,29 +37,48 @@ pub fn read_registration(alloc: Global, body: &[u8]) -> Result<Registration, Bod
     })
 }
 
-/// The lines of a report: `lines`, an array of objects with just the members `gross`, cents of 64
-/// bits, and `worker`, a number from 1 to 999,999,999.
+/// The report of an employer's month: `lines`, an array of objects with just the members `gross`,
+/// cents of 64 bits, and `worker`, a number from 1 to 999,999,999.
 #[tactic(auto, unfolding(crate::specs::Bodies::report_of))]
-pub fn read_report(alloc: Global, body: &[u8]) -> Result<WageLines, BodyFault>
-    ensures { Gives result (report_of body.now) }
+pub fn read_report(
+    alloc: Global,
+    employer: EmployerNo,
+    month: Month,
+    body: &[u8],
+) -> Result<WageReport, BodyFault>
+    ensures { Gives result (report_of employer month body.now) }
 {
     let (lines, ()) = read_body::<(WageLines, ())>(alloc, body, &["lines"])?;
-    Ok(lines)
+    Ok(WageReport {
+        employer,
+        month,
+        lines,
+    })
 }
 
-/// A correction: `lines`, as for a report, and `version`, a number from 1 to 4,294,967,295,
-/// whatever version the month has.
+/// The correction of an employer's month: `lines`, as for a report, and `version`, a number from 1
+/// to 4,294,967,295, whatever version the month has.
 #[tactic(auto, unfolding(crate::specs::Bodies::correction_of))]
-pub fn read_correction(alloc: Global, body: &[u8]) -> Result<CorrectionBody, BodyFault>
-    ensures { Gives result (correction_of body.now) }
+pub fn read_correction(
+    alloc: Global,
+    employer: EmployerNo,
+    month: Month,
+    body: &[u8],
+) -> Result<Correction, BodyFault>
+    ensures { Gives result (correction_of employer month body.now) }
 {
     let (lines, (version, ())) = read_body::<(WageLines, (Version, ()))>(
         alloc,
         body,
         &["lines", "version"],
     )?;
-    Ok(CorrectionBody {
+    let report = WageReport {
+        employer,
+        month,
         lines,
+    };
+    Ok(Correction {
+        report,
         version: version.number() as u32,
     })
 }

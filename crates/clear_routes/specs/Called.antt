@@ -14,8 +14,6 @@ use Rattle.clear_bodies.specs.Faults.{Part, request_number, or_fault}
 use Rattle.clear_bodies.specs.Object.{◌>>=◌}
 use Rattle.clear_book.specs.Limits.{most_request_no}
 use Rattle.clear_book.specs.declared.calls.Caller.{Caller}
-use Rattle.clear_book.specs.declared.calls.WageReport.{WageReport}
-use Rattle.clear_book.specs.declared.texts.WageLine.{WageLine}
 use Rattle.clear_routes.specs.declared.methods.Action.{Action}
 use Rattle.clear_routes.specs.declared.methods.Action.TheVariants as action
 use Rattle.clear_routes.specs.declared.methods.CommandKind.{CommandKind}
@@ -40,21 +38,17 @@ abbrev pub number_of : Heading → Result ℕ Part
 number_of heading =
     or_fault request_number (option_and_then number_spelled heading.request_number)
 
--- the report of an employer's month with these lines
-abbrev pub report_with : Parameters → List WageLine → WageReport
-report_with at lines = record { employer = at.employer; month = at.month; lines = lines }
-
 -- the command of this kind that the path's parameters and the body make
 abbrev pub command_for : CommandKind → Parameters → List ℕ → Result Command Part
 command_for kind.Register at body = do
   registration ← registration_of body
   Ok (command.Register registration)
 command_for kind.Report at body = do
-  lines ← report_of body
-  Ok (command.Report (report_with at lines))
+  report ← report_of at.employer at.month body
+  Ok (command.Report report)
 command_for kind.Correct at body = do
-  said ← correction_of body
-  Ok (command.Correct (record { report = report_with at said.lines; version = said.version }))
+  correction ← correction_of at.employer at.month body
+  Ok (command.Correct correction)
 command_for kind.ImportBank at body = Ok (command.ImportBank body)
 
 -- the query of this kind about the path's parameters

@@ -3,7 +3,7 @@ ghost use Rattle.std.specs.Prelude.{◌≡◌};
 ghost use Rattle.clear_bodies.specs.Faults.{Gives};
 ghost use Rattle.clear_wire.specs.Parsed.{heading};
 ghost use Rattle.clear_routes.specs.Called.{number_spelled, number_of, called_for};
-ghost use Rattle.clear_routes.specs.Called.{command_for, query_for, report_with};
+ghost use Rattle.clear_routes.specs.Called.{command_for, query_for};
 ghost use Rattle.clear_routes.specs.Reading.{caller_at, Reads};
 
 use crate::methods::{Action, CommandKind, QueryKind};
@@ -11,13 +11,12 @@ use crate::parameters::Parameters;
 use crate::refused::Refused;
 use crate::route::Route;
 use crate::routes::Routes;
-use clear_bodies::bodies::{CorrectionBody, read_correction, read_registration, read_report};
+use clear_bodies::bodies::{read_correction, read_registration, read_report};
 use clear_bodies::faults::{BodyFault, Member};
-use clear_book::calls::{Call, Caller, Command, Correction, Query, WageReport};
+use clear_book::calls::{Call, Caller, Command, Query};
 use clear_book::files::BankFile;
 use clear_book::numbers::RequestNo;
 use clear_book::rules::Rule;
-use clear_book::texts::WageLines;
 use clear_callers::directory::Directory;
 use clear_money::days::Day;
 use clear_money::numbers::read_number;
@@ -108,29 +107,17 @@ fn command_for(
     match kind {
         CommandKind::Register => Ok(Command::Register(read_registration(alloc, body)?)),
         CommandKind::Report => {
-            let lines = read_report(alloc, body)?;
-            Ok(Command::Report(report_with(at, lines)))
+            let report = read_report(alloc, at.employer, at.month, body)?;
+            Ok(Command::Report(report))
         }
         CommandKind::Correct => {
-            let CorrectionBody { lines, version } = read_correction(alloc, body)?;
-            let report = report_with(at, lines);
-            Ok(Command::Correct(Correction { report, version }))
+            let correction = read_correction(alloc, at.employer, at.month, body)?;
+            Ok(Command::Correct(correction))
         }
         CommandKind::ImportBank => {
             let bytes = Vec::from_slice(alloc, body)?;
             Ok(Command::ImportBank(BankFile::new(bytes)))
         }
-    }
-}
-
-/// The report of an employer's month with these lines.
-fn report_with(at: Parameters, lines: WageLines) -> WageReport
-    ensures { result ≡ report_with at lines }
-{
-    WageReport {
-        employer: at.employer,
-        month: at.month,
-        lines,
     }
 }
 
