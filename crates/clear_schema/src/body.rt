@@ -8,9 +8,10 @@ ghost use Rattle.clear_rows.specs.Stands.{Stands};
 ghost use Rattle.clear_book.specs.Tables.{Tables};
 ghost use Rattle.clear_schema.specs.Faults.{IsOfDisk};
 ghost use Rattle.clear_schema.specs.Held.{HasTables, StandsFor};
+ghost use Rattle.clear_schema.specs.Still.{IsStill};
 
 use crate::fault::{Fault, fault_of};
-use sqlite::{Alter, Connection, Transaction};
+use sqlite::{Alter, Connection, Error, Transaction};
 
 /// Why a body ends with nothing done.
 #[derive(Drop)]
@@ -85,11 +86,17 @@ pub fn within<S: Alter, B: Body>(
         → (t : Tables) → HasTables t (state S.Store conn.old).now
         → IfErr result (λ stop. (fault : _) → stop ≡ Stop.Fault fault
         → B.fails body t fault ⊎ IsOfDisk fault) }
+    ensures open { HasCleanDisk (state S.Store conn.new)
+        → OnOk result (IsTrue (state S.Store conn.new).is_open) }
     ensures stays { HasCleanDisk (state S.Store conn.new)
         → (t : Tables) → HasTables t (state S.Store conn.old).now
         → IsTrue (state S.Store conn.new).is_open
         → OnErr result (((state S.Store conn.new).now ≡ (state S.Store conn.old).committed)
         × ((state S.Store conn.new).committed ≡ (state S.Store conn.old).committed)) }
+    ensures was_open { HasCleanDisk (state S.Store conn.new)
+        → (t : Tables) → HasTables t (state S.Store conn.old).now
+        → IsTrue (state S.Store conn.new).is_open
+        → OnErr result (IsTrue (state S.Store conn.old).is_open) }
     ensures crash { (t : Tables) → HasTables t (state S.Store conn.old).now
         → Survives (state S.Store conn.old) (state S.Store conn.new) (Stands (λ (db : Database).
         (u : Tables) × (out : B.Out) × B.does body t u out × HasTables u db)) }
@@ -105,25 +112,34 @@ pub fn within<S: Alter, B: Body>(
     }
 }
 
-/// Confirms that the store still stands, by a transaction without a statement.
+/// Confirms that the store still stands, by asking for nothing.
 ///
-/// A rollback doesn't tell whether a fault of the disk has shut the store. After `Ok` it is open, a
-/// crash leaves the tables that it has, and no other.
+/// A rollback doesn't tell whether a fault of the disk has shut the store. A text without words tells
+/// it: it is refused as no query where the store is open, and without memory once the connection has
+/// met it. After `Ok` the store is open, and a crash leaves the tables that it has, and no other.
+/// After any answer a crash leaves no more than before, and while the store is open it has the tables
+/// that it had.
 pub fn confirm<S: Alter>(conn: &mut Connection<S>) -> Result<(), Fault>
     requires { conn.old.in_transaction ≡ false }
     ensures mode { conn.new.in_transaction ≡ false }
     ensures open { HasCleanDisk (state S.Store conn.new)
-        → OnOk result (IsTrue (state S.Store conn.old).is_open) }
+        → OnOk result (IsTrue (state S.Store conn.new).is_open) }
+    ensures still { HasCleanDisk (state S.Store conn.new)
+        → IsTrue (state S.Store conn.new).is_open
+        → IsStill (state S.Store conn.old) (state S.Store conn.new) }
     ensures kept { HasCleanDisk (state S.Store conn.new)
         → (t : Tables) → HasTables t (state S.Store conn.old).now
         → OnOk result (HasTables t (state S.Store conn.new).now
         × HasTables t (state S.Store conn.new).committed
         × ((trees : Trees) → (state S.Store conn.new).may_leave trees → StandsFor t trees)) }
-    ensures survives { Survives (state S.Store conn.old) (state S.Store conn.new)
-        (λ trees. trees ≡ (state S.Store conn.old).now.trees) }
+    ensures clean { HasCleanDisk (state S.Store conn.new) → HasCleanDisk (state S.Store conn.old) }
+    ensures survives { Survives (state S.Store conn.old) (state S.Store conn.new) (λ _. ⊥) }
 {
-    match conn.transaction().commit() {
-        Ok(()) => Ok(()),
+    // For what it says of a connection outside of a transaction.
+    let _outside = conn.is_autocommit();
+    match conn.query_all("", &[]) {
+        Ok(_rows) => Ok(()),
+        Err(Error::InvalidQuery) => Ok(()),
         Err(error) => Err(fault_of(error)),
     }
 }

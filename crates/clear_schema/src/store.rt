@@ -12,7 +12,9 @@ ghost use Rattle.clear_schema.specs.Faults.{IsOfDisk, IsWrong};
 ghost use Rattle.clear_schema.specs.First.{first_tables};
 ghost use Rattle.clear_schema.specs.Held.{HasTables, IsStore, StandsAs, StandsFor, this_schema};
 ghost use Rattle.clear_schema.specs.Lending.{lends_connection};
+ghost use Rattle.clear_schema.specs.Opening.{IsMadeOrEmpty};
 ghost use Rattle.clear_schema.specs.Schema.{no_schema};
+ghost use Rattle.clear_schema.specs.Still.{IsStill};
 
 use crate::body::{Body, Stop, confirm, within};
 use crate::create::create_in;
@@ -70,6 +72,17 @@ impl<S: Alter> Store<S> {
             → (told : ℕ) → left.fault ≡ OpenFault.WrongVersion told → told ≡ number) }
         ensures only_empty { IfOk result (λ store. HasCleanDisk (state S.Store store.conn)
             → (number : ℕ) (t : Tables) → IsStore number t (state S.Store connection).now → ⊥) }
+        // Nothing changes in a database that is a store already.
+        ensures kept { IfErr result (λ left. HasCleanDisk (state S.Store left.connection)
+            → (number : ℕ) (t : Tables) → IsStore number t (state S.Store connection).now
+            → IsTrue (state S.Store left.connection).is_open
+            → IsStill (state S.Store connection) (state S.Store left.connection)) }
+        ensures survives { (number : ℕ) (t : Tables)
+            → IsStore number t (state S.Store connection).now → IfErr result (λ left.
+            Survives (state S.Store connection) (state S.Store left.connection) (λ _. ⊥)) }
+        ensures cause { IfErr result (λ left. HasCleanDisk (state S.Store left.connection)
+            → IsMadeOrEmpty (state S.Store connection).now
+            → (why : Fault) → left.fault ≡ OpenFault.Failed why → IsOfDisk why) }
         ensures clean { IfOk result (λ store. HasCleanDisk (state S.Store store.conn)
             → HasCleanDisk (state S.Store connection)) }
         ensures clean_left { IfErr result (λ left. HasCleanDisk (state S.Store left.connection)
@@ -105,6 +118,12 @@ impl<S: Alter> Store<S> {
         ensures empty { IfErr result (λ left. HasCleanDisk (state S.Store left.connection)
             → (state S.Store connection).now.schema ≡ no_schema
             → (told : ℕ) → left.fault ≡ OpenFault.WrongVersion told → told ≡ 0) }
+        ensures open { IfOk result (λ store. HasCleanDisk (state S.Store store.conn)
+            → (t : Tables) → StandsFor t (state S.Store connection).committed.trees
+            → IsTrue (state S.Store connection).is_open → IsTrue (state S.Store store.conn).is_open) }
+        ensures cause { IfErr result (λ left. HasCleanDisk (state S.Store left.connection)
+            → IsMadeOrEmpty (state S.Store connection).now
+            → (why : Fault) → left.fault ≡ OpenFault.Failed why → IsOfDisk why) }
         ensures not_empty { IfOk result (λ store. HasCleanDisk (state S.Store store.conn)
             → (state S.Store connection).now.schema ≡ no_schema → ⊥) }
         ensures clean { IfOk result (λ store. HasCleanDisk (state S.Store store.conn)
@@ -148,12 +167,18 @@ impl<S: Alter> Store<S> {
             → (t : Tables) → HasTables t (state S.Store self.old.conn).now
             → IfErr result (λ stop. (fault : _) → stop ≡ Stop.Fault fault
             → B.fails body t fault ⊎ IsOfDisk fault) }
+        ensures open { HasCleanDisk (state S.Store self.new.conn)
+            → OnOk result (IsTrue (state S.Store self.new.conn).is_open) }
         ensures stays { HasCleanDisk (state S.Store self.new.conn)
             → (t : Tables) → HasTables t (state S.Store self.old.conn).now
             → IsTrue (state S.Store self.new.conn).is_open
             → OnErr result (
             ((state S.Store self.new.conn).now ≡ (state S.Store self.old.conn).committed)
             × ((state S.Store self.new.conn).committed ≡ (state S.Store self.old.conn).committed)) }
+        ensures was_open { HasCleanDisk (state S.Store self.new.conn)
+            → (t : Tables) → HasTables t (state S.Store self.old.conn).now
+            → IsTrue (state S.Store self.new.conn).is_open
+            → OnErr result (IsTrue (state S.Store self.old.conn).is_open) }
         ensures crash { (t : Tables) → HasTables t (state S.Store self.old.conn).now
             → Survives (state S.Store self.old.conn) (state S.Store self.new.conn)
             (Stands (λ (db : Database).
@@ -162,23 +187,30 @@ impl<S: Alter> Store<S> {
         within(&mut self.conn, body)
     }
 
-    /// Confirms that the store still stands, by a transaction without a statement.
+    /// Confirms that the store still stands, by asking for nothing: that takes no memory once the
+    /// connection has been asked so before.
     ///
     /// A rollback doesn't tell whether a fault of the disk has shut the store. After `Ok` it is open,
-    /// and a crash leaves the tables that it has, and no other.
+    /// and a crash leaves the tables that it has, and no other. After any answer a crash leaves no
+    /// more than before, and while the store is open it has the tables that it had.
     pub fn confirm(&mut self) -> Result<(), Fault>
         requires { self.old.conn.in_transaction ≡ false }
         ensures mode { self.new.conn.in_transaction ≡ false }
         ensures open { HasCleanDisk (state S.Store self.new.conn)
-            → OnOk result (IsTrue (state S.Store self.old.conn).is_open) }
+            → OnOk result (IsTrue (state S.Store self.new.conn).is_open) }
+        ensures still { HasCleanDisk (state S.Store self.new.conn)
+            → IsTrue (state S.Store self.new.conn).is_open
+            → IsStill (state S.Store self.old.conn) (state S.Store self.new.conn) }
         ensures kept { HasCleanDisk (state S.Store self.new.conn)
             → (t : Tables) → HasTables t (state S.Store self.old.conn).now
             → OnOk result (HasTables t (state S.Store self.new.conn).now
             × HasTables t (state S.Store self.new.conn).committed
             × ((trees : Trees) → (state S.Store self.new.conn).may_leave trees
             → StandsFor t trees)) }
+        ensures clean { HasCleanDisk (state S.Store self.new.conn)
+            → HasCleanDisk (state S.Store self.old.conn) }
         ensures survives { Survives (state S.Store self.old.conn) (state S.Store self.new.conn)
-            (λ trees. trees ≡ (state S.Store self.old.conn).now.trees) }
+            (λ _. ⊥) }
     {
         confirm(&mut self.conn)
     }
