@@ -2,7 +2,7 @@
 ghost use Rattle.std.specs.Prelude.{◌≡◌, ◌↔◌, Some, IfSome, IsTrue};
 ghost use Rattle.clear_book.specs.declared.outcomes.Reply.{Reply};
 ghost use Rattle.clear_book.specs.RowRanges.{IsReply};
-ghost use Rattle.clear_requests.specs.Shown.{AreSmall, numbers_of};
+ghost use Rattle.clear_ledger.specs.Shown.{AreSmall, numbers_of};
 
 use clear_book::limits::{MAX_BASE, MAX_RECORDS, MAX_VERSIONS};
 use clear_book::outcomes::Reply;

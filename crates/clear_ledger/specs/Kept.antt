@@ -5,7 +5,7 @@ use Rattle.clear_book.specs.declared.calls.Caller.{Caller}
 use Rattle.clear_book.specs.declared.outcomes.Reply.{Reply}
 use Rattle.clear_book.specs.RowRanges.{IsReply}
 use Rattle.clear_book.specs.Tables.{RequestRow}
-use Rattle.clear_requests.specs.declared.requests.KeptRequest.{KeptRequest}
+use Rattle.clear_ledger.specs.declared.requests.KeptRequest.{KeptRequest}
 
 -- the day of a request, the bytes of its command, and its reply
 pub record Kept : Type 0 where

@@ -1,6 +1,6 @@
 use Rattle.clear_columns.proofs.AnswerLemmas.{shown_first}
-use Rattle.clear_requests.specs.Shown.{kept_shown}
-use Rattle.clear_requests.proofs.requests.first_request.Goals as goal
+use Rattle.clear_ledger.specs.Shown.{kept_shown}
+use Rattle.clear_ledger.proofs.requests.first_request.Goals as goal
 
 pub returns-in-Err-clause-range : goal.returns-in-Err-clause-range
 returns-in-Err-clause-range c told xs same =

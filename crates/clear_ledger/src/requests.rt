@@ -1,27 +1,26 @@
 //! The table of accepted requests.
-ghost use Rattle.std.specs.Prelude.{◌≡◌, ◌≢◌, List, None, Some, map, slice_get};
-ghost use Rattle.std.specs.Prelude.{IfErr, IfOk, IfSome, IsSome, IsTrue, OnOk};
+ghost use Rattle.std.specs.Prelude.{◌≡◌, ◌≢◌, List, Some, map, slice_get};
+ghost use Rattle.std.specs.Prelude.{IfErr, IfOk, IfSome, OnOk};
 ghost use Rattle.std.specs.Option.{option_map};
 ghost use Rattle.sqlite.specs.Held.{state};
-ghost use Rattle.sqlite.specs.State.{HasCleanDisk, IsUnchanged, KeepsCommit, Survives};
+ghost use Rattle.clear_columns.specs.Keys.{is_held};
+ghost use Rattle.clear_schema.specs.Frame.{IsOut, Looks, Writes};
 ghost use Rattle.sqlite.specs.Values.{bound};
 ghost use Rattle.clear_book.specs.Book.{request_number};
 ghost use Rattle.clear_book.specs.Keyed.{find_row, with_row};
 ghost use Rattle.clear_book.specs.RowRanges.{IsReply};
 ghost use Rattle.clear_book.specs.Tables.{RequestRow, Tables, request_key};
 ghost use Rattle.clear_schema.specs.Held.{HasTables};
-ghost use Rattle.clear_requests.specs.Kept.{IsKept, as_kept, kept_of, row_of};
-ghost use Rattle.clear_requests.specs.Shown.{kept_shown, numbers_of, request_shown};
+ghost use Rattle.clear_ledger.specs.Kept.{IsKept, as_kept, kept_of, row_of};
+ghost use Rattle.clear_ledger.specs.Shown.{kept_shown, numbers_of, request_shown};
 
-use crate::columns::bytes_at;
-use crate::parameters::{bytes, caller as calling, request_no};
 use crate::replies::{ReplyNumbers, is_reply, reply_numbers, reply_of};
 use clear_book::calls::Caller;
 use clear_book::numbers::RequestNo;
 use clear_book::outcomes::Reply;
 use clear_book::rules::StoreCause;
-use clear_columns::columns::{day_at, number_at};
-use clear_columns::parameters::day;
+use clear_columns::columns::{bytes_at, day_at, number_at};
+use clear_columns::parameters::{bytes, caller as calling, day, request_no};
 use clear_money::days::Day;
 use clear_schema::fault::Fault;
 use clear_schema::statement::{look, put};
@@ -50,29 +49,14 @@ pub fn insert_request<S: Alter>(
     request: &KeptRequest,
 ) -> Result<(), Fault>
     ensures same_reference { tx.new.conn.ghost_name ≡ tx.old.conn.ghost_name }
-    ensures put { HasCleanDisk (state S.Store tx.new.conn.now)
-        → (t : Tables) → HasTables t (state S.Store tx.old.conn.now).now
-        → let row = row_of caller number (as_kept request.now)
-        in OnOk result (HasTables (record t { requests = with_row request_key t.requests row })
-        (state S.Store tx.new.conn.now).now) }
-    ensures free { HasCleanDisk (state S.Store tx.new.conn.now)
-        → (t : Tables) → HasTables t (state S.Store tx.old.conn.now).now
-        → OnOk result (find_row request_key t.requests (request_number caller number) ≡ None) }
-    ensures cause { HasCleanDisk (state S.Store tx.new.conn.now)
-        → (t : Tables) → HasTables t (state S.Store tx.old.conn.now).now
-        → IfErr result (λ fault. fault ≡ Fault.Store StoreCause.Constraint
-        → IsSome (find_row request_key t.requests (request_number caller number))) }
+    ensures writes { Writes S.Store tx.old.conn.now tx.new.conn.now result
+        (¬ IsReply request.now.reply)
+        (λ t. is_held request_key (row_of caller number (as_kept request.now)) t.requests)
+        (λ t. record t {
+          requests = with_row request_key t.requests
+              (row_of caller number (as_kept request.now));
+        }) }
     ensures good { OnOk result (IsReply request.now.reply) }
-    ensures range { IfErr result (λ fault. fault ≡ Fault.Store StoreCause.Row
-        → ¬ IsReply request.now.reply) }
-    ensures refused { ¬ IsReply request.now.reply
-        → (result ≡ Err (Fault.Store StoreCause.Row)) × (tx.new.conn.now ≡ tx.old.conn.now) }
-    ensures kept { HasCleanDisk (state S.Store tx.new.conn.now)
-        → KeepsCommit (state S.Store tx.old.conn.now) (state S.Store tx.new.conn.now) }
-    ensures goes_on { HasCleanDisk (state S.Store tx.new.conn.now)
-        → OnOk result (IsTrue tx.new.conn.now.in_transaction) }
-    ensures survives { Survives (state S.Store tx.old.conn.now) (state S.Store tx.new.conn.now)
-        (λ _. ⊥) }
 {
     if !is_reply(request.reply) {
         return Err(Fault::Store(StoreCause::Row));
@@ -93,28 +77,13 @@ pub fn find_request<S: Alter>(
     number: RequestNo,
 ) -> Result<Option<KeptRequest>, Fault>
     ensures same_reference { tx.new.conn.ghost_name ≡ tx.old.conn.ghost_name }
-    ensures found { HasCleanDisk (state S.Store tx.new.conn.now)
-        → (t : Tables) → HasTables t (state S.Store tx.old.conn.now).now
-        → IfOk result (λ found. option_map as_kept found
-        ≡ option_map kept_of (find_row request_key t.requests (request_number caller number))) }
-    ensures good { IfOk result (λ found. IfSome found (λ request. IsKept (as_kept request))) }
-    ensures cause { HasCleanDisk (state S.Store tx.new.conn.now)
-        → (t : Tables) → HasTables t (state S.Store tx.old.conn.now).now
-        → IfErr result (λ fault. fault ≢ Fault.Store StoreCause.Constraint) }
-    ensures range { HasCleanDisk (state S.Store tx.new.conn.now)
-        → (t : Tables) → HasTables t (state S.Store tx.old.conn.now).now
-        → IfErr result (λ fault. fault ≡ Fault.Store StoreCause.Row
-        → (x : RequestRow) × (find_row request_key t.requests (request_number caller number) ≡ Some x)
-        × ¬ IsKept (kept_of x)) }
-    ensures same { HasCleanDisk (state S.Store tx.new.conn.now)
-        → (t : Tables) → HasTables t (state S.Store tx.old.conn.now).now
-        → OnOk result (IsUnchanged (state S.Store tx.old.conn.now)
-        (state S.Store tx.new.conn.now)) }
-    ensures kept { HasCleanDisk (state S.Store tx.new.conn.now)
-        → (t : Tables) → HasTables t (state S.Store tx.old.conn.now).now
-        → KeepsCommit (state S.Store tx.old.conn.now) (state S.Store tx.new.conn.now) }
-    ensures survives { Survives (state S.Store tx.old.conn.now) (state S.Store tx.new.conn.now)
-        (λ _. ⊥) }
+    ensures looks { Looks S.Store tx.old.conn.now tx.new.conn.now
+        (λ t. HasTables t (state S.Store tx.old.conn.now).now) result
+        (λ t found. option_map as_kept found ≡ option_map kept_of
+        (find_row request_key t.requests (request_number caller number)))
+        (λ found. IfSome found (λ request. IsKept (as_kept request)))
+        (λ t. IsOut (λ row. IsKept (kept_of row))
+        (find_row request_key t.requests (request_number caller number))) }
 {
     let rows = match look(
         tx,
