@@ -1,24 +1,41 @@
--- What the query for all rates answers.
-use Rattle.std.proofs.Common.{◌≡◌, false, List, ℕ, zero, suc, ◌+◌, ◌<◌, ◌≤◌, [], ◌∷◌, map, length, take, get_or, refl, sym, subst, add-one, codes, arith}
-use Rattle.sqlite.proofs.Callers.{IsPlain, command_of}
-use Rattle.sqlite.specs.Command.TheVariants.{Select}
-use Rattle.sqlite.specs.Listing.{understood, reads_listing}
-use Rattle.sqlite.specs.Effect.{Database}
-use Rattle.sqlite.specs.Store.{Ghosts}
-use Rattle.sqlite.specs.Term.{Term, col}
+-- The rates: under their first months.
+use Rattle.std.proofs.Common.{zero, suc, ◌+◌, ◌<◌, ◌≤◌, length, take, get_or, add-one}
+use Rattle.clear_columns.proofs.Words.{◌≡◌, arith, pos, ℕ, List, [], ◌∷◌, map, refl, sym, subst, inl, inr, codes, cast_row, Database, Ghosts, Term, col, Tables, plain_program, HasTables, rates_table, rate_values, month_number, cast_int, cast_null, months_keep, AnswersJust}
 use Rattle.sqlite_tied.specs.Compute.{everything}
 use Rattle.clear_money.specs.Rates.{Rate, IsRising, last_first}
 use Rattle.clear_book.specs.Machine.{AreRates}
-use Rattle.clear_book.specs.Tables.{Tables}
-use Rattle.clear_rows.specs.Plain.{plain_program}
-use Rattle.clear_schema.specs.Held.{HasTables}
-use Rattle.clear_schema.specs.Making.{rate_key}
-use Rattle.clear_schema.specs.Schema.{store_schema}
-use Rattle.clear_schema.specs.Values.{rate_values}
-use Rattle.clear_columns.specs.Reading.{AnswersJust}
-use Rattle.clear_columns.proofs.ReadingLemmas.{answers_just}
+use Rattle.clear_schema.proofs.Changes.{rates_changed}
+use Rattle.clear_columns.proofs.NumberedTable.{NumberedTable, by_number, lists_all}
+use Rattle.clear_columns.proofs.Says.{SaysQuery}
 use Rattle.clear_firms.specs.Shown.{rate_shown}
-use Rattle.clear_firms.proofs.NumberedLemmas.{all_in_order, by_number}
+
+pub stored : (r : Rate) → cast_row rates_table (rate_values r) ≡ rate_values r
+stored r = rw (cast_int (month_number r.first), cast_null, cast_int (pos r.contribution_rate), cast_int (pos r.report_day), cast_int (pos r.due_day), cast_int (pos r.interest_rate), cast_int (pos r.entitlement_rate))
+
+abbrev pub rates : NumberedTable Rate
+rates = record {
+  at = 1;
+  table = rates_table;
+  rows = λ t. t.rates;
+  with_those = λ t xs. record t { rates = xs };
+  fits = λ xs. Unit {0};
+  number = λ r. r.first;
+  as_int = month_number;
+  in_order = months_keep;
+  given = rate_shown;
+  to_row = rate_values;
+  placed = refl;
+  listed = inr (inl refl);
+  uncounted = refl;
+  unguarded = refl;
+  numbered = λ _. refl;
+  stored = stored;
+  typed = λ _ _. refl;
+  present = λ _ _. refl;
+  checked = λ _ _. refl;
+  has = λ t db has. has.rates;
+  changed = λ t old new has schema sound xs fits. rates_changed t old new has schema sound xs;
+}
 
 abbrev pub get : List ℕ
 get = codes "SELECT first, contribution, report_day, due_day, interest, entitlement FROM rates ORDER BY first"
@@ -26,24 +43,13 @@ get = codes "SELECT first, contribution, report_day, due_day, interest, entitlem
 abbrev columns : List Term
 columns = col 1 0 ∷ col 1 2 ∷ col 1 3 ∷ col 1 4 ∷ col 1 5 ∷ col 1 6 ∷ []
 
-get_is : command_of (understood store_schema get)
-    ≡ Select (plain_program 1 [] columns by_number) (codes "first" ∷ codes "contribution" ∷ codes "report_day" ∷ codes "due_day" ∷ codes "interest" ∷ codes "entitlement" ∷ [])
-unfolding understood everything
-get_is = refl
-
-get_plain : IsPlain (understood store_schema get)
-unfolding understood everything
-get_plain = (refl, refl)
-
-get_reads : reads_listing store_schema get ≡ false
-unfolding understood everything
-get_reads = refl
+get_says : SaysQuery get (plain_program 1 [] columns by_number)
+unfolding everything
+get_says = record { names = _; said = (refl, refl, refl) }
 
 -- it answers all rates in their order
 pub answers : {S : Type 0} (g : Ghosts S) (t : Tables) (db : Database) → HasTables t db → AnswersJust g get [] db (map rate_shown t.rates)
-answers g t db has =
-    answers_just g 1 [] columns by_number _ get [] store_schema get_is get_plain get_reads db has.schema _
-    (all_in_order rate_key rate_values rate_shown 1 columns (λ _. refl) db.schema db.trees t.rates has.rates)
+answers g t db has = lists_all rates g t db has [] rate_shown (λ _. refl) get_says (λ _. refl)
 
 -- ---- rates as a table
 
