@@ -103,3 +103,16 @@ writes_none g h out held changed is = record {
   goes_on = λ clean. tt;
   survives = survives_none (state g h);
 }
+
+-- a change that comes to the same
+pub writes_as : {S A : Type 0} (g : Ghosts S) (old new : Held S) (r : Result A Fault) (out : Type 0) (held : Tables → Bool) (changed other : Tables → Tables) → ((t : Tables) → HasTables t (state g old).now → changed t ≡ other t) → Writes g old new r out held changed → Writes g old new r out held other
+writes_as g old new r out held changed other same writes = record {
+  put = λ clean t has. on_ok_weaker r (subst (λ u. HasTables u (state g new).now) (same t has)) (writes.put clean t has);
+  free = writes.free;
+  cause = writes.cause;
+  range = writes.range;
+  refused = writes.refused;
+  kept = writes.kept;
+  goes_on = writes.goes_on;
+  survives = writes.survives;
+}

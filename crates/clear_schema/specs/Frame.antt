@@ -52,19 +52,25 @@ pub record Looks {S A I : Type 0} (g : Ghosts S) (old new : Held S) (is_one : I 
 abbrev pub IsOut : {X : Type 0} → (X → Type 0) → Option X → Type 0
 IsOut {X} P row = (x : X) × (row ≡ Some x) × ¬ P x
 
+module _ {S : Type 0} (g : Ghosts S) (old new : Held S) where
+  -- a look at the tables that the database has
+  abbrev pub LooksUp : {A : Type 0} → Result A Fault → (Tables → A → Type 0) → (A → Type 0)
+      → (Tables → Type 0) → Type 0
+  LooksUp result is_found is_good is_out =
+      Looks g old new (λ t. HasTables t (state g old).now) result is_found is_good is_out
+
 module _ {S X : Type 0} (g : Ghosts S) (old new : Held S) where
   -- of the tables that the database has, this row is found, if it is there
   abbrev pub Finds : Result (Option X) Fault → (X → Type 0) → (Tables → Option X) → Type 0
   Finds result P row =
-      Looks g old new (λ t. HasTables t (state g old).now) result
-      (λ t found. found ≡ row t) (λ found. IfSome found P) (λ t. IsOut P (row t))
+      LooksUp g old new result (λ t found. found ≡ row t) (λ found. IfSome found P)
+      (λ t. IsOut P (row t))
 
   -- of the tables that the database has, these rows are found, in this order
   abbrev pub Lists : Result (Vec X Global) Fault → (X → Type 0) → (Tables → List X) → Type 0
   Lists result P rows =
-      Looks g old new (λ t. HasTables t (state g old).now) result
-      (λ t found. found.items ≡ rows t) (λ found. AllByRecursion P found.items)
-      (λ t. ¬ AllByRecursion P (rows t))
+      LooksUp g old new result (λ t found. found.items ≡ rows t)
+      (λ found. AllByRecursion P found.items) (λ t. ¬ AllByRecursion P (rows t))
 
   module _ (shown : X → Row) (P : X → Type 0) (sql : List ℕ) (params : Row) where
     -- the text is a query that answers these rows
@@ -84,6 +90,15 @@ module _ {S X : Type 0} (g : Ghosts S) (old new : Held S) where
         Looks g old new Answers result
         (λ rows found. found.items ≡ rows) (λ found. AllByRecursion P found.items)
         (λ rows. ¬ AllByRecursion P rows)
+
+-- what reads of the tables that the database has leave
+pub record Leaves {S A E : Type 0} (g : Ghosts S) (old new : Held S) (result : Result A E) : Type 0
+    where
+  pub same : HasCleanDisk (state g new) → (t : Tables) → HasTables t (state g old).now
+      → OnOk result (IsUnchanged (state g old) (state g new))
+  pub kept : HasCleanDisk (state g new) → (t : Tables) → HasTables t (state g old).now
+      → KeepsCommit (state g old) (state g new)
+  pub survives : Survives (state g old) (state g new) (λ _. ⊥)
 
 -- ---- changes
 
@@ -114,4 +129,13 @@ pub record Writes {S A : Type 0} (g : Ghosts S) (old new : Held S) (result : Res
   pub refused : is_out → (result ≡ Err (Store OutOfRange)) × (new ≡ old)
   pub kept : HasCleanDisk (state g new) → KeepsCommit (state g old) (state g new)
   pub goes_on : HasCleanDisk (state g new) → OnOk result (IsTrue new.in_transaction)
+  pub survives : Survives (state g old) (state g new) (λ _. ⊥)
+
+-- what work on the tables that the database has leaves, whatever it changes
+pub record GoesOn {S A E : Type 0} (g : Ghosts S) (old new : Held S) (result : Result A E) : Type 0
+    where
+  pub goes_on : HasCleanDisk (state g new) → (t : Tables) → HasTables t (state g old).now
+      → IsTrue old.in_transaction → OnOk result (IsTrue new.in_transaction)
+  pub kept : HasCleanDisk (state g new) → (t : Tables) → HasTables t (state g old).now
+      → KeepsCommit (state g old) (state g new)
   pub survives : Survives (state g old) (state g new) (λ _. ⊥)
