@@ -1,16 +1,22 @@
 -- Rows by their keys: the order of the database is that of the tables.
-use Rattle.std.proofs.Common.{◌≡◌, ℕ, Bool, true, false, ◌&&◌, ◌||◌, ◌==◌, nat_lt, cond, List, [], ◌∷◌, Option, None, Some, is_some, filter, length, ◌≤◌, refl, sym, ap, subst, ◌∙◌, arith, Ordering, Less, Equal, Greater, is_eq, is_lt, is_gt, nat_cmp, slice_get, true≢false}
+use Rattle.std.proofs.Common.{◌≡◌, ℕ, ℤ, Bool, true, false, not, ◌&&◌, ◌||◌, ◌==◌, nat_lt, cond, List, [], ◌∷◌, Option, None, Some, IsSome, is_some, filter, length, ◌≤◌, refl, sym, ap, ap₂, subst, ◌∙◌, arith, Ordering, Less, Equal, Greater, is_eq, is_lt, is_gt, int_cmp, int_eq, nat_cmp, slice_get, true≢false}
+use Rattle.std.proofs.lemmas.Bool.Decides.{nat_tests}
 use Rattle.std.specs.Cmp.{IsTotalOrder}
 use Rattle.std.specs.Cmp.Lexicographic.{slice_cmp, on_texts, nat_list_cmp_total}
 use Rattle.std.specs.List.{list_any, AllByRecursion}
-use Rattle.std.specs.Ordering.{ordering_then, ordering_reverse}
+use Rattle.std.specs.Ordering.{match_ordering, ordering_then, ordering_reverse}
 use Rattle.std.proofs.lemmas.Map.Text.{is_eq-slice_cmp}
 use Rattle.sqlite.specs.Tree.{IsAscending}
-use Rattle.sqlite_keyed.specs.Lists.{insert_sorted}
-use Rattle.clear_book.specs.Keyed.{is_key, is_before, find_row, with_row}
-use Rattle.clear_book.proofs.KeyedLemmas.{is_key-true}
+use Rattle.sqlite_keyed.specs.Keyed.{get_by, has_key, insert_by}
+use Rattle.sqlite_keyed.specs.Lists.{insert_sorted, update_where}
+use Rattle.sqlite_keyed.proofs.ListLemmas.{filter_all, all_weaker}
+use Rattle.clear_book.specs.Keyed.{is_key, is_before, find_row, with_row, without_rows, put_row}
+use Rattle.clear_book.proofs.KeyedLemmas.{is_key-refl, is_key-true}
 use Rattle.clear_book.proofs.LinesLemmas.{is_key-bytes_eq}
 use Rattle.clear_schema.specs.Held.{by_key}
+use Rattle.clear_columns.specs.Keys.{replaced}
+use Rattle.clear_columns.proofs.ListLemmas.{none_replaced}
+use Rattle.clear_columns.proofs.StoredLemmas.{KeepsOrder}
 
 pub turned : (o p : Ordering) → p ≡ ordering_reverse o → is_eq p ≡ is_eq o
 turned Less p e = ap is_eq e
@@ -100,3 +106,120 @@ none_if (Some x) h = absurd (true≢false h)
 -- what is said of one of two equal finds is said of the other
 pub found_out : {X : Type 0} (P : X → Type 0) (o p : Option X) → o ≡ p → (x : X) × (o ≡ Some x) × ¬ P x → (x : X) × (p ≡ Some x) × ¬ P x
 found_out {X = X} P o p same found = subst (λ (a : Option X). (x : X) × (a ≡ Some x) × ¬ P x) same found
+
+-- ---- keys
+
+-- numbers are equal whichever comes first
+pub turned_nat : (a b : ℕ) → (a == b) ≡ (b == a)
+turned_nat a b = grind (arith, nat_tests)
+
+pub one_key : (a b : ℕ) → (a == b) ≡ is_key (a ∷ []) (b ∷ [])
+one_key a b = grind (arith, nat_tests)
+
+less_first : (a b : ℕ) → nat_cmp a b ≡ Less → is_before (b ∷ []) (a ∷ []) ≡ false
+less_first a b h = grind (arith, nat_tests)
+
+greater_first : (a b : ℕ) → nat_cmp a b ≡ Greater → is_before (b ∷ []) (a ∷ []) ≡ true
+greater_first a b h = grind (arith, nat_tests)
+
+equal_same : (a b : ℕ) → nat_cmp a b ≡ Equal → (a == b) ≡ true
+equal_same a b h = grind (arith, nat_tests)
+
+-- ---- rows by a number
+
+module _ {X : Type 0} (n : X → ℕ) (held : ℕ → ℤ) (keeps : KeepsOrder held) where
+  -- the row of a number is that of the key
+  pub get_is : (ys : List X) (k : ℕ) → get_by (λ y. held (n y)) ys (held k) ≡ find_row (λ y. n y ∷ []) ys (k ∷ [])
+  get_is [] k = refl
+  get_is (y ∷ ys) k = ap₂ (λ b o. cond b (Some y) o) (keeps.same (n y) k ∙ one_key (n y) k) (get_is ys k)
+
+  -- a row with a free number goes to its place
+  pub put_is : (ys : List X) (new : X) → has_key (λ y. held (n y)) ys (held (n new)) ≡ false → insert_by (λ y. held (n y)) ys new ≡ with_row (λ y. n y ∷ []) ys new
+  put_is [] new free = refl
+  put_is (y ∷ ys) new free = go (int_cmp (held (n y)) (held (n new))) (int_eq (held (n y)) (held (n new))) refl refl free (put_is ys new)
+    where
+      go : (o : Ordering) (same : Bool) → int_cmp (held (n y)) (held (n new)) ≡ o → int_eq (held (n y)) (held (n new)) ≡ same → is_some (cond same (Some y) (get_by (λ y. held (n y)) ys (held (n new)))) ≡ false
+          → (has_key (λ y. held (n y)) ys (held (n new)) ≡ false → insert_by (λ y. held (n y)) ys new ≡ with_row (λ y. n y ∷ []) ys new)
+          → match_ordering o (y ∷ insert_by (λ y. held (n y)) ys new) (new ∷ ys) (new ∷ y ∷ ys) ≡ cond (is_before (n new ∷ []) (n y ∷ [])) (new ∷ y ∷ ys) (y ∷ with_row (λ y. n y ∷ []) ys new)
+      go o true p q h more = absurd (true≢false h)
+      go Less false p q h more = ap (λ l. y ∷ l) (more h) ∙ sym (ap (λ b. cond b (new ∷ y ∷ ys) (y ∷ with_row (λ y. n y ∷ []) ys new)) (less_first (n y) (n new) (sym (keeps.order (n y) (n new)) ∙ p)))
+      go Equal false p q h more = absurd (true≢false (sym (keeps.same (n y) (n new) ∙ equal_same (n y) (n new) (sym (keeps.order (n y) (n new)) ∙ p)) ∙ q))
+      go Greater false p q h more = sym (ap (λ b. cond b (new ∷ y ∷ ys) (y ∷ with_row (λ y. n y ∷ []) ys new)) (greater_first (n y) (n new) (sym (keeps.order (n y) (n new)) ∙ p)))
+
+-- ---- rows by a key
+
+module _ {X : Type 0} (key : X → List ℕ) where
+  -- where none is found under a key, no row has it
+  pub none_of_key : (xs : List X) (k : List ℕ) → find_row key xs k ≡ None → AllByRecursion (λ x. is_key (key x) k ≡ false) xs
+  none_of_key [] k h = tt
+  none_of_key (x ∷ xs) k h = told (is_key (key x) k) refl h (none_of_key xs k)
+    where
+      told : (b : Bool) → is_key (key x) k ≡ b → cond b (Some x) (find_row key xs k) ≡ None → (find_row key xs k ≡ None → AllByRecursion (λ y. is_key (key y) k ≡ false) xs) → AllByRecursion (λ y. is_key (key y) k ≡ false) (x ∷ xs)
+      told true e h more = absurd cc
+      told false e h more = (e, more h)
+
+  -- no later row has the key of one
+  later_keys : (x : X) (xs : List X) (k : List ℕ) → is_key (key x) k ≡ true → AllByRecursion (λ y. by_key key x y ≡ Less) xs → AllByRecursion (λ y. is_key (key y) k ≡ false) xs
+  later_keys x xs k h all = all_weaker (λ y. by_key key x y ≡ Less) (λ y. is_key (key y) k ≡ false) one xs all
+    where
+      one : (y : X) → by_key key x y ≡ Less → is_key (key y) k ≡ false
+      one y less = told (is_key (key y) k) refl
+        where
+          told : (b : Bool) → is_key (key y) k ≡ b → is_key (key y) k ≡ false
+          told false e = e
+          told true e =
+              let same : key x ≡ key y = is_key-true (key x) k h ∙ sym (is_key-true (key y) k e) in
+              let here : is_key (key x) (key y) ≡ true = subst (λ (l : List ℕ). is_key (key x) l ≡ true) same (is_key-refl (key x)) in
+              absurd (true≢false (sym here ∙ is_key_is (key x) (key y) ∙ ap is_eq less))
+
+  -- a row comes before one whose key a later row has
+  after_found : (x : X) (xs : List X) (k : List ℕ) → AllByRecursion (λ y. by_key key x y ≡ Less) xs → IsSome (find_row key xs k) → slice_cmp nat_cmp (key x) k ≡ Less
+  after_found x [] k all h = absurd (cc)
+  after_found x (y ∷ ys) k all h = told (is_key (key y) k) refl h (after_found x ys k all.1)
+    where
+      told : (b : Bool) → is_key (key y) k ≡ b → IsSome (cond b (Some y) (find_row key ys k)) → (IsSome (find_row key ys k) → slice_cmp nat_cmp (key x) k ≡ Less) → slice_cmp nat_cmp (key x) k ≡ Less
+      told true e h more = subst (λ (l : List ℕ). slice_cmp nat_cmp (key x) l ≡ Less) (is_key-true (key y) k e) all.0
+      told false e h more = more h
+
+  goes_first : (new : X) (xs : List X) → AllByRecursion (λ y. is_before (key new) (key y) ≡ true) xs → with_row key xs new ≡ new ∷ xs
+  goes_first new [] all = refl
+  goes_first new (y ∷ ys) all = ap (λ b. cond b (new ∷ y ∷ ys) (y ∷ with_row key ys new)) all.0
+
+  -- a row in place of the one that has its key
+  pub replaced_is : (xs : List X) (new : X) → IsAscending (λ a b. by_key key a b ≡ Less) xs → IsSome (find_row key xs (key new)) → update_where (λ x. is_key (key x) (key new)) (λ x. new) xs ≡ put_row key xs new
+  replaced_is [] new up h = absurd (cc)
+  replaced_is (x ∷ xs) new up h = told (is_key (key x) (key new)) refl h (replaced_is xs new up.1)
+    where
+      others : List X
+      others = without_rows key (λ k. is_key k (key new)) xs
+
+      told : (b : Bool) → is_key (key x) (key new) ≡ b → IsSome (cond b (Some x) (find_row key xs (key new)))
+          → (IsSome (find_row key xs (key new)) → update_where (λ x. is_key (key x) (key new)) (λ x. new) xs ≡ put_row key xs new)
+          → (cond b new x ∷ update_where (λ x. is_key (key x) (key new)) (λ x. new) xs) ≡ with_row key (cond (not b) (x ∷ others) others) new
+      told true e h more =
+          let none = later_keys x xs (key new) e up.0 in
+          let left : others ≡ xs = filter_all (λ x. not (is_key (key x) (key new))) xs (all_weaker (λ x. is_key (key x) (key new) ≡ false) (λ x. not (is_key (key x) (key new)) ≡ true) (λ x no. ap not no) xs none) in
+          let ahead : AllByRecursion (λ y. is_before (key new) (key y) ≡ true) xs = all_weaker (λ y. by_key key x y ≡ Less) (λ y. is_before (key new) (key y) ≡ true)
+          (λ y less. before_is (key new) (key y) ∙ ap is_lt (subst (λ (k : List ℕ). slice_cmp nat_cmp k (key y) ≡ Less) (is_key-true (key x) (key new) e) less)) xs up.0 in
+          ap (λ l. new ∷ l) (none_replaced (λ x. is_key (key x) (key new)) (λ x. new) xs none)
+          ∙ sym (goes_first new xs ahead) ∙ ap (λ l. with_row key l new) (sym left)
+      told false e h more =
+          let less = after_found x xs (key new) up.0 h in
+          let behind : is_before (key new) (key x) ≡ false = before_is (key new) (key x) ∙ ap is_lt (nat_list_cmp_total.antisymm (key new) (key x) ∙ ap ordering_reverse less) in
+          ap (λ l. x ∷ l) (more h) ∙ sym (ap (λ b. cond b (new ∷ x ∷ others) (x ∷ with_row key others new)) behind)
+
+  -- an update of the row of a key to a row that has it
+  pub becomes : (xs : List X) (new : X) (f : X → X) → ((x : X) → is_key (key x) (key new) ≡ true → f x ≡ new) → IsAscending (λ a b. by_key key a b ≡ Less) xs → update_where (λ x. is_key (key x) (key new)) f xs ≡ replaced key new xs
+  becomes xs new f to up = each_is xs ∙ told (find_row key xs (key new)) refl
+    where
+      each_is : (xs : List X) → update_where (λ x. is_key (key x) (key new)) f xs ≡ update_where (λ x. is_key (key x) (key new)) (λ x. new) xs
+      each_is [] = refl
+      each_is (x ∷ xs) = ap₂ (λ a l. a ∷ l) (here (is_key (key x) (key new)) refl) (each_is xs)
+        where
+          here : (b : Bool) → is_key (key x) (key new) ≡ b → cond b (f x) x ≡ cond b new x
+          here true e = to x e
+          here false e = refl
+
+      told : (o : Option X) → find_row key xs (key new) ≡ o → update_where (λ x. is_key (key x) (key new)) (λ x. new) xs ≡ cond (is_some (find_row key xs (key new))) (put_row key xs new) xs
+      told (Some x) e = replaced_is xs new up (subst IsSome (sym e) refl) ∙ sym (ap (λ o. cond (is_some o) (put_row key xs new) xs) e)
+      told None e = none_replaced (λ x. is_key (key x) (key new)) (λ x. new) xs (none_of_key xs (key new) e) ∙ sym (ap (λ o. cond (is_some o) (put_row key xs new) xs) e)

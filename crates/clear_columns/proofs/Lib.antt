@@ -1,5 +1,11 @@
 pub mod AnswerLemmas
 pub mod ColumnLemmas
+pub mod HeldLemmas
 pub mod KeyLemmas
+pub mod KeyedTable
+pub mod ListLemmas
+pub mod NumberedTable
 pub mod ReadingLemmas
+pub mod Says
 pub mod StoredLemmas
+pub mod Words

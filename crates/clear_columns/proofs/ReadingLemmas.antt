@@ -1,6 +1,7 @@
 -- Readers: what is still to come after each row.
 use Rattle.std.proofs.Common.{◌≡◌, ℕ, false, List, [], ◌∷◌, ◌++◌, Result, Ok, Err, OnErr, map, refl, sym, ap, subst, ◌∙◌, append_assoc, inl}
 use Rattle.std.proofs.lemmas.List.{map-append}
+use Rattle.std.specs.Prelude.{IfOk}
 use Rattle.sqlite.proofs.Callers.{IsPlain, begins_as, begun_plain, command_of, given_begin, never_commits, reads_as}
 use Rattle.sqlite.proofs.StateLemmas.{survives_weaker}
 use Rattle.sqlite.specs.Command.TheVariants.{Select}
@@ -10,7 +11,7 @@ use Rattle.sqlite.specs.Held.{Held, state}
 use Rattle.sqlite.specs.Listing.{understood, reads_listing}
 use Rattle.sqlite.specs.Order.{Row}
 use Rattle.sqlite.specs.Schema.{Schema}
-use Rattle.sqlite.specs.State.{CommitsShowing, FailsToQuery, IsUnchanged, Shown, State, Survives}
+use Rattle.sqlite.specs.State.{CommitsShowing, FailsToQuery, HasCleanDisk, IsUnchanged, Shown, State, Survives}
 use Rattle.sqlite.specs.Store.{Ghosts}
 use Rattle.sqlite.specs.Term.{Term}
 use Rattle.sqlite.specs.declared.error.Error.{Error}
@@ -22,7 +23,10 @@ use Rattle.clear_book.specs.declared.rules.StoreCause.TheVariants.{Constraint}
 use Rattle.clear_schema.proofs.Causes.{query_broke}
 use Rattle.clear_schema.specs.Faults.{fault_of}
 use Rattle.clear_schema.specs.declared.fault.Fault.TheVariants.{Store}
-use Rattle.clear_columns.specs.Reading.{AnswersJust, HasToGive, IsLeft}
+use Rattle.clear_schema.specs.Frame.{AnswersJust}
+use Rattle.clear_book.specs.Tables.{Tables}
+use Rattle.clear_schema.specs.Held.{HasTables}
+use Rattle.clear_columns.specs.Reading.{Begun, HasSomeTables, HasToGive, IsLeft, ReadsOn}
 
 -- a query breaks no rule
 pub asks_only : (sql : List ℕ) (params : Row) (old new : State) (e : Error) → IsPlain (understood old.now.schema sql) → FailsToQuery sql params old new e → fault_of e ≡ Store Constraint → ⊥
@@ -35,13 +39,13 @@ pub commits_nothing : (sql : List ℕ) (params : Row) (old new : State) → IsPl
 commits_nothing sql params old new plain = survives_weaker old new _ _ (λ _ db. never_commits sql params old db plain)
 
 -- where it does not begin, it leaves all that was committed
-pub left : {S A : Type 0} (g : Ghosts S) (sql : List ℕ) (params : Row) (old new : Held S) (result : Result A Error) → OnErr result (IsRefused g sql params old result new) → OnErr result (IsPlain (understood old.schema sql) → IsLeft g old result new)
+pub left : {S A : Type 0} (g : Ghosts S) (sql : List ℕ) (params : Row) (old new : Held S) (result : Result A Error) → OnErr result (IsRefused g sql params old result new) → OnErr result (IsLeft g old (IsPlain (understood old.schema sql)) result new)
 left g sql params old new (Ok x) refused = tt
-left g sql params old new (Err e) refused = λ plain. record {
-  cause = λ clean told. asks_only sql params (state g old) (state g new) e plain (refused.err clean) told;
-  kept = λ clean. query_keeps sql params (state g old) (state g new) e (inl (refused.err clean));
+left g sql params old new (Err e) refused = record {
+  cause = λ plain clean told. asks_only sql params (state g old) (state g new) e plain (refused.err clean) told;
+  kept = λ plain clean. query_keeps sql params (state g old) (state g new) e (inl (refused.err clean));
   mode = refused.mode;
-  survives = commits_nothing sql params (state g old) (state g new) plain refused.survives;
+  survives = λ plain. commits_nothing sql params (state g old) (state g new) plain refused.survives;
 }
 
 -- a query over one table answers what its program does
@@ -106,3 +110,42 @@ module _ {X : Type 0} (show : X → Row) where
     -- where none came, none was to come
     pub gives_none : (rest : List X) (to_give : HasToGive g show old rest) → Shown to_give.sql to_give.params (state g old) (state g new) (map show to_give.given) → rest ≡ []
     gives_none rest to_give shown = ends_next to_give.given rest (to_give.all.whole old new _ refl shown)
+
+  -- a query that has begun
+  pub begins : {S A : Type 0} (g : Ghosts S) (sql : List ℕ) (params : Row) (old : Held S) (into : A → Held S) (made : Result A Error) → IfOk made (λ rows. HasCleanDisk (state g (into rows)) → HasBegun g sql params old (into rows)) → IfOk made (λ rows. old.in_transaction ≡ false → (into rows).in_transaction ≡ false)
+      → IfOk made (λ rows. Survives (state g old) (state g (into rows)) (CommitsShowing sql params (state g old)))
+      → IfOk made (λ rows. Begun g old (into rows) (IsPlain (understood old.schema sql)) (λ all. AnswersJust g sql params (state g old).now (map show all)) show (λ all. all))
+  begins g sql params old into (Ok rows) start mode kept = record {
+    begun = λ clean all just. (begun g old (into rows) sql params all just (start clean)).0;
+    same = λ clean plain. (begun_plain g sql params old (into rows) plain (start clean)).1;
+    mode = mode;
+    survives = λ plain. commits_nothing sql params (state g old) (state g (into rows)) plain kept;
+  }
+  begins g sql params old into (Err e) start mode kept = tt
+
+-- ---- readers of the tables that the database has
+
+module _ {S : Type 0} (g : Ghosts S) (old : Held S) (sql : List ℕ) (params : Row) where
+  -- a query of which it is known what it answers only asks
+  asks : (rows : Tables → List Row) → ((t : Tables) → HasTables t (state g old).now → AnswersJust g sql params (state g old).now (rows t)) → HasSomeTables (state g old).now → IsPlain (understood old.schema sql)
+  asks rows just has = (just has.0 has.1).plain
+
+  pub left_on : {A : Type 0} (new : Held S) (rows : Tables → List Row) → ((t : Tables) → HasTables t (state g old).now → AnswersJust g sql params (state g old).now (rows t)) → (made : Result A Error) → OnErr made (IsLeft g old (IsPlain (understood old.schema sql)) made new)
+      → OnErr made (IsLeft g old (HasSomeTables (state g old).now) made new)
+  left_on new rows just (Ok x) left = tt
+  left_on new rows just (Err e) left = record {
+    cause = λ has. left.cause (asks rows just has);
+    kept = λ has. left.kept (asks rows just has);
+    mode = left.mode;
+    survives = λ has. left.survives (asks rows just has);
+  }
+
+  pub reads_on : {A X : Type 0} (into : A → Held S) (show : X → Row) (rows : Tables → List X) → ((t : Tables) → HasTables t (state g old).now → AnswersJust g sql params (state g old).now (map show (rows t))) → (made : Result A Error)
+      → IfOk made (λ r. Begun g old (into r) (IsPlain (understood old.schema sql)) (λ all. AnswersJust g sql params (state g old).now (map show all)) show (λ all. all)) → IfOk made (λ r. ReadsOn g old (into r) show rows)
+  reads_on into show rows just (Err e) begun = tt
+  reads_on into show rows just (Ok x) begun = record {
+    begun = λ clean t has. begun.begun clean (rows t) (just t has);
+    same = λ clean has. begun.same clean (asks (λ t. map show (rows t)) just has);
+    mode = begun.mode;
+    survives = λ has. begun.survives (asks (λ t. map show (rows t)) just has);
+  }

@@ -1,5 +1,5 @@
 -- What columns make of the ledger's values, and how these compare.
-use Rattle.std.proofs.Common.{◌≡◌, pos, ℕ, true, ◌==◌, Option, Some, None, codes, refl, arith, ◌∙◌, int_eq, int_cmp, nat_cmp}
+use Rattle.std.proofs.Common.{◌≡◌, ℤ, pos, ℕ, true, ◌==◌, Option, Some, None, codes, refl, arith, ◌∙◌, int_eq, int_cmp, nat_cmp}
 use Rattle.std.proofs.lemmas.Bool.Decides.{nat_tests}
 use Rattle.std.proofs.lemmas.Int.{ints}
 use Rattle.sqlite.specs.Cast.{cast}
@@ -50,8 +50,13 @@ same_numbers m n = grind (arith, ints, nat_tests)
 pub number_order : (m n : ℕ) → int_cmp (pos m) (pos n) ≡ nat_cmp m n
 number_order m n = grind (arith, ints, nat_tests)
 
-pub equal_numbers : (m n : ℕ) → is_true (binary (Compare Eq Binary) (number m) (number n)) ≡ (m == n)
-equal_numbers m n = equal_ints (pos m) (pos n) ∙ same_numbers m n
+-- numbers as SQL holds them are equal and ordered as they are
+pub record KeepsOrder (held : ℕ → ℤ) : Type 0 where
+  pub same : (m n : ℕ) → int_eq (held m) (held n) ≡ (m == n)
+  pub order : (m n : ℕ) → int_cmp (held m) (held n) ≡ nat_cmp m n
+
+pub numbers_keep : KeepsOrder (λ n. pos n)
+numbers_keep = record { same = same_numbers; order = number_order }
 
 -- months are equal and ordered as they are stored
 same_months : (m n : ℕ) → int_eq (month_number m) (month_number n) ≡ (m == n)
@@ -59,6 +64,12 @@ same_months m n = grind (arith, ints, nat_tests)
 
 month_order : (m n : ℕ) → int_cmp (month_number m) (month_number n) ≡ nat_cmp m n
 month_order m n = grind (arith, ints, nat_tests)
+
+pub months_keep : KeepsOrder month_number
+months_keep = record { same = same_months; order = month_order }
+
+pub equal_numbers : (m n : ℕ) → is_true (binary (Compare Eq Binary) (number m) (number n)) ≡ (m == n)
+equal_numbers m n = equal_ints (pos m) (pos n) ∙ same_numbers m n
 
 pub equal_months : (m n : ℕ) → is_true (binary (Compare Eq Binary) (month m) (month n)) ≡ (m == n)
 equal_months m n = equal_ints (month_number m) (month_number n) ∙ same_months m n

@@ -1,1 +1,2 @@
+pub mod Keys
 pub mod Reading

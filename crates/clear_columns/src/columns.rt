@@ -2,7 +2,7 @@
 ghost use Rattle.std.specs.Prelude.{◌≡◌, ◌≢◌, ◌<◌, ◌≤◌, ◌+◌, ◌^◌, ◌↔◌, ℕ, List, Option, length};
 ghost use Rattle.std.specs.Prelude.{IsTrue, IfOk, IfErr, IfSome, IsSome};
 ghost use Rattle.sqlite_value.specs.Order.{column};
-ghost use Rattle.sqlite_value.specs.declared.value.Value.TheVariants.{Text};
+ghost use Rattle.sqlite_value.specs.declared.value.Value.TheVariants.{Blob, Text};
 ghost use Rattle.clear_money.specs.Calendar.{IsDay, IsMonth};
 ghost use Rattle.clear_money.specs.Numbers.{IsAmount, IsEmployerNo, IsWorkerNo};
 ghost use Rattle.clear_money.specs.Rates.{IsDayOfEachMonth};
@@ -430,4 +430,14 @@ fn month_from(number: u64) -> Option<Month>
     let year = 2_000 + number / 12;
     let month = 1 + number % 12;
     Month::new(year as u16, month as u16)
+}
+
+/// The bytes in a column.
+pub fn bytes_at(row: &Row, at: usize) -> Result<Vec<u8>, Fault>
+    ensures read { IfOk result (λ bytes. column row.now at ≡ Blob bytes.items) }
+    ensures cause { IfErr result (λ fault. fault ≢ Fault.Store StoreCause.Constraint) }
+    ensures range { IfErr result (λ fault. fault ≡ Fault.Store StoreCause.Row → at < length row.now
+        → (bytes : List ℕ) → column row.now at ≢ Blob bytes) }
+{
+    value_at(row, at)
 }

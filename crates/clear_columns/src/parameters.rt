@@ -2,9 +2,12 @@
 ghost use Rattle.std.specs.Prelude.{◌≡◌};
 ghost use Rattle.sqlite.specs.Values.{bound_value};
 ghost use Rattle.sqlite_value.specs.Value.{owned};
+ghost use Rattle.sqlite_value.specs.declared.value.Value.TheVariants.{Blob};
 ghost use Rattle.clear_schema.specs.Values as stored;
 
 use clear_bank::lines::Purpose;
+use clear_book::calls::Caller;
+use clear_book::numbers::RequestNo;
 use clear_money::days::Day;
 use clear_money::months::Month;
 use clear_money::numbers::{Amount, EmployerNo, WorkerNo};
@@ -77,4 +80,28 @@ pub fn maybe_day(value: Option<Day>) -> ValueRef<'static>
         Some(day) => number(u64::from(day.number())),
         None => ValueRef::Null,
     }
+}
+
+/// Who calls: a firm as its number, and a clerk as 0.
+pub fn caller(value: Caller) -> ValueRef<'static>
+    ensures { bound_value (owned result) ≡ stored.number (stored.caller_number value) }
+{
+    match value {
+        Caller::Firm(firm) => employer(firm),
+        Caller::Clerk => number(0),
+    }
+}
+
+/// The number of a request.
+pub fn request_no(value: RequestNo) -> ValueRef<'static>
+    ensures { bound_value (owned result) ≡ stored.number value }
+{
+    number(value.number())
+}
+
+/// Bytes.
+pub fn bytes(value: &[u8]) -> ValueRef<'_>
+    ensures { bound_value (owned result) ≡ Blob value.now }
+{
+    ValueRef::Blob(value)
 }

@@ -1,15 +1,15 @@
 //! Rows of the office's types out of the rows of an answer.
 ghost use Rattle.std.specs.Borrow.{sem, RestsIfErr};
 ghost use Rattle.std.specs.List.{AllByRecursion};
-ghost use Rattle.std.specs.Prelude.{◌≡◌, ◌≢◌, ◌∷◌, false, List, Some, map, slice_get};
-ghost use Rattle.std.specs.Prelude.{IfErr, IfOk, IfSome, OnOk};
+ghost use Rattle.std.specs.Prelude.{◌≡◌, ◌≢◌, List, Some, map, slice_get};
+ghost use Rattle.std.specs.Prelude.{IfErr, IfOk, IfSome};
 ghost use Rattle.sqlite.specs.Given.{IsPlain};
 ghost use Rattle.sqlite.specs.Held.{state};
 ghost use Rattle.sqlite.specs.Listing.{understood};
-ghost use Rattle.sqlite.specs.State.{HasCleanDisk, IsUnchanged, KeepsCommit, Survives};
 ghost use Rattle.sqlite.specs.Values.{bound};
 ghost use Rattle.sqlite.specs.contracts.connection.Connection.{the_row};
-ghost use Rattle.clear_columns.specs.Reading.{AnswersJust, Gives, HasToGive, IsLeft};
+ghost use Rattle.clear_schema.specs.Frame.{AnswersJust};
+ghost use Rattle.clear_columns.specs.Reading.{Advances, Begun, IsLeft};
 
 use clear_book::rules::StoreCause;
 use clear_schema::fault::{Fault, fault_of};
@@ -91,20 +91,12 @@ pub fn begin_rows<'a, T: StoredTable, S: Alter>(
 ) -> Result<Rows<'a, S>, Error>
     ensures* refused { sem 𝓛 (RestsIfErr (the_row S.row S.Store) conn.entry
         (λ rows. rows.conn.ghost_name) result
-        (λ left. IsPlain (understood conn.old.schema sql.now)
-        → IsLeft S.Store conn.old result left)) }
+        (IsLeft S.Store conn.old (IsPlain (understood conn.old.schema sql.now)) result)) }
     ensures same_reference { IfOk result (λ rows. rows.conn.ghost_name ≡ conn.entry.ghost_name) }
-    ensures begun { IfOk result (λ rows. HasCleanDisk (state S.Store rows.conn.now)
-        → (all : List T.Row) → AnswersJust S.Store sql.now (bound values.now)
-        (state S.Store conn.old).now (map T.shown all)
-        → HasToGive S.Store T.shown rows.conn.now all) }
-    ensures same { IfOk result (λ rows. HasCleanDisk (state S.Store rows.conn.now)
-        → IsPlain (understood conn.old.schema sql.now)
-        → IsUnchanged (state S.Store conn.old) (state S.Store rows.conn.now)) }
-    ensures mode { IfOk result (λ rows. conn.old.in_transaction ≡ false
-        → rows.conn.now.in_transaction ≡ false) }
-    ensures survives { IfOk result (λ rows. IsPlain (understood conn.old.schema sql.now)
-        → Survives (state S.Store conn.old) (state S.Store rows.conn.now) (λ _. ⊥)) }
+    ensures begun { IfOk result (λ rows. Begun S.Store conn.old rows.conn.now
+        (IsPlain (understood conn.old.schema sql.now))
+        (λ all. AnswersJust S.Store sql.now (bound values.now)
+        (state S.Store conn.old).now (map T.shown all)) T.shown (λ all. all)) }
 {
     conn.query(sql, values)
 }
@@ -112,26 +104,8 @@ pub fn begin_rows<'a, T: StoredTable, S: Alter>(
 /// The next row, and none past the last. A row that is out of its range is passed over.
 pub fn next_row<T: StoredTable, S: Alter>(rows: &mut Rows<'_, S>) -> Result<Option<T::Row>, Fault>
     ensures same_reference { rows.new.conn.ghost_name ≡ rows.old.conn.ghost_name }
-    ensures gives { HasCleanDisk (state S.Store rows.new.conn.now)
-        → (rest : List T.Row) → HasToGive S.Store T.shown rows.old.conn.now rest
-        → IfOk result (Gives S.Store T.shown rows.new.conn.now rest) }
-    ensures good { IfOk result (λ found. IfSome found T.is_in_range) }
-    ensures cause { HasCleanDisk (state S.Store rows.new.conn.now)
-        → (rest : List T.Row) → HasToGive S.Store T.shown rows.old.conn.now rest
-        → IfErr result (λ fault. fault ≢ Fault.Store StoreCause.Constraint) }
-    ensures range { HasCleanDisk (state S.Store rows.new.conn.now)
-        → (rest : List T.Row) → HasToGive S.Store T.shown rows.old.conn.now rest
-        → IfErr result (λ fault. fault ≡ Fault.Store StoreCause.Row
-        → (x : T.Row) × (more : List T.Row) × (rest ≡ x ∷ more) × ¬ T.is_in_range x) }
-    ensures same { HasCleanDisk (state S.Store rows.new.conn.now)
-        → OnOk result (IsUnchanged (state S.Store rows.old.conn.now)
-        (state S.Store rows.new.conn.now)) }
-    ensures kept { HasCleanDisk (state S.Store rows.new.conn.now)
-        → KeepsCommit (state S.Store rows.old.conn.now) (state S.Store rows.new.conn.now) }
-    ensures mode { rows.old.conn.now.in_transaction ≡ false
-        → rows.new.conn.now.in_transaction ≡ false }
-    ensures survives { Survives (state S.Store rows.old.conn.now) (state S.Store rows.new.conn.now)
-        (λ _. ⊥) }
+    ensures advances { Advances S.Store rows.old.conn.now rows.new.conn.now T.shown T.is_in_range
+        result }
 {
     match rows.advance() {
         Ok(()) => {}

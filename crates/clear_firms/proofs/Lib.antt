@@ -1,12 +1,5 @@
-pub mod CountsLemmas
-pub mod EmployerLemmas
-pub mod EmployerTexts
-pub mod HeldLemmas
-pub mod KeyLemmas
-pub mod ListLemmas
-pub mod NumberedLemmas
-pub mod RateLemmas
-pub mod ReportLemmas
-pub mod ReportTexts
-pub mod WageLemmas
-pub mod WageTexts
+pub mod CountsTable
+pub mod EmployerTable
+pub mod RateTable
+pub mod ReportTable
+pub mod WageTable

@@ -1,2 +1,4 @@
 pub mod Counts
 pub mod Shown
+pub use Rattle.clear_columns.specs.Keys
+pub use Rattle.clear_schema.specs.Frame

@@ -1,11 +1,8 @@
 //! The counts of the office: the one row of `meta`.
-ghost use Rattle.std.specs.Prelude.{◌≡◌, ◌≢◌, ◌≤◌, [], ◌∷◌, Err, IfErr, IfOk, IsTrue, OnOk};
-ghost use Rattle.sqlite.specs.Held.{state};
-ghost use Rattle.sqlite.specs.State.{HasCleanDisk, IsUnchanged, KeepsCommit, Survives};
+ghost use Rattle.std.specs.Prelude.{◌≡◌, ◌≢◌, ◌≤◌, [], ◌∷◌, false, IfErr, IfOk};
 ghost use Rattle.sqlite.specs.Values.{bound};
 ghost use Rattle.clear_book.specs.Limits.{most_entries, most_serials};
-ghost use Rattle.clear_book.specs.Tables.{Tables};
-ghost use Rattle.clear_schema.specs.Held.{HasTables};
+ghost use Rattle.clear_schema.specs.Frame.{LooksUp, Writes};
 ghost use Rattle.clear_schema.specs.Values.{Counts as Stored, counts_of, with_counts};
 ghost use Rattle.clear_firms.specs.Counts.{AreCounts, as_stored, counts_given};
 
@@ -35,25 +32,9 @@ pub struct Counts {
 /// The counts that stand.
 pub fn find_counts<S: Alter>(tx: &mut Transaction<'_, S>) -> Result<Counts, Fault>
     ensures same_reference { tx.new.conn.ghost_name ≡ tx.old.conn.ghost_name }
-    ensures found { HasCleanDisk (state S.Store tx.new.conn.now)
-        → (t : Tables) → HasTables t (state S.Store tx.old.conn.now).now
-        → IfOk result (λ found. as_stored found ≡ counts_of t) }
-    ensures good { IfOk result (λ found. AreCounts (as_stored found)) }
-    ensures cause { HasCleanDisk (state S.Store tx.new.conn.now)
-        → (t : Tables) → HasTables t (state S.Store tx.old.conn.now).now
-        → IfErr result (λ fault. fault ≢ Fault.Store StoreCause.Constraint) }
-    ensures range { HasCleanDisk (state S.Store tx.new.conn.now)
-        → (t : Tables) → HasTables t (state S.Store tx.old.conn.now).now
-        → IfErr result (λ fault. fault ≡ Fault.Store StoreCause.Row → ¬ AreCounts (counts_of t)) }
-    ensures same { HasCleanDisk (state S.Store tx.new.conn.now)
-        → (t : Tables) → HasTables t (state S.Store tx.old.conn.now).now
-        → OnOk result (IsUnchanged (state S.Store tx.old.conn.now)
-        (state S.Store tx.new.conn.now)) }
-    ensures kept { HasCleanDisk (state S.Store tx.new.conn.now)
-        → (t : Tables) → HasTables t (state S.Store tx.old.conn.now).now
-        → KeepsCommit (state S.Store tx.old.conn.now) (state S.Store tx.new.conn.now) }
-    ensures survives { Survives (state S.Store tx.old.conn.now) (state S.Store tx.new.conn.now)
-        (λ _. ⊥) }
+    ensures looks { LooksUp S.Store tx.old.conn.now tx.new.conn.now result
+        (λ t found. as_stored found ≡ counts_of t) (λ found. AreCounts (as_stored found))
+        (λ t. ¬ AreCounts (counts_of t)) }
 {
     let rows = match look(
         tx,
@@ -109,24 +90,9 @@ fn read_counts(row: &Row) -> Result<Counts, Fault>
 /// serials are refused with `Fault::Store(StoreCause::Row)`, and nothing is done.
 pub fn put_counts<S: Alter>(tx: &mut Transaction<'_, S>, counts: &Counts) -> Result<(), Fault>
     ensures same_reference { tx.new.conn.ghost_name ≡ tx.old.conn.ghost_name }
-    ensures put { HasCleanDisk (state S.Store tx.new.conn.now)
-        → (t : Tables) → HasTables t (state S.Store tx.old.conn.now).now
-        → OnOk result (HasTables
-        (with_counts (as_stored counts.now) t)
-        (state S.Store tx.new.conn.now).now) }
-    ensures cause { HasCleanDisk (state S.Store tx.new.conn.now)
-        → (t : Tables) → HasTables t (state S.Store tx.old.conn.now).now
-        → IfErr result (λ fault. fault ≢ Fault.Store StoreCause.Constraint) }
-    ensures range { IfErr result (λ fault. fault ≡ Fault.Store StoreCause.Row
-        → ¬ ((counts.now.entries ≤ most_entries) × (counts.now.serial ≤ most_serials))) }
-    ensures refused { ¬ ((counts.now.entries ≤ most_entries) × (counts.now.serial ≤ most_serials))
-        → (result ≡ Err (Fault.Store StoreCause.Row)) × (tx.new.conn.now ≡ tx.old.conn.now) }
-    ensures kept { HasCleanDisk (state S.Store tx.new.conn.now)
-        → KeepsCommit (state S.Store tx.old.conn.now) (state S.Store tx.new.conn.now) }
-    ensures goes_on { HasCleanDisk (state S.Store tx.new.conn.now)
-        → OnOk result (IsTrue tx.new.conn.now.in_transaction) }
-    ensures survives { Survives (state S.Store tx.old.conn.now) (state S.Store tx.new.conn.now)
-        (λ _. ⊥) }
+    ensures writes { Writes S.Store tx.old.conn.now tx.new.conn.now result
+        (¬ ((counts.now.entries ≤ most_entries) × (counts.now.serial ≤ most_serials)))
+        (λ _. false) (λ t. with_counts (as_stored counts.now) t) }
 {
     if !is_entry_count(counts.entries) || !is_serial_count(counts.serial) {
         return Err(Fault::Store(StoreCause::Row));

@@ -1,19 +1,14 @@
 //! The table of employers.
-ghost use Rattle.std.specs.Prelude.{◌≡◌, ◌≢◌, [], ◌∷◌, None, Some};
-ghost use Rattle.std.specs.Prelude.{IfErr, IfOk, IfSome, IsSome, IsTrue, OnOk};
-ghost use Rattle.std.specs.List.{AllByRecursion};
-ghost use Rattle.sqlite.specs.Held.{state};
-ghost use Rattle.sqlite.specs.State.{HasCleanDisk, IsUnchanged, KeepsCommit, Survives};
+ghost use Rattle.std.specs.Prelude.{◌≡◌, [], ◌∷◌};
 ghost use Rattle.sqlite.specs.Values.{bound};
-ghost use Rattle.clear_book.specs.declared.rows.EmployerRow.{EmployerRow as Entry};
 ghost use Rattle.clear_book.specs.Keyed.{find_row, with_row};
 ghost use Rattle.clear_book.specs.RowRanges.{IsEmployerRow};
-ghost use Rattle.clear_book.specs.Tables.{Tables, employer_key};
-ghost use Rattle.clear_schema.specs.Held.{HasTables};
+ghost use Rattle.clear_book.specs.Tables.{employer_key};
+ghost use Rattle.clear_schema.specs.Frame.{Finds, Lists, Writes};
+ghost use Rattle.clear_columns.specs.Keys.{is_held};
 ghost use Rattle.clear_firms.specs.Shown.{employer_shown};
 
 use clear_book::rows::EmployerRow;
-use clear_book::rules::StoreCause;
 use clear_columns::columns::{employer_at, maybe_month_at, month_at, name_at};
 use clear_columns::parameters::{employer, maybe_month};
 use clear_columns::queries::{find, list};
@@ -32,23 +27,9 @@ pub fn insert_employer<S: Alter>(
     row: &EmployerRow,
 ) -> Result<(), Fault>
     ensures same_reference { tx.new.conn.ghost_name ≡ tx.old.conn.ghost_name }
-    ensures put { HasCleanDisk (state S.Store tx.new.conn.now)
-        → (t : Tables) → HasTables t (state S.Store tx.old.conn.now).now
-        → OnOk result (HasTables
-        (record t { employers = with_row employer_key t.employers row.now })
-        (state S.Store tx.new.conn.now).now
-        × (find_row employer_key t.employers (employer_key row.now) ≡ None)) }
-    ensures cause { HasCleanDisk (state S.Store tx.new.conn.now)
-        → (t : Tables) → HasTables t (state S.Store tx.old.conn.now).now
-        → IfErr result (λ fault. fault ≡ Fault.Store StoreCause.Constraint
-        → IsSome (find_row employer_key t.employers (employer_key row.now))) }
-    ensures no_row { IfErr result (λ fault. fault ≢ Fault.Store StoreCause.Row) }
-    ensures kept { HasCleanDisk (state S.Store tx.new.conn.now)
-        → KeepsCommit (state S.Store tx.old.conn.now) (state S.Store tx.new.conn.now) }
-    ensures goes_on { HasCleanDisk (state S.Store tx.new.conn.now)
-        → OnOk result (IsTrue tx.new.conn.now.in_transaction) }
-    ensures survives { Survives (state S.Store tx.old.conn.now) (state S.Store tx.new.conn.now)
-        (λ _. ⊥) }
+    ensures writes { Writes S.Store tx.old.conn.now tx.new.conn.now result ⊥
+        (λ t. is_held employer_key row.now t.employers)
+        (λ t. record t { employers = with_row employer_key t.employers row.now }) }
 {
     put(
         tx,
@@ -63,27 +44,8 @@ pub fn find_employer<S: Alter>(
     no: EmployerNo,
 ) -> Result<Option<EmployerRow>, Fault>
     ensures same_reference { tx.new.conn.ghost_name ≡ tx.old.conn.ghost_name }
-    ensures found { HasCleanDisk (state S.Store tx.new.conn.now)
-        → (t : Tables) → HasTables t (state S.Store tx.old.conn.now).now
-        → IfOk result (λ found. found ≡ find_row employer_key t.employers (no ∷ [])) }
-    ensures good { IfOk result (λ found. IfSome found IsEmployerRow) }
-    ensures cause { HasCleanDisk (state S.Store tx.new.conn.now)
-        → (t : Tables) → HasTables t (state S.Store tx.old.conn.now).now
-        → IfErr result (λ fault. fault ≢ Fault.Store StoreCause.Constraint) }
-    ensures range { HasCleanDisk (state S.Store tx.new.conn.now)
-        → (t : Tables) → HasTables t (state S.Store tx.old.conn.now).now
-        → IfErr result (λ fault. fault ≡ Fault.Store StoreCause.Row
-        → (x : Entry) × (find_row employer_key t.employers (no ∷ []) ≡ Some x)
-        × ¬ IsEmployerRow x) }
-    ensures same { HasCleanDisk (state S.Store tx.new.conn.now)
-        → (t : Tables) → HasTables t (state S.Store tx.old.conn.now).now
-        → OnOk result (IsUnchanged (state S.Store tx.old.conn.now)
-        (state S.Store tx.new.conn.now)) }
-    ensures kept { HasCleanDisk (state S.Store tx.new.conn.now)
-        → (t : Tables) → HasTables t (state S.Store tx.old.conn.now).now
-        → KeepsCommit (state S.Store tx.old.conn.now) (state S.Store tx.new.conn.now) }
-    ensures survives { Survives (state S.Store tx.old.conn.now) (state S.Store tx.new.conn.now)
-        (λ _. ⊥) }
+    ensures looks { Finds S.Store tx.old.conn.now tx.new.conn.now result IsEmployerRow
+        (λ t. find_row employer_key t.employers (no ∷ [])) }
 {
     find::<S, Employers>(
         tx,
@@ -96,26 +58,8 @@ pub fn find_employer<S: Alter>(
 /// 10,000.
 pub fn all_employers<S: Alter>(tx: &mut Transaction<'_, S>) -> Result<Vec<EmployerRow>, Fault>
     ensures same_reference { tx.new.conn.ghost_name ≡ tx.old.conn.ghost_name }
-    ensures found { HasCleanDisk (state S.Store tx.new.conn.now)
-        → (t : Tables) → HasTables t (state S.Store tx.old.conn.now).now
-        → IfOk result (λ found. found.items ≡ t.employers) }
-    ensures good { IfOk result (λ found. AllByRecursion IsEmployerRow found.items) }
-    ensures cause { HasCleanDisk (state S.Store tx.new.conn.now)
-        → (t : Tables) → HasTables t (state S.Store tx.old.conn.now).now
-        → IfErr result (λ fault. fault ≢ Fault.Store StoreCause.Constraint) }
-    ensures range { HasCleanDisk (state S.Store tx.new.conn.now)
-        → (t : Tables) → HasTables t (state S.Store tx.old.conn.now).now
-        → IfErr result (λ fault. fault ≡ Fault.Store StoreCause.Row
-        → ¬ AllByRecursion IsEmployerRow t.employers) }
-    ensures same { HasCleanDisk (state S.Store tx.new.conn.now)
-        → (t : Tables) → HasTables t (state S.Store tx.old.conn.now).now
-        → OnOk result (IsUnchanged (state S.Store tx.old.conn.now)
-        (state S.Store tx.new.conn.now)) }
-    ensures kept { HasCleanDisk (state S.Store tx.new.conn.now)
-        → (t : Tables) → HasTables t (state S.Store tx.old.conn.now).now
-        → KeepsCommit (state S.Store tx.old.conn.now) (state S.Store tx.new.conn.now) }
-    ensures survives { Survives (state S.Store tx.old.conn.now) (state S.Store tx.new.conn.now)
-        (λ _. ⊥) }
+    ensures looks { Lists S.Store tx.old.conn.now tx.new.conn.now result IsEmployerRow
+        (λ t. t.employers) }
 {
     list::<S, Employers>(
         tx,

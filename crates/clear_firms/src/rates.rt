@@ -1,12 +1,8 @@
 //! The table of rates.
-ghost use Rattle.std.specs.Prelude.{◌≡◌, ◌≢◌, IfErr, IfOk, OnOk};
-ghost use Rattle.std.specs.List.{AllByRecursion};
-ghost use Rattle.sqlite.specs.Held.{state};
-ghost use Rattle.sqlite.specs.State.{HasCleanDisk, IsUnchanged, KeepsCommit, Survives};
+ghost use Rattle.std.specs.Prelude.{◌≡◌, ◌≢◌, IfErr, IfOk};
 ghost use Rattle.clear_money.specs.Rates.{IsRate};
 ghost use Rattle.clear_book.specs.Machine.{AreRates};
-ghost use Rattle.clear_book.specs.Tables.{Tables};
-ghost use Rattle.clear_schema.specs.Held.{HasTables};
+ghost use Rattle.clear_schema.specs.Frame.{Lists, LooksUp};
 
 use clear_book::rules::StoreCause;
 use clear_columns::columns::{month_at, month_day_at, rate_at};
@@ -20,26 +16,8 @@ use std::alloc::Global;
 /// All rates, the first months rising.
 pub fn all_rates<S: Alter>(tx: &mut Transaction<'_, S>) -> Result<Vec<RateRow>, Fault>
     ensures same_reference { tx.new.conn.ghost_name ≡ tx.old.conn.ghost_name }
-    ensures found { HasCleanDisk (state S.Store tx.new.conn.now)
-        → (t : Tables) → HasTables t (state S.Store tx.old.conn.now).now
-        → IfOk result (λ found. found.items ≡ t.rates) }
-    ensures good { IfOk result (λ found. AllByRecursion IsRate found.items) }
-    ensures cause { HasCleanDisk (state S.Store tx.new.conn.now)
-        → (t : Tables) → HasTables t (state S.Store tx.old.conn.now).now
-        → IfErr result (λ fault. fault ≢ Fault.Store StoreCause.Constraint) }
-    ensures range { HasCleanDisk (state S.Store tx.new.conn.now)
-        → (t : Tables) → HasTables t (state S.Store tx.old.conn.now).now
-        → IfErr result (λ fault. fault ≡ Fault.Store StoreCause.Row
-        → ¬ AllByRecursion IsRate t.rates) }
-    ensures same { HasCleanDisk (state S.Store tx.new.conn.now)
-        → (t : Tables) → HasTables t (state S.Store tx.old.conn.now).now
-        → OnOk result (IsUnchanged (state S.Store tx.old.conn.now)
-        (state S.Store tx.new.conn.now)) }
-    ensures kept { HasCleanDisk (state S.Store tx.new.conn.now)
-        → (t : Tables) → HasTables t (state S.Store tx.old.conn.now).now
-        → KeepsCommit (state S.Store tx.old.conn.now) (state S.Store tx.new.conn.now) }
-    ensures survives { Survives (state S.Store tx.old.conn.now) (state S.Store tx.new.conn.now)
-        (λ _. ⊥) }
+    ensures looks { Lists S.Store tx.old.conn.now tx.new.conn.now result IsRate
+        (λ t. t.rates) }
 {
     list::<S, Rates>(
         tx,
@@ -53,24 +31,8 @@ pub fn all_rates<S: Alter>(tx: &mut Transaction<'_, S>) -> Result<Vec<RateRow>, 
 /// such table are a fault of the row.
 pub fn rate_table<S: Alter>(tx: &mut Transaction<'_, S>) -> Result<RateTable, Fault>
     ensures same_reference { tx.new.conn.ghost_name ≡ tx.old.conn.ghost_name }
-    ensures found { HasCleanDisk (state S.Store tx.new.conn.now)
-        → (t : Tables) → HasTables t (state S.Store tx.old.conn.now).now
-        → IfOk result (λ table. table ≡ t.rates) }
-    ensures cause { HasCleanDisk (state S.Store tx.new.conn.now)
-        → (t : Tables) → HasTables t (state S.Store tx.old.conn.now).now
-        → IfErr result (λ fault. fault ≢ Fault.Store StoreCause.Constraint) }
-    ensures range { HasCleanDisk (state S.Store tx.new.conn.now)
-        → (t : Tables) → HasTables t (state S.Store tx.old.conn.now).now
-        → IfErr result (λ fault. fault ≡ Fault.Store StoreCause.Row → ¬ AreRates t.rates) }
-    ensures same { HasCleanDisk (state S.Store tx.new.conn.now)
-        → (t : Tables) → HasTables t (state S.Store tx.old.conn.now).now
-        → OnOk result (IsUnchanged (state S.Store tx.old.conn.now)
-        (state S.Store tx.new.conn.now)) }
-    ensures kept { HasCleanDisk (state S.Store tx.new.conn.now)
-        → (t : Tables) → HasTables t (state S.Store tx.old.conn.now).now
-        → KeepsCommit (state S.Store tx.old.conn.now) (state S.Store tx.new.conn.now) }
-    ensures survives { Survives (state S.Store tx.old.conn.now) (state S.Store tx.new.conn.now)
-        (λ _. ⊥) }
+    ensures looks { LooksUp S.Store tx.old.conn.now tx.new.conn.now result
+        (λ t table. table ≡ t.rates) AreRates (λ t. ¬ AreRates t.rates) }
 {
     let rows = match all_rates(tx) {
         Ok(rows) => rows,

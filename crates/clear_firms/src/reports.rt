@@ -1,17 +1,13 @@
 //! The table of reports: the version of each month's latest report.
-ghost use Rattle.std.specs.Prelude.{◌≡◌, ◌≢◌, ◌≤◌, ◌==◌, [], ◌∷◌, None, Some, Err, filter};
-ghost use Rattle.std.specs.List.{AllByRecursion};
-ghost use Rattle.std.specs.Prelude.{IfErr, IfOk, IfSome, IsSome, IsTrue, OnOk};
-ghost use Rattle.sqlite.specs.Held.{state};
-ghost use Rattle.sqlite.specs.State.{HasCleanDisk, IsUnchanged, KeepsCommit, Survives};
+ghost use Rattle.std.specs.Prelude.{◌≡◌, ◌≤◌, ◌==◌, [], ◌∷◌, false, filter};
 ghost use Rattle.sqlite.specs.Values.{bound};
-ghost use Rattle.clear_book.specs.declared.rows.ReportRow.{ReportRow as Entry};
-ghost use Rattle.clear_book.specs.Keyed.{find_row, put_row, with_row};
+ghost use Rattle.clear_book.specs.Keyed.{find_row, with_row};
 ghost use Rattle.clear_book.specs.Limits.{most_versions};
 ghost use Rattle.clear_book.specs.RowRanges.{IsReportRow};
-ghost use Rattle.clear_book.specs.Tables.{Tables, report_key};
-ghost use Rattle.clear_schema.specs.Held.{HasTables};
-ghost use Rattle.clear_firms.specs.Shown.{month_given, report_shown};
+ghost use Rattle.clear_book.specs.Tables.{report_key};
+ghost use Rattle.clear_schema.specs.Frame.{Finds, Lists, Writes};
+ghost use Rattle.clear_columns.specs.Keys.{is_held, replaced};
+ghost use Rattle.clear_firms.specs.Shown.{report_shown};
 
 use crate::parameters::month_values;
 use clear_book::rows::ReportRow;
@@ -33,26 +29,10 @@ use sqlite_value::value::ValueRef;
 /// `Fault::Store(StoreCause::Row)`, and nothing is done.
 pub fn insert_report<S: Alter>(tx: &mut Transaction<'_, S>, row: ReportRow) -> Result<(), Fault>
     ensures same_reference { tx.new.conn.ghost_name ≡ tx.old.conn.ghost_name }
-    ensures put { HasCleanDisk (state S.Store tx.new.conn.now)
-        → (t : Tables) → HasTables t (state S.Store tx.old.conn.now).now
-        → OnOk result (HasTables
-        (record t { reports = with_row report_key t.reports row })
-        (state S.Store tx.new.conn.now).now
-        × (find_row report_key t.reports (report_key row) ≡ None)) }
-    ensures cause { HasCleanDisk (state S.Store tx.new.conn.now)
-        → (t : Tables) → HasTables t (state S.Store tx.old.conn.now).now
-        → IfErr result (λ fault. fault ≡ Fault.Store StoreCause.Constraint
-        → IsSome (find_row report_key t.reports (report_key row))) }
-    ensures range { IfErr result (λ fault. fault ≡ Fault.Store StoreCause.Row
-        → ¬ ((1 ≤ row.version) × (row.version ≤ most_versions))) }
-    ensures refused { ¬ ((1 ≤ row.version) × (row.version ≤ most_versions))
-        → (result ≡ Err (Fault.Store StoreCause.Row)) × (tx.new.conn.now ≡ tx.old.conn.now) }
-    ensures kept { HasCleanDisk (state S.Store tx.new.conn.now)
-        → KeepsCommit (state S.Store tx.old.conn.now) (state S.Store tx.new.conn.now) }
-    ensures goes_on { HasCleanDisk (state S.Store tx.new.conn.now)
-        → OnOk result (IsTrue tx.new.conn.now.in_transaction) }
-    ensures survives { Survives (state S.Store tx.old.conn.now) (state S.Store tx.new.conn.now)
-        (λ _. ⊥) }
+    ensures writes { Writes S.Store tx.old.conn.now tx.new.conn.now result
+        (¬ ((1 ≤ row.version) × (row.version ≤ most_versions)))
+        (λ t. is_held report_key row t.reports)
+        (λ t. record t { reports = with_row report_key t.reports row }) }
 {
     if !is_version(row.version) {
         return Err(Fault::Store(StoreCause::Row));
@@ -68,29 +48,9 @@ pub fn insert_report<S: Alter>(tx: &mut Transaction<'_, S>, row: ReportRow) -> R
 /// A version out of 1 to 10,000 is refused as by `insert_report`.
 pub fn replace_report<S: Alter>(tx: &mut Transaction<'_, S>, row: ReportRow) -> Result<(), Fault>
     ensures same_reference { tx.new.conn.ghost_name ≡ tx.old.conn.ghost_name }
-    ensures put { HasCleanDisk (state S.Store tx.new.conn.now)
-        → (t : Tables) → HasTables t (state S.Store tx.old.conn.now).now
-        → IsSome (find_row report_key t.reports (report_key row))
-        → OnOk result (HasTables
-        (record t { reports = put_row report_key t.reports row })
-        (state S.Store tx.new.conn.now).now) }
-    ensures none { HasCleanDisk (state S.Store tx.new.conn.now)
-        → (t : Tables) → HasTables t (state S.Store tx.old.conn.now).now
-        → find_row report_key t.reports (report_key row) ≡ None
-        → OnOk result (HasTables t (state S.Store tx.new.conn.now).now) }
-    ensures cause { HasCleanDisk (state S.Store tx.new.conn.now)
-        → (t : Tables) → HasTables t (state S.Store tx.old.conn.now).now
-        → IfErr result (λ fault. fault ≢ Fault.Store StoreCause.Constraint) }
-    ensures range { IfErr result (λ fault. fault ≡ Fault.Store StoreCause.Row
-        → ¬ ((1 ≤ row.version) × (row.version ≤ most_versions))) }
-    ensures refused { ¬ ((1 ≤ row.version) × (row.version ≤ most_versions))
-        → (result ≡ Err (Fault.Store StoreCause.Row)) × (tx.new.conn.now ≡ tx.old.conn.now) }
-    ensures kept { HasCleanDisk (state S.Store tx.new.conn.now)
-        → KeepsCommit (state S.Store tx.old.conn.now) (state S.Store tx.new.conn.now) }
-    ensures goes_on { HasCleanDisk (state S.Store tx.new.conn.now)
-        → OnOk result (IsTrue tx.new.conn.now.in_transaction) }
-    ensures survives { Survives (state S.Store tx.old.conn.now) (state S.Store tx.new.conn.now)
-        (λ _. ⊥) }
+    ensures writes { Writes S.Store tx.old.conn.now tx.new.conn.now result
+        (¬ ((1 ≤ row.version) × (row.version ≤ most_versions))) (λ _. false)
+        (λ t. record t { reports = replaced report_key row t.reports }) }
 {
     if !is_version(row.version) {
         return Err(Fault::Store(StoreCause::Row));
@@ -109,27 +69,8 @@ pub fn find_report<S: Alter>(
     at: Month,
 ) -> Result<Option<ReportRow>, Fault>
     ensures same_reference { tx.new.conn.ghost_name ≡ tx.old.conn.ghost_name }
-    ensures found { HasCleanDisk (state S.Store tx.new.conn.now)
-        → (t : Tables) → HasTables t (state S.Store tx.old.conn.now).now
-        → IfOk result (λ found. found ≡ find_row report_key t.reports (no ∷ at ∷ [])) }
-    ensures good { IfOk result (λ found. IfSome found IsReportRow) }
-    ensures cause { HasCleanDisk (state S.Store tx.new.conn.now)
-        → (t : Tables) → HasTables t (state S.Store tx.old.conn.now).now
-        → IfErr result (λ fault. fault ≢ Fault.Store StoreCause.Constraint) }
-    ensures range { HasCleanDisk (state S.Store tx.new.conn.now)
-        → (t : Tables) → HasTables t (state S.Store tx.old.conn.now).now
-        → IfErr result (λ fault. fault ≡ Fault.Store StoreCause.Row
-        → (x : Entry) × (find_row report_key t.reports (no ∷ at ∷ []) ≡ Some x)
-        × ¬ IsReportRow x) }
-    ensures same { HasCleanDisk (state S.Store tx.new.conn.now)
-        → (t : Tables) → HasTables t (state S.Store tx.old.conn.now).now
-        → OnOk result (IsUnchanged (state S.Store tx.old.conn.now)
-        (state S.Store tx.new.conn.now)) }
-    ensures kept { HasCleanDisk (state S.Store tx.new.conn.now)
-        → (t : Tables) → HasTables t (state S.Store tx.old.conn.now).now
-        → KeepsCommit (state S.Store tx.old.conn.now) (state S.Store tx.new.conn.now) }
-    ensures survives { Survives (state S.Store tx.old.conn.now) (state S.Store tx.new.conn.now)
-        (λ _. ⊥) }
+    ensures looks { Finds S.Store tx.old.conn.now tx.new.conn.now result IsReportRow
+        (λ t. find_row report_key t.reports (no ∷ at ∷ [])) }
 {
     find::<S, Reports>(
         tx,
@@ -144,27 +85,8 @@ pub fn reports_of<S: Alter>(
     no: EmployerNo,
 ) -> Result<Vec<ReportRow>, Fault>
     ensures same_reference { tx.new.conn.ghost_name ≡ tx.old.conn.ghost_name }
-    ensures found { HasCleanDisk (state S.Store tx.new.conn.now)
-        → (t : Tables) → HasTables t (state S.Store tx.old.conn.now).now
-        → IfOk result (λ found. found.items
-        ≡ filter (λ row. row.employer == no) t.reports) }
-    ensures good { IfOk result (λ found. AllByRecursion IsReportRow found.items) }
-    ensures cause { HasCleanDisk (state S.Store tx.new.conn.now)
-        → (t : Tables) → HasTables t (state S.Store tx.old.conn.now).now
-        → IfErr result (λ fault. fault ≢ Fault.Store StoreCause.Constraint) }
-    ensures range { HasCleanDisk (state S.Store tx.new.conn.now)
-        → (t : Tables) → HasTables t (state S.Store tx.old.conn.now).now
-        → IfErr result (λ fault. fault ≡ Fault.Store StoreCause.Row
-        → ¬ AllByRecursion IsReportRow (filter (λ row. row.employer == no) t.reports)) }
-    ensures same { HasCleanDisk (state S.Store tx.new.conn.now)
-        → (t : Tables) → HasTables t (state S.Store tx.old.conn.now).now
-        → OnOk result (IsUnchanged (state S.Store tx.old.conn.now)
-        (state S.Store tx.new.conn.now)) }
-    ensures kept { HasCleanDisk (state S.Store tx.new.conn.now)
-        → (t : Tables) → HasTables t (state S.Store tx.old.conn.now).now
-        → KeepsCommit (state S.Store tx.old.conn.now) (state S.Store tx.new.conn.now) }
-    ensures survives { Survives (state S.Store tx.old.conn.now) (state S.Store tx.new.conn.now)
-        (λ _. ⊥) }
+    ensures looks { Lists S.Store tx.old.conn.now tx.new.conn.now result IsReportRow
+        (λ t. filter (λ row. row.employer == no) t.reports) }
 {
     list::<S, Reports>(
         tx,

@@ -1,15 +1,12 @@
 //! The table of wages: the lines of each month's latest report.
-ghost use Rattle.std.specs.Prelude.{◌≡◌, ◌≢◌, ◌≤◌, None, Err, filter};
-ghost use Rattle.std.specs.Prelude.{IfErr, IfOk, IsSome, IsTrue, OnOk};
-ghost use Rattle.std.specs.List.{AllByRecursion};
-ghost use Rattle.sqlite.specs.Held.{state};
-ghost use Rattle.sqlite.specs.State.{HasCleanDisk, IsUnchanged, KeepsCommit, Survives};
+ghost use Rattle.std.specs.Prelude.{◌≡◌, ◌≤◌, false, filter};
 ghost use Rattle.sqlite.specs.Values.{bound};
-ghost use Rattle.clear_book.specs.Keyed.{find_row, with_row, without_rows};
+ghost use Rattle.clear_book.specs.Keyed.{with_row, without_rows};
 ghost use Rattle.clear_book.specs.Limits.{most_gross};
 ghost use Rattle.clear_book.specs.RowRanges.{IsWageRow};
-ghost use Rattle.clear_book.specs.Tables.{Tables, is_wage_key_of, wage_key};
-ghost use Rattle.clear_schema.specs.Held.{HasTables};
+ghost use Rattle.clear_book.specs.Tables.{is_wage_key_of, wage_key};
+ghost use Rattle.clear_schema.specs.Frame.{Lists, Writes};
+ghost use Rattle.clear_columns.specs.Keys.{is_held};
 ghost use Rattle.clear_firms.specs.Shown.{wage_shown};
 
 use crate::parameters::month_values;
@@ -32,26 +29,9 @@ use sqlite_value::value::ValueRef;
 /// `Fault::Store(StoreCause::Row)`, and nothing is done.
 pub fn insert_wage<S: Alter>(tx: &mut Transaction<'_, S>, row: WageRow) -> Result<(), Fault>
     ensures same_reference { tx.new.conn.ghost_name ≡ tx.old.conn.ghost_name }
-    ensures put { HasCleanDisk (state S.Store tx.new.conn.now)
-        → (t : Tables) → HasTables t (state S.Store tx.old.conn.now).now
-        → OnOk result (HasTables
-        (record t { wages = with_row wage_key t.wages row })
-        (state S.Store tx.new.conn.now).now
-        × (find_row wage_key t.wages (wage_key row) ≡ None)) }
-    ensures cause { HasCleanDisk (state S.Store tx.new.conn.now)
-        → (t : Tables) → HasTables t (state S.Store tx.old.conn.now).now
-        → IfErr result (λ fault. fault ≡ Fault.Store StoreCause.Constraint
-        → IsSome (find_row wage_key t.wages (wage_key row))) }
-    ensures range { IfErr result (λ fault. fault ≡ Fault.Store StoreCause.Row
-        → ¬ (row.gross ≤ most_gross)) }
-    ensures refused { ¬ (row.gross ≤ most_gross)
-        → (result ≡ Err (Fault.Store StoreCause.Row)) × (tx.new.conn.now ≡ tx.old.conn.now) }
-    ensures kept { HasCleanDisk (state S.Store tx.new.conn.now)
-        → KeepsCommit (state S.Store tx.old.conn.now) (state S.Store tx.new.conn.now) }
-    ensures goes_on { HasCleanDisk (state S.Store tx.new.conn.now)
-        → OnOk result (IsTrue tx.new.conn.now.in_transaction) }
-    ensures survives { Survives (state S.Store tx.old.conn.now) (state S.Store tx.new.conn.now)
-        (λ _. ⊥) }
+    ensures writes { Writes S.Store tx.old.conn.now tx.new.conn.now result
+        (¬ (row.gross ≤ most_gross)) (λ t. is_held wage_key row t.wages)
+        (λ t. record t { wages = with_row wage_key t.wages row }) }
 {
     if !is_gross(row.gross) {
         return Err(Fault::Store(StoreCause::Row));
@@ -70,21 +50,8 @@ pub fn delete_wages<S: Alter>(
     at: Month,
 ) -> Result<(), Fault>
     ensures same_reference { tx.new.conn.ghost_name ≡ tx.old.conn.ghost_name }
-    ensures put { HasCleanDisk (state S.Store tx.new.conn.now)
-        → (t : Tables) → HasTables t (state S.Store tx.old.conn.now).now
-        → OnOk result (HasTables
-        (record t { wages = without_rows wage_key (is_wage_key_of no at) t.wages })
-        (state S.Store tx.new.conn.now).now) }
-    ensures cause { HasCleanDisk (state S.Store tx.new.conn.now)
-        → (t : Tables) → HasTables t (state S.Store tx.old.conn.now).now
-        → IfErr result (λ fault. fault ≢ Fault.Store StoreCause.Constraint) }
-    ensures no_row { IfErr result (λ fault. fault ≢ Fault.Store StoreCause.Row) }
-    ensures kept { HasCleanDisk (state S.Store tx.new.conn.now)
-        → KeepsCommit (state S.Store tx.old.conn.now) (state S.Store tx.new.conn.now) }
-    ensures goes_on { HasCleanDisk (state S.Store tx.new.conn.now)
-        → OnOk result (IsTrue tx.new.conn.now.in_transaction) }
-    ensures survives { Survives (state S.Store tx.old.conn.now) (state S.Store tx.new.conn.now)
-        (λ _. ⊥) }
+    ensures writes { Writes S.Store tx.old.conn.now tx.new.conn.now result ⊥ (λ _. false)
+        (λ t. record t { wages = without_rows wage_key (is_wage_key_of no at) t.wages }) }
 {
     put(
         tx,
@@ -100,28 +67,8 @@ pub fn wages_of<S: Alter>(
     at: Month,
 ) -> Result<Vec<WageRow>, Fault>
     ensures same_reference { tx.new.conn.ghost_name ≡ tx.old.conn.ghost_name }
-    ensures found { HasCleanDisk (state S.Store tx.new.conn.now)
-        → (t : Tables) → HasTables t (state S.Store tx.old.conn.now).now
-        → IfOk result (λ found. found.items
-        ≡ filter (λ row. is_wage_key_of no at (wage_key row)) t.wages) }
-    ensures good { IfOk result (λ found. AllByRecursion IsWageRow found.items) }
-    ensures cause { HasCleanDisk (state S.Store tx.new.conn.now)
-        → (t : Tables) → HasTables t (state S.Store tx.old.conn.now).now
-        → IfErr result (λ fault. fault ≢ Fault.Store StoreCause.Constraint) }
-    ensures range { HasCleanDisk (state S.Store tx.new.conn.now)
-        → (t : Tables) → HasTables t (state S.Store tx.old.conn.now).now
-        → IfErr result (λ fault. fault ≡ Fault.Store StoreCause.Row
-        → ¬ AllByRecursion IsWageRow
-        (filter (λ row. is_wage_key_of no at (wage_key row)) t.wages)) }
-    ensures same { HasCleanDisk (state S.Store tx.new.conn.now)
-        → (t : Tables) → HasTables t (state S.Store tx.old.conn.now).now
-        → OnOk result (IsUnchanged (state S.Store tx.old.conn.now)
-        (state S.Store tx.new.conn.now)) }
-    ensures kept { HasCleanDisk (state S.Store tx.new.conn.now)
-        → (t : Tables) → HasTables t (state S.Store tx.old.conn.now).now
-        → KeepsCommit (state S.Store tx.old.conn.now) (state S.Store tx.new.conn.now) }
-    ensures survives { Survives (state S.Store tx.old.conn.now) (state S.Store tx.new.conn.now)
-        (λ _. ⊥) }
+    ensures looks { Lists S.Store tx.old.conn.now tx.new.conn.now result IsWageRow
+        (λ t. filter (λ row. is_wage_key_of no at (wage_key row)) t.wages) }
 {
     list::<S, Wages>(
         tx,

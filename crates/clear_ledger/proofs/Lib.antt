@@ -1,3 +1,4 @@
-pub mod BankLemmas
-pub mod CreditLemmas
-pub mod TextLemmas
+pub mod BankTable
+pub mod CreditTable
+pub mod ReplyLemmas
+pub mod RequestTable

@@ -1,21 +1,17 @@
 //! The bank lines, by their references.
 ghost use Rattle.std.specs.Borrow.{sem, RestsIfErr};
-ghost use Rattle.std.specs.Prelude.{◌≡◌, ◌≢◌, true, false, Some, Err, filter};
-ghost use Rattle.std.specs.Prelude.{IsTrue, IfOk, IfErr, IfSome, OnOk};
-ghost use Rattle.std.specs.List.{AllByRecursion};
+ghost use Rattle.std.specs.Prelude.{◌≡◌, filter, IfOk, IfSome};
 ghost use Rattle.sqlite.specs.Held.{state};
-ghost use Rattle.sqlite.specs.State.{HasCleanDisk, IsUnchanged, KeepsCommit, Survives};
 ghost use Rattle.sqlite.specs.Values.{bound};
 ghost use Rattle.sqlite.specs.contracts.connection.Connection.{the_row};
 ghost use Rattle.clear_book.specs.Keyed.{find_row, with_row};
 ghost use Rattle.clear_book.specs.Lines.{is_in_suspense};
 ghost use Rattle.clear_money.specs.Numbers.{IsEmployerNo};
 ghost use Rattle.clear_book.specs.RowRanges.{IsBankRow, IsSerial};
-ghost use Rattle.clear_book.specs.Tables.{Tables, bank_key};
-ghost use Rattle.clear_book.specs.declared.rows.BankRow.{BankRow};
-ghost use Rattle.clear_schema.specs.Held.{HasTables};
-ghost use Rattle.clear_columns.specs.Reading.{HasToGive, IsLeft};
+ghost use Rattle.clear_book.specs.Tables.{bank_key};
 ghost use Rattle.clear_ledger.specs.Shown.{bank_shown, is_line_held};
+ghost use Rattle.clear_columns.specs.Reading.{HasSomeTables, IsLeft, ReadsOn};
+ghost use Rattle.clear_schema.specs.Frame.{Finds, Lists, Writes};
 
 use clear_bank::lines::BankLine;
 use clear_bank::texts::Reference;
@@ -39,27 +35,9 @@ use sqlite_value::value::ValueRef;
 /// refused with `Fault::Store(StoreCause::Row)`, and nothing is done.
 pub fn insert_line<S: Alter>(tx: &mut Transaction<'_, S>, row: &BankRow) -> Result<(), Fault>
     ensures same_reference { tx.new.conn.ghost_name ≡ tx.old.conn.ghost_name }
-    ensures put { HasCleanDisk (state S.Store tx.new.conn.now)
-        → (t : Tables) → HasTables t (state S.Store tx.old.conn.now).now
-        → OnOk result (HasTables (record t { bank = with_row bank_key t.bank row.now })
-        (state S.Store tx.new.conn.now).now) }
-    ensures free { HasCleanDisk (state S.Store tx.new.conn.now)
-        → (t : Tables) → HasTables t (state S.Store tx.old.conn.now).now
-        → OnOk result (is_line_held row.now t.bank ≡ false) }
-    ensures cause { HasCleanDisk (state S.Store tx.new.conn.now)
-        → (t : Tables) → HasTables t (state S.Store tx.old.conn.now).now
-        → IfErr result (λ fault. fault ≡ Fault.Store StoreCause.Constraint
-        → is_line_held row.now t.bank ≡ true) }
-    ensures range { IfErr result (λ fault. fault ≡ Fault.Store StoreCause.Row
-        → ¬ IsSerial row.now.serial) }
-    ensures refused { ¬ IsSerial row.now.serial
-        → (result ≡ Err (Fault.Store StoreCause.Row)) × (tx.new.conn.now ≡ tx.old.conn.now) }
-    ensures kept { HasCleanDisk (state S.Store tx.new.conn.now)
-        → KeepsCommit (state S.Store tx.old.conn.now) (state S.Store tx.new.conn.now) }
-    ensures goes_on { HasCleanDisk (state S.Store tx.new.conn.now)
-        → OnOk result (IsTrue tx.new.conn.now.in_transaction) }
-    ensures survives { Survives (state S.Store tx.old.conn.now) (state S.Store tx.new.conn.now)
-        (λ _. ⊥) }
+    ensures writes { Writes S.Store tx.old.conn.now tx.new.conn.now result
+        (¬ IsSerial row.now.serial) (λ t. is_line_held row.now t.bank)
+        (λ t. record t { bank = with_row bank_key t.bank row.now }) }
 {
     if !is_serial(row.serial) {
         return Err(Fault::Store(StoreCause::Row));
@@ -78,26 +56,8 @@ pub fn find_line<S: Alter>(
     reference: &Reference,
 ) -> Result<Option<BankRow>, Fault>
     ensures same_reference { tx.new.conn.ghost_name ≡ tx.old.conn.ghost_name }
-    ensures found { HasCleanDisk (state S.Store tx.new.conn.now)
-        → (t : Tables) → HasTables t (state S.Store tx.old.conn.now).now
-        → IfOk result (λ found. found ≡ find_row bank_key t.bank reference.now) }
-    ensures good { IfOk result (λ found. IfSome found IsBankRow) }
-    ensures cause { HasCleanDisk (state S.Store tx.new.conn.now)
-        → (t : Tables) → HasTables t (state S.Store tx.old.conn.now).now
-        → IfErr result (λ fault. fault ≢ Fault.Store StoreCause.Constraint) }
-    ensures range { HasCleanDisk (state S.Store tx.new.conn.now)
-        → (t : Tables) → HasTables t (state S.Store tx.old.conn.now).now
-        → IfErr result (λ fault. fault ≡ Fault.Store StoreCause.Row
-        → (x : BankRow) × (find_row bank_key t.bank reference.now ≡ Some x) × ¬ IsBankRow x) }
-    ensures same { HasCleanDisk (state S.Store tx.new.conn.now)
-        → (t : Tables) → HasTables t (state S.Store tx.old.conn.now).now
-        → OnOk result (IsUnchanged (state S.Store tx.old.conn.now)
-        (state S.Store tx.new.conn.now)) }
-    ensures kept { HasCleanDisk (state S.Store tx.new.conn.now)
-        → (t : Tables) → HasTables t (state S.Store tx.old.conn.now).now
-        → KeepsCommit (state S.Store tx.old.conn.now) (state S.Store tx.new.conn.now) }
-    ensures survives { Survives (state S.Store tx.old.conn.now) (state S.Store tx.new.conn.now)
-        (λ _. ⊥) }
+    ensures looks { Finds S.Store tx.old.conn.now tx.new.conn.now result IsBankRow
+        (λ t. find_row bank_key t.bank reference.now) }
 {
     find::<S, Bank>(
         tx,
@@ -110,26 +70,8 @@ pub fn find_line<S: Alter>(
 /// The lines without a firm, in the order of their references. This is one pass over all lines.
 pub fn lines_in_suspense<S: Alter>(tx: &mut Transaction<'_, S>) -> Result<Vec<BankRow>, Fault>
     ensures same_reference { tx.new.conn.ghost_name ≡ tx.old.conn.ghost_name }
-    ensures found { HasCleanDisk (state S.Store tx.new.conn.now)
-        → (t : Tables) → HasTables t (state S.Store tx.old.conn.now).now
-        → IfOk result (λ found. found.items ≡ filter is_in_suspense t.bank) }
-    ensures good { IfOk result (λ found. AllByRecursion IsBankRow found.items) }
-    ensures cause { HasCleanDisk (state S.Store tx.new.conn.now)
-        → (t : Tables) → HasTables t (state S.Store tx.old.conn.now).now
-        → IfErr result (λ fault. fault ≢ Fault.Store StoreCause.Constraint) }
-    ensures range { HasCleanDisk (state S.Store tx.new.conn.now)
-        → (t : Tables) → HasTables t (state S.Store tx.old.conn.now).now
-        → IfErr result (λ fault. fault ≡ Fault.Store StoreCause.Row
-        → ¬ AllByRecursion IsBankRow (filter is_in_suspense t.bank)) }
-    ensures same { HasCleanDisk (state S.Store tx.new.conn.now)
-        → (t : Tables) → HasTables t (state S.Store tx.old.conn.now).now
-        → OnOk result (IsUnchanged (state S.Store tx.old.conn.now)
-        (state S.Store tx.new.conn.now)) }
-    ensures kept { HasCleanDisk (state S.Store tx.new.conn.now)
-        → (t : Tables) → HasTables t (state S.Store tx.old.conn.now).now
-        → KeepsCommit (state S.Store tx.old.conn.now) (state S.Store tx.new.conn.now) }
-    ensures survives { Survives (state S.Store tx.old.conn.now) (state S.Store tx.new.conn.now)
-        (λ _. ⊥) }
+    ensures looks { Lists S.Store tx.old.conn.now tx.new.conn.now result IsBankRow
+        (λ t. filter is_in_suspense t.bank) }
 {
     list::<S, Bank>(
         tx,
@@ -142,19 +84,11 @@ pub fn lines_in_suspense<S: Alter>(tx: &mut Transaction<'_, S>) -> Result<Vec<Ba
 /// All lines in the order of their references: `next_row` reads one at a time.
 pub fn lines<S: Alter>(conn: &mut Connection<S>) -> Result<Rows<'_, S>, Error>
     ensures* refused { sem 𝓛 (RestsIfErr (the_row S.row S.Store) conn.entry
-        (λ rows. rows.conn.ghost_name) result (λ left. (t : Tables)
-        → HasTables t (state S.Store conn.old).now → IsLeft S.Store conn.old result left)) }
+        (λ rows. rows.conn.ghost_name) result
+        (IsLeft S.Store conn.old (HasSomeTables (state S.Store conn.old).now) result)) }
     ensures same_reference { IfOk result (λ rows. rows.conn.ghost_name ≡ conn.entry.ghost_name) }
-    ensures begun { IfOk result (λ rows. HasCleanDisk (state S.Store rows.conn.now)
-        → (t : Tables) → HasTables t (state S.Store conn.old).now
-        → HasToGive S.Store bank_shown rows.conn.now t.bank) }
-    ensures same { IfOk result (λ rows. HasCleanDisk (state S.Store rows.conn.now)
-        → (t : Tables) → HasTables t (state S.Store conn.old).now
-        → IsUnchanged (state S.Store conn.old) (state S.Store rows.conn.now)) }
-    ensures mode { IfOk result (λ rows. conn.old.in_transaction ≡ false
-        → rows.conn.now.in_transaction ≡ false) }
-    ensures survives { IfOk result (λ rows. (t : Tables) → HasTables t (state S.Store conn.old).now
-        → Survives (state S.Store conn.old) (state S.Store rows.conn.now) (λ _. ⊥)) }
+    ensures begun { IfOk result (λ rows. ReadsOn S.Store conn.old rows.conn.now bank_shown
+        (λ t. t.bank)) }
 {
     begin_rows::<Bank, S>(
         conn,

@@ -1,21 +1,17 @@
 //! The credits of firms, by firm, purpose, day and serial.
 ghost use Rattle.std.specs.Borrow.{sem, RestsIfErr};
-ghost use Rattle.std.specs.Prelude.{◌≡◌, ◌≢◌, true, false, Err, filter};
-ghost use Rattle.std.specs.Prelude.{IsTrue, IfOk, IfErr, OnOk};
-ghost use Rattle.std.specs.List.{AllByRecursion};
+ghost use Rattle.std.specs.Prelude.{◌≡◌, filter, IfOk};
 ghost use Rattle.sqlite.specs.Held.{state};
-ghost use Rattle.sqlite.specs.State.{HasCleanDisk, IsUnchanged, KeepsCommit, Survives};
 ghost use Rattle.sqlite.specs.Values.{bound};
 ghost use Rattle.sqlite.specs.contracts.connection.Connection.{the_row};
 ghost use Rattle.clear_book.specs.Accounts.{credit_key};
 ghost use Rattle.clear_book.specs.Keyed.{with_row};
 ghost use Rattle.clear_book.specs.Lines.{is_credit_of};
 ghost use Rattle.clear_book.specs.RowRanges.{IsCreditRow, IsSerial};
-ghost use Rattle.clear_book.specs.Tables.{Tables};
-ghost use Rattle.clear_book.specs.declared.rows.CreditRow.{CreditRow};
-ghost use Rattle.clear_schema.specs.Held.{HasTables};
-ghost use Rattle.clear_columns.specs.Reading.{HasToGive, IsLeft};
-ghost use Rattle.clear_ledger.specs.Shown.{credit_shown, is_held};
+ghost use Rattle.clear_ledger.specs.Shown.{credit_shown};
+ghost use Rattle.clear_columns.specs.Keys.{is_held};
+ghost use Rattle.clear_columns.specs.Reading.{HasSomeTables, IsLeft, ReadsOn};
+ghost use Rattle.clear_schema.specs.Frame.{Lists, Writes};
 
 use clear_bank::lines::Purpose;
 use clear_book::rows::CreditRow;
@@ -34,31 +30,17 @@ use clear_schema::values::{number, text};
 use sqlite::{Alter, Connection, Error, Row, Rows, Transaction};
 use sqlite_value::value::ValueRef;
 
+// The credits of a firm for a purpose.
+const CREDITS_OF: &str = "SELECT employer, purpose, day, serial, cents, ref FROM credits \
+     WHERE employer = ?1 AND purpose = ?2 ORDER BY employer, purpose, day, serial";
+
 /// Adds a credit whose key is free. A serial that no credit can have is refused with
 /// `Fault::Store(StoreCause::Row)`, and nothing is done.
 pub fn insert_credit<S: Alter>(tx: &mut Transaction<'_, S>, row: &CreditRow) -> Result<(), Fault>
     ensures same_reference { tx.new.conn.ghost_name ≡ tx.old.conn.ghost_name }
-    ensures put { HasCleanDisk (state S.Store tx.new.conn.now)
-        → (t : Tables) → HasTables t (state S.Store tx.old.conn.now).now
-        → OnOk result (HasTables (record t { credits = with_row credit_key t.credits row.now })
-        (state S.Store tx.new.conn.now).now) }
-    ensures free { HasCleanDisk (state S.Store tx.new.conn.now)
-        → (t : Tables) → HasTables t (state S.Store tx.old.conn.now).now
-        → OnOk result (is_held credit_key row.now t.credits ≡ false) }
-    ensures cause { HasCleanDisk (state S.Store tx.new.conn.now)
-        → (t : Tables) → HasTables t (state S.Store tx.old.conn.now).now
-        → IfErr result (λ fault. fault ≡ Fault.Store StoreCause.Constraint
-        → is_held credit_key row.now t.credits ≡ true) }
-    ensures range { IfErr result (λ fault. fault ≡ Fault.Store StoreCause.Row
-        → ¬ IsSerial row.now.serial) }
-    ensures refused { ¬ IsSerial row.now.serial
-        → (result ≡ Err (Fault.Store StoreCause.Row)) × (tx.new.conn.now ≡ tx.old.conn.now) }
-    ensures kept { HasCleanDisk (state S.Store tx.new.conn.now)
-        → KeepsCommit (state S.Store tx.old.conn.now) (state S.Store tx.new.conn.now) }
-    ensures goes_on { HasCleanDisk (state S.Store tx.new.conn.now)
-        → OnOk result (IsTrue tx.new.conn.now.in_transaction) }
-    ensures survives { Survives (state S.Store tx.old.conn.now) (state S.Store tx.new.conn.now)
-        (λ _. ⊥) }
+    ensures writes { Writes S.Store tx.old.conn.now tx.new.conn.now result
+        (¬ IsSerial row.now.serial) (λ t. is_held credit_key row.now t.credits)
+        (λ t. record t { credits = with_row credit_key t.credits row.now }) }
 {
     if !is_serial(row.serial) {
         return Err(Fault::Store(StoreCause::Row));
@@ -71,10 +53,6 @@ pub fn insert_credit<S: Alter>(tx: &mut Transaction<'_, S>, row: &CreditRow) -> 
     )
 }
 
-// The credits of a firm for a purpose.
-const CREDITS_OF: &str = "SELECT employer, purpose, day, serial, cents, ref FROM credits \
-     WHERE employer = ?1 AND purpose = ?2 ORDER BY employer, purpose, day, serial";
-
 /// The credits of a firm for a purpose, by day, and on one day by serial.
 pub fn credits_of<S: Alter>(
     tx: &mut Transaction<'_, S>,
@@ -82,26 +60,8 @@ pub fn credits_of<S: Alter>(
     purpose: Purpose,
 ) -> Result<Vec<CreditRow>, Fault>
     ensures same_reference { tx.new.conn.ghost_name ≡ tx.old.conn.ghost_name }
-    ensures found { HasCleanDisk (state S.Store tx.new.conn.now)
-        → (t : Tables) → HasTables t (state S.Store tx.old.conn.now).now
-        → IfOk result (λ found. found.items ≡ filter (is_credit_of employer purpose) t.credits) }
-    ensures good { IfOk result (λ found. AllByRecursion IsCreditRow found.items) }
-    ensures cause { HasCleanDisk (state S.Store tx.new.conn.now)
-        → (t : Tables) → HasTables t (state S.Store tx.old.conn.now).now
-        → IfErr result (λ fault. fault ≢ Fault.Store StoreCause.Constraint) }
-    ensures range { HasCleanDisk (state S.Store tx.new.conn.now)
-        → (t : Tables) → HasTables t (state S.Store tx.old.conn.now).now
-        → IfErr result (λ fault. fault ≡ Fault.Store StoreCause.Row
-        → ¬ AllByRecursion IsCreditRow (filter (is_credit_of employer purpose) t.credits)) }
-    ensures same { HasCleanDisk (state S.Store tx.new.conn.now)
-        → (t : Tables) → HasTables t (state S.Store tx.old.conn.now).now
-        → OnOk result (IsUnchanged (state S.Store tx.old.conn.now)
-        (state S.Store tx.new.conn.now)) }
-    ensures kept { HasCleanDisk (state S.Store tx.new.conn.now)
-        → (t : Tables) → HasTables t (state S.Store tx.old.conn.now).now
-        → KeepsCommit (state S.Store tx.old.conn.now) (state S.Store tx.new.conn.now) }
-    ensures survives { Survives (state S.Store tx.old.conn.now) (state S.Store tx.new.conn.now)
-        (λ _. ⊥) }
+    ensures looks { Lists S.Store tx.old.conn.now tx.new.conn.now result IsCreditRow
+        (λ t. filter (is_credit_of employer purpose) t.credits) }
 {
     list::<S, Credits>(tx, CREDITS_OF, &[firm(employer), payment(purpose)])
 }
@@ -114,20 +74,11 @@ pub fn read_credits<S: Alter>(
     purpose: Purpose,
 ) -> Result<Rows<'_, S>, Error>
     ensures* refused { sem 𝓛 (RestsIfErr (the_row S.row S.Store) conn.entry
-        (λ rows. rows.conn.ghost_name) result (λ left. (t : Tables)
-        → HasTables t (state S.Store conn.old).now → IsLeft S.Store conn.old result left)) }
+        (λ rows. rows.conn.ghost_name) result
+        (IsLeft S.Store conn.old (HasSomeTables (state S.Store conn.old).now) result)) }
     ensures same_reference { IfOk result (λ rows. rows.conn.ghost_name ≡ conn.entry.ghost_name) }
-    ensures begun { IfOk result (λ rows. HasCleanDisk (state S.Store rows.conn.now)
-        → (t : Tables) → HasTables t (state S.Store conn.old).now
-        → HasToGive S.Store credit_shown rows.conn.now
-        (filter (is_credit_of employer purpose) t.credits)) }
-    ensures same { IfOk result (λ rows. HasCleanDisk (state S.Store rows.conn.now)
-        → (t : Tables) → HasTables t (state S.Store conn.old).now
-        → IsUnchanged (state S.Store conn.old) (state S.Store rows.conn.now)) }
-    ensures mode { IfOk result (λ rows. conn.old.in_transaction ≡ false
-        → rows.conn.now.in_transaction ≡ false) }
-    ensures survives { IfOk result (λ rows. (t : Tables) → HasTables t (state S.Store conn.old).now
-        → Survives (state S.Store conn.old) (state S.Store rows.conn.now) (λ _. ⊥)) }
+    ensures begun { IfOk result (λ rows. ReadsOn S.Store conn.old rows.conn.now credit_shown
+        (λ t. filter (is_credit_of employer purpose) t.credits)) }
 {
     begin_rows::<Credits, S>(conn, CREDITS_OF, &[firm(employer), payment(purpose)])
 }

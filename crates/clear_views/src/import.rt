@@ -2,7 +2,7 @@
 ghost use Rattle.std.specs.Prelude.{◌≡◌, ◌++◌, [], IfErr, IfOk, OnOk};
 ghost use Rattle.std.specs.List.{cons_option};
 ghost use Rattle.sqlite.specs.Held.{state};
-ghost use Rattle.sqlite.specs.State.{HasCleanDisk, IsUnchanged, KeepsCommit, Survives};
+ghost use Rattle.sqlite.specs.State.{HasCleanDisk, Survives};
 ghost use Rattle.clear_book.specs.Book.{Book};
 ghost use Rattle.clear_book.specs.Lines.{lines_in};
 ghost use Rattle.clear_book.specs.Machine.{IsLawful};
@@ -10,6 +10,7 @@ ghost use Rattle.clear_book.specs.RowRanges.{AreInRange};
 ghost use Rattle.clear_book.specs.Tables.{Stands, Tables};
 ghost use Rattle.clear_firms.specs.Counts.{as_stored};
 ghost use Rattle.clear_rules.specs.Views.ImportBank.{IsImportView};
+ghost use Rattle.clear_schema.specs.Frame.{Leaves};
 ghost use Rattle.clear_schema.specs.Faults.{IsOfDisk};
 ghost use Rattle.clear_schema.specs.Held.{HasTables};
 ghost use Rattle.clear_schema.specs.Values.{counts_of};
@@ -58,15 +59,7 @@ pub fn import_view<S: Alter>(
     ensures fault { HasCleanDisk (state S.Store tx.new.conn.now)
         → (t : Tables) → HasTables t (state S.Store tx.old.conn.now).now
         → as_stored counts.now ≡ counts_of t → AreInRange t → IfErr result IsOfDisk }
-    ensures same { HasCleanDisk (state S.Store tx.new.conn.now)
-        → (t : Tables) → HasTables t (state S.Store tx.old.conn.now).now
-        → OnOk result (IsUnchanged (state S.Store tx.old.conn.now)
-        (state S.Store tx.new.conn.now)) }
-    ensures kept { HasCleanDisk (state S.Store tx.new.conn.now)
-        → (t : Tables) → HasTables t (state S.Store tx.old.conn.now).now
-        → KeepsCommit (state S.Store tx.old.conn.now) (state S.Store tx.new.conn.now) }
-    ensures survives { Survives (state S.Store tx.old.conn.now) (state S.Store tx.new.conn.now)
-        (λ _. ⊥) }
+    ensures leaves { Leaves S.Store tx.old.conn.now tx.new.conn.now result }
 {
     let Some(serials) = SerialCount::new(counts.serial) else {
         return Err(Fault::Store(StoreCause::Row));

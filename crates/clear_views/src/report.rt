@@ -1,11 +1,12 @@
 //! What a report or a correction is judged by.
-ghost use Rattle.std.specs.Prelude.{◌≡◌, IfErr, IfOk, OnOk};
+ghost use Rattle.std.specs.Prelude.{◌≡◌, IfErr, IfOk};
 ghost use Rattle.sqlite.specs.Held.{state};
-ghost use Rattle.sqlite.specs.State.{HasCleanDisk, IsUnchanged, KeepsCommit, Survives};
+ghost use Rattle.sqlite.specs.State.{HasCleanDisk};
 ghost use Rattle.clear_money.specs.Rates.{rate_in_force};
 ghost use Rattle.clear_book.specs.Book as book;
 ghost use Rattle.clear_book.specs.RowRanges.{AreInRange};
 ghost use Rattle.clear_book.specs.Tables.{Tables, member_at, version_at};
+ghost use Rattle.clear_schema.specs.Frame.{Leaves};
 ghost use Rattle.clear_schema.specs.Faults.{IsOfDisk};
 ghost use Rattle.clear_schema.specs.Held.{HasTables};
 
@@ -38,15 +39,7 @@ pub fn report_view<S: Alter>(
     ensures fault { HasCleanDisk (state S.Store tx.new.conn.now)
         → (t : Tables) → HasTables t (state S.Store tx.old.conn.now).now
         → AreInRange t → IfErr result IsOfDisk }
-    ensures same { HasCleanDisk (state S.Store tx.new.conn.now)
-        → (t : Tables) → HasTables t (state S.Store tx.old.conn.now).now
-        → OnOk result (IsUnchanged (state S.Store tx.old.conn.now)
-        (state S.Store tx.new.conn.now)) }
-    ensures kept { HasCleanDisk (state S.Store tx.new.conn.now)
-        → (t : Tables) → HasTables t (state S.Store tx.old.conn.now).now
-        → KeepsCommit (state S.Store tx.old.conn.now) (state S.Store tx.new.conn.now) }
-    ensures survives { Survives (state S.Store tx.old.conn.now) (state S.Store tx.new.conn.now)
-        (λ _. ⊥) }
+    ensures leaves { Leaves S.Store tx.old.conn.now tx.new.conn.now result }
 {
     let start = match start_of(tx, report.employer) {
         Ok(start) => start,

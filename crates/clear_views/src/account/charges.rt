@@ -10,6 +10,7 @@ ghost use Rattle.clear_book.specs.Accounts.{month_charge};
 ghost use Rattle.clear_book.specs.Limits.{most_base};
 ghost use Rattle.clear_book.specs.RowRanges.{IsWageRow};
 ghost use Rattle.clear_book.specs.Tables.{Tables, row_charge};
+ghost use Rattle.clear_schema.specs.Frame.{Leaves};
 ghost use Rattle.clear_schema.specs.Faults.{IsOfDisk};
 ghost use Rattle.clear_schema.specs.Held.{HasTables};
 ghost use Rattle.clear_views.specs.Owed.{IsChargeable, gross_sum, with_charges};
@@ -83,15 +84,7 @@ fn add_month<S: Alter>(
         → (t : Tables) → HasTables t (state S.Store tx.old.conn.now).now
         → rates.now ≡ t.rates → AllByRecursion IsWageRow t.wages
         → IsChargeable t row.now → IfErr result IsOfDisk }
-    ensures same { HasCleanDisk (state S.Store tx.new.conn.now)
-        → (t : Tables) → HasTables t (state S.Store tx.old.conn.now).now
-        → OnOk result (IsUnchanged (state S.Store tx.old.conn.now)
-        (state S.Store tx.new.conn.now)) }
-    ensures kept { HasCleanDisk (state S.Store tx.new.conn.now)
-        → (t : Tables) → HasTables t (state S.Store tx.old.conn.now).now
-        → KeepsCommit (state S.Store tx.old.conn.now) (state S.Store tx.new.conn.now) }
-    ensures survives { Survives (state S.Store tx.old.conn.now) (state S.Store tx.new.conn.now)
-        (λ _. ⊥) }
+    ensures leaves { Leaves S.Store tx.old.conn.now tx.new.conn.now result }
 {
     match wages_of(tx, row.employer, row.month) {
         Ok(wages) => add_contribution(rates, account, row.month, wages.as_slice()),

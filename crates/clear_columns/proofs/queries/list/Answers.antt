@@ -1,38 +1,14 @@
-use Rattle.std.proofs.Common.{◌∙◌, refl, Ok, Err, OnOk}
-use Rattle.std.proofs.lemmas.Result.{IfOk-weaker, IfErr-weaker}
-use Rattle.sqlite.specs.Held.{state}
-use Rattle.sqlite.specs.State.{IsUnchanged}
 use Rattle.sqlite.specs.Values.{bound}
-use Rattle.clear_rows.proofs.Inside.{unchanged_keeps}
-use Rattle.clear_rows.proofs.Refused.{query_never}
-use Rattle.clear_rows.proofs.Statements.{shown_unchanged}
+use Rattle.clear_schema.proofs.FrameLemmas.{looks_failed, looks_read}
 use Rattle.clear_columns.proofs.queries.list.Goals as goal
 
-pub returns-clause-found : goal.returns-clause-found
-returns-clause-found g c clean rows just =
-    let is = just.whole c.args.tx.now.conn.now c.look.new.tx.conn.now c.in-Ok.rows.items refl (c.in-Ok.ensures.shown clean) in
-    IfOk-weaker c.all_rows.result _ _ (λ found reads. reads rows (c.deref.ensures.value ∙ is)) c.all_rows.ensures.read
+pub returns-in-Err-clause-looks : goal.returns-in-Err-clause-looks
+returns-in-Err-clause-looks g c =
+    let it = c.in-Err.ensures in
+    looks_failed g.S.Store c.args.tx.now.conn.now c.look.new.tx.conn.now g.T.StoredTable.shown g.T.StoredTable.is_in_range c.args.sql.now (bound c.args.values.now) c.in-Err.fault _ _ _ it.no_row it.broke it.kept it.survives
 
-pub returns-clause-range : goal.returns-clause-range
-returns-clause-range g c clean rows just =
-    let is = just.whole c.args.tx.now.conn.now c.look.new.tx.conn.now c.in-Ok.rows.items refl (c.in-Ok.ensures.shown clean) in
-    IfErr-weaker c.all_rows.result _ _ (λ fault range told. range told rows (c.deref.ensures.value ∙ is)) c.all_rows.ensures.range
-
-pub returns-clause-same : goal.returns-clause-same
-returns-clause-same g c clean rows just = elim c.all_rows.result as (λ r. OnOk r (IsUnchanged (state g.S.Store c.args.tx.now.conn.now) (state g.S.Store c.look.new.tx.conn.now))) [
-  | Ok found ↦ shown_unchanged c.args.sql.now _ (state g.S.Store c.args.tx.now.conn.now) (state g.S.Store c.look.new.tx.conn.now) _ _ refl just.plain (c.in-Ok.ensures.shown clean)
-  | Err e ↦ tt
-]
-
-pub returns-clause-kept : goal.returns-clause-kept
-returns-clause-kept g c clean rows just =
-    unchanged_keeps (state g.S.Store c.args.tx.now.conn.now) (state g.S.Store c.look.new.tx.conn.now)
-    (shown_unchanged c.args.sql.now _ (state g.S.Store c.args.tx.now.conn.now) (state g.S.Store c.look.new.tx.conn.now) _ _ refl just.plain (c.in-Ok.ensures.shown clean))
-
-pub returns-in-Err-clause-cause : goal.returns-in-Err-clause-cause
-returns-in-Err-clause-cause g c clean rows just told =
-    let broke = c.in-Err.ensures.broke clean told in
-    query_never c.args.sql.now (bound c.args.values.now) (state g.S.Store c.args.tx.now.conn.now) (state g.S.Store c.look.new.tx.conn.now) broke.0 _ refl just.plain broke.1
-
-pub returns-in-Err-clause-range : goal.returns-in-Err-clause-range
-returns-in-Err-clause-range g c clean rows just told = absurd (c.in-Err.ensures.no_row told)
+pub returns-clause-looks : goal.returns-clause-looks
+returns-clause-looks g c =
+    let read = rw c.deref.ensures.value at c.all_rows.ensures in
+    looks_read g.S.Store c.args.tx.now.conn.now c.look.new.tx.conn.now g.T.StoredTable.shown g.T.StoredTable.is_in_range c.args.sql.now (bound c.args.values.now) c.all_rows.result c.in-Ok.rows.items _ _ _
+    c.in-Ok.ensures.shown c.in-Ok.ensures.survives read.read read.good read.cause read.range

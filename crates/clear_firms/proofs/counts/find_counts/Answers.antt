@@ -1,36 +1,31 @@
-use Rattle.std.proofs.Common.{◌∙◌, Ok, Err, OnOk}
-use Rattle.std.proofs.lemmas.Result.{IfOk-weaker, IfErr-weaker}
+use Rattle.std.proofs.Common.{◌≡◌, ◌∙◌, [], ◌∷◌, ap, map, refl}
+use Rattle.std.proofs.lemmas.Result.{IfErr-weaker, IfOk-weaker}
 use Rattle.sqlite.specs.Held.{state}
-use Rattle.sqlite.specs.State.{IsUnchanged}
-use Rattle.clear_rows.proofs.Statements.{shown_unchanged}
-use Rattle.clear_schema.specs.Schema.{store_schema}
-use Rattle.clear_schema.specs.Values.{counts_of}
-use Rattle.clear_schema.proofs.Causes.{asks_only}
-use Rattle.clear_rows.proofs.Inside.{unchanged_keeps}
-use Rattle.clear_firms.proofs.CountsLemmas.{finds, get, get_plain}
+use Rattle.clear_schema.proofs.FrameLemmas.{looks_as, looks_failed, looks_read}
+use Rattle.clear_schema.specs.Frame.{Answers}
+use Rattle.clear_schema.specs.Held.{HasTables}
+use Rattle.clear_schema.specs.Values.{Counts, counts_of}
+use Rattle.clear_firms.specs.Counts.{AreCounts, as_stored, counts_given}
+use Rattle.clear_firms.proofs.CountsTable.{answers, get}
 use Rattle.clear_firms.proofs.counts.find_counts.Goals as goal
 
-pub returns-clause-found : goal.returns-clause-found
-returns-clause-found g c clean t has =
-    let is = finds t (state g.S.Store c.args.tx.now.conn.now) (state g.S.Store c.look.new.tx.conn.now) has c.in-Ok.rows.items (c.in-Ok.ensures.shown clean) in
-    IfOk-weaker c.first_counts.result _ _ (λ found reads. reads (counts_of t) (c.deref.ensures.value ∙ is)) c.first_counts.ensures.read
+pub returns-in-Err-clause-looks : goal.returns-in-Err-clause-looks
+returns-in-Err-clause-looks g c =
+    let old = c.args.tx.now.conn.now in
+    let new = c.look.new.tx.conn.now in
+    let it = c.in-Err.ensures in
+    looks_as g.S.Store old new (Answers g.S.Store old new counts_given AreCounts get []) (λ t. HasTables t (state g.S.Store old).now) (λ t. counts_of t ∷ []) (λ t has. answers g.S.Store t _ has) _ _ _ _ _ _
+    (λ t found is. is (counts_of t) refl) (λ t out. out (counts_of t) refl)
+    (looks_failed g.S.Store old new counts_given AreCounts get [] c.in-Err.fault (λ xs found. (one : Counts) → xs ≡ one ∷ [] → as_stored found ≡ one) (λ found. AreCounts (as_stored found)) (λ xs. (one : Counts) → xs ≡ one ∷ [] → ¬ AreCounts one) it.no_row it.broke it.kept it.survives)
 
-pub returns-clause-range : goal.returns-clause-range
-returns-clause-range g c clean t has =
-    let is = finds t (state g.S.Store c.args.tx.now.conn.now) (state g.S.Store c.look.new.tx.conn.now) has c.in-Ok.rows.items (c.in-Ok.ensures.shown clean) in
-    IfErr-weaker c.first_counts.result _ _ (λ fault range told. range told (counts_of t) (c.deref.ensures.value ∙ is)) c.first_counts.ensures.range
-
-pub returns-clause-same : goal.returns-clause-same
-returns-clause-same g c clean t has = elim c.first_counts.result as (λ r. OnOk r (IsUnchanged (state g.S.Store c.args.tx.now.conn.now) (state g.S.Store c.look.new.tx.conn.now))) [
-  | Ok found ↦ shown_unchanged get _ (state g.S.Store c.args.tx.now.conn.now) (state g.S.Store c.look.new.tx.conn.now) _ store_schema has.schema get_plain (c.in-Ok.ensures.shown clean)
-  | Err e ↦ tt
-]
-
-pub returns-clause-kept : goal.returns-clause-kept
-returns-clause-kept g c clean t has =
-    unchanged_keeps (state g.S.Store c.args.tx.now.conn.now) (state g.S.Store c.look.new.tx.conn.now)
-    (shown_unchanged get _ (state g.S.Store c.args.tx.now.conn.now) (state g.S.Store c.look.new.tx.conn.now) _ store_schema has.schema get_plain (c.in-Ok.ensures.shown clean))
-
-pub returns-in-Err-clause-cause : goal.returns-in-Err-clause-cause
-returns-in-Err-clause-cause g c clean t has told =
-    asks_only get _ t (state g.S.Store c.args.tx.now.conn.now) (state g.S.Store c.look.new.tx.conn.now) has get_plain (c.in-Err.ensures.broke clean told)
+pub returns-clause-looks : goal.returns-clause-looks
+returns-clause-looks g c =
+    let old = c.args.tx.now.conn.now in
+    let new = c.look.new.tx.conn.now in
+    let it = c.in-Ok.ensures in
+    let read = rw c.deref.ensures.value at c.first_counts.ensures in
+    looks_as g.S.Store old new (Answers g.S.Store old new counts_given AreCounts get []) (λ t. HasTables t (state g.S.Store old).now) (λ t. counts_of t ∷ []) (λ t has. answers g.S.Store t _ has) _ _ _ _ _ _
+    (λ t found is. is (counts_of t) refl) (λ t out. out (counts_of t) refl)
+    (looks_read g.S.Store old new counts_given AreCounts get [] c.first_counts.result c.in-Ok.rows.items (λ xs found. (one : Counts) → xs ≡ one ∷ [] → as_stored found ≡ one) (λ found. AreCounts (as_stored found)) (λ xs. (one : Counts) → xs ≡ one ∷ [] → ¬ AreCounts one)
+    it.shown it.survives (IfOk-weaker c.first_counts.result _ _ (λ found reads xs same one is. reads one (same ∙ ap (map counts_given) is)) read.read) read.good read.cause
+    (IfErr-weaker c.first_counts.result _ _ (λ fault range told xs same one is. range told one (same ∙ ap (map counts_given) is)) read.range))

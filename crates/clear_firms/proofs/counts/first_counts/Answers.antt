@@ -1,4 +1,4 @@
-use Rattle.clear_firms.proofs.CountsLemmas.{first_row}
+use Rattle.clear_firms.proofs.CountsTable.{first_row}
 use Rattle.clear_firms.proofs.counts.first_counts.Goals as goal
 
 pub returns-in-Err-clause-range : goal.returns-in-Err-clause-range

@@ -1,13 +1,13 @@
-use Rattle.std.proofs.lemmas.Result.{on_ok_weaker, IfErr-weaker}
-use Rattle.sqlite.specs.Held.{state}
-use Rattle.clear_firms.specs.Counts.{as_stored}
-use Rattle.clear_firms.proofs.CountsLemmas.{replaces, turns}
+use Rattle.std.proofs.Common.{◌≤◌, arith, refl, rules, true}
+use Rattle.clear_book.specs.Limits.{most_entries, most_serials}
+use Rattle.clear_columns.proofs.NumberedTable.{sets}
+use Rattle.clear_firms.specs.Counts.{as_stored, counts_given}
+use Rattle.clear_firms.proofs.CountsTable.{counts, is_one, update_says}
 use Rattle.clear_firms.proofs.counts.put_counts.Goals as goal
 
-pub returns-clause-put : goal.returns-clause-put
-returns-clause-put g c clean t has =
-    on_ok_weaker c.put.result (replaces t (state g.S.Store c.args.tx.now.conn.now) (state g.S.Store c.put.new.tx.conn.now) has (as_stored c.args.counts.now)) (rw c.counts_values.ensures at (c.put.ensures.done clean))
-
-pub returns-clause-cause : goal.returns-clause-cause
-returns-clause-cause g c clean t has =
-    IfErr-weaker c.put.result _ _ (λ fault broke told. turns t (state g.S.Store c.args.tx.now.conn.now) (state g.S.Store c.put.new.tx.conn.now) has (as_stored c.args.counts.now) (broke told)) (rw c.counts_values.ensures at (c.put.ensures.broke clean))
+pub returns-clause-writes : goal.returns-clause-writes
+returns-clause-writes g c =
+    let told = as_stored c.args.counts.now in
+    let within : (c.args.counts.now.entries ≤ most_entries) × (c.args.counts.now.serial ≤ most_serials) = search rules in
+    sets counts g.S.Store c.args.tx.now.conn.now c.put.new.tx.conn.now update_says (counts_given told) (λ x. true) (λ x. told) (λ _. refl) (is_one (counts_given told)) (λ _. refl) (λ t db has. omega arith) (λ t. (told, refl))
+    c.put.result _ (λ out. out within) (rw c.counts_values.ensures at c.put.ensures.runs)

@@ -1,21 +1,15 @@
-use Rattle.std.proofs.Common.{◌∙◌, filter}
-use Rattle.std.proofs.lemmas.Result.{IfOk-weaker, IfErr-weaker}
+use Rattle.std.proofs.Common.{[], ◌∷◌, filter}
+use Rattle.clear_book.specs.Keyed.{is_key}
 use Rattle.clear_book.specs.RowRanges.{IsEmployerRow}
-use Rattle.clear_firms.proofs.EmployerLemmas.{answers, first_is, has_no}
-use Rattle.clear_columns.proofs.KeyLemmas.{found_out}
+use Rattle.clear_book.specs.Tables.{employer_key}
+use Rattle.clear_schema.proofs.FrameLemmas.{finds}
+use Rattle.clear_columns.proofs.KeyLemmas.{first_found}
+use Rattle.clear_firms.specs.Shown.{employer_shown}
+use Rattle.clear_firms.proofs.EmployerTable.{answers}
 use Rattle.clear_firms.proofs.employers.find_employer.Goals as goal
 
-pub returns-clause-found : goal.returns-clause-found
-returns-clause-found g c clean t has = IfOk-weaker c.find.result _ _ (λ found is. is ∙ first_is t.employers c.args.no) ((rw c.employer.ensures at (c.find.ensures.found clean)) (filter (has_no c.args.no) t.employers) (answers g.S.Store t _ has c.args.no))
-
-pub returns-clause-cause : goal.returns-clause-cause
-returns-clause-cause g c clean t has = (rw c.employer.ensures at (c.find.ensures.cause clean)) (filter (has_no c.args.no) t.employers) (answers g.S.Store t _ has c.args.no)
-
-pub returns-clause-range : goal.returns-clause-range
-returns-clause-range g c clean t has = IfErr-weaker c.find.result _ _ (λ fault range told. found_out IsEmployerRow _ _ (first_is t.employers c.args.no) (range told)) ((rw c.employer.ensures at (c.find.ensures.range clean)) (filter (has_no c.args.no) t.employers) (answers g.S.Store t _ has c.args.no))
-
-pub returns-clause-same : goal.returns-clause-same
-returns-clause-same g c clean t has = (rw c.employer.ensures at (c.find.ensures.same clean)) (filter (has_no c.args.no) t.employers) (answers g.S.Store t _ has c.args.no)
-
-pub returns-clause-kept : goal.returns-clause-kept
-returns-clause-kept g c clean t has = (rw c.employer.ensures at (c.find.ensures.kept clean)) (filter (has_no c.args.no) t.employers) (answers g.S.Store t _ has c.args.no)
+pub returns-clause-looks : goal.returns-clause-looks
+returns-clause-looks g c =
+    let k = c.args.no ∷ [] in
+    finds g.S.Store c.args.tx.now.conn.now c.find.new.tx.conn.now employer_shown IsEmployerRow _ _ c.find.result (λ t. filter (λ row. is_key (employer_key row) k) t.employers) _ (λ t. first_found employer_key t.employers k)
+    (λ t has. answers g.S.Store t _ has c.args.no) (rw c.employer.ensures at c.find.ensures.looks)

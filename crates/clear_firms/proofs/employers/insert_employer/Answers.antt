@@ -1,12 +1,7 @@
-use Rattle.std.proofs.lemmas.Result.{on_ok_weaker, IfErr-weaker}
-use Rattle.sqlite.specs.Held.{state}
-use Rattle.clear_firms.proofs.EmployerLemmas.{inserts, held}
+use Rattle.std.proofs.Common.{refl}
+use Rattle.clear_columns.proofs.NumberedTable.{puts}
+use Rattle.clear_firms.proofs.EmployerTable.{employers, insert_says}
 use Rattle.clear_firms.proofs.employers.insert_employer.Goals as goal
 
-pub returns-clause-put : goal.returns-clause-put
-returns-clause-put g c clean t has =
-    on_ok_weaker c.put.result (inserts t (state g.S.Store c.args.tx.now.conn.now) (state g.S.Store c.put.new.tx.conn.now) has c.args.row.now) (rw c.employer_values.ensures at (c.put.ensures.done clean))
-
-pub returns-clause-cause : goal.returns-clause-cause
-returns-clause-cause g c clean t has =
-    IfErr-weaker c.put.result _ _ (λ fault broke told. held t (state g.S.Store c.args.tx.now.conn.now) (state g.S.Store c.put.new.tx.conn.now) has c.args.row.now (broke told)) (rw c.employer_values.ensures at (c.put.ensures.broke clean))
+pub returns-clause-writes : goal.returns-clause-writes
+returns-clause-writes g c = puts employers g.S.Store c.args.tx.now.conn.now c.put.new.tx.conn.now insert_says c.args.row.now refl (λ xs. tt) c.put.result _ (λ out. out) (rw c.employer_values.ensures at c.put.ensures.runs)

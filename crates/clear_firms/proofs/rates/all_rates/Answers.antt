@@ -1,17 +1,8 @@
-use Rattle.clear_firms.proofs.RateLemmas.{answers}
+use Rattle.clear_money.specs.Rates.{IsRate}
+use Rattle.clear_schema.proofs.FrameLemmas.{lists}
+use Rattle.clear_firms.specs.Shown.{rate_shown}
+use Rattle.clear_firms.proofs.RateTable.{answers}
 use Rattle.clear_firms.proofs.rates.all_rates.Goals as goal
 
-pub returns-clause-found : goal.returns-clause-found
-returns-clause-found g c clean t has = c.list.ensures.found clean t.rates (answers g.S.Store t _ has)
-
-pub returns-clause-cause : goal.returns-clause-cause
-returns-clause-cause g c clean t has = c.list.ensures.cause clean t.rates (answers g.S.Store t _ has)
-
-pub returns-clause-range : goal.returns-clause-range
-returns-clause-range g c clean t has = c.list.ensures.range clean t.rates (answers g.S.Store t _ has)
-
-pub returns-clause-same : goal.returns-clause-same
-returns-clause-same g c clean t has = c.list.ensures.same clean t.rates (answers g.S.Store t _ has)
-
-pub returns-clause-kept : goal.returns-clause-kept
-returns-clause-kept g c clean t has = c.list.ensures.kept clean t.rates (answers g.S.Store t _ has)
+pub returns-clause-looks : goal.returns-clause-looks
+returns-clause-looks g c = lists g.S.Store c.args.tx.now.conn.now c.list.new.tx.conn.now rate_shown IsRate _ _ c.list.result _ (λ t has. answers g.S.Store t _ has) c.list.ensures.looks

@@ -1,6 +1,6 @@
 use Rattle.std.proofs.Common.{◌≤◌, subst}
 use Rattle.clear_money.specs.Rates.{last_first}
-use Rattle.clear_firms.proofs.RateLemmas.{too_early}
+use Rattle.clear_firms.proofs.RateTable.{too_early}
 use Rattle.clear_firms.proofs.rates.table_of.Goals as goal
 
 pub returns-in-Err-RateOrder-clause-range : goal.returns-in-Err-RateOrder-clause-range

@@ -1,12 +1,11 @@
-use Rattle.std.proofs.lemmas.Result.{on_ok_weaker, IfErr-weaker}
-use Rattle.sqlite.specs.Held.{state}
-use Rattle.clear_firms.proofs.WageLemmas.{deletes, goes}
+use Rattle.std.proofs.Common.{refl}
+use Rattle.clear_columns.proofs.KeyedTable.{drops}
+use Rattle.clear_firms.specs.Shown.{month_given}
+use Rattle.clear_firms.proofs.WageTable.{delete_says, is_of, of_month, wages}
 use Rattle.clear_firms.proofs.wages.delete_wages.Goals as goal
 
-pub returns-clause-put : goal.returns-clause-put
-returns-clause-put g c clean t has =
-    on_ok_weaker c.put.result (deletes t (state g.S.Store c.args.tx.now.conn.now) (state g.S.Store c.put.new.tx.conn.now) has c.args.no c.args.at) (rw c.month_values.ensures at (c.put.ensures.done clean))
-
-pub returns-clause-cause : goal.returns-clause-cause
-returns-clause-cause g c clean t has =
-    IfErr-weaker c.put.result _ _ (λ fault broke told. goes t (state g.S.Store c.args.tx.now.conn.now) (state g.S.Store c.put.new.tx.conn.now) has c.args.no c.args.at (broke told)) (rw c.month_values.ensures at (c.put.ensures.broke clean))
+pub returns-clause-writes : goal.returns-clause-writes
+returns-clause-writes g c =
+    let e = c.args.no in
+    let m = c.args.at in
+    drops wages g.S.Store c.args.tx.now.conn.now c.put.new.tx.conn.now delete_says (month_given e m) (is_of e m) (of_month e m) (λ _. refl) c.put.result _ (λ out. out) (rw c.month_values.ensures at c.put.ensures.runs)

@@ -1,12 +1,16 @@
-use Rattle.std.proofs.lemmas.Result.{on_ok_weaker, IfErr-weaker}
-use Rattle.sqlite.specs.Held.{state}
-use Rattle.clear_firms.proofs.WageLemmas.{inserts, held}
+use Rattle.std.proofs.Common.{◌≤◌, refl, rules}
+use Rattle.clear_book.specs.Limits.{most_gross}
+use Rattle.clear_schema.proofs.FrameLemmas.{writes_none}
+use Rattle.clear_columns.proofs.KeyedTable.{puts}
+use Rattle.clear_firms.proofs.WageTable.{insert_says, wages}
 use Rattle.clear_firms.proofs.wages.insert_wage.Goals as goal
 
-pub returns-clause-put : goal.returns-clause-put
-returns-clause-put g c clean t has =
-    on_ok_weaker c.put.result (inserts t (state g.S.Store c.args.tx.now.conn.now) (state g.S.Store c.put.new.tx.conn.now) has c.args.row) (rw c.wage_values.ensures at (c.put.ensures.done clean))
+pub returns-clause-writes : goal.returns-clause-writes
+returns-clause-writes g c =
+    let within : c.args.row.gross ≤ most_gross = search rules in
+    puts wages g.S.Store c.args.tx.now.conn.now c.put.new.tx.conn.now insert_says c.args.row refl c.put.result _ (λ out. out within) (rw c.wage_values.ensures at c.put.ensures.runs)
 
-pub returns-clause-cause : goal.returns-clause-cause
-returns-clause-cause g c clean t has =
-    IfErr-weaker c.put.result _ _ (λ fault broke told. held t (state g.S.Store c.args.tx.now.conn.now) (state g.S.Store c.put.new.tx.conn.now) has c.args.row (broke told)) (rw c.wage_values.ensures at (c.put.ensures.broke clean))
+pub returns-then-not-is_gross-clause-writes : goal.returns-then-not-is_gross-clause-writes
+returns-then-not-is_gross-clause-writes g c =
+    let out : ¬ (c.args.row.gross ≤ most_gross) = search rules in
+    writes_none g.S.Store c.args.tx.now.conn.now _ _ _ out

@@ -1,17 +1,13 @@
 use Rattle.std.proofs.Common.{refl}
-use Rattle.std.proofs.lemmas.Result.{IfOk-weaker, on_err_weaker}
-use Rattle.sqlite.specs.Held.{state}
-use Rattle.clear_ledger.proofs.BankLemmas.{reads_lines}
+use Rattle.clear_columns.proofs.ReadingLemmas.{left_on, reads_on}
+use Rattle.clear_ledger.proofs.BankTable.{answers_all}
+use Rattle.clear_ledger.specs.Shown.{bank_shown}
 use Rattle.clear_ledger.proofs.bank.lines.Goals as goal
 
 pub returns : goal.returns
 returns g c =
-    let made = c.begin_rows.result in
-    let db = (state g.S.Store c.args.conn.now).now in
-    let just = reads_lines g.S.Store in
-    let begins = IfOk-weaker made _ _ (λ rows start clean t has. start clean _ (just t db has)) c.begin_rows.ensures.begun in
-    let same = IfOk-weaker made _ _ (λ rows keeps clean t has. keeps clean (just t db has).plain) c.begin_rows.ensures.same in
-    let survives = IfOk-weaker made _ _ (λ rows keeps t has. keeps (just t db has).plain) c.begin_rows.ensures.survives in (
-      (refl, c.begin_rows.follows.holds, on_err_weaker made (λ left t has. left (just t db has).plain) c.begin_rows.follows.holds-at-none),
-      record { refused = tt; same_reference = c.begin_rows.ensures.same_reference; begun = begins; same = same; mode = c.begin_rows.ensures.mode; survives = survives },
+    let old = c.args.conn.now in
+    let made = c.begin_rows.result in (
+      (refl, c.begin_rows.follows.holds, left_on g.S.Store old _ _ _ _ (λ t has. answers_all g.S.Store t _ has) made c.begin_rows.follows.holds-at-none),
+      record { refused = tt; same_reference = c.begin_rows.ensures.same_reference; begun = reads_on g.S.Store old _ _ _ bank_shown (λ t. t.bank) (λ t has. answers_all g.S.Store t _ has) made c.begin_rows.ensures.begun },
     )

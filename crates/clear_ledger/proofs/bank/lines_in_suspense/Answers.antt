@@ -1,19 +1,9 @@
-use Rattle.std.proofs.Common.{filter}
-use Rattle.clear_book.specs.Lines.{is_in_suspense}
-use Rattle.clear_ledger.proofs.BankLemmas.{answers_suspense}
+use Rattle.clear_book.specs.RowRanges.{IsBankRow}
+use Rattle.clear_ledger.proofs.BankTable.{answers_suspense}
+use Rattle.clear_ledger.specs.Shown.{bank_shown}
+use Rattle.clear_schema.proofs.FrameLemmas.{lists}
 use Rattle.clear_ledger.proofs.bank.lines_in_suspense.Goals as goal
 
-pub returns-clause-found : goal.returns-clause-found
-returns-clause-found g c clean t has = c.list.ensures.found clean (filter is_in_suspense t.bank) (answers_suspense g.S.Store t _ has)
-
-pub returns-clause-cause : goal.returns-clause-cause
-returns-clause-cause g c clean t has = c.list.ensures.cause clean (filter is_in_suspense t.bank) (answers_suspense g.S.Store t _ has)
-
-pub returns-clause-range : goal.returns-clause-range
-returns-clause-range g c clean t has = c.list.ensures.range clean (filter is_in_suspense t.bank) (answers_suspense g.S.Store t _ has)
-
-pub returns-clause-same : goal.returns-clause-same
-returns-clause-same g c clean t has = c.list.ensures.same clean (filter is_in_suspense t.bank) (answers_suspense g.S.Store t _ has)
-
-pub returns-clause-kept : goal.returns-clause-kept
-returns-clause-kept g c clean t has = c.list.ensures.kept clean (filter is_in_suspense t.bank) (answers_suspense g.S.Store t _ has)
+pub returns-clause-looks : goal.returns-clause-looks
+returns-clause-looks g c =
+    lists g.S.Store c.args.tx.now.conn.now c.list.new.tx.conn.now bank_shown IsBankRow _ _ c.list.result _ (λ t has. answers_suspense g.S.Store t _ has) c.list.ensures.looks

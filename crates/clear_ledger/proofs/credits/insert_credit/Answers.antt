@@ -1,16 +1,16 @@
-use Rattle.std.proofs.lemmas.Result.{on_ok_weaker, IfErr-weaker}
-use Rattle.sqlite.specs.Held.{state}
-use Rattle.clear_ledger.proofs.CreditLemmas.{inserts, credit_held}
+use Rattle.std.proofs.Common.{refl, rules}
+use Rattle.clear_book.specs.RowRanges.{IsSerial}
+use Rattle.clear_ledger.proofs.CreditTable.{credits, insert_says}
+use Rattle.clear_schema.proofs.FrameLemmas.{writes_none}
+use Rattle.clear_columns.proofs.KeyedTable.{puts}
 use Rattle.clear_ledger.proofs.credits.insert_credit.Goals as goal
 
-pub returns-clause-put : goal.returns-clause-put
-returns-clause-put g c clean t has =
-    on_ok_weaker c.put.result (λ ran. (inserts t (state g.S.Store c.args.tx.now.conn.now) (state g.S.Store c.put.new.tx.conn.now) c.args.row.now ran.0 has ran.1).0) (rw c.credit_values.ensures at (c.put.ensures.done clean))
+pub returns-clause-writes : goal.returns-clause-writes
+returns-clause-writes g c =
+    let within : IsSerial c.args.row.now.serial = search rules in
+    puts credits g.S.Store c.args.tx.now.conn.now c.put.new.tx.conn.now insert_says c.args.row.now refl c.put.result _ (λ out. out within) (rw c.credit_values.ensures at c.put.ensures.runs)
 
-pub returns-clause-free : goal.returns-clause-free
-returns-clause-free g c clean t has =
-    on_ok_weaker c.put.result (λ ran. (inserts t (state g.S.Store c.args.tx.now.conn.now) (state g.S.Store c.put.new.tx.conn.now) c.args.row.now ran.0 has ran.1).1) (rw c.credit_values.ensures at (c.put.ensures.done clean))
-
-pub returns-clause-cause : goal.returns-clause-cause
-returns-clause-cause g c clean t has =
-    IfErr-weaker c.put.result _ _ (λ fault broke told. let ran = broke told in credit_held t (state g.S.Store c.args.tx.now.conn.now) (state g.S.Store c.put.new.tx.conn.now) c.args.row.now ran.0 has ran.1) (rw c.credit_values.ensures at (c.put.ensures.broke clean))
+pub returns-then-not-is_serial-clause-writes : goal.returns-then-not-is_serial-clause-writes
+returns-then-not-is_serial-clause-writes g c =
+    let out : ¬ IsSerial c.args.row.now.serial = search rules in
+    writes_none g.S.Store c.args.tx.now.conn.now _ _ _ out

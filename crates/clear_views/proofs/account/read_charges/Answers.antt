@@ -5,6 +5,6 @@ use Rattle.clear_views.proofs.account.read_charges.Goals as goal
 
 pub returns-in-Err-clause-fault : goal.returns-in-Err-clause-fault
 returns-in-Err-clause-fault g c clean t has is account = (
-  c.in-Err.ensures.cause clean t has,
-  λ told. c.in-Err.ensures.range clean t has told (all-filter IsReportRow (λ row. row.employer == c.args.employer) t.reports account.ranges.reports),
+  c.in-Err.ensures.looks.cause clean t has,
+  λ told. c.in-Err.ensures.looks.range clean t has told (all-filter IsReportRow (λ row. row.employer == c.args.employer) t.reports account.ranges.reports),
 )

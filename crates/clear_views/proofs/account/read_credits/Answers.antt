@@ -6,6 +6,6 @@ use Rattle.clear_views.proofs.account.read_credits.Goals as goal
 
 pub returns-in-Err-clause-fault : goal.returns-in-Err-clause-fault
 returns-in-Err-clause-fault g c clean t has account = (
-  c.in-Err.ensures.cause clean t has,
-  λ told. c.in-Err.ensures.range clean t has told (all-filter IsCreditRow (is_credit_of c.args.employer Contribution) t.credits account.ranges.credits),
+  c.in-Err.ensures.looks.cause clean t has,
+  λ told. c.in-Err.ensures.looks.range clean t has told (all-filter IsCreditRow (is_credit_of c.args.employer Contribution) t.credits account.ranges.credits),
 )

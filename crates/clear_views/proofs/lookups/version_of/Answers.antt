@@ -6,4 +6,4 @@ use Rattle.clear_views.proofs.lookups.version_of.Goals as goal
 
 pub returns-in-Err-clause-fault : goal.returns-in-Err-clause-fault
 returns-in-Err-clause-fault g c clean t has good =
-    found_in_range report_key IsReportRow t.reports (c.args.employer ∷ c.args.month ∷ []) c.in-Err.fault (c.in-Err.ensures.cause clean t has) (c.in-Err.ensures.range clean t has) good.reports
+    found_in_range report_key IsReportRow t.reports (c.args.employer ∷ c.args.month ∷ []) c.in-Err.fault (c.in-Err.ensures.looks.cause clean t has) (c.in-Err.ensures.looks.range clean t has) good.reports

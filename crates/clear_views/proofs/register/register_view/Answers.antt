@@ -12,9 +12,9 @@ returns-clause-view g c clean t has same b stands =
     let two = state g.S.Store c.rate_for.new.tx.conn.now in
     let end = state g.S.Store c.count_employers.new.tx.conn.now in
     let clean_two = was_clean two end c.count_employers.ensures.survives clean in
-    let clean_one = was_clean one two c.rate_for.ensures.survives clean_two in
-    let has_one = still t old one (c.in-Ok.ensures.same clean_one t has) has in
-    let has_two = still t one two (c.in-Ok-rate_for.ensures.same clean_two t has_one) has_one in
+    let clean_one = was_clean one two c.rate_for.ensures.leaves.survives clean_two in
+    let has_one = still t old one (c.in-Ok.ensures.leaves.same clean_one t has) has in
+    let has_two = still t one two (c.in-Ok-rate_for.ensures.leaves.same clean_two t has_one) has_one in
     register_viewed b t stands c.args.registration.now _ c.args.counts.now.entries (ap (λ (x : Counts). x.entries) same)
     (c.is_some-registered.ensures ∙ ap is_some (c.in-Ok.ensures.start clean_one t has))
     (c.is_some-has_rate.ensures ∙ ap is_some (c.in-Ok-rate_for.ensures.row clean_two t has_one))

@@ -6,4 +6,4 @@ use Rattle.clear_views.proofs.start.start_of.Goals as goal
 
 pub returns-in-Err-clause-fault : goal.returns-in-Err-clause-fault
 returns-in-Err-clause-fault g c clean t has good =
-    found_in_range employer_key IsEmployerRow t.employers (c.args.employer ∷ []) c.in-Err.fault (c.in-Err.ensures.cause clean t has) (c.in-Err.ensures.range clean t has) good.employers
+    found_in_range employer_key IsEmployerRow t.employers (c.args.employer ∷ []) c.in-Err.fault (c.in-Err.ensures.looks.cause clean t has) (c.in-Err.ensures.looks.range clean t has) good.employers

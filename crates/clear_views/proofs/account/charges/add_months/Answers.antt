@@ -29,7 +29,7 @@ loop-row-preserved g c =
     let first = state g.S.Store c.args.tx.now.conn.now in
     let mid = state g.S.Store c.loop-row.tx.conn.now in
     let last = state g.S.Store c.add_month.new.tx.conn.now in
-    let before = was_clean mid last c.add_month.ensures.survives in
+    let before = was_clean mid last c.add_month.ensures.leaves.survives in
     record {
       same_reference = c.add_month.ensures.same_reference ∙ c.loop-row.invariant.same_reference;
       charges = λ clean t has is.
@@ -39,10 +39,10 @@ loop-row-preserved g c =
       credits = c.add_month.ensures.credits ∙ c.loop-row.invariant.credits;
       still = λ clean t has.
           let had = c.loop-row.invariant.still (before clean) t has in
-          still t mid last (c.in-Ok.ensures.same clean t had) had;
+          still t mid last (c.in-Ok.ensures.leaves.same clean t had) had;
       same = λ clean t has on.
-          unchanged_both first mid last (c.loop-row.invariant.same (before clean) t has on) (c.in-Ok.ensures.same clean t (c.loop-row.invariant.still (before clean) t has));
+          unchanged_both first mid last (c.loop-row.invariant.same (before clean) t has on) (c.in-Ok.ensures.leaves.same clean t (c.loop-row.invariant.still (before clean) t has));
       kept = λ clean t has.
-          keeps_both first mid last (c.loop-row.invariant.kept (before clean) t has) (c.add_month.ensures.kept clean t (c.loop-row.invariant.still (before clean) t has));
-      survives = survives_both first mid last c.loop-row.invariant.survives c.add_month.ensures.survives;
+          keeps_both first mid last (c.loop-row.invariant.kept (before clean) t has) (c.add_month.ensures.leaves.kept clean t (c.loop-row.invariant.still (before clean) t has));
+      survives = survives_both first mid last c.loop-row.invariant.survives c.add_month.ensures.leaves.survives;
     }

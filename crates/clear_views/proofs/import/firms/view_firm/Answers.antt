@@ -7,5 +7,5 @@ use Rattle.clear_views.proofs.import.firms.view_firm.Goals as goal
 
 pub returns-clause-reads : goal.returns-clause-reads
 returns-clause-reads g c clean t has =
-    reads_query g.S.Store t ⊤ _ _ _ (Err c.in-Err.fault) _ tt (c.in-Err.ensures.cause clean t has) (c.in-Err.ensures.range clean t has)
-    (λ within. none_found_out IsEmployerRow employer_key t.employers (c.args.no ∷ []) within.employers) tt (c.in-Err.ensures.kept clean t has)
+    reads_query g.S.Store t ⊤ _ _ _ (Err c.in-Err.fault) _ tt (c.in-Err.ensures.looks.cause clean t has) (c.in-Err.ensures.looks.range clean t has)
+    (λ within. none_found_out IsEmployerRow employer_key t.employers (c.args.no ∷ []) within.employers) tt (c.in-Err.ensures.looks.kept clean t has)

@@ -1,0 +1,49 @@
+-- The words that the proofs of each table speak in.
+pub use Rattle.clear_bank.specs.declared.lines.Purpose.TheVariants.{Contribution, Interest}
+pub use Rattle.clear_bank.specs.declared.lines.Purpose.{Purpose}
+pub use Rattle.clear_book.specs.Accounts.{credit_key}
+pub use Rattle.clear_book.specs.Keyed.{find_row, is_key}
+pub use Rattle.clear_book.specs.Lines.{is_credit_of, is_in_suspense}
+pub use Rattle.clear_book.specs.Tables.{RequestRow, Tables, bank_key, employer_key, is_wage_key_of, report_key, wage_key}
+pub use Rattle.clear_book.specs.declared.rows.BankRow.{BankRow}
+pub use Rattle.clear_book.specs.declared.rows.ClaimRow.{ClaimRow}
+pub use Rattle.clear_book.specs.declared.rows.ClaimState.TheVariants.{Open, Released, Withdrawn}
+pub use Rattle.clear_book.specs.declared.rows.ClaimState.{ClaimState}
+pub use Rattle.clear_book.specs.declared.rows.CreditRow.{CreditRow}
+pub use Rattle.clear_book.specs.declared.rows.EmployerRow.{EmployerRow}
+pub use Rattle.clear_book.specs.declared.rows.ReleasedClaim.{ReleasedClaim}
+pub use Rattle.clear_book.specs.declared.rows.ReportRow.{ReportRow}
+pub use Rattle.clear_book.specs.declared.rows.WageRow.{WageRow}
+pub use Rattle.clear_columns.proofs.KeyLemmas.{by_key_total, first_found, is_key_is, key_is, turned, turned_nat}
+pub use Rattle.clear_columns.proofs.StoredLemmas.{cast_maybe, cast_purpose, equal_numbers, equal_purposes, equal_ranks, maybe_typed, numbers_compare, purpose_typed, purposes_compare, same_numbers, cast_maybe_month, equal_months, maybe_month_typed, months_compare, months_keep, numbers_keep}
+pub use Rattle.clear_rows.proofs.Held.{content}
+pub use Rattle.clear_rows.specs.Kept.{IsNumbered}
+pub use Rattle.clear_rows.specs.Plain.{passes as meets, plain_program, plain_query}
+pub use Rattle.clear_schema.proofs.ValueLemmas.{cast_int, cast_null, equal_ints, equal_texts, greater_ints}
+pub use Rattle.clear_schema.specs.Frame.{AnswersJust}
+pub use Rattle.clear_schema.specs.Held.{HasTables, by_key, request_key}
+pub use Rattle.clear_schema.specs.Schema.{bank_table, claims_table, credits_table, requests_table, store_schema, employers_table, meta_table, rates_table, reports_table, wages_table}
+pub use Rattle.clear_schema.specs.Values.{bank_values, caller_number, claim_values, credit_values, maybe, number, purpose, request_values, employer_values, meta_values, month, month_number, rate_values, report_values, wage_values}
+pub use Rattle.sqlite.specs.Cast.{cast_row}
+pub use Rattle.sqlite.specs.Collation.TheVariants.{Binary}
+pub use Rattle.sqlite.specs.Command.TheVariants.{Insert, Update, Delete}
+pub use Rattle.sqlite.specs.Effect.{Database}
+pub use Rattle.sqlite.specs.Order.{Row}
+pub use Rattle.sqlite.specs.Query.{output, output_cmp}
+pub use Rattle.sqlite.specs.Source.TheVariants.{Values}
+pub use Rattle.sqlite.specs.Store.{Ghosts}
+pub use Rattle.sqlite.specs.Term.{Term, col, lit, op2}
+pub use Rattle.sqlite.specs.Tree.{Trees}
+pub use Rattle.sqlite.specs.declared.types.Value.TheVariants.{Blob, Int, Null, Text}
+pub use Rattle.sqlite_catalog.specs.Listing.{automatic}
+pub use Rattle.sqlite_keyed.proofs.ListLemmas.{filter_same}
+pub use Rattle.sqlite_schema.specs.Rules.{agree, passes}
+pub use Rattle.sqlite_schema.specs.declared.schema.Constraint.TheVariants.{Datatype, NotNull}
+pub use Rattle.sqlite_sql.specs.declared.ops.BinaryOp.TheVariants.{Compare, Is}
+pub use Rattle.sqlite_sql.specs.declared.ops.CompareOp.TheVariants.{Eq, Gt}
+pub use Rattle.sqlite_value.proofs.OrderLemmas.{value_cmp-Text}
+pub use Rattle.sqlite_value.specs.declared.keys.Key.{Key}
+pub use Rattle.std.proofs.Common.{Bool, Equal, Less, List, None, Option, Some, [], ap, arith, codes, drop, false, filter, inl, inr, int_cmp, is_eq, is_gt, is_none, map, nat_lt, pos, refl, slice_get, subst, sym, true, zero, ℕ, ℤ, ◌&&◌, ◌==◌, ◌||◌, ◌∙◌, ◌∷◌, ◌≡◌, ◌≢◌}
+pub use Rattle.std.proofs.lemmas.Bool.Decides.{nat_tests}
+pub use Rattle.std.proofs.lemmas.Int.{ints}
+pub use Rattle.std.specs.Ordering.{ordering_then}

@@ -1,0 +1,81 @@
+-- The counts: one row, under the number 1.
+use Rattle.clear_columns.proofs.Words.{◌≡◌, arith, pos, ℕ, true, List, [], ◌∷◌, Some, map, slice_get, refl, sym, ap, subst, ◌∙◌, inl, codes, cast_row, Binary, Update, Database, Row, Ghosts, Term, lit, col, op2, Trees, Null, Int, passes, Datatype, Compare, Eq, Tables, IsNumbered, meets, plain_program, HasTables, meta_table, store_schema, meta_values, cast_int, cast_maybe, cast_null, equal_ints, maybe_typed, numbers_keep, AnswersJust}
+use Rattle.sqlite_tied.specs.Compute.{everything}
+use Rattle.clear_schema.specs.Held.{this_schema}
+use Rattle.clear_schema.specs.Values.{Counts, counts_of, with_counts}
+use Rattle.clear_schema.proofs.Changes.{counts_changed}
+use Rattle.clear_columns.proofs.NumberedTable.{NumberedTable, finds}
+use Rattle.clear_columns.proofs.Says.{Says, SaysQuery}
+use Rattle.clear_firms.specs.Counts.{counts_given}
+
+-- the tables with the counts of a row
+abbrev pub with_first : Tables → List Counts → Tables
+with_first t [] = t
+with_first t (c ∷ rows) = with_counts c t
+
+abbrev pub meta_row : Counts → Row
+meta_row = meta_values this_schema
+
+pub stored : (c : Counts) → cast_row meta_table (meta_row c) ≡ meta_row c
+stored c = rw (cast_int (pos 1), cast_null, cast_int (pos 0), cast_maybe c.day, cast_int (pos c.entries), cast_int (pos c.serial), cast_int (pos c.claims), cast_int (pos c.lists), cast_int (pos c.runs))
+
+pub typed : (db : Trees) (c : Counts) → passes Datatype store_schema db meta_table (meta_row c) ≡ true
+typed db c = rw (maybe_typed c.day)
+
+abbrev pub counts : NumberedTable Counts
+counts = record {
+  at = 0;
+  table = meta_table;
+  rows = λ t. counts_of t ∷ [];
+  with_those = with_first;
+  fits = λ xs. (c : Counts) × (xs ≡ c ∷ []);
+  number = λ c. 1;
+  as_int = λ n. pos n;
+  in_order = numbers_keep;
+  given = counts_given;
+  to_row = meta_row;
+  placed = refl;
+  listed = inl refl;
+  uncounted = refl;
+  unguarded = refl;
+  numbered = λ _. refl;
+  stored = stored;
+  typed = typed;
+  present = λ _ _. refl;
+  checked = λ _ _. refl;
+  has = λ t db has. has.meta;
+  changed = λ t old new has schema sound xs fits same it.
+      subst (λ (xs : List Counts). HasTables (with_first t xs) new) (sym fits.1)
+      (counts_changed t old new has schema sound fits.0 same (subst (λ (xs : List Counts). IsNumbered (λ c. pos 1) meta_row xs (new.trees 0)) fits.1 it));
+}
+
+abbrev the_one : List Term
+the_one = op2 (Compare Eq Binary) (col 1 0) (lit (Int (pos 1))) ∷ []
+
+abbrev update_terms : List Term
+update_terms = col 1 0 ∷ col 1 0 ∷ lit Null ∷ col 1 2 ∷ col 0 0 ∷ col 0 1 ∷ col 0 2 ∷ col 0 3 ∷ col 0 4 ∷ col 0 5 ∷ []
+
+pub update_says : Says (codes "UPDATE meta SET day = ?1, entries = ?2, serial = ?3, claims = ?4, lists = ?5, runs = ?6 WHERE one = 1") (Update 0 (plain_program 0 the_one update_terms []))
+unfolding everything
+update_says = record { said = (refl, refl, refl) }
+
+abbrev columns : List Term
+columns = col 1 3 ∷ col 1 4 ∷ col 1 5 ∷ col 1 6 ∷ col 1 7 ∷ col 1 8 ∷ []
+
+abbrev pub get : List ℕ
+get = codes "SELECT day, entries, serial, claims, lists, runs FROM meta WHERE one = 1"
+
+get_says : SaysQuery get (plain_program 0 the_one columns [])
+unfolding everything
+get_says = record { names = _; said = (refl, refl, refl) }
+
+-- every row is the one
+pub is_one : (params : Row) (c : Counts) → meets the_one params (meta_row c) ≡ true
+is_one params c = rw (equal_ints (pos 1) (pos 1))
+
+pub answers : {S : Type 0} (g : Ghosts S) (t : Tables) (db : Database) → HasTables t db → AnswersJust g get [] db (map counts_given (counts_of t ∷ []))
+answers g t db has = finds counts g t db has [] counts_given (λ c. true) (is_one []) get_says (λ _. refl) (omega arith)
+
+-- the first row of the answer is the one
+pub first_row : (rows : List Row) (c : Counts) (row : Row) → Some row ≡ slice_get rows 0 → rows ≡ counts_given c ∷ [] → row ≡ counts_given c
+first_row rows c row is same = let e = is ∙ ap (λ l. slice_get l 0) same in cc

@@ -1,0 +1,79 @@
+-- The firms: under their numbers.
+use Rattle.clear_columns.proofs.Words.{◌≡◌, pos, ℕ, true, List, [], ◌∷◌, map, filter, refl, inl, inr, codes, cast_row, Binary, Insert, Database, Values, Ghosts, Term, lit, col, op2, Trees, Null, passes, Datatype, Compare, Eq, is_key, Tables, EmployerRow, employer_key, meets, plain_program, HasTables, employers_table, store_schema, employer_values, month_number, number, cast_int, cast_maybe_month, cast_null, equal_numbers, maybe_month_typed, numbers_keep, AnswersJust}
+use Rattle.sqlite_tied.specs.Compute.{everything}
+use Rattle.clear_schema.proofs.Changes.{employers_changed}
+use Rattle.clear_columns.proofs.NumberedTable.{NumberedTable, by_number, few, finds, lists_all}
+use Rattle.clear_columns.proofs.Says.{Says, SaysQuery}
+use Rattle.clear_firms.specs.Shown.{employer_shown}
+
+pub stored : (x : EmployerRow) → cast_row employers_table (employer_values x) ≡ employer_values x
+stored x = rw (cast_int (pos x.employer), cast_null, cast_int (month_number x.start), cast_maybe_month x.last)
+
+pub typed : (db : Trees) (x : EmployerRow) → passes Datatype store_schema db employers_table (employer_values x) ≡ true
+typed db x = rw (maybe_month_typed x.last)
+
+abbrev pub employers : NumberedTable EmployerRow
+employers = record {
+  at = 2;
+  table = employers_table;
+  rows = λ t. t.employers;
+  with_those = λ t xs. record t { employers = xs };
+  fits = λ xs. Unit {0};
+  number = λ x. x.employer;
+  as_int = λ n. pos n;
+  in_order = numbers_keep;
+  given = employer_shown;
+  to_row = employer_values;
+  placed = refl;
+  listed = inr (inr (inl refl));
+  uncounted = refl;
+  unguarded = refl;
+  numbered = λ _. refl;
+  stored = stored;
+  typed = typed;
+  present = λ _ _. refl;
+  checked = λ _ _. refl;
+  has = λ t db has. has.employers;
+  changed = λ t old new has schema sound xs fits. employers_changed t old new has schema sound xs;
+}
+
+-- ---- the texts
+
+abbrev pub insert_terms : List Term
+insert_terms = col 0 0 ∷ lit Null ∷ col 0 1 ∷ col 0 2 ∷ col 0 3 ∷ []
+
+pub insert_says : Says (codes "INSERT INTO employers (no, name, start, last) VALUES (?1, ?2, ?3, ?4)") (Insert 2 (Values insert_terms 5))
+unfolding everything
+insert_says = record { said = (refl, refl, refl) }
+
+abbrev by_no : List Term
+by_no = op2 (Compare Eq Binary) (col 1 0) (col 0 0) ∷ []
+
+abbrev columns : List Term
+columns = col 1 0 ∷ col 1 2 ∷ col 1 3 ∷ col 1 4 ∷ []
+
+abbrev pub get : List ℕ
+get = codes "SELECT no, name, start, last FROM employers WHERE no = ?1"
+
+get_says : SaysQuery get (plain_program 2 by_no columns [])
+unfolding everything
+get_says = record { names = _; said = (refl, refl, refl) }
+
+abbrev pub all : List ℕ
+all = codes "SELECT no, name, start, last FROM employers ORDER BY no"
+
+all_says : SaysQuery all (plain_program 2 [] columns by_number)
+unfolding everything
+all_says = record { names = _; said = (refl, refl, refl) }
+
+-- ---- what they answer
+
+of_no : (e : ℕ) (x : EmployerRow) → meets by_no (number e ∷ []) (employer_values x) ≡ is_key (employer_key x) (e ∷ [])
+of_no e x = rw (equal_numbers x.employer e) refl
+
+module _ {S : Type 0} (g : Ghosts S) (t : Tables) (db : Database) (has : HasTables t db) where
+  pub answers : (e : ℕ) → AnswersJust g get (number e ∷ []) db (map employer_shown (filter (λ row. is_key (employer_key row) (e ∷ [])) t.employers))
+  answers e = finds employers g t db has (number e ∷ []) employer_shown (λ row. is_key (employer_key row) (e ∷ [])) (of_no e) get_says (λ _. refl) (few employers t db has e)
+
+  pub answers_all : AnswersJust g all [] db (map employer_shown t.employers)
+  answers_all = lists_all employers g t db has [] employer_shown (λ _. refl) all_says (λ _. refl)

@@ -1,0 +1,105 @@
+-- The wages: under their firms, months and workers.
+use Rattle.clear_columns.proofs.Words.{◌≡◌, ◌==◌, ℤ, pos, ℕ, Bool, true, false, ◌&&◌, List, [], ◌∷◌, Less, map, filter, refl, ◌∙◌, inl, inr, is_eq, codes, cast_row, Binary, Delete, Insert, Database, Row, Values, Ghosts, Term, lit, col, op2, Null, automatic, agree, Compare, Eq, Key, Tables, WageRow, is_wage_key_of, wage_key, meets, output_cmp, plain_program, plain_query, content, HasTables, by_key, wages_table, wage_values, month, month_number, number, cast_int, cast_null, equal_months, equal_numbers, key_is, months_compare, numbers_compare, turned_nat, AnswersJust}
+use Rattle.sqlite_tied.specs.Compute.{everything}
+use Rattle.sqlite_value.specs.Keys.{ascending, first_key, plain}
+use Rattle.clear_schema.proofs.Changes.{wages_changed}
+use Rattle.clear_columns.proofs.KeyedTable.{KeyedTable, lists, or_false}
+use Rattle.clear_columns.proofs.Says.{Says, SaysQuery}
+use Rattle.clear_columns.specs.Keys.{is_held}
+use Rattle.clear_firms.specs.Shown.{month_given, wage_shown}
+
+pub keys_agree : (a b : ℤ × WageRow) → agree plain (1 ∷ 2 ∷ 3 ∷ []) (wage_values a) (1 ∷ 2 ∷ 3 ∷ []) (wage_values b) ≡ is_eq (by_key wage_key (content b) (content a))
+unfolding first_key
+keys_agree a b =
+    rw (
+      equal_numbers (content a).employer (content b).employer,
+      equal_months (content a).month (content b).month,
+      equal_numbers (content a).worker (content b).worker,
+    )
+    (key_is wage_key (content b) (content a))
+
+pub stored : (x : WageRow) → cast_row wages_table (Null ∷ wage_shown x) ≡ Null ∷ wage_shown x
+stored x = rw (cast_null, cast_int (pos x.employer), cast_int (month_number x.month), cast_int (pos x.worker), cast_int (pos x.gross))
+
+abbrev pub wages : KeyedTable WageRow
+wages = record {
+  at = 4;
+  table = wages_table;
+  rows = λ t. t.wages;
+  with_those = λ t xs. record t { wages = xs };
+  key = wage_key;
+  keys = record { of = wage_key; index = automatic wages_table 0 (1 ∷ 2 ∷ 3 ∷ []) 6 } ∷ [];
+  first = automatic wages_table 0 (1 ∷ 2 ∷ 3 ∷ []) 6;
+  given = wage_shown;
+  to_row = wage_values;
+  held = is_held wage_key;
+  held_is = λ x xs. or_false _;
+  leads = inl refl;
+  placed = refl;
+  listed = inr (inr (inr (inr (inl refl))));
+  uncounted = refl;
+  guarded = refl;
+  kept_by = (record { order = refl; agrees = keys_agree }, tt);
+  numbered = λ _. refl;
+  stored = λ y. stored (content y);
+  typed = λ _ _. refl;
+  present = λ _ _. refl;
+  checked = λ _ _. refl;
+  has = λ t db has. has.wages;
+  changed = λ t old new has schema sound. wages_changed t old new has schema sound;
+}
+
+-- ---- the texts
+
+abbrev pub insert_terms : List Term
+insert_terms = lit Null ∷ col 0 0 ∷ col 0 1 ∷ col 0 2 ∷ col 0 3 ∷ []
+
+pub insert_says : Says (codes "INSERT INTO wages (employer, month, worker, gross) VALUES (?1, ?2, ?3, ?4)") (Insert 4 (Values insert_terms 5))
+unfolding everything
+insert_says = record { said = (refl, refl, refl) }
+
+abbrev pub by_month : List Term
+by_month = op2 (Compare Eq Binary) (col 1 1) (col 0 0) ∷ op2 (Compare Eq Binary) (col 1 2) (col 0 1) ∷ []
+
+pub delete_says : Says (codes "DELETE FROM wages WHERE employer = ?1 AND month = ?2") (Delete 4 (plain_program 5 by_month (col 1 0 ∷ []) []))
+unfolding everything
+delete_says = record { said = (refl, refl, refl) }
+
+abbrev columns : List Term
+columns = col 1 1 ∷ col 1 2 ∷ col 1 3 ∷ col 1 4 ∷ []
+
+abbrev order : List (Term × Key)
+order = (col 1 1, ascending Binary) ∷ (col 1 2, ascending Binary) ∷ (col 1 3, ascending Binary) ∷ []
+
+abbrev pub list : List ℕ
+list = codes "SELECT employer, month, worker, gross FROM wages WHERE employer = ?1 AND month = ?2 ORDER BY employer, month, worker"
+
+list_says : SaysQuery list (plain_program 5 by_month columns order)
+unfolding everything
+list_says = record { names = _; said = (refl, refl, refl) }
+
+-- ---- what they do
+
+-- the row is of a firm's month
+abbrev pub is_of : ℕ → ℕ → WageRow → Bool
+is_of e m row = is_wage_key_of e m (wage_key row)
+
+pub of_month : (e m : ℕ) (y : ℤ × WageRow) → meets by_month (month_given e m) (wage_values y) ≡ is_of e m (content y)
+of_month e m y =
+    rw (equal_numbers (content y).employer e, equal_months (content y).month m)
+    (last ((content y).employer == e) ((content y).month == m) ∙ (λ i. turned_nat (content y).employer e i && turned_nat (content y).month m i))
+  where
+    last : (a b : Bool) → (a && (b && true)) ≡ (a && b)
+    last true true = refl
+    last true false = refl
+    last false b = refl
+
+-- what ORDER BY goes by
+abbrev sorted : WageRow → Row
+sorted row = number row.employer ∷ month row.month ∷ number row.worker ∷ []
+
+rises : (a b : WageRow) → by_key wage_key a b ≡ Less → output_cmp (plain_query 5 by_month columns order) (sorted a, wage_shown a) (sorted b, wage_shown b) ≡ Less
+rises a b less = rw (numbers_compare a.employer b.employer, months_compare a.month b.month, numbers_compare a.worker b.worker) less
+
+pub answers : {S : Type 0} (g : Ghosts S) (t : Tables) (db : Database) (e m : ℕ) → HasTables t db → AnswersJust g list (month_given e m) db (map wage_shown (filter (is_of e m) t.wages))
+answers g t db e m has = lists wages g t db has (month_given e m) wage_shown (is_of e m) (of_month e m) list_says sorted (λ _. refl) rises

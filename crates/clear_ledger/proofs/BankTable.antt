@@ -1,0 +1,141 @@
+-- The bank lines: under their references, and with their serials unique too.
+use Rattle.clear_columns.proofs.Words.{◌≡◌, ℤ, pos, Bool, true, false, ◌&&◌, ◌||◌, List, [], ◌∷◌, Less, Option, Some, None, Row, is_none, ℕ, map, filter, refl, sym, ap, ◌∙◌, inl, inr, is_eq, Equal, codes, ordering_then, cast_row, Binary, Insert, Database, Values, Ghosts, Term, lit, col, op2, Trees, Null, Text, automatic, agree, passes, Datatype, NotNull, Compare, Is, Eq, Key, value_cmp-Text, Purpose, Contribution, Interest, is_key, is_in_suspense, Tables, bank_key, BankRow, meets, plain_program, content, HasTables, by_key, bank_table, store_schema, bank_values, cast_int, cast_null, equal_ints, equal_texts, AnswersJust, turned, is_key_is, by_key_total, key_is, cast_maybe, cast_purpose, maybe_typed, purpose_typed, same_numbers}
+use Rattle.clear_ledger.specs.Shown.{bank_shown, is_line_held, serial_key}
+use Rattle.std.specs.Float.Ieee
+use Rattle.sqlite.specs.Ops.{binary}
+use Rattle.sqlite_tied.specs.Compute.{everything}
+use Rattle.sqlite_value.specs.Keys.{ascending, first_key, plain}
+use Rattle.sqlite_value.specs.Order.{value_cmp}
+use Rattle.clear_columns.proofs.KeyedTable.{KeyedTable, finds, few, lists, lists_all}
+use Rattle.clear_columns.proofs.Says.{Says, SaysQuery}
+use Rattle.clear_schema.proofs.Changes.{bank_changed}
+
+pub last : (b : Bool) → (b && true) ≡ b
+last true = refl
+last false = refl
+
+pub references_agree : (a b : ℤ × BankRow) → agree plain (1 ∷ []) (bank_values a) (1 ∷ []) (bank_values b) ≡ is_eq (by_key bank_key (content b) (content a))
+unfolding first_key
+references_agree a b = rw (equal_texts (content a).line.reference (content b).line.reference) (last _ ∙ turned (by_key bank_key (content b) (content a)) _ ((by_key_total bank_key).antisymm (content a) (content b)))
+
+pub serials_agree : (a b : ℤ × BankRow) → agree plain (2 ∷ []) (bank_values a) (2 ∷ []) (bank_values b) ≡ is_eq (by_key serial_key (content b) (content a))
+unfolding first_key
+serials_agree a b = rw (equal_ints (pos (content a).serial) (pos (content b).serial)) (ap (λ b. b && true) (same_numbers (content a).serial (content b).serial) ∙ key_is serial_key (content b) (content a))
+
+pub stored : (x : BankRow) → cast_row bank_table (Null ∷ bank_shown x) ≡ Null ∷ bank_shown x
+stored x = rw (cast_null, cast_int (pos x.serial), cast_int (pos x.line.value), cast_maybe x.line.employer, cast_maybe x.employer, cast_int (pos x.line.cents), cast_purpose x.line.purpose)
+
+pub typed : (db : Trees) (y : ℤ × BankRow) → passes Datatype store_schema db bank_table (bank_values y) ≡ true
+typed db y = rw (maybe_typed y.1.line.employer, maybe_typed y.1.employer, purpose_typed y.1.line.purpose)
+
+pub present : (db : Trees) (y : ℤ × BankRow) → passes NotNull store_schema db bank_table (bank_values y) ≡ true
+present db y = there y.1.line.purpose
+  where
+    there : (p : Purpose) → passes NotNull store_schema db bank_table (bank_values (y.0, record y.1 { line = record y.1.line { purpose = p } })) ≡ true
+    there Contribution = refl
+    there Interest = refl
+
+pub held_is : (a b : Bool) → (a || b) ≡ (a || (b || false))
+held_is true b = refl
+held_is false true = refl
+held_is false false = refl
+
+abbrev pub bank : KeyedTable BankRow
+bank = record {
+  at = 5;
+  table = bank_table;
+  rows = λ t. t.bank;
+  with_those = λ t xs. record t { bank = xs };
+  key = bank_key;
+  keys = record { of = bank_key; index = automatic bank_table 0 (1 ∷ []) 8 } ∷ record { of = serial_key; index = automatic bank_table 1 (2 ∷ []) 9 } ∷ [];
+  first = automatic bank_table 0 (1 ∷ []) 8;
+  given = bank_shown;
+  to_row = bank_values;
+  held = is_line_held;
+  held_is = λ x xs. held_is _ _;
+  leads = inl refl;
+  placed = refl;
+  listed = inr (inr (inr (inr (inr (inl refl)))));
+  uncounted = refl;
+  guarded = refl;
+  kept_by = (record { order = refl; agrees = references_agree }, (record { order = refl; agrees = serials_agree }, tt));
+  numbered = λ _. refl;
+  stored = λ y. stored (content y);
+  typed = typed;
+  present = present;
+  checked = λ _ _. refl;
+  has = λ t db has. has.bank;
+  changed = λ t old new has schema sound. bank_changed t old new has schema sound;
+}
+
+-- ---- the texts
+
+abbrev pub insert_terms : List Term
+insert_terms = lit Null ∷ col 0 0 ∷ col 0 1 ∷ col 0 2 ∷ col 0 3 ∷ col 0 4 ∷ col 0 5 ∷ col 0 6 ∷ col 0 7 ∷ []
+
+pub insert_says : Says (codes "INSERT INTO bank (reference, serial, value, named, employer, cents, purpose, note) VALUES (?1, ?2, ?3, ?4, ?5, ?6, ?7, ?8)") (Insert 5 (Values insert_terms 9))
+unfolding everything
+insert_says = record { said = (refl, refl, refl) }
+
+abbrev columns : List Term
+columns = col 1 1 ∷ col 1 2 ∷ col 1 3 ∷ col 1 4 ∷ col 1 5 ∷ col 1 6 ∷ col 1 7 ∷ col 1 8 ∷ []
+
+abbrev by_reference : List Term
+by_reference = op2 (Compare Eq Binary) (col 1 1) (col 0 0) ∷ []
+
+abbrev pub get : List ℕ
+get = codes "SELECT reference, serial, value, named, employer, cents, purpose, note FROM bank WHERE reference = ?1"
+
+get_says : SaysQuery get (plain_program 7 by_reference columns [])
+unfolding everything
+get_says = record { names = _; said = (refl, refl, refl) }
+
+abbrev without_firm : List Term
+without_firm = op2 (Is Binary) (col 1 5) (lit Null) ∷ []
+
+abbrev order : List (Term × Key)
+order = (col 1 1, ascending Binary) ∷ []
+
+abbrev pub suspense : List ℕ
+suspense = codes "SELECT reference, serial, value, named, employer, cents, purpose, note FROM bank WHERE employer IS NULL ORDER BY reference"
+
+suspense_says : SaysQuery suspense (plain_program 7 without_firm columns order)
+unfolding everything
+suspense_says = record { names = _; said = (refl, refl, refl) }
+
+abbrev pub all : List ℕ
+all = codes "SELECT reference, serial, value, named, employer, cents, purpose, note FROM bank ORDER BY reference"
+
+all_says : SaysQuery all (plain_program 7 [] columns order)
+unfolding everything
+all_says = record { names = _; said = (refl, refl, refl) }
+
+-- ---- what they answer
+
+of_reference : (k : List ℕ) (y : ℤ × BankRow) → meets by_reference (Text k ∷ []) (bank_values y) ≡ is_key (bank_key (content y)) k
+of_reference k y = rw (equal_texts (content y).line.reference k) (last _ ∙ sym (is_key_is (content y).line.reference k))
+
+no_firm : (y : ℤ × BankRow) → meets without_firm [] (bank_values y) ≡ is_in_suspense (content y)
+unfolding binary value_cmp Ieee.lt Ieee.is_nan
+no_firm y = of_employer (content y).employer
+  where
+    of_employer : (e : Option ℕ) → meets without_firm [] (bank_values (y.0, record (content y) { employer = e })) ≡ is_none e
+    of_employer None = refl
+    of_employer (Some e) = refl
+
+-- what ORDER BY goes by
+abbrev by : BankRow → Row
+by row = Text row.line.reference ∷ []
+
+rises : (a b : BankRow) → by_key bank_key a b ≡ Less → ordering_then (value_cmp (Text a.line.reference) (Text b.line.reference)) Equal ≡ Less
+rises a b h = ap (λ o. ordering_then o Equal) (value_cmp-Text a.line.reference b.line.reference ∙ h)
+
+module _ {S : Type 0} (g : Ghosts S) (t : Tables) (db : Database) (has : HasTables t db) where
+  pub answers : (k : List ℕ) → AnswersJust g get (Text k ∷ []) db (map bank_shown (filter (λ row. is_key (bank_key row) k) t.bank))
+  answers k = finds bank g t db has (Text k ∷ []) bank_shown (λ row. is_key (bank_key row) k) (of_reference k) get_says (λ _. refl) (few bank t db has k)
+
+  pub answers_suspense : AnswersJust g suspense [] db (map bank_shown (filter is_in_suspense t.bank))
+  answers_suspense = lists bank g t db has [] bank_shown is_in_suspense no_firm suspense_says by (λ _. refl) rises
+
+  pub answers_all : AnswersJust g all [] db (map bank_shown t.bank)
+  answers_all = lists_all bank g t db has [] bank_shown (λ _. refl) all_says by (λ _. refl) rises

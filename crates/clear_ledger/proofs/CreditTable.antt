@@ -1,0 +1,106 @@
+-- The credits: under their firms, purposes, days and serials.
+use Rattle.clear_columns.proofs.Words.{◌≡◌, ℤ, pos, ℕ, Bool, true, false, ◌&&◌, List, [], ◌∷◌, map, filter, refl, inl, inr, is_eq, Less, codes, cast_row, Binary, Insert, Database, Row, output_cmp, Values, Ghosts, Term, lit, col, op2, Trees, Null, automatic, agree, passes, Datatype, NotNull, Compare, Eq, Key, Purpose, Contribution, Interest, credit_key, is_credit_of, Tables, CreditRow, meets, plain_program, plain_query, content, HasTables, by_key, credits_table, store_schema, credit_values, number, purpose, cast_int, cast_null, AnswersJust, key_is, cast_purpose, purpose_typed, equal_numbers, equal_ranks, equal_purposes, numbers_compare, purposes_compare}
+use Rattle.clear_ledger.specs.Shown.{credit_shown}
+use Rattle.clear_columns.specs.Keys.{is_held}
+use Rattle.sqlite_tied.specs.Compute.{everything}
+use Rattle.sqlite_value.specs.Keys.{ascending, first_key, plain}
+use Rattle.clear_columns.proofs.KeyedTable.{KeyedTable, lists, or_false}
+use Rattle.clear_columns.proofs.Says.{Says, SaysQuery}
+use Rattle.clear_schema.proofs.Changes.{credits_changed}
+
+pub keys_agree : (a b : ℤ × CreditRow) → agree plain (1 ∷ 2 ∷ 3 ∷ 4 ∷ []) (credit_values a) (1 ∷ 2 ∷ 3 ∷ 4 ∷ []) (credit_values b) ≡ is_eq (by_key credit_key (content b) (content a))
+unfolding first_key
+keys_agree a b =
+    rw (
+      equal_numbers (content a).employer (content b).employer,
+      equal_ranks (content a).purpose (content b).purpose,
+      equal_numbers (content a).day (content b).day,
+      equal_numbers (content a).serial (content b).serial,
+    )
+    (key_is credit_key (content b) (content a))
+
+pub stored : (x : CreditRow) → cast_row credits_table (Null ∷ credit_shown x) ≡ Null ∷ credit_shown x
+stored x = rw (cast_null, cast_int (pos x.employer), cast_purpose x.purpose, cast_int (pos x.day), cast_int (pos x.serial), cast_int (pos x.cents))
+
+pub typed : (db : Trees) (y : ℤ × CreditRow) → passes Datatype store_schema db credits_table (credit_values y) ≡ true
+typed db y = rw (purpose_typed y.1.purpose)
+
+pub present : (db : Trees) (y : ℤ × CreditRow) → passes NotNull store_schema db credits_table (credit_values y) ≡ true
+present db y = there y.1.purpose
+  where
+    there : (p : Purpose) → passes NotNull store_schema db credits_table (credit_values (y.0, record y.1 { purpose = p })) ≡ true
+    there Contribution = refl
+    there Interest = refl
+
+abbrev pub credits : KeyedTable CreditRow
+credits = record {
+  at = 6;
+  table = credits_table;
+  rows = λ t. t.credits;
+  with_those = λ t xs. record t { credits = xs };
+  key = credit_key;
+  keys = record { of = credit_key; index = automatic credits_table 0 (1 ∷ 2 ∷ 3 ∷ 4 ∷ []) 11 } ∷ [];
+  first = automatic credits_table 0 (1 ∷ 2 ∷ 3 ∷ 4 ∷ []) 11;
+  given = credit_shown;
+  to_row = credit_values;
+  held = is_held credit_key;
+  held_is = λ x xs. or_false _;
+  leads = inl refl;
+  placed = refl;
+  listed = inr (inr (inr (inr (inr (inr (inl refl))))));
+  uncounted = refl;
+  guarded = refl;
+  kept_by = (record { order = refl; agrees = keys_agree }, tt);
+  numbered = λ _. refl;
+  stored = λ y. stored (content y);
+  typed = typed;
+  present = present;
+  checked = λ _ _. refl;
+  has = λ t db has. has.credits;
+  changed = λ t old new has schema sound. credits_changed t old new has schema sound;
+}
+
+-- ---- the texts
+
+abbrev pub insert_terms : List Term
+insert_terms = lit Null ∷ col 0 0 ∷ col 0 1 ∷ col 0 2 ∷ col 0 3 ∷ col 0 4 ∷ col 0 5 ∷ []
+
+pub insert_says : Says (codes "INSERT INTO credits (employer, purpose, day, serial, cents, ref) VALUES (?1, ?2, ?3, ?4, ?5, ?6)") (Insert 6 (Values insert_terms 7))
+unfolding everything
+insert_says = record { said = (refl, refl, refl) }
+
+abbrev columns : List Term
+columns = col 1 1 ∷ col 1 2 ∷ col 1 3 ∷ col 1 4 ∷ col 1 5 ∷ col 1 6 ∷ []
+
+abbrev by_purpose : List Term
+by_purpose = op2 (Compare Eq Binary) (col 1 1) (col 0 0) ∷ op2 (Compare Eq Binary) (col 1 2) (col 0 1) ∷ []
+
+abbrev order : List (Term × Key)
+order = (col 1 1, ascending Binary) ∷ (col 1 2, ascending Binary) ∷ (col 1 3, ascending Binary) ∷ (col 1 4, ascending Binary) ∷ []
+
+abbrev pub list : List ℕ
+list = codes "SELECT employer, purpose, day, serial, cents, ref FROM credits WHERE employer = ?1 AND purpose = ?2 ORDER BY employer, purpose, day, serial"
+
+list_says : SaysQuery list (plain_program 10 by_purpose columns order)
+unfolding everything
+list_says = record { names = _; said = (refl, refl, refl) }
+
+-- ---- what they answer
+
+of_firm : (e : ℕ) (p : Purpose) (y : ℤ × CreditRow) → meets by_purpose (number e ∷ purpose p ∷ []) (credit_values y) ≡ is_credit_of e p (content y)
+of_firm e p y = rw (equal_numbers (content y).employer e, equal_purposes (content y).purpose p) (last _ _)
+  where
+    last : (a b : Bool) → (a && (b && true)) ≡ (a && b)
+    last true true = refl
+    last true false = refl
+    last false b = refl
+
+-- what ORDER BY goes by
+abbrev sorted : CreditRow → Row
+sorted x = number x.employer ∷ purpose x.purpose ∷ number x.day ∷ number x.serial ∷ []
+
+rises : (a b : CreditRow) → by_key credit_key a b ≡ Less → output_cmp (plain_query 10 by_purpose columns order) (sorted a, credit_shown a) (sorted b, credit_shown b) ≡ Less
+rises a b h = rw (numbers_compare a.employer b.employer, purposes_compare a.purpose b.purpose, numbers_compare a.day b.day, numbers_compare a.serial b.serial) h
+
+pub answers : {S : Type 0} (g : Ghosts S) (t : Tables) (db : Database) (e : ℕ) (p : Purpose) → HasTables t db → AnswersJust g list (number e ∷ purpose p ∷ []) db (map credit_shown (filter (is_credit_of e p) t.credits))
+answers g t db e p has = lists credits g t db has (number e ∷ purpose p ∷ []) credit_shown (is_credit_of e p) (of_firm e p) list_says sorted (λ _. refl) rises

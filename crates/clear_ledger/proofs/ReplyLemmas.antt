@@ -1,0 +1,12 @@
+-- A reply and the numbers that it is kept as.
+use Rattle.std.proofs.Common.{◌≡◌, refl}
+use Rattle.clear_book.specs.declared.outcomes.Reply.{Reply}
+use Rattle.clear_book.specs.declared.outcomes.Reply.TheVariants.{Done, Reported, Imported}
+use Rattle.clear_schema.specs.Values.{reply_values}
+use Rattle.clear_ledger.specs.Shown.{numbers_of, numbers_shown}
+
+-- the numbers are the columns
+pub columns_are : (reply : Reply) → reply_values reply ≡ numbers_shown (numbers_of reply)
+columns_are Done = refl
+columns_are (Reported version charge) = refl
+columns_are (Imported new repeats) = refl

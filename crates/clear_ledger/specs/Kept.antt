@@ -1,0 +1,41 @@
+-- Accepted requests as they are kept, each under its caller and number.
+use Rattle.std.specs.Prelude.{ℕ, List}
+use Rattle.clear_money.specs.Calendar.{IsDay}
+use Rattle.clear_book.specs.declared.calls.Caller.{Caller}
+use Rattle.clear_book.specs.declared.outcomes.Reply.{Reply}
+use Rattle.clear_book.specs.RowRanges.{IsReply}
+use Rattle.clear_book.specs.Tables.{RequestRow}
+use Rattle.clear_ledger.specs.declared.requests.KeptRequest.{KeptRequest}
+
+-- the day of a request, the bytes of its command, and its reply
+pub record Kept : Type 0 where
+  pub day : ℕ
+  pub command : List ℕ
+  pub reply : Reply
+
+-- what a program has of a request
+abbrev pub as_kept : KeptRequest → Kept
+as_kept request = record {
+  day = request.day;
+  command = request.command.items;
+  reply = request.reply;
+}
+
+-- what a row has of it, besides the key
+abbrev pub kept_of : RequestRow → Kept
+kept_of row = record { day = row.day; command = row.command; reply = row.reply }
+
+-- the row that keeps a request
+abbrev pub row_of : Caller → ℕ → Kept → RequestRow
+row_of caller number kept = record {
+  caller = caller;
+  number = number;
+  day = kept.day;
+  command = kept.command;
+  reply = kept.reply;
+}
+
+-- the day and the reply are in their ranges
+pub record IsKept (k : Kept) : Type 0 where
+  pub day : IsDay k.day
+  pub reply : IsReply k.reply

@@ -1,0 +1,89 @@
+//! Replies as the numbers that they are kept as.
+ghost use Rattle.std.specs.Prelude.{◌≡◌, ◌↔◌, Some, IfSome, IsTrue};
+ghost use Rattle.clear_book.specs.declared.outcomes.Reply.{Reply};
+ghost use Rattle.clear_book.specs.RowRanges.{IsReply};
+ghost use Rattle.clear_ledger.specs.Shown.{AreSmall, numbers_of};
+
+use clear_book::limits::{MAX_BASE, MAX_RECORDS, MAX_VERSIONS};
+use clear_book::outcomes::Reply;
+
+/// The kind of a reply, and its own numbers: 0 stands for those that it has not.
+#[derive(Clone, Copy, PartialEq, Eq)]
+pub struct ReplyNumbers {
+    pub kind: u64,
+    pub a: u64,
+    pub b: u64,
+    pub c: u64,
+}
+
+/// The numbers of a reply. Kind 1 is done, 2 is reported, and 3 is imported.
+pub fn reply_numbers(reply: Reply) -> ReplyNumbers
+    ensures value { result ≡ numbers_of reply }
+    ensures small { IsReply reply → AreSmall result }
+{
+    match reply {
+        Reply::Done => numbers(1, 0, 0),
+        Reply::Reported { version, charge } => numbers(2, u64::from(version), charge),
+        Reply::Imported { new, repeats } => numbers(3, new, repeats),
+    }
+}
+
+// A kind and two numbers.
+fn numbers(kind: u64, a: u64, b: u64) -> ReplyNumbers
+    ensures { result ≡ record { kind = kind; a = a; b = b; c = 0 } }
+{
+    ReplyNumbers { kind, a, b, c: 0 }
+}
+
+/// The reply in its ranges that has these numbers, if there is one.
+pub fn reply_of(numbers: ReplyNumbers) -> Option<Reply>
+    ensures some { IfSome result (λ reply. (numbers_of reply ≡ numbers) × IsReply reply) }
+    ensures only { (reply : Reply) → numbers_of reply ≡ numbers → IsReply reply
+        → result ≡ Some reply }
+{
+    let reply = match reply_of_kind(numbers) {
+        Some(reply) => reply,
+        None => return None,
+    };
+    if reply_numbers(reply) == numbers && is_reply(reply) {
+        Some(reply)
+    } else {
+        None
+    }
+}
+
+// The reply of this kind with the numbers that the kind has.
+fn reply_of_kind(numbers: ReplyNumbers) -> Option<Reply>
+    ensures { (reply : Reply) → numbers_of reply ≡ numbers → IsReply reply → result ≡ Some reply }
+{
+    match numbers.kind {
+        1 => Some(Reply::Done),
+        2 => match u32::try_from(numbers.a) {
+            Ok(version) => Some(Reply::Reported {
+                version,
+                charge: numbers.b,
+            }),
+            Err(_) => None,
+        },
+        3 => Some(Reply::Imported {
+            new: numbers.a,
+            repeats: numbers.b,
+        }),
+        _ => None,
+    }
+}
+
+/// Whether the numbers of a reply are in their ranges.
+pub fn is_reply(reply: Reply) -> bool
+    ensures { IsTrue result ↔ IsReply reply }
+{
+    match reply {
+        Reply::Done => true,
+        Reply::Reported { version, charge } => {
+            1 <= version && version <= MAX_VERSIONS && charge <= MAX_BASE
+        }
+        Reply::Imported { new, repeats } => {
+            new <= MAX_RECORDS as u64 && repeats <= MAX_RECORDS as u64
+        }
+    }
+}

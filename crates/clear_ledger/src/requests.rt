@@ -1,0 +1,189 @@
+//! The table of accepted requests.
+ghost use Rattle.std.specs.Prelude.{◌≡◌, ◌≢◌, List, Some, map, slice_get};
+ghost use Rattle.std.specs.Prelude.{IfErr, IfOk, IfSome, OnOk};
+ghost use Rattle.std.specs.Option.{option_map};
+ghost use Rattle.sqlite.specs.Held.{state};
+ghost use Rattle.clear_columns.specs.Keys.{is_held};
+ghost use Rattle.clear_schema.specs.Frame.{IsOut, Looks, Writes};
+ghost use Rattle.sqlite.specs.Values.{bound};
+ghost use Rattle.clear_book.specs.Book.{request_number};
+ghost use Rattle.clear_book.specs.Keyed.{find_row, with_row};
+ghost use Rattle.clear_book.specs.RowRanges.{IsReply};
+ghost use Rattle.clear_book.specs.Tables.{RequestRow, Tables, request_key};
+ghost use Rattle.clear_schema.specs.Held.{HasTables};
+ghost use Rattle.clear_ledger.specs.Kept.{IsKept, as_kept, kept_of, row_of};
+ghost use Rattle.clear_ledger.specs.Shown.{kept_shown, numbers_of, request_shown};
+
+use crate::replies::{ReplyNumbers, is_reply, reply_numbers, reply_of};
+use clear_book::calls::Caller;
+use clear_book::numbers::RequestNo;
+use clear_book::outcomes::Reply;
+use clear_book::rules::StoreCause;
+use clear_columns::columns::{bytes_at, day_at, number_at};
+use clear_columns::parameters::{bytes, caller as calling, day, request_no};
+use clear_money::days::Day;
+use clear_schema::fault::Fault;
+use clear_schema::statement::{look, put};
+use clear_schema::values::number as count;
+use sqlite::{Alter, Row, Transaction};
+use sqlite_value::value::ValueRef;
+
+/// What is kept of an accepted request.
+#[derive(Drop)]
+pub struct KeptRequest {
+    /// The day on which it was accepted.
+    pub day: Day,
+    /// The bytes of its command, whatever they are.
+    pub command: Vec<u8>,
+    /// What it was answered: a version from 1 to 10,000 and a charge of at most 5,000,000,000
+    /// cents, or at most 10,000 new lines and as many repeats.
+    pub reply: Reply,
+}
+
+/// Adds a request whose caller has none of this number yet. A reply out of its ranges is refused as
+/// `Row`, and nothing is done then.
+pub fn insert_request<S: Alter>(
+    tx: &mut Transaction<'_, S>,
+    caller: Caller,
+    number: RequestNo,
+    request: &KeptRequest,
+) -> Result<(), Fault>
+    ensures same_reference { tx.new.conn.ghost_name ≡ tx.old.conn.ghost_name }
+    ensures writes { Writes S.Store tx.old.conn.now tx.new.conn.now result
+        (¬ IsReply request.now.reply)
+        (λ t. is_held request_key (row_of caller number (as_kept request.now)) t.requests)
+        (λ t. record t {
+          requests = with_row request_key t.requests
+              (row_of caller number (as_kept request.now));
+        }) }
+    ensures good { OnOk result (IsReply request.now.reply) }
+{
+    if !is_reply(request.reply) {
+        return Err(Fault::Store(StoreCause::Row));
+    }
+    put(
+        tx,
+        "INSERT INTO requests (caller, number, day, command, kind, a, b, c) \
+         VALUES (?1, ?2, ?3, ?4, ?5, ?6, ?7, ?8)",
+        &request_values(caller, number, request),
+    )
+}
+
+/// What is kept of the request of this caller and number, if there is one. All clerks are one
+/// caller, and who of them called is not kept.
+pub fn find_request<S: Alter>(
+    tx: &mut Transaction<'_, S>,
+    caller: Caller,
+    number: RequestNo,
+) -> Result<Option<KeptRequest>, Fault>
+    ensures same_reference { tx.new.conn.ghost_name ≡ tx.old.conn.ghost_name }
+    ensures looks { Looks S.Store tx.old.conn.now tx.new.conn.now
+        (λ t. HasTables t (state S.Store tx.old.conn.now).now) result
+        (λ t found. option_map as_kept found ≡ option_map kept_of
+        (find_row request_key t.requests (request_number caller number)))
+        (λ found. IfSome found (λ request. IsKept (as_kept request)))
+        (λ t. IsOut (λ row. IsKept (kept_of row))
+        (find_row request_key t.requests (request_number caller number))) }
+{
+    let rows = match look(
+        tx,
+        "SELECT day, command, kind, a, b, c FROM requests WHERE caller = ?1 AND number = ?2",
+        &[calling(caller), request_no(number)],
+    ) {
+        Ok(rows) => rows,
+        Err(fault) => return Err(fault),
+    };
+    first_request(&rows)
+}
+
+// The request that the first row of an answer shows.
+fn first_request(rows: &[Row]) -> Result<Option<KeptRequest>, Fault>
+    ensures read { IfOk result (λ found. (xs : List RequestRow) → rows.now ≡ map kept_shown xs
+        → option_map as_kept found ≡ option_map kept_of (slice_get xs 0)) }
+    ensures good { IfOk result (λ found. IfSome found (λ request. IsKept (as_kept request))) }
+    ensures cause { IfErr result (λ fault. fault ≢ Fault.Store StoreCause.Constraint) }
+    ensures range { IfErr result (λ fault. fault ≡ Fault.Store StoreCause.Row
+        → (xs : List RequestRow) → rows.now ≡ map kept_shown xs
+        → (x : RequestRow) × (slice_get xs 0 ≡ Some x) × ¬ IsKept (kept_of x)) }
+{
+    match rows.first() {
+        Some(row) => match read_request(row) {
+            Ok(request) => Ok(Some(request)),
+            Err(fault) => Err(fault),
+        },
+        None => Ok(None),
+    }
+}
+
+// The request that a row shows.
+fn read_request(row: &Row) -> Result<KeptRequest, Fault>
+    ensures read { IfOk result (λ request. (x : RequestRow) → row.now ≡ kept_shown x
+        → as_kept request ≡ kept_of x) }
+    ensures good { IfOk result (λ request. IsKept (as_kept request)) }
+    ensures cause { IfErr result (λ fault. fault ≢ Fault.Store StoreCause.Constraint) }
+    ensures range { IfErr result (λ fault. fault ≡ Fault.Store StoreCause.Row
+        → (x : RequestRow) → row.now ≡ kept_shown x → ¬ IsKept (kept_of x)) }
+{
+    let reply = match read_reply(row) {
+        Ok(reply) => reply,
+        Err(fault) => return Err(fault),
+    };
+    Ok(KeptRequest {
+        day: day_at(row, 0)?,
+        command: bytes_at(row, 1)?,
+        reply,
+    })
+}
+
+// The reply that a row shows.
+fn read_reply(row: &Row) -> Result<Reply, Fault>
+    ensures read { IfOk result (λ reply. (x : RequestRow) → row.now ≡ kept_shown x
+        → reply ≡ x.reply) }
+    ensures good { IfOk result IsReply }
+    ensures cause { IfErr result (λ fault. fault ≢ Fault.Store StoreCause.Constraint) }
+    ensures range { IfErr result (λ fault. fault ≡ Fault.Store StoreCause.Row
+        → (x : RequestRow) → row.now ≡ kept_shown x → ¬ IsReply x.reply) }
+{
+    let numbers = match read_numbers(row) {
+        Ok(numbers) => numbers,
+        Err(fault) => return Err(fault),
+    };
+    match reply_of(numbers) {
+        Some(reply) => Ok(reply),
+        None => Err(Fault::Store(StoreCause::Row)),
+    }
+}
+
+// The numbers of the reply that a row shows.
+fn read_numbers(row: &Row) -> Result<ReplyNumbers, Fault>
+    ensures read { IfOk result (λ numbers. (x : RequestRow) → row.now ≡ kept_shown x
+        → numbers ≡ numbers_of x.reply) }
+    ensures cause { IfErr result (λ fault. fault ≢ Fault.Store StoreCause.Constraint) }
+    ensures range { IfErr result (λ fault. fault ≡ Fault.Store StoreCause.Row
+        → (x : RequestRow) → row.now ≢ kept_shown x) }
+{
+    Ok(ReplyNumbers {
+        kind: number_at(row, 2)?,
+        a: number_at(row, 3)?,
+        b: number_at(row, 4)?,
+        c: number_at(row, 5)?,
+    })
+}
+
+// The parameters of the statement that writes a request.
+fn request_values(caller: Caller, number: RequestNo, request: &KeptRequest) -> [ValueRef<'_>; 8]
+    requires { IsReply request.now.reply }
+    ensures { bound result ≡ request_shown (row_of caller number (as_kept request.now)) }
+{
+    let reply = reply_numbers(request.reply);
+    [
+        calling(caller),
+        request_no(number),
+        day(request.day),
+        bytes(&request.command),
+        count(reply.kind),
+        count(reply.a),
+        count(reply.b),
+        count(reply.c),
+    ]
+}

@@ -1,3 +1,0 @@
-pub mod ReplyLemmas
-pub mod RequestLemmas
-pub mod TextLemmas

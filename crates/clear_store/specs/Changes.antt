@@ -1,0 +1,106 @@
+-- When a change can be put into the tables.
+use Rattle.std.specs.Prelude.{◌≡◌, ℕ, ◌+◌, ◌≤◌, List, [], ◌∷◌, None, Some, IsSome, length}
+use Rattle.std.specs.Prelude.{Result, IfErr, IsTrue, OnOk}
+use Rattle.std.specs.List.{AllByRecursion}
+use Rattle.sqlite.specs.Held.{Held, state}
+use Rattle.sqlite.specs.State.{HasCleanDisk, KeepsCommit, Survives}
+use Rattle.sqlite.specs.Store.{Ghosts}
+use Rattle.clear_book.specs.Accounts.{credit_key}
+use Rattle.clear_book.specs.declared.rows.BankRow.{BankRow}
+use Rattle.clear_book.specs.declared.rows.Change.{Change}
+use Rattle.clear_book.specs.declared.rows.Change.TheVariants.{AddEmployer, AddReport}
+use Rattle.clear_book.specs.declared.rows.Change.TheVariants.{ReplaceReport, AddBankLines}
+use Rattle.clear_book.specs.declared.texts.WageLine.{WageLine}
+use Rattle.clear_book.specs.Keyed.{find_row, with_row, without_rows}
+use Rattle.clear_book.specs.Limits.{most_entries, most_gross, most_serials, most_versions}
+use Rattle.clear_book.specs.Lines.{credits_of_lines}
+use Rattle.clear_book.specs.RowRanges.{IsSerial}
+use Rattle.clear_book.specs.Tables.{Tables, bank_key, employer_key, report_key, wage_key}
+use Rattle.clear_book.specs.Tables.{is_wage_key_of, wage_rows}
+use Rattle.clear_book.specs.declared.rules.StoreCause.TheVariants.{Constraint, Row as OutOfRange}
+use Rattle.clear_schema.specs.Held.{HasTables}
+use Rattle.clear_schema.specs.declared.fault.Fault.{Fault}
+use Rattle.clear_schema.specs.declared.fault.Fault.TheVariants.{Store}
+use Rattle.clear_schema.specs.Values.{Counts as Stored}
+use Rattle.clear_firms.specs.declared.counts.Counts.{Counts}
+use Rattle.clear_ledger.specs.Shown.{serial_key}
+
+-- rows were put into the tables, where what has to be there was there; `Constraint` comes only
+-- where a key was not free, and `Row` only where a number was out of its range
+pub record Puts {S A : Type 0} (g : Ghosts S) (old new : Held S) (result : Result A Fault)
+    (is_there is_free : Tables → Type 0) (is_good : Type 0) (changed : Tables → Tables) : Type 0
+  where
+    pub put : HasCleanDisk (state g new) → (t : Tables) → HasTables t (state g old).now
+        → is_there t → OnOk result (HasTables (changed t) (state g new).now)
+    pub cause : HasCleanDisk (state g new) → (t : Tables) → HasTables t (state g old).now
+        → IfErr result (λ fault. fault ≡ Store Constraint → ¬ is_free t)
+    pub range : IfErr result (λ fault. fault ≡ Store OutOfRange → ¬ is_good)
+    pub kept : HasCleanDisk (state g new) → KeepsCommit (state g old) (state g new)
+    pub goes_on : HasCleanDisk (state g new) → IsTrue old.in_transaction
+        → OnOk result (IsTrue new.in_transaction)
+    pub survives : Survives (state g old) (state g new) (λ _. ⊥)
+
+-- no row has the key of a new one, where the new rows are added one after another
+abbrev pub AreFree : {Row : Type 0} → (Row → List ℕ) → List Row → List Row → Type 0
+AreFree key rows [] = Unit {0}
+AreFree key rows (new ∷ news) =
+    (find_row key rows (key new) ≡ None) × AreFree key (with_row key rows new) news
+
+-- the month of a correction has a report
+abbrev pub IsThere : Change → Tables → Type 0
+IsThere (AddEmployer row) t = Unit {0}
+IsThere (AddReport row lines) t = Unit {0}
+IsThere (ReplaceReport row lines) t = IsSome (find_row report_key t.reports (report_key row))
+IsThere (AddBankLines rows) t = Unit {0}
+
+-- each gross amount can be that of a line
+abbrev pub AreGross : List WageLine → Type 0
+AreGross lines = AllByRecursion (λ line. line.gross ≤ most_gross) lines
+
+-- each serial can be that of a line
+abbrev pub AreSerials : List BankRow → Type 0
+AreSerials rows = AllByRecursion (λ row. IsSerial row.serial) rows
+
+-- a report can have this version
+abbrev pub IsVersion : ℕ → Type 0
+IsVersion n = (1 ≤ n) × (n ≤ most_versions)
+
+-- each key that the change adds is free
+abbrev pub IsFree : Change → Tables → Type 0
+IsFree (AddEmployer row) t = find_row employer_key t.employers (employer_key row) ≡ None
+IsFree (AddReport row lines) t =
+    (find_row report_key t.reports (report_key row) ≡ None)
+    × AreFree wage_key t.wages (wage_rows row.employer row.month lines)
+IsFree (ReplaceReport row lines) t =
+    AreFree wage_key (without_rows wage_key (is_wage_key_of row.employer row.month) t.wages)
+    (wage_rows row.employer row.month lines)
+IsFree (AddBankLines rows) t =
+    AreFree bank_key t.bank rows × AreFree serial_key t.bank rows
+    × AreFree credit_key t.credits (credits_of_lines rows)
+
+-- the numbers in the rows lie in their ranges
+abbrev pub IsInRange : Change → Type 0
+IsInRange (AddEmployer row) = Unit {0}
+IsInRange (AddReport row lines) = IsVersion row.version × AreGross lines
+IsInRange (ReplaceReport row lines) = IsVersion row.version × AreGross lines
+IsInRange (AddBankLines rows) = AreSerials rows
+
+-- how many serials the change takes: one for each new line
+abbrev pub serials_taken : Change → ℕ
+serials_taken (AddEmployer row) = 0
+serials_taken (AddReport row lines) = 0
+serials_taken (ReplaceReport row lines) = 0
+serials_taken (AddBankLines rows) = length rows
+
+-- one entry more and so many serials more can be counted
+abbrev pub HasRoom : Counts → ℕ → Type 0
+HasRoom c serials = (c.entries + 1 ≤ most_entries) × (c.serial + serials ≤ most_serials)
+
+-- the numbers in the rows lie in their ranges, and so do the counts after the change
+abbrev pub IsPuttable : Counts → Change → Type 0
+IsPuttable c change = IsInRange change × HasRoom c (serials_taken change)
+
+-- the counts after one entry more, of this day, that took so many serials
+abbrev pub counts_after : ℕ → ℕ → Stored → Stored
+counts_after day serials c =
+    record c { day = Some day; entries = c.entries + 1; serial = c.serial + serials }

@@ -1,0 +1,111 @@
+//! The new lines of a bank file, and the credits that they are.
+ghost use Rattle.std.specs.Prelude.{◌≡◌, IfOk};
+ghost use Rattle.std.specs.List.{AllByRecursion};
+ghost use Rattle.clear_book.specs.Accounts.{credit_key};
+ghost use Rattle.clear_book.specs.Keyed.{with_rows};
+ghost use Rattle.clear_book.specs.Lines.{credits_of_lines};
+ghost use Rattle.clear_book.specs.RowRanges.{IsSerial};
+ghost use Rattle.clear_book.specs.Tables.{bank_key};
+ghost use Rattle.clear_ledger.specs.Shown.{serial_key};
+ghost use Rattle.clear_store.specs.Changes.{AreFree, AreSerials, Puts};
+
+use clear_book::rows::{BankRow, CreditRow};
+use clear_book::texts::CreditReference;
+use clear_ledger::bank::insert_line;
+use clear_ledger::credits::insert_credit;
+use clear_schema::fault::Fault;
+use sqlite::{Alter, Transaction};
+use std::alloc::{AllocError, Global};
+
+// Adds bank lines, one after another.
+fn insert_lines<S: Alter>(tx: &mut Transaction<'_, S>, rows: &[BankRow]) -> Result<(), Fault>
+    ensures same_reference { tx.new.conn.ghost_name ≡ tx.old.conn.ghost_name }
+    ensures puts { Puts S.Store tx.old.conn.now tx.new.conn.now result (λ _. Unit {0})
+        (λ t. AreFree bank_key t.bank rows.now × AreFree serial_key t.bank rows.now)
+        (AreSerials rows.now) (λ t. record t { bank = with_rows bank_key t.bank rows.now }) }
+{
+    for row in rows {
+        match insert_line(tx, row) {
+            Ok(()) => {}
+            Err(fault) => return Err(fault),
+        }
+    }
+    Ok(())
+}
+
+// Adds credits, one after another.
+fn insert_credits<S: Alter>(tx: &mut Transaction<'_, S>, credits: &[CreditRow]) -> Result<(), Fault>
+    ensures same_reference { tx.new.conn.ghost_name ≡ tx.old.conn.ghost_name }
+    ensures puts { Puts S.Store tx.old.conn.now tx.new.conn.now result (λ _. Unit {0})
+        (λ t. AreFree credit_key t.credits credits.now)
+        (AllByRecursion (λ row. IsSerial row.serial) credits.now)
+        (λ t. record t { credits = with_rows credit_key t.credits credits.now }) }
+{
+    for credit in credits {
+        match insert_credit(tx, credit) {
+            Ok(()) => {}
+            Err(fault) => return Err(fault),
+        }
+    }
+    Ok(())
+}
+
+// Adds the credits that bank lines are for their firms.
+fn insert_credits_of<S: Alter>(
+    alloc: Global,
+    tx: &mut Transaction<'_, S>,
+    rows: &[BankRow],
+) -> Result<(), Fault>
+    ensures same_reference { tx.new.conn.ghost_name ≡ tx.old.conn.ghost_name }
+    ensures puts { Puts S.Store tx.old.conn.now tx.new.conn.now result (λ _. Unit {0})
+        (λ t. AreFree credit_key t.credits (credits_of_lines rows.now)) (AreSerials rows.now)
+        (λ t. record t {
+          credits = with_rows credit_key t.credits (credits_of_lines rows.now);
+        }) }
+{
+    match credits_of_rows(alloc, rows) {
+        Ok(credits) => insert_credits(tx, credits.as_slice()),
+        Err(_) => Err(Fault::Memory),
+    }
+}
+
+// The credits that bank lines are for their firms.
+fn credits_of_rows(alloc: Global, rows: &[BankRow]) -> Result<Vec<CreditRow>, AllocError>
+    ensures { IfOk result (λ credits. credits.items ≡ credits_of_lines rows.now) }
+{
+    let mut credits = Vec::new(alloc);
+    for row in rows {
+        if let Some(employer) = row.employer {
+            credits.push(CreditRow {
+                employer,
+                purpose: row.line.purpose,
+                day: row.line.value,
+                serial: row.serial,
+                cents: row.line.cents,
+                reference: CreditReference::of_line(alloc, &row.line.reference)?,
+            })?;
+        }
+    }
+    Ok(credits)
+}
+
+// Adds the new lines of a bank file, and the credits that they are.
+pub(crate) fn add_lines<S: Alter>(
+    alloc: Global,
+    tx: &mut Transaction<'_, S>,
+    rows: &[BankRow],
+) -> Result<(), Fault>
+    ensures same_reference { tx.new.conn.ghost_name ≡ tx.old.conn.ghost_name }
+    ensures puts { Puts S.Store tx.old.conn.now tx.new.conn.now result (λ _. Unit {0})
+        (λ t. AreFree bank_key t.bank rows.now × AreFree serial_key t.bank rows.now
+        × AreFree credit_key t.credits (credits_of_lines rows.now)) (AreSerials rows.now)
+        (λ t. record t {
+          bank = with_rows bank_key t.bank rows.now;
+          credits = with_rows credit_key t.credits (credits_of_lines rows.now);
+        }) }
+{
+    match insert_lines(tx, rows) {
+        Ok(()) => insert_credits_of(alloc, tx, rows),
+        Err(fault) => Err(fault),
+    }
+}

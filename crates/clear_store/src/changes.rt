@@ -1,0 +1,120 @@
+//! Putting the change of a decision into the tables.
+ghost use Rattle.std.specs.Prelude.{◌≡◌, None, IfSome};
+ghost use Rattle.clear_book.specs.Tables.{changed, dated};
+ghost use Rattle.clear_schema.specs.Values.{counts_of, with_counts};
+ghost use Rattle.clear_firms.specs.Counts.{as_stored};
+ghost use Rattle.clear_store.specs.Changes.{HasRoom, IsFree, IsInRange, IsPuttable, IsThere, Puts};
+ghost use Rattle.clear_store.specs.Changes.{counts_after, serials_taken};
+
+use crate::bank_file::add_lines;
+use crate::month_report::{add_report, put_report};
+use clear_book::rows::{Change, EmployerRow};
+use clear_book::rules::StoreCause;
+use clear_firms::counts::{Counts, put_counts};
+use clear_firms::employers::insert_employer;
+use clear_money::days::Day;
+use clear_schema::fault::Fault;
+use sqlite::{Alter, Transaction};
+use std::alloc::Global;
+
+/// Puts a change into the tables, and notes the day of its request and one entry more. `counts` are
+/// those that stand.
+///
+/// A key that is not free is refused with `Fault::Store(StoreCause::Constraint)`; a number of a row
+/// that is out of its range, more than 50,000,000 entries and more than 500,000,000,000 serials are
+/// refused with `Fault::Store(StoreCause::Row)`. After an error a part of the change may be done:
+/// the transaction is to be rolled back.
+pub fn put_change<S: Alter>(
+    alloc: Global,
+    tx: &mut Transaction<'_, S>,
+    counts: &Counts,
+    day: Day,
+    change: &Change,
+) -> Result<(), Fault>
+    ensures same_reference { tx.new.conn.ghost_name ≡ tx.old.conn.ghost_name }
+    ensures puts { Puts S.Store tx.old.conn.now tx.new.conn.now result
+        (λ t. (as_stored counts.now ≡ counts_of t) × IsThere change.now t) (IsFree change.now)
+        (IsPuttable counts.now change.now) (λ t. dated day (changed change.now t)) }
+{
+    let serials = serials_taken(change);
+    match note(tx, counts, day, serials) {
+        Ok(()) => put_rows(alloc, tx, change),
+        Err(fault) => Err(fault),
+    }
+}
+
+// Puts the rows of a change. The serial count is left.
+fn put_rows<S: Alter>(
+    alloc: Global,
+    tx: &mut Transaction<'_, S>,
+    change: &Change,
+) -> Result<(), Fault>
+    ensures same_reference { tx.new.conn.ghost_name ≡ tx.old.conn.ghost_name }
+    ensures puts { Puts S.Store tx.old.conn.now tx.new.conn.now result (IsThere change.now)
+        (IsFree change.now) (IsInRange change.now)
+        (λ t. record (changed change.now t) { serial = t.serial }) }
+{
+    match change {
+        Change::AddEmployer(row) => add_employer(tx, row),
+        Change::AddReport(row, lines) => add_report(tx, row, lines.as_slice()),
+        Change::ReplaceReport(row, lines) => put_report(tx, row, lines.as_slice()),
+        Change::AddBankLines(rows) => add_lines(alloc, tx, rows.as_slice()),
+    }
+}
+
+// Adds a firm.
+fn add_employer<S: Alter>(tx: &mut Transaction<'_, S>, row: &EmployerRow) -> Result<(), Fault>
+    ensures same_reference { tx.new.conn.ghost_name ≡ tx.old.conn.ghost_name }
+    ensures puts { Puts S.Store tx.old.conn.now tx.new.conn.now result (λ _. Unit {0})
+        (IsFree (Change.AddEmployer row.now)) (Unit {0}) (changed (Change.AddEmployer row.now)) }
+{
+    insert_employer(tx, row)
+}
+
+// How many serials a change takes: one for each new line.
+fn serials_taken(change: &Change) -> u64
+    ensures { result ≡ serials_taken change.now }
+{
+    match change {
+        Change::AddEmployer(_) => 0,
+        Change::AddReport(_, _) => 0,
+        Change::ReplaceReport(_, _) => 0,
+        Change::AddBankLines(rows) => rows.as_slice().len() as u64,
+    }
+}
+
+// Notes one entry more: its day, and the serials that it took.
+fn note<S: Alter>(
+    tx: &mut Transaction<'_, S>,
+    counts: &Counts,
+    day: Day,
+    serials: u64,
+) -> Result<(), Fault>
+    ensures same_reference { tx.new.conn.ghost_name ≡ tx.old.conn.ghost_name }
+    ensures puts { Puts S.Store tx.old.conn.now tx.new.conn.now result (λ _. Unit {0})
+        (λ _. Unit {0}) (HasRoom counts.now serials)
+        (with_counts (counts_after day serials (as_stored counts.now))) }
+{
+    match next_counts(counts, day, serials) {
+        Some(next) => put_counts(tx, &next),
+        None => Err(Fault::Store(StoreCause::Row)),
+    }
+}
+
+// The counts after one entry more. None where a count would pass 64 bits.
+fn next_counts(counts: &Counts, day: Day, serials: u64) -> Option<Counts>
+    ensures next { IfSome result (λ next.
+        as_stored next ≡ counts_after day serials (as_stored counts.now)) }
+    ensures none { result ≡ None → ¬ HasRoom counts.now serials }
+{
+    let entries = counts.entries.checked_add(1)?;
+    let serial = counts.serial.checked_add(serials)?;
+    Some(Counts {
+        day: Some(day),
+        entries,
+        serial,
+        claims: counts.claims,
+        lists: counts.lists,
+        runs: counts.runs,
+    })
+}

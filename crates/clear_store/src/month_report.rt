@@ -1,0 +1,97 @@
+//! A month's report: its row, and the wage rows of its lines.
+ghost use Rattle.std.specs.Prelude.{◌≡◌};
+ghost use Rattle.clear_book.specs.Keyed.{with_rows, without_rows};
+ghost use Rattle.clear_book.specs.Tables.{changed, is_wage_key_of, wage_key, wage_rows, with_wages};
+ghost use Rattle.clear_store.specs.Changes.{AreFree, AreGross, IsFree, IsInRange, IsThere, Puts};
+
+use clear_book::rows::{Change, ReportRow, WageRow};
+use clear_book::texts::WageLine;
+use clear_firms::reports::{insert_report, replace_report};
+use clear_firms::wages::{delete_wages, insert_wage};
+use clear_money::months::Month;
+use clear_money::numbers::EmployerNo;
+use clear_schema::fault::Fault;
+use sqlite::{Alter, Transaction};
+
+// Adds the first report of a month.
+pub(crate) fn add_report<S: Alter>(
+    tx: &mut Transaction<'_, S>,
+    row: &ReportRow,
+    lines: &[WageLine],
+) -> Result<(), Fault>
+    ensures same_reference { tx.new.conn.ghost_name ≡ tx.old.conn.ghost_name }
+    ensures puts { Puts S.Store tx.old.conn.now tx.new.conn.now result (λ _. Unit {0})
+        (IsFree (Change.AddReport row.now lines.now))
+        (IsInRange (Change.AddReport row.now lines.now))
+        (changed (Change.AddReport row.now lines.now)) }
+{
+    match insert_report(tx, *row) {
+        Ok(()) => insert_wages(tx, row.employer, row.month, lines),
+        Err(fault) => Err(fault),
+    }
+}
+
+// Puts a correction in the place of a month's report.
+pub(crate) fn put_report<S: Alter>(
+    tx: &mut Transaction<'_, S>,
+    row: &ReportRow,
+    lines: &[WageLine],
+) -> Result<(), Fault>
+    ensures same_reference { tx.new.conn.ghost_name ≡ tx.old.conn.ghost_name }
+    ensures puts { Puts S.Store tx.old.conn.now tx.new.conn.now result
+        (IsThere (Change.ReplaceReport row.now lines.now))
+        (IsFree (Change.ReplaceReport row.now lines.now))
+        (IsInRange (Change.ReplaceReport row.now lines.now))
+        (changed (Change.ReplaceReport row.now lines.now)) }
+{
+    match replace_report(tx, *row) {
+        Ok(()) => replace_wages(tx, row.employer, row.month, lines),
+        Err(fault) => Err(fault),
+    }
+}
+
+// Adds a row for each line of a month's report.
+fn insert_wages<S: Alter>(
+    tx: &mut Transaction<'_, S>,
+    no: EmployerNo,
+    month: Month,
+    lines: &[WageLine],
+) -> Result<(), Fault>
+    ensures same_reference { tx.new.conn.ghost_name ≡ tx.old.conn.ghost_name }
+    ensures puts { Puts S.Store tx.old.conn.now tx.new.conn.now result (λ _. Unit {0})
+        (λ t. AreFree wage_key t.wages (wage_rows no month lines.now)) (AreGross lines.now)
+        (λ t. record t { wages = with_rows wage_key t.wages (wage_rows no month lines.now) }) }
+{
+    for line in lines {
+        let row = WageRow {
+            employer: no,
+            month,
+            worker: line.worker,
+            gross: line.gross,
+        };
+        match insert_wage(tx, row) {
+            Ok(()) => {}
+            Err(fault) => return Err(fault),
+        }
+    }
+    Ok(())
+}
+
+// Puts the rows of the lines of a month's report in the place of what stood for the month.
+fn replace_wages<S: Alter>(
+    tx: &mut Transaction<'_, S>,
+    no: EmployerNo,
+    month: Month,
+    lines: &[WageLine],
+) -> Result<(), Fault>
+    ensures same_reference { tx.new.conn.ghost_name ≡ tx.old.conn.ghost_name }
+    ensures puts { Puts S.Store tx.old.conn.now tx.new.conn.now result (λ _. Unit {0})
+        (λ t. AreFree wage_key (without_rows wage_key (is_wage_key_of no month) t.wages)
+        (wage_rows no month lines.now)) (AreGross lines.now)
+        (λ t. record t { wages = with_wages no month lines.now t.wages }) }
+{
+    match delete_wages(tx, no, month) {
+        Ok(()) => insert_wages(tx, no, month, lines),
+        Err(fault) => Err(fault),
+    }
+}
