@@ -93,12 +93,12 @@ module _ {S X : Type 0} (g : Ghosts S) (old new : Held S) where
 
 -- what reads of the tables that the database has leave
 pub record Leaves {S A E : Type 0} (g : Ghosts S) (old new : Held S) (result : Result A E) : Type 0
-    where
-  pub same : HasCleanDisk (state g new) → (t : Tables) → HasTables t (state g old).now
-      → OnOk result (IsUnchanged (state g old) (state g new))
-  pub kept : HasCleanDisk (state g new) → (t : Tables) → HasTables t (state g old).now
-      → KeepsCommit (state g old) (state g new)
-  pub survives : Survives (state g old) (state g new) (λ _. ⊥)
+  where
+    pub same : HasCleanDisk (state g new) → (t : Tables) → HasTables t (state g old).now
+        → OnOk result (IsUnchanged (state g old) (state g new))
+    pub kept : HasCleanDisk (state g new) → (t : Tables) → HasTables t (state g old).now
+        → KeepsCommit (state g old) (state g new)
+    pub survives : Survives (state g old) (state g new) (λ _. ⊥)
 
 -- ---- changes
 
@@ -133,9 +133,9 @@ pub record Writes {S A : Type 0} (g : Ghosts S) (old new : Held S) (result : Res
 
 -- what work on the tables that the database has leaves, whatever it changes
 pub record GoesOn {S A E : Type 0} (g : Ghosts S) (old new : Held S) (result : Result A E) : Type 0
-    where
-  pub goes_on : HasCleanDisk (state g new) → (t : Tables) → HasTables t (state g old).now
-      → IsTrue old.in_transaction → OnOk result (IsTrue new.in_transaction)
-  pub kept : HasCleanDisk (state g new) → (t : Tables) → HasTables t (state g old).now
-      → KeepsCommit (state g old) (state g new)
-  pub survives : Survives (state g old) (state g new) (λ _. ⊥)
+  where
+    pub goes_on : HasCleanDisk (state g new) → (t : Tables) → HasTables t (state g old).now
+        → IsTrue old.in_transaction → OnOk result (IsTrue new.in_transaction)
+    pub kept : HasCleanDisk (state g new) → (t : Tables) → HasTables t (state g old).now
+        → KeepsCommit (state g old) (state g new)
+    pub survives : Survives (state g old) (state g new) (λ _. ⊥)
