@@ -1,8 +1,6 @@
-use Rattle.std.proofs.Common.{◌≡◌, IsTrue, arith}
-use Rattle.sqlite.specs.State.{State, IsUnchanged}
+use Rattle.std.proofs.Common.{◌≡◌, IsTrue}
 use Rattle.sqlite.specs.Held.{state}
 use Rattle.clear_schema.specs.Held.{HasTables}
-use Rattle.clear_schema.specs.Still.{IsStill}
 use Rattle.clear_schema.proofs.ConfirmLemmas.{asked_still, asked_survives, asked_unchanged, kept_still, no_query, unchanged_still}
 use Rattle.clear_schema.proofs.body.confirm.Goals as goal
 
