@@ -96,7 +96,8 @@ fn employer_in(text: &str) -> Option<EmployerNo>
 
 /// The month that is written so.
 fn month_in(text: &str) -> Option<Month>
-    ensures found { IfSome result (λ n. IsOfKind Kind.Month n × (spelling Kind.Month n ≡ text.now)) }
+    ensures found { IfSome result (λ n. IsOfKind Kind.Month n
+        × (spelling Kind.Month n ≡ text.now)) }
     ensures only { IfNone result ((n : ℕ) → IsOfKind Kind.Month n
         → spelling Kind.Month n ≢ text.now) }
 {
