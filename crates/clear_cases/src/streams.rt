@@ -1,7 +1,7 @@
 //! Streams in pieces and at their limits, and readers and writers that fail.
 ghost use Rattle.std.specs.Prelude.{◌<◌, Some};
 
-use clear_wire::counted::Counted;
+use clear_wire::counted::{Counted, RequestRead};
 use clear_wire::input::{Input, ReadFault};
 use clear_wire::laws::law_one_cut;
 use clear_wire::limits::{MAX_BODY_BYTES, MAX_FIELD_LINES, MAX_HEAD_BYTES};
@@ -34,6 +34,8 @@ impl Read for Drip<'_> {
     }
 }
 
+impl RequestRead for Drip<'_> {}
+
 // The head of a request, and then the same byte for ever, one a read.
 #[derive(Drop)]
 struct Endless<'a> {
@@ -55,6 +57,8 @@ impl Read for Endless<'_> {
         Ok(1)
     }
 }
+
+impl RequestRead for Endless<'_> {}
 
 // A writer that has no room.
 #[derive(Drop)]
@@ -222,7 +226,7 @@ fn fails_after(alloc: Global, reads: u32, before: u32) -> bool {
         && input.into_reader().has_failed()
 }
 
-fn next_from<R: Read>(alloc: Global, reader: &mut Counted<R>) -> Result<Item, ReadFault> {
+fn next_from<R: RequestRead>(alloc: Global, reader: &mut Counted<R>) -> Result<Item, ReadFault> {
     let mut input = Input::new(alloc, reader);
     read_request(&mut input)
 }

@@ -16,10 +16,10 @@ use Rattle.clear_http.proofs.GuardedLemmas.{serves_as, serves_part_as}
 use Rattle.clear_http.proofs.ServedLemmas.{served, served_part}
 
 module _ {S : Type 0} (g : Ghosts S) (keys : List KeyOf) (day : ℕ) where
-  pub desk_served : (old : AtOffice S) (bytes written written' : Option (List ℕ)) (new : AtOffice S) (answered : ℕ)
-      → Serves (MaySay g keys day) old bytes written written' new answered
+  pub desk_served : (old : AtOffice S) (bytes written written' : Option (List ℕ)) (new : AtOffice S) (done : Served)
+      → Serves (MaySay g keys day) old bytes written written' new done
       → IsHonest g new → (b : Book) → IsLawful b → Keeps g old b
-      → IsServed g (Reads keys day) old b bytes written written' new answered
+      → IsServed g (Reads keys day) old b bytes written written' new done
   desk_served = served g (Reads keys day) (MaySay g keys day) (λ old heading body told new said. (said.0, said.1))
 
   pub desk_served_part : (old : AtOffice S) (bytes written written' : Option (List ℕ)) (new : AtOffice S) (answered : ℕ)
@@ -31,12 +31,12 @@ module _ {S : Type 0} (g : Ghosts S) (keys : List KeyOf) (day : ℕ) where
   abbrev failed_of : AtOffice S → Bool
   failed_of office = office.failed
 
-  pub desk_guarded : (old : AtOffice S) → old.failed ≡ false → (bytes written written' : Option (List ℕ)) (new : AtOffice S) (answered : ℕ)
-      → Serves (MaySay g keys day) old bytes written written' new answered
-      → Serves (Guards (Reads keys day)) false bytes written written' new.failed answered
-  desk_guarded old working bytes written written' new answered all =
-      subst (λ (f : Bool). Serves (Guards (Reads keys day)) f bytes written written' new.failed answered) working
-      (serves_as failed_of (MaySay g keys day) (Guards (Reads keys day)) (λ old heading body told new said. said.2.0) old bytes written written' new answered all)
+  pub desk_guarded : (old : AtOffice S) → old.failed ≡ false → (bytes written written' : Option (List ℕ)) (new : AtOffice S) (done : Served)
+      → Serves (MaySay g keys day) old bytes written written' new done
+      → Serves (Guards (Reads keys day)) false bytes written written' new.failed done
+  desk_guarded old working bytes written written' new done all =
+      subst (λ (f : Bool). Serves (Guards (Reads keys day)) f bytes written written' new.failed done) working
+      (serves_as failed_of (MaySay g keys day) (Guards (Reads keys day)) (λ old heading body told new said. said.2.0) old bytes written written' new done all)
 
   pub desk_guarded_part : (old : AtOffice S) → old.failed ≡ false → (bytes written written' : Option (List ℕ)) (new : AtOffice S) (answered : ℕ)
       → ServesPart (MaySay g keys day) old bytes written written' new answered
@@ -51,7 +51,7 @@ module _ {S : Type 0} (g : Ghosts S) (keys : List KeyOf) (day : ℕ) where
   nothing_said old new same = ([], [], same)
 
   pub said_all : (old : AtOffice S) (bytes written written' : Option (List ℕ)) (new : AtOffice S) (r : Result Served ServeFault)
-      → IfOk r (λ served. Serves (MaySay g keys day) old bytes written written' new served.requests)
+      → IfOk r (λ served. Serves (MaySay g keys day) old bytes written written' new served)
       → IfErr r (λ fault. ServesPart (MaySay g keys day) old bytes written written' new fault.answered)
       → MayServe g keys day old new
   said_all old bytes written written' new (Ok served) all part = (all.items, all.saids, all.runs)

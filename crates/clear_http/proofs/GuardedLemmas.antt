@@ -14,6 +14,7 @@ use Rattle.clear_routes.specs.Reading.{Reads}
 use Rattle.clear_wire.specs.Head.{Heading}
 use Rattle.clear_wire.specs.Stream.{NextItem, whole, bad, ended}
 use Rattle.clear_http.specs.Guarded.{Guards, IsAllowed, IsGuarded}
+use Rattle.clear_http.specs.declared.serve.Served.{Served}
 use Rattle.clear_http.specs.Serve.{ends_stream, Responds, Serves, ServesPart}
 
 -- ---- one request
@@ -75,16 +76,17 @@ module _ {S T : Type 0} (seen : S → T)
       (seen runs.0, (runs.1.0, ap seen runs.1.1), responds_as runs.0 items saids new runs.2)
   responds_as old (ended ∷ items) (told ∷ saids) new runs = absurd runs.1
 
-  pub serves_as : (old : S) (bytes written written' : Option (List ℕ)) (new : S) (answered : ℕ)
-      → Serves responds old bytes written written' new answered
-      → Serves guards (seen old) bytes written written' (seen new) answered
-  serves_as old bytes written written' new answered all = record {
+  pub serves_as : (old : S) (bytes written written' : Option (List ℕ)) (new : S) (done : Served)
+      → Serves responds old bytes written written' new done
+      → Serves guards (seen old) bytes written written' (seen new) done
+  serves_as old bytes written written' new done all = record {
     items = all.items;
     saids = all.saids;
     cut = all.cut;
     runs = responds_as old all.items all.saids new all.runs;
     wrote = all.wrote;
     count = all.count;
+    rule = all.rule;
   }
 
   pub serves_part_as : (old : S) (bytes written written' : Option (List ℕ)) (new : S) (answered : ℕ)

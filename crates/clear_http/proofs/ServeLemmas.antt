@@ -15,7 +15,9 @@ use Rattle.clear_wire.specs.Known.{Leads}
 use Rattle.clear_wire.specs.Limits.{request_limit}
 use Rattle.clear_wire.proofs.CutLemmas.{Cuts-append, left_after_all-append, cut_ended, cut_full, cut_begun, nothing_cut}
 use Rattle.clear_wire.proofs.KnownLemmas.{Leads-refl, Leads-then, Appends-nil, Appends-then}
-use Rattle.clear_http.specs.Serve.{ends_stream, left_then, NoneEnds, LastEnds, IsCutBy, was_done, MaySend, Says, Responds, is_bare, item_answer, answer_text, AnswersOne, BreaksOff, Progress, Serves, ServesPart}
+use Rattle.clear_http.specs.declared.serve.Served.{Served}
+use Rattle.clear_http.specs.declared.serve.Behind.{Behind}
+use Rattle.clear_http.specs.Serve.{is_bad, ends_by_rule, ends_stream, left_then, NoneEnds, LastEnds, IsCutBy, was_done, MaySend, Says, Responds, is_bare, item_answer, answer_text, AnswersOne, BreaksOff, Progress, Serves, ServesPart}
 
 -- ---- what ends a stream
 
@@ -35,6 +37,12 @@ pub same_answer : (left : ℕ) (p : NextItem) (wanted said : Said) (bare : Bool)
 same_answer left p wanted said bare after b a sent =
     let same : after ≡ left_then left p said = a ∙ ap (λ t. cond t 0 (left_after left p)) (sent_ends wanted said sent) in
     (λ i. answer_of said (eqb (same i) 0) (b i))
+
+-- a last item more
+rule_more : (items : List NextItem) (item : NextItem) → ends_by_rule (items ++ item ∷ []) ≡ is_bad item
+rule_more [] item = refl
+rule_more (first ∷ []) item = refl
+rule_more (first ∷ next ∷ items) item = rule_more (next ∷ items) item
 
 none_more : (saids : List Said) (said : Said) → NoneEnds saids → ends_stream said ≡ false → NoneEnds (saids ++ said ∷ [])
 none_more [] said none is = (is, tt)
@@ -67,7 +75,7 @@ module _ {H : Type 0} (responds : H → Heading → List ℕ → Said → H → 
       ap (λ t. item_answer left p s ++ t) (answer_text-append (left_after left p) x.0 ps qs ss ts b x.2)
       ∙ sym (append_assoc (item_answer left p s) _ _)
 
-  module _ (h : H) (bytes mid written wmid : Option (List ℕ)) (left : ℕ) (now : H) (answered : ℕ) (x : Progress responds h bytes mid written wmid left now answered) where
+  module _ (h : H) (bytes mid written wmid : Option (List ℕ)) (left : ℕ) (now : H) (served : Served) (x : Progress responds h bytes mid written wmid left now served) where
     -- where a request may follow, nothing has ended the stream
     module _ (some : 0 < left) where
       so_far : (left ≡ left_after_all request_limit x.items) × NoneEnds x.saids
@@ -94,22 +102,23 @@ module _ {H : Type 0} (responds : H → Heading → List ℕ → Said → H → 
           inl (follows ∙ sym all, none_more x.saids said so_far.1 is)
       left_more item said after true is follows = inr (follows, (x.saids, said, refl, so_far.1, is))
 
-      pub progress_more : (bytes' written' : Option (List ℕ)) (after : ℕ) (next : H) → AnswersOne responds left now mid bytes' wmid written' after next
-          → Progress responds h bytes bytes' written written' after next (answered + 1)
-      progress_more bytes' written' after next one = record {
+      pub progress_more : (bytes' written' : Option (List ℕ)) (behind : Behind) (next : H) → AnswersOne responds left now mid bytes' wmid written' behind next
+          → Progress responds h bytes bytes' written written' behind.after next (record { requests = served.requests + 1; unread = behind.unread })
+      progress_more bytes' written' behind next one = record {
         items = x.items ++ one.0 ∷ [];
         saids = x.saids ++ one.1 ∷ [];
         cuts = Leads-then _ (λ b r. Next b one.0 r) _ (λ b m r c n. cuts_then (one.0 ∷ []) b m r c (some, one.2, r, n, refl)) bytes mid bytes' x.cuts one.3;
         runs = Responds-append h x.items (one.0 ∷ []) x.saids (one.1 ∷ []) now next x.runs (next, one.5, refl);
-        left_is = left_more one.0 one.1 after (ends_stream one.1) refl one.4;
+        left_is = left_more one.0 one.1 behind.after (ends_stream one.1) refl one.4;
         wrote = subst (Appends written written')
             (ap (λ t. answer_text request_limit x.items x.saids ++ t) (sym (append-nil (item_answer left one.0 one.1))) ∙ sym (text_then (one.0 ∷ []) (one.1 ∷ [])))
             (Appends-then written wmid written' _ _ x.wrote one.6);
         count = omega (arith, x.count, length-append x.items (one.0 ∷ []));
+        rule = one.7 ∙ sym (rule_more x.items one.0);
       }
 
       pub progress_over : (bytes' written' : Option (List ℕ)) (next : H) → Leads (λ b r. Next b ended r) mid bytes' → next ≡ now → written' ≡ wmid
-          → Serves responds h bytes written written' next answered
+          → Serves responds h bytes written written' next served
       progress_over bytes' written' next over same kept = record {
         items = x.items;
         saids = x.saids;
@@ -117,9 +126,10 @@ module _ {H : Type 0} (responds : H → Heading → List ℕ → Said → H → 
         runs = subst (Responds responds h x.items x.saids) (sym same) x.runs;
         wrote = subst (λ w. Appends written w (answer_text request_limit x.items x.saids)) (sym kept) x.wrote;
         count = x.count;
+        rule = x.rule;
       }
 
-      pub progress_break : (written' : Option (List ℕ)) (next : H) → BreaksOff responds left now mid wmid written' next → ServesPart responds h bytes written written' next answered
+      pub progress_break : (written' : Option (List ℕ)) (next : H) → BreaksOff responds left now mid wmid written' next → ServesPart responds h bytes written written' next served.requests
       progress_break written' next b = record {
         items = x.items;
         saids = x.saids;
@@ -150,7 +160,7 @@ module _ {H : Type 0} (responds : H → Heading → List ℕ → Said → H → 
         begins : IfSome bytes (λ b. BeginsCut b x.items)
         begins = subst (λ (q : List NextItem). IfSome bytes (λ b. BeginsCut b q)) (append-nil x.items) (cut_begun x.items [] bytes mid x.cuts (nothing_cut (left_after_all request_limit x.items) mid))
 
-    pub progress_full : left ≡ 0 → Serves responds h bytes written wmid now answered
+    pub progress_full : left ≡ 0 → Serves responds h bytes written wmid now served
     progress_full none = record {
       items = x.items;
       saids = x.saids;
@@ -158,10 +168,14 @@ module _ {H : Type 0} (responds : H → Heading → List ℕ → Said → H → 
       runs = x.runs;
       wrote = x.wrote;
       count = x.count;
+      rule = x.rule;
     }
 
+  abbrev none_yet : Served
+  none_yet = record { requests = 0; unread = false }
+
   -- before the first request
-  pub progress_none : (h : H) (bytes written : Option (List ℕ)) → Progress responds h bytes bytes written written request_limit h 0
+  pub progress_none : (h : H) (bytes written : Option (List ℕ)) → Progress responds h bytes bytes written written request_limit h none_yet
   progress_none h bytes written = record {
     items = [];
     saids = [];
@@ -170,11 +184,12 @@ module _ {H : Type 0} (responds : H → Heading → List ℕ → Said → H → 
     left_is = inl (refl, tt);
     wrote = Appends-nil written;
     count = refl;
+    rule = refl;
   }
 
   -- where nothing was read or written
   pub nothing_served : (h : H) (bytes written : Option (List ℕ)) → ServesPart responds h bytes written written h 0
-  nothing_served h bytes written = progress_break h bytes bytes written written request_limit h 0 (progress_none h bytes written) (omega arith) written h
+  nothing_served h bytes written = progress_break h bytes bytes written written request_limit h none_yet (progress_none h bytes written) (omega arith) written h
       ([], [], [], [], omega arith, nothing_cut request_limit bytes, refl, Appends-nil written, refl, tt)
 
 -- ---- an answer has bytes

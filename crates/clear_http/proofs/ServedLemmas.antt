@@ -16,6 +16,7 @@ use Rattle.clear_answers.specs.declared.said.Said.{Said}
 use Rattle.clear_answers.specs.Said.{said_of}
 use Rattle.clear_wire.specs.Head.{Heading}
 use Rattle.clear_wire.specs.Stream.{NextItem, whole, bad, ended}
+use Rattle.clear_http.specs.declared.serve.Served.{Served}
 use Rattle.clear_http.specs.Serve.{Responds, Serves, ServesPart, was_done}
 use Rattle.clear_http.specs.Served.{CallSteps, RequestSteps, KeepsOn, ItemTakes, ItemsTake, IsServed, IsServedPart}
 
@@ -119,11 +120,11 @@ module _ {S : Type 0} (g : Ghosts S) (reads : Heading → List ℕ → Result Ca
         (rest.0, (runs.0.failed, b, (runs.1.0, refl, ap (λ (a : AtOffice S). a.failed) runs.1.1), rest.1), rest.2, rest.3)
     items_go old (ended ∷ items) (told ∷ saids) new runs honest b lawful keeps = absurd runs.1
 
-    pub served : (old : AtOffice S) (bytes written written' : Option (List ℕ)) (new : AtOffice S) (answered : ℕ)
-        → Serves responds old bytes written written' new answered → IsHonest g new
+    pub served : (old : AtOffice S) (bytes written written' : Option (List ℕ)) (new : AtOffice S) (done : Served)
+        → Serves responds old bytes written written' new done → IsHonest g new
         → (b : Book) → IsLawful b → Keeps g old b
-        → IsServed g reads old b bytes written written' new answered
-    served old bytes written written' new answered all honest b lawful keeps =
+        → IsServed g reads old b bytes written written' new done
+    served old bytes written written' new done all honest b lawful keeps =
         let there = items_go old all.items all.saids new all.runs honest b lawful keeps in
         record {
           items = all.items;
@@ -133,6 +134,7 @@ module _ {S : Type 0} (g : Ghosts S) (reads : Heading → List ℕ → Result Ca
           takes = there.1;
           wrote = all.wrote;
           count = all.count;
+          rule = all.rule;
           lawful = there.2;
           keeps = there.3;
         }

@@ -6,7 +6,8 @@ use Rattle.std.specs.Prelude.{length, Option, ◌==◌, IfSome, ⊤, if◌then�
 use Rattle.std.specs.List.{AllByRecursion}
 use Rattle.std.specs.Io.KnownBytes.{Appends}
 use Rattle.clear_book.specs.declared.rules.Rule.{Rule}
-use Rattle.clear_book.specs.declared.rules.Rule.TheVariants.{Memory, Store, Failed}
+use Rattle.clear_book.specs.declared.rules.Rule.TheVariants as rule
+use Rattle.clear_book.specs.declared.rules.Rule.TheVariants.{Memory, Failed}
 use Rattle.clear_answers.specs.declared.said.Said.{Said}
 use Rattle.clear_answers.specs.declared.said.Said.TheVariants.{Reply, Answer, No}
 use Rattle.clear_answers.specs.Answer.{answer_of}
@@ -17,8 +18,10 @@ use Rattle.clear_wire.specs.Known.{Leads}
 use Rattle.clear_wire.specs.Limits.{request_limit}
 use Rattle.clear_wire.specs.Method.{is_head}
 use Rattle.clear_wire.specs.Stream.{NextItem, whole, bad, ended, Next}
+use Rattle.clear_http.specs.declared.serve.Fault.TheVariants.{Write}
 use Rattle.clear_http.specs.declared.serve.ServeFault.{ServeFault}
 use Rattle.clear_http.specs.declared.serve.Served.{Served}
+use Rattle.clear_http.specs.declared.serve.Behind.{Behind}
 
 -- an answer without a body
 abbrev pub is_bare : NextItem → Bool
@@ -26,10 +29,58 @@ is_bare (whole heading body) = is_head heading.method
 is_bare (bad rule bare) = bare
 is_bare ended = false
 
+-- a rule that ends the stream
+abbrev pub is_bad : NextItem → Bool
+is_bad (whole heading body) = false
+is_bad (bad rule bare) = true
+is_bad ended = false
+
+-- the last of these is a rule that ends the stream: what comes behind it isn't read
+abbrev pub ends_by_rule : List NextItem → Bool
+ends_by_rule [] = false
+ends_by_rule (item ∷ []) = is_bad item
+ends_by_rule (item ∷ next ∷ items) = ends_by_rule (next ∷ items)
+
 -- the rule says that the store has failed
 abbrev pub tells_fault : Rule → Bool
-tells_fault (Store cause) = true
-tells_fault rule = false
+tells_fault rule.BadHead = false
+tells_fault rule.TooLarge = false
+tells_fault rule.BadFraming = false
+tells_fault rule.NoRoute = false
+tells_fault rule.BadMethod = false
+tells_fault rule.UnknownKey = false
+tells_fault rule.NotYours = false
+tells_fault rule.BadBody = false
+tells_fault rule.NumberReused = false
+tells_fault (rule.DayBack day) = false
+tells_fault rule.UnknownEmployer = false
+tells_fault rule.EmployerExists = false
+tells_fault rule.MonthOutside = false
+tells_fault rule.MonthAhead = false
+tells_fault (rule.ReportExists version) = false
+tells_fault (rule.StaleVersion version) = false
+tells_fault (rule.WorkerTwice worker) = false
+tells_fault (rule.OverLimit limit) = false
+tells_fault rule.RateOrder = false
+tells_fault (rule.BadCsv line field) = false
+tells_fault (rule.RefConflict line) = false
+tells_fault (rule.ValueAhead line) = false
+tells_fault rule.NotInSuspense = false
+tells_fault rule.NotEmployed = false
+tells_fault (rule.OverBalance balance) = false
+tells_fault rule.UnknownClaim = false
+tells_fault rule.ClaimNotOpen = false
+tells_fault (rule.MissingReport month) = false
+tells_fault rule.NothingToPay = false
+tells_fault rule.NothingToRemind = false
+tells_fault (rule.EndBeforeReports month) = false
+tells_fault rule.NoRate = false
+tells_fault rule.UnknownDocument = false
+tells_fault rule.Memory = false
+tells_fault (rule.Store cause) = true
+tells_fault rule.Failed = false
+tells_fault (rule.WrongVersion version) = false
+tells_fault (rule.BadOldRow table) = false
 
 -- what is said ends the stream: the store has failed
 abbrev pub ends_stream : Said → Bool
@@ -89,13 +140,13 @@ IsProper (item ∷ items) rest = 0 < length rest
 abbrev pub failed_answer : List ℕ
 failed_answer = answer_of (refused_by Failed) true false
 
--- this answer is written, and counted; or, after a fault, a front of it that isn't all of it
+-- this answer is written, and counted; or a write failed, after a front of it that isn't all of it
 abbrev pub TellsFailed : Option (List ℕ) → Option (List ℕ) → Result Served ServeFault → Type 0
 TellsFailed written written' (Ok served) =
-    (served.requests ≡ 1) × Appends written written' failed_answer
+    (served.requests ≡ 1) × (served.unread ≡ true) × Appends written written' failed_answer
 TellsFailed written written' (Err fault) =
-    (fault.answered ≡ 0) × (part : List ℕ) × (rest : List ℕ) × (failed_answer ≡ part ++ rest)
-    × (0 < length rest) × Appends written written' part
+    (fault.fault ≡ Write) × (fault.answered ≡ 0) × (part : List ℕ) × (rest : List ℕ)
+    × (failed_answer ≡ part ++ rest) × (0 < length rest) × Appends written written' part
 
 module _ {H : Type 0} (responds : H → Heading → List ℕ → Said → H → Type 0) where
   -- a request is answered; a rule that ends the stream is told, or, in its place, want of memory
@@ -115,12 +166,12 @@ module _ {H : Type 0} (responds : H → Heading → List ℕ → Said → H → 
 
   -- the stream goes on with one item, and its answer is written
   abbrev pub AnswersOne : ℕ → H → Option (List ℕ) → Option (List ℕ)
-      → Option (List ℕ) → Option (List ℕ) → ℕ → H → Type 0
-  AnswersOne left h bytes bytes' written written' after h' =
+      → Option (List ℕ) → Option (List ℕ) → Behind → H → Type 0
+  AnswersOne left h bytes bytes' written written' behind h' =
       (item : NextItem) × (said : Said) × IsAnswered item
       × Leads (λ b r. Next b item r) bytes bytes'
-      × (after ≡ left_then left item said) × Says h item said h'
-      × Appends written written' (item_answer left item said)
+      × (behind.after ≡ left_then left item said) × Says h item said h'
+      × Appends written written' (item_answer left item said) × (behind.unread ≡ is_bad item)
 
   -- at most one item more was taken, and a front of its answer is written
   abbrev pub BreaksOff : ℕ → H → Option (List ℕ) → Option (List ℕ) → Option (List ℕ) → H → Type 0
@@ -132,8 +183,8 @@ module _ {H : Type 0} (responds : H → Heading → List ℕ → Said → H → 
 
   -- so many items were answered so far
   pub record Progress
-      (h : H) (bytes bytes' written written' : Option (List ℕ)) (left : ℕ) (h' : H) (answered : ℕ)
-      : Type 0 where
+      (h : H) (bytes bytes' written written' : Option (List ℕ)) (left : ℕ) (h' : H)
+      (served : Served) : Type 0 where
     pub items : List NextItem
     pub saids : List Said
     pub cuts : Leads (λ b r. Cuts request_limit b items r) bytes bytes'
@@ -141,17 +192,20 @@ module _ {H : Type 0} (responds : H → Heading → List ℕ → Said → H → 
     pub left_is : ((left ≡ left_after_all request_limit items) × NoneEnds saids)
         ⊎ ((left ≡ 0) × LastEnds saids)
     pub wrote : Appends written written' (answer_text request_limit items saids)
-    pub count : answered ≡ length items
+    pub count : served.requests ≡ length items
+    pub rule : served.unread ≡ ends_by_rule items
 
   -- all of the stream was answered: the answers to its items were written, and nothing else
   pub record Serves
-      (h : H) (bytes written written' : Option (List ℕ)) (h' : H) (answered : ℕ) : Type 0 where
+      (h : H) (bytes written written' : Option (List ℕ)) (h' : H) (served : Served)
+      : Type 0 where
     pub items : List NextItem
     pub saids : List Said
     pub cut : IfSome bytes (λ b. IsCutBy b items saids)
     pub runs : Responds h items saids h'
     pub wrote : Appends written written' (answer_text request_limit items saids)
-    pub count : answered ≡ length items
+    pub count : served.requests ≡ length items
+    pub rule : served.unread ≡ ends_by_rule items
 
   -- so many items were answered whole; at most one more was taken, and a front of its answer is
   -- written, which isn't all of it

@@ -18,7 +18,8 @@ use Rattle.clear_wire.specs.Cut.{BeginsCut}
 use Rattle.clear_wire.specs.Head.{Heading}
 use Rattle.clear_wire.specs.Limits.{request_limit}
 use Rattle.clear_wire.specs.Stream.{NextItem, whole, bad, ended}
-use Rattle.clear_http.specs.Serve.{answer_text, IsCutBy, IsProper, NoneEnds}
+use Rattle.clear_http.specs.declared.serve.Served.{Served}
+use Rattle.clear_http.specs.Serve.{answer_text, ends_by_rule, IsCutBy, IsProper, NoneEnds}
 
 -- ---- over offices
 
@@ -78,7 +79,7 @@ module _ {S : Type 0} (g : Ghosts S) (reads : Heading → List ℕ → Result Ca
   -- were written and nothing else, and the office keeps the book that was left
   pub record IsServed
       (old : AtOffice S) (b : Book) (bytes written written' : Option (List ℕ)) (new : AtOffice S)
-      (answered : ℕ)
+      (served : Served)
       : Type 0 where
     pub items : List NextItem
     pub saids : List Said
@@ -86,7 +87,8 @@ module _ {S : Type 0} (g : Ghosts S) (reads : Heading → List ℕ → Result Ca
     pub cut : IfSome bytes (λ bs. IsCutBy bs items saids)
     pub takes : ItemsTake reads old.failed new.failed b items saids last
     pub wrote : Appends written written' (answer_text request_limit items saids)
-    pub count : answered ≡ length items
+    pub count : served.requests ≡ length items
+    pub rule : served.unread ≡ ends_by_rule items
     pub lawful : IsLawful last
     pub keeps : Keeps g new last
 

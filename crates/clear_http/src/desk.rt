@@ -1,6 +1,6 @@
 //! The desk: an office with the keys of its callers, on one day. It answers the requests of a
 //! stream.
-ghost use Rattle.std.specs.Prelude.{◌≡◌, ◌≢◌, ◌+◌, false, true, IfOk, IfErr};
+ghost use Rattle.std.specs.Prelude.{◌≡◌, ◌≢◌, ◌+◌, ◌≤◌, false, true, IfOk, IfErr};
 ghost use Rattle.clear_book.specs.declared.outcomes.Outcome.{Outcome};
 ghost use Rattle.clear_book.specs.declared.rules.Rule.TheVariants.{NotYours as not_yours};
 ghost use Rattle.clear_book.specs.Book.{Book};
@@ -23,11 +23,11 @@ use clear_money::days::Day;
 use clear_office::office::Office;
 use clear_routes::call::find_call;
 use clear_routes::routes::Routes;
-use clear_wire::counted::Counted;
+use clear_wire::counted::{Counted, RequestRead};
 use clear_wire::request::Request;
 use sqlite::Alter;
 use std::alloc::Global;
-use std::io::{Read, Write};
+use std::io::Write;
 
 // The keys of an office's callers, and the day on which it is asked. Who answers is the office.
 #[derive(Drop)]
@@ -80,8 +80,8 @@ fn take<S: Alter>(office: &mut Office<S>, call: &Call) -> Said
 /// After a fault, what was written is the answers to the first requests, so many as the fault says,
 /// and a front of the next one's that isn't all of it. `Read` and `Write` come only where a call of
 /// this reader or writer failed, `Reads` only after 1,000,000 reads of this reader, and the other
-/// faults only where no call failed.
-pub fn serve<S: Alter, R: Read, W: Write>(
+/// faults only where no call failed. However it ends, it makes no more reads than these.
+pub fn serve<S: Alter, R: RequestRead, W: Write>(
     alloc: Global,
     office: &mut Office<S>,
     directory: &Directory,
@@ -100,7 +100,7 @@ pub fn serve<S: Alter, R: Read, W: Write>(
         → IsServed S.Store (Reads directory.now day) office.old b
         (R.remaining (inner reader.old))
         (W.contents (inner writer.old)) (W.contents (inner writer.new))
-        office.new served.requests) }
+        office.new served) }
     ensures fault { office.old.failed ≡ false
         → IfErr result (λ fault. IsHonest S.Store office.new
         → (b : Book) → IsLawful b → Keeps S.Store office.old b
@@ -114,7 +114,7 @@ pub fn serve<S: Alter, R: Read, W: Write>(
         → IfOk result (λ served. Serves (Guards (Reads directory.now day)) false
         (R.remaining (inner reader.old))
         (W.contents (inner writer.old)) (W.contents (inner writer.new))
-        office.new.failed served.requests) }
+        office.new.failed served) }
     ensures access_fault { office.old.failed ≡ false
         → IfErr result (λ fault. ServesPart (Guards (Reads directory.now day)) false
         (R.remaining (inner reader.old))
@@ -126,6 +126,7 @@ pub fn serve<S: Alter, R: Read, W: Write>(
         → has_failed writer.new ≡ true) }
     ensures too_many_reads { IfErr result (λ fault. fault.fault ≡ Fault.Reads
         → reads_of reader.new ≡ reads_of reader.old + read_limit) }
+    ensures few_reads { reads_of reader.new ≤ reads_of reader.old + read_limit }
     ensures reader_well { IfErr result (λ fault. fault.fault ≢ Fault.Read
         → has_failed reader.new ≡ false) }
     ensures writer_well { IfErr result (λ fault. fault.fault ≢ Fault.Write

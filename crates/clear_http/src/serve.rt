@@ -1,5 +1,5 @@
 //! One stream, served: its requests are answered one after another, and the answers are written.
-ghost use Rattle.std.specs.Prelude.{◌≡◌, ◌≢◌, ℕ, ◌+◌, ◌<◌, ◌++◌, ◌==◌, true, false, List, []};
+ghost use Rattle.std.specs.Prelude.{◌≡◌, ◌≢◌, ℕ, ◌+◌, ◌<◌, ◌≤◌, ◌++◌, ◌==◌, true, false, List, []};
 ghost use Rattle.std.specs.Prelude.{length, IfOk, IfErr, IfSome, IfNone, OnOk, OnErr, Err};
 ghost use Rattle.std.specs.Io.KnownBytes.{Appends};
 ghost use Rattle.clear_book.specs.declared.rules.Rule.TheVariants.{Memory as no_memory};
@@ -13,20 +13,20 @@ ghost use Rattle.clear_wire.specs.Limits.{read_limit};
 ghost use Rattle.clear_wire.specs.Request.{next_item};
 ghost use Rattle.clear_wire.specs.Parsed.{heading};
 ghost use Rattle.clear_wire.specs.Stream.{ended, whole, Next};
-ghost use Rattle.clear_http.specs.Serve.{is_bare, was_done, ends_stream, left_then, MaySend};
+ghost use Rattle.clear_http.specs.Serve.{is_bad, is_bare, was_done, ends_stream, left_then};
 ghost use Rattle.clear_http.specs.Serve.{Says, AnswersOne, BreaksOff, Serves, ServesPart};
-ghost use Rattle.clear_http.specs.Serve.{TellsFailed};
+ghost use Rattle.clear_http.specs.Serve.{MaySend, TellsFailed};
 
 use clear_answers::answer::{answer_bytes, failed_text, memory_text};
 use clear_answers::said::{Refused, Said};
 use clear_book::rules::Rule;
-use clear_wire::counted::{Counted, NotedRead};
+use clear_wire::counted::{Counted, NotedRead, RequestRead};
 use clear_wire::input::{Input, ReadFault};
 use clear_wire::limits::MAX_REQUESTS;
 use clear_wire::request::{Item, Request, read_request};
 use std::alloc::Global;
 use std::io;
-use std::io::{Read, Write};
+use std::io::Write;
 
 /// Who answers requests from a state, which they may change.
 pub trait Responder<T> {
@@ -64,10 +64,12 @@ pub enum Fault {
     Memory,
 }
 
-/// How many answers were written.
+/// How many answers were written, and whether the stream ended before its bytes did.
 #[derive(Clone, Copy)]
 pub struct Served {
     pub requests: u64,
+    /// A rule of the stream ended it, or the office had failed before: what came behind isn't read.
+    pub unread: bool,
 }
 
 /// Why a stream was not served to its end, and how far it was.
@@ -78,12 +80,20 @@ pub struct ServeFault {
     pub answered: u64,
 }
 
-// What is to be sent for an item, and how many requests may come after it.
+// What follows an item that was answered: so many requests may come, or, where a rule of the stream
+// ended it, unread bytes.
+#[derive(Clone, Copy)]
+struct Behind {
+    after: u32,
+    unread: bool,
+}
+
+// What is to be sent for an item, and what follows it.
 #[derive(Drop)]
 struct Due {
     said: Said,
     bare: bool,
-    after: u32,
+    behind: Behind,
 }
 
 fn fault_of(fault: ReadFault) -> Fault
@@ -139,7 +149,10 @@ pub(crate) fn tell_failed<W: Write>(writer: &mut Counted<W>) -> Result<Served, S
         (fault.fault ≡ Fault.Write) × (has_failed writer.new ≡ true)) }
 {
     match put(writer, failed_text(true, false)) {
-        Ok(()) => Ok(Served { requests: 1 }),
+        Ok(()) => Ok(Served {
+            requests: 1,
+            unread: true,
+        }),
         Err(fault) => Err(ServeFault { fault, answered: 0 }),
     }
 }
@@ -192,8 +205,10 @@ fn respond_to<T, H: Responder<T>>(
         → Says (H.responds responder.now) state.old (next_item item) (refused_by no_memory)
         state.new) }
     ensures bare { IfSome result (λ due. due.bare ≡ is_bare (next_item item)) }
-    ensures after { IfSome result (λ due. due.after ≡ left_then left (next_item item) due.said) }
-    ensures falls { IfSome result (λ due. due.after < left) }
+    ensures after { IfSome result (λ due.
+        due.behind.after ≡ left_then left (next_item item) due.said) }
+    ensures unread { IfSome result (λ due. due.behind.unread ≡ is_bad (next_item item)) }
+    ensures falls { IfSome result (λ due. due.behind.after < left) }
 {
     match item {
         Item::Whole(request) => {
@@ -202,13 +217,19 @@ fn respond_to<T, H: Responder<T>>(
             Some(Due {
                 said,
                 bare: request.head.method.is_head(),
-                after,
+                behind: Behind {
+                    after,
+                    unread: false,
+                },
             })
         }
         Item::Bad { rule, bare } => Some(Due {
             said: Said::No(Refused::by_stream(rule)),
             bare,
-            after: 0,
+            behind: Behind {
+                after: 0,
+                unread: true,
+            },
         }),
         Item::End => None,
     }
@@ -217,14 +238,14 @@ fn respond_to<T, H: Responder<T>>(
 // Writes what is due, or the answer for want of memory where nothing was done.
 fn send<W: Write>(alloc: Global, writer: &mut Counted<W>, due: &Due) -> Result<(), Fault>
     ensures wrote { (said : Said) × (part : List ℕ) × (rest : List ℕ) × MaySend due.now.said said
-        × (answer_of said (due.now.after == 0) due.now.bare ≡ part ++ rest)
+        × (answer_of said (due.now.behind.after == 0) due.now.bare ≡ part ++ rest)
         × Appends (W.contents (inner writer.old)) (W.contents (inner writer.new)) part
         × OnOk result (rest ≡ []) × OnErr result (0 < length rest) }
     ensures failed { result ≡ Err Fault.Write → has_failed writer.new ≡ true }
     ensures well { result ≢ Err Fault.Write → has_failed writer.new ≡ has_failed writer.old }
     ensures only { IfErr result (λ fault. (fault ≢ Fault.Read) × (fault ≢ Fault.Reads)) }
 {
-    let close = due.after == 0;
+    let close = due.behind.after == 0;
     let mut text = Vec::new(alloc);
     if answer_bytes(&due.said, close, due.bare, &mut text).is_ok() {
         return put(writer, text.as_slice());
@@ -235,8 +256,7 @@ fn send<W: Write>(alloc: Global, writer: &mut Counted<W>, due: &Due) -> Result<(
     put(writer, memory_text(close, due.bare))
 }
 
-// Answers what the stream goes on with, and says how many requests may follow; none where the
-// stream is over.
+// Answers what the stream goes on with, and says what follows; none where the stream is over.
 fn turn<T, H: Responder<T>, R: NotedRead, W: Write>(
     alloc: Global,
     responder: &H,
@@ -244,14 +264,14 @@ fn turn<T, H: Responder<T>, R: NotedRead, W: Write>(
     input: &mut Input<R>,
     writer: &mut Counted<W>,
     left: u32,
-) -> Result<Option<u32>, Fault>
+) -> Result<Option<Behind>, Fault>
     requires { 0 < left }
-    ensures answered { IfOk result (λ after. IfSome after (λ after.
+    ensures answered { IfOk result (λ next. IfSome next (λ behind.
         AnswersOne (H.responds responder.now) left state.old
         (stream R.remaining input.old) (stream R.remaining input.new)
-        (W.contents (inner writer.old)) (W.contents (inner writer.new)) after state.new)) }
-    ensures falls { IfOk result (λ after. IfSome after (λ after. after < left)) }
-    ensures over { IfOk result (λ after. IfNone after (
+        (W.contents (inner writer.old)) (W.contents (inner writer.new)) behind state.new)) }
+    ensures falls { IfOk result (λ next. IfSome next (λ behind. behind.after < left)) }
+    ensures over { IfOk result (λ next. IfNone next (
         Leads (λ bytes rest. Next bytes ended rest)
         (stream R.remaining input.old) (stream R.remaining input.new)
         × (state.new ≡ state.old) × (writer.new ≡ writer.old))) }
@@ -270,7 +290,7 @@ fn turn<T, H: Responder<T>, R: NotedRead, W: Write>(
     match read_request(input) {
         Ok(item) => match respond_to(responder, state, item, left) {
             Some(due) => match send(alloc, writer, &due) {
-                Ok(()) => Ok(Some(due.after)),
+                Ok(()) => Ok(Some(due.behind)),
                 Err(fault) => Err(fault),
             },
             None => Ok(None),
@@ -290,7 +310,7 @@ fn serve_input<T, H: Responder<T>, R: NotedRead, W: Write>(
     ensures served { IfOk result (λ served. Serves (H.responds responder.now) state.old
         (stream R.remaining input.old)
         (W.contents (inner writer.old)) (W.contents (inner writer.new))
-        state.new served.requests) }
+        state.new served) }
     ensures fault { IfErr result (λ fault. ServesPart (H.responds responder.now) state.old
         (stream R.remaining input.old)
         (W.contents (inner writer.old)) (W.contents (inner writer.new))
@@ -309,18 +329,25 @@ fn serve_input<T, H: Responder<T>, R: NotedRead, W: Write>(
         → has_failed writer.new ≡ has_failed writer.old) }
 {
     let mut left = MAX_REQUESTS;
-    let mut answered: u64 = 0;
+    let mut requests: u64 = 0;
+    let mut unread = false;
     'turns: while left > 0 {
         match turn(alloc, responder, state, input, writer, left) {
-            Ok(Some(after)) => {
-                left = after;
-                answered += 1;
+            Ok(Some(behind)) => {
+                left = behind.after;
+                unread = behind.unread;
+                requests += 1;
             }
-            Ok(None) => return Ok(Served { requests: answered }),
-            Err(fault) => return Err(ServeFault { fault, answered }),
+            Ok(None) => return Ok(Served { requests, unread }),
+            Err(fault) => {
+                return Err(ServeFault {
+                    fault,
+                    answered: requests,
+                });
+            }
         }
     }
-    Ok(Served { requests: answered })
+    Ok(Served { requests, unread })
 }
 
 /// Answers the requests in the bytes of a reader, one after another, up to the end of the stream.
@@ -329,8 +356,8 @@ fn serve_input<T, H: Responder<T>, R: NotedRead, W: Write>(
 /// fault it is those of the first items, so many as the fault says, and a front of the next one's
 /// that isn't all of it. `Read` and `Write` come only where a call of this reader or writer failed,
 /// `Reads` only after 1,000,000 reads of this reader, and the other faults only where no call
-/// failed.
-pub fn serve_stream<T, H: Responder<T>, R: Read, W: Write>(
+/// failed. However it ends, it makes no more reads than these.
+pub fn serve_stream<T, H: Responder<T>, R: RequestRead, W: Write>(
     alloc: Global,
     responder: &H,
     state: &mut T,
@@ -342,7 +369,7 @@ pub fn serve_stream<T, H: Responder<T>, R: Read, W: Write>(
     ensures served { IfOk result (λ served. Serves (H.responds responder.now) state.old
         (R.remaining (inner reader.old))
         (W.contents (inner writer.old)) (W.contents (inner writer.new))
-        state.new served.requests) }
+        state.new served) }
     ensures fault { IfErr result (λ fault. ServesPart (H.responds responder.now) state.old
         (R.remaining (inner reader.old))
         (W.contents (inner writer.old)) (W.contents (inner writer.new))
@@ -353,6 +380,7 @@ pub fn serve_stream<T, H: Responder<T>, R: Read, W: Write>(
         → has_failed writer.new ≡ true) }
     ensures too_many_reads { IfErr result (λ fault. fault.fault ≡ Fault.Reads
         → reads_of reader.new ≡ reads_of reader.old + read_limit) }
+    ensures few_reads { reads_of reader.new ≤ reads_of reader.old + read_limit }
     ensures reader_well { IfErr result (λ fault. fault.fault ≢ Fault.Read
         → has_failed reader.new ≡ false) }
     ensures writer_well { IfErr result (λ fault. fault.fault ≢ Fault.Write

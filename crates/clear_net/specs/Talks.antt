@@ -1,6 +1,6 @@
 -- What is said on connections, one after another. `reads` says which call a request is, or what
 -- refuses it before the office sees it.
-use Rattle.std.specs.Prelude.{◌≡◌, ℕ, Bool, List, [], ◌∷◌, length, Result}
+use Rattle.std.specs.Prelude.{◌≡◌, ℕ, ◌<◌, Bool, List, [], ◌∷◌, length, Result}
 use Rattle.sqlite.specs.Store.{Ghosts}
 use Rattle.clear_book.specs.declared.calls.Call.{Call}
 use Rattle.clear_book.specs.Book.{Book}
@@ -13,11 +13,18 @@ use Rattle.clear_wire.specs.Stream.{NextItem}
 use Rattle.clear_http.specs.Guarded.{Admits}
 use Rattle.clear_http.specs.Serve.{Responds}
 use Rattle.clear_http.specs.Served.{ItemsTake}
+use Rattle.clear_net.specs.declared.connections.Ended.{Ended}
+use Rattle.clear_net.specs.declared.connections.Ended.TheVariants.{Served, StoreGone}
 
 -- what was said on one connection: one thing to each item that was taken of what its peer sent
 pub record Talk : Type 0 where
   pub items : List NextItem
   pub saids : List Said
+
+-- how many of so many connections were served: all of them, unless the store was gone before
+abbrev pub IsCount : Ended → ℕ → ℕ → Type 0
+IsCount Served count talks = talks ≡ count
+IsCount StoreGone count talks = talks < count
 
 module _ {H : Type 0} (responds : H → Heading → List ℕ → Said → H → Type 0) where
   -- the items of each connection are answered, one connection after another
@@ -44,10 +51,10 @@ module _ {S : Type 0} (g : Ghosts S) (reads : Heading → List ℕ → Result Ca
       → (last : Book) × TalksTake reads old.failed new.failed b talks last × IsLawful last
       × Keeps g new last
 
-  -- so many connections were served, one after another
-  pub record AreServed (count : ℕ) (old new : AtOffice S) : Type 0 where
+  -- of so many connections those were served, one after another, that came before serving ended so
+  pub record AreServed (ended : Ended) (count : ℕ) (old new : AtOffice S) : Type 0 where
     pub talks : List Talk
-    pub each : length talks ≡ count
+    pub each : IsCount ended count (length talks)
     pub runs : RunsTalks old talks new
     -- this holds whatever the records are, also those of no lawful book
     pub access : Talks (Admits reads) old talks new

@@ -9,16 +9,16 @@ use clear_callers::directory::Directory;
 use clear_http::desk::serve;
 use clear_money::days::Day;
 use clear_money::numbers::EmployerNo;
-use clear_net::connections::serve_connections;
+use clear_net::connections::{Ended, Watch, serve_connections};
 use clear_office::office::Office;
-use clear_wire::counted::Counted;
+use clear_wire::counted::{Counted, RequestRead};
 use sqlite::Alter;
 use std::alloc::Global;
-use std::io::{Read, Write};
+use std::io::Write;
 use std::net::{Ipv4Addr, TcpListener};
 
 /// Serves the requests of the input to its end.
-pub fn serve_stream<S: Alter, I: Read, O: Write>(
+pub fn serve_stream<S: Alter, I: RequestRead, O: Write>(
     alloc: Global,
     office: &mut Office<S>,
     directory: &Directory,
@@ -58,6 +58,15 @@ pub fn do_work<S: Alter, E: Write>(
     }
 }
 
+// A store of which nobody looks whether it still stands.
+struct Unwatched;
+
+impl Watch for Unwatched {
+    fn stands(&self) -> bool {
+        true
+    }
+}
+
 fn serve_port<S: Alter, E: Write>(
     rt: &HostRuntime,
     office: &mut Office<S>,
@@ -71,9 +80,13 @@ fn serve_port<S: Alter, E: Write>(
         return Err(Stop::Net);
     };
     // What can't be told of a connection is lost.
-    let alloc = rt.alloc();
-    let _ = serve_connections(alloc, &listener, count, office, directory, day, errors);
-    Ok(format!(in alloc; "served {count}\n")?)
+    let serving = serve_connections(
+        rt, &listener, count, office, directory, day, &Unwatched, errors,
+    );
+    match serving.ended {
+        Ended::Served => Ok(format!(in rt.alloc(); "served {count}\n")?),
+        Ended::StoreGone => Err(Stop::Rule(Rule::Store(StoreCause::Other))),
+    }
 }
 
 fn import<S: Alter>(

@@ -1,4 +1,4 @@
-//! Readers and writers that note whether a call of them has failed.
+//! Readers and writers that note whether a call of them has failed, and readers of requests.
 ghost use Rattle.std.specs.Prelude.{◌≡◌, ◌<◌, false, length, IfOk, Some};
 ghost use Rattle.std.specs.Io.{ReadsAtMost, WritesAtMost};
 ghost use Rattle.std.specs.Io.KnownBytes.{Keeps, ReadConsumes, WriteAppends};
@@ -6,7 +6,7 @@ ghost use Rattle.clear_wire.specs.Counted.{inner, has_failed, reads_of};
 ghost use Rattle.clear_wire.specs.Counted.{Noted, noted_of, Notes, NotesRead};
 
 use std::io;
-use std::io::{Read, Write};
+use std::io::{Read, Stdin, Write};
 
 /// A reader or a writer, whether a call of it has failed, and how many reads of it haven't.
 #[derive(Drop)]
@@ -50,9 +50,33 @@ impl<T> Counted<T> {
     }
 }
 
+/// A reader of requests, which is told when it has to give one. Few readers need to know.
+pub trait RequestRead: Read {
+    /// The next request is awaited. Where it has begun, some of its bytes were given already, with
+    /// those of the request before it. Nothing is read.
+    fn await_request(&mut self, _begun: bool)
+        ensures { Self.remaining self.new ≡ Self.remaining self.old }
+    {}
+}
+
+impl RequestRead for Stdin {}
+
+impl RequestRead for &[u8] {}
+
+impl<R: RequestRead> RequestRead for &mut R {
+    fn await_request(&mut self, begun: bool) {
+        (**self).await_request(begun);
+    }
+}
+
 /// A reader whose failures are noted, and whose other reads are counted.
 pub trait NotedRead: Read {
     ghost noted: { Self → Noted };
+
+    /// Tells that the next request is awaited, and whether some of its bytes were given already.
+    fn await_noted(&mut self, begun: bool)
+        ensures bytes { Self.remaining self.new ≡ Self.remaining self.old }
+        ensures noted { noted self.new ≡ noted self.old };
 
     /// Reads as `read` does, and notes an error.
     fn read_noted(&mut self, buf: &mut [u8]) -> io::Result<usize>
@@ -83,8 +107,12 @@ impl<R: Read> Read for Counted<R> {
     }
 }
 
-impl<R: Read> NotedRead for Counted<R> {
+impl<R: RequestRead> NotedRead for Counted<R> {
     ghost noted = { noted_of };
+
+    fn await_noted(&mut self, begun: bool) {
+        self.inner.await_request(begun);
+    }
 
     fn read_noted(&mut self, buf: &mut [u8]) -> io::Result<usize> {
         self.read(buf)
@@ -93,6 +121,10 @@ impl<R: Read> NotedRead for Counted<R> {
 
 impl<R: NotedRead> NotedRead for &mut R {
     ghost noted = { λ r. record (R.noted r.now) { borrow = Some r.ghost_name } };
+
+    fn await_noted(&mut self, begun: bool) {
+        (**self).await_noted(begun);
+    }
 
     fn read_noted(&mut self, buf: &mut [u8]) -> io::Result<usize> {
         (**self).read_noted(buf)

@@ -97,7 +97,8 @@ impl<R> Input<R> {
 
     /// The reader. Bytes that came and weren't used are lost.
     pub fn into_reader(self) -> R
-        ensures { result ≡ reader_of self }
+        ensures reader { result ≡ reader_of self }
+        ensures few { reads_made self ≤ read_limit }
     {
         let Input {
             alloc: _,
@@ -130,7 +131,7 @@ impl<R> Input<R> {
 impl<R: NotedRead> Input<R> {
     ghost use Rattle.clear_wire.specs.Input.{unread, reader_of, unused_of, reads_made};
     ghost use Rattle.clear_wire.specs.Input.{placed, IsPlacedWithin};
-    ghost use Rattle.clear_wire.specs.Input.{NotesFault, CountsReads, KeepsBorrow};
+    ghost use Rattle.clear_wire.specs.Input.{failed_of, NotesFault, CountsReads, KeepsBorrow};
     ghost use Rattle.clear_wire.specs.Parsed.{heading};
     ghost use Rattle.clear_wire.specs.Known.{Leads};
     ghost use Rattle.clear_wire.specs.Lines.{skip_empty_lines};
@@ -178,6 +179,19 @@ impl<R: NotedRead> Input<R> {
         drop_front(&mut self.unused, count);
     }
 
+    /// Drops the empty lines that came already, and tells the reader that a request is awaited.
+    fn begin(&mut self)
+        ensures skips { Leads (λ old new. skip_empty_lines new ≡ skip_empty_lines old)
+            (unread R.remaining self.old) (unread R.remaining self.new) }
+        ensures failed { failed_of R.noted self.new ≡ failed_of R.noted self.old }
+        ensures reads { CountsReads R.noted self.old self.new }
+        ensures borrow { KeepsBorrow R.noted self.old self.new }
+    {
+        self.drop_empty_lines();
+        let begun = !self.unused.is_empty();
+        self.reader.await_noted(begun);
+    }
+
     /// Reads up to the first line that isn't empty, and drops the empty ones before it. It answers
     /// false where the input ends before two bytes of that line came.
     fn skip_lines(&mut self) -> Result<bool, ReadFault>
@@ -194,6 +208,7 @@ impl<R: NotedRead> Input<R> {
         ensures reads { CountsReads R.noted self.old self.new }
         ensures borrow { KeepsBorrow R.noted self.old self.new }
     {
+        self.begin();
         'reads: loop {
             self.drop_empty_lines();
             if self.unused.len() >= 2 {

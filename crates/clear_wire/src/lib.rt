@@ -5,7 +5,8 @@
 //! `law_one_cut` says that they determine the requests of the stream. No bytes are required to be
 //! good: bad ones end in a rule, within the limits of `limits`. A fault names its cause: `Read`
 //! comes just if a call of the reader failed, `Reads` only once a million reads didn't, else
-//! `Memory`. After all but a request the stream has ended, and nothing more is read.
+//! `Memory`. After all but a request the stream has ended, and nothing more is read. A reader is told
+//! when a request is awaited, so that it can tell how long one takes.
 #![tactic(auto)]
 
 pub mod counted;

@@ -5,7 +5,7 @@ use clear_http::serve::{Fault, ServeFault, Served};
 use clear_office::office::Office;
 use clear_sample::memory::office_in_memory;
 use clear_sample::samples::{sample_day, sample_rates};
-use clear_wire::counted::Counted;
+use clear_wire::counted::{Counted, RequestRead};
 use sqlite::{Alter, FileStore};
 use sqlite_disk::Memory;
 use std::alloc::{AllocError, Global};
@@ -58,6 +58,8 @@ impl Read for FailingReader<'_> {
         self.rest.read(&mut buf[..most])
     }
 }
+
+impl RequestRead for FailingReader<'_> {}
 
 // A writer that takes at most 40 bytes a call, and whose calls fail after so many.
 #[derive(Drop)]

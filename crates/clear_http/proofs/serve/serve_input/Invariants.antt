@@ -6,12 +6,12 @@ use Rattle.clear_http.proofs.serve.serve_input.Given as goal
 
 abbrev pub invariant-turns : goal.invariant-turns
 invariant-turns g l = record {
-  progress : Progress (g.H.Responder.responds l.fn.responder) l.fn.state (stream g.R.Read.remaining l.fn.input) (stream g.R.Read.remaining l.input) (g.W.Write.contents (inner l.fn.writer)) (g.W.Write.contents (inner l.writer)) l.left l.state l.answered;
+  progress : Progress (g.H.Responder.responds l.fn.responder) l.fn.state (stream g.R.Read.remaining l.fn.input) (stream g.R.Read.remaining l.input) (g.W.Write.contents (inner l.fn.writer)) (g.W.Write.contents (inner l.writer)) l.left l.state (record { requests = l.requests; unread = l.unread });
   borrow : (g.R.NotedRead.noted (reader_of l.input)).borrow ≡ (g.R.NotedRead.noted (reader_of l.fn.input)).borrow;
   counts : CountsReads g.R.NotedRead.noted l.fn.input l.input;
   reader : failed_of g.R.NotedRead.noted l.input ≡ failed_of g.R.NotedRead.noted l.fn.input;
   writer : has_failed l.writer ≡ has_failed l.fn.writer;
-  few : l.answered + l.left ≤ 1000;
+  few : l.requests + l.left ≤ 1000;
 }
 
 abbrev pub decreases-turns : goal.decreases-turns

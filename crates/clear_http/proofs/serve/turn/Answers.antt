@@ -16,7 +16,7 @@ returns-in-Ok-send-clause-answered g c =
     let e = c.in-Some.ensures in
     let w = c.in-Ok-send.ensures.wrote in
     let said = says (g.H.Responder.responds c.args.responder.now) c.args.state.now p due.said w.0 c.respond_to.new.state e.says e.memory w.3 in
-    let same = same_answer c.args.left p due.said w.0 due.bare due.after e.bare e.after w.3 in (
+    let same = same_answer c.args.left p due.said w.0 due.bare due.behind.after e.bare e.after w.3 in (
       p,
       w.0,
       e.answered,
@@ -25,6 +25,7 @@ returns-in-Ok-send-clause-answered g c =
       said,
       subst (Appends (g.W.Write.contents (inner c.args.writer.now)) (g.W.Write.contents (inner c.send.new.writer)))
           (sym (append-nil w.1) ∙ ap (λ t. w.1 ++ t) (sym w.6) ∙ sym w.4 ∙ same) w.5,
+      e.unread,
     )
 
 pub returns-in-Some-clause-fault : goal.returns-in-Some-clause-fault
@@ -34,7 +35,7 @@ returns-in-Some-clause-fault g c =
     let e = c.in-Some.ensures in
     let w = c.in-Err-send.ensures.wrote in
     let said = says (g.H.Responder.responds c.args.responder.now) c.args.state.now p due.said w.0 c.respond_to.new.state e.says e.memory w.3 in
-    let same = same_answer c.args.left p due.said w.0 due.bare due.after e.bare e.after w.3 in (
+    let same = same_answer c.args.left p due.said w.0 due.bare due.behind.after e.bare e.after w.3 in (
       p ∷ [],
       w.0 ∷ [],
       w.1,

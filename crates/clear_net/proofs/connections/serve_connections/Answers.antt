@@ -1,41 +1,38 @@
-use Rattle.std.proofs.Common.{◌≡◌, refl, ap, ◌∙◌, subst, arith, OnOk}
-use Rattle.clear_routes.specs.Reading.{Reads}
-use Rattle.clear_net.specs.Talks.{AreServed}
-use Rattle.clear_net.specs.Told.{AreTold}
+use Rattle.std.proofs.Common.{◌≡◌, true, refl, ap, ◌∙◌, arith}
+use Rattle.clear_net.specs.declared.connections.Ended.TheVariants.{Served, StoreGone}
 use Rattle.clear_net.proofs.TalkLemmas.{clean, none_talked, one_more_talked, served}
-use Rattle.clear_net.proofs.ToldLemmas.{fault_told, none_told, served_told}
+use Rattle.clear_net.proofs.ToldLemmas.{more_told, none_told, then_told}
 use Rattle.clear_net.proofs.connections.serve_connections.Goals as goal
-use Rattle.clear_net.proofs.connections.serve_connections.Goals.{in-Ok, in-Err}
 
 pub loop-served-init : goal.loop-served-init
 loop-served-init g c = record {
   talked = none_talked g.S.Store _ _ _;
   failed = λ was. refl;
-  told = none_told _;
+  told = none_told _ _;
 }
 
 pub loop-served-preserved : goal.loop-served-preserved
-loop-served-preserved g c = record {
-  talked = one_more_talked g.S.Store _ _ _ _ _ _ c.loop-served.invariant.talked c.serve_next.ensures.said;
-  failed = λ was.
-      let same = c.loop-served.invariant.failed was in
-      c.serve_next.ensures.failed (ap (λ a. a.failed) same ∙ was) ∙ same;
-  told = elim c.match-serve_next.branch [
-    | in-Ok w ↦ served_told c.loop-served._served (g.E.Write.contents c.args.errors.now) _ _ _ _ w.told-is (ap g.E.Write.contents w.errors-is) c.loop-served.invariant.told
-    | in-Err w ↦ fault_told c.loop-served._served (g.E.Write.contents c.args.errors.now) _ _ _ _ _ _ _ (w.told-is ∙ w.and-told.ensures) (ap g.E.Write.contents w.errors-is) c.loop-served.invariant.told w.tell.ensures
-  ];
-}
+loop-served-preserved g c =
+    let so_far = c.loop-served.invariant in
+    let before = λ (was : c.args.office.now.failed ≡ true). ap (λ a. a.failed) (so_far.failed was) ∙ was in
+    let after = λ (was : c.loop-served.office.failed ≡ true). ap (λ a. a.failed) (c.serve_next-talked.ensures.failed was) ∙ was in
+    record {
+      talked = one_more_talked g.S.Store _ _ _ _ _ _ so_far.talked c.serve_next-talked.ensures.said;
+      failed = λ was. c.serve_next-talked.ensures.failed (before was) ∙ so_far.failed was;
+      told = then_told c.loop-served.served _ _ _ (g.E.Write.contents c.args.errors.now) _ _ c.serve_next-talked.result.end before after c.loop-served.told c.tell.result _ _ _
+          c.and-told.ensures c.failed-had_failed.ensures c.failed.ensures so_far.told c.tell.ensures;
+    }
+
+pub returns-then-not-stands-clause-served : goal.returns-then-not-stands-clause-served
+returns-then-not-stands-clause-served g c =
+    served g.S.Store _ _ StoreGone c.loop-served.served c.args.count _ _ c.loop-served-test.true c.loop-served.invariant.talked
+
+pub returns-then-not-stands-clause-clean : goal.returns-then-not-stands-clause-clean
+returns-then-not-stands-clause-clean g c = clean g.S.Store _ _ _ _ _ c.loop-served.invariant.talked
 
 pub returns-clause-served : goal.returns-clause-served
 returns-clause-served g c =
-    let all : c.loop-served._served ≡ c.args.count = omega (arith, c.loop-served.auto._served-end, c.loop-served-test.false) in
-    subst (λ n. AreServed g.S.Store (Reads c.args.directory.now c.args.day) n c.args.office.now c.loop-served.office) all
-    (served g.S.Store _ _ _ _ _ c.loop-served.invariant.talked)
-
-pub returns-clause-told : goal.returns-clause-told
-returns-clause-told g c =
-    let all : c.loop-served._served ≡ c.args.count = omega (arith, c.loop-served.auto._served-end, c.loop-served-test.false) in
-    subst (λ n. OnOk c.loop-served.told (AreTold n (g.E.Write.contents c.args.errors.now) (g.E.Write.contents c.loop-served.errors))) all c.loop-served.invariant.told
+    served g.S.Store _ _ Served c.loop-served.served c.args.count _ _ (omega (arith, c.loop-served.auto.served-end, c.loop-served-test.false)) c.loop-served.invariant.talked
 
 pub returns-clause-clean : goal.returns-clause-clean
 returns-clause-clean g c = clean g.S.Store _ _ _ _ _ c.loop-served.invariant.talked
