@@ -4,7 +4,7 @@ ghost use Rattle.sqlite.specs.Files.{over_files};
 ghost use Rattle.clear_money.specs.Texts.{day_text};
 ghost use Rattle.clear_book.specs.Machine.{IsLawful};
 ghost use Rattle.clear_callers.specs.Callers.{sample_keys};
-ghost use Rattle.clear_office.specs.Office.{IsHonest, Keeps};
+ghost use Rattle.clear_office.specs.Office.{Keeps};
 ghost use Rattle.clear_sample.specs.Samples.{sample_rates};
 
 use crate::memory::office_in_memory;
@@ -27,8 +27,8 @@ pub struct Desk {
 /// A desk over an office without requests in a new store in memory, with the sample's rates,
 /// callers and day. None where there is no memory for it.
 pub fn sample_desk(alloc: Global) -> Option<Desk>
-    ensures keeps { IfSome result (λ desk. IsHonest over_files desk.office
-        → Keeps over_files desk.office (record { opening = sample_rates; entries = [] })) }
+    ensures keeps { IfSome result (λ desk.
+        Keeps over_files desk.office (record { opening = sample_rates; entries = [] })) }
     ensures lawful { IfSome result (λ desk.
         IsLawful (record { opening = sample_rates; entries = [] })) }
     ensures keys { IfSome result (λ desk. desk.directory ≡ sample_keys) }

@@ -17,8 +17,8 @@ use std::alloc::Global;
 /// there is no memory for it.
 pub fn office_in_memory(alloc: Global, rates: &RateTable) -> Option<Office<FileStore<Memory>>>
     ensures working { IfSome result (λ office. office.failed ≡ false) }
-    ensures keeps { IfSome result (λ office. IsHonest over_files office
-        → Keeps over_files office (record { opening = rates.now; entries = [] })) }
+    ensures keeps { IfSome result (λ office.
+        Keeps over_files office (record { opening = rates.now; entries = [] })) }
     ensures lawful { IsLawful (record { opening = rates.now; entries = [] }) }
 {
     // No effect at run time: the proof reads from this call that the rates are lawful.
@@ -29,6 +29,12 @@ pub fn office_in_memory(alloc: Global, rates: &RateTable) -> Option<Office<FileS
         Err(_) => None,
     }
 }
+
+/// A file in memory returns what was written to it. So an office over a store in memory is honest,
+/// always, and what is promised of an honest one holds of it without that premise.
+pub fn law_honest_in_memory(office: &Office<FileStore<Memory>>)
+    ensures { IsHonest over_files office.now }
+{}
 
 // A connection on an empty database in two new files in memory. The log's salts need no secret
 // there, so their number is fixed.
