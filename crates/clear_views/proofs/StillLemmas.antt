@@ -1,4 +1,4 @@
--- Reads inside of a transaction, one after another, some of which call the store and some of which
+-- ReadsOf inside of a transaction, one after another, some of which call the store and some of which
 -- need not.
 use Rattle.std.proofs.Common.{◌≡◌, inl, inr, List, [], ◌∷◌, ℕ, Bool, true, false, cond, filter, Some, Result, Ok, Err, refl, sym, subst, ◌∙◌}
 use Rattle.std.proofs.lemmas.Result.{IfOk-weaker}
@@ -15,7 +15,7 @@ use Rattle.clear_book.specs.declared.rules.StoreCause.TheVariants.{Constraint, R
 use Rattle.clear_schema.specs.Held.{HasTables}
 use Rattle.clear_schema.specs.declared.fault.Fault.{Fault}
 use Rattle.clear_schema.specs.declared.fault.Fault.TheVariants.{Memory, Store}
-use Rattle.clear_views.specs.Reads.{IsStill, Reads}
+use Rattle.clear_views.specs.Reads.{IsStill, ReadsOf}
 use Rattle.clear_views.proofs.ReadLemmas.{still, unchanged_both}
 
 module _ {S : Type 0} (g : Ghosts S) where
@@ -33,15 +33,15 @@ module _ {S : Type 0} (g : Ghosts S) where
 
   module _ (t : Tables) where
     -- nothing was called
-    pub reads_none : {A : Type 0} (P : Type 0) (a : Held S) (x : A) (F : A → Type 0) → P → F x → Reads g t P a a (Ok x) F
+    pub reads_none : {A : Type 0} (P : Type 0) (a : Held S) (x : A) (F : A → Type 0) → P → F x → ReadsOf g t P a a (Ok x) F
     reads_none P a x F p found = record { found = found; fault = λ _. tt; same = inl (p, refl); kept = keeps_none (state g a) }
 
     -- there was no memory
-    pub reads_memory : {A : Type 0} (P : Type 0) (a b : Held S) (fault : Fault) (F : A → Type 0) → fault ≡ Memory → KeepsCommit (state g a) (state g b) → Reads g t P a b (Err fault) F
+    pub reads_memory : {A : Type 0} (P : Type 0) (a b : Held S) (fault : Fault) (F : A → Type 0) → fault ≡ Memory → KeepsCommit (state g a) (state g b) → ReadsOf g t P a b (Err fault) F
     reads_memory P a b fault F is kept = record { found = tt; fault = λ _. (λ held. cc (sym is ∙ held), λ out. cc (sym is ∙ out)); same = tt; kept = kept }
 
     -- something else is made of what was found
-    pub reads_else : {A B : Type 0} (P Q : Type 0) (a b : Held S) (x : A) (y : B) (F : A → Type 0) (G : B → Type 0) → (P → Q) → G y → Reads g t P a b (Ok x) F → Reads g t Q a b (Ok y) G
+    pub reads_else : {A B : Type 0} (P Q : Type 0) (a b : Held S) (x : A) (y : B) (F : A → Type 0) (G : B → Type 0) → (P → Q) → G y → ReadsOf g t P a b (Ok x) F → ReadsOf g t Q a b (Ok y) G
     reads_else P Q a b x y F G weaker found reads = record { found = found; fault = λ _. tt; same = turned reads.same; kept = reads.kept }
       where
         turned : IsStill g P a b → IsStill g Q a b
@@ -49,16 +49,16 @@ module _ {S : Type 0} (g : Ghosts S) where
         turned (inr same) = inr same
 
     -- what was found is more, too
-    pub reads_found : {A : Type 0} (P : Type 0) (a b : Held S) (r : Result A Fault) (F G : A → Type 0) → ((x : A) → F x → G x) → Reads g t P a b r F → Reads g t P a b r G
+    pub reads_found : {A : Type 0} (P : Type 0) (a b : Held S) (r : Result A Fault) (F G : A → Type 0) → ((x : A) → F x → G x) → ReadsOf g t P a b r F → ReadsOf g t P a b r G
     reads_found P a b r F G weaker reads = record { found = IfOk-weaker r F G weaker reads.found; fault = reads.fault; same = reads.same; kept = reads.kept }
 
     -- the fault is passed on
-    pub reads_fault : {A B : Type 0} (P Q : Type 0) (a b : Held S) (fault : Fault) (F : A → Type 0) (G : B → Type 0) → Reads g t P a b (Err fault) F → Reads g t Q a b (Err fault) G
+    pub reads_fault : {A B : Type 0} (P Q : Type 0) (a b : Held S) (fault : Fault) (F : A → Type 0) (G : B → Type 0) → ReadsOf g t P a b (Err fault) F → ReadsOf g t Q a b (Err fault) G
     reads_fault P Q a b fault F G reads = record { found = tt; fault = reads.fault; same = tt; kept = reads.kept }
 
     -- one read after another
     pub reads_then : {A B : Type 0} (P Q R : Type 0) (a b c : Held S) (x : A) (r : Result B Fault) (F : A → Type 0) (G : B → Type 0) → (P → Q → R) → HasTables t (state g a).now
-        → Reads g t P a b (Ok x) F → (HasTables t (state g b).now → Reads g t Q b c r G) → Reads g t R a c r G
+        → ReadsOf g t P a b (Ok x) F → (HasTables t (state g b).now → ReadsOf g t Q b c r G) → ReadsOf g t R a c r G
     reads_then P Q R a b c x r F G join has one two =
         let next = two (still_has t P a b one.same has) in
         record {
@@ -74,7 +74,7 @@ module _ {S : Type 0} (g : Ghosts S) where
 
     -- a query
     pub reads_query : {A : Type 0} (P X : Type 0) (a b : Held S) (r : Result A Fault) (F : A → Type 0) → IfOk r F → IfErr r (λ fault. fault ≢ Store Constraint)
-        → IfErr r (λ fault. fault ≡ Store Row → X) → (AreInRange t → ¬ X) → OnOk r (IsUnchanged (state g a) (state g b)) → KeepsCommit (state g a) (state g b) → Reads g t P a b r F
+        → IfErr r (λ fault. fault ≡ Store Row → X) → (AreInRange t → ¬ X) → OnOk r (IsUnchanged (state g a) (state g b)) → KeepsCommit (state g a) (state g b) → ReadsOf g t P a b r F
     reads_query P X a b (Ok x) F found cause range none same kept = record { found = found; fault = λ _. tt; same = inr same; kept = kept }
     reads_query P X a b (Err fault) F found cause range none same kept = record { found = tt; fault = λ within. (cause, λ is. none within (range is)); same = tt; kept = kept }
 

@@ -1,11 +1,12 @@
 -- What a read inside of a transaction leaves, whether it calls the store or not.
 use Rattle.std.specs.Prelude.{◌≡◌, ◌⊎◌, Result, IfErr, IfOk, OnOk}
 use Rattle.sqlite.specs.Held.{Held, state}
-use Rattle.sqlite.specs.State.{IsUnchanged, KeepsCommit}
+use Rattle.sqlite.specs.State.{HasCleanDisk, IsUnchanged, KeepsCommit, Survives}
 use Rattle.sqlite.specs.Store.{Ghosts}
 use Rattle.clear_book.specs.RowRanges.{AreInRange}
 use Rattle.clear_book.specs.Tables.{Tables}
 use Rattle.clear_schema.specs.Faults.{IsOfDisk}
+use Rattle.clear_schema.specs.Held.{HasTables}
 use Rattle.clear_schema.specs.declared.fault.Fault.{Fault}
 
 -- the store was called and changed nothing; or, as it may be only in this case, it was not called
@@ -13,9 +14,16 @@ abbrev pub IsStill : {S : Type 0} → Ghosts S → Type 0 → Held S → Held S 
 IsStill g uncalled old new = (uncalled × (new ≡ old)) ⊎ IsUnchanged (state g old) (state g new)
 
 -- a read of these tables that calls the store but in this case, and finds this
-pub record Reads {S A : Type 0} (g : Ghosts S) (t : Tables) (uncalled : Type 0) (old new : Held S)
+pub record ReadsOf {S A : Type 0} (g : Ghosts S) (t : Tables) (uncalled : Type 0) (old new : Held S)
     (result : Result A Fault) (is_found : A → Type 0) : Type 0 where
   pub found : IfOk result is_found
   pub fault : AreInRange t → IfErr result IsOfDisk
   pub same : OnOk result (IsStill g uncalled old new)
   pub kept : KeepsCommit (state g old) (state g new)
+
+-- a read of the tables that the database has, whichever these are
+pub record Reads {S A : Type 0} (g : Ghosts S) (uncalled : Type 0) (old new : Held S)
+    (result : Result A Fault) (is_found : Tables → A → Type 0) : Type 0 where
+  pub each : HasCleanDisk (state g new) → (t : Tables) → HasTables t (state g old).now
+      → ReadsOf g t uncalled old new result (is_found t)
+  pub survives : Survives (state g old) (state g new) (λ _. ⊥)

@@ -2,7 +2,7 @@
 ghost use Rattle.std.specs.Prelude.{◌≡◌, ◌++◌, [], IfErr, IfOk, OnOk};
 ghost use Rattle.std.specs.List.{cons_option};
 ghost use Rattle.sqlite.specs.Held.{state};
-ghost use Rattle.sqlite.specs.State.{HasCleanDisk, Survives};
+ghost use Rattle.sqlite.specs.State.{HasCleanDisk};
 ghost use Rattle.clear_book.specs.Book.{Book};
 ghost use Rattle.clear_book.specs.Lines.{lines_in};
 ghost use Rattle.clear_book.specs.Machine.{IsLawful};
@@ -93,12 +93,8 @@ fn read_view<S: Alter>(
     lines: &[BankLine],
 ) -> Result<ImportView, Fault>
     ensures same_reference { tx.new.conn.ghost_name ≡ tx.old.conn.ghost_name }
-    ensures reads { HasCleanDisk (state S.Store tx.new.conn.now)
-        → (t : Tables) → HasTables t (state S.Store tx.old.conn.now).now
-        → Reads S.Store t ⊥ tx.old.conn.now tx.new.conn.now result
-        (IsImportRead t serials lines.now) }
-    ensures survives { Survives (state S.Store tx.old.conn.now) (state S.Store tx.new.conn.now)
-        (λ _. ⊥) }
+    ensures reads { Reads S.Store ⊥ tx.old.conn.now tx.new.conn.now result
+        (λ t. IsImportRead t serials lines.now) }
 {
     if lines.is_empty() {
         read_none(alloc, tx, serials, lines)
@@ -116,12 +112,8 @@ fn read_none<S: Alter>(
 ) -> Result<ImportView, Fault>
     requires { lines.now ≡ [] }
     ensures same_reference { tx.new.conn.ghost_name ≡ tx.old.conn.ghost_name }
-    ensures reads { HasCleanDisk (state S.Store tx.new.conn.now)
-        → (t : Tables) → HasTables t (state S.Store tx.old.conn.now).now
-        → Reads S.Store t ⊥ tx.old.conn.now tx.new.conn.now result
-        (IsImportRead t serials lines.now) }
-    ensures survives { Survives (state S.Store tx.old.conn.now) (state S.Store tx.new.conn.now)
-        (λ _. ⊥) }
+    ensures reads { Reads S.Store ⊥ tx.old.conn.now tx.new.conn.now result
+        (λ t. IsImportRead t serials lines.now) }
 {
     match find_counts(tx) {
         Ok(_) => Ok(ImportView {
@@ -142,12 +134,8 @@ fn read_lines<S: Alter>(
     lines: &[BankLine],
 ) -> Result<ImportView, Fault>
     ensures same_reference { tx.new.conn.ghost_name ≡ tx.old.conn.ghost_name }
-    ensures reads { HasCleanDisk (state S.Store tx.new.conn.now)
-        → (t : Tables) → HasTables t (state S.Store tx.old.conn.now).now
-        → Reads S.Store t (lines.now ≡ []) tx.old.conn.now tx.new.conn.now result
-        (IsImportRead t serials lines.now) }
-    ensures survives { Survives (state S.Store tx.old.conn.now) (state S.Store tx.new.conn.now)
-        (λ _. ⊥) }
+    ensures reads { Reads S.Store (lines.now ≡ []) tx.old.conn.now tx.new.conn.now result
+        (λ t. IsImportRead t serials lines.now) }
 {
     let known = match known_lines(alloc, tx, lines) {
         Ok(known) => known,

@@ -1,11 +1,7 @@
 //! The firms that a file names.
 ghost use Rattle.std.specs.Prelude.{◌≡◌, ℕ, ⊤, IfOk, IfSome};
 ghost use Rattle.std.specs.List.{AllByRecursion, filter_map, list_any};
-ghost use Rattle.sqlite.specs.Held.{state};
-ghost use Rattle.sqlite.specs.State.{HasCleanDisk, Survives};
 ghost use Rattle.clear_book.specs.Keyed.{AreOnce};
-ghost use Rattle.clear_book.specs.Tables.{Tables};
-ghost use Rattle.clear_schema.specs.Held.{HasTables};
 ghost use Rattle.clear_rules.specs.Views.ImportBank.{employer_under};
 ghost use Rattle.clear_views.specs.Imports.{counted_firm, firm_key, firm_viewed, is_among, names};
 ghost use Rattle.clear_views.specs.Reads.{Reads};
@@ -29,13 +25,9 @@ pub(super) fn view_firms<S: Alter>(
     lines: &[BankLine],
 ) -> Result<Vec<EmployerCredits>, Fault>
     ensures same_reference { tx.new.conn.ghost_name ≡ tx.old.conn.ghost_name }
-    ensures reads { HasCleanDisk (state S.Store tx.new.conn.now)
-        → (t : Tables) → HasTables t (state S.Store tx.old.conn.now).now
-        → Reads S.Store t ⊤ tx.old.conn.now tx.new.conn.now result
-        (λ firms. AllByRecursion (λ line. IfSome line.employer (λ e.
+    ensures reads { Reads S.Store ⊤ tx.old.conn.now tx.new.conn.now result
+        (λ t firms. AllByRecursion (λ line. IfSome line.employer (λ e.
         employer_under firms.items e ≡ firm_viewed serving t e)) lines.now) }
-    ensures survives { Survives (state S.Store tx.old.conn.now) (state S.Store tx.new.conn.now)
-        (λ _. ⊥) }
 {
     match named_firms(alloc, lines) {
         Ok(firms) => registered_firms(alloc, tx, serving, firms.as_slice()),
@@ -69,12 +61,8 @@ fn registered_firms<S: Alter>(
     firms: &[EmployerNo],
 ) -> Result<Vec<EmployerCredits>, Fault>
     ensures same_reference { tx.new.conn.ghost_name ≡ tx.old.conn.ghost_name }
-    ensures reads { HasCleanDisk (state S.Store tx.new.conn.now)
-        → (t : Tables) → HasTables t (state S.Store tx.old.conn.now).now
-        → Reads S.Store t ⊤ tx.old.conn.now tx.new.conn.now result
-        (λ found. found.items ≡ filter_map (firm_viewed serving t) firms.now) }
-    ensures survives { Survives (state S.Store tx.old.conn.now) (state S.Store tx.new.conn.now)
-        (λ _. ⊥) }
+    ensures reads { Reads S.Store ⊤ tx.old.conn.now tx.new.conn.now result
+        (λ t found. found.items ≡ filter_map (firm_viewed serving t) firms.now) }
 {
     let mut found = Vec::new(alloc);
     for no in firms {
@@ -97,12 +85,8 @@ fn view_firm<S: Alter>(
     no: EmployerNo,
 ) -> Result<Option<EmployerCredits>, Fault>
     ensures same_reference { tx.new.conn.ghost_name ≡ tx.old.conn.ghost_name }
-    ensures reads { HasCleanDisk (state S.Store tx.new.conn.now)
-        → (t : Tables) → HasTables t (state S.Store tx.old.conn.now).now
-        → Reads S.Store t ⊤ tx.old.conn.now tx.new.conn.now result
-        (λ found. found ≡ firm_viewed serving t no) }
-    ensures survives { Survives (state S.Store tx.old.conn.now) (state S.Store tx.new.conn.now)
-        (λ _. ⊥) }
+    ensures reads { Reads S.Store ⊤ tx.old.conn.now tx.new.conn.now result
+        (λ t found. found ≡ firm_viewed serving t no) }
 {
     match find_employer(tx, no) {
         Ok(Some(_)) => match count_firm(tx, serving, no) {
@@ -121,12 +105,8 @@ fn count_firm<S: Alter>(
     no: EmployerNo,
 ) -> Result<EmployerCredits, Fault>
     ensures same_reference { tx.new.conn.ghost_name ≡ tx.old.conn.ghost_name }
-    ensures reads { HasCleanDisk (state S.Store tx.new.conn.now)
-        → (t : Tables) → HasTables t (state S.Store tx.old.conn.now).now
-        → Reads S.Store t ⊤ tx.old.conn.now tx.new.conn.now result
-        (λ firm. firm ≡ counted_firm serving t no) }
-    ensures survives { Survives (state S.Store tx.old.conn.now) (state S.Store tx.new.conn.now)
-        (λ _. ⊥) }
+    ensures reads { Reads S.Store ⊤ tx.old.conn.now tx.new.conn.now result
+        (λ t firm. firm ≡ counted_firm serving t no) }
 {
     let contribution_count = match count_credits(tx, serving, no, Purpose::Contribution) {
         Ok(count) => count,

@@ -1,10 +1,6 @@
 //! The lines that stand under the references of a file.
 ghost use Rattle.std.specs.Prelude.{◌≡◌, []};
 ghost use Rattle.std.specs.List.{filter_map};
-ghost use Rattle.sqlite.specs.Held.{state};
-ghost use Rattle.sqlite.specs.State.{HasCleanDisk, Survives};
-ghost use Rattle.clear_book.specs.Tables.{Tables};
-ghost use Rattle.clear_schema.specs.Held.{HasTables};
 ghost use Rattle.clear_views.specs.Imports.{line_found};
 ghost use Rattle.clear_views.specs.Reads.{Reads};
 
@@ -22,12 +18,8 @@ pub(super) fn known_lines<S: Alter>(
     lines: &[BankLine],
 ) -> Result<Vec<BankLine>, Fault>
     ensures same_reference { tx.new.conn.ghost_name ≡ tx.old.conn.ghost_name }
-    ensures reads { HasCleanDisk (state S.Store tx.new.conn.now)
-        → (t : Tables) → HasTables t (state S.Store tx.old.conn.now).now
-        → Reads S.Store t (lines.now ≡ []) tx.old.conn.now tx.new.conn.now result
-        (λ known. known.items ≡ filter_map (line_found t) lines.now) }
-    ensures survives { Survives (state S.Store tx.old.conn.now) (state S.Store tx.new.conn.now)
-        (λ _. ⊥) }
+    ensures reads { Reads S.Store (lines.now ≡ []) tx.old.conn.now tx.new.conn.now result
+        (λ t known. known.items ≡ filter_map (line_found t) lines.now) }
 {
     let mut known = Vec::new(alloc);
     for line in lines {
@@ -49,12 +41,8 @@ fn known_line<S: Alter>(
     line: &BankLine,
 ) -> Result<Option<BankLine>, Fault>
     ensures same_reference { tx.new.conn.ghost_name ≡ tx.old.conn.ghost_name }
-    ensures reads { HasCleanDisk (state S.Store tx.new.conn.now)
-        → (t : Tables) → HasTables t (state S.Store tx.old.conn.now).now
-        → Reads S.Store t ⊥ tx.old.conn.now tx.new.conn.now result
-        (λ found. found ≡ line_found t line.now) }
-    ensures survives { Survives (state S.Store tx.old.conn.now) (state S.Store tx.new.conn.now)
-        (λ _. ⊥) }
+    ensures reads { Reads S.Store ⊥ tx.old.conn.now tx.new.conn.now result
+        (λ t found. found ≡ line_found t line.now) }
 {
     match find_line(tx, &line.reference) {
         Ok(Some(row)) => Ok(Some(row.line)),

@@ -1,10 +1,6 @@
 //! How many lines are in suspense and how many credits a firm has, as far as they are counted.
 ghost use Rattle.std.specs.Prelude.{◌≡◌, IfSome, ⊤, count_by, length, unwrap_or};
-ghost use Rattle.sqlite.specs.Held.{state};
-ghost use Rattle.sqlite.specs.State.{HasCleanDisk, Survives};
 ghost use Rattle.clear_book.specs.Lines.{is_in_suspense};
-ghost use Rattle.clear_book.specs.Tables.{Tables};
-ghost use Rattle.clear_schema.specs.Held.{HasTables};
 ghost use Rattle.clear_views.specs.Imports.{IsServing, credits_viewed};
 ghost use Rattle.clear_views.specs.Reads.{Reads};
 
@@ -36,12 +32,8 @@ pub(super) fn count_suspense<S: Alter>(
     serving: Option<u64>,
 ) -> Result<u64, Fault>
     ensures same_reference { tx.new.conn.ghost_name ≡ tx.old.conn.ghost_name }
-    ensures reads { HasCleanDisk (state S.Store tx.new.conn.now)
-        → (t : Tables) → HasTables t (state S.Store tx.old.conn.now).now
-        → Reads S.Store t ⊤ tx.old.conn.now tx.new.conn.now result
-        (λ count. count ≡ unwrap_or serving (count_by is_in_suspense t.bank)) }
-    ensures survives { Survives (state S.Store tx.old.conn.now) (state S.Store tx.new.conn.now)
-        (λ _. ⊥) }
+    ensures reads { Reads S.Store ⊤ tx.old.conn.now tx.new.conn.now result
+        (λ t count. count ≡ unwrap_or serving (count_by is_in_suspense t.bank)) }
 {
     if let Some(number) = serving {
         return Ok(number);
@@ -60,12 +52,8 @@ pub(super) fn count_credits<S: Alter>(
     purpose: Purpose,
 ) -> Result<u64, Fault>
     ensures same_reference { tx.new.conn.ghost_name ≡ tx.old.conn.ghost_name }
-    ensures reads { HasCleanDisk (state S.Store tx.new.conn.now)
-        → (t : Tables) → HasTables t (state S.Store tx.old.conn.now).now
-        → Reads S.Store t ⊤ tx.old.conn.now tx.new.conn.now result
-        (λ count. count ≡ credits_viewed serving t no purpose) }
-    ensures survives { Survives (state S.Store tx.old.conn.now) (state S.Store tx.new.conn.now)
-        (λ _. ⊥) }
+    ensures reads { Reads S.Store ⊤ tx.old.conn.now tx.new.conn.now result
+        (λ t count. count ≡ credits_viewed serving t no purpose) }
 {
     if let Some(number) = serving {
         return Ok(number);

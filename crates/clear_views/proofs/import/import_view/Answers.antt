@@ -10,4 +10,4 @@ returns-clause-view g c clean t has same b lawful stands =
     IfOk-weaker c.read_view.result _ _
     (λ view read. view_of_read b t lawful stands c.args.file.now view c.in-Some.serials c.as_slice-2.result.now (c.in-Some.ensures.value ∙ ap (λ (counts : Counts). counts.serial) same)
     (c.as_slice-2.ensures.value ∙ c.in-Ok.ensures.lines ∙ ap lines_in c.as_slice.ensures) read)
-    (c.read_view.ensures.reads clean t has).found
+    (c.read_view.ensures.reads.each clean t has).found

@@ -1,4 +1,4 @@
-use Rattle.std.proofs.Common.{◌≡◌, [], Ok, refl}
+use Rattle.std.proofs.Common.{rules, ◌≡◌, [], Ok, refl}
 use Rattle.std.specs.Prelude.{⊤}
 use Rattle.clear_views.proofs.ImportLemmas.{suspense_read}
 use Rattle.clear_views.proofs.ReadLemmas.{was_clean}
@@ -6,23 +6,26 @@ use Rattle.clear_views.proofs.StillLemmas.{reads_else, reads_then}
 use Rattle.clear_views.proofs.import.read_lines.Goals as goal
 
 pub returns-clause-reads : goal.returns-clause-reads
-returns-clause-reads g c clean t has =
-    let none = c.args.lines.now ≡ [] in
-    let later = was_clean _ _ c.count_suspense.ensures.survives clean in
-    let known = c.in-Ok.ensures.reads (was_clean _ _ c.view_firms.ensures.survives later) t has in
-    let firms =
-    reads_then g.S.Store t none ⊤ none c.args.tx.now.conn.now c.known_lines.new.tx.conn.now c.view_firms.new.tx.conn.now _ (Ok c.in-Ok-view_firms.employers) _ _ (λ p _. p) has known
-    (λ still. c.in-Ok-view_firms.ensures.reads later t still) in
-    let all =
-    reads_then g.S.Store t none ⊤ none c.args.tx.now.conn.now c.view_firms.new.tx.conn.now c.count_suspense.new.tx.conn.now _ (Ok c.in-Ok-count_suspense.suspense) _ _ (λ p _. p) has firms
-    (λ still. c.in-Ok-count_suspense.ensures.reads clean t still) in
-    reads_else g.S.Store t none none _ _ c.in-Ok-count_suspense.suspense _ _ _ (λ p. p)
-    (record {
-      known = known.found;
-      serving = c.serving.result;
-      serves = c.serving.ensures;
-      employers = firms.found;
-      suspense = suspense_read _ _ _ _ _ c.serving-2.result c.serving-2.ensures all.found;
-      serials_is = refl;
-    })
-    all
+returns-clause-reads g c = record {
+  each = λ clean t has.
+      let none = c.args.lines.now ≡ [] in
+      let later = was_clean _ _ c.count_suspense.ensures.reads.survives clean in
+      let known = c.in-Ok.ensures.reads.each (was_clean _ _ c.view_firms.ensures.reads.survives later) t has in
+      let firms =
+      reads_then g.S.Store t none ⊤ none c.args.tx.now.conn.now c.known_lines.new.tx.conn.now c.view_firms.new.tx.conn.now _ (Ok c.in-Ok-view_firms.employers) _ _ (λ p _. p) has known
+      (λ still. c.in-Ok-view_firms.ensures.reads.each later t still) in
+      let all =
+      reads_then g.S.Store t none ⊤ none c.args.tx.now.conn.now c.view_firms.new.tx.conn.now c.count_suspense.new.tx.conn.now _ (Ok c.in-Ok-count_suspense.suspense) _ _ (λ p _. p) has firms
+      (λ still. c.in-Ok-count_suspense.ensures.reads.each clean t still) in
+      reads_else g.S.Store t none none _ _ c.in-Ok-count_suspense.suspense _ _ _ (λ p. p)
+      (record {
+        known = known.found;
+        serving = c.serving.result;
+        serves = c.serving.ensures;
+        employers = firms.found;
+        suspense = suspense_read _ _ _ _ _ c.serving-2.result c.serving-2.ensures all.found;
+        serials_is = refl;
+      })
+      all;
+  survives = search rules;
+}
