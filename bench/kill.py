@@ -18,7 +18,8 @@ loses its power: what was written is in the system's memory then, whether it was
 
 It prints how many rounds there were, how many requests were acknowledged, how many of them were found
 and how many lost, and what became of the requests in flight; then what `sqlite3` says of the store's
-integrity, if there is that command. If anything is lost or wrong, the status is 1.
+integrity, if there is that command. If anything is lost or wrong, the status is 1; so it is where no
+request in flight was found done, or none was found not done, since the kills then came at no moment that matters.
 """
 import argparse
 import json
@@ -288,6 +289,9 @@ def main():
     print(f"{options.times} rounds, {len(book.done)} acknowledged requests, {tally.found} found, "
           f"{len(book.done) - tally.found} lost; in flight {tally.flights['done']} done, "
           f"{tally.flights['not done']} not done")
+    for outcome, count in tally.flights.items():
+        if count == 0:
+            tally.wrong.append(f"no request in flight was found {outcome}")
     for line in tally.wrong[:20]:
         print(line)
     sys.exit(1 if tally.wrong else 0)

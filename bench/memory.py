@@ -8,7 +8,8 @@ one refused, and sends the requests of a first account one after another. A requ
 that there is no memory is sent again, and must then have the answer that it has with ample memory:
 so nothing was done for it before. The records lie on disks in memory, which keep a copy of what is
 synced: where there is no memory for that, it is a fault of the store, and then each further request
-must be answered that the office has failed. It needs gcc.
+must be answered that the office has failed. A run with nothing refused comes first: it counts the
+allocations, and must be served whole. It needs gcc.
 """
 import os
 import subprocess
@@ -97,6 +98,16 @@ def ask(process, number, parts):
         return None
 
 
+def count_allocations(program, shim):
+    """How many allocations a run makes that is refused none of them, and is served."""
+    how, told, counted = run(program, shim, 0)
+    if (how, told) != ("served", 0):
+        sys.exit(f"with nothing refused: {how}, {told} times want of memory")
+    if not counted.strip().isdigit() or int(counted) == 0:
+        sys.exit(f"no allocation was counted: {counted}")
+    return int(counted)
+
+
 def main():
     program = sys.argv[1] if len(sys.argv) > 1 else str(PROGRAM)
     with tempfile.TemporaryDirectory() as folder:
@@ -104,7 +115,7 @@ def main():
         subprocess.run(
             ["gcc", "-shared", "-fPIC", "-O1", "-o", shim, HERE / "memory/refuse.c", "-ldl"], check=True
         )
-        count = int(run(program, shim, 0)[2])
+        count = count_allocations(program, shim)
         runs = [run(program, shim, refused) for refused in range(1, count + 1)]
     unbegun, ended, failed = (
         sum(how == word for how, _, _ in runs) for word in ("unbegun", "ended", "failed")

@@ -6,14 +6,19 @@
 It starts the built program (`./clearing`, or the one named), sends it one request after another and
 waits for each answer. A stream takes at most 1,000 requests, so the reports are 800 of 200 firms. The
 imports are nine of 10,000 lines each, half of them for a firm and half for nobody. Each figure is the
-median of ten requests, but for the imports, which stand for themselves.
+median of ten requests, but for the imports, which stand for themselves. The status is 1 where a report
+costs more than twice the 10th, or an import more than twice the first.
 """
 import json
 import subprocess
 import sys
 import time
+from pathlib import Path
 from statistics import median
 
+PROGRAM = Path(__file__).resolve().parent.parent / "clearing"
+# A request may cost so many times what an early one does.
+MOST = 2
 FIRMS = 200
 MONTHS = ["2024-01", "2024-02", "2024-03", "2024-04"]
 LINES = 500
@@ -103,17 +108,22 @@ def time_imports(program):
 
 
 def main():
-    program = sys.argv[1] if len(sys.argv) > 1 else "./clearing"
+    program = sys.argv[1] if len(sys.argv) > 1 else str(PROGRAM)
     reports = time_reports(program)
     print(f"{len(reports)} reports of {LINES} lines: {sum(reports):.1f} s")
     early = median(reports[5:15])
+    ratios = []
     for place in (10, 100, 400, 795):
         here = median(reports[place - 5 : place + 5])
+        ratios.append(here / early)
         print(f"  around report {place}: {here * 1000:.2f} ms, {here / early:.2f} of the 10th")
     imports = time_imports(program)
     print(f"{IMPORTS} imports of {FILE_LINES} lines: {sum(imports):.1f} s")
     for count, seconds in enumerate(imports, 1):
+        ratios.append(seconds / imports[0])
         print(f"  import {count}: {seconds * 1000:.0f} ms, {seconds / imports[0]:.2f} of the first")
+    if max(ratios) > MOST:
+        sys.exit(f"a request costs {max(ratios):.2f} times what an early one does")
 
 
 if __name__ == "__main__":

@@ -7,4 +7,6 @@
 #![tactic(auto)]
 
 pub mod files;
+mod ledger;
+pub mod named;
 pub mod stores;

@@ -1,0 +1,61 @@
+//! The ledger day of a store: the day of its last accepted request.
+ghost use Rattle.std.specs.Prelude.{◌≡◌, false, IfOk, OnOk};
+ghost use Rattle.sqlite.specs.Held.{state};
+ghost use Rattle.sqlite.specs.State.{HasCleanDisk};
+ghost use Rattle.clear_book.specs.Tables.{Tables};
+ghost use Rattle.clear_schema.specs.Held.{HasTables};
+ghost use Rattle.clear_office.specs.Office.{Holds};
+
+use clear_firms::counts::find_counts;
+use clear_money::days::Day;
+use clear_schema::body::{Body, Stop};
+use clear_schema::fault::Fault;
+use clear_schema::store::Store;
+use sqlite::{Alter, Transaction};
+use std::convert::Infallible;
+
+/// The day of the last accepted request of a store, if there was one, by a transaction that leaves
+/// the tables. After `Ok` a crash leaves these alone.
+pub(crate) fn ledger_day<S: Alter>(store: &mut Store<S>) -> Result<Option<Day>, Fault>
+    requires { store.old.conn.in_transaction ≡ false }
+    ensures mode { store.new.conn.in_transaction ≡ false }
+    ensures clean { HasCleanDisk (state S.Store store.new.conn)
+        → HasCleanDisk (state S.Store store.old.conn) }
+    ensures day { HasCleanDisk (state S.Store store.new.conn)
+        → (t : Tables) → HasTables t (state S.Store store.old.conn).now
+        → IfOk result (λ day. day ≡ t.day) }
+    ensures kept { HasCleanDisk (state S.Store store.new.conn)
+        → (t : Tables) → HasTables t (state S.Store store.old.conn).now
+        → OnOk result (Holds S.Store store.new.conn t) }
+{
+    match store.within(LedgerDay) {
+        Ok(day) => Ok(day),
+        Err(Stop::Fault(fault)) => Err(fault),
+        Err(Stop::Refused(never)) => match never {},
+    }
+}
+
+// It answers the ledger day.
+#[derive(Clone, Copy)]
+struct LedgerDay;
+
+impl Body for LedgerDay {
+    ghost use Rattle.std.specs.Prelude.{◌≡◌};
+
+    type Out = Option<Day>;
+
+    type Refusal = Infallible;
+
+    ghost does = { λ self t u day. (u ≡ t) × (day ≡ t.day) };
+
+    ghost refuses = { λ self t why. ⊥ };
+
+    ghost fails = { λ self t fault. Unit {0} };
+
+    fn run<S: Alter>(self, tx: &mut Transaction<'_, S>) -> Result<Option<Day>, Stop<Infallible>> {
+        match find_counts(tx) {
+            Ok(counts) => Ok(counts.day),
+            Err(fault) => Err(Stop::Fault(fault)),
+        }
+    }
+}
