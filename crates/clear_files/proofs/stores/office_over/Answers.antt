@@ -3,13 +3,13 @@ use Rattle.clear_files.proofs.stores.office_over.Goals as goal
 
 pub returns-in-Ok-clause-clean : goal.returns-in-Ok-clause-clean
 returns-in-Ok-clause-clean g c honest =
-    c.ledger_day.ensures.clean (honest_store g.S.Store c.open.result c.ledger_day.new.store.conn c.open.ensures honest)
+    c.ledger_day.ensures.clean (honest_store g.S.Store c.open.result c.ledger_day.new.store.conn c.open.ensures.value honest)
 
 pub returns-in-Ok-clause-kept : goal.returns-in-Ok-clause-kept
 returns-in-Ok-clause-kept g c honest t has =
-    let clean = honest_store g.S.Store c.open.result c.ledger_day.new.store.conn c.open.ensures honest in
-    holds_still g.S.Store c.open.result c.ledger_day.new.store.conn c.open.ensures t (c.in-Ok.ensures.kept clean t has)
+    let clean = honest_store g.S.Store c.open.result c.ledger_day.new.store.conn c.open.ensures.value honest in
+    holds_still g.S.Store c.open.result c.ledger_day.new.store.conn c.open.ensures.value t (c.in-Ok.ensures.kept clean t has)
 
 pub returns-in-Ok-clause-day : goal.returns-in-Ok-clause-day
 returns-in-Ok-clause-day g c honest t has =
-    c.in-Ok.ensures.day (honest_store g.S.Store c.open.result c.ledger_day.new.store.conn c.open.ensures honest) t has
+    c.in-Ok.ensures.day (honest_store g.S.Store c.open.result c.ledger_day.new.store.conn c.open.ensures.value honest) t has
