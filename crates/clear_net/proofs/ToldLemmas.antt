@@ -52,6 +52,10 @@ pub none_told : (failed : Bool) (known : Option (List ℕ)) → AreTold 0 failed
 none_told false known = ([], omega arith, refl, Appends-nil known)
 none_told true known = ([], omega arith, refl, Appends-nil known)
 
+one_told : (failed : Bool) (known : Option (List ℕ)) → AreTold 0 failed failed known known
+none_told false known = ([], omega arith, refl, Appends-nil known)
+none_told true known = ([], omega arith, refl, Appends-nil known)
+
 pub more_told : (n most : ℕ) (before after : Bool) (old new : Option (List ℕ)) → n ≤ most → AreTold n before after old new → AreTold most before after old new
 more_told n most before after old new few (lines, ends, fails, told) = (lines, omega (arith, few, ends), fails, told)
 
