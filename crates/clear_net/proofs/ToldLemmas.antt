@@ -52,13 +52,6 @@ pub none_told : (failed : Bool) (known : Option (List ℕ)) → AreTold 0 failed
 none_told false known = ([], omega arith, refl, Appends-nil known)
 none_told true known = ([], omega arith, refl, Appends-nil known)
 
-one_told : (failed : Bool) (known : Option (List ℕ)) → AreTold 0 failed failed known known
-none_told false known = ([], omega arith, refl, Appends-nil known)
-none_told true known = ([], omega arith, refl, Appends-nil known)
-
-pub more_told : (n most : ℕ) (before after : Bool) (old new : Option (List ℕ)) → n ≤ most → AreTold n before after old new → AreTold most before after old new
-more_told n most before after old new few (lines, ends, fails, told) = (lines, omega (arith, few, ends), fails, told)
-
 one_told : {A : Type 0} (n : ℕ) (first then last : Bool) (old mid new : Option (List ℕ)) (end : Result A Fault) → (first ≡ true → then ≡ true) → (then ≡ true → last ≡ true)
     → AreTold n first then old mid → Appends mid new (text_of (one_lines end then last)) → AreTold (n + 1) first last old new
 one_told n first then last old mid new end before after (lines, ends, fails, told) line =
