@@ -1,6 +1,6 @@
 -- The lines that are told, those of one connection more after others.
 use Rattle.std.proofs.Common.{◌≡◌, ◌∙◌, ◌+◌, ◌≤◌, ℕ, Bool, true, false, List, [], ◌∷◌, ◌++◌, length, Option, Result, Ok, Err, OnOk, refl, sym, ap, subst, arith}
-use Rattle.std.proofs.lemmas.List.{length-append, append-nil, append_assoc}
+use Rattle.std.proofs.lemmas.List.{length-append, append_assoc}
 use Rattle.std.proofs.lemmas.List.Elements.{filter-append}
 use Rattle.std.specs.List.{filter}
 use Rattle.std.specs.Io.KnownBytes.{Appends}
@@ -51,9 +51,6 @@ fails_once true true true before after = refl
 pub none_told : (failed : Bool) (known : Option (List ℕ)) → AreTold 0 failed failed known known
 none_told false known = ([], omega arith, refl, Appends-nil known)
 none_told true known = ([], omega arith, refl, Appends-nil known)
-
-pub more_told : (n most : ℕ) (before after : Bool) (old new : Option (List ℕ)) → n ≤ most → AreTold n before after old new → AreTold most before after old new
-more_told n most before after old new few (lines, ends, fails, told) = (lines, omega (arith, few, ends), fails, told)
 
 one_told : {A : Type 0} (n : ℕ) (first then last : Bool) (old mid new : Option (List ℕ)) (end : Result A Fault) → (first ≡ true → then ≡ true) → (then ≡ true → last ≡ true)
     → AreTold n first then old mid → Appends mid new (text_of (one_lines end then last)) → AreTold (n + 1) first last old new

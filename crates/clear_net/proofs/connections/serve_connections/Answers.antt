@@ -1,7 +1,7 @@
 use Rattle.std.proofs.Common.{◌≡◌, true, refl, ap, ◌∙◌, arith}
 use Rattle.clear_net.specs.declared.connections.Ended.TheVariants.{Served, StoreGone}
 use Rattle.clear_net.proofs.TalkLemmas.{clean, none_talked, one_more_talked, served}
-use Rattle.clear_net.proofs.ToldLemmas.{more_told, none_told, then_told}
+use Rattle.clear_net.proofs.ToldLemmas.{none_told, then_told}
 use Rattle.clear_net.proofs.connections.serve_connections.Goals as goal
 
 pub loop-served-init : goal.loop-served-init
