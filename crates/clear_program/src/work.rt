@@ -1,19 +1,22 @@
 //! What is done with an office.
 
-use crate::stop::{Stop, stop_at_records};
+use crate::ready::{meaning, ready_line};
+use crate::stop::{Stop, stop_at_records, write_front};
 use crate::tasks::Work;
 use clear_book::calls::{Caller, Command, Query};
 use clear_book::numbers::RequestNo;
 use clear_book::outcomes::{Answer, Reply};
 use clear_callers::directory::Directory;
+use clear_files::stores::Opened;
 use clear_http::desk::serve;
 use clear_money::days::Day;
 use clear_money::numbers::EmployerNo;
 use clear_net::connections::serve_connections;
 use clear_office::office::Office;
+use clear_schema::store::SCHEMA;
 use clear_wire::counted::Counted;
 use sqlite::Alter;
-use std::alloc::Global;
+use std::alloc::{AllocError, Global};
 use std::io::{Read, Write};
 use std::net::{Ipv4Addr, TcpListener};
 
@@ -34,33 +37,35 @@ pub fn serve_stream<S: Alter, I: Read, O: Write>(
     }
 }
 
-/// Does the work, and gives what is to be said at its end. Why a connection ended early is told on
-/// `errors`.
+/// Does the work on the store at a path that was just made or opened, and gives what is to be said at
+/// its end. That connections are taken, and why one ended early, is told on `errors`.
 pub fn do_work<S: Alter, E: Write>(
     rt: &HostRuntime,
-    office: &mut Office<S>,
+    opened: &mut Opened<S>,
     work: Work,
     errors: &mut E,
 ) -> Result<String, Stop> {
+    let alloc = rt.alloc();
     match work {
+        Work::Init { rates: _ } => Ok(format!(in alloc; "schema {SCHEMA}\n")?),
         Work::Serve {
             directory,
             day,
             port,
             count,
-        } => serve_port(rt, office, &directory, day, port, count, errors),
+        } => serve_port(rt, opened, &directory, day, port, count, errors),
         Work::Import {
             day,
             number,
             command,
-        } => import(rt.alloc(), office, day, number, &command),
-        Work::Statement { day, employer } => statement(rt.alloc(), office, day, employer),
+        } => import(alloc, &mut opened.office, day, number, &command),
+        Work::Statement { day, employer } => statement(alloc, &mut opened.office, day, employer),
     }
 }
 
 fn serve_port<S: Alter, E: Write>(
     rt: &HostRuntime,
-    office: &mut Office<S>,
+    opened: &mut Opened<S>,
     directory: &Directory,
     day: Day,
     port: u16,
@@ -70,10 +75,26 @@ fn serve_port<S: Alter, E: Write>(
     let Ok(listener) = TcpListener::bind(rt, (Ipv4Addr::LOCALHOST, port)) else {
         return Err(Stop::Net);
     };
-    // What can't be told of a connection is lost.
     let alloc = rt.alloc();
+    tell_ready(alloc, port, day, &opened.ledger_day, errors)?;
+    // What can't be told of a connection is lost.
+    let office = &mut opened.office;
     let _ = serve_connections(alloc, &listener, count, office, directory, day, errors);
     Ok(format!(in alloc; "served {count}\n")?)
+}
+
+// Tells that connections are taken, and what the day means for new requests.
+fn tell_ready<E: Write>(
+    alloc: Global,
+    port: u16,
+    day: Day,
+    ledger_day: &Option<Day>,
+    errors: &mut E,
+) -> Result<(), AllocError> {
+    let line = ready_line(alloc, port, day, ledger_day)?;
+    write_front(errors, line.as_bytes());
+    write_front(errors, meaning(day, ledger_day).as_bytes());
+    Ok(())
 }
 
 fn import<S: Alter>(
