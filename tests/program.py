@@ -333,7 +333,8 @@ class Serve(Program):
         # Nothing is answered behind it, and then only that the office has failed.
         self.assertEqual(self.send(server, REGISTRATION + JANUARY), failing)
         self.assertEqual(self.send(server, JANUARY), failed)
-        self.assertEqual(self.ended(server), (0, "served 2\n", ""))
+        # It is told once, when it happens.
+        self.assertEqual(self.ended(server), (0, "served 2\n", "rule 41 Store\n"))
         again = self.serving(1)
         self.assertIn(b'{"done":true}', self.send(again, REGISTRATION))
         self.assertEqual(self.ended(again), (0, "served 1\n", ""))
@@ -354,10 +355,11 @@ class Serve(Program):
             time.sleep(0.2)
             # It is closed with a reset.
             reset.setsockopt(socket.SOL_SOCKET, socket.SO_LINGER, struct.pack("ii", 1, 0))
+        # One that sends nothing gives way, without a line.
         silent = self.connect(server)
         self.addCleanup(silent.close)
         self.assertIn(b'{"done":true}', self.send(server, REGISTRATION))
-        self.assertEqual(self.ended(server), (0, "served 3\n", "fault net\n" * 2))
+        self.assertEqual(self.ended(server), (0, "served 3\n", "fault net\n"))
 
     def test_a_port_that_is_taken(self):
         self.init()

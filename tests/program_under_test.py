@@ -1,6 +1,7 @@
 """What the scripts beside this one share: the built program, the folder in which it runs, and how it is started."""
 
 import os
+import re
 import shutil
 import socket
 import subprocess
@@ -33,6 +34,8 @@ entitlement = 1425
 RATES = ROW_2024 + ROW_2025
 CALLERS = "desk = 0\nk1001 = 1001\nk1002 = 1002\n"
 DAY = "2024-04-30"
+# What `serve` tells first: where it is ready, on which day, the ledger day, and what a strange day means.
+READY = r"ready on 127\.0\.0\.1:{port}, day {day}, ledger day (?:-|[0-9-]{{10}})\n(?:this day lies [^\n]*\n)?"
 
 
 class ProgramUnderTest(unittest.TestCase):
@@ -75,13 +78,15 @@ class ProgramUnderTest(unittest.TestCase):
 
     # ---- servers
 
-    def serving(self, count, day=DAY, **options):
+    def serving(self, count, day=DAY, store="fund.db", port=None, **options):
         """The program as it serves so many connections of the store, on a port that is free."""
-        with socket.create_server(("127.0.0.1", 0)) as probe:
-            port = probe.getsockname()[1]
-        words = ["serve", "fund.db", "callers.toml", day, str(port), str(count)]
+        if port is None:
+            with socket.create_server(("127.0.0.1", 0)) as probe:
+                port = probe.getsockname()[1]
+        words = ["serve", store, "callers.toml", day, str(port), str(count)]
         server = self.start(*words, stdin=subprocess.DEVNULL, **options)
-        server.port = port
+        server.port, server.day = port, day
+        self.addCleanup(server.communicate)
         self.addCleanup(server.kill)
         return server
 
@@ -109,8 +114,12 @@ class ProgramUnderTest(unittest.TestCase):
         return b"".join(parts)
 
     def ended(self, server):
+        """Status, standard output, and standard error behind what tells that the server is ready."""
         output, errors = server.communicate(timeout=60)
-        return server.returncode, output.decode(), errors.decode()
+        told = errors.decode()
+        ready = re.match(READY.format(port=server.port, day=server.day), told)
+        self.assertTrue(ready, told)
+        return server.returncode, output.decode(), told[ready.end():]
 
 
 def run_tests():

@@ -1,11 +1,13 @@
 //! What the program does: the words of its command line are read, with the files that they name, what
 //! they ask for is done, and why it ends before that is told in one line, with a status.
 //!
-//! It works on offices whatever keeps their records, and on any input, output and error writer: the
-//! program names the types, and opens and closes. No clause speaks of what it prints; the gate
-//! compares that.
+//! Contracts say the status and the lines that are told, and of files, sockets and what is printed
+//! nothing; the gate compares that. The work is done on offices whatever keeps their records; the
+//! two kinds of store, in files and in memory, are named in `run` alone.
 #![tactic(auto)]
 
+pub mod ready;
+pub mod run;
 pub mod stop;
 pub mod tasks;
 pub mod work;

@@ -1,4 +1,8 @@
 //! Why the program ends before its work is done: the line that it tells, and its status.
+ghost use Rattle.std.specs.Prelude.{◌≡◌, ◌++◌, IfOk, string_bytes};
+ghost use Rattle.clear_program.specs.Stops.{behind_space, by_file, by_store, by_stream, line_of};
+ghost use Rattle.clear_program.specs.Stops.{no_memory, rule_line, status_by, status_of};
+ghost use Rattle.clear_program.specs.Stops.{AppendsFront, Tells};
 
 use clear_answers::answer::carried_text;
 use clear_book::rules::{Rule, StoreCause};
@@ -29,7 +33,9 @@ pub const NO_MEMORY: Stop = Stop::Rule(Rule::Memory);
 impl Stop {
     /// The status with which the program ends: 1 for a refused request, 2 for the command line and
     /// its files, and 3 for a fault of the store, of memory, of the port or of a stream.
-    pub fn status(&self) -> u8 {
+    pub fn status(&self) -> u8
+        ensures { result ≡ status_of self.now }
+    {
         match self {
             Stop::Rule(rule) => status_by(*rule),
             Stop::Line | Stop::File => 2,
@@ -38,7 +44,9 @@ impl Stop {
     }
 
     // What is told on standard error.
-    fn line(&self, alloc: Global) -> Result<String, AllocError> {
+    fn line(&self, alloc: Global) -> Result<String, AllocError>
+        ensures { IfOk result (λ line. string_bytes line ≡ line_of self.now) }
+    {
         match self {
             Stop::Rule(rule) => rule_line(alloc, rule),
             Stop::Line => String::from_str(alloc, "fault command line\n"),
@@ -49,34 +57,57 @@ impl Stop {
     }
 }
 
-/// Tells why the program ends, and gives its status. What can't be written is lost.
-pub fn tell<E: Write>(alloc: Global, errors: &mut E, stop: &Stop) -> u8 {
+/// Tells why the program ends, and gives its status. What can't be written is lost. Where there is no
+/// memory for the line, it is that of want of memory.
+pub fn tell<E: Write>(alloc: Global, errors: &mut E, stop: &Stop) -> u8
+    ensures { Tells (E.contents errors.old) (E.contents errors.new) stop.now result }
+{
     match stop.line(alloc) {
         Ok(line) => {
-            let _ = errors.write_all(line.as_bytes());
+            write_front(errors, line.as_bytes());
             stop.status()
         }
         Err(AllocError) => {
-            let _ = errors.write_all(b"rule 40 Memory\n");
+            write_front(errors, b"rule 40 Memory\n");
             NO_MEMORY.status()
         }
     }
 }
 
+/// Writes a text, or a front of it where a write fails.
+pub fn write_front<E: Write>(errors: &mut E, text: &[u8])
+    ensures { AppendsFront (E.contents errors.old) (E.contents errors.new) text.now }
+{
+    let mut at = 0;
+    'writes: while at < text.len() {
+        match errors.write(&text[at..]) {
+            Ok(0) => return,
+            Ok(count) => at += count,
+            Err(_) => return,
+        }
+    }
+}
+
 impl From<Rule> for Stop {
-    fn from(rule: Rule) -> Stop {
+    fn from(rule: Rule) -> Stop
+        ensures { result ≡ Stop.Rule rule }
+    {
         Stop::Rule(rule)
     }
 }
 
 impl From<AllocError> for Stop {
-    fn from(_: AllocError) -> Stop {
+    fn from(_: AllocError) -> Stop
+        ensures { result ≡ no_memory }
+    {
         NO_MEMORY
     }
 }
 
 impl From<FileFault> for Stop {
-    fn from(fault: FileFault) -> Stop {
+    fn from(fault: FileFault) -> Stop
+        ensures { result ≡ by_file fault }
+    {
         match fault {
             FileFault::Unusable => Stop::File,
             FileFault::Memory => NO_MEMORY,
@@ -85,7 +116,9 @@ impl From<FileFault> for Stop {
 }
 
 impl From<OpenFault> for Stop {
-    fn from(fault: OpenFault) -> Stop {
+    fn from(fault: OpenFault) -> Stop
+        ensures { result ≡ by_store fault }
+    {
         match fault {
             OpenFault::WrongVersion(found) => Stop::Rule(Rule::WrongVersion(found)),
             OpenFault::Failed(StoreFault::Memory) => NO_MEMORY,
@@ -95,7 +128,9 @@ impl From<OpenFault> for Stop {
 }
 
 impl From<Fault> for Stop {
-    fn from(fault: Fault) -> Stop {
+    fn from(fault: Fault) -> Stop
+        ensures { result ≡ by_stream fault }
+    {
         match fault {
             Fault::Memory => NO_MEMORY,
             Fault::Read | Fault::Write | Fault::Reads => Stop::Stream,
@@ -104,25 +139,43 @@ impl From<Fault> for Stop {
 }
 
 /// Why the program ends where the records hold an answer of another kind than was asked for.
-pub fn stop_at_records() -> Stop {
+pub fn stop_at_records() -> Stop
+    ensures { result ≡ Stop.Rule (Rule.Store StoreCause.Row) }
+{
     Stop::Rule(Rule::Store(StoreCause::Row))
 }
 
 // The rules from 40 on are those of memory and of the store.
-fn status_by(rule: Rule) -> u8 {
+fn status_by(rule: Rule) -> u8
+    ensures { result ≡ status_by rule }
+{
     if rule.number() < 40 { 1 } else { 3 }
 }
 
 // A rule by its number and its name, and what it carries.
-fn rule_line(alloc: Global, rule: &Rule) -> Result<String, AllocError> {
-    let number = rule.number();
-    let name = rule.name();
+#[tactic(auto, unfolding(crate::specs::Stops::rule_line))]
+fn rule_line(alloc: Global, rule: &Rule) -> Result<String, AllocError>
+    ensures { IfOk result (λ line. string_bytes line ≡ rule_line rule.now) }
+{
     let carried = carried_text(alloc, rule.carried())?;
-    let mut line = format!(in alloc; "rule {number} {name}")?;
-    if !carried.is_empty() {
-        line.push_str(" ")?;
-        line.push_str(carried.as_str())?;
-    }
+    let mut line = String::from_str(alloc, "rule ")?;
+    line.push_str(rule.number().to_string(alloc)?.as_str())?;
+    line.push_str(" ")?;
+    line.push_str(rule.name())?;
+    push_carried(&mut line, carried.as_str())?;
     line.push_str("\n")?;
     Ok(line)
+}
+
+// Appends what a rule carries, behind a space, where it carries something.
+fn push_carried(line: &mut String, carried: &str) -> Result<(), AllocError>
+    ensures { IfOk result (λ _. string_bytes line.new
+        ≡ string_bytes line.old ++ behind_space carried.now) }
+{
+    if carried.is_empty() {
+        return Ok(());
+    }
+    line.push_str(" ")?;
+    line.push_str(carried)?;
+    Ok(())
 }

@@ -23,27 +23,26 @@ const SAMPLE: &str = "sample";
 pub enum Task<'a> {
     /// Writes a text.
     Say(String),
-    /// Makes a store at a path.
-    Init {
-        store: &'a str,
-        rates: RateTable,
-    },
     /// Serves the input over a new office in memory.
     Stream {
         rates: RateTable,
         directory: Directory,
         day: Day,
     },
-    /// Opens the store at a path, and works on it.
-    Open {
+    /// Works on the store at a path.
+    OnStore {
         store: &'a str,
         work: Work,
     },
 }
 
-/// What is done with a store that stands.
+/// What is done with a store. It is made first, or opened.
 #[derive(Drop)]
 pub enum Work {
+    /// Makes it, with these opening rates.
+    Init {
+        rates: RateTable,
+    },
     /// Serves so many connections on a port of this machine.
     Serve {
         directory: Directory,
@@ -98,10 +97,11 @@ pub fn read_task<'a>(rt: &HostRuntime, words: &'a [String]) -> Result<Task<'a>, 
 
 fn prepare<'a>(rt: &HostRuntime, words: Words<'a>) -> Result<Task<'a>, Stop> {
     match words {
-        Words::Init { store, rates } => Ok(Task::Init {
-            store,
-            rates: read_rate_file(rt, rates)?,
-        }),
+        Words::Init { store, rates } => {
+            let rates = read_rate_file(rt, rates)?;
+            let work = Work::Init { rates };
+            Ok(Task::OnStore { store, work })
+        }
         Words::Stream {
             rates,
             callers,
@@ -125,7 +125,7 @@ fn prepare<'a>(rt: &HostRuntime, words: Words<'a>) -> Result<Task<'a>, Stop> {
                 port,
                 count,
             };
-            Ok(Task::Open { store, work })
+            Ok(Task::OnStore { store, work })
         }
         Words::Import {
             store,
@@ -139,7 +139,7 @@ fn prepare<'a>(rt: &HostRuntime, words: Words<'a>) -> Result<Task<'a>, Stop> {
                 number,
                 command,
             };
-            Ok(Task::Open { store, work })
+            Ok(Task::OnStore { store, work })
         }
         Words::Statement {
             store,
@@ -147,7 +147,7 @@ fn prepare<'a>(rt: &HostRuntime, words: Words<'a>) -> Result<Task<'a>, Stop> {
             employer,
         } => {
             let work = Work::Statement { day, employer };
-            Ok(Task::Open { store, work })
+            Ok(Task::OnStore { store, work })
         }
         // There is one schema so far, so that no store can be migrated.
         Words::Migrate { store: _ } => Err(Stop::Line),

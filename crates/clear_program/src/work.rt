@@ -1,21 +1,29 @@
 //! What is done with an office.
 
-use crate::stop::{Stop, stop_at_records};
+use crate::ready::{meaning, ready_line};
+use crate::stop::{Stop, stop_at_records, write_front};
 use crate::tasks::Work;
 use clear_book::calls::{Caller, Command, Query};
 use clear_book::numbers::RequestNo;
 use clear_book::outcomes::{Answer, Reply};
+use clear_book::rules::{Rule, StoreCause};
 use clear_callers::directory::Directory;
+use clear_files::named::NamedFile;
+use clear_files::stores::Opened;
 use clear_http::desk::serve;
 use clear_money::days::Day;
 use clear_money::numbers::EmployerNo;
 use clear_net::connections::{Ended, Watch, serve_connections};
 use clear_office::office::Office;
+use clear_schema::store::SCHEMA;
 use clear_wire::counted::{Counted, RequestRead};
 use sqlite::Alter;
-use std::alloc::Global;
+use std::alloc::{AllocError, Global};
 use std::io::Write;
 use std::net::{Ipv4Addr, TcpListener};
+
+// The store isn't where it was opened.
+const STORE_GONE: Stop = Stop::Rule(Rule::Store(StoreCause::Other));
 
 /// Serves the requests of the input to its end.
 pub fn serve_stream<S: Alter, I: RequestRead, O: Write>(
@@ -34,59 +42,92 @@ pub fn serve_stream<S: Alter, I: RequestRead, O: Write>(
     }
 }
 
-/// Does the work, and gives what is to be said at its end. Why a connection ended early is told on
-/// `errors`.
+/// Does the work on the store at a path that was just made or opened, and gives what is to be said at
+/// its end. That connections are taken, and why one ended early, is told on `errors`.
 pub fn do_work<S: Alter, E: Write>(
     rt: &HostRuntime,
-    office: &mut Office<S>,
+    opened: &mut Opened<S>,
+    store: &str,
     work: Work,
     errors: &mut E,
 ) -> Result<String, Stop> {
+    let alloc = rt.alloc();
     match work {
+        Work::Init { rates: _ } => Ok(format!(in alloc; "schema {SCHEMA}\n")?),
         Work::Serve {
             directory,
             day,
             port,
             count,
-        } => serve_port(rt, office, &directory, day, port, count, errors),
+        } => {
+            let place = Place { store, port };
+            serve_at(rt, opened, &directory, day, &place, count, errors)
+        }
         Work::Import {
             day,
             number,
             command,
-        } => import(rt.alloc(), office, day, number, &command),
-        Work::Statement { day, employer } => statement(rt.alloc(), office, day, employer),
+        } => import(alloc, &mut opened.office, day, number, &command),
+        Work::Statement { day, employer } => statement(alloc, &mut opened.office, day, employer),
     }
 }
 
-// A store of which nobody looks whether it still stands.
-struct Unwatched;
+// Where an office is served: the path of its store, and the port.
+#[derive(Clone, Copy)]
+struct Place<'a> {
+    store: &'a str,
+    port: u16,
+}
 
-impl Watch for Unwatched {
+// The store at the path at which it was opened.
+#[derive(Clone, Copy)]
+struct StoreFile<'a>(NamedFile<'a>);
+
+impl Watch for StoreFile<'_> {
     fn stands(&self) -> bool {
-        true
+        self.0.stands()
     }
 }
 
-fn serve_port<S: Alter, E: Write>(
+fn serve_at<S: Alter, E: Write>(
     rt: &HostRuntime,
-    office: &mut Office<S>,
+    opened: &mut Opened<S>,
     directory: &Directory,
     day: Day,
-    port: u16,
+    place: &Place<'_>,
     count: u32,
     errors: &mut E,
 ) -> Result<String, Stop> {
-    let Ok(listener) = TcpListener::bind(rt, (Ipv4Addr::LOCALHOST, port)) else {
+    let Ok(file) = NamedFile::at(rt, place.store) else {
+        return Err(STORE_GONE);
+    };
+    let Ok(listener) = TcpListener::bind(rt, (Ipv4Addr::LOCALHOST, place.port)) else {
         return Err(Stop::Net);
     };
-    // What can't be told of a connection is lost.
+    tell_ready(rt.alloc(), place.port, day, &opened.ledger_day, errors)?;
+    let (office, watch) = (&mut opened.office, StoreFile(file));
     let serving = serve_connections(
-        rt, &listener, count, office, directory, day, &Unwatched, errors,
+        rt, &listener, count, office, directory, day, &watch, errors,
     );
+    // What could not be told of a connection is lost.
     match serving.ended {
         Ended::Served => Ok(format!(in rt.alloc(); "served {count}\n")?),
-        Ended::StoreGone => Err(Stop::Rule(Rule::Store(StoreCause::Other))),
+        Ended::StoreGone => Err(STORE_GONE),
     }
+}
+
+// Tells that connections are taken, and what the day means for new requests.
+fn tell_ready<E: Write>(
+    alloc: Global,
+    port: u16,
+    day: Day,
+    ledger_day: &Option<Day>,
+    errors: &mut E,
+) -> Result<(), AllocError> {
+    let line = ready_line(alloc, port, day, ledger_day)?;
+    write_front(errors, line.as_bytes());
+    write_front(errors, meaning(day, ledger_day).as_bytes());
+    Ok(())
 }
 
 fn import<S: Alter>(

@@ -1,0 +1,2 @@
+pub mod StatusLemmas
+pub mod WriteLemmas

@@ -1,0 +1,165 @@
+"""Runs the commands of README and of the clerk's manual as they stand there, and compares what they print.
+
+    python3 tests/documents.py [PROGRAM]
+
+PROGRAM is crates/clear_app/out/clear_app where it isn't given, as `rt ci` leaves it; in the folder of a test it is
+`./clearing`, beside `examples`. Only the port is another one, which is free. It needs bash, curl and sqlite3.
+"""
+
+import os
+import re
+import shutil
+import signal
+import socket
+import subprocess
+import sys
+import time
+import unittest
+
+# No __pycache__ is left beside the sources.
+sys.dont_write_bytecode = True
+from program_under_test import ROOT, ProgramUnderTest, run_tests  # noqa: E402
+
+PORT = "8080"
+MARK = "---- the command has ended ----"
+
+
+def indented_blocks(text):
+    """The blocks of lines that are indented by four spaces, without these."""
+    blocks, block = [], []
+    for line in [*text.splitlines(), "end"]:
+        if line.startswith("    "):
+            block.append(line[4:])
+        elif block and line:
+            blocks.append(block)
+            block = []
+    return blocks
+
+
+def is_whole(command):
+    """Whether a shell has read a command to its end: no line goes on, and no quotation is open."""
+    open_quotes = re.sub(r"'[^']*'|\"[^\"]*\"|\\.", "", command)
+    return not command.endswith("\\") and not re.search(r"['\"]", open_quotes)
+
+
+def commands(text):
+    """Each command behind `$`, with what is printed below it."""
+    found = []
+    for block in indented_blocks(text):
+        if not block[0].startswith("$ "):
+            continue
+        for line in block:
+            if line.startswith("$ "):
+                found.append((line[2:], ""))
+            elif not is_whole(found[-1][0]):
+                found[-1] = (f"{found[-1][0]}\n{line}", "")
+            else:
+                found[-1] = (found[-1][0], f"{found[-1][1]}{line}\n")
+    return found
+
+
+@unittest.skipUnless(all(map(shutil.which, ("bash", "curl", "sqlite3"))), "bash, curl or sqlite3 isn't here")
+class Documents(ProgramUnderTest):
+    maxDiff = None
+
+    def setUp(self):
+        super().setUp()
+        shutil.copytree(ROOT / "examples", self.folder / "examples")
+        # No meter where curl doesn't write to a terminal.
+        self.write(".curlrc", "silent\nshow-error\n")
+        self.environment = {**os.environ, "CURL_HOME": str(self.folder), "LC_ALL": "C.UTF-8"}
+        with socket.create_server(("127.0.0.1", 0)) as probe:
+            self.port = str(probe.getsockname()[1])
+
+    def with_port(self, text):
+        return text.replace(PORT, self.port)
+
+    def bash(self, *words, **options):
+        return subprocess.Popen(["bash", *words], cwd=self.folder, env=self.environment, stdin=subprocess.PIPE,
+                                stdout=subprocess.PIPE, start_new_session=True, **options)
+
+
+class Readme(Documents):
+    def test_the_six_commands(self):
+        text = (ROOT / "README.md").read_text()
+        text = text[text.index("## A clerk's day, in six commands"):]
+        block, statement = indented_blocks(text)[:2]
+        printed = re.findall(r"`([^`]+)`", text[text.index("They print"):text.index("\n    statement")])
+        # An answer of the office has no line end.
+        wanted = [it if it.startswith("{") else f"{it}\n" for it in printed] + [f"{line}\n" for line in statement]
+        with self.bash("-c", self.with_port("\n".join(block)), stderr=subprocess.PIPE) as running:
+            try:
+                output, errors = running.communicate(timeout=60)
+            finally:
+                os.killpg(running.pid, signal.SIGKILL)
+        self.assertEqual(output.decode(), "".join(wanted), errors.decode())
+
+
+class Manual(Documents):
+    """The commands run in one shell, as in a clerk's window; `serve` runs beside it, as in the other one."""
+
+    def test_the_story(self):
+        text = (ROOT / "docs/clerk.md").read_text()
+        self.server = None
+        with self.bash(stderr=subprocess.STDOUT) as self.shell:
+            try:
+                for command, printed in commands(text):
+                    self.follow(self.with_port(command), self.with_port(printed))
+                self.end_server()
+            finally:
+                os.killpg(self.shell.pid, signal.SIGKILL)
+
+    def follow(self, command, printed):
+        if command.startswith("./clearing serve"):
+            self.end_server()
+            self.start_server(command, printed)
+            return
+        if command.startswith(("./clearing", "cp fund.db", "sqlite3 fund.db")):
+            self.end_server()
+        said = self.run_command(command)
+        if "stream" in command:
+            # What it prints stands in another document.
+            self.assertEqual(said.count("HTTP/1.1 200 OK"), 3, said)
+            return
+        self.assertEqual(said.rstrip("\n"), printed.rstrip("\n"), command)
+
+    def run_command(self, command):
+        """What a command prints in the shell. It has a minute."""
+        self.shell.stdin.write(f"{command}\necho; echo '{MARK}'\n".encode())
+        self.shell.stdin.flush()
+        watch = subprocess.Popen(["sleep", "60"])
+        said = b""
+        while not said.endswith(f"\n{MARK}\n".encode()):
+            part = os.read(self.shell.stdout.fileno(), 65536)
+            self.assertTrue(part and watch.poll() is None, (command, said))
+            said += part
+        watch.kill()
+        watch.wait()
+        return said.decode()[:-len(MARK) - 2]
+
+    def start_server(self, command, printed):
+        """Starts the server as in the other window, and waits until it says that it is ready."""
+        self.printed = printed
+        self.log = self.write("server.log", "")
+        with open(self.log, "wb") as log:
+            self.server = subprocess.Popen(["bash", "-c", f"exec {command}"], cwd=self.folder, stdout=log, stderr=log,
+                                           env=self.environment)
+        self.addCleanup(self.server.kill)
+        until = time.monotonic() + 30
+        while "ready on" not in self.log.read_text():
+            self.assertTrue(self.server.poll() is None and time.monotonic() < until, self.log.read_text())
+            time.sleep(0.02)
+
+    def end_server(self):
+        """Ends the server as by Ctrl-C, where it doesn't end by itself, and compares what it printed."""
+        if self.server is None:
+            return
+        if "served" not in self.printed:
+            self.server.send_signal(signal.SIGINT)
+        self.server.wait(timeout=30)
+        self.assertEqual(self.log.read_text(), self.printed)
+        self.server = None
+
+
+if __name__ == "__main__":
+    run_tests()

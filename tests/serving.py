@@ -1,0 +1,377 @@
+"""Serves clients as they are: idle, slow, silent, several at once, with large bodies; and stops at any moment.
+
+    python3 tests/serving.py [PROGRAM]
+
+PROGRAM is crates/clear_app/out/clear_app where it isn't given, as `rt ci` leaves it. No test waits for more than some
+40 seconds, whatever the program does.
+"""
+
+import http.client
+import os
+import random
+import re
+import signal
+import socket
+import stat
+import sys
+import threading
+import time
+from concurrent.futures import ThreadPoolExecutor
+
+# No __pycache__ is left beside the sources.
+sys.dont_write_bytecode = True
+import program  # noqa: E402
+from program import BANK, HEADER, JANUARY, REGISTRATION, post  # noqa: E402
+from program_under_test import DAY, run_tests  # noqa: E402
+
+LENGTH = re.compile(rb"\r\nContent-Length: ([0-9]+)")
+OWED = b"GET /employers/1001/owed HTTP/1.1\r\nHost: office\r\nOffice-Key: desk\r\n\r\n"
+MAX_BODY = 1_048_576
+
+
+def read_answer(peer):
+    """The bytes of the next answer, on a connection that may stay open. EOFError where it ends before."""
+    got = b""
+    while (end := got.find(b"\r\n\r\n")) < 0 or len(got) < end + 4 + int(LENGTH.search(got)[1]):
+        part = peer.recv(65536)
+        if not part:
+            raise EOFError(got)
+        got += part
+    return got
+
+
+def ask(peer, request):
+    peer.sendall(request)
+    return read_answer(peer)
+
+
+def trickle(peer, data, pause):
+    """Sends a byte, waits, and so on, until the other side ends the connection or 40 seconds are over."""
+    until = time.monotonic() + 40
+    try:
+        for byte in data:
+            peer.sendall(bytes([byte]))
+            peer.settimeout(pause)
+            try:
+                if peer.recv(65536) == b"" or time.monotonic() > until:
+                    return
+            except TimeoutError:
+                pass
+    except OSError:
+        pass
+
+
+class Kept:
+    """A client that keeps its connection between calls, and makes a new one where the office has ended it."""
+
+    def __init__(self, test, server):
+        self.test, self.server, self.peer = test, server, None
+
+    def ask(self, request):
+        while True:
+            if self.peer is None:
+                self.peer = self.test.connect(self.server)
+            try:
+                return ask(self.peer, request)
+            except (EOFError, ConnectionError):
+                self.part()
+
+    def part(self):
+        self.peer.close()
+        self.peer = None
+
+
+class Clients(program.Program):
+    def test_an_idle_connection_gives_way(self):
+        self.init()
+        server = self.serving(2)
+        with self.connect(server) as idle:
+            self.assertIn(b'{"done":true}', ask(idle, REGISTRATION))
+            begun = time.monotonic()
+            with self.connect(server) as other:
+                self.assertIn(b'"version":1', ask(other, JANUARY))
+                self.assertLess(time.monotonic() - begun, 2)
+            self.assertEqual(idle.recv(1), b"")
+        self.assertEqual(self.ended(server), (0, "served 2\n", ""))
+
+    def test_a_silent_connection_gives_way_after_a_second(self):
+        self.init()
+        server = self.serving(2)
+        with self.connect(server) as silent:
+            time.sleep(0.2)
+            begun = time.monotonic()
+            with self.connect(server) as other:
+                self.assertIn(b'{"done":true}', ask(other, REGISTRATION))
+            self.assertLess(time.monotonic() - begun, 3)
+            self.assertEqual(silent.recv(1), b"")
+        status, output, _errors = self.ended(server)
+        self.assertEqual((status, output), (0, "served 2\n"))
+
+    def test_a_request_that_has_begun_is_not_cut_off(self):
+        self.init()
+        server = self.serving(2)
+        with self.connect(server) as first:
+            first.sendall(REGISTRATION[:50])
+            time.sleep(0.2)
+            with self.connect(server) as other:
+                time.sleep(2)
+                self.assertIn(b'{"done":true}', ask(first, REGISTRATION[50:]))
+                self.assertIn(b'"version":1', ask(other, JANUARY))
+        self.assertEqual(self.ended(server), (0, "served 2\n", ""))
+
+    def test_the_last_connection_is_not_cut_off(self):
+        self.init()
+        server = self.serving(1)
+        with self.connect(server) as last, self.connect(server):
+            self.assertIn(b'{"done":true}', ask(last, REGISTRATION))
+            time.sleep(1.5)
+            self.assertIn(b'"version":1', ask(last, JANUARY))
+        self.assertEqual(self.ended(server), (0, "served 1\n", ""))
+
+    def test_a_connection_a_call(self):
+        self.filled()
+        server = self.serving(100)
+        begun = time.monotonic()
+        peers = []
+        for _ in range(100):
+            peers.append(self.connect(server))
+            self.addCleanup(peers[-1].close)
+            self.assertIn(b'"charged":300010', ask(peers[-1], OWED))
+        self.assertLess(time.monotonic() - begun, 3)
+        # The last one isn't cut off for others.
+        peers[-1].close()
+        self.assertEqual(self.ended(server), (0, "served 100\n", ""))
+
+    def test_two_clients_at_once(self):
+        self.filled()
+        server = self.serving(1_000)
+
+        def call(_):
+            client = Kept(self, server)
+            answers = [client.ask(OWED) for _ in range(50)]
+            client.part()
+            return answers
+
+        begun = time.monotonic()
+        with ThreadPoolExecutor(2) as threads:
+            for answers in threads.map(call, range(2)):
+                for answer in answers:
+                    self.assertIn(b'"charged":300010', answer)
+        self.assertLess(time.monotonic() - begun, 20)
+        server.kill()
+
+
+class Slow(program.Program):
+    def test_slow_peers(self):
+        """They are served by an office each, side by side: the slowest ends after some 30 seconds."""
+        body = post("/bank", 7, HEADER + "\n" * 1_000)
+        # What a peer sends at once, and then byte by byte; what is told, and between which seconds.
+        kinds = {
+            "pause": (REGISTRATION[:40], b"", "fault net\n", 8, 20),
+            "head": (b"", b"GET / HTTP/1.1\r\nX: " + b"x" * 1_000, "fault net\n", 27, 38),
+            "body": (body[:200], body[200:], "fault net\n", 27, 38),
+            "idle": (REGISTRATION, b"", "", 27, 38),
+        }
+        servers = {}
+        for kind, (at_once, rest, *_) in kinds.items():
+            self.init(f"{kind}.db")
+            server = servers[kind] = self.serving(1, store=f"{kind}.db")
+            peer = self.connect(server)
+            self.addCleanup(peer.close)
+            peer.sendall(at_once)
+            threading.Thread(target=trickle, args=(peer, rest, 3), daemon=True).start()
+        begun = time.monotonic()
+        for kind, server in servers.items():
+            _, _, told, least, most = kinds[kind]
+            self.assertEqual(self.ended(server), (0, "served 1\n", told), kind)
+            self.assertTrue(least < time.monotonic() - begun < most, (kind, time.monotonic() - begun))
+
+
+class Bodies(program.Program):
+    def test_bodies_that_are_too_large(self):
+        self.init()
+        sizes = (MAX_BODY + 1, 1_200_000, 2_000_000, 4_000_000)
+        server = self.serving(2 * len(sizes))
+        for size in sizes:
+            request = post("/bank", 1, HEADER.ljust(size, "\n"))
+            with self.connect(server) as peer:
+                peer.sendall(request)
+                self.assertIn(b'"rule":2}', self.read_all(peer))
+            client = http.client.HTTPConnection("127.0.0.1", server.port, timeout=30)
+            fields = {"Office-Key": "desk", "Request-Number": "1"}
+            client.request("POST", "/bank", HEADER.ljust(size, "\n"), fields)
+            answer = client.getresponse()
+            self.assertEqual((answer.status, answer.read()), (413, b'{"detail":"","name":"TooLarge","rule":2}'))
+            client.close()
+        status, output, _errors = self.ended(server)
+        self.assertEqual((status, output), (0, f"served {2 * len(sizes)}\n"))
+
+    def test_the_largest_body(self):
+        self.init()
+        server = self.serving(1)
+        request = post("/bank", 1, HEADER.ljust(MAX_BODY, "\n"))
+        self.assertIn(b'{"new":0,"repeats":0}', self.send(server, request))
+        self.assertEqual(self.ended(server), (0, "served 1\n", ""))
+
+
+class Store(program.Program):
+    def test_who_may_read_it(self):
+        def no_mask():
+            os.umask(0)
+
+        def mode(name):
+            return stat.S_IMODE((self.folder / name).stat().st_mode)
+
+        self.expect(["init", "fund.db", "rates.toml"], 0, "schema 0\n", preexec_fn=no_mask)
+        self.assertEqual(mode("fund.db"), 0o600)
+        server = self.serving(1, preexec_fn=no_mask)
+        self.assertIn(b'{"done":true}', self.send(server, REGISTRATION))
+        self.assertEqual(self.ended(server), (0, "served 1\n", ""))
+        self.assertEqual((mode("fund.db"), mode("fund.db-wal")), (0o600, 0o600))
+        # An empty file that stands keeps its mode.
+        self.write("empty.db", "").chmod(0o640)
+        if program.NOBODY:
+            os.chown(self.folder / "empty.db", program.NOBODY, program.NOBODY)
+        self.init("empty.db")
+        self.assertEqual(mode("empty.db"), 0o640)
+
+    def test_no_file_is_made_under_a_name_that_no_store_can_have(self):
+        for name in (":memory:", "file:fund.db"):
+            self.expect(["init", name, "rates.toml"], 3, "", "rule 41 Store\n")
+            self.assertFalse((self.folder / name).exists())
+
+    def test_a_second_office(self):
+        self.init()
+        server = self.serving(2)
+        self.assertIn(b'{"done":true}', self.send(server, REGISTRATION))
+        with socket.create_server(("127.0.0.1", 0)) as probe:
+            port = str(probe.getsockname()[1])
+        self.expect(["serve", "fund.db", "callers.toml", DAY, port, "1"], 3, "", "rule 41 Store\n")
+        self.assertIn(b'"version":1', self.send(server, JANUARY))
+        self.assertEqual(self.ended(server), (0, "served 2\n", ""))
+
+    def test_a_store_that_is_removed_or_replaced(self):
+        for replaced in (False, True):
+            self.init("one.db")
+            server = self.serving(3, store="one.db")
+            self.assertIn(b'{"done":true}', self.send(server, REGISTRATION))
+            (self.folder / "one.db").rename(self.folder / "away.db")
+            if replaced:
+                self.write("one.db", (self.folder / "away.db").read_bytes())
+            with self.connect(server) as peer:
+                try:
+                    peer.sendall(JANUARY)
+                    self.assertEqual(self.read_all(peer), b"")
+                except ConnectionError:
+                    pass
+            self.assertEqual(self.ended(server), (3, "", "rule 41 Store\n"))
+            for left in self.folder.glob("*.db*"):
+                left.unlink()
+
+
+class Stops(program.Program):
+    def test_signals(self):
+        self.init()
+        for number, ended in enumerate((signal.SIGINT, signal.SIGTERM), 1):
+            server = self.serving(9)
+            with self.connect(server) as peer:
+                answer = ask(peer, REGISTRATION)
+                self.assertIn(b'{"done":true}', answer)
+                server.send_signal(ended)
+                self.assertEqual(self.ended(server), (-ended, "", ""), number)
+
+    def test_the_same_port_again(self):
+        self.init()
+        server = self.serving(9)
+        with self.connect(server) as peer:
+            self.assertIn(b'{"done":true}', ask(peer, REGISTRATION))
+            server.kill()
+            server.communicate()
+            again = self.serving(1, port=server.port)
+            self.assertIn(b'"version":1', self.send(again, JANUARY))
+            self.assertEqual(self.ended(again), (0, "served 1\n", ""))
+
+    def test_standard_output_that_is_closed(self):
+        self.filled()
+        for words in (["statement", "fund.db", DAY, "1001"], ["init", "new.db", "rates.toml"]):
+            reading, writing = os.pipe()
+            os.close(reading)
+            with os.fdopen(writing, "wb") as closed:
+                self.expect(words, 3, "", "fault stream\n", stdout=closed, restore_signals=False)
+        self.expect(["init", "new.db", "rates.toml"], 3, "", "rule 43 WrongVersion 0\n")
+
+    def test_a_kill_while_a_store_is_made(self):
+        moments = random.Random(1)
+        for count in range(20):
+            store = f"{count}.db"
+            running = self.start("init", store, "rates.toml")
+            time.sleep(moments.uniform(0, 0.03))
+            running.kill()
+            running.communicate()
+            made = self.run_program("init", store, "rates.toml")
+            self.assertIn(made, [(0, "schema 0\n", ""), (3, "", "rule 43 WrongVersion 0\n")])
+            self.expect(["statement", store, DAY, "1001"], 1, "", "rule 11 UnknownEmployer\n")
+
+    def test_a_kill_while_a_file_is_imported(self):
+        self.filled()
+        moments = random.Random(2)
+        for count in range(2, 12):
+            lines = "".join(f"R{count}-{line},2024-04-21,1001,1,C,\n" for line in range(1_000))
+            self.write("bank.csv", HEADER + lines)
+            words = ["import", "fund.db", DAY, str(count), "bank.csv"]
+            running = self.start(*words)
+            time.sleep(moments.uniform(0, 0.2))
+            running.kill()
+            running.communicate()
+            # Whether it was done or not, it is done once, and answered as it is then.
+            self.expect(words, 0, "new 1000 repeats 0\n")
+        self.expect(["import", "fund.db", DAY, "12", "bank.csv"], 0, "new 0 repeats 1000\n")
+
+
+class Ready(program.Program):
+    def told(self, server):
+        """What was told on standard error by the end of one connection on which nothing was sent."""
+        self.assertEqual(self.send(server, b""), b"")
+        output, errors = server.communicate(timeout=60)
+        self.assertEqual((server.returncode, output), (0, b"served 1\n"))
+        return errors.decode()
+
+    def test_what_is_told(self):
+        self.init()
+        ready = "ready on 127.0.0.1:{}, day {}, ledger day {}\n"
+        server = self.serving(1)
+        self.assertEqual(self.told(server), ready.format(server.port, DAY, "-"))
+        server = self.serving(1)
+        self.assertIn(b'{"done":true}', self.send(server, REGISTRATION))
+        self.assertEqual(self.ended(server), (0, "served 1\n", ""))
+        refused = "this day lies before the ledger day: every new request will be refused\n"
+        moved = (
+            "this day lies more than 31 days after the ledger day: "
+            "the first accepted request moves the ledger day there for good\n"
+        )
+        for day, meaning in [(DAY, ""), ("2024-05-31", ""), ("2024-06-01", moved), ("2024-04-29", refused)]:
+            server = self.serving(1, day)
+            self.assertEqual(self.told(server), ready.format(server.port, day, DAY) + meaning)
+
+    def test_it_is_told_once_connections_are_taken(self):
+        self.init()
+        server = self.serving(1)
+        self.assertTrue(server.stderr.readline().startswith(b"ready on "))
+        with socket.create_connection(("127.0.0.1", server.port), timeout=30) as peer:
+            self.assertIn(b'{"done":true}', ask(peer, REGISTRATION))
+        server.communicate()
+
+    def test_a_day_that_is_too_early(self):
+        self.filled()
+        server = self.serving(1, "2024-04-29")
+        answers = self.send(server, post("/bank", 2, BANK) + OWED)
+        self.assertEqual(answers.count(b'{"detail":"2024-04-30","name":"DayBack","rule":10}'), 2, answers)
+        # A repeat is answered as it was.
+        self.assertEqual(self.ended(server), (0, "served 1\n", ""))
+        server = self.serving(1, "2024-04-29")
+        self.assertIn(b'{"done":true}', self.send(server, REGISTRATION))
+        self.assertEqual(self.ended(server), (0, "served 1\n", ""))
+
+
+if __name__ == "__main__":
+    run_tests()
