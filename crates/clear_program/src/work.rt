@@ -106,9 +106,7 @@ fn serve_at<S: Alter, E: Write>(
     };
     tell_ready(rt.alloc(), place.port, day, &opened.ledger_day, errors)?;
     let (office, watch) = (&mut opened.office, StoreFile(file));
-    let serving = serve_connections(
-        rt, &listener, count, office, directory, day, &watch, errors,
-    );
+    let serving = serve_connections(rt, &listener, count, office, directory, day, &watch, errors);
     // What could not be told of a connection is lost.
     match serving.ended {
         Ended::Served => Ok(format!(in rt.alloc(); "served {count}\n")?),
