@@ -5,11 +5,18 @@ use crate::stop::{NO_MEMORY, Stop, tell};
 use crate::tasks::{Task, Work, read_task, words_of};
 use crate::work::{do_work, say, serve_stream};
 use clear_callers::directory::Directory;
-use clear_files::stores::{create_office, open_office};
+use clear_files::stores::{Opened, create_office, open_office};
 use clear_money::days::Day;
 use clear_money::rates::RateTable;
 use clear_sample::memory::office_in_memory;
+use clear_schema::fault::OpenFault;
+use sqlite::FileStore;
 use sqlite_disk::{Start, Unknown};
+use sqlite_std_file::FileFrom;
+use std::fs;
+
+// The greatest length that a close leaves of a store's log, in bytes.
+const LOG_OF_A_CLOSE: u64 = 41;
 
 /// Does what the words of the command line ask for, and gives the status with which the program
 /// ends: 0 where all was done. Why it was not is told on standard error.
@@ -31,7 +38,7 @@ fn do_task(rt: &HostRuntime) -> Result<(), Stop> {
             directory,
             day,
         } => return stream(rt, &rates, &directory, day),
-        Task::OnStore { store, work } => work_at(rt, store, work, Unknown)?,
+        Task::OnStore { store, work } => work_at(rt, store, work, Unknown, Unknown)?,
     };
     say(&mut rt.stdout(), said.as_str())
 }
@@ -58,11 +65,17 @@ fn stream(
 }
 
 // Makes or opens the store at a path, works on it, and closes it.
-fn work_at<S: Start>(rt: &HostRuntime, store: &str, work: Work, start: S) -> Result<String, Stop> {
+fn work_at<S: Start>(
+    rt: &HostRuntime,
+    store: &str,
+    work: Work,
+    start: S,
+    again: S,
+) -> Result<String, Stop> {
     let opened = match &work {
         Work::Init { rates } => create_office(rt, store, rates, start),
         Work::Serve { .. } | Work::Import { .. } | Work::Statement { .. } => {
-            open_office(rt, store, start)
+            open_whole(rt, store, start, again)
         }
     };
     let mut opened = match opened {
@@ -70,8 +83,42 @@ fn work_at<S: Start>(rt: &HostRuntime, store: &str, work: Work, start: S) -> Res
         Err(fault) => return Err(Stop::from(fault)),
     };
     let said = do_work(rt, &mut opened, store, work, &mut rt.stderr());
-    // Copies the log into the database's file. What was accepted stands in the log too, so a fault
-    // of the copy isn't told.
-    let _ = opened.office.into_store().into_connection().close();
+    close(opened);
     said
+}
+
+// Opens the store at a path, with all that was accepted in its own file: where its log is longer
+// than a close leaves it, as a kill does, the store is closed and opened once more.
+fn open_whole<S: Start>(
+    rt: &HostRuntime,
+    store: &str,
+    start: S,
+    again: S,
+) -> Result<Opened<FileStore<FileFrom<S>>>, OpenFault> {
+    let opened = match open_office(rt, store, start) {
+        Ok(opened) => opened,
+        Err(fault) => return Err(fault),
+    };
+    if !has_long_log(rt, store) {
+        return Ok(opened);
+    }
+    close(opened);
+    open_office(rt, store, again)
+}
+
+// Copies the log into the database's file. What was accepted stands in the log too, so a fault of
+// the copy isn't told.
+fn close<S: Start>(opened: Opened<FileStore<FileFrom<S>>>) {
+    let _ = opened.office.into_store().into_connection().close();
+}
+
+// The log of the store at a path is longer than a close leaves it.
+fn has_long_log(rt: &HostRuntime, store: &str) -> bool {
+    let Ok(log) = format!(in rt.alloc(); "{store}-wal") else {
+        return false;
+    };
+    match fs::metadata(rt, log.as_str()) {
+        Ok(found) => found.len() > LOG_OF_A_CLOSE,
+        Err(_) => false,
+    }
 }
