@@ -13,7 +13,7 @@ use clear_money::days::Day;
 use clear_money::months::Month;
 use clear_money::numbers::{Amount, EmployerNo};
 use clear_money::rates::{RateRow, RateTable};
-use clear_requests::requests::find_request;
+use clear_ledger::requests::find_request;
 use clear_schema::fault::{Fault, OpenFault};
 use clear_schema::files::crash_and_open;
 use clear_schema::store::{Refusal, Store};
