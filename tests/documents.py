@@ -161,5 +161,55 @@ class Manual(Documents):
         self.server = None
 
 
+class ReadingList(unittest.TestCase):
+    """What docs/architecture.md says has to be believed, and in which order."""
+
+    USE = re.compile(r"use Rattle\.(\w+)\.specs\.([\w.]+)")
+
+    def setUp(self):
+        text = (ROOT / "docs/architecture.md").read_text()
+        self.text = text[text.index("## What a reader must believe"):text.index("The `Laws` modules")]
+        self.crates = {path.name for path in (ROOT / "crates").iterdir()}
+        # Each module with its place; those of a folder share one.
+        self.places = {}
+        crate = None
+        for place, word in enumerate(re.findall(r"`([^`]+)`", self.text[:self.text.index("Each uses only")])):
+            if word in self.crates:
+                crate = word
+            elif crate:
+                for path in (ROOT / f"crates/{crate}/specs").glob(f"{word}.antt"):
+                    self.places[path] = place
+
+    def test_each_module_uses_only_earlier_ones(self):
+        self.assertGreater(len(self.places), 80)
+        for path, place in self.places.items():
+            for crate, module in self.USE.findall(path.read_text()):
+                if crate in self.crates and not module.startswith("declared"):
+                    used = self.path_of(crate, module)
+                    self.assertLessEqual(self.places.get(used, 1_000_000), place, f"{path} uses {used}")
+
+    def path_of(self, crate, module):
+        """The file of a module. The last words of a path may be a name in it."""
+        names = module.rstrip(".").split(".")
+        while names:
+            path = ROOT / f"crates/{crate}/specs" / ("/".join(names) + ".antt")
+            if path.is_file():
+                return path
+            names.pop()
+        raise ValueError(f"{crate} has no module {module}")
+
+    def test_the_kits_modules_are_named(self):
+        used = {}
+        for path in self.places:
+            for crate, module in self.USE.findall(path.read_text()):
+                if crate not in self.crates and not module.startswith("declared"):
+                    used.setdefault(crate, set()).add(module.rstrip(".").removesuffix(".TheVariants"))
+        said = self.text[self.text.index("Each uses only"):]
+        for crate, modules in used.items():
+            named = re.search(rf"`{crate}`:\s([^;]+)", said)
+            self.assertTrue(named, f"{crate}: {sorted(modules)}")
+            self.assertEqual(set(re.findall(r"`([^`]+)`", named[1])), modules, crate)
+
+
 if __name__ == "__main__":
     run_tests()
