@@ -12,6 +12,7 @@ import random
 import re
 import signal
 import socket
+import sqlite3
 import stat
 import sys
 import threading
@@ -26,6 +27,7 @@ from program_under_test import DAY, run_tests  # noqa: E402
 
 LENGTH = re.compile(rb"\r\nContent-Length: ([0-9]+)")
 OWED = b"GET /employers/1001/owed HTTP/1.1\r\nHost: office\r\nOffice-Key: desk\r\n\r\n"
+SECOND = '{"employer":1002,"name":"Bau Süd","start":"2024-01"}'
 MAX_BODY = 1_048_576
 
 
@@ -141,6 +143,32 @@ class Clients(program.Program):
         # The last one isn't cut off for others.
         peers[-1].close()
         self.assertEqual(self.ended(server), (0, "served 100\n", ""))
+
+    def test_two_clients_in_turn(self):
+        self.filled()
+        server = self.serving(100)
+        peers = []
+        begun = time.monotonic()
+        for _ in range(100):
+            # Each of the two keeps the connection of its last call, and makes a new one all the same.
+            peers.append(self.connect(server))
+            self.addCleanup(peers[-1].close)
+            self.assertIn(b'"charged":300010', ask(peers[-1], OWED))
+            if len(peers) > 2:
+                peers[-3].close()
+        self.assertLess(time.monotonic() - begun, 3)
+        peers[-1].close()
+        self.assertEqual(self.ended(server), (0, "served 100\n", ""))
+
+    def test_a_new_connection_has_a_second_for_its_first_byte(self):
+        self.filled()
+        server = self.serving(2)
+        with self.connect(server) as late, self.connect(server) as other:
+            other.sendall(OWED)
+            time.sleep(0.4)
+            self.assertIn(b'"charged":300010', ask(late, OWED))
+            self.assertIn(b'"charged":300010', read_answer(other))
+        self.assertEqual(self.ended(server), (0, "served 2\n", ""))
 
     def test_two_clients_at_once(self):
         self.filled()
@@ -299,6 +327,38 @@ class Stops(program.Program):
             with os.fdopen(writing, "wb") as closed:
                 self.expect(words, 3, "", "fault stream\n", stdout=closed, restore_signals=False)
         self.expect(["init", "new.db", "rates.toml"], 3, "", "rule 43 WrongVersion 0\n")
+
+    def test_a_start_brings_the_log_over(self):
+        self.filled()
+        server = self.serving(9)
+        with self.connect(server) as peer:
+            self.assertIn(b'{"done":true}', ask(peer, post("/employers", 2, SECOND)))
+            server.send_signal(signal.SIGINT)
+            self.ended(server)
+        self.assertEqual(self.firms(), [1001])
+        self.assertEqual(self.run_program("statement", "fund.db", DAY, "1001")[0], 0)
+        self.assertEqual(self.firms(), [1001, 1002])
+        server = self.serving(9)
+        with self.connect(server) as peer:
+            self.assertIn(b'{"new":2,"repeats":0}', ask(peer, post("/bank", 3, BANK)))
+            server.kill()
+            server.communicate()
+        again = self.serving(9)
+        with self.connect(again) as peer:
+            self.assertIn(b'"credited":350000', ask(peer, OWED))
+            again.kill()
+            again.communicate()
+        self.assertEqual(self.firms("SELECT count(*) FROM bank"), [2])
+
+    def firms(self, query="SELECT no FROM employers ORDER BY no"):
+        """What the file of the store says by itself, without its log."""
+        copy = self.write("copy.db", (self.folder / "fund.db").read_bytes())
+        with sqlite3.connect(copy) as store:
+            found = [row[0] for row in store.execute(query)]
+        store.close()
+        for left in self.folder.glob("copy.db*"):
+            left.unlink()
+        return found
 
     def test_a_kill_while_a_store_is_made(self):
         moments = random.Random(1)
