@@ -25,6 +25,8 @@ FILE = (
 )
 REQUESTS = [
     ("POST", "/employers", '{"employer":1001,"name":"Bau Nord","start":"2024-01"}'),
+    # Refused: behind a refusal the office asks its store whether it still stands.
+    ("POST", "/employers", '{"employer":1001,"name":"Bau Nord","start":"2024-01"}'),
     ("POST", "/employers/1001/reports/2024-01", '{"lines":[{"gross":1000000,"worker":7}]}'),
     ("POST", "/employers/1001/reports/2024-02", '{"lines":[{"gross":500050,"worker":7}]}'),
     ("POST", "/bank", FILE),
@@ -33,6 +35,7 @@ REQUESTS = [
 FAILED = b'{"detail":"","name":"Failed","rule":42}'
 ANSWERS = [
     b'{"done":true}',
+    b'{"detail":"","name":"EmployerExists","rule":12}',
     b'{"charge":200000,"version":1}',
     b'{"charge":100010,"version":1}',
     b'{"new":2,"repeats":0}',
