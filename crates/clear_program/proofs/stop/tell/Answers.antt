@@ -5,4 +5,4 @@ use Rattle.clear_program.proofs.stop.tell.Goals as goal
 
 pub returns-in-Err : goal.returns-in-Err
 returns-in-Err g c =
-    (no_memory, inr refl, c.status.ensures, subst (AppendsFront (g.E.Write.contents c.args.errors.now) (g.E.Write.contents c.write_front.new.errors)) (sym memory_line) c.write_front.ensures)
+    (no_memory, inr refl, c.status-in-Err.ensures, subst (AppendsFront (g.E.Write.contents c.args.errors.now) (g.E.Write.contents c.write_front-in-Err.new.errors)) (sym memory_line) c.write_front-in-Err.ensures)
