@@ -6,6 +6,7 @@ PROGRAM is crates/clear_app/out/clear_app where it isn't given, as `rt ci` leave
 `./clearing`, beside `examples`. Only the port is another one, which is free. It needs bash, curl and sqlite3.
 """
 
+import contextlib
 import os
 import re
 import shutil
@@ -34,6 +35,12 @@ def indented_blocks(text):
             blocks.append(block)
             block = []
     return blocks
+
+
+def end_all(shell):
+    """Ends what a shell has left running, if anything."""
+    with contextlib.suppress(ProcessLookupError):
+        os.killpg(shell.pid, signal.SIGKILL)
 
 
 def is_whole(command):
@@ -91,7 +98,7 @@ class Readme(Documents):
             try:
                 output, errors = running.communicate(timeout=60)
             finally:
-                os.killpg(running.pid, signal.SIGKILL)
+                end_all(running)
         self.assertEqual(output.decode(), "".join(wanted), errors.decode())
 
 
@@ -107,7 +114,7 @@ class Manual(Documents):
                     self.follow(self.with_port(command), self.with_port(printed))
                 self.end_server()
             finally:
-                os.killpg(self.shell.pid, signal.SIGKILL)
+                end_all(self.shell)
 
     def follow(self, command, printed):
         if command.startswith("./clearing serve"):
