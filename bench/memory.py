@@ -7,10 +7,11 @@ It starts the built program (`./clearing`'s, or the one named) once for each all
 one refused, and sends the requests of a first account one after another. A request that is answered
 that there is no memory is sent again, and must then have the answer that it has with ample memory:
 so nothing was done for it before. The records lie on disks in memory, which keep a copy of what is
-synced: where there is no memory for that, it is a fault of the store, and then each further request
-must be answered that the office has failed. A run with nothing refused comes first: it counts the
+synced: where there is no memory for that, it is a fault of the store, which must end the stream: no
+further request is answered. A run with nothing refused comes first: it counts the
 allocations, and must be served whole. It needs gcc.
 """
+import contextlib
 import os
 import subprocess
 import sys
@@ -32,7 +33,6 @@ REQUESTS = [
     ("POST", "/bank", FILE),
     ("GET", "/employers/1001/owed", ""),
 ]
-FAILED = b'{"detail":"","name":"Failed","rule":42}'
 ANSWERS = [
     b'{"done":true}',
     b'{"detail":"","name":"EmployerExists","rule":12}',
@@ -73,6 +73,10 @@ def run(program, shim, refused):
     failed = False
     for number, (parts, wanted) in enumerate(zip(REQUESTS, ANSWERS), 1):
         got = ask(process, number, parts)
+        if failed:
+            if got is not None:
+                sys.exit(f"allocation {refused}, request {number}, behind a fault of the store: {got}")
+            continue
         if got is not None and b'"rule":40' in got:
             told += 1
             got = ask(process, number, parts)
@@ -81,11 +85,12 @@ def run(program, shim, refused):
             if errors == b"rule 40 Memory\n" and process.wait() == 3:
                 return "ended" if number > 1 else "unbegun", told, errors
             sys.exit(f"allocation {refused}, request {number}: no answer, {errors}")
-        if not failed and b'"rule":41' in got:
+        if b'"rule":41' in got:
             failed = True
-        elif got != (FAILED if failed else wanted):
+        elif got != wanted:
             sys.exit(f"allocation {refused}, request {number}: {got}")
-    process.stdin.close()
+    with contextlib.suppress(BrokenPipeError):
+        process.stdin.close()
     errors = process.stderr.read()
     process.wait()
     return "failed" if failed else "served", told, errors
@@ -126,7 +131,7 @@ def main():
     told = sum(told for _, told, _ in runs)
     print(f"{count} allocations, each refused once:")
     print(f"  {unbegun} times the program ended with `rule 40 Memory` before its first answer, {ended} times later;")
-    print(f"  {failed} times a disk in memory could not be synced: rule 41, and then rule 42;")
+    print(f"  {failed} times a disk in memory could not be synced: rule 41, which ends the stream;")
     print(f"  {told} requests were answered with rule 40, and sent again as with ample memory;")
     print("  every other request was answered as with ample memory at once.")
 
