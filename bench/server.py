@@ -25,7 +25,7 @@ entitlement = 1425
 """
 # How many connections a server is told to take: more than come.
 CONNECTIONS = 1_000_000
-# A server drops a peer that is silent for 10 seconds.
+# The peer drops a connection that is silent for 10 seconds, the program one that is for 30.
 SILENCE = 5
 # So many seconds a store may take to open.
 OPENING = 300

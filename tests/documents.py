@@ -168,6 +168,49 @@ class Manual(Documents):
         self.server = None
 
 
+class Plans(unittest.TestCase):
+    """The kit keeps the plans of so many texts a connection, and then makes a plan in the place of the oldest."""
+
+    MOST = 64
+    VERBS = "SELECT|INSERT|UPDATE|DELETE|CREATE|DROP|ALTER|REPLACE|WITH|PRAGMA|BEGIN|COMMIT|ROLLBACK|SAVEPOINT|RELEASE"
+    TEXT = re.compile(rf'"((?:{VERBS})\b(?:[^"\\]|\\.)*)"', re.S)
+
+    def texts(self, crates):
+        """The different statements in the sources of these crates."""
+        sources = (path.read_text() for crate in crates for path in (ROOT / "crates" / crate / "src").rglob("*.rt"))
+        return {re.sub(r"\\\n\s*", "", text) for source in sources for text in self.TEXT.findall(source)}
+
+    def test_each_statement_keeps_its_plan(self):
+        uses = dict(re.findall(r"^(\w+):(.*)$", (ROOT / "crates.txt").read_text(), re.M))
+        seen, crates = set(), ["clear_app"]
+        while crates:
+            crate = crates.pop()
+            if crate in uses and crate not in seen:
+                seen.add(crate)
+                crates += uses[crate].split()
+        texts = self.texts(seen)
+        self.assertGreater(len(texts), 30)
+        # With the empty text by which an office asks whether its store still stands.
+        self.assertLess(len(texts) + 1, self.MOST)
+
+
+class Promises(unittest.TestCase):
+    """Each test that docs/promises.md names is there."""
+
+    def test_what_is_only_tested_names_its_tests(self):
+        text = (ROOT / "docs/promises.md").read_text()
+        text = text[text.index("| Only tested | By |"):text.index("## What is trusted")]
+        rows = re.findall(r"^\| (.*) \| (.*) \|$", text, re.M)[1:]
+        self.assertGreater(len(rows), 20)
+        for what, by in rows:
+            names = re.findall(r"`([\w/]+\.\w+)(?:: ([\w.]+))?`", by)
+            self.assertTrue(names, what)
+            for path, test in names:
+                content = (ROOT / path).read_text()
+                for name in filter(None, test.split(".")):
+                    self.assertRegex(content, rf"(?:class|def|fn) {name}\b", what)
+
+
 class ReadingList(unittest.TestCase):
     """What docs/architecture.md says has to be believed, and in which order."""
 

@@ -339,6 +339,25 @@ class Serve(Program):
         self.assertIn(b'{"done":true}', self.send(again, REGISTRATION))
         self.assertEqual(self.ended(again), (0, "served 1\n", ""))
 
+    def test_a_kept_reply_that_no_request_has(self):
+        self.filled()
+        # Of a registration that is done: a kind that there isn't, and a number that its kind doesn't have.
+        for column, value, right in (("kind", 9, 1), ("c", 1, 0)):
+            self.set_reply(column, value)
+            server = self.serving(1)
+            self.assertIn(b'{"detail":"","name":"Store","rule":41}', self.send(server, REGISTRATION))
+            self.assertEqual(self.ended(server), (0, "served 1\n", "rule 41 Store\n"))
+            self.set_reply(column, right)
+        server = self.serving(1)
+        self.assertIn(b'{"done":true}', self.send(server, REGISTRATION))
+        self.assertEqual(self.ended(server), (0, "served 1\n", ""))
+
+    def set_reply(self, column, value):
+        """Writes a column of the request that the clerk sent first. Nobody else may write a store, so this damages it."""
+        with sqlite3.connect(self.folder / "fund.db") as store:
+            store.execute(f"UPDATE requests SET {column} = ? WHERE caller = 0 AND number = 1", (value,))
+        store.close()
+
     def test_a_peer_that_goes_on_sending_reads_its_answer(self):
         self.init()
         server = self.serving(1)

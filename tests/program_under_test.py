@@ -92,13 +92,13 @@ class ProgramUnderTest(unittest.TestCase):
 
     def connect(self, server):
         """A connection, as soon as the server takes one."""
-        for _ in range(500):
+        for _ in range(1_500):
             try:
                 return socket.create_connection(("127.0.0.1", server.port), timeout=30)
             except ConnectionRefusedError:
                 self.assertIsNone(server.poll(), "the server has ended")
                 time.sleep(0.02)
-        raise AssertionError("no connection in 10 seconds")
+        raise AssertionError("no connection in 30 seconds")
 
     def send(self, server, requests):
         """What a peer reads that sends these bytes, ends its side, and reads to the end."""

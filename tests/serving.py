@@ -3,9 +3,10 @@
     python3 tests/serving.py [PROGRAM]
 
 PROGRAM is crates/clear_app/out/clear_app where it isn't given, as `rt ci` leaves it. No test waits for more than some
-40 seconds, whatever the program does.
+40 seconds where the program does as it should, and none for more than 60 where it doesn't.
 """
 
+import contextlib
 import http.client
 import os
 import random
@@ -22,7 +23,7 @@ from concurrent.futures import ThreadPoolExecutor
 # No __pycache__ is left beside the sources.
 sys.dont_write_bytecode = True
 import program  # noqa: E402
-from program import BANK, HEADER, JANUARY, REGISTRATION, post  # noqa: E402
+from program import BANK, FEBRUARY, HEADER, JANUARY, REGISTRATION, post  # noqa: E402
 from program_under_test import DAY, run_tests  # noqa: E402
 
 LENGTH = re.compile(rb"\r\nContent-Length: ([0-9]+)")
@@ -47,20 +48,39 @@ def ask(peer, request):
     return read_answer(peer)
 
 
-def trickle(peer, data, pause):
-    """Sends a byte, waits, and so on, until the other side ends the connection or 40 seconds are over."""
+def trickle(peer, pieces, pause):
+    """Sends a piece, waits for an answer or so long, and so on. It is over once the other side ends the connection,
+    after 40 seconds, or with the last piece, behind which this side ends."""
     until = time.monotonic() + 40
     try:
-        for byte in data:
-            peer.sendall(bytes([byte]))
+        for piece in pieces:
+            peer.sendall(piece)
             peer.settimeout(pause)
             try:
                 if peer.recv(65536) == b"" or time.monotonic() > until:
                     return
             except TimeoutError:
                 pass
+        peer.shutdown(socket.SHUT_WR)
     except OSError:
         pass
+
+
+def go_on(peer, data, pause):
+    """Sends this again and again, and reads nothing, until the connection is reset or 40 seconds are over."""
+    until = time.monotonic() + 40
+    with contextlib.suppress(OSError):
+        while time.monotonic() < until:
+            peer.sendall(data)
+            time.sleep(pause)
+
+
+def bytes_of(data):
+    return [data[at:at + 1] for at in range(len(data))]
+
+
+def halves(*requests):
+    return [half for request in requests for half in (request[:50], request[50:])]
 
 
 class Kept:
@@ -120,6 +140,49 @@ class Clients(program.Program):
                 self.assertIn(b'{"done":true}', ask(first, REGISTRATION[50:]))
                 self.assertIn(b'"version":1', ask(other, JANUARY))
         self.assertEqual(self.ended(server), (0, "served 2\n", ""))
+
+    def test_a_request_that_came_in_part_with_the_one_before_has_begun(self):
+        self.init()
+        server = self.serving(2)
+        with self.connect(server) as first:
+            self.assertIn(b'{"done":true}', ask(first, REGISTRATION + JANUARY[:50]))
+            with self.connect(server) as other:
+                time.sleep(1.5)
+                self.assertIn(b'"version":1', ask(first, JANUARY[50:]))
+                self.assertIn(b'"charged":200000', ask(other, OWED))
+        self.assertEqual(self.ended(server), (0, "served 2\n", ""))
+
+    def test_a_connection_that_its_answer_ends_keeps_nobody_waiting(self):
+        self.init()
+        server = self.serving(2)
+        with self.connect(server) as first:
+            last = REGISTRATION.replace(b"\r\n\r\n", b"\r\nConnection: close\r\n\r\n")
+            self.assertIn(b'{"done":true}', ask(first, last))
+            begun = time.monotonic()
+            with self.connect(server) as other:
+                self.assertIn(b'"version":1', ask(other, JANUARY))
+                self.assertLess(time.monotonic() - begun, 1)
+        self.assertEqual(self.ended(server), (0, "served 2\n", ""))
+
+    def test_the_next_connection_is_waited_for(self):
+        self.init()
+        server = self.serving(2)
+        with self.connect(server) as first:
+            self.assertIn(b'{"done":true}', ask(first, REGISTRATION))
+            # Meanwhile others are looked for.
+            time.sleep(0.2)
+        time.sleep(0.3)
+        self.assertIsNone(server.poll())
+        self.assertIn(b'"version":1', self.send(server, JANUARY))
+        self.assertEqual(self.ended(server), (0, "served 2\n", ""))
+
+    def test_a_peer_that_parts_before_its_answers(self):
+        self.filled()
+        server = self.serving(2)
+        with self.connect(server) as peer:
+            peer.sendall(OWED * 500)
+        self.assertIn(b'"charged":300010', self.send(server, OWED))
+        self.assertEqual(self.ended(server), (0, "served 2\n", "fault net\n"))
 
     def test_the_last_connection_is_not_cut_off(self):
         self.init()
@@ -190,29 +253,58 @@ class Clients(program.Program):
 
 
 class Slow(program.Program):
+    """They are served by an office each, side by side: the slowest ends after some 32 seconds."""
+
+    BANK = post("/bank", 7, HEADER + "\n" * 1_000)
+    SLOWLY = halves(REGISTRATION, JANUARY, FEBRUARY, OWED)
+    # What a peer sends at once, what piece by piece, so many seconds apart; what is told, and between which seconds.
+    KINDS = {
+        "pause": (REGISTRATION[:40], [], 0, "fault net\n", 8, 20),
+        "head": (b"", bytes_of(b"GET / HTTP/1.1\r\nX: " + b"x" * 1_000), 3, "fault net\n", 27, 38),
+        "body": (BANK[:200], bytes_of(BANK[200:]), 3, "fault net\n", 27, 38),
+        # Each request has its own 30 seconds.
+        "several": (b"", SLOWLY, 8, "", 31, 42),
+        "idle": (REGISTRATION, [], 0, "", 27, 38),
+        "silent": (b"", [], 0, "", 27, 38),
+    }
+
     def test_slow_peers(self):
-        """They are served by an office each, side by side: the slowest ends after some 30 seconds."""
-        body = post("/bank", 7, HEADER + "\n" * 1_000)
-        # What a peer sends at once, and then byte by byte; what is told, and between which seconds.
-        kinds = {
-            "pause": (REGISTRATION[:40], b"", "fault net\n", 8, 20),
-            "head": (b"", b"GET / HTTP/1.1\r\nX: " + b"x" * 1_000, "fault net\n", 27, 38),
-            "body": (body[:200], body[200:], "fault net\n", 27, 38),
-            "idle": (REGISTRATION, b"", "", 27, 38),
-        }
-        servers = {}
-        for kind, (at_once, rest, *_) in kinds.items():
-            self.init(f"{kind}.db")
-            server = servers[kind] = self.serving(1, store=f"{kind}.db")
-            peer = self.connect(server)
-            self.addCleanup(peer.close)
+        with ThreadPoolExecutor(len(self.KINDS) + 1) as threads:
+            kinds = [threads.submit(self.slow, kind) for kind in self.KINDS]
+            deaf = threads.submit(self.deaf)
+        for kind in [*kinds, deaf]:
+            kind.result()
+
+    def slow(self, kind):
+        at_once, pieces, pause, told, least, most = self.KINDS[kind]
+        self.init(f"{kind}.db")
+        server = self.serving(1, store=f"{kind}.db")
+        with self.connect(server) as peer:
             peer.sendall(at_once)
-            threading.Thread(target=trickle, args=(peer, rest, 3), daemon=True).start()
+            if pieces:
+                threading.Thread(target=trickle, args=(peer, pieces, pause), daemon=True).start()
+            self.ends(kind, server, told, least, most)
+
+    def deaf(self):
+        """A peer that reads nothing has little room for answers, and after 10 seconds, or twice 10, it is cut off. Each answer
+        is a statement with some 2,120 missing months, so that the system's own buffers don't hold the answers of a stream."""
+        self.init("deaf.db")
+        server = self.serving(1, day="2200-12-31", store="deaf.db")
+        with socket.socket() as peer:
+            peer.setsockopt(socket.SOL_SOCKET, socket.SO_RCVBUF, 2_048)
+            peer.setsockopt(socket.IPPROTO_TCP, socket.TCP_MAXSEG, 536)
+            while peer.connect_ex(("127.0.0.1", server.port)) != 0:
+                self.assertIsNone(server.poll())
+                time.sleep(0.02)
+            peer.sendall(REGISTRATION)
+            asked = OWED.replace(b"/owed", b"/statement")
+            threading.Thread(target=go_on, args=(peer, asked * 100, 0), daemon=True).start()
+            self.ends("deaf", server, "fault net\n", 8, 28)
+
+    def ends(self, kind, server, told, least, most):
         begun = time.monotonic()
-        for kind, server in servers.items():
-            _, _, told, least, most = kinds[kind]
-            self.assertEqual(self.ended(server), (0, "served 1\n", told), kind)
-            self.assertTrue(least < time.monotonic() - begun < most, (kind, time.monotonic() - begun))
+        self.assertEqual(self.ended(server), (0, "served 1\n", told), kind)
+        self.assertTrue(least < time.monotonic() - begun < most, (kind, time.monotonic() - begun))
 
 
 class Bodies(program.Program):
@@ -233,6 +325,19 @@ class Bodies(program.Program):
             client.close()
         status, output, _errors = self.ended(server)
         self.assertEqual((status, output), (0, f"served {2 * len(sizes)}\n"))
+
+    def test_a_refused_peer_that_goes_on_sending_is_left_two_seconds(self):
+        self.init()
+        server = self.serving(2)
+        with self.connect(server) as peer:
+            self.assertIn(b"HTTP/1.1 400 Bad Request", ask(peer, b"no request\r\n\r\n"))
+            threading.Thread(target=go_on, args=(peer, b"x", 0.1), daemon=True).start()
+            begun = time.monotonic()
+            with self.connect(server) as other:
+                self.assertIn(b'{"done":true}', ask(other, REGISTRATION))
+            self.assertTrue(1 < time.monotonic() - begun < 5, time.monotonic() - begun)
+        status, output, _errors = self.ended(server)
+        self.assertEqual((status, output), (0, "served 2\n"))
 
     def test_the_largest_body(self):
         self.init()
@@ -327,6 +432,12 @@ class Stops(program.Program):
             with os.fdopen(writing, "wb") as closed:
                 self.expect(words, 3, "", "fault stream\n", stdout=closed, restore_signals=False)
         self.expect(["init", "new.db", "rates.toml"], 3, "", "rule 43 WrongVersion 0\n")
+
+    def test_an_end_leaves_all_in_the_file_of_the_store(self):
+        self.filled()
+        self.assertEqual(self.firms(), [1001])
+        self.expect(["import", "fund.db", DAY, "2", "bank.csv"], 0, "new 2 repeats 0\n")
+        self.assertEqual(self.firms("SELECT count(*) FROM bank"), [2])
 
     def test_a_start_brings_the_log_over(self):
         self.filled()
