@@ -31,7 +31,7 @@ COPY = os.path.join(tempfile.gettempdir(), "clearing-bench")
 CRATE = os.path.join(COPY, "crates", "bench_statement")
 PROGRAM = os.path.join(CRATE, "out", "bench_statement")
 # The program's line in crates.txt.
-LIBRARIES = "bench_statement: clear_statements clear_texts clear_book clear_account clear_bank clear_money\n"
+LIBRARIES = "bench_statement: clear_texts clear_book clear_account clear_bank clear_money\n"
 # Months, credits for contributions, and credits for interest.
 SIZES = ((240, 10_000, 0), (2_400, 100_000, 0), (2_400, 100_000, 100_000))
 # How many statements the program makes in a run.

@@ -1,1 +1,2 @@
+mod AnswerLemmas
 mod DetailLemmas

@@ -158,10 +158,13 @@ first_lines said len =
     ++ codes "\r\nContent-Length: " ++ decimal len
     ++ codes "\r\n"
 
--- an answer: the lines up to the length of its body, the fields, an empty line, and the body
--- unless the answer is bare, which tells that length all the same
+-- the head of an answer: these lines, the fields, and an empty line
+unfoldable pub head_of : Said → ℕ → Bool → List ℕ
+head_of said len close =
+    first_lines said len ++ further_field said ++ close_field close ++ codes "\r\n"
+
+-- an answer: its head, and the body unless the answer is bare, whose head tells the length of the
+-- body all the same
 unfoldable pub answer_of : Said → Bool → Bool → List ℕ
 answer_of said close bare =
-    first_lines said (length (body_of said))
-    ++ further_field said ++ close_field close
-    ++ codes "\r\n" ++ sent_body bare (body_of said)
+    head_of said (length (body_of said)) close ++ sent_body bare (body_of said)

@@ -2,13 +2,14 @@
 ghost use Rattle.std.specs.Prelude.{◌≡◌, ◌++◌, codes, IfOk, is_ok, if◌then◌else◌, string_bytes};
 ghost use Rattle.std.specs.Fmt.{decimal};
 ghost use Rattle.clear_money.specs.Texts.{day_text, month_text};
+ghost use Rattle.clear_book.specs.declared.outcomes.Answer.TheVariants.{Owed};
 ghost use Rattle.clear_book.specs.declared.rules.Rule.TheVariants.{Memory, Failed};
 ghost use Rattle.clear_answers.specs.Said.{refused_by};
 ghost use Rattle.clear_answers.specs.Answer.{framing_status, status_by, status_of, carried_text};
 ghost use Rattle.clear_answers.specs.Answer.{detail_of, quoted, refused_body, reply_body};
 ghost use Rattle.clear_answers.specs.Answer.{query_body, body_of, content_type, allow_field};
 ghost use Rattle.clear_answers.specs.Answer.{further_field, close_field, sent_body, first_lines};
-ghost use Rattle.clear_answers.specs.Answer.{answer_of};
+ghost use Rattle.clear_answers.specs.Answer.{answer_of, head_of};
 
 use crate::said::{Extra, Refused, Said};
 use clear_book::outcomes::{Answer, Reply};
@@ -164,36 +165,23 @@ fn reply_body(alloc: Global, reply: &Reply) -> Result<Vec<u8>, AllocError>
 }
 
 #[tactic(auto, unfolding(crate::specs::Answer::query_body))]
-fn query_body(alloc: Global, answer: &Answer) -> Result<Vec<u8>, AllocError>
-    ensures { IfOk result (λ body. body.items ≡ query_body answer.now) }
+fn owed_body(
+    alloc: Global,
+    charged: u64,
+    credited: u64,
+    arrears: u64,
+    prepaid: u64,
+) -> Result<Vec<u8>, AllocError>
+    ensures { IfOk result (λ body. body.items
+        ≡ query_body (Owed charged credited arrears prepaid)) }
 {
-    match answer {
-        Answer::Owed {
-            charged,
-            credited,
-            arrears,
-            prepaid,
-        } => {
-            let mut body = Vec::new(alloc);
-            append_number(&mut body, b"{\"arrears\":", *arrears)?;
-            append_number(&mut body, b",\"charged\":", *charged)?;
-            append_number(&mut body, b",\"credited\":", *credited)?;
-            append_number(&mut body, b",\"prepaid\":", *prepaid)?;
-            body.extend_from_slice(b"}")?;
-            Ok(body)
-        }
-        Answer::Text(document) => Vec::from_slice(alloc, document.as_str().as_bytes()),
-    }
-}
-
-fn body_of(alloc: Global, said: &Said) -> Result<Vec<u8>, AllocError>
-    ensures { IfOk result (λ body. body.items ≡ body_of said.now) }
-{
-    match said {
-        Said::Reply(reply) => reply_body(alloc, reply),
-        Said::Answer(answer) => query_body(alloc, answer),
-        Said::No(refused) => refused_body(alloc, refused),
-    }
+    let mut body = Vec::new(alloc);
+    append_number(&mut body, b"{\"arrears\":", arrears)?;
+    append_number(&mut body, b",\"charged\":", charged)?;
+    append_number(&mut body, b",\"credited\":", credited)?;
+    append_number(&mut body, b",\"prepaid\":", prepaid)?;
+    body.extend_from_slice(b"}")?;
+    Ok(body)
 }
 
 /// What the body of an answer is.
@@ -263,22 +251,23 @@ fn first_lines(alloc: Global, said: &Said, length: usize) -> Result<Vec<u8>, All
     Ok(text)
 }
 
-#[tactic(auto, unfolding(crate::specs::Answer::answer_of))]
-fn answer_of(alloc: Global, said: &Said, close: bool, bare: bool) -> Result<Vec<u8>, AllocError>
-    ensures { IfOk result (λ text. text.items ≡ answer_of said.now close bare) }
+/// The lines up to the empty one, which ends them.
+#[tactic(auto, unfolding(crate::specs::Answer::head_of))]
+fn head_of(alloc: Global, said: &Said, length: usize, close: bool) -> Result<Vec<u8>, AllocError>
+    ensures { IfOk result (λ head. head.items ≡ head_of said.now length close) }
 {
-    let body = body_of(alloc, said)?;
     let further = further_field(alloc, said)?;
-    let mut text = first_lines(alloc, said, body.len())?;
-    text.extend_from_slice(further.as_slice())?;
-    text.extend_from_slice(close_field(close))?;
-    text.extend_from_slice(b"\r\n")?;
-    text.extend_from_slice(sent_body(bare, body.as_slice()))?;
-    Ok(text)
+    let mut head = first_lines(alloc, said, length)?;
+    head.extend_from_slice(further.as_slice())?;
+    head.extend_from_slice(close_field(close))?;
+    head.extend_from_slice(b"\r\n")?;
+    Ok(head)
 }
 
-/// Appends the answer. `close`: the answer says that the stream ends. `bare`: it has no body. An
-/// `Err` leaves the bytes as they were.
+/// Appends the answer: its head, and the body as it is. `close`: the answer says that the stream
+/// ends. `bare`: it has no body. A document is copied once, from where it was made. An `Err` leaves
+/// the bytes as they were.
+#[tactic(auto, unfolding(crate::specs::Answer::query_body))]
 pub fn answer_bytes(
     said: &Said,
     close: bool,
@@ -288,8 +277,54 @@ pub fn answer_bytes(
     ensures { out.new.items ≡ (if is_ok result
         then out.old.items ++ answer_of said.now close bare else out.old.items) }
 {
-    let text = answer_of(*out.allocator(), said, close, bare)?;
-    out.extend_from_slice(text.as_slice())
+    match said {
+        Said::Answer(Answer::Text(document)) => {
+            append_answer(said, close, bare, document.as_str().as_bytes(), out)
+        }
+        Said::Answer(
+            Answer::Owed {
+                charged,
+                credited,
+                arrears,
+                prepaid,
+            },
+        ) => {
+            let body = owed_body(*out.allocator(), *charged, *credited, *arrears, *prepaid)?;
+            append_answer(said, close, bare, body.as_slice(), out)
+        }
+        Said::Reply(reply) => {
+            let body = reply_body(*out.allocator(), reply)?;
+            append_answer(said, close, bare, body.as_slice(), out)
+        }
+        Said::No(refused) => {
+            let body = refused_body(*out.allocator(), refused)?;
+            append_answer(said, close, bare, body.as_slice(), out)
+        }
+    }
+}
+
+/// Appends the answer, whose body is this. An `Err` leaves the bytes as they were.
+fn append_answer(
+    said: &Said,
+    close: bool,
+    bare: bool,
+    body: &[u8],
+    out: &mut Vec<u8>,
+) -> Result<(), AllocError>
+    requires { body.now ≡ body_of said.now }
+    ensures { out.new.items ≡ (if is_ok result
+        then out.old.items ++ answer_of said.now close bare else out.old.items) }
+{
+    let head = head_of(*out.allocator(), said, body.len(), close)?;
+    let before = out.len();
+    out.extend_from_slice(head.as_slice())?;
+    match out.extend_from_slice(sent_body(bare, body)) {
+        Ok(()) => Ok(()),
+        Err(error) => {
+            out.truncate(before);
+            Err(error)
+        }
+    }
 }
 
 /// The answer for want of memory, as a fixed text, which takes none.

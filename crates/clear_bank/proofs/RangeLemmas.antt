@@ -5,7 +5,8 @@ use Rattle.std.specs.Result.{result_ok, result_err}
 use Rattle.std.specs.Fmt.{decimal}
 use Rattle.csv.specs.Reading.{strip_bom}
 use Rattle.clear_money.specs.Numbers.{IsEmployerNo}
-use Rattle.clear_bank.specs.Files.{Fields, numbers, written, reference_in, value_in, employer_in, cents_in, purpose_in, note_in, or_bad, ◌>>=◌, line_of, header_fault, rows_read, unless_faulty, all_lines, after_header, record_lines, begins_with_r, is_over, records_of}
+use Rattle.clear_money.specs.Results.{◌>>=◌}
+use Rattle.clear_bank.specs.Files.{Fields, numbers, written, reference_in, value_in, employer_in, cents_in, purpose_in, note_in, or_bad, line_of, header_fault, rows_read, unless_faulty, all_lines, after_header, record_lines, begins_with_r, is_over, records_of}
 use Rattle.clear_bank.specs.Laws.{LinesAreInRange}
 use Rattle.clear_bank.specs.Ranges.{IsBankLine}
 use Rattle.clear_bank.specs.Texts.{is_reference, is_note}

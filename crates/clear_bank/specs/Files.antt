@@ -7,6 +7,7 @@ use Rattle.std.specs.List.{find, filter_map, enumerate_from, range_with_len, zip
 use Rattle.std.specs.Result.{result_ok, result_err}
 use Rattle.std.specs.Str.{bytes_eq}
 use Rattle.csv.specs.Reading.{records, default_config, strip_bom}
+use Rattle.clear_money.specs.Results.{◌>>=◌, or_fault}
 use Rattle.clear_money.specs.Texts.{day_text}
 use Rattle.clear_bank.specs.declared.fault.BankFault.{BankFault}
 use Rattle.clear_bank.specs.declared.fault.BankFault.TheVariants.{OverLimit, BadCsv}
@@ -62,15 +63,7 @@ Fields = List (List ℕ)
 
 -- the value of a field in the record of a number, or the fault that it is none
 abbrev pub or_bad : {A : Type 0} → ℕ → ℕ → Option A → Result A BankFault
-or_bad number field None = Err (BadCsv number field)
-or_bad number field (Some value) = Ok value
-
-infixl 10 ◌>>=◌
--- what follows from the value, or its fault
-abbrev pub ◌>>=◌ : {A B : Type 0}
-    → Result A BankFault → (A → Result B BankFault) → Result B BankFault
-(Ok x) >>= f = f x
-(Err fault) >>= f = Err fault
+or_bad number field value = or_fault (BadCsv number field) value
 
 -- the line that the record of a number says, or its first bad field, 0 for another number of
 -- fields

@@ -1,20 +1,13 @@
 -- Which bytes are a reference, and which are a note.
-use Rattle.std.specs.Prelude.{ℕ, Bool, List, length, nat_le, ◌==◌, ◌&&◌, not}
+use Rattle.std.specs.Prelude.{ℕ, Bool, List, length, nat_le, ◌&&◌}
 use Rattle.std.specs.List.{list_all}
 use Rattle.std.specs.Str.{is_utf8}
-
--- a byte from 0x21 to 0x7E
-abbrev pub is_visible : ℕ → Bool
-is_visible b = nat_le 0x21 b && nat_le b 0x7E
+pub use Rattle.clear_money.specs.Bytes.{is_printable, is_visible}
 
 -- 1 to 35 visible bytes
 abbrev pub is_reference : List ℕ → Bool
 is_reference bytes =
     nat_le 1 (length bytes) && nat_le (length bytes) 35 && list_all is_visible bytes
-
--- a byte from 0x20 on, but not 0x7F
-abbrev pub is_printable : ℕ → Bool
-is_printable b = nat_le 0x20 b && not (b == 0x7F)
 
 -- UTF-8 without control characters
 abbrev pub is_plain_text : List ℕ → Bool

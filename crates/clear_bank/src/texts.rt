@@ -2,11 +2,10 @@
 ghost use Rattle.std.specs.Prelude.{◌≡◌, ◌↔◌, IsTrue, IsSome, IfSome, IfOk, nat_eq, string_bytes};
 ghost use Rattle.std.specs.Cmp.{partial_equiv_from_equiv};
 ghost use Rattle.std.specs.Cmp.Lexicographic.{nat_list_eq_equiv, pointwise};
-ghost use Rattle.std.specs.List.{list_all};
 ghost use Rattle.std.specs.Str.{is_utf8};
-ghost use Rattle.clear_bank.specs.Texts.{is_visible, is_reference, is_printable, is_plain_text};
-ghost use Rattle.clear_bank.specs.Texts.{is_note};
+ghost use Rattle.clear_bank.specs.Texts.{is_note, is_plain_text, is_reference};
 
+use clear_money::bytes::{are_printable, are_visible};
 use std::alloc::{AllocError, Global};
 use std::marker::Model;
 use std::str;
@@ -185,7 +184,7 @@ fn plain_text(bytes: &[u8]) -> Option<&str>
     ensures some { IsSome result ↔ IsTrue (is_plain_text bytes.now) }
     ensures value { IfSome result (λ t. t.now ≡ bytes.now) }
 {
-    if !all_printable(bytes) {
+    if !are_printable(bytes) {
         return None;
     }
     utf8_text(bytes)
@@ -210,7 +209,7 @@ fn reference_text(bytes: &[u8]) -> Option<&str>
     if bytes.is_empty() || bytes.len() > Reference::MAX {
         return None;
     }
-    if !all_visible(bytes) {
+    if !are_visible(bytes) {
         return None;
     }
     utf8_text(bytes)
@@ -225,18 +224,4 @@ fn utf8_text(bytes: &[u8]) -> Option<&str>
         Ok(text) => Some(text),
         Err(_) => None,
     }
-}
-
-// No byte is a space or a control character, nor above 0x7E.
-fn all_visible(bytes: &[u8]) -> bool
-    ensures { result ≡ list_all is_visible bytes.now }
-{
-    bytes.iter().all(|b| *b >= 0x21 && *b <= 0x7E)
-}
-
-// No byte is a control character.
-fn all_printable(bytes: &[u8]) -> bool
-    ensures { result ≡ list_all is_printable bytes.now }
-{
-    bytes.iter().all(|b| *b >= 0x20 && *b != 0x7F)
 }

@@ -4,16 +4,17 @@ use Rattle.std.proofs.lemmas.Bool.{and_parts, false≢true, cases_order}
 use Rattle.std.proofs.lemmas.Bool.Decides.{nat_tests}
 use Rattle.std.proofs.lemmas.Slice.Eq.{bytes_eq-Decides}
 use Rattle.std.proofs.lemmas.Str.{IsUtf8-from_is_utf8, is_utf8-from_IsUtf8}
-use Rattle.std.specs.List.{range_with_len, list_all, AllByRecursion}
+use Rattle.std.specs.List.{range_with_len, list_all}
 use Rattle.std.specs.Prelude.{bytes_eq}
 use Rattle.std.specs.Str.{is_utf8}
-use Rattle.clear_money.specs.Calendar.{IsMonth}
+use Rattle.clear_money.specs.Bytes.{is_printable}
+use Rattle.clear_money.specs.Calendar.{IsMonth, months}
 use Rattle.clear_money.specs.Texts.{month_text}
 use Rattle.clear_money.specs.WrittenRate.{month_spelled}
 use Rattle.clear_money.proofs.WrittenRateLemmas.{month_spelled-none}
 use Rattle.clear_book.specs.Limits.{most_name_bytes}
-use Rattle.clear_book.specs.Texts.{IsName, IsPrintable}
-use Rattle.clear_bodies.specs.Members.{is_printable, is_name, name_in, where_so}
+use Rattle.clear_book.specs.Texts.{IsName}
+use Rattle.clear_bodies.specs.Members.{is_name, name_in, where_so}
 
 -- ---- months
 
@@ -44,7 +45,7 @@ spells text m = bytes_eq (month_text m) text
 
 -- the months are kept as a range of n, since 2,400 of them would be computed
 spelled_in : (text : List ℕ) (n : ℕ) → n ≡ 2400 → month_spelled text ≡ find (spells text) (range_with_len 24000 n)
-unfolding month_spelled
+unfolding month_spelled months
 spelled_in text n e = subst (λ (k : ℕ). month_spelled text ≡ find (spells text) (range_with_len 24000 k)) (sym e) refl
 
 spelled_by : (text : List ℕ) (m n : ℕ) → n ≡ 2400 → IsMonth m → text ≡ month_text m → month_spelled text ≡ Some m
@@ -61,24 +62,11 @@ read_is_spelled bytes text None same found only = sym (month_spelled-none text (
 
 -- ---- names
 
-all_printable : (bytes : List ℕ) → AllByRecursion IsPrintable bytes → list_all is_printable bytes ≡ true
-all_printable [] h = refl
-all_printable (x ∷ xs) h =
-    let here : is_printable x ≡ true = grind (arith, nat_tests, h.0.0, h.0.1) in
-    rw (here, all_printable xs h.1) refl
-
-printable_all : (bytes : List ℕ) → list_all is_printable bytes ≡ true → AllByRecursion IsPrintable bytes
-printable_all [] e = tt
-printable_all (x ∷ xs) e =
-    let both = and_parts (is_printable x) (list_all is_printable xs) e in
-    let here : is_printable x ≡ true = both.0 in
-    ((grind (arith, nat_tests, here), grind (arith, nat_tests, here)), printable_all xs both.1)
-
 name_tests : (bytes : List ℕ) → IsName bytes → is_name bytes ≡ true
 name_tests bytes h =
     let some : nat_le 1 (length bytes) ≡ true = grind (arith, nat_tests, h.some) in
     let few : nat_le (length bytes) most_name_bytes ≡ true = grind (arith, nat_tests, h.few) in
-    rw (some, few, is_utf8-from_IsUtf8 bytes h.text, all_printable bytes h.printable) refl
+    rw (some, few, is_utf8-from_IsUtf8 bytes h.text, h.printable) refl
 
 tests_name : (bytes : List ℕ) → is_name bytes ≡ true → IsName bytes
 tests_name bytes e =
@@ -91,7 +79,7 @@ tests_name bytes e =
       some = grind (arith, nat_tests, one.0);
       few = grind (arith, nat_tests, one.1);
       text = IsUtf8-from_is_utf8 bytes two.1;
-      printable = printable_all bytes three.1;
+      printable = three.1;
     }
 
 -- what making a name of a text answers is the name that it is

@@ -5,7 +5,8 @@ use Rattle.clear_book.specs.declared.calls.Registration.{Registration}
 use Rattle.clear_book.specs.declared.calls.WageReport.{WageReport}
 use Rattle.clear_bodies.specs.Faults.{Part, whole_body}
 use Rattle.clear_bodies.specs.Members.{employer_at, name_at, month_at, lines_at, within_at}
-use Rattle.clear_bodies.specs.Object.{◌>>=◌, body_of, also, done}
+use Rattle.clear_money.specs.Results.{◌>>=◌}
+use Rattle.clear_bodies.specs.Object.{body_of, also, done}
 
 -- the registration that the bytes are
 unfoldable pub registration_of : List ℕ → Result Registration Part

@@ -1,19 +1,16 @@
 -- What the member of a name says, where the document is an object that has it.
-use Rattle.std.specs.Prelude.{ℕ, List, [], ◌∷◌, length, codes, Bool, not, ◌&&◌, ◌==◌}
-use Rattle.std.specs.Prelude.{Option, Some, None, if◌then◌else◌, nat_le, option_and_then}
+use Rattle.std.specs.Prelude.{ℕ, List, [], ◌∷◌, length, codes, Bool, ◌&&◌}
+use Rattle.std.specs.Prelude.{Option, Some, None, if◌then◌else◌, nat_le}
 use Rattle.std.specs.List.{list_all}
 use Rattle.std.specs.Str.{is_utf8}
 use Rattle.serde_json.specs.Data.{Data, Items, no_items, item}
 use Rattle.serde_json.specs.Find.{get, as_object, as_array, as_number, as_u64, as_str}
+use Rattle.clear_money.specs.Bytes.{is_printable}
+use Rattle.clear_money.specs.Options.{◌>>=◌}
 use Rattle.clear_money.specs.WrittenRate.{month_spelled}
 use Rattle.clear_book.specs.Limits.{most_name_bytes}
 use Rattle.clear_book.specs.declared.texts.WageLine.{WageLine}
 use Rattle.clear_bodies.specs.Further.{least_further}
-
--- what follows from the value, if there is one
-infixl 10 ◌>>=◌
-abbrev pub ◌>>=◌ : {A B : Type 0} → Option A → (A → Option B) → Option B
-o >>= f = option_and_then f o
 
 -- the value, where the test holds
 abbrev pub where_so : {A : Type 0} → Bool → A → Option A
@@ -46,10 +43,6 @@ worker_at name d = number_at name d >>= within 1 999999999
 -- the number from low to high that the member is
 abbrev pub within_at : ℕ → ℕ → List ℕ → Data → Option ℕ
 within_at low high name d = number_at name d >>= within low high
-
--- the byte is that of no control character
-abbrev pub is_printable : ℕ → Bool
-is_printable byte = nat_le 32 byte && not (byte == 127)
 
 -- 1 to 60 bytes of UTF-8 without control characters
 abbrev pub is_name : List ℕ → Bool

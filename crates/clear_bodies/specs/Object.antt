@@ -5,14 +5,9 @@ use Rattle.std.specs.Str.{is_utf8}
 use Rattle.serde_json.specs.Data.{Data, Members}
 use Rattle.serde_json.specs.Find.{as_object}
 use Rattle.serde_json.specs.Read.{read as read_text}
-use Rattle.clear_bodies.specs.Faults.{Part, whole_body, listed, or_fault}
+use Rattle.clear_money.specs.Results.{◌>>=◌, or_fault}
+use Rattle.clear_bodies.specs.Faults.{Part, whole_body, listed}
 use Rattle.clear_bodies.specs.Further.{only}
-
--- what follows from the value, or its fault
-infixl 10 ◌>>=◌
-abbrev pub ◌>>=◌ : {A B : Type 0} → Result A Part → (A → Result B Part) → Result B Part
-(Ok x) >>= f = f x
-(Err part) >>= f = Err part
 
 -- the JSON document that the bytes are
 abbrev pub document : List ℕ → Result Data Part

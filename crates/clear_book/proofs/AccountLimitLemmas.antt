@@ -10,7 +10,6 @@ use Rattle.clear_bank.specs.declared.lines.Purpose.TheVariants.{Contribution, In
 use Rattle.clear_bank.specs.Lines.{same_purpose}
 use Rattle.clear_account.specs.Account.{credited}
 use Rattle.clear_account.specs.declared.entries.Credit.{Credit}
-use Rattle.clear_money.specs.Rates.{Rate}
 use Rattle.clear_book.specs.declared.calls.Command.{Command}
 use Rattle.clear_book.specs.declared.calls.Command.TheVariants.{Register, Report, Correct, ImportBank}
 use Rattle.clear_book.specs.declared.rules.Limit.TheVariants.{Suspense, Credits}
@@ -18,7 +17,7 @@ use Rattle.clear_book.specs.declared.rules.Rule.TheVariants.{OverLimit}
 use Rattle.clear_book.specs.declared.rows.BankRow.{BankRow}
 use Rattle.clear_book.specs.declared.rows.CreditRow.{CreditRow}
 use Rattle.clear_book.specs.Accounts.{credit_key, credits_standing, row_credit, credits_under}
-use Rattle.clear_book.specs.Book.{Book, Entry}
+use Rattle.clear_book.specs.Book.{RateTable, Book, Entry}
 use Rattle.clear_book.specs.Judge.{own_rule}
 use Rattle.clear_book.specs.Own.ImportBank.{own_import, import_rules, is_over}
 use Rattle.clear_book.specs.Limits.{most_credits, most_suspense}
@@ -100,12 +99,12 @@ rows_within b t (Report r) own old = subst IsWithin (sym (append-nil (lines_seen
 rows_within b t (Correct c) own old = subst IsWithin (sym (append-nil (lines_seen b.entries))) old
 rows_within b t (ImportBank file) own old = import_within b t file own old
 
-pub lawful_within : (rates : List Rate) (xs : List Entry) → AreJudged rates xs → IsWithin (lines_seen xs)
+pub lawful_within : (rates : RateTable) (xs : List Entry) → AreJudged rates xs → IsWithin (lines_seen xs)
 lawful_within rates [] h = (omega arith, λ e p. omega arith)
 lawful_within rates (x ∷ xs) h =
     rows_within (record { opening = rates; entries = xs }) x.day x.command (accepted rates x xs h).1 (lawful_within rates xs h.0)
 
-pub standing_within : (rates : List Rate) (xs : List Entry) → AreJudged rates xs → IsWithin (lines_standing xs)
+pub standing_within : (rates : RateTable) (xs : List Entry) → AreJudged rates xs → IsWithin (lines_standing xs)
 standing_within rates xs h = subst IsWithin (sym (standing_seen xs)) (lawful_within rates xs h)
 
 length-among : (rows : List CreditRow) (e : ℕ) (p : Purpose) → length (credits_under rows e p) ≡ count_by (is_credit_of e p) rows
@@ -116,7 +115,7 @@ length-among (row ∷ rows) e p = told (is_credit_of e p row) (length-among rows
     told true rest sum = omega arith
     told false rest sum = omega arith
 
-pub lawful_credit_count : (rates : List Rate) (xs : List Entry) → AreJudged rates xs → (e : ℕ) (p : Purpose) → length (credits_under (credits_standing xs) e p) ≤ 100000
+pub lawful_credit_count : (rates : RateTable) (xs : List Entry) → AreJudged rates xs → (e : ℕ) (p : Purpose) → length (credits_under (credits_standing xs) e p) ≤ 100000
 lawful_credit_count rates xs h e p =
     let count = length-among (credits_standing xs) e p in
     let same : count_by (is_credit_of e p) (credits_standing xs) ≡ 0 + count_by (is_credit_of e p) (credits_of_lines (lines_standing xs)) = sum_by-with_rows credit_key (λ (r : CreditRow). cond {A = ℕ} (is_credit_of e p r) 1 0) [] (credits_of_lines (lines_standing xs)) in
@@ -156,7 +155,7 @@ module _ (e : ℕ) (p : Purpose) where
       told true rest sum count = omega (arith, rest, sum, count, h.0)
       told false rest sum count = omega (arith, rest, sum, count)
 
-  pub lawful_paid : (rates : List Rate) (xs : List Entry) → AreJudged rates xs → credited (credits_under (credits_standing xs) e p) ≤ 10000000000000000
+  pub lawful_paid : (rates : RateTable) (xs : List Entry) → AreJudged rates xs → credited (credits_under (credits_standing xs) e p) ≤ 10000000000000000
   lawful_paid rates xs h =
       let rows = credits_of_lines (lines_standing xs) in
       let sum : sum_by cents_in (credits_standing xs) ≡ 0 + sum_by cents_in rows = sum_by-with_rows credit_key cents_in [] rows in

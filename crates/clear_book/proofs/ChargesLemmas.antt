@@ -7,7 +7,6 @@ use Rattle.std.specs.Option.{option_map}
 use Rattle.std.specs.List.{range_with_len, filter_map, cons_option}
 use Rattle.clear_account.specs.declared.entries.Charge.{Charge}
 use Rattle.clear_money.specs.Calendar.{IsMonth}
-use Rattle.clear_money.specs.Rates.{Rate}
 use Rattle.clear_book.specs.declared.texts.WageLine.{WageLine}
 use Rattle.clear_book.specs.declared.calls.Command.{Command}
 use Rattle.clear_book.specs.declared.calls.WageReport.{WageReport}
@@ -15,7 +14,7 @@ use Rattle.clear_book.specs.declared.calls.Command.TheVariants.{Register, Report
 use Rattle.clear_book.specs.declared.rows.ReportRow.{ReportRow}
 use Rattle.clear_book.specs.declared.rows.WageRow.{WageRow}
 use Rattle.clear_book.specs.Accounts.{base_of, month_charge, reported_charge, book_charge, charges_of}
-use Rattle.clear_book.specs.Book.{Book, Entry, is_for, rates_of, member_of, start_of, reported_by, latest_lines, version_of, reported_version}
+use Rattle.clear_book.specs.Book.{Book, Entry, is_for, rates_of, member_of, reported_by, latest_lines, version_of, reported_version, RateTable}
 use Rattle.clear_book.specs.Judge.{own_rule}
 use Rattle.clear_book.specs.Ranges.{IsCommand}
 use Rattle.clear_book.specs.Keyed.{is_before, find_row, AllBehind, AreInOrder}
@@ -289,11 +288,11 @@ reported_right : (b : Book) (t : ℕ) (command : Command) (e m : ℕ) (lines : L
 reported_right b t (Register r) e m lines own in_range h = absurd (cc)
 reported_right b t (ImportBank file) e m lines own in_range h = absurd (cc)
 reported_right b t (Report r) e m lines own in_range h =
-    chosen_right e m r lines h (report_distinct (start_of (member_of b.entries r.employer)) (reported_version b.entries r.employer r.month) t r.month r.lines own) in_range.1
+    chosen_right e m r lines h (report_distinct (member_of b.entries r.employer) (reported_version b.entries r.employer r.month) t r.month r.lines own) in_range.1
 reported_right b t (Correct c) e m lines own in_range h =
-    chosen_right e m c.report lines h (correction_distinct (start_of (member_of b.entries c.report.employer)) (reported_version b.entries c.report.employer c.report.month) t c own) in_range.1.1
+    chosen_right e m c.report lines h (correction_distinct (member_of b.entries c.report.employer) (reported_version b.entries c.report.employer c.report.month) t c own) in_range.1.1
 
-lawful_right : (rates : List Rate) (xs : List Entry) → AreJudged rates xs → (e m : ℕ) (lines : List WageLine) → latest_lines xs e m ≡ Some lines → IsRight m lines
+lawful_right : (rates : RateTable) (xs : List Entry) → AreJudged rates xs → (e m : ℕ) (lines : List WageLine) → latest_lines xs e m ≡ Some lines → IsRight m lines
 lawful_right rates [] h e m lines is = absurd (cc)
 lawful_right rates (x ∷ xs) h e m lines is =
     ⊎_elim

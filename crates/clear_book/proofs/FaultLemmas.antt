@@ -19,7 +19,7 @@ use Rattle.clear_book.specs.declared.rules.Rule.TheVariants.{Memory, Store, Numb
 use Rattle.clear_book.specs.declared.rules.StoreCause.{StoreCause}
 use Rattle.clear_book.specs.declared.rules.StoreCause.TheVariants.{Other}
 use Rattle.clear_money.specs.Rates.{rate_in_force}
-use Rattle.clear_book.specs.Book.{Book, Entry, rates_of, member_of, start_of, employer_count, reported_version}
+use Rattle.clear_book.specs.Book.{Book, Entry, rates_of, member_of, employer_count, reported_version}
 use Rattle.clear_book.specs.Checks.{when, first_of}
 use Rattle.clear_book.specs.Judge.{Verdict, new_reply, kept_reply, an_answer, a_refusal, outcome_of, day_back, judge, judged_do, judged_ask, said_before, own_rule, own_query}
 use Rattle.clear_book.specs.Machine.{Goes}
@@ -82,10 +82,10 @@ own_other b t (Register r) =
     first_other (register_rules (is_some (member_of b.entries r.employer)) (employer_count b.entries) (is_some (rate_in_force (rates_of b) r.start)))
     (when_other _ _ refl, (when_other _ _ refl, (when_other _ _ refl, tt)))
 own_other b t (Report r) =
-    first_other (report_rules (start_of (member_of b.entries r.employer)) (reported_version b.entries r.employer r.month) t r.month r.lines)
+    first_other (report_rules (member_of b.entries r.employer) (reported_version b.entries r.employer r.month) t r.month r.lines)
     (when_other _ _ refl, (when_other _ _ refl, (when_other _ _ refl, (exists_other _, (twice_other _, (when_other _ _ refl, (when_other _ _ refl, tt)))))))
 own_other b t (Correct c) =
-    first_other (correct_rules (start_of (member_of b.entries c.report.employer)) (reported_version b.entries c.report.employer c.report.month) t c)
+    first_other (correct_rules (member_of b.entries c.report.employer) (reported_version b.entries c.report.employer c.report.month) t c)
     (when_other _ _ refl, (when_other _ _ refl, (when_other _ _ refl, (stale_other (reported_version b.entries c.report.employer c.report.month) c.version, (twice_other _, (when_other _ _ refl, (when_other _ _ refl, (when_other _ _ refl, tt))))))))
 own_other b t (ImportBank file) =
     first_other (import_rules (lines_of_rows (lines_seen b.entries)) (rows_brought b.entries (lines_seen b.entries) file) (suspense_count (lines_standing b.entries)) (credit_count (lines_standing b.entries)) t file)

@@ -1,6 +1,6 @@
 -- The tables of a book, after a bank file more.
 use Rattle.std.proofs.Common.{◌≡◌, ℕ, List, [], ◌∷◌, ◌++◌, None, cond, refl, sym, ap, ◌∙◌, subst, arith}
-use Rattle.std.proofs.lemmas.List.{length-append}
+use Rattle.std.proofs.lemmas.List.{append-nil, length-append}
 use Rattle.std.proofs.lemmas.List.Sums.{sum_by-cons}
 use Rattle.std.specs.Option.{option_map}
 use Rattle.clear_book.specs.declared.calls.Caller.{Caller}
@@ -11,7 +11,7 @@ use Rattle.clear_book.specs.declared.rows.BankRow.{BankRow}
 use Rattle.clear_book.specs.declared.rows.CreditRow.{CreditRow}
 use Rattle.clear_book.specs.declared.rows.Change.TheVariants.{AddBankLines}
 use Rattle.clear_book.specs.Accounts.{credit_key}
-use Rattle.clear_book.specs.Book.{Book, Entry, entry, entry_under, newer, is_registration, latest_lines}
+use Rattle.clear_book.specs.Book.{Book, Entry, rates_of, entry, entry_under, newer, is_registration, latest_lines}
 use Rattle.clear_book.specs.Judge.{Verdict, new_reply, judge}
 use Rattle.clear_book.specs.Keyed.{find_row, with_rows, AreOnce}
 use Rattle.clear_book.specs.Lines.{lines_seen, lines_standing, rows_brought, credits_of_lines}
@@ -63,7 +63,7 @@ module _ (b : Book) (t : Tables) (stands : Stands b t) (caller : Caller) (number
 
   imported_tables : Stands (appended b import) (noted import (changed (AddBankLines rows) t))
   imported_tables = record {
-    rates = stands.rates;
+    rates = stands.rates ∙ sym (append-nil (rates_of b));
     day = refl;
     entries = omega (arith, stands.entries);
     employers = λ e. stands.employers e;
@@ -84,7 +84,7 @@ module _ (b : Book) (t : Tables) (stands : Stands b t) (caller : Caller) (number
     requests = requests_found b t stands import no_number;
     requests_in_order = requests_still_in_order b t stands import no_number;
     serial = omega (arith, stands.serial, length-append seen rows);
-    unfilled = stands.unfilled;
+    unfilled = let unfilled = stands.unfilled in record { claims = unfilled.claims; lists = unfilled.lists; runs = unfilled.runs; reminders = unfilled.reminders; last_claim = unfilled.last_claim; last_list = unfilled.last_list; last_run = unfilled.last_run };
   }
 
   pub Stands-imported : (new : List BankRow) → new ≡ rows → Stands (step b (Do caller number day (ImportBank file))) (noted import (changed (AddBankLines new) t))

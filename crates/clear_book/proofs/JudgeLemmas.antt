@@ -37,6 +37,6 @@ new_means command true None None false None reply said h =
 
 -- so it is with a command on a book
 pub unrefused : (b : Book) (caller : Caller) (number day : ℕ) (command : Command) (reply : Reply) → judge b (Do caller number day command) ≡ new_reply reply
-    → Unrefused (may_do caller command) (entry_under b.entries caller number) (day_back (ledger_day b.entries) day) (is_full (length b.entries)) (own_rule b day command) (reply_to b command) reply
+    → Unrefused (may_do caller command) (entry_under b.entries caller number) (day_back (ledger_day b.entries) day) (is_full (length b.entries)) (own_rule b day command) (reply_to b day command) reply
 unrefused b caller number day command reply h =
-    new_means command (may_do caller command) (entry_under b.entries caller number) (day_back (ledger_day b.entries) day) (is_full (length b.entries)) (own_rule b day command) (reply_to b command) reply h
+    new_means command (may_do caller command) (entry_under b.entries caller number) (day_back (ledger_day b.entries) day) (is_full (length b.entries)) (own_rule b day command) (reply_to b day command) reply h

@@ -43,7 +43,7 @@ either false b h = inr h
 less : (a b : ℕ) → nat_lt a b ≡ true → a < b
 less a b h = grind (arith, nat_tests)
 
-first_less : (a b : ℕ) (k l : List ℕ) → a < b → is_before (a ∷ k) (b ∷ l) ≡ true
+pub first_less : (a b : ℕ) (k l : List ℕ) → a < b → is_before (a ∷ k) (b ∷ l) ≡ true
 first_less a b k l h = grind (arith, nat_tests)
 
 first_same : (a : ℕ) (k l : List ℕ) → is_before k l ≡ true → is_before (a ∷ k) (a ∷ l) ≡ true

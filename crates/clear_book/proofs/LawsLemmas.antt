@@ -2,7 +2,7 @@
 use Rattle.std.proofs.Common.{◌≡◌, ℕ, ◌≤◌, List, Some, length, refl, arith}
 use Rattle.clear_bank.specs.declared.lines.Purpose.TheVariants.{Contribution, Interest}
 use Rattle.clear_book.specs.declared.texts.WageLine.{WageLine}
-use Rattle.clear_book.specs.Book.{Book, latest_lines}
+use Rattle.clear_book.specs.Book.{Book, rates_of, latest_lines}
 use Rattle.clear_book.specs.Laws.{IsSmall}
 use Rattle.clear_book.specs.Machine.{IsLawful}
 use Rattle.clear_book.proofs.LimitsLemmas.{lawful_few, lawful_rates, lawful_entries, few_base, few_charge, charge_small, charged_small}
@@ -17,7 +17,7 @@ lawful_small b h =
     let few = lawful_few b.opening b.entries h in
     let rates = (lawful_rates b.opening b.entries h).ranges in
     let few_serials : length (lines_seen b.entries) ≤ 500000000000 = omega (arith, seen-few b.entries, lawful_entries b.opening b.entries h) in
-    let charge = λ (e m : ℕ) (lines : List WageLine) (is : latest_lines b.entries e m ≡ Some lines). few_charge b.opening m lines rates (few e m lines is) in
+    let charge = λ (e m : ℕ) (lines : List WageLine) (is : latest_lines b.entries e m ≡ Some lines). few_charge (rates_of b) m lines rates (few e m lines is) in
     record {
       entries = lawful_entries b.opening b.entries h;
       lines = few;

@@ -16,6 +16,7 @@ pub mod LimitsLemmas
 pub mod LinesLemmas
 pub mod ListLemmas
 pub mod OneTableLemmas
+pub mod PiecesLemmas
 pub mod RatesLemmas
 pub mod ReferenceLemmas
 pub mod RepeatLemmas
@@ -27,3 +28,4 @@ pub mod SetOffLemmas
 pub mod TablesLemmas
 pub mod VersionLemmas
 pub mod WagesLemmas
+pub mod WorkersLemmas

@@ -1,11 +1,13 @@
 -- The limits of a lawful book, and that runs keep a book lawful.
-use Rattle.std.proofs.Common.{◌≡◌, ℕ, zero, suc, ◌+◌, ◌*◌, ◌≤◌, ◌⊎◌, List, [], ◌∷◌, length, Option, Some, None, Bool, true, false, cond, ◌||◌, nat_le, nat_lt, sum_by, refl, sym, ap, ◌∙◌, subst, arith, inl, inr, ⊎_elim}
+use Rattle.std.proofs.Common.{◌≡◌, ℕ, zero, suc, ◌+◌, ◌*◌, ◌≤◌, ◌⊎◌, List, [], ◌∷◌, ◌++◌, length, Option, Some, None, Bool, true, false, cond, ◌||◌, nat_le, nat_lt, sum_by, refl, sym, ap, ◌∙◌, subst, arith, inl, inr, ⊎_elim}
 use Rattle.std.proofs.lemmas.Bool.Decides.{nat_tests}
+use Rattle.std.proofs.lemmas.List.{append-nil}
 use Rattle.std.proofs.lemmas.List.Sums.{sum_by-cons}
 use Rattle.std.specs.Option.{option_map_or}
 use Rattle.std.specs.List.{AllByRecursion, list_any, range_with_len, filter_map, cons_option}
 use Rattle.clear_account.specs.Account.{charged}
 use Rattle.clear_account.specs.declared.entries.Charge.{Charge}
+use Rattle.clear_money.specs.Calendar.{months}
 use Rattle.clear_money.specs.Rates.{Rate, IsRate, rate_in_force, later_row, contribution_of}
 use Rattle.clear_book.specs.declared.texts.WageLine.{WageLine}
 use Rattle.clear_book.specs.declared.calls.Command.{Command}
@@ -18,7 +20,7 @@ use Rattle.clear_book.specs.declared.rules.Rule.TheVariants.{Memory, OverLimit, 
 use Rattle.clear_book.specs.declared.outcomes.Outcome.{Outcome}
 use Rattle.clear_book.specs.declared.outcomes.Outcome.TheVariants.{Refused}
 use Rattle.clear_book.specs.Accounts.{base_of, contribution_of_lines, month_charge, reported_charge, book_charge, charges_of, months}
-use Rattle.clear_book.specs.Book.{Book, Entry, is_for, rates_of, newer, reported_by, latest_lines, member_of, start_of, reported_version}
+use Rattle.clear_book.specs.Book.{Book, Entry, Member, is_for, rates_of, newer, reported_by, latest_lines, member_of, reported_version, RateTable, rates_added, rates_behind}
 use Rattle.clear_book.specs.Judge.{Verdict, new_reply, kept_reply, an_answer, a_refusal, outcome_of, judge, own_rule}
 use Rattle.clear_book.specs.Limits.{most_entries, most_lines, most_gross}
 use Rattle.clear_book.specs.Own.Lines.{has_large_gross}
@@ -49,16 +51,16 @@ none_large (l ∷ ls) h =
 at_most : (n : ℕ) → nat_lt 500 n ≡ false → n ≤ 500
 at_most n h = grind (arith, nat_tests)
 
-pub few_lines : (start version : Option ℕ) (t m : ℕ) (lines : List WageLine) → own_report start version t m lines ≡ None → AreFew lines
-few_lines start version t m lines h =
-    let none = none_applies (report_rules start version t m lines) h in record {
+pub few_lines : (member : Option Member) (version : Option ℕ) (t m : ℕ) (lines : List WageLine) → own_report member version t m lines ≡ None → AreFew lines
+few_lines member version t m lines h =
+    let none = none_applies (report_rules member version t m lines) h in record {
       few = at_most (length lines) (when-none (nat_lt most_lines (length lines)) (OverLimit Lines) none.1.1.1.1.1.0);
       small = none_large lines (when-none (has_large_gross lines) (OverLimit Gross) none.1.1.1.1.1.1.0);
     }
 
-pub few_corrected : (start version : Option ℕ) (t : ℕ) (c : Correction) → own_correct start version t c ≡ None → AreFew c.report.lines
-few_corrected start version t c h =
-    let none = none_applies (correct_rules start version t c) h in record {
+pub few_corrected : (member : Option Member) (version : Option ℕ) (t : ℕ) (c : Correction) → own_correct member version t c ≡ None → AreFew c.report.lines
+few_corrected member version t c h =
+    let none = none_applies (correct_rules member version t c) h in record {
       few = at_most (length c.report.lines) (when-none (nat_lt most_lines (length c.report.lines)) (OverLimit Lines) none.1.1.1.1.1.1.0);
       small = none_large c.report.lines (when-none (has_large_gross c.report.lines) (OverLimit Gross) none.1.1.1.1.1.1.1.0);
     }
@@ -77,18 +79,18 @@ reported_few : (b : Book) (t : ℕ) (command : Command) (e m : ℕ) (lines : Lis
 reported_few b t (Register r) e m lines own h = absurd (cc)
 reported_few b t (ImportBank file) e m lines own h = absurd (cc)
 reported_few b t (Report r) e m lines own h =
-    chosen_few (is_for e m r) r.lines lines h (few_lines (start_of (member_of b.entries r.employer)) (reported_version b.entries r.employer r.month) t r.month r.lines own)
+    chosen_few (is_for e m r) r.lines lines h (few_lines (member_of b.entries r.employer) (reported_version b.entries r.employer r.month) t r.month r.lines own)
 reported_few b t (Correct c) e m lines own h =
-    chosen_few (is_for e m c.report) c.report.lines lines h (few_corrected (start_of (member_of b.entries c.report.employer)) (reported_version b.entries c.report.employer c.report.month) t c own)
+    chosen_few (is_for e m c.report) c.report.lines lines h (few_corrected (member_of b.entries c.report.employer) (reported_version b.entries c.report.employer c.report.month) t c own)
 
 -- no check applies to an entry of a lawful book
-pub accepted : (rates : List Rate) (x : Entry) (xs : List Entry) → AreJudged rates (x ∷ xs) → (nat_le most_entries (length xs) ≡ false) × (own_rule (record { opening = rates; entries = xs }) x.day x.command ≡ None)
+pub accepted : (rates : RateTable) (x : Entry) (xs : List Entry) → AreJudged rates (x ∷ xs) → (nat_le most_entries (length xs) ≡ false) × (own_rule (record { opening = rates; entries = xs }) x.day x.command ≡ None)
 accepted rates x xs h =
     let b : Book = record { opening = rates; entries = xs } in
     let said = unrefused b x.caller x.number x.day x.command x.reply h.2 in
     (said.room, said.unruled)
 
-pub lawful_few : (rates : List Rate) (xs : List Entry) → AreJudged rates xs → (e m : ℕ) (lines : List WageLine) → latest_lines xs e m ≡ Some lines → AreFew lines
+pub lawful_few : (rates : RateTable) (xs : List Entry) → AreJudged rates xs → (e m : ℕ) (lines : List WageLine) → latest_lines xs e m ≡ Some lines → AreFew lines
 lawful_few rates [] h e m lines is = absurd (cc)
 lawful_few rates (x ∷ xs) h e m lines is =
     ⊎_elim
@@ -96,7 +98,7 @@ lawful_few rates (x ∷ xs) h e m lines is =
     (λ (old : latest_lines xs e m ≡ Some lines). lawful_few rates xs h.0 e m lines old)
     (latest_means (reported_by x.command e m) (latest_lines xs e m) lines is)
 
-pub lawful_entries : (rates : List Rate) (xs : List Entry) → AreJudged rates xs → length xs ≤ 50000000
+pub lawful_entries : (rates : RateTable) (xs : List Entry) → AreJudged rates xs → length xs ≤ 50000000
 lawful_entries rates [] h = omega arith
 lawful_entries rates (x ∷ xs) h = below (length xs) (accepted rates x xs h).0
   where
@@ -140,9 +142,16 @@ chosen_small (Some r) base h k = product_small base r.contribution_rate h (k r r
 pub few_charge : (rates : List Rate) (m : ℕ) (lines : List WageLine) → AllByRecursion IsRate rates → AreFew lines → contribution_of_lines (rate_in_force rates m) lines ≤ 5000000000
 few_charge rates m lines h few = chosen_small (rate_in_force rates m) (base_of lines) (few_base lines few) (λ r e. rate_small rates m r h e)
 
-pub lawful_rates : (rates : List Rate) (xs : List Entry) → AreJudged rates xs → AreRates rates
+-- the rates are right with those that a command adds, which no rule refuses
+rates_right : (b : Book) (t : ℕ) (command : Command) → own_rule b t command ≡ None → AreRates (rates_of b) → AreRates (rates_of b ++ rates_added command)
+rates_right b t (Register r) own h = subst AreRates (sym (append-nil (rates_of b))) h
+rates_right b t (Report r) own h = subst AreRates (sym (append-nil (rates_of b))) h
+rates_right b t (Correct c) own h = subst AreRates (sym (append-nil (rates_of b))) h
+rates_right b t (ImportBank file) own h = subst AreRates (sym (append-nil (rates_of b))) h
+
+pub lawful_rates : (rates : RateTable) (xs : List Entry) → AreJudged rates xs → AreRates (rates_behind rates xs)
 lawful_rates rates [] h = h
-lawful_rates rates (x ∷ xs) h = lawful_rates rates xs h.0
+lawful_rates rates (x ∷ xs) h = rates_right (record { opening = rates; entries = xs }) x.day x.command (accepted rates x xs h).1 (lawful_rates rates xs h.0)
 
 -- the charges of n months
 chosen_sum : (g : ℕ → Option Charge) (k a n : ℕ) → ((m : ℕ) (c : Charge) → g m ≡ Some c → c.cents ≤ k) → sum_by (λ c. c.cents) (filter_map g (range_with_len a n)) ≤ n * k
@@ -153,10 +162,10 @@ chosen_sum g k a (suc n) h = one (g a) (h a) (chosen_sum g k (a + 1) n h)
     one None low rest = omega arith
     one (Some c) low rest = omega (arith, low c refl, sum_by-cons (λ (x : Charge). x.cents) c (filter_map g (range_with_len (a + 1) n)))
 
-pub charge_small : (b : Book) (e m : ℕ) (c : Charge) → ((lines : List WageLine) → latest_lines b.entries e m ≡ Some lines → contribution_of_lines (rate_in_force b.opening m) lines ≤ 5000000000) → book_charge b e m ≡ Some c → c.cents ≤ 5000000000
+pub charge_small : (b : Book) (e m : ℕ) (c : Charge) → ((lines : List WageLine) → latest_lines b.entries e m ≡ Some lines → contribution_of_lines (rate_in_force (rates_of b) m) lines ≤ 5000000000) → book_charge b e m ≡ Some c → c.cents ≤ 5000000000
 charge_small b e m c low is = told (latest_lines b.entries e m) low is
   where
-    told : (o : Option (List WageLine)) → ((lines : List WageLine) → o ≡ Some lines → contribution_of_lines (rate_in_force b.opening m) lines ≤ 5000000000) → reported_charge b m o ≡ Some c → c.cents ≤ 5000000000
+    told : (o : Option (List WageLine)) → ((lines : List WageLine) → o ≡ Some lines → contribution_of_lines (rate_in_force (rates_of b) m) lines ≤ 5000000000) → reported_charge b m o ≡ Some c → c.cents ≤ 5000000000
     told None low is = absurd (cc)
     told (Some lines) low is =
         let same : month_charge (rates_of b) m (base_of lines) ≡ c = cc in

@@ -95,7 +95,7 @@ abbrev pub serial_key : BankRow → List ℕ
 serial_key row = row.serial ∷ []
 
 -- rows whose serials follow on each other
-same_parts : (a b : ℕ) (xs ys : List ℕ) → a ∷ xs ≡ b ∷ ys → (a ≡ b) × (xs ≡ ys)
+pub same_parts : (a b : ℕ) (xs ys : List ℕ) → a ∷ xs ≡ b ∷ ys → (a ≡ b) × (xs ≡ ys)
 same_parts a b xs ys e = (cc e, cc e)
 
 serials_between : (low high a n : ℕ) (rows : List BankRow) → low ≤ a → a + n ≤ high → map (λ (row : BankRow). row.serial) rows ≡ range_with_len a n
@@ -277,7 +277,7 @@ references_new xs file = (
 
 -- ---- the serials of a book are the numbers from 1 on
 
-range_with_len-append : (a m n k : ℕ) → k ≡ m + n → range_with_len a k ≡ range_with_len a m ++ range_with_len (a + m) n
+pub range_with_len-append : (a m n k : ℕ) → k ≡ m + n → range_with_len a k ≡ range_with_len a m ++ range_with_len (a + m) n
 range_with_len-append a zero n k e = let same : k ≡ n = omega (arith, e) in let start : a ≡ a + 0 = omega arith in λ i. range_with_len (start i) (same i)
 range_with_len-append a (suc m) n zero e = absurd (omega (arith, e))
 range_with_len-append a (suc m) n (suc k) e =

@@ -5,9 +5,9 @@ use Rattle.clear_book.specs.declared.rows.EmployerRow.{EmployerRow}
 use Rattle.clear_book.specs.declared.rows.ReportRow.{ReportRow}
 use Rattle.clear_book.specs.declared.rows.WageRow.{WageRow}
 use Rattle.clear_book.specs.Accounts.{credit_key}
-use Rattle.clear_book.specs.Book.{Book, Member}
+use Rattle.clear_book.specs.Book.{Book}
 use Rattle.clear_book.specs.Keyed.{find_row, AreInOrder}
-use Rattle.clear_book.specs.Tables.{Tables, Stands, employer_key, report_key, wage_key, bank_key, request_key}
+use Rattle.clear_book.specs.Tables.{Tables, Stands, employer_key, report_key, wage_key, bank_key, request_key, member_in}
 use Rattle.clear_book.proofs.KeyedLemmas.{found_key}
 use Rattle.clear_book.proofs.KeyedRowsLemmas.{same_rows}
 use Rattle.clear_book.proofs.KeyedChangesLemmas.{same_rows_by_key}
@@ -33,10 +33,6 @@ module _ {Row Value : Type 0} (key : Row → List ℕ) (value : Row → Value) (
       same_rows_by_key key xs ys left right (λ x. same_found xs ys (key x) (same x))
 
 -- ---- a key and a value make up the row
-
--- what a row says of its employer
-abbrev member_in : EmployerRow → Member
-member_in row = record { name = row.name; start = row.start; last = row.last }
 
 -- the number and the rest make up the row
 whole_employer : (x y : EmployerRow) → employer_key x ≡ employer_key y → member_in x ≡ member_in y → x ≡ y
@@ -102,13 +98,13 @@ module _ (b : Book) (t u : Tables) (left : Stands b t) (right : Stands b u) wher
       let rates : t.rates ≡ u.rates = left.rates ∙ sym right.rates in
       let entries : t.entries ≡ u.entries = left.entries ∙ sym right.entries in
       let serial : t.serial ≡ u.serial = left.serial ∙ sym right.serial in
-      let claims : t.claims ≡ u.claims = left.unfilled.0 ∙ sym right.unfilled.0 in
-      let lists : t.lists ≡ u.lists = left.unfilled.1 ∙ sym right.unfilled.1 in
-      let runs : t.runs ≡ u.runs = left.unfilled.2 ∙ sym right.unfilled.2 in
-      let reminders : t.reminders ≡ u.reminders = left.unfilled.3 ∙ sym right.unfilled.3 in
-      let last_claim : t.last_claim ≡ u.last_claim = left.unfilled.4 ∙ sym right.unfilled.4 in
-      let last_list : t.last_list ≡ u.last_list = left.unfilled.5 ∙ sym right.unfilled.5 in
-      let last_run : t.last_run ≡ u.last_run = left.unfilled.6 ∙ sym right.unfilled.6 in
+      let claims : t.claims ≡ u.claims = left.unfilled.claims ∙ sym right.unfilled.claims in
+      let lists : t.lists ≡ u.lists = left.unfilled.lists ∙ sym right.unfilled.lists in
+      let runs : t.runs ≡ u.runs = left.unfilled.runs ∙ sym right.unfilled.runs in
+      let reminders : t.reminders ≡ u.reminders = left.unfilled.reminders ∙ sym right.unfilled.reminders in
+      let last_claim : t.last_claim ≡ u.last_claim = left.unfilled.last_claim ∙ sym right.unfilled.last_claim in
+      let last_list : t.last_list ≡ u.last_list = left.unfilled.last_list ∙ sym right.unfilled.last_list in
+      let last_run : t.last_run ≡ u.last_run = left.unfilled.last_run ∙ sym right.unfilled.last_run in
       (λ i.
       record {
         rates = rates i;

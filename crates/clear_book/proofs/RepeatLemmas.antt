@@ -70,7 +70,7 @@ module _ (caller : Caller) (number : ℕ) (command : Command) (reply : Reply) wh
   judged_again : (b : Book) (day : ℕ) → may_do caller command ≡ true → Stays b.entries → judge b (Do caller number day command) ≡ kept_reply reply
   judged_again b day may (x, found, commands, replies) =
       let before = said (entry_under b.entries caller number) x found commands replies in
-      (λ i. judged_do (may i) (before i) (day_back (ledger_day b.entries) day) (is_full (length b.entries)) (own_rule b day command) (reply_to b command))
+      (λ i. judged_do (may i) (before i) (day_back (ledger_day b.entries) day) (is_full (length b.entries)) (own_rule b day command) (reply_to b day command))
 
   pub again : (b : Book) (day : ℕ) → judge b (Do caller number day command) ≡ new_reply reply
       → (failed end : Bool) (calls : List Call) (outcomes : List Outcome) (last : Book) → Runs failed end (step b (Do caller number day command)) calls outcomes last

@@ -1,5 +1,6 @@
 -- The tables of a book, after a report or a correction more.
-use Rattle.std.proofs.Common.{◌≡◌, ℕ, ◌+◌, List, [], ◌∷◌, Option, Some, None, Bool, true, false, cond, ◌&&◌, ◌==◌, refl, sym, ap, ◌∙◌, subst, arith}
+use Rattle.std.proofs.Common.{◌≡◌, ℕ, ◌+◌, List, [], ◌∷◌, ◌++◌, Option, Some, None, Bool, true, false, cond, ◌&&◌, ◌==◌, refl, sym, ap, ◌∙◌, subst, arith}
+use Rattle.std.proofs.lemmas.List.{append-nil}
 use Rattle.std.proofs.lemmas.List.Sums.{sum_by-cons}
 use Rattle.std.specs.Option.{option_map}
 use Rattle.clear_book.specs.declared.calls.Call.TheVariants.{Do}
@@ -14,7 +15,7 @@ use Rattle.clear_book.specs.declared.rows.ReportRow.{ReportRow}
 use Rattle.clear_book.specs.declared.rows.WageRow.{WageRow}
 use Rattle.clear_book.specs.declared.texts.WageLine.{WageLine}
 use Rattle.clear_book.specs.Accounts.{credit_key}
-use Rattle.clear_book.specs.Book.{Book, Entry, entry, entry_under, is_for, newer, registered_by, member_of, start_of, is_registration, reported_by, latest_lines, is_report_of, version_of, reported_version}
+use Rattle.clear_book.specs.Book.{Book, Entry, Member, entry, entry_under, is_for, newer, registered_by, member_of, is_registration, reported_by, latest_lines, is_report_of, version_of, reported_version, rates_added, rates_of}
 use Rattle.clear_book.specs.Judge.{Verdict, new_reply, judge}
 use Rattle.clear_book.specs.Keyed.{find_row, put_row}
 use Rattle.clear_book.specs.Lines.{lines_seen, credits_of_lines, rows_by}
@@ -30,7 +31,7 @@ use Rattle.clear_book.proofs.KeyedChangesLemmas.{find_row-put_row, AreInOrder-pu
 use Rattle.clear_book.proofs.LinesLemmas.{none_brought, none_moved}
 use Rattle.clear_book.proofs.RequestLemmas.{requests_found, requests_still_in_order}
 use Rattle.clear_book.proofs.TablesLemmas.{no_map}
-use Rattle.clear_book.proofs.VersionLemmas.{version_of-other, version_of-more, version_of-none, unreported, corrected, reported_some, reported_none, key_is}
+use Rattle.clear_book.proofs.VersionLemmas.{is_some-cond, version_of-other, version_of-more, version_of-none, unreported, corrected, reported_some, reported_none, key_is}
 use Rattle.clear_book.proofs.WagesLemmas.{gross_at-with_wages, with_wages-in_order, with_wages-first}
 
 -- ---- the lines of an accepted report
@@ -39,13 +40,13 @@ not_twice : (o : Option ℕ) → twice_rule o ≡ None → o ≡ None
 not_twice None h = refl
 not_twice (Some w) h = absurd (cc)
 
-pub report_distinct : (start version : Option ℕ) (t m : ℕ) (lines : List WageLine) → own_report start version t m lines ≡ None → AreDistinct lines
-report_distinct start version t m lines h =
-    distinct lines (not_twice (worker_twice lines) (none_applies (report_rules start version t m lines) h).1.1.1.1.0)
+pub report_distinct : (member : Option Member) (version : Option ℕ) (t m : ℕ) (lines : List WageLine) → own_report member version t m lines ≡ None → AreDistinct lines
+report_distinct member version t m lines h =
+    distinct lines (not_twice (worker_twice lines) (none_applies (report_rules member version t m lines) h).1.1.1.1.0)
 
-pub correction_distinct : (start version : Option ℕ) (t : ℕ) (c : Correction) → own_correct start version t c ≡ None → AreDistinct c.report.lines
-correction_distinct start version t c h =
-    distinct c.report.lines (not_twice (worker_twice c.report.lines) (none_applies (correct_rules start version t c) h).1.1.1.1.0)
+pub correction_distinct : (member : Option Member) (version : Option ℕ) (t : ℕ) (c : Correction) → own_correct member version t c ≡ None → AreDistinct c.report.lines
+correction_distinct member version t c h =
+    distinct c.report.lines (not_twice (worker_twice c.report.lines) (none_applies (correct_rules member version t c) h).1.1.1.1.0)
 
 -- ---- a command that reports
 
@@ -56,6 +57,7 @@ pub record Reports (xs : List Entry) (x : Entry) (r : WageReport) : Type 0 where
   pub nobody : (e : ℕ) → registered_by x.command e ≡ None
   pub no_registration : is_registration x.command ≡ false
   pub no_rows : rows_by xs (lines_seen xs) x.command ≡ []
+  pub no_rates : rates_added x.command ≡ []
 
 abbrev version_in : ReportRow → ℕ
 version_in row = row.version
@@ -94,7 +96,7 @@ module _ (b : Book) (t : Tables) (stands : Stands b t) (x : Entry) (r : WageRepo
   -- the month's row and wages in the place of what stood
   pub replaced_tables : Stands (appended b x) (noted x (changed (ReplaceReport row r.lines) t))
   replaced_tables = record {
-    rates = stands.rates;
+    rates = stands.rates ∙ sym (ap (λ more. rates_of b ++ more) reports.no_rates ∙ append-nil (rates_of b));
     day = refl;
     entries = omega (arith, stands.entries);
     employers = λ e. stands.employers e ∙ ap (λ o. newer o (member_of b.entries e)) (sym (reports.nobody e));
@@ -113,7 +115,7 @@ module _ (b : Book) (t : Tables) (stands : Stands b t) (x : Entry) (r : WageRepo
     requests = requests_found b t stands x free;
     requests_in_order = requests_still_in_order b t stands x free;
     serial = stands.serial ∙ sym (none_brought b.entries x reports.no_rows);
-    unfilled = stands.unfilled;
+    unfilled = let unfilled = stands.unfilled in record { claims = unfilled.claims; lists = unfilled.lists; runs = unfilled.runs; reminders = unfilled.reminders; last_claim = unfilled.last_claim; last_list = unfilled.last_list; last_run = unfilled.last_run };
   }
 
   -- for a month that has none, they are one more
@@ -131,12 +133,12 @@ module _ (b : Book) (t : Tables) (stands : Stands b t) (caller : Caller) (number
   Stands-reported r reply judged lines same =
       let said = unrefused b caller number day (Report r) reply judged in
       let own = said.unruled in
-      let none = unreported (start_of (member_of b.entries r.employer)) (reported_version b.entries r.employer r.month) day r.month r.lines own in
+      let none = unreported (member_of b.entries r.employer) (reported_version b.entries r.employer r.month) day r.month r.lines own in
       let no_lines = reported_none b.entries r.employer r.month none in
       let zero : version_of b.entries r.employer r.month ≡ 0 = version_of-none b.entries r.employer r.month no_lines in
       let x = entry caller number day (Report r) reply in
-      let there = first_tables b t stands x r (record { lines = λ e m. refl; counted = λ e m. refl; nobody = λ e. refl; no_registration = refl; no_rows = refl }) 1 (omega (arith, zero))
-      (report_distinct (start_of (member_of b.entries r.employer)) (reported_version b.entries r.employer r.month) day r.month r.lines own) said.free
+      let there = first_tables b t stands x r (record { lines = λ e m. refl; counted = λ e m. is_some-cond (is_for e m r) r.lines; nobody = λ e. refl; no_registration = refl; no_rows = refl; no_rates = refl }) 1 (omega (arith, zero))
+      (report_distinct (member_of b.entries r.employer) (reported_version b.entries r.employer r.month) day r.month r.lines own) said.free
       (no_map version_in (find_row report_key t.reports (r.employer ∷ r.month ∷ [])) (stands.reports r.employer r.month ∙ none))
       (λ w. stands.wages r.employer r.month w ∙ ap (λ (o : Option (List WageLine)). reported_gross o w) no_lines) in
       subst (λ (p : Verdict × List WageLine). Stands (after b (Do caller number day (Report r)) p.0) (noted x (changed (AddReport (record { employer = r.employer; month = r.month; version = 1 }) p.1) t))) (λ i. (sym judged i, sym same i)) there
@@ -146,10 +148,10 @@ module _ (b : Book) (t : Tables) (stands : Stands b t) (caller : Caller) (number
   Stands-corrected c reply judged version more lines same =
       let said = unrefused b caller number day (Correct c) reply judged in
       let own = said.unruled in
-      let start = start_of (member_of b.entries c.report.employer) in
-      let latest = corrected start (reported_version b.entries c.report.employer c.report.month) day c own in
+      let member = member_of b.entries c.report.employer in
+      let latest = corrected member (reported_version b.entries c.report.employer c.report.month) day c own in
       let now : version_of b.entries c.report.employer c.report.month ≡ c.version = reported_some b.entries c.report.employer c.report.month c.version latest.0 in
       let x = entry caller number day (Correct c) reply in
-      let there = replaced_tables b t stands x c.report (record { lines = λ e m. refl; counted = λ e m. refl; nobody = λ e. refl; no_registration = refl; no_rows = refl }) version (omega (arith, now, more))
-      (correction_distinct start (reported_version b.entries c.report.employer c.report.month) day c own) said.free in
+      let there = replaced_tables b t stands x c.report (record { lines = λ e m. refl; counted = λ e m. is_some-cond (is_for e m c.report) c.report.lines; nobody = λ e. refl; no_registration = refl; no_rows = refl; no_rates = refl }) version (omega (arith, now, more))
+      (correction_distinct member (reported_version b.entries c.report.employer c.report.month) day c own) said.free in
       subst (λ (p : Verdict × List WageLine). Stands (after b (Do caller number day (Correct c)) p.0) (noted x (changed (ReplaceReport (record { employer = c.report.employer; month = c.report.month; version = version }) p.1) t))) (λ i. (sym judged i, sym same i)) there

@@ -8,7 +8,6 @@ use Rattle.clear_bank.specs.Newness.{Placed, is_new}
 use Rattle.clear_bank.specs.Ranges.{IsBankLine}
 use Rattle.clear_money.specs.Calendar.{IsMonth, IsDay}
 use Rattle.clear_money.specs.Numbers.{IsEmployerNo, IsWorkerNo}
-use Rattle.clear_money.specs.Rates.{Rate}
 use Rattle.clear_book.specs.declared.texts.WageLine.{WageLine}
 use Rattle.clear_book.specs.declared.calls.Command.{Command}
 use Rattle.clear_book.specs.declared.calls.Command.TheVariants.{Register, Report, Correct, ImportBank}
@@ -19,14 +18,14 @@ use Rattle.clear_book.specs.declared.rows.EmployerRow.{EmployerRow}
 use Rattle.clear_book.specs.declared.rows.ReportRow.{ReportRow}
 use Rattle.clear_book.specs.declared.rows.WageRow.{WageRow}
 use Rattle.clear_book.specs.Accounts.{credit_key}
-use Rattle.clear_book.specs.Book.{Book, Entry, Member, ledger_day, newer, registered_by, member_of, start_of, is_for, reported_by, latest_lines, is_report_of, version_of, reported_version}
+use Rattle.clear_book.specs.Book.{Book, Entry, Member, ledger_day, newer, registered_by, member_of, is_for, reported_by, latest_lines, is_report_of, version_of, reported_version, RateTable, rates_of}
 use Rattle.clear_book.specs.Judge.{own_rule, reply_to}
 use Rattle.clear_book.specs.Keyed.{is_key, find_row, AreOnce, in_key_order}
 use Rattle.clear_book.specs.Lines.{lines_in, new_lines, employer_of_line, rows_from, lines_of_rows, rows_by, lines_seen, lines_standing, credit_of_line, line_credit, credits_of_lines}
 use Rattle.clear_book.specs.Machine.{AreRates, AreJudged, IsLawful}
 use Rattle.clear_book.specs.Ranges.{IsWageLine, IsReport, IsCommand}
-use Rattle.clear_book.specs.RowRanges.{IsSerial, IsReply, IsRequestRow, IsEmployerRow, IsReportRow, IsWageRow, IsBankRow, IsCreditRow, AreInRange}
-use Rattle.clear_book.specs.Tables.{RequestRow, Tables, Stands, employer_key, report_key, wage_key, bank_key, request_key, request_row, requests_of, gross_of, reported_gross}
+use Rattle.clear_book.specs.RowRanges.{IsSerial, IsReply, IsRequestRow, IsEmployerRow, IsReportRow, IsWageRow, IsBankRow, IsCreditRow, AreInRange, IsClaimRow, IsListRow, IsRunRow, IsReminderRow}
+use Rattle.clear_book.specs.Tables.{RequestRow, Tables, Stands, employer_key, report_key, wage_key, bank_key, request_key, request_row, requests_of, gross_of, reported_gross, member_in}
 use Rattle.clear_book.specs.Texts.{IsName}
 use Rattle.clear_book.proofs.CreditsLemmas.{credits-standing}
 use Rattle.clear_book.proofs.DistinctLemmas.{same_worker}
@@ -66,17 +65,13 @@ registered-in-range (Register r) e member in_range h =
     subst (IsMember e) parts.1 (number, in_range.1, in_range.2, refl)
 
 -- and with each registered employer of a lawful book
-member-in-range : (rates : List Rate) (xs : List Entry) → AreJudged rates xs → (e : ℕ) (member : Member) → member_of xs e ≡ Some member → IsMember e member
+member-in-range : (rates : RateTable) (xs : List Entry) → AreJudged rates xs → (e : ℕ) (member : Member) → member_of xs e ≡ Some member → IsMember e member
 member-in-range rates [] h e member is = absurd (cc)
 member-in-range rates (x ∷ xs) h e member is =
     ⊎_elim
     (λ (new : registered_by x.command e ≡ Some member). registered-in-range x.command e member h.1.3 new)
     (λ (old : member_of xs e ≡ Some member). member-in-range rates xs h.0 e member old)
     (newer_means (registered_by x.command e) (member_of xs e) member is)
-
--- what a row says of its employer
-abbrev member_in : EmployerRow → Member
-member_in row = record { name = row.name; start = row.start; last = row.last }
 
 -- so the row of a registered employer is in range
 employer_row : (row : EmployerRow) → IsMember row.employer (member_in row) → IsEmployerRow row
@@ -108,7 +103,7 @@ reported-in-range (Report r) e m lines in_range h = chosen-in-range e m r lines 
 reported-in-range (Correct c) e m lines in_range h = chosen-in-range e m c.report lines in_range.1 h
 
 -- and with each latest report of a lawful book
-latest-in-range : (rates : List Rate) (xs : List Entry) → AreJudged rates xs → (e m : ℕ) (lines : List WageLine) → latest_lines xs e m ≡ Some lines → IsReported e m lines
+latest-in-range : (rates : RateTable) (xs : List Entry) → AreJudged rates xs → (e m : ℕ) (lines : List WageLine) → latest_lines xs e m ≡ Some lines → IsReported e m lines
 latest-in-range rates [] h e m lines is = absurd (cc)
 latest-in-range rates (x ∷ xs) h e m lines is =
     ⊎_elim
@@ -129,7 +124,7 @@ version-some (x ∷ xs) e m lines h = told (is_report_of e m x.command) refl (ve
     told false is rest = omega (arith, version_of-other xs x e m is, rest (older is))
 
 -- so the row of a report is in range
-report_row : (rates : List Rate) (xs : List Entry) → AreJudged rates xs → (row : ReportRow) → reported_version xs row.employer row.month ≡ Some row.version → IsReportRow row
+report_row : (rates : RateTable) (xs : List Entry) → AreJudged rates xs → (row : ReportRow) → reported_version xs row.employer row.month ≡ Some row.version → IsReportRow row
 report_row rates xs h row is = told (latest_lines xs row.employer row.month) refl is
   where
     count : version_of xs row.employer row.month ≡ row.version
@@ -161,7 +156,7 @@ gross-in-range (line ∷ lines) w g h small is =
     told false here k rest = rest k
 
 -- so the row of a worker of a report is in range
-wage_row : (rates : List Rate) (xs : List Entry) → AreJudged rates xs → (row : WageRow) → reported_gross (latest_lines xs row.employer row.month) row.worker ≡ Some row.gross → IsWageRow row
+wage_row : (rates : RateTable) (xs : List Entry) → AreJudged rates xs → (row : WageRow) → reported_gross (latest_lines xs row.employer row.month) row.worker ≡ Some row.gross → IsWageRow row
 wage_row rates xs h row is = told (latest_lines xs row.employer row.month) refl is
   where
     told : (o : Option (List WageLine)) → latest_lines xs row.employer row.month ≡ o → reported_gross o row.worker ≡ Some row.gross → IsWageRow row
@@ -210,11 +205,11 @@ seen-firms [] = tt
 seen-firms (x ∷ xs) = both HasFirm (lines_seen xs) (rows_by xs (lines_seen xs) x.command) (seen-firms xs) (firms-by xs (lines_seen xs) x.command)
 
 -- a lawful book has given at most 500,000,000,000 serials
-few-serials : (rates : List Rate) (xs : List Entry) → AreJudged rates xs → length (lines_seen xs) ≤ 500000000000
+few-serials : (rates : RateTable) (xs : List Entry) → AreJudged rates xs → length (lines_seen xs) ≤ 500000000000
 few-serials rates xs h = omega (arith, seen-few xs, lawful_entries rates xs h)
 
 -- each line that a lawful book has seen is in range, its serial and its firm too
-seen-rows : (rates : List Rate) (xs : List Entry) → AreJudged rates xs → AllByRecursion IsBankRow (lines_seen xs)
+seen-rows : (rates : RateTable) (xs : List Entry) → AreJudged rates xs → AllByRecursion IsBankRow (lines_seen xs)
 seen-rows rates xs h =
     of_both HasPlace HasFirm IsBankRow (λ row place firm. record { line = place.0; serial = place.1; employer = firm }) (lines_seen xs)
     (of_both HasRanges IsGiven HasPlace (λ row line serial. (line, (serial.0, given row.serial serial.1))) (lines_seen xs) (seen-in-range xs) (serials_small xs))
@@ -230,7 +225,7 @@ seen-rows rates xs h =
     given n low = omega (arith, low, few-serials rates xs h)
 
 -- and so is each line that stands
-standing-rows : (rates : List Rate) (xs : List Entry) → AreJudged rates xs → AllByRecursion IsBankRow (lines_standing xs)
+standing-rows : (rates : RateTable) (xs : List Entry) → AreJudged rates xs → AllByRecursion IsBankRow (lines_standing xs)
 standing-rows rates xs h = of_standing IsBankRow xs (seen-rows rates xs h)
 
 -- ---- credits
@@ -252,23 +247,23 @@ credit_row row e is h credit made =
 -- ---- accepted requests
 
 -- the numbers of the reply to a command that no rule refuses are in range
-reply-in-range : (b : Book) (t : ℕ) (command : Command) → IsLawful b → own_rule b t command ≡ None → IsReply (reply_to b command)
+reply-in-range : (b : Book) (t : ℕ) (command : Command) → IsLawful b → own_rule b t command ≡ None → IsReply (reply_to b t command)
 reply-in-range b t (Register r) lawful own = tt
 reply-in-range b t (Report r) lawful own =
-    let few = few_lines (start_of (member_of b.entries r.employer)) (reported_version b.entries r.employer r.month) t r.month r.lines own in
-    (omega arith, omega arith, few_charge b.opening r.month r.lines (lawful_rates b.opening b.entries lawful).ranges few)
+    let few = few_lines (member_of b.entries r.employer) (reported_version b.entries r.employer r.month) t r.month r.lines own in
+    (omega arith, omega arith, few_charge (rates_of b) r.month r.lines (lawful_rates b.opening b.entries lawful).ranges few)
 reply-in-range b t (Correct c) lawful own =
-    let start = start_of (member_of b.entries c.report.employer) in
+    let member = member_of b.entries c.report.employer in
     let version = reported_version b.entries c.report.employer c.report.month in
-    let few = few_corrected start version t c own in
-    let last = (corrected start version t c own).1 in
-    (omega arith, omega (arith, last), few_charge b.opening c.report.month c.report.lines (lawful_rates b.opening b.entries lawful).ranges few)
+    let few = few_corrected member version t c own in
+    let last = (corrected member version t c own).1 in
+    (omega arith, omega (arith, last), few_charge (rates_of b) c.report.month c.report.lines (lawful_rates b.opening b.entries lawful).ranges few)
 reply-in-range b t (ImportBank file) lawful own =
     let rows = by-few b.entries (lines_seen b.entries) (ImportBank file) in
     (rows, omega (arith, file-few file))
 
 -- so the row of each accepted request is in range
-entry-in-range : (rates : List Rate) (x : Entry) (xs : List Entry) → AreJudged rates (x ∷ xs) → IsRequestRow (request_row x)
+entry-in-range : (rates : RateTable) (x : Entry) (xs : List Entry) → AreJudged rates (x ∷ xs) → IsRequestRow (request_row x)
 entry-in-range rates x xs h =
     let b : Book = record { opening = rates; entries = xs } in
     let said = unrefused b x.caller x.number x.day x.command x.reply h.2 in
@@ -279,7 +274,7 @@ entry-in-range rates x xs h =
       reply = subst IsReply said.replied (reply-in-range b x.day x.command h.0 said.unruled);
     }
 
-kept_row : (rates : List Rate) (xs : List Entry) → AreJudged rates xs → (k : List ℕ) (row : RequestRow) → find_row request_key (requests_of xs) k ≡ Some row → IsRequestRow row
+kept_row : (rates : RateTable) (xs : List Entry) → AreJudged rates xs → (k : List ℕ) (row : RequestRow) → find_row request_key (requests_of xs) k ≡ Some row → IsRequestRow row
 kept_row rates [] h k row is = absurd (cc)
 kept_row rates (x ∷ xs) h k row is = told (is_key (request_key (request_row x)) k) is (kept_row rates xs h.0 k row)
   where
@@ -292,7 +287,7 @@ kept_row rates (x ∷ xs) h k row is = told (is_key (request_key (request_row x)
 -- ---- each table, then all
 
 -- the day of the last request
-last-day : (rates : List Rate) (xs : List Entry) → AreJudged rates xs → IfSome (ledger_day xs) IsDay
+last-day : (rates : RateTable) (xs : List Entry) → AreJudged rates xs → IfSome (ledger_day xs) IsDay
 last-day rates [] h = tt
 last-day rates (x ∷ xs) h = h.1.2
 
@@ -345,9 +340,16 @@ rows_in_range b t lawful stands = record {
   wages = wages-in-range b t lawful stands;
   bank = bank-in-range b t lawful stands;
   credits = credits-in-range b t lawful stands;
+  claims = subst (AllByRecursion IsClaimRow) (sym stands.unfilled.claims) tt;
+  lists = subst (AllByRecursion IsListRow) (sym stands.unfilled.lists) tt;
+  runs = subst (AllByRecursion IsRunRow) (sym stands.unfilled.runs) tt;
+  reminders = subst (AllByRecursion IsReminderRow) (sym stands.unfilled.reminders) tt;
   requests = requests-in-range b t lawful stands;
   day = subst (λ (o : Option ℕ). IfSome o IsDay) (sym stands.day) (last-day b.opening b.entries lawful);
   entries = subst (λ (n : ℕ). n ≤ 50000000) (sym stands.entries) (lawful_entries b.opening b.entries lawful);
   serial = subst (λ (n : ℕ). n ≤ 500000000000) (sym stands.serial) (few-serials b.opening b.entries lawful);
+  last_claim = subst (λ (n : ℕ). n ≤ 50000000) (sym stands.unfilled.last_claim) (omega arith);
+  last_list = subst (λ (n : ℕ). n ≤ 50000000) (sym stands.unfilled.last_list) (omega arith);
+  last_run = subst (λ (n : ℕ). n ≤ 50000000) (sym stands.unfilled.last_run) (omega arith);
   unfilled = stands.unfilled;
 }

@@ -9,14 +9,13 @@ use Rattle.clear_bank.specs.Newness.{Placed, is_new}
 use Rattle.clear_bank.specs.Ranges.{IsBankLine}
 use Rattle.clear_bank.proofs.LengthLemmas.{few_lines}
 use Rattle.clear_bank.proofs.RangeLemmas.{HaveRanges, file-lines-in-range}
-use Rattle.clear_money.specs.Rates.{Rate}
 use Rattle.clear_book.specs.declared.calls.Command.{Command}
 use Rattle.clear_book.specs.declared.calls.Command.TheVariants.{Register, Report, Correct, ImportBank}
 use Rattle.clear_book.specs.declared.rows.BankRow.{BankRow}
 use Rattle.clear_book.specs.declared.rows.CreditRow.{CreditRow}
 use Rattle.clear_book.specs.declared.rules.Rule.TheVariants.{DayBack}
 use Rattle.clear_book.specs.Accounts.{credit_key, credits_standing}
-use Rattle.clear_book.specs.Book.{Book, Entry, ledger_day, member_of}
+use Rattle.clear_book.specs.Book.{RateTable, Book, Entry, ledger_day, member_of}
 use Rattle.clear_book.specs.Judge.{day_back, own_rule}
 use Rattle.clear_book.specs.Laws.{IsBy}
 use Rattle.clear_book.specs.Lines.{lines_or_none, lines_in, new_lines, rows_from, lines_of_rows, rows_brought, rows_by, lines_seen, lines_standing, credit_of_line, credits_of_lines, suspense_count, credit_count}
@@ -149,7 +148,7 @@ still_by (Some ledger) t v h by = later (when-none (nat_lt t ledger) (DayBack le
     later : nat_lt t ledger ≡ false → v ≤ t
     later k = let low : ledger ≤ t = grind (arith, nat_tests) in omega (arith, low, by)
 
-seen-come : (rates : List Rate) (xs : List Entry) → AreJudged rates xs → AllByRecursion (λ row. IsBy (ledger_day xs) row.line.value) (lines_seen xs)
+seen-come : (rates : RateTable) (xs : List Entry) → AreJudged rates xs → AllByRecursion (λ row. IsBy (ledger_day xs) row.line.value) (lines_seen xs)
 seen-come rates [] h = tt
 seen-come rates (x ∷ xs) h =
     let b : Book = record { opening = rates; entries = xs } in
@@ -175,7 +174,7 @@ pub of_standing : (P : BankRow → Type 0) (xs : List Entry) → AllByRecursion 
 of_standing P xs h = subst (AllByRecursion P) (sym (standing_seen xs)) h
 
 -- each credit's day has come
-pub credits-come : (rates : List Rate) (xs : List Entry) → AreJudged rates xs → AllByRecursion (λ row. IsBy (ledger_day xs) row.day) (credits_standing xs)
+pub credits-come : (rates : RateTable) (xs : List Entry) → AreJudged rates xs → AllByRecursion (λ row. IsBy (ledger_day xs) row.day) (credits_standing xs)
 credits-come rates xs h =
     AllByRecursion-in_key_order credit_key (λ row. IsBy (ledger_day xs) row.day) (credits_of_lines (lines_standing xs))
     (of_credits (λ row. IsBy (ledger_day xs) row.line.value) (λ row. IsBy (ledger_day xs) row.day)

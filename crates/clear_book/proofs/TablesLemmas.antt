@@ -1,5 +1,6 @@
 -- The tables of a book, after a registration more.
-use Rattle.std.proofs.Common.{◌≡◌, ℕ, List, ◌∷◌, [], Option, Some, None, Bool, true, false, cond, ◌&&◌, ◌==◌, is_some, refl, sym, ap, ◌∙◌, subst, arith}
+use Rattle.std.proofs.Common.{◌≡◌, ℕ, List, ◌∷◌, [], Option, Some, None, Bool, true, false, cond, ◌&&◌, ◌==◌, refl, sym, ap, ◌∙◌, subst, arith}
+use Rattle.std.proofs.lemmas.List.{append-nil}
 use Rattle.std.proofs.lemmas.List.Sums.{sum_by-cons}
 use Rattle.std.specs.Option.{option_map}
 use Rattle.clear_book.specs.declared.calls.Caller.{Caller}
@@ -10,23 +11,19 @@ use Rattle.clear_book.specs.declared.outcomes.Reply.{Reply}
 use Rattle.clear_book.specs.declared.rows.BankRow.{BankRow}
 use Rattle.clear_book.specs.declared.rows.EmployerRow.{EmployerRow}
 use Rattle.clear_book.specs.declared.rows.Change.TheVariants.{AddEmployer}
-use Rattle.clear_book.specs.Book.{Book, Entry, Member, entry, entry_under, newer, registered_by, member_of, is_registration, latest_lines}
+use Rattle.clear_book.specs.Book.{Book, Entry, entry, entry_under, newer, registered_by, member_of, is_registration, latest_lines, Member, rates_of}
 use Rattle.clear_book.specs.Accounts.{credit_key}
 use Rattle.clear_book.specs.Lines.{credits_of_lines}
 use Rattle.clear_book.specs.Judge.{Verdict, new_reply, judge}
 use Rattle.clear_book.specs.Own.Register.{own_register}
 use Rattle.clear_book.specs.Keyed.{find_row}
 use Rattle.clear_book.specs.Machine.{step, after, appended}
-use Rattle.clear_book.specs.Tables.{Tables, Stands, employer_key, bank_key, changed, noted}
+use Rattle.clear_book.specs.Tables.{Tables, Stands, employer_key, bank_key, changed, noted, member_in}
 use Rattle.clear_book.proofs.JudgeLemmas.{unrefused}
 use Rattle.clear_book.proofs.KeyedLemmas.{find_row-with_row, length-with_row, AreInOrder-with_row}
 use Rattle.clear_book.proofs.LinesLemmas.{none_brought, none_moved}
 use Rattle.clear_book.proofs.RequestLemmas.{requests_found, requests_still_in_order}
-use Rattle.clear_book.proofs.VersionLemmas.{version_of-other}
-
-no_some : {A : Type 0} (o : Option A) → is_some o ≡ false → o ≡ None
-no_some None h = refl
-no_some (Some x) h = absurd (cc)
+use Rattle.clear_book.proofs.VersionLemmas.{no_some, version_of-other}
 
 pub no_map : {A B : Type 0} (f : A → B) (o : Option A) → option_map f o ≡ None → o ≡ None
 no_map f None h = refl
@@ -37,9 +34,6 @@ no_map f (Some x) h = absurd (cc)
 unregistered : (registered : Bool) (employers : ℕ) (has_rate : Bool) → own_register registered employers has_rate ≡ None → registered ≡ false
 unregistered true employers has_rate h = absurd (cc)
 unregistered false employers has_rate h = refl
-
-abbrev member_in : EmployerRow → Member
-member_in row = record { name = row.name; start = row.start; last = row.last }
 
 found_member : (b : Bool) (row : EmployerRow) (o : Option EmployerRow) → option_map member_in (cond (b && true) (Some row) o) ≡ newer (cond b (Some (member_in row)) None) (option_map member_in o)
 found_member true row o = refl
@@ -64,7 +58,7 @@ module _ (b : Book) (t : Tables) (stands : Stands b t) (caller : Caller) (number
 
     registered_tables : Stands (appended b registration) (noted registration (changed (AddEmployer registration_row) t))
     registered_tables = record {
-      rates = stands.rates;
+      rates = stands.rates ∙ sym (append-nil (rates_of b));
       day = refl;
       entries = omega (arith, stands.entries);
       employers = λ e.
@@ -84,7 +78,7 @@ module _ (b : Book) (t : Tables) (stands : Stands b t) (caller : Caller) (number
       requests = requests_found b t stands registration no_number;
       requests_in_order = requests_still_in_order b t stands registration no_number;
       serial = stands.serial ∙ sym (none_brought b.entries registration refl);
-      unfilled = stands.unfilled;
+      unfilled = let unfilled = stands.unfilled in record { claims = unfilled.claims; lists = unfilled.lists; runs = unfilled.runs; reminders = unfilled.reminders; last_claim = unfilled.last_claim; last_list = unfilled.last_list; last_run = unfilled.last_run };
     }
 
     pub Stands-registered : (name : List ℕ) → name ≡ r.name → Stands (step b (Do caller number day (Register r))) (noted registration (changed (AddEmployer (record { employer = r.employer; name = name; start = r.start; last = None })) t))

@@ -1,16 +1,15 @@
 -- The versions of a month's report: how many there are, and that they are few.
-use Rattle.std.proofs.Common.{◌≡◌, ℕ, ◌+◌, ◌<◌, ◌≤◌, List, [], ◌∷◌, Option, Some, None, Bool, true, false, not, cond, ◌&&◌, ◌==◌, nat_le, refl, ap, ◌∙◌, subst, arith}
+use Rattle.std.proofs.Common.{◌≡◌, ℕ, ◌+◌, ◌<◌, ◌≤◌, List, [], ◌∷◌, Option, Some, None, Bool, true, false, not, cond, ◌&&◌, ◌==◌, nat_le, is_some, refl, sym, ap, ◌∙◌, subst, arith}
 use Rattle.std.proofs.lemmas.Bool.Decides.{nat_tests}
 use Rattle.std.proofs.lemmas.List.Sums.{sum_by-cons}
 use Rattle.std.specs.Option.{option_map}
-use Rattle.clear_money.specs.Rates.{Rate}
 use Rattle.clear_book.specs.declared.calls.Command.{Command}
 use Rattle.clear_book.specs.declared.calls.Command.TheVariants.{Register, Report, Correct, ImportBank}
 use Rattle.clear_book.specs.declared.calls.Correction.{Correction}
 use Rattle.clear_book.specs.declared.rules.Limit.TheVariants.{Versions}
 use Rattle.clear_book.specs.declared.rules.Rule.TheVariants.{OverLimit, StaleVersion}
 use Rattle.clear_book.specs.declared.texts.WageLine.{WageLine}
-use Rattle.clear_book.specs.Book.{Book, Entry, newer, reported_by, latest_lines, is_report_of, version_of, reported_version, member_of, start_of}
+use Rattle.clear_book.specs.Book.{Book, Entry, Member, newer, reported_by, latest_lines, is_report_of, version_of, reported_version, member_of, RateTable, is_for}
 use Rattle.clear_book.specs.Judge.{own_rule}
 use Rattle.clear_book.specs.Own.Correct.{own_correct, correct_rules, is_last_version}
 use Rattle.clear_book.specs.Own.Report.{own_report, report_rules, exists_rule}
@@ -28,17 +27,22 @@ version_of-more xs x e m h =
     let one : cond {A = ℕ} (is_report_of e m x.command) 1 0 ≡ 1 = ap (λ b. cond {A = ℕ} b 1 0) h in
     omega (arith, one, sum_by-cons (λ (y : Entry). cond {A = ℕ} (is_report_of e m y.command) 1 0) x xs)
 
-pub no_report : (command : Command) (e m : ℕ) → is_report_of e m command ≡ false → reported_by command e m ≡ None
-no_report (Register r) e m h = refl
-no_report (ImportBank file) e m h = refl
-no_report (Report r) e m h = ap (λ b. cond b (Some r.lines) None) h
-no_report (Correct c) e m h = ap (λ b. cond b (Some c.report.lines) None) h
+-- what isn't there is none
+pub no_some : {A : Type 0} (o : Option A) → is_some o ≡ false → o ≡ None
+no_some None h = refl
+no_some (Some x) h = absurd (cc)
 
-a_report : (command : Command) (e m : ℕ) → is_report_of e m command ≡ true → reported_by command e m ≡ None → ⊥
-a_report (Register r) e m h n = cc
-a_report (ImportBank file) e m h n = cc
-a_report (Report r) e m h n = cc
-a_report (Correct c) e m h n = cc
+a_some : {A : Type 0} (o : Option A) → is_some o ≡ true → o ≡ None → ⊥
+a_some None h n = cc
+a_some (Some x) h n = cc
+
+-- a value is there where the test that it stands under holds
+pub is_some-cond : {A : Type 0} (b : Bool) (x : A) → is_some (cond b (Some x) None) ≡ b
+is_some-cond true x = refl
+is_some-cond false x = refl
+
+pub no_report : (command : Command) (e m : ℕ) → is_report_of e m command ≡ false → reported_by command e m ≡ None
+no_report command e m h = no_some (reported_by command e m) h
 
 -- a month without a report is of version 0
 pub version_of-none : (xs : List Entry) (e m : ℕ) → latest_lines xs e m ≡ None → version_of xs e m ≡ 0
@@ -50,7 +54,7 @@ version_of-none (x ∷ xs) e m h = told (version_of-none xs e m) (is_report_of e
     older (Some lines) rest k = absurd (cc)
 
     told : (latest_lines xs e m ≡ None → version_of xs e m ≡ 0) → (b : Bool) → is_report_of e m x.command ≡ b → version_of (x ∷ xs) e m ≡ 0
-    told rest true is = absurd (a_report x.command e m is (older (reported_by x.command e m) (latest_lines xs e m) h).0)
+    told rest true is = absurd (a_some (reported_by x.command e m) is (older (reported_by x.command e m) (latest_lines xs e m) h).0)
     told rest false is = version_of-other xs x e m is ∙ rest (older (reported_by x.command e m) (latest_lines xs e m) h).1
 
 -- ---- what the rules on a first report and on a correction leave
@@ -59,14 +63,14 @@ no_version : (version : Option ℕ) → exists_rule version ≡ None → version
 no_version None h = refl
 no_version (Some v) h = absurd (cc)
 
-pub unreported : (start version : Option ℕ) (t m : ℕ) (lines : List WageLine) → own_report start version t m lines ≡ None → version ≡ None
-unreported start version t m lines h = no_version version (none_applies (report_rules start version t m lines) h).1.1.1.0
+pub unreported : (member : Option Member) (version : Option ℕ) (t m : ℕ) (lines : List WageLine) → own_report member version t m lines ≡ None → version ≡ None
+unreported member version t m lines h = no_version version (none_applies (report_rules member version t m lines) h).1.1.1.0
 
 -- the correction replaces the latest version, and there is room for the next
-pub corrected : (start version : Option ℕ) (t : ℕ) (c : Correction) → own_correct start version t c ≡ None → (version ≡ Some c.version) × (c.version < 10000)
-corrected start None t c h = absurd (cc (none_applies (correct_rules start None t c) h).1.1.1.0)
-corrected start (Some v) t c h =
-    let none = none_applies (correct_rules start (Some v) t c) h in
+pub corrected : (member : Option Member) (version : Option ℕ) (t : ℕ) (c : Correction) → own_correct member version t c ≡ None → (version ≡ Some c.version) × (c.version < 10000)
+corrected member None t c h = absurd (cc (none_applies (correct_rules member None t c) h).1.1.1.0)
+corrected member (Some v) t c h =
+    let none = none_applies (correct_rules member (Some v) t c) h in
     let latest : v ≡ c.version = same (when-none (not (v == c.version)) (StaleVersion v) none.1.1.1.0) in
     let few : v < 10000 = below (when-none (is_last_version (Some v)) (OverLimit Versions) none.1.1.1.1.1.0) in
     (ap Some latest, subst (λ (n : ℕ). n < 10000) latest few)
@@ -102,17 +106,17 @@ few_before : (b : Book) (t : ℕ) (command : Command) (e m : ℕ) → own_rule b
 few_before b t (Register r) e m own is = absurd (cc)
 few_before b t (ImportBank file) e m own is = absurd (cc)
 few_before b t (Report r) e m own is =
-    let same = key_is r.employer e r.month m is in
-    let none = unreported (start_of (member_of b.entries r.employer)) (reported_version b.entries r.employer r.month) t r.month r.lines own in
+    let same = key_is r.employer e r.month m (sym (is_some-cond (is_for e m r) r.lines) ∙ is) in
+    let none = unreported (member_of b.entries r.employer) (reported_version b.entries r.employer r.month) t r.month r.lines own in
     let zero : version_of b.entries r.employer r.month ≡ 0 = version_of-none b.entries r.employer r.month (reported_none b.entries r.employer r.month none) in
     subst (λ (p : ℕ × ℕ). version_of b.entries p.0 p.1 < 10000) (λ i. (same.0 i, same.1 i)) (omega (arith, zero))
 few_before b t (Correct c) e m own is =
-    let same = key_is c.report.employer e c.report.month m is in
-    let there = corrected (start_of (member_of b.entries c.report.employer)) (reported_version b.entries c.report.employer c.report.month) t c own in
+    let same = key_is c.report.employer e c.report.month m (sym (is_some-cond (is_for e m c.report) c.report.lines) ∙ is) in
+    let there = corrected (member_of b.entries c.report.employer) (reported_version b.entries c.report.employer c.report.month) t c own in
     let now : version_of b.entries c.report.employer c.report.month ≡ c.version = reported_some b.entries c.report.employer c.report.month c.version there.0 in
     subst (λ (p : ℕ × ℕ). version_of b.entries p.0 p.1 < 10000) (λ i. (same.0 i, same.1 i)) (omega (arith, now, there.1))
 
-pub lawful_versions : (rates : List Rate) (xs : List Entry) → AreJudged rates xs → (e m : ℕ) → version_of xs e m ≤ 10000
+pub lawful_versions : (rates : RateTable) (xs : List Entry) → AreJudged rates xs → (e m : ℕ) → version_of xs e m ≤ 10000
 lawful_versions rates [] h e m = omega arith
 lawful_versions rates (x ∷ xs) h e m = told (is_report_of e m x.command) refl (lawful_versions rates xs h.0 e m)
   where

@@ -1,15 +1,22 @@
--- What a firm owes: the contributions for its latest reports, and what it has paid.
-use Rattle.std.specs.Prelude.{ℕ, List, [], ◌∷◌, Option, Some, None, sum_by, filter, map}
+-- What a firm owes: the contributions for its latest reports, what it has paid, what is in arrears
+-- on a day, and which reports are missing.
+use Rattle.std.specs.Prelude.{ℕ, ◌-◌, List, [], ◌∷◌, Option, Some, None, Bool, false, ◌&&◌}
+use Rattle.std.specs.Prelude.{filter, is_none, map, nat_lt, sum_by}
 use Rattle.std.specs.Option.{option_map_or}
-use Rattle.std.specs.List.{filter_map, range_with_len}
-use Rattle.clear_money.specs.Rates.{Rate, rate_in_force, contribution_of, due_day_of}
+use Rattle.std.specs.List.{filter_map}
+pub use Rattle.clear_money.specs.Calendar.{months}
+use Rattle.clear_money.specs.Rates.{Rate, rate_in_force, contribution_of, due_day_of, report_day_of}
+use Rattle.clear_account.specs.Account.{credited}
+use Rattle.clear_account.specs.Arrears.{arrears_on}
+use Rattle.clear_account.specs.Interest.{all_interest_on}
 use Rattle.clear_account.specs.declared.entries.Charge.{Charge}
 use Rattle.clear_account.specs.declared.entries.Credit.{Credit}
 use Rattle.clear_bank.specs.declared.lines.Purpose.{Purpose}
 use Rattle.clear_bank.specs.declared.lines.Purpose.TheVariants.{Contribution, Interest}
 use Rattle.clear_book.specs.declared.rows.CreditRow.{CreditRow}
 use Rattle.clear_book.specs.declared.texts.WageLine.{WageLine}
-use Rattle.clear_book.specs.Book.{Book, Entry, rates_of, latest_lines}
+use Rattle.clear_book.specs.Book.{Book, Entry, rates_of, member_of, is_member_month, latest_lines}
+use Rattle.clear_book.specs.Book.{reported_version}
 use Rattle.clear_book.specs.Keyed.{in_key_order}
 use Rattle.clear_book.specs.Lines.{lines_standing, credits_of_lines, is_credit_of}
 
@@ -47,10 +54,6 @@ reported_charge b m (Some lines) = Some (month_charge (rates_of b) m (base_of li
 abbrev pub book_charge : Book → ℕ → ℕ → Option Charge
 book_charge b e m = reported_charge b m (latest_lines b.entries e m)
 
--- the months from 2000-01 to 2199-12
-unfoldable pub months : List ℕ
-months = range_with_len 24000 2400
-
 -- the contributions of an employer, the months rising
 abbrev pub charges_of : Book → ℕ → List Charge
 charges_of b e = filter_map (book_charge b e) months
@@ -87,3 +90,31 @@ credits_of b e = credits_under (credits_standing b.entries) e Contribution
 -- a firm's credits for interest, by day, and on one day by serial
 abbrev pub interest_credits_of : Book → ℕ → List Credit
 interest_credits_of b e = credits_under (credits_standing b.entries) e Interest
+
+-- ---- what a firm owes on a day
+
+-- the contributions due before the day, less all credits for contributions
+abbrev pub arrears : Book → ℕ → ℕ → ℕ
+arrears b e t = arrears_on (charges_of b e) (credits_of b e) t
+
+-- all interest up to the day, less all credits for interest
+abbrev pub interest_arrears : Book → ℕ → ℕ → ℕ
+interest_arrears b e t =
+    all_interest_on (rates_of b) (charges_of b e) (credits_of b e) t
+    - credited (interest_credits_of b e)
+
+-- the report of the month was to be in before the day
+abbrev pub is_overdue : List Rate → ℕ → ℕ → Bool
+is_overdue rates t m =
+    option_map_or (λ r. nat_lt (report_day_of m r) t) (rate_in_force rates m) false
+
+-- the month is missing on the day: the firm is a member in it, its report was to be in before the
+-- day, and there is none
+abbrev pub is_missing : Book → ℕ → ℕ → ℕ → Bool
+is_missing b e t m =
+    is_member_month (member_of b.entries e) m && is_overdue (rates_of b) t m
+    && is_none (reported_version b.entries e m)
+
+-- the months that are missing on the day, rising
+abbrev pub missing : Book → ℕ → ℕ → List ℕ
+missing b e t = filter (is_missing b e t) months

@@ -1,7 +1,8 @@
 -- The book: the opening rates and the accepted requests, and what is read off it.
-use Rattle.std.specs.Prelude.{ℕ, List, [], ◌∷◌, Option, Some, None, Bool, true, false, ◌&&◌, ◌==◌}
-use Rattle.std.specs.Prelude.{if◌then◌else◌, count_by}
-use Rattle.std.specs.Option.{option_map}
+use Rattle.std.specs.Prelude.{ℕ, List, [], ◌∷◌, ◌++◌, Option, Some, None, Bool, true, false}
+use Rattle.std.specs.Prelude.{◌&&◌, ◌==◌, if◌then◌else◌, count_by, is_some, nat_le}
+use Rattle.std.specs.Prelude.{option_and_then}
+use Rattle.std.specs.Option.{option_map, option_map_or}
 use Rattle.clear_money.specs.Rates.{Rate}
 use Rattle.clear_book.specs.declared.texts.WageLine.{WageLine}
 use Rattle.clear_book.specs.declared.calls.Call.{Call}
@@ -11,6 +12,7 @@ use Rattle.clear_book.specs.declared.calls.Caller.TheVariants.{Firm, Clerk}
 use Rattle.clear_book.specs.declared.calls.Command.{Command}
 use Rattle.clear_book.specs.declared.calls.Command.TheVariants.{Register, Report, Correct}
 use Rattle.clear_book.specs.declared.calls.Command.TheVariants.{ImportBank}
+use Rattle.clear_book.specs.declared.calls.Registration.{Registration}
 use Rattle.clear_book.specs.declared.calls.WageReport.{WageReport}
 use Rattle.clear_book.specs.declared.outcomes.Reply.{Reply}
 use Rattle.clear_book.specs.Keyed.{find_row}
@@ -32,10 +34,18 @@ entry caller number day command reply =
 abbrev pub call_of : Entry → Call
 call_of x = Do x.caller x.number x.day x.command
 
+-- the table of rates that a book opens with
+pub record RateTable : Type 0 where
+  pub rows : List Rate
+
 -- the newest entry first: behind an entry stands the book that it was judged on
 pub record Book : Type 0 where
-  pub opening : List Rate
+  pub opening : RateTable
   pub entries : List Entry
+
+-- the book without entries, with these opening rows of rates
+abbrev pub first_book : List Rate → Book
+first_book rows = record { opening = record { rows = rows }; entries = [] }
 
 -- the day of the last accepted request
 abbrev pub ledger_day : List Entry → Option ℕ
@@ -56,9 +66,21 @@ abbrev pub entry_under : List Entry → Caller → ℕ → Option Entry
 entry_under xs caller number =
     find_row (λ x. request_number x.caller x.number) xs (request_number caller number)
 
--- the rate rows of a book
+-- the rate rows that a command adds
+abbrev pub rates_added : Command → List Rate
+rates_added (Register r) = []
+rates_added (Report r) = []
+rates_added (Correct c) = []
+rates_added (ImportBank file) = []
+
+-- the rows of a table, and behind them those that entries add
+abbrev pub rates_behind : RateTable → List Entry → List Rate
+rates_behind table [] = table.rows
+rates_behind table (x ∷ xs) = rates_behind table xs ++ rates_added x.command
+
+-- the rate rows of a book: the opening ones, and those of its entries
 abbrev pub rates_of : Book → List Rate
-rates_of b = b.opening
+rates_of b = rates_behind b.opening b.entries
 
 -- the newer of two, if it is there
 abbrev pub newer : {A : Type 0} → Option A → Option A → Option A
@@ -71,18 +93,31 @@ pub record Member : Type 0 where
   pub start : ℕ
   pub last : Option ℕ
 
--- the first member month
-abbrev pub start_of : Option Member → Option ℕ
-start_of None = None
-start_of (Some member) = Some member.start
+-- the member is one in the month: it lies from the first member month on, up to the last
+abbrev pub is_member_in : Member → ℕ → Bool
+is_member_in member m =
+    nat_le member.start m && option_map_or (λ last. nat_le m last) member.last true
+
+-- an employer is a member in the month, if it is registered
+abbrev pub is_member_month : Option Member → ℕ → Bool
+is_member_month None m = false
+is_member_month (Some member) m = is_member_in member m
+
+-- the registration that a command is
+abbrev pub registration_in : Command → Option Registration
+registration_in (Register r) = Some r
+registration_in (Report r) = None
+registration_in (Correct c) = None
+registration_in (ImportBank file) = None
+
+-- what a registration makes of an employer, if it is the employer's
+abbrev pub member_by : ℕ → Registration → Option Member
+member_by e r =
+    if r.employer == e then Some (record { name = r.name; start = r.start; last = None }) else None
 
 -- what a command registers for an employer
 abbrev pub registered_by : Command → ℕ → Option Member
-registered_by (Register r) e =
-    if r.employer == e then Some (record { name = r.name; start = r.start; last = None }) else None
-registered_by (Report r) e = None
-registered_by (Correct c) e = None
-registered_by (ImportBank file) e = None
+registered_by command e = option_and_then (member_by e) (registration_in command)
 
 -- an employer, if it is registered
 abbrev pub member_of : List Entry → ℕ → Option Member
@@ -91,10 +126,7 @@ member_of (x ∷ xs) e = newer (registered_by x.command e) (member_of xs e)
 
 -- a command that registers an employer
 abbrev pub is_registration : Command → Bool
-is_registration (Register r) = true
-is_registration (Report r) = false
-is_registration (Correct c) = false
-is_registration (ImportBank file) = false
+is_registration command = is_some (registration_in command)
 
 -- how many employers there are
 abbrev pub employer_count : List Entry → ℕ
@@ -104,13 +136,20 @@ employer_count xs = count_by (λ x. is_registration x.command) xs
 abbrev pub is_for : ℕ → ℕ → WageReport → Bool
 is_for e m r = (r.employer == e) && (r.month == m)
 
--- the lines that a command reports for an employer and a month, be it the first report or a
--- correction
+-- the report that a command brings, be it the first of its month or a correction
+abbrev pub report_in : Command → Option WageReport
+report_in (Register r) = None
+report_in (Report r) = Some r
+report_in (Correct c) = Some c.report
+report_in (ImportBank file) = None
+
+-- the lines of a report, if it is the employer's and the month's
+abbrev pub lines_for : ℕ → ℕ → WageReport → Option (List WageLine)
+lines_for e m r = if is_for e m r then Some r.lines else None
+
+-- the lines that a command reports for an employer and a month
 abbrev pub reported_by : Command → ℕ → ℕ → Option (List WageLine)
-reported_by (Register r) e m = None
-reported_by (Report r) e m = if is_for e m r then Some r.lines else None
-reported_by (Correct c) e m = if is_for e m c.report then Some c.report.lines else None
-reported_by (ImportBank file) e m = None
+reported_by command e m = option_and_then (lines_for e m) (report_in command)
 
 -- the lines of the last report of an employer and a month
 abbrev pub latest_lines : List Entry → ℕ → ℕ → Option (List WageLine)
@@ -119,10 +158,7 @@ latest_lines (x ∷ xs) e m = newer (reported_by x.command e m) (latest_lines xs
 
 -- a command that reports for the employer and the month
 abbrev pub is_report_of : ℕ → ℕ → Command → Bool
-is_report_of e m (Register r) = false
-is_report_of e m (Report r) = is_for e m r
-is_report_of e m (Correct c) = is_for e m c.report
-is_report_of e m (ImportBank file) = false
+is_report_of e m command = is_some (reported_by command e m)
 
 -- how many reports of a month there were
 abbrev pub version_of : List Entry → ℕ → ℕ → ℕ

@@ -21,10 +21,8 @@ use Rattle.clear_book.specs.declared.rules.Rule.{Rule}
 use Rattle.clear_book.specs.declared.rules.Rule.TheVariants.{NotYours, NumberReused, DayBack}
 use Rattle.clear_book.specs.declared.rules.Rule.TheVariants.{OverLimit}
 use Rattle.clear_book.specs.Access.{may_do, may_query}
-use Rattle.clear_bank.specs.declared.lines.Purpose.TheVariants.{Contribution, Interest}
-use Rattle.clear_book.specs.Accounts.{charges_of, credit_rows_of, credits_of}
 use Rattle.clear_book.specs.Book.{Book, Entry, entry_under, rates_of, ledger_day, member_of}
-use Rattle.clear_book.specs.Book.{start_of, employer_count, reported_version}
+use Rattle.clear_book.specs.Book.{employer_count, reported_version}
 use Rattle.clear_book.specs.Checks.{when, first_of}
 use Rattle.clear_book.specs.Documents.Statement.{statement_text}
 use Rattle.clear_book.specs.Kept.{same_command}
@@ -36,7 +34,7 @@ use Rattle.clear_book.specs.Own.ImportBank.{own_import, import_reply}
 use Rattle.clear_book.specs.Own.Owed.{own_owed, owed_by}
 use Rattle.clear_book.specs.Own.Register.{own_register, register_reply}
 use Rattle.clear_book.specs.Own.Report.{own_report, report_reply}
-use Rattle.clear_book.specs.Own.Statement.{own_statement, statement_of}
+use Rattle.clear_book.specs.Own.Statement.{own_statement, firm_on, statement_of}
 
 -- what is said of a call: a reply to a new request, the reply that stands for one already, the
 -- answer to a query, or the rule that refuses it
@@ -67,22 +65,22 @@ own_rule b t (Register r) =
     own_register (is_some (member_of b.entries r.employer)) (employer_count b.entries)
     (is_some (rate_in_force (rates_of b) r.start))
 own_rule b t (Report r) =
-    own_report (start_of (member_of b.entries r.employer))
+    own_report (member_of b.entries r.employer)
     (reported_version b.entries r.employer r.month) t r.month r.lines
 own_rule b t (Correct c) =
-    own_correct (start_of (member_of b.entries c.report.employer))
+    own_correct (member_of b.entries c.report.employer)
     (reported_version b.entries c.report.employer c.report.month) t c
 own_rule b t (ImportBank file) =
     own_import (lines_of_rows (lines_seen b.entries))
     (rows_brought b.entries (lines_seen b.entries) file)
     (suspense_count (lines_standing b.entries)) (credit_count (lines_standing b.entries)) t file
 
--- the reply to a command that no rule refuses
-abbrev pub reply_to : Book → Command → Reply
-reply_to b (Register r) = register_reply
-reply_to b (Report r) = report_reply (rate_in_force (rates_of b) r.month) r.lines
-reply_to b (Correct c) = correct_reply c (rate_in_force (rates_of b) c.report.month)
-reply_to b (ImportBank file) =
+-- the reply, on a day, to a command that no rule refuses
+abbrev pub reply_to : Book → ℕ → Command → Reply
+reply_to b t (Register r) = register_reply
+reply_to b t (Report r) = report_reply (rate_in_force (rates_of b) r.month) r.lines
+reply_to b t (Correct c) = correct_reply c (rate_in_force (rates_of b) c.report.month)
+reply_to b t (ImportBank file) =
     import_reply (rows_brought b.entries (lines_seen b.entries) file) file
 
 -- the first of a query's own rules that applies
@@ -93,13 +91,12 @@ own_query b (Statement employer) = own_statement (is_some (member_of b.entries e
 -- the statement of an employer on a day, and nothing of one that isn't registered
 abbrev pub statement_on : Book → ℕ → ℕ → List ℕ
 statement_on b t e =
-    option_map_or (λ member. statement_text (statement_of (rates_of b) (charges_of b e)
-    (credit_rows_of b e Contribution) (credit_rows_of b e Interest)
-    (reported_version b.entries e) t e member)) (member_of b.entries e) []
+    option_map_or (λ member. statement_text (statement_of (firm_on b e t member)))
+    (member_of b.entries e) []
 
 -- the answer to a query that no rule refuses
 abbrev pub answer_to : Book → ℕ → Query → Answer
-answer_to b t (Owed employer) = owed_by t (charges_of b employer) (credits_of b employer)
+answer_to b t (Owed employer) = owed_by b employer t
 answer_to b t (Statement employer) = Text (statement_on b t employer)
 
 -- the rule in place of what is said, if one applies
@@ -144,7 +141,7 @@ judge b (Do caller number day command) =
     judged_do (may_do caller command)
     (said_before (entry_under b.entries caller number) command)
     (day_back (ledger_day b.entries) day) (is_full (length b.entries)) (own_rule b day command)
-    (reply_to b command)
+    (reply_to b day command)
 judge b (Ask caller day query) =
     judged_ask (may_query caller query) (day_back (ledger_day b.entries) day) (own_query b query)
     (answer_to b day query)

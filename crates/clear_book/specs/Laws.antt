@@ -1,11 +1,13 @@
 -- What follows from the definitions alone, of lawful books.
-use Rattle.std.specs.Prelude.{◌≡◌, ℕ, ◌≤◌, List, Option, Some, None, length, map}
+use Rattle.std.specs.Prelude.{◌≡◌, ℕ, ◌≤◌, List, Option, Some, None, is_some, length, map}
 use Rattle.std.specs.List.{AllByRecursion, range_with_len}
 use Rattle.clear_money.specs.Rates.{rate_in_force}
 use Rattle.clear_account.specs.Account.{charged, credited}
 use Rattle.clear_book.specs.declared.rows.BankRow.{BankRow}
+use Rattle.clear_book.specs.declared.rows.ClaimRow.{ClaimRow}
 use Rattle.clear_book.specs.declared.texts.WageLine.{WageLine}
 use Rattle.clear_book.specs.Book.{Book, rates_of, ledger_day, latest_lines, version_of}
+use Rattle.clear_book.specs.Book.{employer_count, member_of}
 use Rattle.clear_book.specs.Accounts.{base_of, contribution_of_lines, charges_of, credits_of}
 use Rattle.clear_book.specs.Accounts.{interest_credits_of, credits_standing}
 use Rattle.clear_book.specs.Keyed.{find_row, AreInOrder, AreOnce}
@@ -13,7 +15,8 @@ use Rattle.clear_book.specs.Limits.{most_entries, most_lines, most_gross, most_b
 use Rattle.clear_book.specs.Limits.{most_credits, most_credited, most_suspense, most_serials}
 use Rattle.clear_book.specs.Limits.{most_versions}
 use Rattle.clear_book.specs.Lines.{lines_seen, lines_standing, suspense_count, serial_count}
-use Rattle.clear_book.specs.Tables.{bank_key}
+use Rattle.clear_book.specs.Tables.{bank_key, claim_key}
+use Rattle.clear_book.specs.Workers.{employers_of, number_key}
 
 -- the limits on a report's lines
 pub record AreFew (lines : List WageLine) : Type 0 where
@@ -51,6 +54,18 @@ pub record IsSmall (b : Book) : Type 0 where
 pub record AreCounted (rows : List BankRow) : Type 0 where
   pub serials : map (λ row. row.serial) rows ≡ range_with_len 1 (length rows)
   pub references : AreOnce bank_key rows
+
+-- the employers rise, each is one that the book has registered, and there are as many
+pub record AreEmployers (b : Book) : Type 0 where
+  pub order : AreInOrder number_key (employers_of b.entries)
+  pub registered : (e : ℕ) → is_some (find_row number_key (employers_of b.entries) (number_key e))
+      ≡ is_some (member_of b.entries e)
+  pub count : length (employers_of b.entries) ≡ employer_count b.entries
+
+-- the claims of a book: the first takes number 1 and each further one the next
+pub record AreNumbered (claims : List ClaimRow) : Type 0 where
+  pub numbers : map (λ claim. claim.claim) claims ≡ range_with_len 1 (length claims)
+  pub order : AreInOrder claim_key claims
 
 -- the rows in the strict order of their keys: under each key the same row is found, and no other
 pub record AreSorted {Row : Type 0} (key : Row → List ℕ) (sorted rows : List Row) : Type 0 where

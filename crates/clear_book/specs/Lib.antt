@@ -12,8 +12,10 @@ pub mod Lines
 pub mod Machine
 pub mod Numbers
 pub mod Own
+pub mod Pieces
 pub mod Ranges
 pub mod RowRanges
 pub mod Rules
 pub mod Tables
 pub mod Texts
+pub mod Workers

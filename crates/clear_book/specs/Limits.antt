@@ -56,6 +56,15 @@ most_charged = 12000000000000
 abbrev pub most_credited : ℕ
 most_credited = 10000000000000000
 
+-- all interest of an employer, in cents: that of 2,400 months of the greatest base, 10 percent for
+-- each of 2,412 begun months
+abbrev pub most_interest : ℕ
+most_interest = 2894400000000000
+
+-- all claims, in cents: 50,000,000 claims of 100,000,000,000 cents
+abbrev pub most_claimed : ℕ
+most_claimed = 5000000000000000000
+
 -- the serials that an office gives: 50,000,000 requests of 10,000 records
 abbrev pub most_serials : ℕ
 most_serials = 500000000000

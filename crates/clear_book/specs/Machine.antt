@@ -8,7 +8,7 @@ use Rattle.clear_book.specs.declared.rules.Rule.TheVariants.{Memory, Store, Fail
 use Rattle.clear_book.specs.declared.rules.StoreCause.TheVariants.{Other}
 use Rattle.clear_book.specs.declared.outcomes.Outcome.{Outcome}
 use Rattle.clear_book.specs.declared.outcomes.Outcome.TheVariants.{Refused}
-use Rattle.clear_book.specs.Book.{Entry, Book, call_of, entry}
+use Rattle.clear_book.specs.Book.{Entry, RateTable, Book, call_of, entry}
 use Rattle.clear_book.specs.Judge.{Verdict, new_reply, kept_reply, an_answer, a_refusal}
 use Rattle.clear_book.specs.Judge.{judge, outcome_of}
 use Rattle.clear_book.specs.Access.{may_do, may_query}
@@ -74,11 +74,11 @@ pub record AreRates (rates : List Rate) : Type 0 where
 
 -- each entry is a call whose values lie in their ranges, with the new reply that the judge gives it
 -- on the book behind it
-abbrev pub AreJudged : List Rate → List Entry → Type 0
-AreJudged rates [] = AreRates rates
-AreJudged rates (x ∷ xs) =
-    AreJudged rates xs × IsCall (call_of x)
-    × (judge (record { opening = rates; entries = xs }) (call_of x) ≡ new_reply x.reply)
+abbrev pub AreJudged : RateTable → List Entry → Type 0
+AreJudged table [] = AreRates table.rows
+AreJudged table (x ∷ xs) =
+    AreJudged table xs × IsCall (call_of x)
+    × (judge (record { opening = table; entries = xs }) (call_of x) ≡ new_reply x.reply)
 
 -- a book that the machine leads to from one without entries
 abbrev pub IsLawful : Book → Type 0

@@ -1,20 +1,28 @@
 -- The values that the rows of tables may hold.
-use Rattle.std.specs.Prelude.{ℕ, ◌≤◌, IfSome}
+use Rattle.std.specs.Prelude.{◌≡◌, ℕ, ◌+◌, ◌≤◌, IfSome, length}
 use Rattle.std.specs.List.{AllByRecursion}
-use Rattle.clear_money.specs.Calendar.{IsMonth, IsDay}
+use Rattle.clear_money.specs.Calendar.{IsMonth, IsDay, months}
 use Rattle.clear_money.specs.Numbers.{IsEmployerNo, IsWorkerNo, IsAmount}
 use Rattle.clear_bank.specs.Ranges.{IsBankLine}
 use Rattle.clear_book.specs.declared.outcomes.Reply.{Reply}
 use Rattle.clear_book.specs.declared.outcomes.Reply.TheVariants.{Done, Reported, Imported}
 use Rattle.clear_book.specs.declared.rows.BankRow.{BankRow}
+use Rattle.clear_book.specs.declared.rows.ClaimRow.{ClaimRow}
+use Rattle.clear_book.specs.declared.rows.ClaimState.{ClaimState}
+use Rattle.clear_book.specs.declared.rows.ClaimState.TheVariants.{Open, Withdrawn, Released}
 use Rattle.clear_book.specs.declared.rows.CreditRow.{CreditRow}
 use Rattle.clear_book.specs.declared.rows.EmployerRow.{EmployerRow}
+use Rattle.clear_book.specs.declared.rows.ListRow.{ListRow}
+use Rattle.clear_book.specs.declared.rows.ReleasedClaim.{ReleasedClaim}
+use Rattle.clear_book.specs.declared.rows.ReminderRow.{ReminderRow}
 use Rattle.clear_book.specs.declared.rows.ReportRow.{ReportRow}
+use Rattle.clear_book.specs.declared.rows.RunRow.{RunRow}
 use Rattle.clear_book.specs.declared.rows.WageRow.{WageRow}
-use Rattle.clear_book.specs.Limits.{most_base, most_entries, most_gross, most_records}
+use Rattle.clear_book.specs.Limits.{most_base, most_charged, most_claimed, most_employers}
+use Rattle.clear_book.specs.Limits.{most_entries, most_gross, most_interest, most_records}
 use Rattle.clear_book.specs.Limits.{most_serials, most_versions}
 use Rattle.clear_book.specs.Machine.{AreRates}
-use Rattle.clear_book.specs.Numbers.{IsRequestNo}
+use Rattle.clear_book.specs.Numbers.{IsClaimNo, IsListNo, IsRequestNo, IsRunNo}
 use Rattle.clear_book.specs.Ranges.{IsCaller}
 use Rattle.clear_book.specs.Tables.{RequestRow, Tables, AreUnfilled}
 use Rattle.clear_book.specs.Texts.{IsName, IsCreditReference}
@@ -53,6 +61,48 @@ pub record IsCreditRow (row : CreditRow) : Type 0 where
   pub cents : IsAmount row.cents
   pub reference : IsCreditReference row.reference
 
+-- a settlement of so many cents: the three amounts are their sum
+pub record IsReleased (cents : ℕ) (release : ReleasedClaim) : Type 0 where
+  pub day : IsDay release.day
+  pub whole : release.to_contributions + release.to_interest + release.paid ≡ cents
+  pub list : IfSome release.list IsListNo
+
+-- how a claim of so many cents stands
+abbrev pub IsClaimState : ℕ → ClaimState → Type 0
+IsClaimState cents Open = Unit {0}
+IsClaimState cents Withdrawn = Unit {0}
+IsClaimState cents (Released release) = IsReleased cents release
+
+pub record IsClaimRow (row : ClaimRow) : Type 0 where
+  pub claim : IsClaimNo row.claim
+  pub employer : IsEmployerNo row.employer
+  pub worker : IsWorkerNo row.worker
+  pub cents : IsAmount row.cents
+  pub made : IsDay row.made
+  pub state : IsClaimState row.cents row.state
+
+pub record IsListRow (row : ListRow) : Type 0 where
+  pub list : IsListNo row.list
+  pub day : IsDay row.day
+  pub some : 1 ≤ row.items
+  pub items : row.items ≤ most_entries
+  pub total : row.total ≤ most_claimed
+
+pub record IsRunRow (row : RunRow) : Type 0 where
+  pub run : IsRunNo row.run
+  pub day : IsDay row.day
+  pub some : 1 ≤ row.firms
+  pub firms : row.firms ≤ most_employers
+
+pub record IsReminderRow (row : ReminderRow) : Type 0 where
+  pub run : IsRunNo row.run
+  pub employer : IsEmployerNo row.employer
+  pub level : (1 ≤ row.level) × (row.level ≤ 3)
+  pub missing : row.missing ≤ length months
+  pub first : IfSome row.first IsMonth
+  pub arrears : row.arrears ≤ most_charged
+  pub interest : row.interest ≤ most_interest
+
 -- the numbers of a reply: a contribution is at most its base, and a bank file has so many records
 -- at most
 abbrev pub IsReply : Reply → Type 0
@@ -75,8 +125,15 @@ pub record AreInRange (t : Tables) : Type 0 where
   pub wages : AllByRecursion IsWageRow t.wages
   pub bank : AllByRecursion IsBankRow t.bank
   pub credits : AllByRecursion IsCreditRow t.credits
+  pub claims : AllByRecursion IsClaimRow t.claims
+  pub lists : AllByRecursion IsListRow t.lists
+  pub runs : AllByRecursion IsRunRow t.runs
+  pub reminders : AllByRecursion IsReminderRow t.reminders
   pub requests : AllByRecursion IsRequestRow t.requests
   pub day : IfSome t.day IsDay
   pub entries : t.entries ≤ most_entries
   pub serial : t.serial ≤ most_serials
+  pub last_claim : t.last_claim ≤ most_entries
+  pub last_list : t.last_list ≤ most_entries
+  pub last_run : t.last_run ≤ most_entries
   pub unfilled : AreUnfilled t

@@ -1,4 +1,6 @@
--- The tables that stand for a book: rows by their keys.
+-- The tables that stand for a book: rows by their keys. What a store keeps of accounts besides, the
+-- charges with what is open of them and the pieces, is to be no part of these but a record of its
+-- own beside them: so a store can be said to be right but for some cents of pieces.
 use Rattle.std.specs.Prelude.{◌≡◌, ℕ, ◌+◌, List, [], ◌∷◌, Option, Some, None, Bool, false, ◌&&◌}
 use Rattle.std.specs.Prelude.{◌==◌}
 use Rattle.std.specs.Prelude.{if◌then◌else◌, length, sum_by, map, filter}
@@ -79,17 +81,35 @@ wage_key row = row.employer ∷ row.month ∷ row.worker ∷ []
 abbrev pub bank_key : BankRow → List ℕ
 bank_key row = row.line.reference
 
+-- the number of a claim
+abbrev pub claim_key : ClaimRow → List ℕ
+claim_key row = row.claim ∷ []
+
+-- the number of a payout list
+abbrev pub list_key : ListRow → List ℕ
+list_key row = row.list ∷ []
+
+-- the number of a reminder run
+abbrev pub run_key : RunRow → List ℕ
+run_key row = row.run ∷ []
+
+-- a reminder run and an employer
+abbrev pub reminder_key : ReminderRow → List ℕ
+reminder_key row = row.run ∷ row.employer ∷ []
+
 -- a caller and the number that it gave the request
 abbrev pub request_key : RequestRow → List ℕ
 request_key row = request_number row.caller row.number
 
 -- ---- look-ups
 
+-- the member that a row tells
+abbrev pub member_in : EmployerRow → Member
+member_in row = record { name = row.name; start = row.start; last = row.last }
+
 -- an employer, if it is registered
 abbrev pub member_at : List EmployerRow → ℕ → Option Member
-member_at rows e =
-    option_map (λ row. record { name = row.name; start = row.start; last = row.last })
-    (find_row employer_key rows (e ∷ []))
+member_at rows e = option_map member_in (find_row employer_key rows (e ∷ []))
 
 -- the version of a month's latest report
 abbrev pub version_at : List ReportRow → ℕ → ℕ → Option ℕ
@@ -126,10 +146,14 @@ requests_of xs = map request_row xs
 -- ---- the tables of a book, row by row
 
 -- the tables that no command fills yet are empty, and none of their numbers was given
-abbrev pub AreUnfilled : Tables → Type 0
-AreUnfilled t =
-    (t.claims ≡ []) × (t.lists ≡ []) × (t.runs ≡ []) × (t.reminders ≡ [])
-    × (t.last_claim ≡ 0) × (t.last_list ≡ 0) × (t.last_run ≡ 0)
+pub record AreUnfilled (t : Tables) : Type 0 where
+  pub claims : t.claims ≡ []
+  pub lists : t.lists ≡ []
+  pub runs : t.runs ≡ []
+  pub reminders : t.reminders ≡ []
+  pub last_claim : t.last_claim ≡ 0
+  pub last_list : t.last_list ≡ 0
+  pub last_run : t.last_run ≡ 0
 
 -- the tables are those of the book: each look-up says what the book says, and the keys rise
 -- strictly, so that there is no further row

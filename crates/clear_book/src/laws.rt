@@ -1,8 +1,9 @@
 //! Laws: what follows from the definitions alone. A law has no parameters and no effect; its
 //! contract is the law.
-ghost use Rattle.std.specs.Prelude.{◌≡◌, ◌↔◌, ℕ, List, [], Bool, true, IsTrue};
+ghost use Rattle.std.specs.Prelude.{◌≡◌, ◌↔◌, ℕ, List, Bool, true, IsTrue, map};
 ghost use Rattle.std.specs.List.{AllByRecursion};
 ghost use Rattle.clear_money.specs.Rates.{Rate};
+ghost use Rattle.clear_account.specs.Allocation.{right_pieces};
 ghost use Rattle.clear_bank.specs.Laws.{HasNoReferenceTwice};
 ghost use Rattle.clear_book.specs.declared.calls.Call.{Call};
 ghost use Rattle.clear_book.specs.declared.calls.Call.TheVariants.{Do};
@@ -15,21 +16,29 @@ ghost use Rattle.clear_book.specs.declared.rules.Rule.TheVariants.{Failed, Store
 ghost use Rattle.clear_book.specs.declared.rules.StoreCause.{StoreCause};
 ghost use Rattle.clear_book.specs.declared.rules.StoreCause.TheVariants.{Other};
 ghost use Rattle.clear_book.specs.Accounts.{charges_of, credit_key, credits_of, credits_standing};
-ghost use Rattle.clear_book.specs.Book.{Book};
+ghost use Rattle.clear_book.specs.Book.{Book, first_book, rates_of};
 ghost use Rattle.clear_book.specs.Judge.{judge, kept_reply, new_reply};
 ghost use Rattle.clear_book.specs.Kept.{command_bytes, same_command};
-ghost use Rattle.clear_book.specs.Laws.{AreCounted, AreSorted, IsSmall};
+ghost use Rattle.clear_book.specs.Laws.{AreCounted, AreEmployers, AreNumbered, AreSorted, IsSmall};
 ghost use Rattle.clear_book.specs.Lines.{credits_of_lines, lines_of_rows, lines_seen};
 ghost use Rattle.clear_book.specs.Lines.{lines_standing};
 ghost use Rattle.clear_book.specs.Machine.{AreRates, Goes, IsLawful, Runs, step};
+ghost use Rattle.clear_book.specs.Pieces.{piece_rows_of, row_piece};
 ghost use Rattle.clear_book.specs.Ranges.{IsCall, IsCommand};
 ghost use Rattle.clear_book.specs.RowRanges.{AreInRange};
 ghost use Rattle.clear_book.specs.Tables.{Tables, Stands, table_charges, table_credits};
+ghost use Rattle.clear_book.specs.Workers.{claims_of};
 
 /// A book without entries over a table of rates is lawful.
 pub fn law_first_book()
     ensures { (rates : List Rate) → AreRates rates
-        → IsLawful (record { opening = rates; entries = [] }) }
+        → IsLawful (first_book rates) }
+{}
+
+/// The rates of a lawful book are ones that a `RateTable` allows: there is a row, the first months
+/// rise strictly, and each row is in its ranges.
+pub fn law_rates()
+    ensures { (b : Book) → IsLawful b → AreRates (rates_of b) }
 {}
 
 /// A run over calls whose values lie in their ranges leads from a lawful book to a lawful one.
@@ -80,6 +89,23 @@ pub fn law_rows_in_range()
 pub fn law_charges()
     ensures { (b : Book) (t : Tables) (e : ℕ)
         → IsLawful b → Stands b t → table_charges t e ≡ charges_of b e }
+{}
+
+/// The employers of a lawful book rise strictly, are those that it has registered, and are as many.
+pub fn law_employers()
+    ensures { (b : Book) → IsLawful b → AreEmployers b }
+{}
+
+/// The claims of a book have the numbers 1, 2, 3, .. in the order in which they were made.
+pub fn law_claims()
+    ensures { (b : Book) → AreNumbered (claims_of b.entries) }
+{}
+
+/// The pieces of a firm, told with the days and the references of its payments, are those of its
+/// account.
+pub fn law_pieces()
+    ensures { (b : Book) (e : ℕ) → map row_piece (piece_rows_of b e)
+        ≡ right_pieces (charges_of b e) (credits_of b e) }
 {}
 
 /// The bank lines of a book have the serials 1, 2, 3, .. in the order in which they came, and no

@@ -19,6 +19,22 @@ pub struct EmployerRow {
     pub last: Option<Month>,
 }
 
+impl EmployerRow {
+    ghost use Rattle.std.specs.Prelude.{◌≡◌};
+    ghost use Rattle.clear_book.specs.Book.{is_member_in};
+    ghost use Rattle.clear_book.specs.Tables.{member_in};
+
+    /// Whether the employer is a member in a month.
+    pub fn is_member_in(&self, month: Month) -> bool
+        ensures { result ≡ is_member_in (member_in self.now) month }
+    {
+        match self.last {
+            Some(last) => self.start <= month && month <= last,
+            None => self.start <= month,
+        }
+    }
+}
+
 /// The latest report of an employer's month.
 #[derive(Clone, Copy)]
 pub struct ReportRow {
@@ -57,6 +73,21 @@ pub struct CreditRow {
     /// The serial of the bank line.
     pub serial: u64,
     pub cents: Amount,
+    pub reference: CreditReference,
+}
+
+/// What a credit pays of the contribution of a month: 1 cent or more.
+#[derive(Drop)]
+pub struct PieceRow {
+    pub employer: EmployerNo,
+    pub month: Month,
+    /// The day of the credit.
+    pub day: Day,
+    /// The serial of the credit.
+    pub serial: u64,
+    /// At most those of the contribution.
+    pub cents: u64,
+    /// The reference of the credit.
     pub reference: CreditReference,
 }
 

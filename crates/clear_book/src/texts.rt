@@ -1,11 +1,11 @@
 //! Names, the wage lines of a report, and the references of credits.
 ghost use Rattle.std.specs.Prelude.{◌≡◌, ℕ, ◌↔◌, string_bytes, true, IfOk, IfSome, IsSome};
-ghost use Rattle.std.specs.List.{AllByRecursion};
 ghost use Rattle.clear_book.specs.Numbers.{IsClaimNo};
-ghost use Rattle.clear_book.specs.Texts.{IsCreditReference, IsName, IsPrintable, IsSetOff};
+ghost use Rattle.clear_book.specs.Texts.{IsCreditReference, IsName, IsSetOff};
 
 use crate::limits::{MAX_ENTRIES, MAX_NAME_BYTES};
 use clear_bank::texts::Reference;
+use clear_money::bytes::are_printable;
 use clear_money::numbers::{WorkerNo, read_number};
 use std::alloc::{AllocError, Global};
 use std::marker::Model;
@@ -57,13 +57,6 @@ impl Name {
             text: self.text.clone()?,
         })
     }
-}
-
-// No byte is a control character.
-fn are_printable(bytes: &[u8]) -> bool
-    ensures { (result ≡ true) ↔ AllByRecursion IsPrintable bytes.now }
-{
-    bytes.iter().all(|byte| *byte >= 0x20 && *byte != 0x7F)
 }
 
 /// What a worker earned in a month: the gross amount in cents.

@@ -4,16 +4,14 @@ use Rattle.std.specs.Prelude.{◌==◌, nat_le, if◌then◌else◌, Option, Som
 use Rattle.std.specs.Prelude.{Result, Ok, Err, ok_or}
 use Rattle.std.specs.List.{list_all}
 use Rattle.toml.specs.Data.{Data, Members, no_members, member, as_integer, get_member}
+use Rattle.clear_money.specs.Bytes.{is_visible}
+use Rattle.clear_money.specs.Options.{◌>>=◌}
 use Rattle.clear_money.specs.RateFile.{document_of}
 use Rattle.clear_book.specs.declared.calls.Caller.{Caller}
 use Rattle.clear_book.specs.declared.calls.Caller.TheVariants.{Firm, Clerk}
 use Rattle.clear_callers.specs.Callers.{KeyOf, caller_of}
 use Rattle.clear_callers.specs.declared.caller_file.DirectoryFault.{DirectoryFault}
 use Rattle.clear_callers.specs.declared.caller_file.DirectoryFault.TheVariants.{Text, Entry, Memory}
-
--- a byte from 0x21 to 0x7E
-abbrev pub is_visible : ℕ → Bool
-is_visible b = nat_le 0x21 b && nat_le b 0x7E
 
 -- 1 to 64 visible bytes
 abbrev pub is_key : List ℕ → Bool
@@ -28,11 +26,6 @@ caller_numbered (negsuc n) = None
 -- who calls with a key of this value
 abbrev pub caller_at : List ℕ → Data → Option Caller
 caller_at key d = if is_key key then option_and_then caller_numbered (as_integer d) else None
-
-infixl 10 ◌>>=◌
--- what follows from the value, if there is one
-abbrev ◌>>=◌ : {A B : Type 0} → Option A → (A → Option B) → Option B
-o >>= f = option_and_then f o
 
 -- the keys of members and their callers
 abbrev pub keys_in : Members → Option (List KeyOf)

@@ -1,13 +1,13 @@
 //! Caller files: TOML texts in which each member is a key and the number of its caller.
 ghost use Rattle.std.specs.Prelude.{◌≡◌, ◌≢◌, OnOk, IfOk, IfErr, map, Some, None, ok_or};
-ghost use Rattle.std.specs.List.{list_all};
 ghost use Rattle.toml.specs.View.{view, table_view};
 ghost use Rattle.clear_money.specs.RateFile.{document_of};
-ghost use Rattle.clear_callers.specs.CallerFile.{is_visible, is_key, caller_numbered, caller_at};
-ghost use Rattle.clear_callers.specs.CallerFile.{keys_in, Gives};
+ghost use Rattle.clear_callers.specs.CallerFile.{caller_at, caller_numbered, Gives, is_key};
+ghost use Rattle.clear_callers.specs.CallerFile.{keys_in};
 ghost use Rattle.clear_callers.specs.Callers.{key_of, with_key};
 
 use clear_book::calls::Caller;
+use clear_money::bytes::are_visible;
 use clear_money::numbers::EmployerNo;
 use std::alloc::{AllocError, Global};
 use std::collections::BTreeMap;
@@ -113,14 +113,7 @@ fn caller_at(key: &[u8], value: &Value) -> Option<Caller>
 fn is_key(key: &[u8]) -> bool
     ensures { result ≡ is_key key.now }
 {
-    !key.is_empty() && key.len() <= MAX_KEY && all_visible(key)
-}
-
-// No byte is a space or a control character, nor above 0x7E.
-fn all_visible(bytes: &[u8]) -> bool
-    ensures { result ≡ list_all is_visible bytes.now }
-{
-    bytes.iter().all(|b| *b >= 0x21 && *b <= 0x7E)
+    !key.is_empty() && key.len() <= MAX_KEY && are_visible(key)
 }
 
 fn caller_numbered(number: i64) -> Option<Caller>

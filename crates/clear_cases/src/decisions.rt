@@ -4,14 +4,14 @@ use clear_book::calls::{Command, Correction, Registration, WageReport};
 use clear_book::files::BankFile;
 use clear_book::kept::command_bytes;
 use clear_book::numbers::SerialCount;
-use clear_book::rows::Decision;
+use clear_book::rows::{Decision, EmployerRow};
 use clear_book::rules::{Limit, Rule};
 use clear_book::texts::{Name, WageLine, WageLines};
 use clear_money::days::Day;
 use clear_money::months::Month;
 use clear_money::numbers::{EmployerNo, WorkerNo};
 use clear_rules::decide::correct::decide_correct;
-use clear_rules::decide::import::{EmployerCredits, ImportView, decide_import};
+use clear_rules::decide::import::{EmployerCredits, ImportView, decide_import, file_lines};
 use clear_rules::decide::register::{RegisterView, decide_register};
 use clear_rules::decide::report::ReportView;
 use std::alloc::Global;
@@ -101,14 +101,26 @@ fn imported(alloc: Global, suspense: u64, contribution_count: u64) -> Option<&'s
     let bytes = Vec::from_slice(alloc, LINES.as_bytes()).ok()?;
     let file = BankFile::new(bytes);
     let view = view(alloc, suspense, contribution_count)?;
-    Some(told(decide_import(alloc, today()?, &file, &view)))
+    let lines = file_lines(alloc, &file).ok()?;
+    Some(told(decide_import(alloc, today()?, lines.as_slice(), &view)))
+}
+
+// The row of firm 1001.
+fn employer(alloc: Global) -> Option<EmployerRow> {
+    let registration = registration(alloc)?;
+    Some(EmployerRow {
+        employer: registration.employer,
+        name: registration.name,
+        start: registration.start,
+        last: None,
+    })
 }
 
 // A correction of this version of a month without lines.
 fn corrected(alloc: Global, version: u32) -> Option<&'static str> {
     let report = report(alloc, &[])?;
     let view = ReportView {
-        start: Some(report.month),
+        member: Some(employer(alloc)?),
         version: Some(version),
         row: None,
     };

@@ -6,7 +6,7 @@ use Rattle.std.specs.Io.KnownBytes.{Appends}
 use Rattle.clear_book.specs.declared.rules.Rule.TheVariants.{Memory}
 use Rattle.clear_answers.specs.declared.said.Said.{Said}
 use Rattle.clear_answers.specs.declared.said.Said.TheVariants.{Reply, Answer, No}
-use Rattle.clear_answers.specs.Answer.{answer_of, first_lines, further_field, close_field, sent_body, body_of}
+use Rattle.clear_answers.specs.Answer.{answer_of, head_of, first_lines, further_field, close_field, sent_body, body_of}
 use Rattle.clear_answers.specs.Said.{refused_by}
 use Rattle.clear_wire.specs.Head.{Heading}
 use Rattle.clear_wire.specs.Stream.{NextItem, ended, Next}
@@ -201,10 +201,15 @@ lines_some : (said : Said) (len : ℕ) → 0 < length (first_lines said len)
 unfolding first_lines
 lines_some said len = front_some (codes "HTTP/1.1 ") _ (omega arith)
 
+head_some : (said : Said) (len : ℕ) (close : Bool) → 0 < length (head_of said len close)
+unfolding head_of
+head_some said len close =
+    let lines = first_lines said len in
+    front_some (lines ++ further_field said ++ close_field close) (codes "\r\n")
+    (front_some (lines ++ further_field said) (close_field close) (front_some lines (further_field said) (lines_some said len)))
+
 pub answer_some : (said : Said) (close bare : Bool) → 0 < length (answer_of said close bare)
 unfolding answer_of
 answer_some said close bare =
-    let lines = first_lines said (length (body_of said)) in
-    front_some (lines ++ further_field said ++ close_field close ++ codes "\r\n") (sent_body bare (body_of said))
-    (front_some (lines ++ further_field said ++ close_field close) (codes "\r\n")
-    (front_some (lines ++ further_field said) (close_field close) (front_some lines (further_field said) (lines_some said (length (body_of said))))))
+    let len = length (body_of said) in
+    front_some (head_of said len close) (sent_body bare (body_of said)) (head_some said len close)

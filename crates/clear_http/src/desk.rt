@@ -16,7 +16,7 @@ ghost use Rattle.clear_http.specs.Serve.{ends_stream, was_done, Serves, ServesPa
 ghost use Rattle.clear_http.specs.Served.{KeepsOn, IsServed, IsServedPart};
 
 use crate::serve::{Fault, Responder, ServeFault, Served, serve_stream, tell_failed};
-use clear_answers::said::Said;
+use clear_answers::said::{Refused, Said};
 use clear_book::calls::Call;
 use clear_callers::directory::Directory;
 use clear_money::days::Day;
@@ -43,16 +43,16 @@ impl<S: Alter> Responder<Office<S>> for Desk<'_> {
 
     ghost responds = { λ self. MaySay S.Store self.directory.now self.day };
 
-    fn respond(&self, office: &mut Office<S>, request: &Request) -> Said {
+    fn reply(&self, office: &mut Office<S>, request: &Request) -> Said {
         match find_call(self.alloc, self.routes, self.directory, self.day, request) {
-            Ok(call) => take(office, &call),
+            Ok(call) => answer_call(office, &call),
             Err(refused) => Said::No(refused),
         }
     }
 }
 
-// Takes a call to the office.
-fn take<S: Alter>(office: &mut Office<S>, call: &Call) -> Said
+// Hands a call to the office, and says what it replies or answers.
+fn answer_call<S: Alter>(office: &mut Office<S>, call: &Call) -> Said
     ensures said { (outcome : Outcome) × (result ≡ said_of outcome)
         × Steps S.Store office.old call.now outcome office.new }
     ensures access { office.old.failed ≡ false → is_allowed call.now ≡ false
@@ -63,12 +63,25 @@ fn take<S: Alter>(office: &mut Office<S>, call: &Call) -> Said
     ensures undone { was_done result ≡ false → KeepsOn S.Store office.old office.new }
     ensures clean { IsHonest S.Store office.new → IsHonest S.Store office.old }
 {
-    let outcome = office.take(call);
-    Said::of(outcome)
+    match call {
+        Call::Do {
+            caller,
+            number,
+            day,
+            command,
+        } => match office.submit(*caller, *number, *day, command) {
+            Ok(reply) => Said::Reply(reply),
+            Err(rule) => Said::No(Refused::by(rule)),
+        },
+        Call::Ask { caller, day, query } => match office.ask(*caller, *day, query) {
+            Ok(answer) => Said::Answer(answer),
+            Err(rule) => Said::No(Refused::by(rule)),
+        },
+    }
 }
 
-/// Serves the requests in the bytes of a reader: their answers are written, one after another, up to
-/// the end of the stream or the first fault of the store, which ends it.
+/// Serves the requests in the bytes of a reader: their answers are written, one after another, up
+/// to the end of the stream or the first fault of the store, which ends it.
 ///
 /// Of an office that has failed before nothing is read, and the one answer says so.
 ///

@@ -5,8 +5,8 @@
 //! a fault it is those to the first items, whole, and a front of the next one's that isn't all of
 //! it: an answer that went out whole is counted. `Read` and `Write` come only where a call of this
 //! reader or writer failed, `Reads` only after all reads that a stream may make, `Memory` only
-//! where none of these is. Where a rule ended the stream it is told so, since bytes behind it weren't
-//! read. The loop knows nothing of the trade: it goes by what a `Responder` may say.
+//! where none of these is. Where a rule ended the stream it is told so, since bytes behind it
+//! weren't read. The loop knows nothing of the trade: it goes by what a `Responder` may say.
 //!
 //! `desk::serve` is that loop over an office, with the keys of its callers, on one day. Whatever
 //! lawful book the store stands for, what is said to the requests of a stream are the answers of

@@ -5,7 +5,7 @@ ghost use Rattle.std.specs.Io.KnownBytes.{Appends};
 ghost use Rattle.clear_book.specs.declared.rules.Rule.TheVariants.{Memory as no_memory};
 ghost use Rattle.clear_answers.specs.Answer.{answer_of};
 ghost use Rattle.clear_answers.specs.Said.{refused_by};
-ghost use Rattle.clear_wire.specs.Counted.{inner, has_failed, reads_of, noted_of, Notes};
+ghost use Rattle.clear_wire.specs.Counted.{inner, has_failed, reads_of};
 ghost use Rattle.clear_wire.specs.Cut.{IsAnswered};
 ghost use Rattle.clear_wire.specs.Input.{stream, reads_made, failed_of, CountsReads, KeepsBorrow};
 ghost use Rattle.clear_wire.specs.Known.{Leads};
@@ -25,7 +25,6 @@ use clear_wire::input::{Input, ReadFault};
 use clear_wire::limits::MAX_REQUESTS;
 use clear_wire::request::{Item, Request, read_request};
 use std::alloc::Global;
-use std::io;
 use std::io::Write;
 
 /// Who answers requests from a state, which they may change.
@@ -41,9 +40,9 @@ pub trait Responder<T> {
     /// What may be said to a request in a state, and what the state is then.
     ghost responds: { Self → T → Heading → List ℕ → Said → T → Type 0 };
 
-    /// Answers a request. Where nothing was done for it, want of memory may be told in the answer's
-    /// place.
-    fn respond(&self, state: &mut T, request: &Request) -> Said
+    /// Replies to a request. Where nothing was done for it, want of memory may be told in the
+    /// reply's place.
+    fn reply(&self, state: &mut T, request: &Request) -> Said
         ensures said { responds self.now state.old (heading request.now.head)
             request.now.body.items result state.new }
         ensures memory { was_done result ≡ false
@@ -88,14 +87,6 @@ struct Behind {
     unread: bool,
 }
 
-// What is to be sent for an item, and what follows it.
-#[derive(Drop)]
-struct Due {
-    said: Said,
-    bare: bool,
-    behind: Behind,
-}
-
 fn fault_of(fault: ReadFault) -> Fault
     ensures read { result ≡ Fault.Read → fault ≡ ReadFault.Read }
     ensures reads { result ≡ Fault.Reads → fault ≡ ReadFault.Reads }
@@ -110,23 +101,7 @@ fn fault_of(fault: ReadFault) -> Fault
 }
 
 // Writes all of the text, or a front of it that isn't all where a write fails.
-fn put_all<W: Write>(writer: &mut Counted<W>, text: &[u8]) -> io::Result<()>
-    ensures wrote { (part : List ℕ) × (rest : List ℕ) × (text.now ≡ part ++ rest)
-        × Appends (W.contents (inner writer.old)) (W.contents (inner writer.new)) part
-        × OnOk result (rest ≡ []) × OnErr result (0 < length rest) }
-    ensures noted { Notes (noted_of writer.old) (noted_of writer.new) result }
-{
-    let mut at = 0;
-    'writes: while at < text.len() {
-        match writer.write(&text[at..]) {
-            Ok(count) => at += count,
-            Err(e) => return Err(e),
-        }
-    }
-    Ok(())
-}
-
-fn put<W: Write>(writer: &mut Counted<W>, text: &[u8]) -> Result<(), Fault>
+fn write_all<W: Write>(writer: &mut Counted<W>, text: &[u8]) -> Result<(), Fault>
     ensures wrote { (part : List ℕ) × (rest : List ℕ) × (text.now ≡ part ++ rest)
         × Appends (W.contents (inner writer.old)) (W.contents (inner writer.new)) part
         × OnOk result (rest ≡ []) × OnErr result (0 < length rest) }
@@ -134,10 +109,14 @@ fn put<W: Write>(writer: &mut Counted<W>, text: &[u8]) -> Result<(), Fault>
         (fault ≡ Fault.Write) × (has_failed writer.new ≡ true)) }
     ensures well { OnOk result (has_failed writer.new ≡ has_failed writer.old) }
 {
-    match put_all(writer, text) {
-        Ok(()) => Ok(()),
-        Err(_) => Err(Fault::Write),
+    let mut at = 0;
+    'writes: while at < text.len() {
+        match writer.write(&text[at..]) {
+            Ok(count) => at += count,
+            Err(_error) => return Err(Fault::Write),
+        }
     }
+    Ok(())
 }
 
 // Tells that the office has failed before: the one answer to a stream of which nothing is read.
@@ -148,7 +127,7 @@ pub(crate) fn tell_failed<W: Write>(writer: &mut Counted<W>) -> Result<Served, S
     ensures failed { IfErr result (λ fault.
         (fault.fault ≡ Fault.Write) × (has_failed writer.new ≡ true)) }
 {
-    match put(writer, failed_text(true, false)) {
+    match write_all(writer, failed_text(true, false)) {
         Ok(()) => Ok(Served {
             requests: 1,
             unread: true,
@@ -188,80 +167,92 @@ fn left_behind(request: &Request, said: &Said, left: u32) -> u32
     }
 }
 
-// What is to be sent for what a stream goes on with; nothing at its end.
-fn respond_to<T, H: Responder<T>>(
-    responder: &H,
-    state: &mut T,
-    item: Item,
-    left: u32,
-) -> Option<Due>
-    requires { 0 < left }
+// Replies to what a stream goes on with; not to its end.
+fn reply<T, H: Responder<T>>(responder: &H, state: &mut T, item: &Item) -> Option<Said>
     ensures none { IfNone result
-        ((next_item item ≡ ended) × (state.new ≡ state.old)) }
-    ensures answered { IfSome result (λ due. IsAnswered (next_item item)) }
-    ensures says { IfSome result (λ due.
-        Says (H.responds responder.now) state.old (next_item item) due.said state.new) }
-    ensures memory { IfSome result (λ due. was_done due.said ≡ false
-        → Says (H.responds responder.now) state.old (next_item item) (refused_by no_memory)
+        ((next_item item.now ≡ ended) × (state.new ≡ state.old)) }
+    ensures answered { IfSome result (λ said. IsAnswered (next_item item.now)) }
+    ensures says { IfSome result (λ said.
+        Says (H.responds responder.now) state.old (next_item item.now) said state.new) }
+    ensures memory { IfSome result (λ said. was_done said ≡ false
+        → Says (H.responds responder.now) state.old (next_item item.now) (refused_by no_memory)
         state.new) }
-    ensures bare { IfSome result (λ due. due.bare ≡ is_bare (next_item item)) }
-    ensures after { IfSome result (λ due.
-        due.behind.after ≡ left_then left (next_item item) due.said) }
-    ensures unread { IfSome result (λ due. due.behind.unread ≡ is_bad (next_item item)) }
-    ensures falls { IfSome result (λ due. due.behind.after < left) }
 {
     match item {
-        Item::Whole(request) => {
-            let said = responder.respond(state, &request);
-            let after = left_behind(&request, &said, left);
-            Some(Due {
-                said,
-                bare: request.head.method.is_head(),
-                behind: Behind {
-                    after,
-                    unread: false,
-                },
-            })
-        }
-        Item::Bad { rule, bare } => Some(Due {
-            said: Said::No(Refused::by_stream(rule)),
-            bare,
-            behind: Behind {
-                after: 0,
-                unread: true,
-            },
-        }),
+        Item::Whole(request) => Some(responder.reply(state, request)),
+        Item::Bad { rule, .. } => Some(Said::No(Refused::by_stream(*rule))),
         Item::End => None,
     }
 }
 
-// Writes what is due, or the answer for want of memory where nothing was done.
-fn send<W: Write>(alloc: Global, writer: &mut Counted<W>, due: &Due) -> Result<(), Fault>
-    ensures wrote { (said : Said) × (part : List ℕ) × (rest : List ℕ) × MaySend due.now.said said
-        × (answer_of said (due.now.behind.after == 0) due.now.bare ≡ part ++ rest)
+// What follows an item to which this is said.
+fn what_follows(item: &Item, said: &Said, left: u32) -> Behind
+    requires { 0 < left }
+    ensures after { result.after ≡ left_then left (next_item item.now) said.now }
+    ensures unread { result.unread ≡ is_bad (next_item item.now) }
+    ensures falls { result.after < left }
+{
+    match item {
+        Item::Whole(request) => Behind {
+            after: left_behind(request, said, left),
+            unread: false,
+        },
+        Item::Bad { .. } => Behind {
+            after: 0,
+            unread: true,
+        },
+        Item::End => Behind {
+            after: 0,
+            unread: false,
+        },
+    }
+}
+
+// Whether the answer to an item has no body.
+fn is_bare(item: &Item) -> bool
+    ensures { result ≡ is_bare (next_item item.now) }
+{
+    match item {
+        Item::Whole(request) => request.head.method.is_head(),
+        Item::Bad { bare, .. } => *bare,
+        Item::End => false,
+    }
+}
+
+// Writes what is said, or the answer for want of memory where nothing was done. The buffer holds
+// the answer meanwhile, and nothing of it is read before.
+fn write_answer<W: Write>(
+    said: &Said,
+    close: bool,
+    bare: bool,
+    buffer: &mut Vec<u8>,
+    writer: &mut Counted<W>,
+) -> Result<(), Fault>
+    ensures wrote { (told : Said) × (part : List ℕ) × (rest : List ℕ) × MaySend said.now told
+        × (answer_of told close bare ≡ part ++ rest)
         × Appends (W.contents (inner writer.old)) (W.contents (inner writer.new)) part
         × OnOk result (rest ≡ []) × OnErr result (0 < length rest) }
     ensures failed { result ≡ Err Fault.Write → has_failed writer.new ≡ true }
     ensures well { result ≢ Err Fault.Write → has_failed writer.new ≡ has_failed writer.old }
     ensures only { IfErr result (λ fault. (fault ≢ Fault.Read) × (fault ≢ Fault.Reads)) }
 {
-    let close = due.behind.after == 0;
-    let mut text = Vec::new(alloc);
-    if answer_bytes(&due.said, close, due.bare, &mut text).is_ok() {
-        return put(writer, text.as_slice());
+    buffer.clear();
+    if answer_bytes(said, close, bare, buffer).is_ok() {
+        return write_all(writer, buffer.as_slice());
     }
-    if was_done(&due.said) {
+    if was_done(said) {
         return Err(Fault::Memory);
     }
-    put(writer, memory_text(close, due.bare))
+    write_all(writer, memory_text(close, bare))
 }
 
-// Answers what the stream goes on with, and says what follows; none where the stream is over.
+// One turn: what the stream goes on with is read, replied to and answered. Says what follows; none
+// where the stream is over.
 fn turn<T, H: Responder<T>, R: NotedRead, W: Write>(
-    alloc: Global,
     responder: &H,
     state: &mut T,
     input: &mut Input<R>,
+    buffer: &mut Vec<u8>,
     writer: &mut Counted<W>,
     left: u32,
 ) -> Result<Option<Behind>, Fault>
@@ -288,18 +279,22 @@ fn turn<T, H: Responder<T>, R: NotedRead, W: Write>(
     ensures writer { result ≢ Err Fault.Write → has_failed writer.new ≡ has_failed writer.old }
 {
     match read_request(input) {
-        Ok(item) => match respond_to(responder, state, item, left) {
-            Some(due) => match send(alloc, writer, &due) {
-                Ok(()) => Ok(Some(due.behind)),
-                Err(fault) => Err(fault),
-            },
+        Ok(item) => match reply(responder, state, &item) {
+            Some(said) => {
+                let behind = what_follows(&item, &said, left);
+                let bare = is_bare(&item);
+                match write_answer(&said, behind.after == 0, bare, buffer, writer) {
+                    Ok(()) => Ok(Some(behind)),
+                    Err(fault) => Err(fault),
+                }
+            }
             None => Ok(None),
         },
         Err(fault) => Err(fault_of(fault)),
     }
 }
 
-// Serves what an input has left.
+// Serves what an input has left. All answers are written from one buffer.
 fn serve_input<T, H: Responder<T>, R: NotedRead, W: Write>(
     alloc: Global,
     responder: &H,
@@ -328,11 +323,12 @@ fn serve_input<T, H: Responder<T>, R: NotedRead, W: Write>(
     ensures writer { IfErr result (λ fault. fault.fault ≢ Fault.Write
         → has_failed writer.new ≡ has_failed writer.old) }
 {
+    let mut buffer = Vec::new(alloc);
     let mut left = MAX_REQUESTS;
     let mut requests: u64 = 0;
     let mut unread = false;
     'turns: while left > 0 {
-        match turn(alloc, responder, state, input, writer, left) {
+        match turn(responder, state, input, &mut buffer, writer, left) {
             Ok(Some(behind)) => {
                 left = behind.after;
                 unread = behind.unread;

@@ -12,7 +12,8 @@ use Rattle.toml.specs.View.{items_of, items_view, view}
 use Rattle.toml.specs.declared.value.Value.{Value}
 use Rattle.clear_money.specs.Rates.{Rate, IsRate, AllAfter, IsRising, last_first}
 use Rattle.clear_money.specs.Texts.{month_text}
-use Rattle.clear_money.specs.RateFile.{◌>>=◌, document_of, rates_in, rows_in, rows_after, row_alone, row_after, rate_table, WrittenRatesAreRead}
+use Rattle.clear_money.specs.Results.{◌>>=◌}
+use Rattle.clear_money.specs.RateFile.{document_of, rates_in, rows_in, rows_after, row_alone, row_after, rate_table, WrittenRatesAreRead}
 use Rattle.clear_money.specs.declared.rate_file.RateFault.{RateFault}
 use Rattle.clear_money.proofs.WrittenRateLemmas.{rate_meant-some}
 use Rattle.clear_money.specs.WrittenRate.{Written, written_row, rate_meant, has_only}

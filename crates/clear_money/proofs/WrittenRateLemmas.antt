@@ -11,7 +11,7 @@ use Rattle.std.specs.Result.{OkIff, result_ok}
 use Rattle.toml.proofs.Views.{Entry}
 use Rattle.toml.specs.View.{members_view}
 use Rattle.toml.specs.declared.value.Value.{Value}
-use Rattle.clear_money.specs.Calendar.{IsMonth}
+use Rattle.clear_money.specs.Calendar.{IsMonth, months}
 use Rattle.clear_money.specs.Rates.{Rate, IsRate}
 use Rattle.clear_money.specs.Texts.{month_text}
 use Rattle.clear_money.specs.WrittenRate.{Written, month_spelled, within, rate_meant, has_only}
@@ -53,7 +53,7 @@ spells text m = bytes_eq (month_text m) text
 
 -- the months are kept as a range of n, since 2,400 of them would be computed
 spelled-list : (text : List ℕ) (n : ℕ) → n ≡ 2400 → month_spelled text ≡ find (spells text) (range_with_len 24000 n)
-unfolding month_spelled
+unfolding month_spelled months
 spelled-list text n e = subst (λ (k : ℕ). month_spelled text ≡ find (spells text) (range_with_len 24000 k)) (sym e) refl
 
 spelled_from : (text : List ℕ) (m n : ℕ) → n ≡ 2400 → month_spelled text ≡ Some m → IsMonth m × (text ≡ month_text m)

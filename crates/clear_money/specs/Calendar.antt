@@ -9,6 +9,10 @@ use Rattle.jiff_core.specs.Calendar.{days_from_civil}
 abbrev pub IsMonth : ℕ → Type 0
 IsMonth m = (24000 ≤ m) × (m ≤ 26399)
 
+-- the months from 2000-01 to 2199-12
+unfoldable pub months : List ℕ
+months = range_with_len 24000 2400
+
 -- a day from 2000-01-01 to 2200-12-31
 abbrev pub IsDay : ℕ → Type 0
 IsDay t = (10957 ≤ t) × (t ≤ 84370)

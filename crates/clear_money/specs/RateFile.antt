@@ -9,23 +9,12 @@ use Rattle.toml.specs.Data.{no_members, member, get_member, as_array}
 use Rattle.toml.specs.Parse.{parse_document}
 use Rattle.toml.specs.View.{items_of}
 use Rattle.clear_money.specs.Rates.{Rate, IsRate, IsRising}
+use Rattle.clear_money.specs.Results.{◌>>=◌, or_fault}
 use Rattle.clear_money.specs.Texts.{month_text}
 use Rattle.clear_money.specs.WrittenRate.{members_only, written_row, rate_meant}
 use Rattle.clear_money.specs.declared.rate_file.RateFault.{RateFault}
 use Rattle.clear_money.specs.declared.rate_file.RateFault.TheVariants.{Text, Field, Range, Order}
 use Rattle.clear_money.specs.declared.rate_file.RateFault.TheVariants.{Empty}
-
--- the value, or the fault that there is none
-abbrev pub or_fault : {A : Type 0} → RateFault → Option A → Result A RateFault
-or_fault fault (Some x) = Ok x
-or_fault fault None = Err fault
-
-infixl 10 ◌>>=◌
--- what follows from the value, or its fault
-abbrev pub ◌>>=◌ : {A B : Type 0}
-    → Result A RateFault → (A → Result B RateFault) → Result B RateFault
-(Ok x) >>= f = f x
-(Err fault) >>= f = Err fault
 
 -- row n by itself
 unfoldable pub row_alone : ℕ → Data → Result Rate RateFault

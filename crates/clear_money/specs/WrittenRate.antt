@@ -1,8 +1,10 @@
 -- One row of a rate file: the table that writes it, and the rate that it means.
 use Rattle.std.specs.Prelude.{ℕ, ℤ, pos, negsuc, List, [], ◌∷◌, codes, find, Bool, true, ◌&&◌}
 use Rattle.std.specs.Prelude.{if◌then◌else◌, Option, Some, None, option_and_then, nat_le, bytes_eq}
-use Rattle.std.specs.List.{list_any, range_with_len}
+use Rattle.std.specs.List.{list_any}
 use Rattle.toml.specs.Data.{Data, Members, no_members, member, get, as_str, as_integer, as_table}
+use Rattle.clear_money.specs.Calendar.{months}
+use Rattle.clear_money.specs.Options.{◌>>=◌}
 use Rattle.clear_money.specs.Rates.{Rate}
 use Rattle.clear_money.specs.Texts.{month_text}
 use Rattle.clear_money.specs.declared.rate_file.WrittenRow.{WrittenRow}
@@ -15,11 +17,6 @@ pub record Written : Type 0 where
   pub due_day : ℤ
   pub interest_rate : ℤ
   pub entitlement_rate : ℤ
-
-infixl 10 ◌>>=◌
--- what follows from the value, if there is one
-abbrev ◌>>=◌ : {A B : Type 0} → Option A → (A → Option B) → Option B
-o >>= f = option_and_then f o
 
 -- the text of the member of a name
 abbrev pub text_of : List ℕ → Data → Option (List ℕ)
@@ -66,7 +63,7 @@ written_row row = do
 
 -- the month from 2000-01 to 2199-12 that a text spells
 unfoldable pub month_spelled : List ℕ → Option ℕ
-month_spelled text = find (λ m. bytes_eq (month_text m) text) (range_with_len 24000 2400)
+month_spelled text = find (λ m. bytes_eq (month_text m) text) months
 
 -- a whole number from low to high
 abbrev pub within : ℕ → ℕ → ℤ → Option ℕ

@@ -7,6 +7,7 @@
 //! memory, and it leaves what was there unchanged where it is refused.
 #![tactic(auto)]
 
+pub mod bytes;
 pub mod days;
 pub mod months;
 pub mod numbers;

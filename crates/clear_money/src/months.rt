@@ -29,6 +29,24 @@ impl Model for Month {
 }
 
 impl Month {
+    /// The number of 2000-01, the first month.
+    pub const FIRST_NUMBER: u16 = 24_000;
+
+    /// The number of 2199-12, the last month.
+    pub const LAST_NUMBER: u16 = 26_399;
+
+    /// The month of a number: twelve times the year, and the months of the year before it. None
+    /// outside 2000-01 to 2199-12.
+    pub fn from_number(number: u16) -> Option<Month>
+        ensures some { IsSome result ↔ IsMonth number }
+        ensures value { IfSome result (λ m. m ≡ number) }
+    {
+        if number < Self::FIRST_NUMBER || number > Self::LAST_NUMBER {
+            return None;
+        }
+        Some(Month { number })
+    }
+
     /// A month of a year, counted from 1. None outside 2000-01 to 2199-12.
     pub fn new(year: u16, month: u16) -> Option<Month>
         ensures some { IsSome result

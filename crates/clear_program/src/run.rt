@@ -1,15 +1,15 @@
 //! The program as a whole.
 ghost use Rattle.std.specs.Prelude.{◌≤◌};
 
-use crate::stop::{NO_MEMORY, Stop, tell};
+use crate::stop::{Stop, tell};
 use crate::tasks::{Task, Work, read_task, words_of};
-use crate::work::{do_work, say, serve_stream};
+use crate::work::{say, serve_stream, work_on};
 use clear_callers::directory::Directory;
-use clear_files::stores::{Opened, create_office, open_office};
+use clear_host::offices::{NotOpened, Opened};
+use clear_host::stores::{create_office, open_office};
 use clear_money::days::Day;
 use clear_money::rates::RateTable;
 use clear_sample::memory::office_in_memory;
-use clear_schema::fault::OpenFault;
 use sqlite::FileStore;
 use sqlite_disk::{Start, Unknown};
 use sqlite_std_file::FileFrom;
@@ -50,21 +50,13 @@ fn stream(
     directory: &Directory,
     day: Day,
 ) -> Result<(), Stop> {
-    let Some(mut office) = office_in_memory(rt.alloc(), rates) else {
-        return Err(NO_MEMORY);
-    };
+    let office = office_in_memory(rt.alloc(), rates);
     let (mut input, mut output) = (rt.stdin(), rt.stdout());
-    serve_stream(
-        rt.alloc(),
-        &mut office,
-        directory,
-        day,
-        &mut input,
-        &mut output,
-    )
+    serve_stream(rt.alloc(), office, directory, day, &mut input, &mut output)
 }
 
-// Makes or opens the store at a path, works on it, and closes it.
+// Makes or opens the store at a path, works on it, and closes it. What was accepted stands in the
+// log too, so a fault of the close, which copies the log into the database's file, isn't told.
 fn work_at<S: Start>(
     rt: &HostRuntime,
     store: &str,
@@ -78,13 +70,13 @@ fn work_at<S: Start>(
             open_whole(rt, store, start, again)
         }
     };
-    let mut opened = match opened {
-        Ok(opened) => opened,
-        Err(fault) => return Err(Stop::from(fault)),
-    };
-    let said = do_work(rt, &mut opened, store, work, &mut rt.stderr());
-    close(opened);
-    said
+    match work_on(rt, opened, store, work, &mut rt.stderr()) {
+        Ok(done) => {
+            let _ = done.connection.close();
+            done.said
+        }
+        Err(stop) => Err(stop),
+    }
 }
 
 // Opens the store at a path, with all that was accepted in its own file: where its log is longer
@@ -94,22 +86,16 @@ fn open_whole<S: Start>(
     store: &str,
     start: S,
     again: S,
-) -> Result<Opened<FileStore<FileFrom<S>>>, OpenFault> {
+) -> Result<Opened<FileStore<FileFrom<S>>>, NotOpened<FileStore<FileFrom<S>>>> {
     let opened = match open_office(rt, store, start) {
         Ok(opened) => opened,
-        Err(fault) => return Err(fault),
+        Err(refused) => return Err(refused),
     };
     if !has_long_log(rt, store) {
         return Ok(opened);
     }
-    close(opened);
+    let _ = opened.into_connection().close();
     open_office(rt, store, again)
-}
-
-// Copies the log into the database's file. What was accepted stands in the log too, so a fault of
-// the copy isn't told.
-fn close<S: Start>(opened: Opened<FileStore<FileFrom<S>>>) {
-    let _ = opened.office.into_store().into_connection().close();
 }
 
 // The log of the store at a path is longer than a close leaves it.

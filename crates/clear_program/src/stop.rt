@@ -6,7 +6,7 @@ ghost use Rattle.clear_program.specs.Stops.{AppendsFront, Tells};
 
 use clear_answers::answer::carried_text;
 use clear_book::rules::{Rule, StoreCause};
-use clear_files::files::FileFault;
+use clear_host::files::FileFault;
 use clear_http::serve::Fault;
 use clear_schema::fault::{Fault as StoreFault, OpenFault};
 use std::alloc::{AllocError, Global};

@@ -5,13 +5,13 @@ use clear_book::calls::Command;
 use clear_book::files::BankFile;
 use clear_book::numbers::RequestNo;
 use clear_callers::directory::Directory;
-use clear_files::files::{read_caller_file, read_file, read_rate_file};
+use clear_cli::line::read_words;
+use clear_cli::words::{LineFault, Words};
+use clear_host::files::{read_caller_file, read_file, read_rate_file};
 use clear_money::days::Day;
 use clear_money::numbers::EmployerNo;
 use clear_money::rates::RateTable;
 use clear_sample::samples::sample_rates;
-use clear_words::line::read_words;
-use clear_words::words::{LineFault, Words};
 use std::alloc::AllocError;
 use std::{env, io};
 

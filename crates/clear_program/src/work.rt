@@ -1,23 +1,23 @@
 //! What is done with an office.
 
 use crate::ready::{meaning, ready_line};
-use crate::stop::{Stop, stop_at_records, write_front};
+use crate::stop::{NO_MEMORY, Stop, stop_at_records, write_front};
 use crate::tasks::Work;
 use clear_book::calls::{Caller, Command, Query};
 use clear_book::numbers::RequestNo;
 use clear_book::outcomes::{Answer, Reply};
 use clear_book::rules::{Rule, StoreCause};
 use clear_callers::directory::Directory;
-use clear_files::named::NamedFile;
-use clear_files::stores::Opened;
+use clear_host::connections::{Ended, Watch, serve_connections};
+use clear_host::named::NamedFile;
+use clear_host::offices::{NotOpened, Opened};
 use clear_http::desk::serve;
 use clear_money::days::Day;
 use clear_money::numbers::EmployerNo;
-use clear_net::connections::{Ended, Watch, serve_connections};
 use clear_office::office::Office;
 use clear_schema::store::SCHEMA;
 use clear_wire::counted::{Counted, RequestRead};
-use sqlite::Alter;
+use sqlite::{Alter, Connection};
 use std::alloc::{AllocError, Global};
 use std::io::Write;
 use std::net::{Ipv4Addr, TcpListener};
@@ -25,26 +25,55 @@ use std::net::{Ipv4Addr, TcpListener};
 // The store isn't where it was opened.
 const STORE_GONE: Stop = Stop::Rule(Rule::Store(StoreCause::Other));
 
-/// Serves the requests of the input to its end.
-pub fn serve_stream<S: Alter, I: RequestRead, O: Write>(
+/// Serves the requests of the input to its end, over a new office. There is none where there was no
+/// memory for it.
+pub fn serve_stream<S: Alter + Drop, I: RequestRead, O: Write>(
     alloc: Global,
-    office: &mut Office<S>,
+    office: Option<Office<S>>,
     directory: &Directory,
     day: Day,
     input: &mut I,
     output: &mut O,
 ) -> Result<(), Stop> {
+    let Some(mut office) = office else {
+        return Err(NO_MEMORY);
+    };
     let mut reader = Counted::new(input);
     let mut writer = Counted::new(output);
-    match serve(alloc, office, directory, day, &mut reader, &mut writer) {
+    match serve(alloc, &mut office, directory, day, &mut reader, &mut writer) {
         Ok(_) => Ok(()),
         Err(stopped) => Err(Stop::from(stopped.fault)),
     }
 }
 
-/// Does the work on the store at a path that was just made or opened, and gives what is to be said at
-/// its end. That connections are taken, and why one ended early, is told on `errors`.
-pub fn do_work<S: Alter, E: Write>(
+/// Work that was done on a store: what is to be said of it, and the connection, which is still to
+/// be closed.
+#[derive(Drop)]
+pub struct Done<S: Alter> {
+    pub said: Result<String, Stop>,
+    pub connection: Connection<S>,
+}
+
+/// Does the work on the store at a path that was just made or opened, if it was. That connections
+/// are taken, and why one ended early, is told on `errors`.
+pub fn work_on<S: Alter + Drop, E: Write>(
+    rt: &HostRuntime,
+    opened: Result<Opened<S>, NotOpened<S>>,
+    store: &str,
+    work: Work,
+    errors: &mut E,
+) -> Result<Done<S>, Stop> {
+    match opened {
+        Ok(mut opened) => {
+            let said = do_work(rt, &mut opened, store, work, errors);
+            let connection = opened.into_connection();
+            Ok(Done { said, connection })
+        }
+        Err(refused) => Err(Stop::from(refused.fault)),
+    }
+}
+
+fn do_work<S: Alter, E: Write>(
     rt: &HostRuntime,
     opened: &mut Opened<S>,
     store: &str,

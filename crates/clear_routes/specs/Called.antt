@@ -10,8 +10,8 @@ use Rattle.clear_book.specs.declared.calls.Command.TheVariants as command
 use Rattle.clear_book.specs.declared.calls.Query.{Query}
 use Rattle.clear_book.specs.declared.calls.Query.TheVariants as query
 use Rattle.clear_bodies.specs.Bodies.{registration_of, report_of, correction_of}
-use Rattle.clear_bodies.specs.Faults.{Part, request_number, or_fault}
-use Rattle.clear_bodies.specs.Object.{◌>>=◌}
+use Rattle.clear_money.specs.Results.{◌>>=◌, or_fault}
+use Rattle.clear_bodies.specs.Faults.{Part, request_number}
 use Rattle.clear_book.specs.Limits.{most_request_no}
 use Rattle.clear_book.specs.declared.calls.Caller.{Caller}
 use Rattle.clear_routes.specs.declared.methods.Action.{Action}

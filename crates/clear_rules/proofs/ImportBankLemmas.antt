@@ -11,7 +11,9 @@ use Rattle.std.specs.List.{All, AllByRecursion, find, list_any, enumerate_from, 
 use Rattle.std.specs.Option.{option_map_or, option_or}
 use Rattle.std.specs.Prelude.{IfSome, is_none, is_some, option_and_then}
 use Rattle.std.specs.Str.{bytes_eq}
+use Rattle.clear_bank.specs.Answers.{Fails}
 use Rattle.clear_bank.specs.declared.fault.BankFault.{BankFault}
+use Rattle.clear_bank.specs.declared.fault.BankFault.TheVariants as fault
 use Rattle.clear_bank.specs.declared.lines.BankLine.{BankLine}
 use Rattle.clear_bank.specs.declared.lines.Purpose.{Purpose}
 use Rattle.clear_bank.specs.Files.{file_lines}
@@ -27,9 +29,9 @@ use Rattle.clear_book.specs.declared.rows.CreditRow.{CreditRow}
 use Rattle.clear_book.specs.Book.{Book, member_of}
 use Rattle.clear_rules.specs.Counts.{Index, IsIndexOf, is_indexed, count_indexed}
 use Rattle.clear_rules.specs.Views.Serves.{Serves}
-use Rattle.clear_rules.specs.Views.ImportBank.{IsEmployerViewed, IsImportView, count_for, credit_count_viewed, is_registered_by, rows_viewed, rows_of_file, import_rule}
+use Rattle.clear_rules.specs.Views.ImportBank.{IsEmployerViewed, IsImportView, count_for, credit_count_viewed, is_registered_by, rows_viewed, rows_of_file, import_rule, ReadsAs}
 use Rattle.clear_book.specs.Judge.{own_rule, reply_to}
-use Rattle.clear_book.specs.Own.ImportBank.{is_ahead, is_over, fault_rule, ahead_rule, limit_rules}
+use Rattle.clear_book.specs.Own.ImportBank.{is_ahead, is_over, fault_rule, ahead_rule, limit_rules, rule_of}
 use Rattle.clear_book.specs.Limits.{most_credits, most_suspense, most_records}
 use Rattle.clear_book.specs.Checks.{first_of, when}
 use Rattle.clear_book.specs.Lines.{lines_in, lines_or_none, new_lines, employer_of_line, rows_from, lines_of_rows, lines_seen, lines_standing, credit_of_line, credits_of_lines, credit_count, suspense_count}
@@ -377,12 +379,29 @@ values_rule view day lines = ahead_rule (find (is_ahead day) (new_lines view.kno
 abbrev pub rows_of_new : ImportView → List BankLine → List BankRow
 rows_of_new view lines = rows_from (is_registered_by view) view.serials (new_lines view.known.items lines)
 
-module _ (view : ImportView) (day : ℕ) (file : List ℕ) (lines : List BankLine) (are : lines ≡ lines_in file) (read : fault_rule (file_lines most_records file) ≡ None) where
+-- a rule refuses where it is the first of some
+refused_first : (r : Rule) (rule : Option Rule) (rules : List (Option Rule)) → RefusedBy r rule → RefusedBy r (first_of (rule ∷ rules))
+refused_first r rule rules (inl memory) = inl memory
+refused_first r rule rules (inr is) = inr (ap (λ (o : Option Rule). first_of (o ∷ rules)) is)
+
+module _ (view : ImportView) (day : ℕ) (file : List ℕ) (lines : List BankLine) (reads : ReadsAs file lines) where
+  lines_are : lines ≡ lines_in file
+  lines_are = lines_read file lines reads
+
+  file_read : fault_rule (file_lines most_records file) ≡ None
+  file_read = ap (λ (found : Result (List BankLine) BankFault). fault_rule found) reads
+
   after-file : import_rule view day file ≡ first_of (fault_rule (judgement view.known.items lines) ∷ values_rule view day lines ∷ limits_viewed view (rows_of_new view lines))
   after-file =
       skip-none (fault_rule (file_lines most_records file))
-      (fault_rule (judgement view.known.items (lines_in file)) ∷ values_rule view day (lines_in file) ∷ limits_viewed view (rows_viewed view file)) read
-      ∙ ap (λ (ls : List BankLine). first_of (fault_rule (judgement view.known.items ls) ∷ values_rule view day ls ∷ limits_viewed view (rows_of_new view ls))) (sym are)
+      (fault_rule (judgement view.known.items (lines_in file)) ∷ values_rule view day (lines_in file) ∷ limits_viewed view (rows_viewed view file)) file_read
+      ∙ ap (λ (ls : List BankLine). first_of (fault_rule (judgement view.known.items ls) ∷ values_rule view day ls ∷ limits_viewed view (rows_of_new view ls))) (sym lines_are)
+
+  -- a conflict among the lines
+  pub refused_new : (r : Rule) → RefusedBy r (fault_rule (judgement view.known.items lines)) → RefusedBy r (import_rule view day file)
+  refused_new r h =
+      subst (RefusedBy r) (sym after-file)
+      (refused_first r (fault_rule (judgement view.known.items lines)) (values_rule view day lines ∷ limits_viewed view (rows_of_new view lines)) h)
 
   -- the rules on the new lines
   pub ruled_new : fault_rule (judgement view.known.items lines) ≡ None → import_rule view day file ≡ first_of (values_rule view day lines ∷ limits_viewed view (rows_of_new view lines))
@@ -426,13 +445,32 @@ new_repeats view file lines rows repeats are made is =
 pub new_few : (n : ℕ) (view : ImportView) (lines : List BankLine) (rows : List BankRow) → rows ≡ rows_of_new view lines → length lines ≤ n → length rows ≤ n
 new_few n view lines rows made few = omega (arith, few, new-length view lines rows made, new_count view.known.items lines)
 
+-- a file that can't be read
+refused_unread : (read : Result (List BankLine) BankFault) (why : BankFault) → Fails why read → RefusedBy (rule_of why) (fault_rule read)
+refused_unread read fault.OverLimit fails = inr (ap (λ (found : Result (List BankLine) BankFault). fault_rule found) fails)
+refused_unread read (fault.BadCsv line field) fails = inr (ap (λ (found : Result (List BankLine) BankFault). fault_rule found) fails)
+refused_unread read (fault.RefConflict line) fails = inr (ap (λ (found : Result (List BankLine) BankFault). fault_rule found) fails)
+refused_unread read fault.Memory fails = inl refl
+
+pub judged_unread : (b : Book) (day : ℕ) (file given : List ℕ) (why : BankFault) (r : Rule) → given ≡ file → r ≡ rule_of why → Fails why (file_lines most_records given)
+    → RefusedBy r (own_rule b day (ImportBank file))
+judged_unread b day file given why r is_file is fails =
+    let known = lines_of_rows (lines_seen b.entries) in
+    let rows = rows_of_file b file in
+    let refused : RefusedBy r (fault_rule (file_lines most_records file)) =
+    subst (λ (rule : Rule). RefusedBy rule (fault_rule (file_lines most_records file))) (sym is)
+    (refused_unread (file_lines most_records file) why (subst (λ (bytes : List ℕ). Fails why (file_lines most_records bytes)) is_file fails)) in
+    refused_first r (fault_rule (file_lines most_records file))
+    (fault_rule (judgement known (lines_in file)) ∷ ahead_rule (find (is_ahead day) (new_lines known (lines_in file)))
+    ∷ limit_rules (suspense_count (lines_standing b.entries)) (credit_count (lines_standing b.entries)) rows) refused
+
 -- a refusal, and a reply
 module _ (b : Book) (file : List ℕ) (view : ImportView) (is : IsImportView b file view) (day : ℕ) (given : List ℕ) (is_file : given ≡ file) where
   pub judged_refused : (r : Rule) → RefusedBy r (import_rule view day given) → RefusedBy r (own_rule b day (ImportBank file))
   judged_refused r h = subst (RefusedBy r) (ap (import_rule view day) is_file ∙ viewed_rule b file view is day) h
 
   pub judged_replied : (rows : List BankRow) (repeats : ℕ) → import_rule view day given ≡ None → rows ≡ rows_viewed view given → repeats ≡ length (lines_in given) - length rows
-      → (own_rule b day (ImportBank file) ≡ None) × (Imported (length rows) repeats ≡ reply_to b (ImportBank file))
+      → (own_rule b day (ImportBank file) ≡ None) × (Imported (length rows) repeats ≡ reply_to b day (ImportBank file))
   judged_replied rows repeats none made rest = (
     sym (ap (import_rule view day) is_file ∙ viewed_rule b file view is day) ∙ none,
     ap (λ (n : ℕ). Imported (length rows) n) rest

@@ -1,15 +1,23 @@
 -- The own rules of a report, part by part, and the search for a worker in two lines.
-use Rattle.std.proofs.Common.{◌≡◌, ℕ, ◌+◌, ◌<◌, ◌≤◌, List, length, take, get_or, Some, None, cond, Bool, true, false, not, ◌||◌, ◌==◌, refl, sym, ap, ◌∙◌, arith}
+use Rattle.std.proofs.Common.{◌≡◌, ℕ, ◌+◌, ◌<◌, ◌≤◌, List, [], ◌∷◌, ◌++◌, Option, length, take, get_or, Some, None, cond, Bool, true, false, not, ◌||◌, ◌==◌, refl, sym, ap, ◌∙◌, arith}
 use Rattle.std.proofs.lemmas.List.{take_all}
 use Rattle.std.proofs.lemmas.List.Folds.{list_any_more}
 use Rattle.std.proofs.lemmas.List.FromFn.{get_or-enumerate_from, length-enumerate_from}
 use Rattle.std.specs.List.{list_any, find, enumerate_from}
 use Rattle.std.specs.Option.{option_map}
 use Rattle.std.specs.Ordering.{nat_cmp, is_eq}
+use Rattle.clear_book.specs.declared.rules.Rule.{Rule}
 use Rattle.clear_book.specs.declared.texts.WageLine.{WageLine}
+use Rattle.clear_book.specs.Checks.{first_of}
 use Rattle.clear_book.specs.Own.Lines.{stands_earlier, worker_twice}
 use Rattle.clear_rules.proofs.CountsLemmas.{at_number}
 use Rattle.clear_rules.proofs.ImportBankLemmas.{found_here, found_later}
+
+-- the rule that applies first applies first among more rules that stand behind, too
+pub first_kept : (rules more : List (Option Rule)) (rule : Rule) → first_of rules ≡ Some rule → first_of (rules ++ more) ≡ Some rule
+first_kept [] more rule h = absurd (cc h)
+first_kept (None ∷ rules) more rule h = first_kept rules more rule h
+first_kept (Some first ∷ rules) more rule h = h
 
 -- ---- a worker in two lines
 

@@ -23,7 +23,7 @@ Obeys (Err r) rule = rule ≡ Some r
 
 -- the answer of the own rules, and the judge's reply
 abbrev pub IsJudged : Book → ℕ → Command → Result Decision Rule → Type 0
-IsJudged b day command (Ok d) = (own_rule b day command ≡ None) × (d.reply ≡ reply_to b command)
+IsJudged b day command (Ok d) = (own_rule b day command ≡ None) × (d.reply ≡ reply_to b day command)
 IsJudged b day command (Err r) = (r ≡ Memory) ⊎ (own_rule b day command ≡ Some r)
 
 -- where the judge gives the reply anew, the change takes the tables of the book, if it is lawful,

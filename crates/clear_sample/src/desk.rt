@@ -1,7 +1,8 @@
 //! The desk that the programs serve.
-ghost use Rattle.std.specs.Prelude.{◌≡◌, [], codes, IfSome};
+ghost use Rattle.std.specs.Prelude.{◌≡◌, codes, IfSome};
 ghost use Rattle.sqlite.specs.Files.{over_files};
 ghost use Rattle.clear_money.specs.Texts.{day_text};
+ghost use Rattle.clear_book.specs.Book.{first_book};
 ghost use Rattle.clear_book.specs.Machine.{IsLawful};
 ghost use Rattle.clear_callers.specs.Callers.{sample_keys};
 ghost use Rattle.clear_office.specs.Office.{Keeps};
@@ -28,9 +29,9 @@ pub struct Desk {
 /// callers and day. None where there is no memory for it.
 pub fn sample_desk(alloc: Global) -> Option<Desk>
     ensures keeps { IfSome result (λ desk.
-        Keeps over_files desk.office (record { opening = sample_rates; entries = [] })) }
+        Keeps over_files desk.office (first_book sample_rates)) }
     ensures lawful { IfSome result (λ desk.
-        IsLawful (record { opening = sample_rates; entries = [] })) }
+        IsLawful (first_book sample_rates)) }
     ensures keys { IfSome result (λ desk. desk.directory ≡ sample_keys) }
     ensures day { IfSome result (λ desk. day_text desk.day ≡ codes "2024-04-30") }
 {

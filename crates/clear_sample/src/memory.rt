@@ -1,6 +1,7 @@
 //! An office over a new store in memory.
-ghost use Rattle.std.specs.Prelude.{◌≡◌, false, [], IfSome};
+ghost use Rattle.std.specs.Prelude.{◌≡◌, false, IfSome};
 ghost use Rattle.sqlite.specs.Files.{file_state, over_files};
+ghost use Rattle.clear_book.specs.Book.{first_book};
 ghost use Rattle.clear_book.specs.Machine.{IsLawful};
 ghost use Rattle.clear_schema.specs.Schema.{no_schema};
 ghost use Rattle.clear_office.specs.Office.{IsHonest, Keeps};
@@ -18,8 +19,8 @@ use std::alloc::Global;
 pub fn office_in_memory(alloc: Global, rates: &RateTable) -> Option<Office<FileStore<Memory>>>
     ensures working { IfSome result (λ office. office.failed ≡ false) }
     ensures keeps { IfSome result (λ office.
-        Keeps over_files office (record { opening = rates.now; entries = [] })) }
-    ensures lawful { IsLawful (record { opening = rates.now; entries = [] }) }
+        Keeps over_files office (first_book rates.now)) }
+    ensures lawful { IsLawful (first_book rates.now) }
 {
     // No effect at run time: the proof reads from this call that the rates are lawful.
     rates_in_range(rates);

@@ -1,18 +1,19 @@
 //! A store: a connection on a database that has the office's tables.
 ghost use Rattle.std.specs.Borrow.{sem};
-ghost use Rattle.std.specs.Prelude.{◌≡◌, ◌≢◌, ◌⊎◌, false, ℕ, [], IsTrue, IfOk, IfErr, OnOk};
+ghost use Rattle.std.specs.Prelude.{◌≡◌, ◌≢◌, ◌⊎◌, false, ℕ, IsTrue, IfOk, IfErr, OnOk};
 ghost use Rattle.std.specs.Prelude.{OnErr};
 ghost use Rattle.sqlite.specs.Effect.{Database};
 ghost use Rattle.sqlite.specs.Held.{state};
 ghost use Rattle.sqlite.specs.State.{HasCleanDisk, Survives};
 ghost use Rattle.sqlite.specs.Tree.{Trees};
 ghost use Rattle.clear_rows.specs.Stands.{Stands};
+ghost use Rattle.clear_book.specs.Book.{first_book};
 ghost use Rattle.clear_book.specs.Tables.{Tables, Stands as StandsForBook};
 ghost use Rattle.clear_schema.specs.Faults.{IsOfDisk, IsWrong};
 ghost use Rattle.clear_schema.specs.First.{first_tables};
-ghost use Rattle.clear_schema.specs.Held.{HasTables, IsStore, StandsAs, StandsFor, this_schema};
+ghost use Rattle.clear_schema.specs.Held.{HasTables, StandsFor, TellsAs, TellsSchema, this_schema};
 ghost use Rattle.clear_schema.specs.Lending.{lends_connection};
-ghost use Rattle.clear_schema.specs.Opening.{IsMadeOrEmpty};
+ghost use Rattle.clear_schema.specs.Opening.{TellsOrIsEmpty};
 ghost use Rattle.clear_schema.specs.Schema.{no_schema};
 ghost use Rattle.clear_schema.specs.Still.{IsStill};
 
@@ -68,27 +69,26 @@ impl<S: Alter> Store<S> {
             → (state S.Store connection).now.schema ≡ no_schema
             → (told : ℕ) → left.fault ≢ OpenFault.WrongVersion told) }
         ensures there { IfErr result (λ left. HasCleanDisk (state S.Store left.connection)
-            → (number : ℕ) (t : Tables) → IsStore number t (state S.Store connection).now
+            → (number : ℕ) → TellsSchema number (state S.Store connection).now
             → (told : ℕ) → left.fault ≡ OpenFault.WrongVersion told → told ≡ number) }
         ensures only_empty { IfOk result (λ store. HasCleanDisk (state S.Store store.conn)
-            → (number : ℕ) (t : Tables) → IsStore number t (state S.Store connection).now → ⊥) }
-        // Nothing changes in a database that is a store already.
+            → (number : ℕ) → TellsSchema number (state S.Store connection).now → ⊥) }
+        // Nothing changes in a database that tells a number already.
         ensures kept { IfErr result (λ left. HasCleanDisk (state S.Store left.connection)
-            → (number : ℕ) (t : Tables) → IsStore number t (state S.Store connection).now
+            → (number : ℕ) → TellsSchema number (state S.Store connection).now
             → IsTrue (state S.Store left.connection).is_open
             → IsStill (state S.Store connection) (state S.Store left.connection)) }
-        ensures survives { (number : ℕ) (t : Tables)
-            → IsStore number t (state S.Store connection).now → IfErr result (λ left.
+        ensures survives { (number : ℕ)
+            → TellsSchema number (state S.Store connection).now → IfErr result (λ left.
             Survives (state S.Store connection) (state S.Store left.connection) (λ _. ⊥)) }
         ensures cause { IfErr result (λ left. HasCleanDisk (state S.Store left.connection)
-            → IsMadeOrEmpty (state S.Store connection).now
+            → TellsOrIsEmpty (state S.Store connection).now
             → (why : Fault) → left.fault ≡ OpenFault.Failed why → IsOfDisk why) }
         ensures clean { IfOk result (λ store. HasCleanDisk (state S.Store store.conn)
             → HasCleanDisk (state S.Store connection)) }
         ensures clean_left { IfErr result (λ left. HasCleanDisk (state S.Store left.connection)
             → HasCleanDisk (state S.Store connection)) }
-        ensures book { StandsForBook (record { opening = rates.now; entries = [] })
-            (first_tables rates.now) }
+        ensures book { StandsForBook (first_book rates.now) (first_tables rates.now) }
     {
         let mut connection = connection;
         match create_in(&mut connection, rates) {
@@ -108,12 +108,10 @@ impl<S: Alter> Store<S> {
             → HasTables t (state S.Store store.conn).now
             × HasTables t (state S.Store store.conn).committed) }
         ensures right { IfOk result (λ store. HasCleanDisk (state S.Store store.conn)
-            → (number : ℕ) (t : Tables)
-            → StandsAs number t (state S.Store connection).committed.trees
+            → (number : ℕ) → TellsAs number (state S.Store connection).committed.trees
             → IsTrue (state S.Store connection).is_open → number ≡ this_schema) }
         ensures version { IfErr result (λ left. HasCleanDisk (state S.Store left.connection)
-            → (number : ℕ) (t : Tables)
-            → StandsAs number t (state S.Store connection).committed.trees
+            → (number : ℕ) → TellsAs number (state S.Store connection).committed.trees
             → IsTrue (state S.Store connection).is_open → IsWrong this_schema number left.fault) }
         ensures empty { IfErr result (λ left. HasCleanDisk (state S.Store left.connection)
             → (state S.Store connection).now.schema ≡ no_schema
@@ -122,7 +120,7 @@ impl<S: Alter> Store<S> {
             → (t : Tables) → StandsFor t (state S.Store connection).committed.trees
             → IsTrue (state S.Store connection).is_open → IsTrue (state S.Store store.conn).is_open) }
         ensures cause { IfErr result (λ left. HasCleanDisk (state S.Store left.connection)
-            → IsMadeOrEmpty (state S.Store connection).now
+            → TellsOrIsEmpty (state S.Store connection).now
             → (why : Fault) → left.fault ≡ OpenFault.Failed why → IsOfDisk why) }
         ensures not_empty { IfOk result (λ store. HasCleanDisk (state S.Store store.conn)
             → (state S.Store connection).now.schema ≡ no_schema → ⊥) }
@@ -130,12 +128,18 @@ impl<S: Alter> Store<S> {
             → HasCleanDisk (state S.Store connection)) }
         ensures clean_left { IfErr result (λ left. HasCleanDisk (state S.Store left.connection)
             → HasCleanDisk (state S.Store connection)) }
-        ensures survives { (number : ℕ) (t : Tables)
-            → StandsAs number t (state S.Store connection).committed.trees
+        // Nothing changes in a database that is refused, where it tells a number.
+        ensures still { IfErr result (λ left. HasCleanDisk (state S.Store left.connection)
+            → (number : ℕ) → TellsAs number (state S.Store connection).committed.trees
+            → IsTrue (state S.Store connection).is_open
+            → IsTrue (state S.Store left.connection).is_open
+            → IsStill (state S.Store connection) (state S.Store left.connection)) }
+        ensures survives { (number : ℕ)
+            → TellsAs number (state S.Store connection).committed.trees
             → IsTrue (state S.Store connection).is_open → IfOk result (λ store.
             Survives (state S.Store connection) (state S.Store store.conn) (λ _. ⊥)) }
-        ensures survives_left { (number : ℕ) (t : Tables)
-            → StandsAs number t (state S.Store connection).committed.trees
+        ensures survives_left { (number : ℕ)
+            → TellsAs number (state S.Store connection).committed.trees
             → IsTrue (state S.Store connection).is_open → IfErr result (λ left.
             Survives (state S.Store connection) (state S.Store left.connection) (λ _. ⊥)) }
     {

@@ -1,5 +1,7 @@
 pub mod Charges
 pub mod Laws
+pub mod Records
 pub mod RowSteps
 pub mod Rows
 pub mod Text
+pub mod Told

@@ -25,7 +25,6 @@ use std::alloc::{AllocError, Global};
 /// whose charges are the rows that the source gives up to its end.
 /// A refusal leaves the text as it was: there was no memory, the source refused a row, or it gave
 /// more than `MAX_ROWS`, which is `StoreCause::Row`.
-#[tactic(auto, unfolding(crate::specs::Text::text_of_rows))]
 pub fn statement<R: ChargeRows>(
     alloc: Global,
     firm: &FirmAccount,
@@ -44,12 +43,33 @@ pub fn statement<R: ChargeRows>(
         IsRefused R.next_gives R.next_refuses rows.old fault rows.new) }
 {
     let mut written = String::new(alloc);
-    append_firm(&mut written, firm)?;
-    append_charges(&mut written, rows)?;
-    append_interest_credits(&mut written, interest_credits)?;
-    append_missing_months(&mut written, missing)?;
-    append_sums(&mut written, firm)?;
+    append_statement(&mut written, firm, interest_credits, missing, rows)?;
     text.push_str(written.as_str())?;
+    Ok(())
+}
+
+/// Appends the statement of a firm, as `statement` does, but for a refusal: it may leave a part.
+#[tactic(auto, unfolding(crate::specs::Text::text_of_rows))]
+pub(crate) fn append_statement<R: ChargeRows>(
+    text: &mut String,
+    firm: &FirmAccount,
+    interest_credits: &[Payment],
+    missing: &[Month],
+    rows: &mut R,
+) -> Result<(), RowFault>
+    ensures written { IfOk result (λ _. (given : List ChargeRow)
+        × YieldsThen R.next_gives rows.old given None rows.new
+        × (length given ≤ most_rows)
+        × (string_bytes text.new ≡ string_bytes text.old
+        ++ text_of_rows firm.now interest_credits.now missing.now given)) }
+    ensures refused { IfErr result (λ fault.
+        IsRefused R.next_gives R.next_refuses rows.old fault rows.new) }
+{
+    append_firm(text, firm)?;
+    append_charges(text, rows)?;
+    append_interest_credits(text, interest_credits)?;
+    append_missing_months(text, missing)?;
+    append_sums(text, firm)?;
     Ok(())
 }
 

@@ -1,5 +1,5 @@
 -- What an import reads is what its file is judged by.
-use Rattle.std.proofs.Common.{◌≡◌, ◌⊎◌, inl, inr, ℕ, ◌+◌, ◌<◌, ◌≤◌, List, [], ◌∷◌, ◌++◌, length, take, get_or, filter, count_by, Option, None, Some, Err, is_some, Bool, true, false, cond, refl, sym, ap, subst, ◌∙◌, arith}
+use Rattle.std.proofs.Common.{◌≡◌, ◌⊎◌, inl, inr, ℕ, ◌+◌, ◌<◌, ◌≤◌, List, [], ◌∷◌, ◌++◌, length, take, get_or, filter, count_by, Option, None, Some, is_some, Bool, true, false, cond, refl, sym, ap, subst, ◌∙◌, arith}
 use Rattle.std.proofs.lemmas.List.{take_more}
 use Rattle.std.proofs.lemmas.List.Sums.{length-filter}
 use Rattle.std.specs.Prelude.{unwrap_or}
@@ -9,15 +9,11 @@ use Rattle.std.proofs.lemmas.List.FromFn.{length-enumerate_from}
 use Rattle.std.proofs.lemmas.List.Sums.{count_by-le-length}
 use Rattle.std.specs.List.{AllByRecursion, cons_option, enumerate_from, filter_map}
 use Rattle.std.specs.Option.{option_map, option_map_or}
-use Rattle.std.specs.Prelude.{◌≢◌, IfSome}
+use Rattle.std.specs.Prelude.{IfSome}
 use Rattle.std.specs.Str.{bytes_eq}
 use Rattle.sqlite_keyed.proofs.ListLemmas.{all_weaker}
 use Rattle.sqlite_keyed.proofs.SliceLemmas.{is_some-map}
-use Rattle.clear_bank.specs.Answers.{Fails}
-use Rattle.clear_bank.specs.Files.{file_lines}
 use Rattle.clear_bank.specs.Newness.{is_new, line_under}
-use Rattle.clear_bank.specs.declared.fault.BankFault.{BankFault}
-use Rattle.clear_bank.specs.declared.fault.BankFault.TheVariants.{BadCsv, Memory, OverLimit, RefConflict}
 use Rattle.clear_bank.specs.declared.lines.BankLine.{BankLine}
 use Rattle.clear_bank.specs.declared.lines.Purpose.{Purpose}
 use Rattle.clear_bank.specs.declared.lines.Purpose.TheVariants.{Contribution, Interest}
@@ -28,8 +24,8 @@ use Rattle.clear_book.proofs.KeyedLemmas.{is_key-refl, is_key-true}
 use Rattle.clear_book.specs.Accounts.{credit_key}
 use Rattle.clear_book.specs.Book.{Book, member_of}
 use Rattle.clear_book.specs.Keyed.{find_row, is_key}
-use Rattle.clear_book.specs.Limits.{most_credits, most_records, most_suspense}
-use Rattle.clear_book.specs.Lines.{credit_count, credit_of_line, credits_of_lines, is_credit_of, is_in_suspense, lines_in, lines_of_rows, lines_or_none, lines_seen, lines_standing, new_lines, suspense_count}
+use Rattle.clear_book.specs.Limits.{most_credits, most_suspense}
+use Rattle.clear_book.specs.Lines.{credit_count, credit_of_line, credits_of_lines, is_credit_of, is_in_suspense, lines_in, lines_of_rows, lines_seen, lines_standing, new_lines, suspense_count}
 use Rattle.clear_book.specs.Machine.{IsLawful}
 use Rattle.clear_book.specs.RowRanges.{AreInRange}
 use Rattle.clear_book.specs.Tables.{Stands, Tables, bank_key, employer_key}
@@ -61,9 +57,9 @@ counted_if_none serving test rows found n none is counted =
 -- the counts of tables in their ranges are in theirs
 pub counts_in_range : (t : Tables) → AreInRange t → AreCounts (counts_of t)
 counts_in_range t within =
-    let claim = within.unfilled.4 in
-    let list = within.unfilled.5 in
-    let run = within.unfilled.6 in
+    let claim = within.last_claim in
+    let list = within.last_list in
+    let run = within.last_run in
     record { day = within.day; entries = within.entries; serial = within.serial; claims = omega (arith, claim); lists = omega (arith, list); runs = omega (arith, run) }
 
 -- the number that serves for a count, or else the count
@@ -71,17 +67,6 @@ pub suspense_read : (serials more limit count : ℕ) (n : ℕ) {X : Type 0} (ser
     → (n ≡ count) ⊎ IsServing serials more limit n ⊎ X
 suspense_read serials more limit count n None serves is = inl is
 suspense_read serials more limit count n (Some m) serves is = inr (inl (subst (IsServing serials more limit) (sym is) serves))
-
--- a file that can't be read has no lines
-none_read : (file : List ℕ) (fault : BankFault) (items : List BankLine) → file_lines most_records file ≡ Err fault → items ≡ [] → items ≡ lines_in file
-unfolding lines_in
-none_read file fault items is none = none ∙ sym (ap lines_or_none is)
-
-pub unread : (file : List ℕ) (fault : BankFault) (items : List BankLine) → fault ≢ Memory → Fails fault (file_lines most_records file) → items ≡ [] → items ≡ lines_in file
-unread file OverLimit items other fails none = none_read file OverLimit items fails none
-unread file (BadCsv line field) items other fails none = none_read file (BadCsv line field) items fails none
-unread file (RefConflict line) items other fails none = none_read file (RefConflict line) items fails none
-unread file Memory items other fails none = absurd (other refl)
 
 -- ---- the lines under the references of a file
 

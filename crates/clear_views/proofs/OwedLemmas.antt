@@ -11,7 +11,7 @@ use Rattle.clear_book.specs.declared.rows.BankRow.{BankRow}
 use Rattle.clear_book.specs.declared.rows.ReportRow.{ReportRow}
 use Rattle.clear_book.specs.declared.rows.WageRow.{WageRow}
 use Rattle.clear_book.specs.Accounts.{charges_of, credits_of, credit_key}
-use Rattle.clear_book.specs.Book.{Book}
+use Rattle.clear_book.specs.Book.{Book, rates_of}
 use Rattle.clear_book.specs.Keyed.{find_row, is_key, is_before, with_row, with_rows, AreOnce}
 use Rattle.clear_book.specs.Lines.{credit_of_line, credits_of_lines, is_credit_of, line_credit, lines_standing}
 use Rattle.clear_book.specs.Machine.{IsLawful}
@@ -135,7 +135,7 @@ module _ (b : Book) (t : Tables) (lawful : IsLawful b) (stands : Stands b t) (e 
   chargeable : (m : ℕ) → is_found e t.reports m → IsSome (rate_in_force t.rates m) × (table_base t.wages e m ≤ 5000000000)
   chargeable m found =
       let report = reported b t lawful stands e m found in
-      let rated : is_some (rate_in_force b.opening m) ≡ true = lawful_rated b.opening b.entries lawful e m report.0 report.1 in (
+      let rated : is_some (rate_in_force (rates_of b) m) ≡ true = lawful_rated b.opening b.entries lawful e m report.0 report.1 in (
         subst (λ (rates : List Rate). is_some (rate_in_force rates m) ≡ true) (sym stands.rates) rated,
         omega (arith, base_same b t lawful stands e m report.0 report.1, few_base report.0 (lawful_few b.opening b.entries lawful e m report.0 report.1)),
       )

@@ -2,12 +2,14 @@
 use Rattle.std.proofs.Common.{◌≡◌, inl, inr, ℕ, ◌≤◌, Bool, true, false, Option, Some, None, cond, is_some, length, nat_lt, refl, sym, ap, subst, ◌∙◌, arith}
 use Rattle.std.proofs.lemmas.Bool.{ltb-true}
 use Rattle.std.proofs.lemmas.List.Sums.{count_by-le-length}
+use Rattle.std.specs.Option.{option_map}
 use Rattle.clear_money.specs.Rates.{rate_in_force}
 use Rattle.clear_book.specs.declared.calls.Registration.{Registration}
 use Rattle.clear_book.specs.declared.calls.WageReport.{WageReport}
-use Rattle.clear_book.specs.Book.{Book, Entry, Member, start_of, employer_count, is_registration}
+use Rattle.clear_book.specs.declared.rows.EmployerRow.{EmployerRow}
+use Rattle.clear_book.specs.Book.{Book, Entry, employer_count, is_registration}
 use Rattle.clear_book.specs.Limits.{most_employers}
-use Rattle.clear_book.specs.Tables.{Tables, Stands, member_at, version_at}
+use Rattle.clear_book.specs.Tables.{Tables, Stands, member_at, member_in, version_at}
 use Rattle.clear_rules.specs.declared.decide.register.RegisterView.{RegisterView}
 use Rattle.clear_rules.specs.declared.decide.report.ReportView.{ReportView}
 use Rattle.clear_rules.specs.Views.Register.{IsRegisterView}
@@ -16,10 +18,10 @@ use Rattle.clear_rules.specs.Views.Serves.{Serves}
 
 -- ---- a registration
 
--- a firm that has a first member month is registered
-started : (o : Option Member) → is_some (start_of o) ≡ is_some o
-started None = refl
-started (Some member) = refl
+-- a firm that has a row is registered
+has_row : (o : Option EmployerRow) → is_some o ≡ is_some (option_map member_in o)
+has_row None = refl
+has_row (Some row) = refl
 
 -- the number of entries or the number of rows, whichever is taken, serves for the number of firms
 counted : (b : Book) (t : Tables) → Stands b t → (few : Bool) → nat_lt t.entries most_employers ≡ few → Serves (cond few t.entries (length t.employers)) (employer_count b.entries) 1 most_employers
@@ -30,11 +32,11 @@ counted b t stands true is = inr (
 )
 
 pub register_viewed : (b : Book) (t : Tables) → Stands b t → (r : Registration) (view : RegisterView) (entries : ℕ) → entries ≡ t.entries
-    → view.registered ≡ is_some (start_of (member_at t.employers r.employer)) → view.has_rate ≡ is_some (rate_in_force t.rates r.start)
+    → (member : Option EmployerRow) → view.registered ≡ is_some member → option_map member_in member ≡ member_at t.employers r.employer → view.has_rate ≡ is_some (rate_in_force t.rates r.start)
     → view.employer_count ≡ cond (nat_lt entries most_employers) entries (length t.employers) → IsRegisterView b r view
-register_viewed b t stands r view entries same registered rate count =
+register_viewed b t stands r view entries same member registered found rate count =
     record {
-      registered_is = registered ∙ started (member_at t.employers r.employer) ∙ ap is_some (stands.employers r.employer);
+      registered_is = registered ∙ has_row member ∙ ap is_some (found ∙ stands.employers r.employer);
       employers_serve =
           subst (λ n. Serves n (employer_count b.entries) 1 most_employers) (sym (count ∙ ap (λ n. cond (nat_lt n most_employers) n (length t.employers)) same))
           (counted b t stands (nat_lt t.entries most_employers) refl);
@@ -43,11 +45,11 @@ register_viewed b t stands r view entries same registered rate count =
 
 -- ---- a report
 
-pub report_viewed : (b : Book) (t : Tables) → Stands b t → (r : WageReport) (view : ReportView) → view.start ≡ start_of (member_at t.employers r.employer)
+pub report_viewed : (b : Book) (t : Tables) → Stands b t → (r : WageReport) (view : ReportView) → option_map member_in view.member ≡ member_at t.employers r.employer
     → view.version ≡ version_at t.reports r.employer r.month → view.row ≡ rate_in_force t.rates r.month → IsReportView b r view
-report_viewed b t stands r view start version row =
+report_viewed b t stands r view member version row =
     record {
-      start_is = start ∙ ap start_of (stands.employers r.employer);
+      member_is = member ∙ stands.employers r.employer;
       version_is = version ∙ stands.reports r.employer r.month;
       row_is = row ∙ ap (λ rates. rate_in_force rates r.month) stands.rates;
     }

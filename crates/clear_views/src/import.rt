@@ -1,5 +1,5 @@
 //! What a bank file is judged by.
-ghost use Rattle.std.specs.Prelude.{◌≡◌, ◌++◌, [], IfErr, IfOk, OnOk};
+ghost use Rattle.std.specs.Prelude.{◌≡◌, ◌++◌, ℕ, [], IfErr, IfOk, List, OnOk};
 ghost use Rattle.std.specs.List.{cons_option};
 ghost use Rattle.sqlite.specs.Held.{state};
 ghost use Rattle.sqlite.specs.State.{HasCleanDisk};
@@ -21,11 +21,8 @@ mod firms;
 mod known;
 mod limits;
 
-use clear_bank::fault::BankFault;
-use clear_bank::files::read_file;
 use clear_bank::lines::BankLine;
-use clear_book::files::BankFile;
-use clear_book::limits::{MAX_CREDITS, MAX_RECORDS, MAX_SUSPENSE};
+use clear_book::limits::{MAX_CREDITS, MAX_SUSPENSE};
 use clear_book::numbers::SerialCount;
 use clear_book::rules::StoreCause;
 use clear_firms::counts::{Counts, find_counts};
@@ -37,10 +34,10 @@ use limits::{count_suspense, serving};
 use sqlite::{Alter, Transaction};
 use std::alloc::Global;
 
-/// What a bank file is judged by, where these counts stand: the lines under its references, the
-/// firms that it names, and numbers for their credits and for the lines in suspense. While no more
-/// than 100,000 lines came in, those of the file among them, the serials given serve for these
-/// numbers, and none is counted. A file that can't be read has no lines: just the counts are read.
+/// What the lines of a bank file are judged by, where these counts stand: the lines under their
+/// references, the firms that they name, and numbers for the credits of these and for the lines in
+/// suspense. While no more than 100,000 lines came in, those of the file among them, the serials
+/// given serve for these numbers, and none is counted.
 ///
 /// It costs n log n steps for n lines of the file, and one search for each of its references and
 /// for each firm that it names; once 100,000 lines came in, also each credit of these firms, and
@@ -49,13 +46,14 @@ pub fn import_view<S: Alter>(
     alloc: Global,
     tx: &mut Transaction<'_, S>,
     counts: &Counts,
-    file: &BankFile,
+    lines: &[BankLine],
 ) -> Result<ImportView, Fault>
     ensures same_reference { tx.new.conn.ghost_name ≡ tx.old.conn.ghost_name }
     ensures view { HasCleanDisk (state S.Store tx.new.conn.now)
         → (t : Tables) → HasTables t (state S.Store tx.old.conn.now).now
         → as_stored counts.now ≡ counts_of t → (b : Book) → IsLawful b → Stands b t
-        → IfOk result (λ view. IsImportView b file.now view) }
+        → (file : List ℕ) → lines.now ≡ lines_in file
+        → IfOk result (λ view. IsImportView b file view) }
     ensures fault { HasCleanDisk (state S.Store tx.new.conn.now)
         → (t : Tables) → HasTables t (state S.Store tx.old.conn.now).now
         → as_stored counts.now ≡ counts_of t → AreInRange t → IfErr result IsOfDisk }
@@ -64,25 +62,7 @@ pub fn import_view<S: Alter>(
     let Some(serials) = SerialCount::new(counts.serial) else {
         return Err(Fault::Store(StoreCause::Row));
     };
-    let lines = match lines_of_file(alloc, file.as_slice()) {
-        Ok(lines) => lines,
-        Err(fault) => return Err(fault),
-    };
-    read_view(alloc, tx, serials, lines.as_slice())
-}
-
-// The lines of a file: none where it can't be read.
-fn lines_of_file(alloc: Global, file: &[u8]) -> Result<Vec<BankLine>, Fault>
-    ensures lines { IfOk result (λ lines. lines.items ≡ lines_in file.now) }
-    ensures memory { IfErr result (λ fault. fault ≡ Fault.Memory) }
-{
-    match read_file(alloc, file, MAX_RECORDS) {
-        Ok(lines) => Ok(lines),
-        Err(BankFault::Memory) => Err(Fault::Memory),
-        Err(BankFault::OverLimit) => Ok(Vec::new(alloc)),
-        Err(BankFault::BadCsv { .. }) => Ok(Vec::new(alloc)),
-        Err(BankFault::RefConflict { .. }) => Ok(Vec::new(alloc)),
-    }
+    read_view(alloc, tx, serials, lines)
 }
 
 // What these lines are judged by, where so many serials were given.

@@ -9,8 +9,8 @@
 mod account;
 pub mod import;
 mod lookups;
+pub mod member;
 pub mod owed;
 pub mod register;
 pub mod report;
-pub mod start;
 pub mod statement;

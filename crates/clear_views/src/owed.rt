@@ -2,7 +2,6 @@
 ghost use Rattle.std.specs.Prelude.{◌≡◌, IfErr, IfOk};
 ghost use Rattle.sqlite.specs.Held.{state};
 ghost use Rattle.sqlite.specs.State.{HasCleanDisk};
-ghost use Rattle.clear_book.specs.Accounts.{charges_of, credits_of};
 ghost use Rattle.clear_book.specs.Book.{Book};
 ghost use Rattle.clear_book.specs.Machine.{IsLawful};
 ghost use Rattle.clear_book.specs.Own.Owed.{owed_by};
@@ -38,8 +37,7 @@ pub fn owed<S: Alter>(
     ensures answer { HasCleanDisk (state S.Store tx.new.conn.now)
         → (t : Tables) → HasTables t (state S.Store tx.old.conn.now).now
         → (b : Book) → IsLawful b → Stands b t
-        → IfOk result (λ answer. answer
-        ≡ owed_by day (charges_of b employer) (credits_of b employer)) }
+        → IfOk result (λ answer. answer ≡ owed_by b employer day) }
     ensures fault { HasCleanDisk (state S.Store tx.new.conn.now)
         → (t : Tables) → HasTables t (state S.Store tx.old.conn.now).now
         → (b : Book) → IsLawful b → Stands b t → IfErr result IsOfDisk }

@@ -15,7 +15,7 @@ ghost use Rattle.clear_firms.specs.Counts.{as_stored};
 ghost use Rattle.clear_rules.specs.Views.Register.{IsRegisterView};
 
 use crate::lookups::rate_for;
-use crate::start::start_of;
+use crate::member::find_member;
 use clear_book::calls::Registration;
 use clear_book::limits::MAX_EMPLOYERS;
 use clear_firms::counts::Counts;
@@ -44,8 +44,8 @@ pub fn register_view<S: Alter>(
         → AreInRange t → IfErr result IsOfDisk }
     ensures leaves { Leaves S.Store tx.old.conn.now tx.new.conn.now result }
 {
-    let registered = match start_of(tx, registration.employer) {
-        Ok(start) => start.is_some(),
+    let registered = match find_member(tx, registration.employer) {
+        Ok(member) => member.is_some(),
         Err(fault) => return Err(fault),
     };
     let has_rate = match rate_for(tx, registration.start) {

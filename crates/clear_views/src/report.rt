@@ -1,34 +1,34 @@
 //! What a report or a correction is judged by.
 ghost use Rattle.std.specs.Prelude.{◌≡◌, IfErr, IfOk};
+ghost use Rattle.std.specs.Option.{option_map};
 ghost use Rattle.sqlite.specs.Held.{state};
 ghost use Rattle.sqlite.specs.State.{HasCleanDisk};
 ghost use Rattle.clear_money.specs.Rates.{rate_in_force};
-ghost use Rattle.clear_book.specs.Book as book;
 ghost use Rattle.clear_book.specs.RowRanges.{AreInRange};
-ghost use Rattle.clear_book.specs.Tables.{Tables, member_at, version_at};
+ghost use Rattle.clear_book.specs.Tables.{Tables, member_at, member_in, version_at};
 ghost use Rattle.clear_schema.specs.Frame.{Leaves};
 ghost use Rattle.clear_schema.specs.Faults.{IsOfDisk};
 ghost use Rattle.clear_schema.specs.Held.{HasTables};
 
 use crate::lookups::{rate_for, version_of};
-use crate::start::start_of;
+use crate::member::find_member;
 use clear_book::calls::WageReport;
 use clear_rules::decide::report::ReportView;
 use clear_schema::fault::Fault;
 use sqlite::{Alter, Transaction};
 
-/// What a report or a correction is judged by: the firm's first member month, the version of the
-/// month's latest report, 1 to 10,000, and the rate row in force for the month, each if there is
-/// one. Where the rows lie in their ranges, no fault is one of a key or of a row.
+/// What a report or a correction is judged by: the firm, the version of the month's latest report,
+/// 1 to 10,000, and the rate row in force for the month, each if there is one. Where the rows lie
+/// in their ranges, no fault is one of a key or of a row.
 pub fn report_view<S: Alter>(
     tx: &mut Transaction<'_, S>,
     report: &WageReport,
 ) -> Result<ReportView, Fault>
     ensures same_reference { tx.new.conn.ghost_name ≡ tx.old.conn.ghost_name }
-    ensures start { HasCleanDisk (state S.Store tx.new.conn.now)
+    ensures member { HasCleanDisk (state S.Store tx.new.conn.now)
         → (t : Tables) → HasTables t (state S.Store tx.old.conn.now).now
-        → IfOk result (λ view. view.start
-        ≡ book.start_of (member_at t.employers report.now.employer)) }
+        → IfOk result (λ view. option_map member_in view.member
+        ≡ member_at t.employers report.now.employer) }
     ensures version { HasCleanDisk (state S.Store tx.new.conn.now)
         → (t : Tables) → HasTables t (state S.Store tx.old.conn.now).now
         → IfOk result (λ view. view.version
@@ -41,8 +41,8 @@ pub fn report_view<S: Alter>(
         → AreInRange t → IfErr result IsOfDisk }
     ensures leaves { Leaves S.Store tx.old.conn.now tx.new.conn.now result }
 {
-    let start = match start_of(tx, report.employer) {
-        Ok(start) => start,
+    let member = match find_member(tx, report.employer) {
+        Ok(member) => member,
         Err(fault) => return Err(fault),
     };
     let version = match version_of(tx, report.employer, report.month) {
@@ -54,7 +54,7 @@ pub fn report_view<S: Alter>(
         Err(fault) => return Err(fault),
     };
     Ok(ReportView {
-        start,
+        member,
         version,
         row,
     })

@@ -16,7 +16,7 @@ use clear_firms::employers::find_employer;
 use clear_ledger::credits::credits_of;
 use clear_money::numbers::EmployerNo;
 use clear_schema::fault::Fault;
-use clear_statements::records::FirmRecords;
+use clear_texts::records::FirmRecords;
 use sqlite::{Alter, Transaction};
 use std::alloc::Global;
 

@@ -1,15 +1,17 @@
 -- What a bank file is judged by, and the rows that it brings by a view.
-use Rattle.std.specs.Prelude.{◌≡◌, ℕ, ◌==◌, List, Bool, true}
+use Rattle.std.specs.Prelude.{◌≡◌, ℕ, ◌==◌, List, Bool, true, Ok}
 use Rattle.std.specs.Prelude.{Option, is_some, IfSome}
 use Rattle.std.specs.List.{find, AllByRecursion}
 use Rattle.std.specs.Option.{option_map_or}
+use Rattle.clear_bank.specs.declared.lines.BankLine.{BankLine}
 use Rattle.clear_bank.specs.declared.lines.Purpose.{Purpose}
 use Rattle.clear_bank.specs.declared.lines.Purpose.TheVariants.{Contribution, Interest}
+use Rattle.clear_bank.specs.Files.{file_lines}
 use Rattle.clear_bank.specs.Newness.{line_under}
 use Rattle.clear_book.specs.declared.rows.BankRow.{BankRow}
 use Rattle.clear_book.specs.declared.rules.Rule.{Rule}
 use Rattle.clear_book.specs.Book.{Book, member_of}
-use Rattle.clear_book.specs.Limits.{most_credits, most_suspense}
+use Rattle.clear_book.specs.Limits.{most_credits, most_records, most_suspense}
 use Rattle.clear_book.specs.Lines.{lines_in, new_lines, rows_from, rows_brought, lines_of_rows}
 use Rattle.clear_book.specs.Lines.{lines_seen, lines_standing, suspense_count, credit_count}
 use Rattle.clear_book.specs.Lines.{serial_count}
@@ -17,6 +19,10 @@ use Rattle.clear_book.specs.Own.ImportBank.{own_import}
 use Rattle.clear_rules.specs.Views.Serves.{Serves}
 use Rattle.clear_rules.specs.declared.decide.import.EmployerCredits.{EmployerCredits}
 use Rattle.clear_rules.specs.declared.decide.import.ImportView.{ImportView}
+
+-- a file reads as these lines
+abbrev pub ReadsAs : List ℕ → List BankLine → Type 0
+ReadsAs file lines = file_lines most_records file ≡ Ok lines
 
 -- the numbers of an employer's credits, if it is registered
 abbrev pub employer_under : List EmployerCredits → ℕ → Option EmployerCredits

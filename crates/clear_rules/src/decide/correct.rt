@@ -1,9 +1,11 @@
 //! The decision on a correction.
 ghost use Rattle.std.specs.Prelude.{◌≡◌, ◌≤◌, ◌+◌, All, IfOk, OnOk, Some, length};
+ghost use Rattle.std.specs.Option.{option_map};
 ghost use Rattle.clear_book.specs.declared.calls.Command.TheVariants.{Correct as DoCorrect};
 ghost use Rattle.clear_book.specs.Book.{Book};
 ghost use Rattle.clear_book.specs.Limits.{most_gross, most_lines};
 ghost use Rattle.clear_book.specs.Own.Correct.{own_correct, stale_rule};
+ghost use Rattle.clear_book.specs.Tables.{member_in};
 ghost use Rattle.clear_rules.specs.Decisions.{Obeys, Refuses, IsJudged, TakesTables};
 ghost use Rattle.clear_rules.specs.Views.Report.{IsReportView, next_report};
 
@@ -35,8 +37,8 @@ pub fn decide_correct(
     // Where the judge gives the reply, the change takes the tables of a lawful book to those of the
     // next.
     ensures change { (b : Book) → IfOk result (TakesTables b day (DoCorrect correction.now)) }
-    ensures rule { Refuses result
-        (own_correct view.now.start view.now.version day correction.now) }
+    ensures rule { Refuses result (own_correct (option_map member_in view.now.member)
+        view.now.version day correction.now) }
     ensures made { IfOk result (λ decision. decision.change
         ≡ Change.ReplaceReport (next_report correction.now) correction.now.report.lines) }
     ensures few { OnOk result (length correction.now.report.lines ≤ most_lines) }
@@ -72,15 +74,15 @@ fn check_correction(
     correction: &Correction,
     view: &ReportView,
 ) -> Result<u32, Rule>
-    ensures rule { Refuses result
-        (own_correct view.now.start view.now.version day correction.now) }
+    ensures rule { Refuses result (own_correct (option_map member_in view.now.member)
+        view.now.version day correction.now) }
     ensures version { IfOk result (λ version. version ≡ correction.now.version + 1) }
     ensures few { OnOk result (length correction.now.report.lines ≤ most_lines) }
     ensures small { OnOk result
         (All (λ line. line.gross ≤ most_gross) correction.now.report.lines) }
 {
     let report = &correction.report;
-    match check_month(day, report.month, view.start) {
+    match check_month(day, report.month, &view.member) {
         Ok(()) => {}
         Err(rule) => return Err(rule),
     }

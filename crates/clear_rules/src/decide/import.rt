@@ -1,5 +1,6 @@
 //! The decision on a bank file.
-ghost use Rattle.std.specs.Prelude.{◌≡◌, ◌≤◌, ◌<◌, ◌-◌, ◌∷◌, All, IfOk, List, OnOk, length};
+ghost use Rattle.std.specs.Prelude.{◌≡◌, ◌≤◌, ◌<◌, ◌-◌, ◌∷◌, ℕ, All, Err, IfErr, IfOk, List, OnOk};
+ghost use Rattle.std.specs.Prelude.{length};
 ghost use Rattle.std.specs.List.{find};
 ghost use Rattle.clear_bank.specs.Files.{file_lines};
 ghost use Rattle.clear_bank.specs.Newness.{judgement, new_places};
@@ -15,7 +16,7 @@ ghost use Rattle.clear_book.specs.Own.ImportBank.{limit_rules, rule_of};
 ghost use Rattle.clear_rules.specs.Counts.{Index, is_indexed};
 ghost use Rattle.clear_rules.specs.Decisions.{Refuses, Obeys, IsJudged, TakesTables};
 ghost use Rattle.clear_rules.specs.Views.ImportBank.{IsImportView, credit_count_viewed};
-ghost use Rattle.clear_rules.specs.Views.ImportBank.{import_rule, is_registered_by, rows_viewed};
+ghost use Rattle.clear_rules.specs.Views.ImportBank.{ReadsAs, import_rule, is_registered_by, rows_viewed};
 
 mod counts;
 
@@ -62,35 +63,53 @@ pub struct ImportView {
     pub serials: SerialCount,
 }
 
-/// Decides on a bank file on the request's day: `OverLimit` above 10,000 data records, `BadCsv`,
-/// `RefConflict`, `ValueAhead`, `OverLimit` above 100,000 lines in suspense, `OverLimit` above
-/// 100,000 credits of an employer for one purpose, in this order. The last two are judged on what
-/// stands after the file. A file that doesn't begin with the letter r is `BadCsv` (1, 1) before all
-/// else. `Memory` may stand in place of any answer.
+/// The lines of a bank file: `OverLimit` above 10,000 data records, and `BadCsv`, in this order. A
+/// file that doesn't begin with the letter r is `BadCsv` (1, 1) before all else. `Memory` may stand
+/// in place of any answer. These are the first of the own rules on a bank file.
+pub fn file_lines(alloc: Global, file: &BankFile) -> Result<Vec<BankLine>, Rule>
+    // A refusal is the judge's, whatever the book and the day, but for want of memory.
+    ensures judged { (b : Book) (day : ℕ)
+        → IfErr result (λ rule. IsJudged b day (DoImport file.now) (Err rule)) }
+    ensures rule { Refuses result (fault_rule (file_lines most_records file.now)) }
+    ensures reads { IfOk result (λ lines. ReadsAs file.now lines.items) }
+{
+    match read_file(alloc, file.as_slice(), MAX_RECORDS) {
+        Ok(lines) => Ok(lines),
+        Err(fault) => Err(rule_of(fault)),
+    }
+}
+
+/// Decides on the lines of a bank file on the request's day: `RefConflict`, `ValueAhead`,
+/// `OverLimit` above 100,000 lines in suspense, `OverLimit` above 100,000 credits of an employer
+/// for one purpose, in this order. The last two are judged on what stands after the file. `Memory`
+/// may stand in place of any answer.
 ///
 /// An accepted file adds a row for each of its new lines, and is answered how many there are and
 /// how many repeat a line. It costs n log n steps for n lines of the file and of the view.
 pub fn decide_import(
     alloc: Global,
     day: Day,
-    file: &BankFile,
+    lines: &[BankLine],
     view: &ImportView,
 ) -> Result<Decision, Rule>
-    // The answer is the judge's, where the view is the book's, but for want of memory.
-    ensures judged { (b : Book) → IsImportView b file.now view.now
-        → IsJudged b day (DoImport file.now) result }
+    // Of a file that reads as these lines, the answer is the judge's, where the view is the book's,
+    // but for want of memory.
+    ensures judged { (b : Book) (file : List ℕ) → ReadsAs file lines.now
+        → IsImportView b file view.now → IsJudged b day (DoImport file) result }
     // Where the judge gives the reply, the change takes the tables of a lawful book to those of the
     // next.
-    ensures change { (b : Book) → IsImportView b file.now view.now
-        → IfOk result (TakesTables b day (DoImport file.now)) }
-    ensures rule { Refuses result (import_rule view.now day file.now) }
-    ensures made { IfOk result (λ decision.
-        decision.change ≡ Change.AddBankLines (rows_viewed view.now file.now)) }
-    ensures reply { IfOk result (λ decision.
-        decision.reply ≡ import_reply (rows_viewed view.now file.now) file.now) }
-    ensures few { OnOk result (length (rows_viewed view.now file.now) ≤ most_records) }
+    ensures change { (b : Book) (file : List ℕ) → ReadsAs file lines.now
+        → IsImportView b file view.now → IfOk result (TakesTables b day (DoImport file)) }
+    ensures rule { (file : List ℕ) → ReadsAs file lines.now
+        → Refuses result (import_rule view.now day file) }
+    ensures made { (file : List ℕ) → ReadsAs file lines.now → IfOk result (λ decision.
+        decision.change ≡ Change.AddBankLines (rows_viewed view.now file)) }
+    ensures reply { (file : List ℕ) → ReadsAs file lines.now → IfOk result (λ decision.
+        decision.reply ≡ import_reply (rows_viewed view.now file) file) }
+    ensures few { (file : List ℕ) → ReadsAs file lines.now
+        → OnOk result (length (rows_viewed view.now file) ≤ most_records) }
 {
-    let NewRows { rows, repeats } = match import_rows(alloc, day, file.as_slice(), view) {
+    let NewRows { rows, repeats } = match import_rows(alloc, day, lines, view) {
         Ok(new) => new,
         Err(rule) => return Err(rule),
     };
@@ -111,23 +130,27 @@ struct NewRows {
     repeats: usize,
 }
 
-// What a file brings, unless a rule applies.
-fn import_rows(alloc: Global, day: Day, file: &[u8], view: &ImportView) -> Result<NewRows, Rule>
-    ensures rule { Refuses result (import_rule view.now day file.now) }
-    ensures rows { IfOk result (λ new. new.rows.items ≡ rows_viewed view.now file.now) }
-    ensures repeats { IfOk result (λ new.
-        new.repeats ≡ length (lines_in file.now) - length new.rows.items) }
-    ensures few { IfOk result (λ new. length new.rows.items ≤ most_records) }
+// What the lines of a file bring, unless a rule applies.
+fn import_rows(
+    alloc: Global,
+    day: Day,
+    lines: &[BankLine],
+    view: &ImportView,
+) -> Result<NewRows, Rule>
+    ensures rule { (file : List ℕ) → ReadsAs file lines.now
+        → Refuses result (import_rule view.now day file) }
+    ensures rows { (file : List ℕ) → ReadsAs file lines.now
+        → IfOk result (λ new. new.rows.items ≡ rows_viewed view.now file) }
+    ensures repeats { (file : List ℕ) → ReadsAs file lines.now → IfOk result (λ new.
+        new.repeats ≡ length (lines_in file) - length new.rows.items) }
+    ensures few { (file : List ℕ) → ReadsAs file lines.now
+        → IfOk result (λ new. length new.rows.items ≤ most_records) }
 {
-    let lines = match read_file_lines(alloc, file) {
-        Ok(lines) => lines,
-        Err(rule) => return Err(rule),
-    };
-    let judged = match find_new(alloc, lines.as_slice(), view.known.as_slice()) {
+    let judged = match find_new(alloc, lines, view.known.as_slice()) {
         Ok(judged) => judged,
         Err(rule) => return Err(rule),
     };
-    let rows = match check_new(alloc, day, lines.as_slice(), judged.new.as_slice(), view) {
+    let rows = match check_new(alloc, day, lines, judged.new.as_slice(), view) {
         Ok(rows) => rows,
         Err(rule) => return Err(rule),
     };
@@ -135,18 +158,6 @@ fn import_rows(alloc: Global, day: Day, file: &[u8], view: &ImportView) -> Resul
         rows,
         repeats: judged.repeats,
     })
-}
-
-// The lines of a file.
-fn read_file_lines(alloc: Global, file: &[u8]) -> Result<Vec<BankLine>, Rule>
-    ensures rule { Refuses result (fault_rule (file_lines most_records file.now)) }
-    ensures lines { IfOk result (λ lines. lines.items ≡ lines_in file.now) }
-    ensures few { IfOk result (λ lines. length lines.items ≤ most_records) }
-{
-    match read_file(alloc, file, MAX_RECORDS) {
-        Ok(lines) => Ok(lines),
-        Err(fault) => Err(rule_of(fault)),
-    }
 }
 
 // The new lines among those of a file.

@@ -1,14 +1,17 @@
 //! What is asked of a report's month and lines, be it the first or a correction, and what is owed
 //! for it.
 ghost use Rattle.std.specs.Prelude.{◌≡◌, ◌≤◌, All, IfOk, OnOk, false, length};
+ghost use Rattle.std.specs.Option.{option_map};
 ghost use Rattle.clear_book.specs.Accounts.{base_of, contribution_of_lines};
 ghost use Rattle.clear_book.specs.Checks.{first_of};
 ghost use Rattle.clear_book.specs.Limits.{most_base, most_gross, most_lines};
-ghost use Rattle.clear_book.specs.Own.Lines.{has_large_gross, twice_rule, worker_twice};
+ghost use Rattle.clear_book.specs.Own.Lines.{has_large_gross, month_rules, size_rules};
+ghost use Rattle.clear_book.specs.Own.Lines.{twice_rule, worker_twice};
+ghost use Rattle.clear_book.specs.Tables.{member_in};
 ghost use Rattle.clear_rules.specs.Decisions.{Obeys, Refuses};
-ghost use Rattle.clear_rules.specs.Views.Report.{month_rules, size_rules};
 
 use clear_book::limits::{MAX_GROSS, MAX_LINES};
+use clear_book::rows::EmployerRow;
 use clear_book::rules::{Limit, Rule};
 use clear_book::texts::WageLine;
 use clear_money::days::Day;
@@ -46,15 +49,15 @@ fn base(lines: &[WageLine]) -> u64
     total
 }
 
-/// The rules on a report's month, for an employer that is a member from `start` on:
+/// The rules on a month that an employer reports, which has a row if it is registered:
 /// `UnknownEmployer`, `MonthOutside`, `MonthAhead`, in this order.
-pub(super) fn check_month(day: Day, month: Month, start: Option<Month>) -> Result<(), Rule>
-    ensures { Obeys result (first_of (month_rules start day month)) }
+pub(super) fn check_month(day: Day, month: Month, member: &Option<EmployerRow>) -> Result<(), Rule>
+    ensures { Obeys result (first_of (month_rules (option_map member_in member.now) day month)) }
 {
-    let Some(start) = start else {
+    let Some(member) = member else {
         return Err(Rule::UnknownEmployer);
     };
-    if month < start {
+    if !member.is_member_in(month) {
         return Err(Rule::MonthOutside);
     }
     if day.month_number() < month.number() {

@@ -1,27 +1,28 @@
 //! The decision on a month's first report.
 ghost use Rattle.std.specs.Prelude.{◌≡◌, ◌≤◌, All, IfOk, OnOk, length};
+ghost use Rattle.std.specs.Option.{option_map};
 ghost use Rattle.clear_book.specs.declared.calls.Command.TheVariants.{Report as DoReport};
 ghost use Rattle.clear_book.specs.Book.{Book};
 ghost use Rattle.clear_book.specs.Limits.{most_gross, most_lines};
 ghost use Rattle.clear_book.specs.Own.Report.{own_report};
+ghost use Rattle.clear_book.specs.Tables.{member_in};
 ghost use Rattle.clear_rules.specs.Decisions.{Refuses, IsJudged, TakesTables};
 ghost use Rattle.clear_rules.specs.Views.Report.{IsReportView, first_report};
 
 use super::lines::{charge, check_month, check_sizes, check_workers};
 use clear_book::calls::WageReport;
 use clear_book::outcomes::Reply;
-use clear_book::rows::{Change, Decision, ReportRow};
+use clear_book::rows::{Change, Decision, EmployerRow, ReportRow};
 use clear_book::rules::Rule;
 use clear_money::days::Day;
-use clear_money::months::Month;
 use clear_money::rates::RateRow;
 use std::alloc::Global;
 
 /// What a report is judged by, be it the first of its month or a correction.
-#[derive(Clone, Copy)]
+#[derive(Drop)]
 pub struct ReportView {
-    /// The employer's first member month, if it is registered.
-    pub start: Option<Month>,
+    /// The employer, if it is registered.
+    pub member: Option<EmployerRow>,
     /// The version of the month's report, if it has one.
     pub version: Option<u32>,
     /// The rate row in force for the month.
@@ -43,8 +44,8 @@ pub fn decide_report(
     // Where the judge gives the reply, the change takes the tables of a lawful book to those of the
     // next.
     ensures change { (b : Book) → IfOk result (TakesTables b day (DoReport report.now)) }
-    ensures rule { Refuses result
-        (own_report view.now.start view.now.version day report.now.month report.now.lines) }
+    ensures rule { Refuses result (own_report (option_map member_in view.now.member)
+        view.now.version day report.now.month report.now.lines) }
     ensures made { IfOk result (λ decision.
         decision.change ≡ Change.AddReport (first_report report.now) report.now.lines) }
     ensures few { OnOk result (length report.now.lines ≤ most_lines) }
@@ -71,12 +72,12 @@ pub fn decide_report(
 
 // The own rules of a first report.
 fn check_report(alloc: Global, day: Day, report: &WageReport, view: &ReportView) -> Result<(), Rule>
-    ensures rule { Refuses result
-        (own_report view.now.start view.now.version day report.now.month report.now.lines) }
+    ensures rule { Refuses result (own_report (option_map member_in view.now.member)
+        view.now.version day report.now.month report.now.lines) }
     ensures few { OnOk result (length report.now.lines ≤ most_lines) }
     ensures small { OnOk result (All (λ line. line.gross ≤ most_gross) report.now.lines) }
 {
-    match check_month(day, report.month, view.start) {
+    match check_month(day, report.month, &view.member) {
         Ok(()) => {}
         Err(rule) => return Err(rule),
     }

@@ -8,7 +8,7 @@ in_range n t some most h = grind (arith, nat_tests)
 
 pub returns-clause-some : goal.returns-clause-some
 returns-clause-some c =
-    let visible = sym c.all_visible.ensures ∙ c.if-not-all_visible.false in
+    let visible = sym c.are_visible.ensures ∙ c.if-not-are_visible.false in
     let empty = sym c.is_empty.ensures ∙ c.if-is_empty.false in (
       λ e. in_range _ _ empty c.if-bytes-gt-MAX.false visible,
       λ h. c.utf8_text.ensures.some.1 (is_utf8-visible _ visible),

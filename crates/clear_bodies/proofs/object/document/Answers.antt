@@ -3,7 +3,8 @@ use Rattle.std.proofs.lemmas.Bool.{false_from_ne_true}
 use Rattle.std.proofs.lemmas.Str.{IsUtf8-from_is_utf8, is_utf8-from_IsUtf8}
 use Rattle.std.specs.Str.{is_utf8}
 use Rattle.serde_json.specs.Read.{read as read_text}
-use Rattle.clear_bodies.specs.Faults.{or_fault, whole_body}
+use Rattle.clear_money.specs.Results.{or_fault}
+use Rattle.clear_bodies.specs.Faults.{whole_body}
 use Rattle.clear_bodies.proofs.object.document.Goals as goal
 
 pub returns-in_default : goal.returns-in_default

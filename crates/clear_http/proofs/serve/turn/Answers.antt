@@ -9,40 +9,44 @@ use Rattle.clear_wire.proofs.KnownLemmas.{Appends-nil}
 use Rattle.clear_http.proofs.ServeLemmas.{same_answer, says, sent_ends}
 use Rattle.clear_http.proofs.serve.turn.Goals as goal
 
-pub returns-in-Ok-send-clause-answered : goal.returns-in-Ok-send-clause-answered
-returns-in-Ok-send-clause-answered g c =
+pub returns-in-Ok-write_answer-clause-answered : goal.returns-in-Ok-write_answer-clause-answered
+returns-in-Ok-write_answer-clause-answered g c =
     let p = next_item c.in-Ok.item in
-    let due = c.in-Some.due in
+    let wanted = c.in-Some.said in
     let e = c.in-Some.ensures in
-    let w = c.in-Ok-send.ensures.wrote in
-    let said = says (g.H.Responder.responds c.args.responder.now) c.args.state.now p due.said w.0 c.respond_to.new.state e.says e.memory w.3 in
-    let same = same_answer c.args.left p due.said w.0 due.bare due.behind.after e.bare e.after w.3 in (
+    let behind = c.what_follows-behind.result in
+    let f = c.what_follows-behind.ensures in
+    let w = c.in-Ok-write_answer.ensures.wrote in
+    let told = says (g.H.Responder.responds c.args.responder.now) c.args.state.now p wanted w.0 c.reply.new.state e.says e.memory w.3 in
+    let same = same_answer c.args.left p wanted w.0 c.is_bare-bare.result behind.after c.is_bare-bare.ensures f.after w.3 in (
       p,
       w.0,
       e.answered,
       c.in-Ok.ensures.next,
-      e.after ∙ ap (λ (t : Bool). cond t 0 (left_after c.args.left p)) (sent_ends due.said w.0 w.3),
-      said,
-      subst (Appends (g.W.Write.contents (inner c.args.writer.now)) (g.W.Write.contents (inner c.send.new.writer)))
+      f.after ∙ ap (λ (t : Bool). cond t 0 (left_after c.args.left p)) (sent_ends wanted w.0 w.3),
+      told,
+      subst (Appends (g.W.Write.contents (inner c.args.writer.now)) (g.W.Write.contents (inner c.write_answer.new.writer)))
           (sym (append-nil w.1) ∙ ap (λ t. w.1 ++ t) (sym w.6) ∙ sym w.4 ∙ same) w.5,
-      e.unread,
+      f.unread,
     )
 
 pub returns-in-Some-clause-fault : goal.returns-in-Some-clause-fault
 returns-in-Some-clause-fault g c =
     let p = next_item c.in-Ok.item in
-    let due = c.in-Some.due in
+    let wanted = c.in-Some.said in
     let e = c.in-Some.ensures in
-    let w = c.in-Err-send.ensures.wrote in
-    let said = says (g.H.Responder.responds c.args.responder.now) c.args.state.now p due.said w.0 c.respond_to.new.state e.says e.memory w.3 in
-    let same = same_answer c.args.left p due.said w.0 due.bare due.behind.after e.bare e.after w.3 in (
+    let behind = c.what_follows-behind.result in
+    let f = c.what_follows-behind.ensures in
+    let w = c.in-Err-write_answer.ensures.wrote in
+    let told = says (g.H.Responder.responds c.args.responder.now) c.args.state.now p wanted w.0 c.reply.new.state e.says e.memory w.3 in
+    let same = same_answer c.args.left p wanted w.0 c.is_bare-bare.result behind.after c.is_bare-bare.ensures f.after w.3 in (
       p ∷ [],
       w.0 ∷ [],
       w.1,
       w.2,
       omega arith,
       cuts_one c.args.left p _ _ c.requires e.answered c.in-Ok.ensures.next,
-      (c.respond_to.new.state, said, refl),
+      (c.reply.new.state, told, refl),
       w.5,
       append-nil _ ∙ sym same ∙ w.4,
       w.7,

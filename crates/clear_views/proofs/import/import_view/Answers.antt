@@ -1,13 +1,11 @@
 use Rattle.std.proofs.Common.{ap, ◌∙◌}
 use Rattle.std.proofs.lemmas.Result.{IfOk-weaker}
-use Rattle.clear_book.specs.Lines.{lines_in}
 use Rattle.clear_schema.specs.Values.{Counts}
 use Rattle.clear_views.proofs.ImportLemmas.{view_of_read}
 use Rattle.clear_views.proofs.import.import_view.Goals as goal
 
 pub returns-clause-view : goal.returns-clause-view
-returns-clause-view g c clean t has same b lawful stands =
+returns-clause-view g c clean t has same b lawful stands file are =
     IfOk-weaker c.read_view.result _ _
-    (λ view read. view_of_read b t lawful stands c.args.file.now view c.in-Some.serials c.as_slice-2.result.now (c.in-Some.ensures.value ∙ ap (λ (counts : Counts). counts.serial) same)
-    (c.as_slice-2.ensures.value ∙ c.in-Ok.ensures.lines ∙ ap lines_in c.as_slice.ensures) read)
+    (λ view read. view_of_read b t lawful stands file view c.in-Some.serials c.args.lines.now (c.in-Some.ensures.value ∙ ap (λ (counts : Counts). counts.serial) same) are read)
     (c.read_view.ensures.reads.each clean t has).found

@@ -8,7 +8,7 @@ use Rattle.clear_views.proofs.register.register_view.Goals as goal
 pub returns-clause-view : goal.returns-clause-view
 returns-clause-view g c clean t has same b stands =
     let old = state g.S.Store c.args.tx.now.conn.now in
-    let one = state g.S.Store c.start_of.new.tx.conn.now in
+    let one = state g.S.Store c.find_member.new.tx.conn.now in
     let two = state g.S.Store c.rate_for.new.tx.conn.now in
     let end = state g.S.Store c.count_employers.new.tx.conn.now in
     let clean_two = was_clean two end c.count_employers.ensures.survives clean in
@@ -16,6 +16,6 @@ returns-clause-view g c clean t has same b stands =
     let has_one = still t old one (c.in-Ok.ensures.leaves.same clean_one t has) has in
     let has_two = still t one two (c.in-Ok-rate_for.ensures.leaves.same clean_two t has_one) has_one in
     register_viewed b t stands c.args.registration.now _ c.args.counts.now.entries (ap (λ (x : Counts). x.entries) same)
-    (c.is_some-registered.ensures ∙ ap is_some (c.in-Ok.ensures.start clean_one t has))
+    c.in-Ok.member c.is_some-registered.ensures (c.in-Ok.ensures.member clean_one t has)
     (c.is_some-has_rate.ensures ∙ ap is_some (c.in-Ok-rate_for.ensures.row clean_two t has_one))
     (c.in-Ok-count_employers.ensures.count clean t has_two)

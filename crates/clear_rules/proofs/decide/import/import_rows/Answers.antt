@@ -1,33 +1,46 @@
-use Rattle.std.proofs.Common.{◌≡◌, ◌-◌, ◌≤◌, ◌∷◌, List, None, length, refl, sym, ◌∙◌, subst}
+use Rattle.std.proofs.Common.{◌≡◌, ◌-◌, ◌∷◌, None, length, refl, sym, ap, ◌∙◌, subst}
+use Rattle.clear_bank.proofs.LengthLemmas.{few_lines}
 use Rattle.clear_bank.specs.Newness.{judgement, new_places}
-use Rattle.clear_bank.specs.declared.lines.BankLine.{BankLine}
 use Rattle.clear_rules.specs.Views.ImportBank.{import_rule}
 use Rattle.clear_book.specs.Own.ImportBank.{fault_rule}
 use Rattle.clear_book.specs.Checks.{first_of}
-use Rattle.clear_rules.proofs.ImportBankLemmas.{values_rule, limits_viewed, rows_of_new, refused_as, ruled_new, new_repeats, new_few}
+use Rattle.clear_rules.proofs.ImportBankLemmas.{values_rule, limits_viewed, lines_read, rows_of_new, refused_as, refused_new, ruled_new, new_repeats, new_few, RefusedBy}
 use Rattle.clear_rules.proofs.decide.import.import_rows.Goals as goal
 
-pub returns-in-Err-check_new-clause-rule : goal.returns-in-Err-check_new-clause-rule
-returns-in-Err-check_new-clause-rule c =
+pub returns-in-Err-clause-rule : goal.returns-in-Err-clause-rule
+returns-in-Err-clause-rule c = λ file reads.
     let view = c.args.view.now in
-    let lines = c.as_slice-3.result.now in
-    let known_is : view.known.items ≡ c.as_slice-2.result.now = sym c.as_slice-2.ensures.value in
-    let lines_is : lines ≡ c.as_slice.result.now = c.as_slice-3.ensures.value ∙ sym c.as_slice.ensures.value in
-    let none : fault_rule (judgement view.known.items lines) ≡ None = (λ i. fault_rule (judgement (known_is i) (lines_is i))) ∙ c.in-Ok-find_new.ensures.rule in
-    refused_as c.in-Err-check_new.rule (import_rule view c.args.day c.args.file.now) (first_of (values_rule view c.args.day lines ∷ limits_viewed view (rows_of_new view lines)))
-    (ruled_new view c.args.day c.args.file.now lines (c.as_slice-3.ensures.value ∙ c.in-Ok.ensures.lines) c.in-Ok.ensures.rule none)
+    let lines = c.args.lines.now in
+    refused_new view c.args.day file lines reads c.in-Err.rule
+    (subst (λ known. RefusedBy c.in-Err.rule (fault_rule (judgement known lines))) c.as_slice.ensures.value c.in-Err.ensures.rule)
+
+pub returns-in-Err-check_new-clause-rule : goal.returns-in-Err-check_new-clause-rule
+returns-in-Err-check_new-clause-rule c = λ file reads.
+    let view = c.args.view.now in
+    let lines = c.args.lines.now in
+    let none : fault_rule (judgement view.known.items lines) ≡ None = ap (λ known. fault_rule (judgement known lines)) (sym c.as_slice.ensures.value) ∙ c.in-Ok.ensures.rule in
+    refused_as c.in-Err-check_new.rule (import_rule view c.args.day file) (first_of (values_rule view c.args.day lines ∷ limits_viewed view (rows_of_new view lines)))
+    (ruled_new view c.args.day file lines reads none)
     (c.in-Err-check_new.ensures.rule (rows_of_new view lines) refl)
 
-pub returns-clause-repeats : goal.returns-clause-repeats
-returns-clause-repeats c =
+pub returns-clause-rule : goal.returns-clause-rule
+returns-clause-rule c = λ file reads.
     let view = c.args.view.now in
-    let lines = c.as_slice-3.result.now in
-    let known_is : c.as_slice-2.result.now ≡ view.known.items = c.as_slice-2.ensures.value in
-    let lines_is : c.as_slice.result.now ≡ lines = c.as_slice.ensures.value ∙ sym c.as_slice-3.ensures.value in
-    new_repeats view c.args.file.now lines c.in-Ok-check_new.rows.items c.in-Ok-find_new.judged.repeats (c.as_slice-3.ensures.value ∙ c.in-Ok.ensures.lines) c.in-Ok-check_new.ensures.rows
-    (c.in-Ok-find_new.ensures.repeats ∙ (λ i. length (lines_is i) - length (new_places (known_is i) (lines_is i))))
+    let lines = c.args.lines.now in
+    let none : fault_rule (judgement view.known.items lines) ≡ None = ap (λ known. fault_rule (judgement known lines)) (sym c.as_slice.ensures.value) ∙ c.in-Ok.ensures.rule in
+    ruled_new view c.args.day file lines reads none ∙ c.in-Ok-check_new.ensures.rule (rows_of_new view lines) refl
+
+pub returns-clause-rows : goal.returns-clause-rows
+returns-clause-rows c = λ file reads.
+    c.in-Ok-check_new.ensures.rows ∙ ap (rows_of_new c.args.view.now) (lines_read file c.args.lines.now reads)
+
+pub returns-clause-repeats : goal.returns-clause-repeats
+returns-clause-repeats c = λ file reads.
+    let view = c.args.view.now in
+    let lines = c.args.lines.now in
+    new_repeats view file lines c.in-Ok-check_new.rows.items c.in-Ok.judged.repeats (lines_read file lines reads) c.in-Ok-check_new.ensures.rows
+    (c.in-Ok.ensures.repeats ∙ ap (λ known. length lines - length (new_places known lines)) c.as_slice.ensures.value)
 
 pub returns-clause-few : goal.returns-clause-few
-returns-clause-few c =
-    new_few 10000 c.args.view.now c.as_slice-3.result.now c.in-Ok-check_new.rows.items c.in-Ok-check_new.ensures.rows
-    (subst (λ (lines : List BankLine). length lines ≤ 10000) (sym c.as_slice-3.ensures.value) c.in-Ok.ensures.few)
+returns-clause-few c = λ file reads.
+    new_few 10000 c.args.view.now c.args.lines.now c.in-Ok-check_new.rows.items c.in-Ok-check_new.ensures.rows (few_lines 10000 file c.args.lines.now reads)

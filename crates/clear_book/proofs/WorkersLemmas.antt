@@ -1,0 +1,145 @@
+-- The employers of a lawful book, and the numbers of claims.
+use Rattle.std.proofs.Common.{◌≡◌, ℕ, zero, suc, ◌+◌, ◌<◌, List, [], ◌∷◌, ◌++◌, length, map, Option, Some, None, is_some, Bool, true, false, cond, ◌&&◌, ◌==◌, refl, sym, ap, ◌∙◌, subst, arith, length-append}
+use Rattle.std.proofs.lemmas.List.{length-map, map-append}
+use Rattle.std.proofs.lemmas.List.Sums.{sum_by-cons}
+use Rattle.std.specs.List.{cons_option, range_with_len}
+use Rattle.std.specs.Option.{option_map}
+use Rattle.std.specs.Prelude.{option_and_then}
+use Rattle.clear_money.specs.Rates.{rate_in_force}
+use Rattle.clear_book.specs.declared.calls.Command.{Command}
+use Rattle.clear_book.specs.declared.calls.Command.TheVariants.{Register, Report, Correct, ImportBank}
+use Rattle.clear_book.specs.declared.calls.Registration.{Registration}
+use Rattle.clear_book.specs.declared.outcomes.Reply.{Reply}
+use Rattle.clear_book.specs.declared.rows.ClaimRow.{ClaimRow}
+use Rattle.clear_book.specs.Book.{RateTable, Book, Entry, Member, rates_of, newer, registration_in, member_by, member_of, employer_count}
+use Rattle.clear_book.specs.Judge.{own_rule}
+use Rattle.clear_book.specs.Keyed.{find_row, with_row, with_rows, in_key_order, AllBehind, AreInOrder, AreOnce}
+use Rattle.clear_book.specs.Laws.{AreEmployers, AreNumbered}
+use Rattle.clear_book.specs.Machine.{AreJudged, IsLawful}
+use Rattle.clear_book.specs.Tables.{claim_key}
+use Rattle.clear_book.specs.Workers.{registered_in, number_key, employers_of, claims_by, claim_after, claims_of}
+use Rattle.clear_book.proofs.KeyedLemmas.{first_less, length-with_row}
+use Rattle.clear_book.proofs.KeyedRowsLemmas.{AreInOrder-in_key_order, find_row-in_key_order}
+use Rattle.clear_book.proofs.LimitsLemmas.{accepted}
+use Rattle.clear_book.proofs.LinesLemmas.{range_with_len-append, same_parts}
+use Rattle.clear_book.proofs.RatesLemmas.{new_and_rated}
+use Rattle.clear_book.proofs.VersionLemmas.{no_some}
+
+-- ---- employers
+
+abbrev employer_in : Registration → ℕ
+employer_in r = r.employer
+
+-- an employer that a registration names, or that was there
+named_or_there : (r : Registration) (e : ℕ) (b : Bool) (there : Option ℕ) (before : Option Member) → is_some there ≡ is_some before → is_some (cond (b && true) (Some r.employer) there) ≡ is_some (newer (cond {A = Option Member} b (Some (record { name = r.name; start = r.start; last = None })) None) before)
+named_or_there r e true there before same = refl
+named_or_there r e false there before same = same
+
+-- who is registered is found among those that entries register
+found_employer : (xs : List Entry) (e : ℕ) → is_some (find_row number_key (registered_in xs) (number_key e)) ≡ is_some (member_of xs e)
+found_employer [] e = refl
+found_employer (x ∷ xs) e = told (registration_in x.command) (found_employer xs e)
+  where
+    told : (o : Option Registration) → is_some (find_row number_key (registered_in xs) (number_key e)) ≡ is_some (member_of xs e) → is_some (find_row number_key (cons_option (option_map employer_in o) (registered_in xs)) (number_key e)) ≡ is_some (newer (option_and_then (member_by e) o) (member_of xs e))
+    told None rest = rest
+    told (Some r) rest = named_or_there r e (r.employer == e) (find_row number_key (registered_in xs) (number_key e)) (member_of xs e) rest
+
+-- a registration that no rule refuses is of no member
+no_member : (b : Book) (t : ℕ) (command : Command) (r : Registration) → own_rule b t command ≡ None → registration_in command ≡ Some r → is_some (member_of b.entries r.employer) ≡ false
+no_member b t (Register q) r own is =
+    let same : q ≡ r = cc is in
+    subst (λ (s : Registration). is_some (member_of b.entries s.employer) ≡ false) same
+    (new_and_rated (is_some (member_of b.entries q.employer)) (employer_count b.entries) (is_some (rate_in_force (rates_of b) q.start)) own).0
+no_member b t (Report q) r own is = absurd (cc is)
+no_member b t (Correct c) r own is = absurd (cc is)
+no_member b t (ImportBank file) r own is = absurd (cc is)
+
+-- so each is registered once
+registered_once : (rates : RateTable) (xs : List Entry) → AreJudged rates xs → AreOnce number_key (registered_in xs)
+registered_once rates [] h = tt
+registered_once rates (x ∷ xs) h = told (registration_in x.command) refl (registered_once rates xs h.0)
+  where
+    told : (o : Option Registration) → registration_in x.command ≡ o → AreOnce number_key (registered_in xs) → AreOnce number_key (cons_option (option_map employer_in o) (registered_in xs))
+    told None is rest = rest
+    told (Some r) is rest =
+        (no_some _ (found_employer xs r.employer ∙ no_member (record { opening = rates; entries = xs }) x.day x.command r (accepted rates x xs h).1 is), rest)
+
+-- as many as there are
+registered_count : (xs : List Entry) → length (registered_in xs) ≡ employer_count xs
+registered_count [] = refl
+registered_count (x ∷ xs) =
+    told (registration_in x.command) (registered_count xs)
+    ∙ sym (sum_by-cons (λ (y : Entry). cond {A = ℕ} (is_some (registration_in y.command)) 1 0) x xs)
+  where
+    told : (o : Option Registration) → length (registered_in xs) ≡ employer_count xs → length (cons_option (option_map employer_in o) (registered_in xs)) ≡ cond {A = ℕ} (is_some o) 1 0 + employer_count xs
+    told None rest = omega (arith, rest)
+    told (Some r) rest = omega (arith, rest)
+
+length-with_rows : (rows news : List ℕ) → length (with_rows number_key rows news) ≡ length rows + length news
+length-with_rows rows [] = omega arith
+length-with_rows rows (new ∷ news) = omega (arith, length-with_rows (with_row number_key rows new) news, length-with_row number_key rows new)
+
+pub employers_right : (b : Book) → IsLawful b → AreEmployers b
+employers_right b lawful =
+    let once = registered_once b.opening b.entries lawful in
+    record {
+      order = AreInOrder-in_key_order number_key (registered_in b.entries) once;
+      registered = λ e.
+          ap is_some (find_row-in_key_order number_key (registered_in b.entries) (number_key e) once)
+          ∙ found_employer b.entries e;
+      count = omega (arith, length-with_rows [] (registered_in b.entries), registered_count b.entries);
+    }
+
+-- ---- claims
+
+abbrev claim_no : ClaimRow → ℕ
+claim_no claim = claim.claim
+
+-- no command changes the number of a claim
+same_number : (t : ℕ) (reply : Reply) (command : Command) (claim : ClaimRow) → (claim_after t reply command claim).claim ≡ claim.claim
+same_number t reply (Register r) claim = refl
+same_number t reply (Report r) claim = refl
+same_number t reply (Correct c) claim = refl
+same_number t reply (ImportBank file) claim = refl
+
+same_numbers : (t : ℕ) (reply : Reply) (command : Command) (claims : List ClaimRow) → map claim_no (map (claim_after t reply command) claims) ≡ map claim_no claims
+same_numbers t reply command [] = refl
+same_numbers t reply command (claim ∷ claims) = λ i. same_number t reply command claim i ∷ same_numbers t reply command claims i
+
+-- the claims that a command makes take the next numbers
+next_numbers : (last t : ℕ) (command : Command) → map claim_no (claims_by last t command) ≡ range_with_len (last + 1) (length (claims_by last t command))
+next_numbers last t (Register r) = refl
+next_numbers last t (Report r) = refl
+next_numbers last t (Correct c) = refl
+next_numbers last t (ImportBank file) = refl
+
+numbers_are : (xs : List Entry) → map claim_no (claims_of xs) ≡ range_with_len 1 (length (claims_of xs))
+numbers_are [] = refl
+numbers_are (x ∷ xs) =
+    joined (map (claim_after x.day x.reply x.command) (claims_of xs)) (claims_by (length (claims_of xs)) x.day x.command) (length (claims_of xs)) (length-map (claims_of xs) (claim_after x.day x.reply x.command))
+    (same_numbers x.day x.reply x.command (claims_of xs) ∙ numbers_are xs) (next_numbers (length (claims_of xs)) x.day x.command)
+  where
+    joined : (old new : List ClaimRow) (n : ℕ) → length old ≡ n → map claim_no old ≡ range_with_len 1 n → map claim_no new ≡ range_with_len (n + 1) (length new) → map claim_no (old ++ new) ≡ range_with_len 1 (length (old ++ new))
+    joined old new n count e k =
+        map-append claim_no old new
+        ∙ (λ i. e i ++ k i)
+        ∙ (let start : n + 1 ≡ 1 + n = omega arith in ap (λ a. range_with_len 1 n ++ range_with_len a (length new)) start)
+        ∙ sym (range_with_len-append 1 n (length new) (length (old ++ new)) (length-append old new ∙ ap (λ m. m + length new) count))
+
+-- numbers that follow on each other rise
+all_behind : (s a n : ℕ) (claims : List ClaimRow) → s < a → map claim_no claims ≡ range_with_len a n → AllBehind claim_key (s ∷ []) claims
+all_behind s a n [] h e = tt
+all_behind s a zero (claim ∷ claims) h e = absurd (cc e)
+all_behind s a (suc n) (claim ∷ claims) h e =
+    let parts = same_parts claim.claim a (map claim_no claims) (range_with_len (a + 1) n) e in
+    (first_less s claim.claim [] [] (omega (arith, parts.0)), all_behind s (a + 1) n claims (omega arith) parts.1)
+
+in_order : (a n : ℕ) (claims : List ClaimRow) → map claim_no claims ≡ range_with_len a n → AreInOrder claim_key claims
+in_order a n [] e = tt
+in_order a zero (claim ∷ claims) e = absurd (cc e)
+in_order a (suc n) (claim ∷ claims) e =
+    let parts = same_parts claim.claim a (map claim_no claims) (range_with_len (a + 1) n) e in
+    (all_behind claim.claim (a + 1) n claims (omega (arith, parts.0)) parts.1, in_order (a + 1) n claims parts.1)
+
+pub claims_numbered : (xs : List Entry) → AreNumbered (claims_of xs)
+claims_numbered xs = record { numbers = numbers_are xs; order = in_order 1 (length (claims_of xs)) (claims_of xs) (numbers_are xs) }

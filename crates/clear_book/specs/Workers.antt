@@ -1,0 +1,116 @@
+-- Employers and workers: who is registered, what a worker has earned and claimed, and what of it is
+-- still to be claimed.
+use Rattle.std.specs.Prelude.{ℕ, ◌-◌, ◌*◌, ◌/◌, List, [], ◌∷◌, ◌++◌, Option, Some, None, Bool, true}
+use Rattle.std.specs.Prelude.{false, ◌&&◌, ◌==◌, not, filter, length, map, sum_by}
+use Rattle.std.specs.List.{filter_map, flat_map}
+use Rattle.std.specs.Option.{option_map, option_map_or}
+use Rattle.clear_money.specs.Calendar.{months}
+use Rattle.clear_money.specs.Rates.{Rate, rate_in_force}
+use Rattle.clear_book.specs.declared.calls.Command.{Command}
+use Rattle.clear_book.specs.declared.calls.Command.TheVariants.{Register, Report, Correct}
+use Rattle.clear_book.specs.declared.calls.Command.TheVariants.{ImportBank}
+use Rattle.clear_book.specs.declared.outcomes.Reply.{Reply}
+use Rattle.clear_book.specs.declared.rows.ClaimRow.{ClaimRow}
+use Rattle.clear_book.specs.declared.rows.ClaimState.{ClaimState}
+use Rattle.clear_book.specs.declared.rows.ClaimState.TheVariants.{Open, Withdrawn, Released}
+use Rattle.clear_book.specs.declared.texts.WageLine.{WageLine}
+use Rattle.clear_book.specs.Book.{Book, Entry, rates_of, registration_in, latest_lines}
+use Rattle.clear_book.specs.Keyed.{in_key_order}
+
+-- ---- employers
+
+-- the employers that entries register, the last one first
+abbrev pub registered_in : List Entry → List ℕ
+registered_in xs = filter_map (λ x. option_map (λ r. r.employer) (registration_in x.command)) xs
+
+-- employers come in the order of their numbers
+abbrev pub number_key : ℕ → List ℕ
+number_key e = e ∷ []
+
+-- the registered employers, rising
+abbrev pub employers_of : List Entry → List ℕ
+employers_of xs = in_key_order number_key (registered_in xs)
+
+-- ---- what a worker has earned
+
+-- what a worker has earned with one line of a firm's month, in cents
+pub record EarnedLine : Type 0 where
+  pub employer : ℕ
+  pub month : ℕ
+  pub cents : ℕ
+
+-- the entitlement for a gross amount at a rate row, rounded down, and 0 where none is in force
+abbrev pub entitlement_for : Option Rate → ℕ → ℕ
+entitlement_for rate gross = option_map_or (λ r. gross * r.entitlement_rate / 10000) rate 0
+
+-- what a line earns in a firm's month
+abbrev pub earned_by : Book → ℕ → ℕ → WageLine → EarnedLine
+earned_by b e m line =
+    record {
+      employer = e;
+      month = m;
+      cents = entitlement_for (rate_in_force (rates_of b) m) line.gross;
+    }
+
+-- the lines of a worker in a report, and none where there is no report
+abbrev pub lines_of_worker : ℕ → Option (List WageLine) → List WageLine
+lines_of_worker w None = []
+lines_of_worker w (Some lines) = filter (λ line. line.worker == w) lines
+
+-- what a worker has earned in a firm's month, by its latest report
+abbrev pub earned_in : Book → ℕ → ℕ → ℕ → List EarnedLine
+earned_in b w e m = map (earned_by b e m) (lines_of_worker w (latest_lines b.entries e m))
+
+-- what a worker has earned at a firm, the months rising
+abbrev pub earned_at : Book → ℕ → ℕ → List EarnedLine
+earned_at b w e = flat_map (earned_in b w e) months
+
+-- what a worker has earned, by employer, then month
+abbrev pub earned_of : Book → ℕ → List EarnedLine
+earned_of b w = flat_map (earned_at b w) (employers_of b.entries)
+
+-- all that a worker has earned
+abbrev pub entitlement_of : Book → ℕ → ℕ
+entitlement_of b w = sum_by (λ line. line.cents) (earned_of b w)
+
+-- ---- claims
+
+-- the claims that a command makes, on its day and behind the last number that was given
+abbrev pub claims_by : ℕ → ℕ → Command → List ClaimRow
+claims_by last t (Register r) = []
+claims_by last t (Report r) = []
+claims_by last t (Correct c) = []
+claims_by last t (ImportBank file) = []
+
+-- a claim that stands, after a command, on its day and with the reply to it
+abbrev pub claim_after : ℕ → Reply → Command → ClaimRow → ClaimRow
+claim_after t reply (Register r) claim = claim
+claim_after t reply (Report r) claim = claim
+claim_after t reply (Correct c) claim = claim
+claim_after t reply (ImportBank file) claim = claim
+
+-- the claims of all workers by their numbers, as they stand
+abbrev pub claims_of : List Entry → List ClaimRow
+claims_of [] = []
+claims_of (x ∷ xs) =
+    map (claim_after x.day x.reply x.command) (claims_of xs)
+    ++ claims_by (length (claims_of xs)) x.day x.command
+
+-- the claim is withdrawn
+abbrev pub is_withdrawn : ClaimState → Bool
+is_withdrawn Open = false
+is_withdrawn Withdrawn = true
+is_withdrawn (Released release) = false
+
+-- the claims of a worker that aren't withdrawn, by their numbers
+abbrev pub claims_of_worker : List Entry → ℕ → List ClaimRow
+claims_of_worker xs w =
+    filter (λ claim. (claim.worker == w) && not (is_withdrawn claim.state)) (claims_of xs)
+
+-- all that is claimed for a worker
+abbrev pub claimed : Book → ℕ → ℕ
+claimed b w = sum_by (λ claim. claim.cents) (claims_of_worker b.entries w)
+
+-- the balance of a worker: what was earned, less what is claimed, and 0 where that is more
+abbrev pub balance_of : Book → ℕ → ℕ
+balance_of b w = entitlement_of b w - claimed b w

@@ -1,0 +1,159 @@
+//! The subcommands, each read from the words behind it.
+ghost use Rattle.std.specs.Prelude.{◌≡◌, Some, IfSome, IfNone};
+ghost use Rattle.clap.specs.Words.{found_of, rows_of};
+ghost use Rattle.clear_cli.specs.Rows.{subcommand_named, Names, ReadsWords};
+ghost use Rattle.clear_cli.specs.declared.words.Words.{Words};
+
+use crate::places::{count, day, employer, port, request, word};
+use crate::words::Words;
+use clap::ArgMatches;
+
+// A subcommand.
+#[derive(Clone, Copy)]
+pub(crate) enum Subcommand {
+    Init,
+    Stream,
+    Serve,
+    Import,
+    Statement,
+    Migrate,
+}
+
+fn subcommand_named(name: &str) -> Option<Subcommand>
+    ensures { result ≡ subcommand_named name.now }
+{
+    match name {
+        "init" => Some(Subcommand::Init),
+        "stream" => Some(Subcommand::Stream),
+        "serve" => Some(Subcommand::Serve),
+        "import" => Some(Subcommand::Import),
+        "statement" => Some(Subcommand::Statement),
+        "migrate" => Some(Subcommand::Migrate),
+        _ => None,
+    }
+}
+
+fn read_init<'a>(words: &ArgMatches<'a>) -> Option<Words<'a>>
+    ensures { ReadsWords (rows_of (found_of words.now)) Subcommand.Init result }
+{
+    let Some(store) = word(words, "STORE") else {
+        return None;
+    };
+    let Some(rates) = word(words, "RATES") else {
+        return None;
+    };
+    Some(Words::Init { store, rates })
+}
+
+fn read_stream<'a>(words: &ArgMatches<'a>) -> Option<Words<'a>>
+    ensures { ReadsWords (rows_of (found_of words.now)) Subcommand.Stream result }
+{
+    let Some(rates) = word(words, "RATES") else {
+        return None;
+    };
+    let Some(callers) = word(words, "CALLERS") else {
+        return None;
+    };
+    let Some(day) = day(words) else {
+        return None;
+    };
+    Some(Words::Stream {
+        rates,
+        callers,
+        day,
+    })
+}
+
+fn read_serve<'a>(words: &ArgMatches<'a>) -> Option<Words<'a>>
+    ensures { ReadsWords (rows_of (found_of words.now)) Subcommand.Serve result }
+{
+    let Some(store) = word(words, "STORE") else {
+        return None;
+    };
+    let Some(callers) = word(words, "CALLERS") else {
+        return None;
+    };
+    let Some(day) = day(words) else {
+        return None;
+    };
+    let Some(port) = port(words) else {
+        return None;
+    };
+    let Some(count) = count(words) else {
+        return None;
+    };
+    Some(Words::Serve {
+        store,
+        callers,
+        day,
+        port,
+        count,
+    })
+}
+
+fn read_import<'a>(words: &ArgMatches<'a>) -> Option<Words<'a>>
+    ensures { ReadsWords (rows_of (found_of words.now)) Subcommand.Import result }
+{
+    let Some(store) = word(words, "STORE") else {
+        return None;
+    };
+    let Some(day) = day(words) else {
+        return None;
+    };
+    let Some(number) = request(words) else {
+        return None;
+    };
+    let Some(file) = word(words, "FILE") else {
+        return None;
+    };
+    Some(Words::Import {
+        store,
+        day,
+        number,
+        file,
+    })
+}
+
+fn read_statement<'a>(words: &ArgMatches<'a>) -> Option<Words<'a>>
+    ensures { ReadsWords (rows_of (found_of words.now)) Subcommand.Statement result }
+{
+    let Some(store) = word(words, "STORE") else {
+        return None;
+    };
+    let Some(day) = day(words) else {
+        return None;
+    };
+    let Some(employer) = employer(words) else {
+        return None;
+    };
+    Some(Words::Statement {
+        store,
+        day,
+        employer,
+    })
+}
+
+fn read_migrate<'a>(words: &ArgMatches<'a>) -> Option<Words<'a>>
+    ensures { ReadsWords (rows_of (found_of words.now)) Subcommand.Migrate result }
+{
+    let Some(store) = word(words, "STORE") else {
+        return None;
+    };
+    Some(Words::Migrate { store })
+}
+
+// What a subcommand says with its words.
+pub(crate) fn read_subcommand<'a>(name: &str, words: &ArgMatches<'a>) -> Option<Words<'a>>
+    ensures found { IfSome result (Names (Some (name.now, rows_of (found_of words.now)))) }
+    ensures only { IfNone result ((said : Words) →
+        ¬ Names (Some (name.now, rows_of (found_of words.now))) said) }
+{
+    match subcommand_named(name)? {
+        Subcommand::Init => read_init(words),
+        Subcommand::Stream => read_stream(words),
+        Subcommand::Serve => read_serve(words),
+        Subcommand::Import => read_import(words),
+        Subcommand::Statement => read_statement(words),
+        Subcommand::Migrate => read_migrate(words),
+    }
+}

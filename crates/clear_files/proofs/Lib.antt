@@ -1,5 +1,0 @@
-pub mod BlankLemmas
-pub mod OfficeLemmas
-pub mod ReadLemmas
-pub mod RefusalLemmas
-pub mod StoreLemmas

@@ -1,0 +1,7 @@
+pub mod BlankLemmas
+pub mod OfficeLemmas
+pub mod ReadLemmas
+pub mod RefusalLemmas
+pub mod StoreLemmas
+mod TalkLemmas
+mod ToldLemmas

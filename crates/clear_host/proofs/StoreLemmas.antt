@@ -1,0 +1,33 @@
+-- What a connection on files sees, by what the files hold.
+use Rattle.std.proofs.Common.{◌≡◌, ◌∙◌, ℕ, sym, ap, subst}
+use Rattle.sqlite_wal.specs.Recovery.{Image}
+use Rattle.sqlite_catalog.proofs.ReadLemmas.{lists_once}
+use Rattle.sqlite_trees.specs.Objects.{catalog_tree}
+use Rattle.sqlite.specs.Files.{IsNothing}
+use Rattle.sqlite.specs.State.{State}
+use Rattle.sqlite.proofs.ListingLemmas.{empty_is_sound}
+use Rattle.clear_book.specs.Tables.{Tables}
+use Rattle.clear_schema.specs.Held.{StandsFor, TellsAs, TellsSchema, this_schema}
+use Rattle.clear_schema.specs.Schema.{no_schema}
+use Rattle.clear_schema.proofs.OpenLemmas.{tells_seen}
+use Rattle.clear_host.specs.Contents.{HoldsSchema, HoldsStore}
+use Rattle.clear_host.specs.Seen.{SeesIn}
+use Rattle.clear_host.proofs.BlankLemmas.{none_found}
+
+module _ (image : Image) (s : State) (seen : SeesIn image s) where
+  -- the store that the files hold
+  pub store_seen : (t : Tables) → HoldsStore this_schema t image → StandsFor t s.committed.trees
+  store_seen t (trees, holds, stands) = subst (StandsFor t) (sym (seen.1.holds trees holds)) stands
+
+  -- or the number that their database tells
+  pub told_seen : (number : ℕ) → HoldsSchema number image → TellsAs number s.committed.trees × TellsSchema number s.now
+  told_seen number (trees, holds, tells) =
+      let there : TellsAs number s.committed.trees = subst (TellsAs number) (sym (seen.1.holds trees holds)) tells in
+      (there, tells_seen number s seen.0.0.clean seen.0.1 seen.0.0.is_open there)
+
+  -- or no table, where they hold no database yet
+  pub nothing_seen : IsNothing image → s.now.schema ≡ no_schema
+  nothing_seen nothing =
+      let bare = none_found image s.committed.trees nothing seen.1.reads in
+      let here = lists_once (s.committed.trees catalog_tree) s.committed.schema no_schema (seen.0.1 seen.0.0.is_open).1.lists (empty_is_sound s.committed.trees bare).lists in
+      ap (λ d. d.schema) seen.0.0.clean ∙ here

@@ -1,0 +1,20 @@
+use Rattle.clear_host.proofs.OfficeLemmas.{holds_still, honest_store, keeps_book}
+use Rattle.clear_host.proofs.offices.office_over.Goals as goal
+
+pub returns-in-Ok-clause-clean : goal.returns-in-Ok-clause-clean
+returns-in-Ok-clause-clean g c honest =
+    c.ledger_day.ensures.clean (honest_store g.S.Store c.open.result c.ledger_day.new.store.conn c.open.ensures.value honest)
+
+pub returns-in-Ok-clause-kept : goal.returns-in-Ok-clause-kept
+returns-in-Ok-clause-kept g c honest t has =
+    let clean = honest_store g.S.Store c.open.result c.ledger_day.new.store.conn c.open.ensures.value honest in
+    holds_still g.S.Store c.open.result c.ledger_day.new.store.conn c.open.ensures.value t (c.in-Ok.ensures.kept clean t has)
+
+pub returns-in-Ok-clause-keeps : goal.returns-in-Ok-clause-keeps
+returns-in-Ok-clause-keeps g c honest b t stands has =
+    let clean = honest_store g.S.Store c.open.result c.ledger_day.new.store.conn c.open.ensures.value honest in
+    keeps_book g.S.Store c.open.result c.ledger_day.new.store.conn c.open.ensures.value b t stands (c.in-Ok.ensures.kept clean t has)
+
+pub returns-in-Ok-clause-day : goal.returns-in-Ok-clause-day
+returns-in-Ok-clause-day g c honest t has =
+    c.in-Ok.ensures.day (honest_store g.S.Store c.open.result c.ledger_day.new.store.conn c.open.ensures.value honest) t has

@@ -1,0 +1,33 @@
+use Rattle.sqlite_wal.specs.Files.{image_at}
+use Rattle.clear_host.proofs.stores.open_office.Goals as goal
+
+pub returns-in-Ok-clause-found : goal.returns-in-Ok-clause-found
+returns-in-Ok-clause-found g c =
+    c.find_office.ensures.found (image_at g.S.Start) (λ clean. (c.in-Ok.ensures.opened clean, c.in-Ok.ensures.found clean))
+
+pub returns-in-Ok-clause-keeps : goal.returns-in-Ok-clause-keeps
+returns-in-Ok-clause-keeps g c =
+    c.find_office.ensures.keeps (image_at g.S.Start) (λ clean. (c.in-Ok.ensures.opened clean, c.in-Ok.ensures.found clean))
+
+pub returns-in-Ok-clause-day : goal.returns-in-Ok-clause-day
+returns-in-Ok-clause-day g c =
+    c.find_office.ensures.day (image_at g.S.Start) (λ clean. (c.in-Ok.ensures.opened clean, c.in-Ok.ensures.found clean))
+
+pub returns-in-Ok-clause-only_this : goal.returns-in-Ok-clause-only_this
+returns-in-Ok-clause-only_this g c =
+    c.find_office.ensures.only_this (image_at g.S.Start) (λ clean. (c.in-Ok.ensures.opened clean, c.in-Ok.ensures.found clean))
+
+pub returns-in-Ok-clause-only_stores : goal.returns-in-Ok-clause-only_stores
+returns-in-Ok-clause-only_stores g c =
+    c.find_office.ensures.only_stores (image_at g.S.Start) (λ clean. (c.in-Ok.ensures.opened clean, c.in-Ok.ensures.found clean))
+
+pub returns-in-Ok-clause-version : goal.returns-in-Ok-clause-version
+returns-in-Ok-clause-version g c =
+    c.find_office.ensures.version (image_at g.S.Start) (λ clean. (c.in-Ok.ensures.opened clean, c.in-Ok.ensures.found clean))
+
+pub returns-in-Ok-clause-empty : goal.returns-in-Ok-clause-empty
+returns-in-Ok-clause-empty g c =
+    c.find_office.ensures.empty (image_at g.S.Start) (λ clean. (c.in-Ok.ensures.opened clean, c.in-Ok.ensures.found clean))
+
+pub returns-in-Ok-clause-working : goal.returns-in-Ok-clause-working
+returns-in-Ok-clause-working g c = c.find_office.ensures.working

@@ -1,0 +1,61 @@
+-- What the files of the program hold. No contract knows that, so clauses speak of each content.
+use Rattle.std.specs.Prelude.{◌≡◌, ◌≤◌, ⊤, ℕ, List, length, IfSome, None, Option, Result, Ok}
+use Rattle.sqlite_wal.specs.Recovery.{Image}
+use Rattle.sqlite.specs.Files.{HoldsDatabase}
+use Rattle.sqlite.specs.Held.{state}
+use Rattle.sqlite.specs.State.{HasCleanDisk}
+use Rattle.sqlite.specs.Store.{Ghosts}
+use Rattle.sqlite.specs.Tree.{Trees}
+use Rattle.clear_book.specs.Book.{Book}
+use Rattle.clear_book.specs.Tables.{Tables, Stands}
+use Rattle.clear_schema.specs.Held.{StandsAs, TellsAs, this_schema}
+use Rattle.clear_schema.specs.declared.fault.OpenFault.{OpenFault}
+use Rattle.clear_schema.specs.declared.fault.OpenFault.TheVariants.{WrongVersion, Failed}
+use Rattle.clear_host.specs.declared.offices.NotOpened.{NotOpened}
+
+-- ---- a file that is read whole
+
+-- the greatest length of such a file, in bytes
+abbrev pub most_file_bytes : ℕ
+most_file_bytes = 4194304
+
+-- bytes, no more than a file may have, read as this; they are the reader's, where those are known
+abbrev pub BytesSay : {A E : Type 0} → Option (List ℕ) → (List ℕ → Result A E) → A → Type 0
+BytesSay known read it =
+    (bytes : List ℕ) × IfSome known (λ all. bytes ≡ all) × (length bytes ≤ most_file_bytes)
+    × (read bytes ≡ Ok it)
+
+-- a file's bytes are not known
+abbrev pub SomeFileSays : {A E : Type 0} → (List ℕ → Result A E) → A → Type 0
+SomeFileSays read it = BytesSay None read it
+
+-- ---- a store, in its log and its database file
+
+-- they hold a store of this number, with these tables
+abbrev pub HoldsStore : ℕ → Tables → Image → Type 0
+HoldsStore number t image = (trees : Trees) × HoldsDatabase image trees × StandsAs number t trees
+
+-- they hold a database that tells this number of its schema, whatever tables it has
+abbrev pub HoldsSchema : ℕ → Image → Type 0
+HoldsSchema number image =
+    (trees : Trees) × HoldsDatabase image trees × TellsAs number trees
+
+-- they hold a store of this program, with the tables of the book
+abbrev pub HoldsBook : Book → Image → Type 0
+HoldsBook b image = (t : Tables) × Stands b t × HoldsStore this_schema t image
+
+-- where the fault tells a number, it is this one
+abbrev pub TellsOnly : ℕ → OpenFault → Type 0
+TellsOnly number (WrongVersion told) = told ≡ number
+TellsOnly number (Failed fault) = ⊤
+
+-- the fault tells no number
+abbrev pub TellsNone : OpenFault → Type 0
+TellsNone (WrongVersion told) = ⊥
+TellsNone (Failed fault) = ⊤
+
+-- where the files were opened and their database was not taken, and the disk has so far returned
+-- what was written, the fault is so
+abbrev pub IfRefused : {S : Type 0} (g : Ghosts S) → (OpenFault → Type 0) → NotOpened S → Type 0
+IfRefused g P refused =
+    IfSome refused.connection (λ conn. HasCleanDisk (state g conn) → P refused.fault)

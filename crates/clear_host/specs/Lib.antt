@@ -1,0 +1,4 @@
+pub mod Contents
+pub mod Seen
+pub mod Talks
+pub mod Told

@@ -1,0 +1,204 @@
+//! Offices over connections on a database, whatever keeps it.
+//!
+//! A connection on files that were just opened sees what they held. So what is said here of an
+//! office goes by that: by a log and a database file that may have been there.
+ghost use Rattle.std.specs.Prelude.{◌≡◌, false, ℕ, None, IfErr, IfOk};
+ghost use Rattle.sqlite.specs.Files.{IsNothing};
+ghost use Rattle.sqlite.specs.Held.{state};
+ghost use Rattle.sqlite.specs.State.{HasCleanDisk};
+ghost use Rattle.sqlite_wal.specs.Recovery.{Image};
+ghost use Rattle.clear_book.specs.Book.{Book, first_book, ledger_day};
+ghost use Rattle.clear_book.specs.Tables.{Tables, Stands};
+ghost use Rattle.clear_schema.specs.Faults.{IsWrong};
+ghost use Rattle.clear_schema.specs.First.{first_tables};
+ghost use Rattle.clear_schema.specs.Held.{HasTables, this_schema};
+ghost use Rattle.clear_office.specs.Office.{Holds, IsHonest, Keeps};
+ghost use Rattle.clear_host.specs.Contents.{HoldsBook, HoldsSchema, HoldsStore};
+ghost use Rattle.clear_host.specs.Contents.{IfRefused, TellsNone, TellsOnly};
+ghost use Rattle.clear_host.specs.Seen.{Sees};
+
+use crate::ledger::ledger_day;
+use clear_money::days::Day;
+use clear_money::rates::RateTable;
+use clear_office::office::Office;
+use clear_schema::fault::OpenFault;
+use clear_schema::store::Store;
+use sqlite::{Alter, Connection};
+use std::alloc::Global;
+
+/// An office that was just opened over its store, and the day of its last accepted request, if
+/// there was one: it takes no request of an earlier day.
+#[derive(Drop)]
+pub struct Opened<S: Alter> {
+    pub office: Office<S>,
+    pub ledger_day: Option<Day>,
+}
+
+impl<S: Alter> Opened<S> {
+    /// The connection of its store alone, which is still to be closed.
+    pub fn into_connection(self) -> Connection<S>
+        ensures { result ≡ self.office.conn }
+    {
+        self.office.into_store().into_connection()
+    }
+}
+
+/// Why no office is opened, and the connection on the database, if it came so far.
+#[derive(Drop)]
+pub struct NotOpened<S: Alter> {
+    pub fault: OpenFault,
+    pub connection: Option<Connection<S>>,
+}
+
+/// Makes a store without requests, with these opening rates, in an empty database, and an office
+/// over it. Where the database has tables, `WrongVersion` with the number of its schema, 0 without
+/// one.
+pub(crate) fn make_office<S: Alter>(
+    alloc: Global,
+    connection: Connection<S>,
+    rates: &RateTable,
+) -> Result<Opened<S>, NotOpened<S>>
+    requires { connection.in_transaction ≡ false }
+    ensures working { IfOk result (λ opened. opened.office.failed ≡ false) }
+    ensures created { (image : Image) → Sees S.Store image connection
+        → IfOk result (λ opened. IsHonest S.Store opened.office → IsNothing image
+        → Holds S.Store opened.office.conn (first_tables rates.now)) }
+    ensures keeps { (image : Image) → Sees S.Store image connection
+        → IfOk result (λ opened. IsHonest S.Store opened.office → IsNothing image
+        → Keeps S.Store opened.office (first_book rates.now)) }
+    ensures only_new { (image : Image) → Sees S.Store image connection
+        → IfOk result (λ opened. IsHonest S.Store opened.office
+        → (number : ℕ) → ¬ HoldsSchema number image) }
+    ensures day { IfOk result (λ opened. opened.ledger_day ≡ None) }
+    ensures version { (image : Image) → Sees S.Store image connection
+        → (number : ℕ) → HoldsSchema number image
+        → IfErr result (IfRefused S.Store (TellsOnly number)) }
+    ensures empty { (image : Image) → Sees S.Store image connection → IsNothing image
+        → IfErr result (IfRefused S.Store TellsNone) }
+{
+    match Store::create(connection, rates) {
+        Ok(store) => Ok(Opened {
+            office: Office::open(alloc, store),
+            ledger_day: None,
+        }),
+        Err(refusal) => Err(NotOpened {
+            fault: refusal.fault,
+            connection: Some(refusal.connection),
+        }),
+    }
+}
+
+/// Finds the store in a database, and opens an office over it, which keeps the book that it finds.
+/// The store is confirmed to stand, so that a crash leaves the tables that it has and no others.
+/// Where the database is no store of this program, `WrongVersion` with the number of its schema, 0
+/// without one.
+pub(crate) fn find_office<S: Alter>(
+    alloc: Global,
+    connection: Connection<S>,
+) -> Result<Opened<S>, NotOpened<S>>
+    requires { connection.in_transaction ≡ false }
+    ensures working { IfOk result (λ opened. opened.office.failed ≡ false) }
+    ensures found { (image : Image) → Sees S.Store image connection
+        → IfOk result (λ opened. IsHonest S.Store opened.office
+        → (t : Tables) → HoldsStore this_schema t image
+        → Holds S.Store opened.office.conn t) }
+    ensures keeps { (image : Image) → Sees S.Store image connection
+        → IfOk result (λ opened. IsHonest S.Store opened.office
+        → (b : Book) → HoldsBook b image → Keeps S.Store opened.office b) }
+    ensures day { (image : Image) → Sees S.Store image connection
+        → IfOk result (λ opened. IsHonest S.Store opened.office
+        → (b : Book) → HoldsBook b image → opened.ledger_day ≡ ledger_day b.entries) }
+    ensures only_this { (image : Image) → Sees S.Store image connection
+        → IfOk result (λ opened. IsHonest S.Store opened.office
+        → (number : ℕ) → HoldsSchema number image → number ≡ this_schema) }
+    ensures only_stores { (image : Image) → Sees S.Store image connection
+        → IfOk result (λ opened. IsHonest S.Store opened.office → ¬ IsNothing image) }
+    ensures version { (image : Image) → Sees S.Store image connection
+        → (number : ℕ) → HoldsSchema number image
+        → IfErr result (IfRefused S.Store (IsWrong this_schema number)) }
+    ensures empty { (image : Image) → Sees S.Store image connection → IsNothing image
+        → IfErr result (IfRefused S.Store (TellsOnly 0)) }
+{
+    match find_store(connection) {
+        Ok(store) => office_over(alloc, store),
+        Err(refused) => Err(refused),
+    }
+}
+
+// The store in a database, once it is known to stand.
+fn find_store<S: Alter>(connection: Connection<S>) -> Result<Store<S>, NotOpened<S>>
+    requires { connection.in_transaction ≡ false }
+    ensures mode { IfOk result (λ store. store.conn.in_transaction ≡ false) }
+    ensures found { (image : Image) → Sees S.Store image connection
+        → IfOk result (λ store. HasCleanDisk (state S.Store store.conn)
+        → (t : Tables) → HoldsStore this_schema t image → Holds S.Store store.conn t) }
+    ensures only_this { (image : Image) → Sees S.Store image connection
+        → IfOk result (λ store. HasCleanDisk (state S.Store store.conn)
+        → (number : ℕ) → HoldsSchema number image → number ≡ this_schema) }
+    ensures only_stores { (image : Image) → Sees S.Store image connection
+        → IfOk result (λ store. HasCleanDisk (state S.Store store.conn) → ¬ IsNothing image) }
+    ensures version { (image : Image) → Sees S.Store image connection
+        → (number : ℕ) → HoldsSchema number image
+        → IfErr result (IfRefused S.Store (IsWrong this_schema number)) }
+    ensures empty { (image : Image) → Sees S.Store image connection → IsNothing image
+        → IfErr result (IfRefused S.Store (TellsOnly 0)) }
+{
+    match Store::open(connection) {
+        Ok(store) => confirm(store),
+        Err(refusal) => Err(NotOpened {
+            fault: refusal.fault,
+            connection: Some(refusal.connection),
+        }),
+    }
+}
+
+// The store, once it is known to stand.
+fn confirm<S: Alter>(store: Store<S>) -> Result<Store<S>, NotOpened<S>>
+    requires { store.conn.in_transaction ≡ false }
+    ensures mode { IfOk result (λ confirmed. confirmed.conn.in_transaction ≡ false) }
+    ensures kept { IfOk result (λ confirmed. HasCleanDisk (state S.Store confirmed.conn)
+        → (t : Tables) → HasTables t (state S.Store store.conn).now
+        → Holds S.Store confirmed.conn t) }
+    ensures clean { IfOk result (λ confirmed. HasCleanDisk (state S.Store confirmed.conn)
+        → HasCleanDisk (state S.Store store.conn)) }
+    ensures untold { IfErr result (IfRefused S.Store TellsNone) }
+{
+    let mut store = store;
+    match store.confirm() {
+        Ok(()) => Ok(store),
+        Err(fault) => Err(NotOpened {
+            fault: OpenFault::Failed(fault),
+            connection: Some(store.into_connection()),
+        }),
+    }
+}
+
+// An office over a store that stands.
+fn office_over<S: Alter>(alloc: Global, store: Store<S>) -> Result<Opened<S>, NotOpened<S>>
+    requires { store.conn.in_transaction ≡ false }
+    ensures working { IfOk result (λ opened. opened.office.failed ≡ false) }
+    ensures clean { IfOk result (λ opened. IsHonest S.Store opened.office
+        → HasCleanDisk (state S.Store store.conn)) }
+    ensures kept { IfOk result (λ opened. IsHonest S.Store opened.office
+        → (t : Tables) → HasTables t (state S.Store store.conn).now
+        → Holds S.Store opened.office.conn t) }
+    ensures keeps { IfOk result (λ opened. IsHonest S.Store opened.office
+        → (b : Book) (t : Tables) → Stands b t → HasTables t (state S.Store store.conn).now
+        → Keeps S.Store opened.office b) }
+    ensures day { IfOk result (λ opened. IsHonest S.Store opened.office
+        → (t : Tables) → HasTables t (state S.Store store.conn).now
+        → opened.ledger_day ≡ t.day) }
+    ensures untold { IfErr result (IfRefused S.Store TellsNone) }
+{
+    let mut store = store;
+    match ledger_day(&mut store) {
+        Ok(day) => Ok(Opened {
+            office: Office::open(alloc, store),
+            ledger_day: day,
+        }),
+        Err(fault) => Err(NotOpened {
+            fault: OpenFault::Failed(fault),
+            connection: Some(store.into_connection()),
+        }),
+    }
+}

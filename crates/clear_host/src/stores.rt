@@ -1,0 +1,133 @@
+//! Offices over stores in files.
+//!
+//! A type `S` stands for what the files hold, its log and its database file. Each clause on values
+//! speaks of a disk that so far has returned what was written to it, so a refusal comes with its
+//! connection, which tells that.
+ghost use Rattle.std.specs.Prelude.{◌≡◌, false, ℕ, None, IfErr, IfOk};
+ghost use Rattle.sqlite.specs.Files.{over_files, IsNothing};
+ghost use Rattle.sqlite_wal.specs.Files.{image_at};
+ghost use Rattle.clear_book.specs.Book.{Book, first_book, ledger_day};
+ghost use Rattle.clear_book.specs.Machine.{IsLawful};
+ghost use Rattle.clear_book.specs.Tables.{Tables};
+ghost use Rattle.clear_schema.specs.Faults.{IsWrong};
+ghost use Rattle.clear_schema.specs.First.{first_tables};
+ghost use Rattle.clear_schema.specs.Held.{this_schema};
+ghost use Rattle.clear_office.specs.Office.{Holds, IsHonest, Keeps};
+ghost use Rattle.clear_host.specs.Contents.{HoldsBook, HoldsSchema, HoldsStore};
+ghost use Rattle.clear_host.specs.Contents.{IfRefused, TellsNone, TellsOnly};
+
+use crate::offices::{NotOpened, Opened, find_office, make_office};
+use clear_book::ranges::rates_in_range;
+use clear_book::rules::StoreCause;
+use clear_money::rates::RateTable;
+use clear_schema::fault::{Fault, OpenFault, fault_of};
+use sqlite::{Connection, FileStore};
+use sqlite_disk::Start;
+use sqlite_std_file::FileFrom;
+use std::os::unix::fs::OpenOptionsExt;
+use std::{fs, io};
+
+// Who may read and write a new store: its owner alone, since it holds wages.
+const OWNER_ALONE: u32 = 0o600;
+
+/// Makes a store without requests, with these opening rates, and an office over it, at a path where
+/// no file is, or an empty one, or one that an earlier call left half made. Where the file holds a
+/// database with tables, `WrongVersion` with the number of its schema, 0 without one.
+///
+/// A file that is made can be read and written by its owner alone, and its log too.
+pub fn create_office<S: Start>(
+    rt: &HostRuntime,
+    path: &str,
+    rates: &RateTable,
+    start: S,
+) -> Result<Opened<FileStore<FileFrom<S>>>, NotOpened<FileStore<FileFrom<S>>>>
+    ensures working { IfOk result (λ opened. opened.office.failed ≡ false) }
+    ensures created { IfOk result (λ opened. IsHonest over_files opened.office
+        → IsNothing (image_at S.Start)
+        → Holds over_files opened.office.conn (first_tables rates.now)) }
+    ensures keeps { IfOk result (λ opened. IsHonest over_files opened.office
+        → IsNothing (image_at S.Start)
+        → Keeps over_files opened.office (first_book rates.now)) }
+    ensures lawful { IsLawful (first_book rates.now) }
+    ensures only_new { IfOk result (λ opened. IsHonest over_files opened.office
+        → (number : ℕ) → ¬ HoldsSchema number (image_at S.Start)) }
+    ensures day { IfOk result (λ opened. opened.ledger_day ≡ None) }
+    ensures version { (number : ℕ) → HoldsSchema number (image_at S.Start)
+        → IfErr result (IfRefused over_files (TellsOnly number)) }
+    ensures empty { IsNothing (image_at S.Start)
+        → IfErr result (IfRefused over_files TellsNone) }
+{
+    // No effect at run time: the proof reads from this call that the rates are lawful.
+    rates_in_range(rates);
+    make_private(rt, path);
+    match Connection::open_from(rt, path, false, start) {
+        Ok(connection) => make_office(rt.alloc(), connection, rates),
+        Err((error, _left)) => Err(NotOpened {
+            fault: OpenFault::Failed(fault_of(error)),
+            connection: None,
+        }),
+    }
+}
+
+/// Opens the store in the file at a path, and an office over it, which keeps the book that it finds.
+/// The store is confirmed to stand, so that a crash leaves the tables that it has and no others.
+/// Where no file is, none is made. Where the file holds no store of this program, `WrongVersion`
+/// with the number of its schema, 0 without one.
+pub fn open_office<S: Start>(
+    rt: &HostRuntime,
+    path: &str,
+    start: S,
+) -> Result<Opened<FileStore<FileFrom<S>>>, NotOpened<FileStore<FileFrom<S>>>>
+    ensures working { IfOk result (λ opened. opened.office.failed ≡ false) }
+    ensures found { IfOk result (λ opened. IsHonest over_files opened.office
+        → (t : Tables) → HoldsStore this_schema t (image_at S.Start)
+        → Holds over_files opened.office.conn t) }
+    ensures keeps { IfOk result (λ opened. IsHonest over_files opened.office
+        → (b : Book) → HoldsBook b (image_at S.Start) → Keeps over_files opened.office b) }
+    ensures day { IfOk result (λ opened. IsHonest over_files opened.office
+        → (b : Book) → HoldsBook b (image_at S.Start)
+        → opened.ledger_day ≡ ledger_day b.entries) }
+    ensures only_this { IfOk result (λ opened. IsHonest over_files opened.office
+        → (number : ℕ) → HoldsSchema number (image_at S.Start)
+        → number ≡ this_schema) }
+    ensures only_stores { IfOk result (λ opened. IsHonest over_files opened.office
+        → ¬ IsNothing (image_at S.Start)) }
+    ensures version { (number : ℕ) → HoldsSchema number (image_at S.Start)
+        → IfErr result (IfRefused over_files (IsWrong this_schema number)) }
+    ensures empty { IsNothing (image_at S.Start)
+        → IfErr result (IfRefused over_files (TellsOnly 0)) }
+{
+    if let Err(error) = fs::metadata(rt, path) {
+        return Err(NotOpened {
+            fault: OpenFault::Failed(fault_of_file(&error)),
+            connection: None,
+        });
+    }
+    // A file that is empty gets an empty database, which is no store.
+    match Connection::open_from(rt, path, false, start) {
+        Ok(connection) => find_office(rt.alloc(), connection),
+        Err((error, _left)) => Err(NotOpened {
+            fault: OpenFault::Failed(fault_of(error)),
+            connection: None,
+        }),
+    }
+}
+
+// Makes an empty file for a store, where no file is: one that stands keeps its mode. Why there is
+// none then is told by the open that comes next. That takes no path of these two kinds.
+fn make_private(rt: &HostRuntime, path: &str) {
+    if path == ":memory:" || path.starts_with("file:") {
+        return;
+    }
+    let mut how = fs::OpenOptions::new();
+    how.write(true).create_new(true).mode(OWNER_ALONE);
+    let _ = how.open(rt, path);
+}
+
+fn fault_of_file(error: &io::Error) -> Fault {
+    if error.kind() == io::ErrorKind::OutOfMemory {
+        Fault::Memory
+    } else {
+        Fault::Store(StoreCause::Other)
+    }
+}

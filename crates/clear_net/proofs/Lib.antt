@@ -1,2 +1,0 @@
-mod TalkLemmas
-mod ToldLemmas

@@ -1,2 +1,0 @@
-pub mod Talks
-pub mod Told

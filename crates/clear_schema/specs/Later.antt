@@ -1,0 +1,34 @@
+-- A later schema, as an example: that of a store, with one table and one index more.
+use Rattle.std.specs.Prelude.{◌++◌, [], ◌∷◌, false, codes}
+use Rattle.sqlite.specs.Schema.{Schema}
+use Rattle.sqlite.specs.Table.{Table}
+use Rattle.sqlite_catalog.specs.Listing.{automatic}
+use Rattle.sqlite_schema.specs.declared.schema.Index.{Index}
+use Rattle.sqlite_value.specs.Keys.{plain}
+use Rattle.clear_schema.specs.Schema.{all_tables, all_indexes, int, keyed, wages_table}
+
+abbrev pub pieces_table : Table
+pieces_table =
+    keyed (codes "pieces") 19 (1 ∷ 2 ∷ []) ([]) (
+    int (codes "employer")
+    ∷ int (codes "month")
+    ∷ int (codes "cents")
+    ∷ [])
+
+-- it guards nothing
+abbrev pub by_worker : Index
+by_worker = record {
+  name = codes "wages_by_worker";
+  tree = 21;
+  table = wages_table.tree;
+  columns = 3 ∷ 1 ∷ 2 ∷ [];
+  order = plain;
+  is_unique = false;
+}
+
+abbrev pub later_schema : Schema
+later_schema = record {
+  tables = all_tables ++ pieces_table ∷ [];
+  indexes = all_indexes ++ automatic pieces_table 0 (1 ∷ 2 ∷ []) 20 ∷ by_worker ∷ [];
+  views = [];
+}

@@ -1,8 +1,0 @@
-use Rattle.std.proofs.Common.{◌≡◌, ◌-◌, filter}
-use Rattle.std.specs.List.{range_with_len}
-use Rattle.clear_statements.specs.Records.{MonthsRise}
-use Rattle.clear_statements.specs.Told.{is_missing_in}
-use Rattle.clear_statements.proofs.missing.missing_months.Given as goal
-
-abbrev pub invariant-loop-number : goal.invariant-loop-number
-invariant-loop-number l = MonthsRise l.records.reports.items → l.missing.items ≡ filter (is_missing_in l.records l.day) (range_with_len 24000 (l.number - 24000))

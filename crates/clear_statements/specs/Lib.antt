@@ -1,2 +1,0 @@
-pub mod Records
-pub mod Told

@@ -1,0 +1,75 @@
+//! Documents, made from records: a firm's statement on a day.
+ghost use Rattle.std.specs.Prelude.{◌≡◌, ◌≤◌, ℕ, None, IfErr, IfOk, length};
+ghost use Rattle.clear_book.specs.Book.{Book, ledger_day};
+ghost use Rattle.clear_book.specs.Judge.{day_back, statement_on};
+ghost use Rattle.clear_book.specs.Machine.{IsLawful};
+ghost use Rattle.clear_texts.specs.Rows.{most_rows};
+ghost use Rattle.clear_texts.specs.Text.{text_of_rows};
+ghost use Rattle.clear_texts.specs.Records.{AreRecords};
+
+use crate::charges::tell_charges;
+use crate::firm::{add_credits, firm_account, whole_payments};
+use crate::missing::missing_months;
+use crate::records::FirmRecords;
+use crate::rows::{ChargeRow, ListedRows, RowFault};
+use crate::statement::append_statement;
+use clear_account::keeper::Keeper;
+use clear_book::documents::{Document, FirmAccount, Payment};
+use clear_book::rules::StoreCause;
+use clear_money::days::Day;
+use clear_money::months::Month;
+use std::alloc::Global;
+
+/// The statement of a firm on a day, by its records. Records that no book has are refused with
+/// `StoreCause::Row`: a credit for contributions after the day, more credits than an account has.
+pub fn firm_statement(alloc: Global, records: &FirmRecords, day: Day) -> Result<Document, RowFault>
+    ensures text { (b : Book) (e : ℕ) → AreRecords b e records.now
+        → IfOk result (λ document. document ≡ statement_on b day e) }
+    ensures fault { (b : Book) (e : ℕ) → IsLawful b → AreRecords b e records.now
+        → day_back (ledger_day b.entries) day ≡ None
+        → IfErr result (λ fault. fault ≡ RowFault.Memory) }
+{
+    let _in_range = day.number();
+    if day < records.account.last_day() {
+        return Err(RowFault::Store(StoreCause::Row));
+    }
+    let Some(interest_paid) = add_credits(records.interest_credits.as_slice()) else {
+        return Err(RowFault::Store(StoreCause::Row));
+    };
+    let told = match tell_charges(alloc, records, day) {
+        Ok(told) => told,
+        Err(fault) => return Err(fault),
+    };
+    let interest = told.interest.saturating_sub(interest_paid);
+    let firm = firm_account(records, day, interest)?;
+    let interest_credits = whole_payments(alloc, records.interest_credits.as_slice())?;
+    let missing = missing_months(alloc, records, day)?;
+    make_document(alloc, &firm, &interest_credits, &missing, told.rows)
+}
+
+// Makes the document with these parts.
+fn make_document(
+    alloc: Global,
+    firm: &FirmAccount,
+    interest_credits: &Vec<Payment>,
+    missing: &Vec<Month>,
+    rows: Vec<ChargeRow>,
+) -> Result<Document, RowFault>
+    ensures text { IfOk result (λ document. document
+        ≡ text_of_rows firm.now interest_credits.now.items missing.now.items rows.items) }
+    ensures fault { length rows.items ≤ most_rows
+        → IfErr result (λ fault. fault ≡ RowFault.Memory) }
+{
+    let mut source = ListedRows::new(rows);
+    let mut text = String::new(alloc);
+    match append_statement(
+        &mut text,
+        firm,
+        interest_credits.as_slice(),
+        missing.as_slice(),
+        &mut source,
+    ) {
+        Ok(()) => Ok(Document::new(text)),
+        Err(fault) => Err(fault),
+    }
+}

@@ -1,5 +1,0 @@
-use Rattle.clear_words.proofs.SameLemmas.{one_thing}
-use Rattle.clear_words.proofs.line.law_words_say_one_thing.Goals as goal
-
-pub returns : goal.returns
-returns c = one_thing
