@@ -2,7 +2,7 @@
 
     python3 tests/launcher.py
 
-Each test has a copy of both scripts in a folder of its own, with three small crates. The stub writes a program, and keeps
+Each test has a copy of both scripts in a folder of its own, with four small crates. The stub writes a program, and keeps
 a list of its calls.
 """
 
@@ -20,7 +20,14 @@ ROOT = Path(__file__).resolve().parent.parent
 NOBODY = 65534 if os.geteuid() == 0 else None
 # All that the scripts call. The PATH of a test has these, and rt.
 TOOLS = "awk bash cat dirname env find flock mkdir nproc readlink sed sh sleep touch wc".split()
-CRATES = "# as in the repository\nlow: std_of_the_kit\nhigh: low\nclear_app: high low\nother: low\n"
+CRATES = """# as in the repository
+clear_money: std_of_the_kit
+clear_http: clear_money
+clear_program: clear_http clear_money
+clear_app: clear_program
+other: clear_money
+"""
+PROVED = ("clear_money", "clear_http", "clear_program", "clear_app")
 KIT = "kit of the tests"
 
 # In the folder `state` beside the kit, a file of the name of a step has the stub wait in that step, `refused` names a step
@@ -36,21 +43,21 @@ step() {
 }
 case $* in
     version) cat "$state/version" ;;
-    "all check --jobs "*)
-        [ ! -e "$state/busy" ] || echo "rt: waiting for another rt to finish in low" >&2
-        for crate in low high clear_app; do
-            step "$crate" && line="logic=proved functions=1" || line="fn $crate::f: not proved"
-            printf '%s\n' "== $crate" "statements std: modules loaded=0 checked=0" "$line"
-            [ "$line" = "logic=proved functions=1" ] || exit 1
-        done
-        printf '%s\n' "== summary" "3 of 3 crates ok"
+    "lib --jobs "* | "all test --jobs "*)
+        [ ! -e "$state/busy" ] || echo "rt: waiting for another rt to finish in clear_money" >&2
+        crate=${PWD##*/}
+        step "$crate" && line="logic=proved functions=1" || line="fn $crate::f: not proved"
+        [ "$1" = lib ] || echo "== $crate"
+        printf '%s\n' "statements std: modules loaded=0 checked=0" "crate $crate: modules loaded=1 checked=1" "$line"
+        [ "$line" = "logic=proved functions=1" ] || exit 1
+        [ "$1" = lib ] || printf '%s\n' "== summary" "2 of 2 crates ok"
         ;;
     run)
         printf '#!/bin/sh\necho "half a program"\n' >out/clear_app
         chmod +x out/clear_app
         step run || { echo "no linker" >&2; exit 1; }
         cp "$state/program" out/clear_app
-        echo "logic=proved functions=1"
+        printf '%s\n' "crate clear_app: modules loaded=1 checked=1" "logic=proved functions=1"
         ;;
     try*) printf '%s\n' "$@"; cat ;;
 esac
@@ -82,10 +89,10 @@ class Launcher(unittest.TestCase):
         for it in TOOLS:
             (self.bin / it).symlink_to(shutil.which(it))
         self.write("checkout/crates.txt", CRATES)
-        for it in ("low", "high", "other"):
+        for it in ("clear_money", "clear_http", "clear_program", "other"):
             self.write(f"checkout/crates/{it}/src/lib.rt", "")
-        self.write("checkout/crates/low/specs/low.antt", "")
-        self.write("checkout/crates/high/proofs/deep/high.antt", "")
+        self.write("checkout/crates/clear_money/specs/low.antt", "")
+        self.write("checkout/crates/clear_http/proofs/deep/high.antt", "")
         self.write("checkout/crates/clear_app/src/main.rt", "")
         for it in ("clearing", "try"):
             shutil.copy(ROOT / it, self.root)
@@ -150,9 +157,10 @@ class Launcher(unittest.TestCase):
         return [re.sub(r"--jobs [1-9]\d*$", "--jobs N", it) for it in text.splitlines()]
 
     def builds(self, **options):
-        """One call of rt proves all, and a second one builds."""
+        """Three calls of rt prove all, and a fourth one builds."""
         lines = self.runs(**options)
-        self.assertEqual(self.calls(), ["clear_app: all check --jobs N", "clear_app: run"])
+        proofs = ["clear_money: lib --jobs N", "clear_http: all test --jobs N", "clear_program: lib --jobs N"]
+        self.assertEqual(self.calls(), [*proofs, "clear_app: run"])
         return lines
 
     def runs_at_once(self, **options):
@@ -174,14 +182,14 @@ class Launcher(unittest.TestCase):
 class Builds(Launcher):
     def test_the_first_start_builds_and_the_second_does_not(self):
         lines = self.builds()
-        self.assertIn("3 crates", lines[0])
-        proved = [f"clearing: proved {it}, {at} of 3" for at, it in enumerate(("low", "high", "clear_app"), 1)]
-        self.assertEqual(lines[1:], [*proved, "clearing: building the program"])
+        self.assertIn("4 crates", lines[0])
+        proved = [f"clearing: proved {it}, {at} of 4" for at, it in enumerate(PROVED, 1)]
+        self.assertEqual(lines[1:], [*proved[:3], "clearing: building the program", proved[3]])
         self.runs_at_once()
 
     def test_another_rt_that_works_there_is_told(self):
         self.write("state/busy", "")
-        self.assertIn("clearing: waiting for another rt to finish in low", self.builds())
+        self.assertIn("clearing: waiting for another rt to finish in clear_money", self.builds())
 
     def test_words_and_streams(self):
         self.runs()
@@ -195,7 +203,7 @@ class Builds(Launcher):
         closed = {"preexec_fn": lambda: os.close(0)}
         for _ in range(2):
             self.assertEqual(self.run_script("a word", **closed)[0], 3)
-        self.assertEqual(len(self.calls()), 2)
+        self.assertEqual(len(self.calls()), 4)
 
     def test_through_links(self):
         links = self.folder / "elsewhere"
@@ -215,7 +223,7 @@ class Builds(Launcher):
     def test_sources(self):
         self.runs()
         self.calls()
-        for it in ("crates.txt", "crates/low/specs/low.antt", "crates/high/proofs/deep/high.antt", "crates/high/src/lib.rt",
+        for it in ("crates.txt", "crates/clear_money/specs/low.antt", "crates/clear_http/proofs/deep/high.antt", "crates/clear_http/src/lib.rt",
                    "crates/clear_app/src/main.rt"):
             with self.subTest(it):
                 os.utime(self.root / it)
@@ -224,14 +232,14 @@ class Builds(Launcher):
         # The program doesn't stand on this one.
         os.utime(self.root / "crates/other/src/lib.rt")
         self.runs_at_once()
-        (self.root / "crates/low/specs/low.antt").unlink()
+        (self.root / "crates/clear_money/specs/low.antt").unlink()
         self.builds()
 
     def test_a_source_that_is_saved_during_the_build(self):
         held = self.holds("run")
         first = self.start()
         self.wait_for(lambda: self.program.exists())
-        os.utime(self.root / "crates/low/src/lib.rt")
+        os.utime(self.root / "crates/clear_money/src/lib.rt")
         held.unlink()
         self.assertEqual(self.ended(first)[0], 3)
         self.calls()
@@ -262,7 +270,7 @@ class Builds(Launcher):
         self.runs_at_once()
 
     def test_two_starts_at_once_build_once(self):
-        held = self.holds("high")
+        held = self.holds("clear_http")
         first = self.start("first")
         self.wait_for(lambda: (self.state / "process").exists())
         second = self.start("second")
@@ -272,7 +280,7 @@ class Builds(Launcher):
         for running, word in ((first, "first"), (second, "second")):
             status, output, errors = self.ended(running)
             self.assertEqual((status, output), (3, f"{self.folder.name}\n{word}\n"), errors)
-        self.assertEqual(len(self.calls()), 2)
+        self.assertEqual(len(self.calls()), 4)
         self.runs_at_once()
 
     def test_a_program_that_runs_holds_no_lock(self):
@@ -290,11 +298,11 @@ class Builds(Launcher):
 class Faults(Launcher):
     def test_a_build_that_is_broken_off(self):
         for number, status in ((signal.SIGHUP, 129), (signal.SIGINT, 130), (signal.SIGTERM, 143), (signal.SIGKILL, -9)):
-            for step in ("high", "run"):
+            for step in ("clear_http", "run"):
                 with self.subTest(f"{number.name} in {step}"):
                     held = self.holds(step)
                     first = self.start()
-                    waits_in = "run" if step == "run" else "all check"
+                    waits_in = "run" if step == "run" else "all test"
                     calls = self.state / "calls"
                     self.wait_for(lambda: calls.exists() and waits_in in calls.read_text().splitlines()[-1])
                     if step == "run":
@@ -317,10 +325,10 @@ class Faults(Launcher):
                     self.program.unlink()
 
     def test_a_proof_that_fails(self):
-        self.write("state/refused", "high")
-        lines = self.fails("clearing: proved low, 1 of 3\n", "\n== high\nfn high::f: not proved\nclearing: ")
-        self.assertFalse([it for it in lines if "proved high" in it or "building" in it or it.startswith("statements")])
-        self.fails("fn high::f: not proved\n")
+        self.write("state/refused", "clear_http")
+        lines = self.fails("clearing: proved clear_money, 1 of 4\n", "fn clear_http::f: not proved\nclearing: ")
+        self.assertFalse([it for it in lines if "proved clear_http" in it or "building" in it or it.startswith("statements")])
+        self.fails("fn clear_http::f: not proved\n")
         (self.state / "refused").unlink()
         self.calls()
         self.builds()
