@@ -141,6 +141,29 @@ class Init(Program):
         for words in (["init", "fund.db", "rates.toml"], ["statement", "fund.db", DAY, "1001"]):
             self.expect(words, 3, "", "rule 43 WrongVersion 0\n")
 
+    def test_a_store_of_another_build_is_left_as_it_is(self):
+        changes = (
+            "CREATE TABLE pieces (employer INTEGER NOT NULL, month INTEGER NOT NULL, cents INTEGER NOT NULL) STRICT",
+            "CREATE INDEX wages_by_gross ON wages (gross)",
+            "CREATE VIEW firms AS SELECT no FROM employers",
+            "ALTER TABLE runs ADD COLUMN level INTEGER",
+            "ALTER TABLE lists RENAME COLUMN total TO sum",
+            "DROP TABLE reminders",
+        )
+        for change in changes:
+            with self.subTest(change):
+                self.filled()
+                with sqlite3.connect(self.folder / "fund.db") as store:
+                    store.execute(change)
+                store.close()
+                before = (self.folder / "fund.db").read_bytes()
+                self.expect(["statement", "fund.db", DAY, "1001"], 3, "", "rule 41 Store\n")
+                self.expect(["import", "fund.db", DAY, "2", "bank.csv"], 3, "", "rule 41 Store\n")
+                self.expect(["init", "fund.db", "rates.toml"], 3, "", "rule 43 WrongVersion 0\n")
+                self.assertEqual((self.folder / "fund.db").read_bytes(), before)
+                for file in self.folder.glob("fund.db*"):
+                    file.unlink()
+
     def test_rate_files(self):
         exchanged = ROW_2025 + ROW_2024
         for text in ["", "rate = 1\n", RATES.replace("20\n", "29\n"), exchanged, "rate =\n", b"\xff"]:

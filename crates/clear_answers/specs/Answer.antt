@@ -17,7 +17,7 @@ use Rattle.clear_book.specs.declared.rules.Carried.TheVariants.{Field, Limit, Ta
 use Rattle.clear_wire.specs.declared.rule.FramingStatus.TheVariants.{NotImplemented}
 use Rattle.clear_wire.specs.declared.rule.FramingStatus.TheVariants.{ExpectationFailed}
 use Rattle.clear_wire.specs.declared.rule.FramingStatus.TheVariants.{LengthRequired, BadRequest}
-use Rattle.clear_bodies.specs.Faults as faults
+use Rattle.clear_routes.specs.Faults as faults
 use Rattle.clear_routes.specs.Allowed.{allow_text}
 use Rattle.clear_routes.specs.declared.refused.Extra.{Extra}
 use Rattle.clear_routes.specs.declared.refused.Extra.TheVariants as extra

@@ -9,11 +9,11 @@ use Rattle.std.specs.List.{find, list_any, enumerate_from, AllByRecursion}
 use Rattle.std.specs.Option.{option_or, option_eq}
 use Rattle.std.specs.Str.{bytes_eq}
 use Rattle.clear_bank.specs.Laws.{HasNoReferenceTwice, differs_earlier, ConflictsAreWithAny}
-use Rattle.clear_bank.specs.Lines.{same_content, same_purpose}
+use Rattle.clear_values.specs.Lines.{same_content, same_purpose}
 use Rattle.clear_bank.specs.Newness.{Placed, line_under, lines_before, earlier_line, has_other_content, is_conflict}
-use Rattle.clear_bank.specs.declared.lines.BankLine.{BankLine}
-use Rattle.clear_bank.specs.declared.lines.Purpose.{Purpose}
-use Rattle.clear_bank.specs.declared.lines.Purpose.TheVariants.{Contribution, Interest}
+use Rattle.clear_values.specs.declared.lines.BankLine.{BankLine}
+use Rattle.clear_values.specs.declared.lines.Purpose.{Purpose}
+use Rattle.clear_values.specs.declared.lines.Purpose.TheVariants.{Contribution, Interest}
 
 -- ---- first lines under a reference
 

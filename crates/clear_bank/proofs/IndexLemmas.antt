@@ -12,7 +12,7 @@ use Rattle.std.specs.Ordering.{nat_cmp}
 use Rattle.std.specs.Str.{bytes_eq}
 use Rattle.clear_bank.specs.Index.{Indexes}
 use Rattle.clear_bank.specs.Newness.{line_under}
-use Rattle.clear_bank.specs.declared.lines.BankLine.{BankLine}
+use Rattle.clear_values.specs.declared.lines.BankLine.{BankLine}
 
 -- a line behind others counts only where none of them bears the reference
 line_under-push : (lines : List BankLine) (line : BankLine) (r : List ℕ)

@@ -8,7 +8,7 @@ use Rattle.std.specs.Result.{result_ok, result_err}
 use Rattle.csv.specs.Reading.{strip_bom}
 use Rattle.clear_bank.specs.declared.fault.BankFault.{BankFault}
 use Rattle.clear_bank.specs.declared.fault.BankFault.TheVariants.{BadCsv, OverLimit as LongFile}
-use Rattle.clear_bank.specs.declared.lines.BankLine.{BankLine}
+use Rattle.clear_values.specs.declared.lines.BankLine.{BankLine}
 use Rattle.clear_bank.specs.Files.{Fields, file_lines, records_of, begins_with_r, record_lines, rows_read, line_of, all_lines, unless_faulty, after_header, header_fault, is_over as is_long}
 
 kept-few : {A : Type 0} (o : Option A) (xs : List A) (n : ℕ) → length xs ≤ n → length (cons_option o xs) ≤ n + 1

@@ -7,4 +7,3 @@ pub mod NewnessLemmas
 pub mod RangeLemmas
 pub mod ReaderLemmas
 pub mod RecordLemmas
-pub mod TextLemmas

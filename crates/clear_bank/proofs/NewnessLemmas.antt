@@ -6,10 +6,10 @@ use Rattle.std.specs.BTreeMap.{BTreeMap}
 use Rattle.std.specs.List.{find, enumerate_from}
 use Rattle.std.specs.Prelude.{is_none}
 use Rattle.clear_bank.specs.Index.{Indexes}
-use Rattle.clear_bank.specs.Lines.{same_content}
+use Rattle.clear_values.specs.Lines.{same_content}
 use Rattle.clear_bank.specs.Newness.{lines_before, earlier_line, has_other_content, is_new, is_conflict, new_places, first_conflict, judgement, unless_conflict}
 use Rattle.clear_bank.specs.declared.fault.BankFault.TheVariants.{RefConflict}
-use Rattle.clear_bank.specs.declared.lines.BankLine.{BankLine}
+use Rattle.clear_values.specs.declared.lines.BankLine.{BankLine}
 
 -- how far a file is judged: the lines before a place are indexed and without a conflict, the new ones among them are
 -- those at `new`, and the others are repeats

@@ -8,11 +8,11 @@ use Rattle.clear_money.specs.Numbers.{IsEmployerNo}
 use Rattle.clear_money.specs.Results.{◌>>=◌}
 use Rattle.clear_bank.specs.Files.{Fields, numbers, written, reference_in, value_in, employer_in, cents_in, purpose_in, note_in, or_bad, line_of, header_fault, rows_read, unless_faulty, all_lines, after_header, record_lines, begins_with_r, is_over, records_of}
 use Rattle.clear_bank.specs.Laws.{LinesAreInRange}
-use Rattle.clear_bank.specs.Ranges.{IsBankLine}
-use Rattle.clear_bank.specs.Texts.{is_reference, is_note}
+use Rattle.clear_values.specs.Ranges.{IsBankLine}
+use Rattle.clear_values.specs.Texts.{is_reference, is_note}
 use Rattle.clear_bank.specs.declared.fault.BankFault.{BankFault}
 use Rattle.clear_bank.specs.declared.fault.BankFault.TheVariants.{OverLimit, BadCsv}
-use Rattle.clear_bank.specs.declared.lines.BankLine.{BankLine}
+use Rattle.clear_values.specs.declared.lines.BankLine.{BankLine}
 
 -- ---- a number that is found in a range lies in it
 

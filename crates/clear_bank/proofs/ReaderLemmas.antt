@@ -19,7 +19,7 @@ use Rattle.csv.specs.declared.parser.Terminator.{Terminator}
 use Rattle.csv.specs.declared.parser.Terminator.TheVariants as term
 use Rattle.clear_bank.specs.Files.{Fields, begins_with_r, file_lines, is_over, limited_records, record_lines}
 use Rattle.clear_bank.specs.declared.fault.BankFault.{BankFault}
-use Rattle.clear_bank.specs.declared.lines.BankLine.{BankLine}
+use Rattle.clear_values.specs.declared.lines.BankLine.{BankLine}
 use Rattle.clear_bank.specs.declared.fault.BankFault.TheVariants.{OverLimit, BadCsv}
 
 -- ---- the byte order mark

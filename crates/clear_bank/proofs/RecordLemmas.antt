@@ -7,7 +7,7 @@ use Rattle.std.specs.Result.{result_ok, result_err}
 use Rattle.csv.specs.Records.{Row, field_at, fields_of}
 use Rattle.clear_bank.specs.Files.{line_of, all_lines, rows_read, unless_faulty}
 use Rattle.clear_bank.specs.declared.fault.BankFault.{BankFault}
-use Rattle.clear_bank.specs.declared.lines.BankLine.{BankLine}
+use Rattle.clear_values.specs.declared.lines.BankLine.{BankLine}
 
 -- a record of six fields
 pub six_fields : (fields : List (List ℕ)) (a b c d e f : List ℕ) → length fields ≡ 6

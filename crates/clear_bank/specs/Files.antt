@@ -11,10 +11,10 @@ use Rattle.clear_money.specs.Results.{◌>>=◌, or_fault}
 use Rattle.clear_money.specs.Texts.{day_text}
 use Rattle.clear_bank.specs.declared.fault.BankFault.{BankFault}
 use Rattle.clear_bank.specs.declared.fault.BankFault.TheVariants.{OverLimit, BadCsv}
-use Rattle.clear_bank.specs.declared.lines.BankLine.{BankLine}
-use Rattle.clear_bank.specs.declared.lines.Purpose.{Purpose}
-use Rattle.clear_bank.specs.declared.lines.Purpose.TheVariants.{Contribution, Interest}
-use Rattle.clear_bank.specs.Texts.{is_reference, is_note}
+use Rattle.clear_values.specs.declared.lines.BankLine.{BankLine}
+use Rattle.clear_values.specs.declared.lines.Purpose.{Purpose}
+use Rattle.clear_values.specs.declared.lines.Purpose.TheVariants.{Contribution, Interest}
+use Rattle.clear_values.specs.Texts.{is_reference, is_note}
 
 -- ---- what a field says
 

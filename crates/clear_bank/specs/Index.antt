@@ -5,7 +5,7 @@ use Rattle.std.specs.BTreeMap.{BTreeMap}
 use Rattle.std.specs.Cmp.Lexicographic.{slice_cmp}
 use Rattle.std.specs.Ordering.{nat_cmp}
 use denote.Ref.{Bor}
-use Rattle.clear_bank.specs.declared.lines.BankLine.{BankLine}
+use Rattle.clear_values.specs.declared.lines.BankLine.{BankLine}
 use Rattle.clear_bank.specs.Newness.{line_under}
 
 -- under each reference the index has the first line that bears it

@@ -3,10 +3,10 @@ use Rattle.std.specs.Prelude.{◌≡◌, ℕ, Bool, not, ◌&&◌, List, map, If
 use Rattle.std.specs.List.{find, enumerate_from, list_any, AllByRecursion, IsDistinct}
 use Rattle.std.specs.Str.{bytes_eq}
 use Rattle.clear_bank.specs.Files.{file_lines}
-use Rattle.clear_bank.specs.Lines.{same_content}
+use Rattle.clear_values.specs.Lines.{same_content}
 use Rattle.clear_bank.specs.Newness.{Placed, lines_before, first_conflict}
-use Rattle.clear_bank.specs.Ranges.{IsBankLine}
-use Rattle.clear_bank.specs.declared.lines.BankLine.{BankLine}
+use Rattle.clear_values.specs.Ranges.{IsBankLine}
+use Rattle.clear_values.specs.declared.lines.BankLine.{BankLine}
 
 -- where a file is read, the values of all its lines are in range
 abbrev pub LinesAreInRange : Type 0

@@ -2,7 +2,7 @@ pub mod Answers
 pub mod Files
 pub mod Index
 pub mod Laws
-pub mod Lines
 pub mod Newness
-pub mod Ranges
-pub mod Texts
+pub use Rattle.clear_values.specs.Lines
+pub use Rattle.clear_values.specs.Ranges
+pub use Rattle.clear_values.specs.Texts

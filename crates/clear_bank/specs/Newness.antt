@@ -3,10 +3,10 @@ use Rattle.std.specs.Prelude.{ℕ, ◌+◌, ◌-◌, Bool, false, not, is_none, 
 use Rattle.std.specs.Prelude.{map, filter, Option, Some, None, Result, Ok, Err}
 use Rattle.std.specs.List.{find, enumerate_from}
 use Rattle.std.specs.Str.{bytes_eq}
-use Rattle.clear_bank.specs.Lines.{same_content}
+use Rattle.clear_values.specs.Lines.{same_content}
 use Rattle.clear_bank.specs.declared.fault.BankFault.{BankFault}
 use Rattle.clear_bank.specs.declared.fault.BankFault.TheVariants.{RefConflict}
-use Rattle.clear_bank.specs.declared.lines.BankLine.{BankLine}
+use Rattle.clear_values.specs.declared.lines.BankLine.{BankLine}
 
 -- the line that stands under a reference: the first that bears it
 abbrev pub line_under : List ℕ → List BankLine → Option BankLine

@@ -13,7 +13,7 @@ pub mod fault;
 mod fields;
 pub mod files;
 pub mod laws;
-pub mod lines;
 pub mod newness;
 mod records;
-pub mod texts;
+
+pub use clear_values::{lines, texts};

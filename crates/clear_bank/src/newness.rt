@@ -3,7 +3,7 @@ ghost use Rattle.std.specs.Prelude.{◌≡◌, List, [], ◌∷◌, ◌++◌, If
 ghost use Rattle.std.specs.Option.{option_copied};
 ghost use Rattle.clear_bank.specs.Answers.{Gives};
 ghost use Rattle.clear_bank.specs.Newness.{judgement, line_under};
-ghost use Rattle.clear_bank.specs.declared.lines.BankLine.{BankLine};
+ghost use Rattle.clear_values.specs.declared.lines.BankLine.{BankLine};
 ghost use Rattle.clear_bank.specs.Index.{Indexes};
 
 use crate::fault::{BankFault, FIRST_ROW};

@@ -5,29 +5,33 @@ use Rattle.std.proofs.lemmas.Bool.Decides.{nat_tests}
 use Rattle.std.proofs.lemmas.List.{append-nil}
 use Rattle.std.proofs.lemmas.List.Sums.{sum_by-cons}
 use Rattle.std.specs.List.{AllByRecursion, cons_option, list_any}
-use Rattle.clear_bank.specs.declared.lines.Purpose.{Purpose}
-use Rattle.clear_bank.specs.declared.lines.Purpose.TheVariants.{Contribution, Interest}
-use Rattle.clear_bank.specs.Lines.{same_purpose}
+use Rattle.clear_values.specs.declared.lines.Purpose.{Purpose}
+use Rattle.clear_values.specs.declared.lines.Purpose.TheVariants.{Contribution, Interest}
+use Rattle.clear_values.specs.Lines.{same_purpose}
 use Rattle.clear_account.specs.Account.{credited}
 use Rattle.clear_account.specs.declared.entries.Credit.{Credit}
 use Rattle.clear_book.specs.declared.calls.Command.{Command}
 use Rattle.clear_book.specs.declared.calls.Command.TheVariants.{Register, Report, Correct, ImportBank}
+use Rattle.clear_values.specs.declared.replies.Reply.{Reply}
 use Rattle.clear_book.specs.declared.rules.Limit.TheVariants.{Suspense, Credits}
 use Rattle.clear_book.specs.declared.rules.Rule.TheVariants.{OverLimit}
-use Rattle.clear_book.specs.declared.rows.BankRow.{BankRow}
-use Rattle.clear_book.specs.declared.rows.CreditRow.{CreditRow}
+use Rattle.clear_values.specs.declared.rows.BankRow.{BankRow}
+use Rattle.clear_values.specs.declared.rows.CreditRow.{CreditRow}
 use Rattle.clear_book.specs.Accounts.{credit_key, credits_standing, row_credit, credits_under}
 use Rattle.clear_book.specs.Book.{RateTable, Book, Entry}
-use Rattle.clear_book.specs.Judge.{own_rule}
-use Rattle.clear_book.specs.Own.ImportBank.{own_import, import_rules, is_over}
-use Rattle.clear_book.specs.Limits.{most_credits, most_suspense}
-use Rattle.clear_book.specs.Lines.{credit_of_line, lines_of_rows, rows_by, rows_brought, lines_seen, lines_standing, suspense_count, credits_of_lines, is_credit_of, credit_count}
+use Rattle.clear_book.specs.Judge.{own_rule, reply_to}
+use Rattle.clear_book.specs.Own.ImportBank.{import_rules, is_over}
+use Rattle.clear_values.specs.RowRanges.{IsCreditRow}
+use Rattle.clear_values.specs.Limits.{most_credits, most_suspense}
+use Rattle.clear_book.specs.Lines.{credit_of_line, credits_after, credits_made, lines_after, lines_of_rows, rows_by, rows_brought, lines_seen, lines_standing, set_offs, set_offs_by, suspense_count, credits_of_lines, is_credit_of, credit_count}
 use Rattle.clear_book.specs.Machine.{AreJudged}
-use Rattle.clear_book.proofs.LinesLemmas.{credit_count-append, suspense_count-append, standing_seen}
-use Rattle.clear_book.proofs.SeenLemmas.{HasRanges, seen-in-range}
+use Rattle.clear_book.proofs.CreditsMadeLemmas.{credits_after-count}
+use Rattle.clear_book.proofs.JudgeLemmas.{unrefused}
+use Rattle.clear_book.proofs.LinesLemmas.{standing_seen}
+use Rattle.clear_values.proofs.ListLemmas.{both, each}
+use Rattle.clear_book.proofs.SeenLemmas.{HasRanges, of_standing, seen-in-range, set_offs-in-range}
 use Rattle.clear_book.proofs.ChecksLemmas.{none_applies, when-none}
-use Rattle.clear_book.proofs.LimitsLemmas.{accepted}
-use Rattle.clear_book.proofs.KeyedRowsLemmas.{sum_by-with_rows}
+use Rattle.clear_values.proofs.KeyedRowsLemmas.{sum_by-with_rows}
 
 -- ---- the payments of a firm for a purpose
 
@@ -70,42 +74,55 @@ none_over g (row ∷ rows) h e p =
 
 -- ---- what the rules on a file leave
 
-abbrev IsWithin : List BankRow → Type 0
-IsWithin rows = (suspense_count rows ≤ 100000) × ((e : ℕ) (p : Purpose) → credit_count rows e p ≤ 100000)
+abbrev IsWithin : List BankRow → List CreditRow → Type 0
+IsWithin lines credits = (suspense_count lines ≤ 100000) × ((e : ℕ) (p : Purpose) → credit_count credits e p ≤ 100000)
 
-import_within : (b : Book) (t : ℕ) (file : List ℕ) → own_rule b t (ImportBank file) ≡ None → IsWithin (lines_seen b.entries) → IsWithin (lines_seen b.entries ++ rows_brought b.entries (lines_seen b.entries) file)
+-- what stands with the lines and the set-offs that come
+abbrev IsWithinThen : List BankRow → List CreditRow → List BankRow → List CreditRow → Type 0
+IsWithinThen lines offs rows more = IsWithin (lines ++ rows) ((offs ++ more) ++ credits_of_lines (lines ++ rows))
+
+none_more : (lines : List BankRow) (offs : List CreditRow) → IsWithin lines (offs ++ credits_of_lines lines) → IsWithinThen lines offs [] []
+none_more lines offs old = subst (λ (p : List BankRow × List CreditRow). IsWithin p.0 (p.1 ++ credits_of_lines p.0)) (λ i. (sym (append-nil lines) i, sym (append-nil offs) i)) old
+
+import_within : (b : Book) (t : ℕ) (file : List ℕ) → own_rule b t (ImportBank file) ≡ None → IsWithin (lines_standing b.entries) (credits_made b.entries)
+    → IsWithinThen (lines_standing b.entries) (set_offs b.entries) (rows_brought b.entries (lines_seen b.entries) file) []
 import_within b t file own old =
-    let seen = lines_seen b.entries in
-    let rows = rows_brought b.entries seen file in
-    let none = none_applies (import_rules (lines_of_rows seen) rows (suspense_count seen) (credit_count seen) t file)
-    (subst (λ (standing : List BankRow). own_import (lines_of_rows seen) rows (suspense_count standing) (credit_count standing) t file ≡ None) (standing_seen b.entries) own) in
-    let low = when-none (nat_lt most_suspense (suspense_count seen + suspense_count rows)) (OverLimit Suspense) none.1.1.1.0 in
-    let none_is_over = when-none (list_any (is_over (credit_count seen) rows) (credits_of_lines rows)) (OverLimit Credits) none.1.1.1.1.0 in
-    (subst (λ (n : ℕ). n ≤ 100000) (sym (suspense_count-append seen rows)) (within (suspense_count seen + suspense_count rows) low), λ e p. few seen rows e p (old.1 e p) (none_over (λ f q. credit_count seen f q + credit_count rows f q) (credits_of_lines rows) none_is_over e p))
+    let rows = rows_brought b.entries (lines_seen b.entries) file in
+    let new = credits_of_lines rows in
+    let lines = lines_after b.entries file in
+    let count = credit_count (credits_after b.entries file) in
+    let none = none_applies (import_rules (lines_of_rows (lines_seen b.entries)) rows (suspense_count lines) count t file) own in
+    let low = when-none (nat_lt most_suspense (suspense_count lines)) (OverLimit Suspense) none.1.1.1.0 in
+    let none_is_over = when-none (list_any (is_over count) new) (OverLimit Credits) none.1.1.1.1.0 in (
+      within (suspense_count lines) low,
+      λ e p. subst (λ (offs : List CreditRow). credit_count (offs ++ credits_of_lines lines) e p ≤ 100000) (sym (append-nil (set_offs b.entries)))
+          (few (credit_count (credits_made b.entries) e p) (credit_count new e p) (count e p) (credits_after-count b.entries file e p) (old.1 e p) (none_over count new none_is_over e p)),
+    )
   where
     within : (n : ℕ) → nat_lt 100000 n ≡ false → n ≤ 100000
     within n k = grind (arith, nat_tests)
 
-    few : (seen rows : List BankRow) (e : ℕ) (p : Purpose) → credit_count seen e p ≤ 100000 → (credit_count rows e p ≡ 0) ⊎ (credit_count seen e p + credit_count rows e p ≤ 100000) → credit_count (seen ++ rows) e p ≤ 100000
-    few seen rows e p before now =
-        let sum : credit_count (seen ++ rows) e p ≡ credit_count seen e p + credit_count rows e p = credit_count-append seen rows e p in
-        ⊎_elim (λ (none : credit_count rows e p ≡ 0). omega (arith, sum, none, before)) (λ (low : credit_count seen e p + credit_count rows e p ≤ 100000). omega (arith, sum, low)) now
+    few : (before new after : ℕ) → after ≡ before + new → before ≤ 100000 → (new ≡ 0) ⊎ (after ≤ 100000) → after ≤ 100000
+    few before new after sum old now = ⊎_elim (λ (none : new ≡ 0). omega (arith, sum, none, old)) (λ (low : after ≤ 100000). low) now
 
 -- ---- over a lawful book
 
-rows_within : (b : Book) (t : ℕ) (command : Command) → own_rule b t command ≡ None → IsWithin (lines_seen b.entries) → IsWithin (lines_seen b.entries ++ rows_by b.entries (lines_seen b.entries) command)
-rows_within b t (Register r) own old = subst IsWithin (sym (append-nil (lines_seen b.entries))) old
-rows_within b t (Report r) own old = subst IsWithin (sym (append-nil (lines_seen b.entries))) old
-rows_within b t (Correct c) own old = subst IsWithin (sym (append-nil (lines_seen b.entries))) old
-rows_within b t (ImportBank file) own old = import_within b t file own old
+entry_within : (b : Book) (t : ℕ) (reply : Reply) (command : Command) → own_rule b t command ≡ None → reply_to b t command ≡ reply → IsWithin (lines_standing b.entries) (credits_made b.entries)
+    → IsWithinThen (lines_standing b.entries) (set_offs b.entries) (rows_by b.entries (lines_seen b.entries) command) (set_offs_by b.entries t reply command)
+entry_within b t reply (Register r) own replied old = none_more (lines_standing b.entries) (set_offs b.entries) old
+entry_within b t reply (Report r) own replied old = none_more (lines_standing b.entries) (set_offs b.entries) old
+entry_within b t reply (Correct c) own replied old = none_more (lines_standing b.entries) (set_offs b.entries) old
+entry_within b t reply (ImportBank file) own replied old = import_within b t file own old
 
-pub lawful_within : (rates : RateTable) (xs : List Entry) → AreJudged rates xs → IsWithin (lines_seen xs)
-lawful_within rates [] h = (omega arith, λ e p. omega arith)
-lawful_within rates (x ∷ xs) h =
-    rows_within (record { opening = rates; entries = xs }) x.day x.command (accepted rates x xs h).1 (lawful_within rates xs h.0)
-
-pub standing_within : (rates : RateTable) (xs : List Entry) → AreJudged rates xs → IsWithin (lines_standing xs)
-standing_within rates xs h = subst IsWithin (sym (standing_seen xs)) (lawful_within rates xs h)
+pub standing_within : (rates : RateTable) (xs : List Entry) → AreJudged rates xs → IsWithin (lines_standing xs) (credits_made xs)
+standing_within rates [] h = (omega arith, λ e p. omega arith)
+standing_within rates (x ∷ xs) h =
+    let b : Book = record { opening = rates; entries = xs } in
+    let said = unrefused b x.caller x.number x.day x.command x.reply h.2 in
+    let rows = rows_by xs (lines_seen xs) x.command in
+    let stand : lines_standing (x ∷ xs) ≡ lines_standing xs ++ rows = standing_seen (x ∷ xs) ∙ ap (λ (seen : List BankRow). seen ++ rows) (sym (standing_seen xs)) in
+    subst (λ (lines : List BankRow). IsWithin lines (set_offs (x ∷ xs) ++ credits_of_lines lines)) (sym stand)
+    (entry_within b x.day x.reply x.command said.unruled said.replied (standing_within rates xs h.0))
 
 length-among : (rows : List CreditRow) (e : ℕ) (p : Purpose) → length (credits_under rows e p) ≡ count_by (is_credit_of e p) rows
 length-among [] e p = refl
@@ -118,7 +135,7 @@ length-among (row ∷ rows) e p = told (is_credit_of e p row) (length-among rows
 pub lawful_credit_count : (rates : RateTable) (xs : List Entry) → AreJudged rates xs → (e : ℕ) (p : Purpose) → length (credits_under (credits_standing xs) e p) ≤ 100000
 lawful_credit_count rates xs h e p =
     let count = length-among (credits_standing xs) e p in
-    let same : count_by (is_credit_of e p) (credits_standing xs) ≡ 0 + count_by (is_credit_of e p) (credits_of_lines (lines_standing xs)) = sum_by-with_rows credit_key (λ (r : CreditRow). cond {A = ℕ} (is_credit_of e p r) 1 0) [] (credits_of_lines (lines_standing xs)) in
+    let same : count_by (is_credit_of e p) (credits_standing xs) ≡ 0 + count_by (is_credit_of e p) (credits_made xs) = sum_by-with_rows credit_key (λ (r : CreditRow). cond {A = ℕ} (is_credit_of e p r) 1 0) [] (credits_made xs) in
     let few = (standing_within rates xs h).1 e p in
     omega (arith, count, same, few)
 
@@ -127,13 +144,19 @@ lawful_credit_count rates xs h e p =
 abbrev IsSmall : CreditRow → Type 0
 IsSmall row = row.cents ≤ 100000000000
 
-credits-small : (rows : List BankRow) → AllByRecursion HasRanges rows → AllByRecursion IsSmall (credits_of_lines rows)
-credits-small [] h = tt
-credits-small (row ∷ rows) h = told row.employer (credits-small rows h.1)
+lines-small : (rows : List BankRow) → AllByRecursion HasRanges rows → AllByRecursion IsSmall (credits_of_lines rows)
+lines-small [] h = tt
+lines-small (row ∷ rows) h = told row.employer (lines-small rows h.1)
   where
     told : (o : Option ℕ) → AllByRecursion IsSmall (credits_of_lines rows) → AllByRecursion IsSmall (cons_option (credit_of_line row o) (credits_of_lines rows))
     told None rest = rest
     told (Some e) rest = (h.0.cents.1, rest)
+
+credits-small : (rates : RateTable) (xs : List Entry) → AreJudged rates xs → AllByRecursion IsSmall (credits_made xs)
+credits-small rates xs h =
+    both IsSmall (set_offs xs) (credits_of_lines (lines_standing xs))
+    (each IsCreditRow IsSmall (λ row good. good.cents.1) (set_offs xs) (set_offs-in-range rates xs h))
+    (lines-small (lines_standing xs) (of_standing HasRanges xs (seen-in-range xs)))
 
 module _ (e : ℕ) (p : Purpose) where
   abbrev cents_in : CreditRow → ℕ
@@ -157,6 +180,6 @@ module _ (e : ℕ) (p : Purpose) where
 
   pub lawful_paid : (rates : RateTable) (xs : List Entry) → AreJudged rates xs → credited (credits_under (credits_standing xs) e p) ≤ 10000000000000000
   lawful_paid rates xs h =
-      let rows = credits_of_lines (lines_standing xs) in
+      let rows = credits_made xs in
       let sum : sum_by cents_in (credits_standing xs) ≡ 0 + sum_by cents_in rows = sum_by-with_rows credit_key cents_in [] rows in
-      omega (arith, among-cents (credits_standing xs), sum, cents-small rows (credits-small (lines_standing xs) (subst (AllByRecursion HasRanges) (sym (standing_seen xs)) (seen-in-range xs))), (standing_within rates xs h).1 e p)
+      omega (arith, among-cents (credits_standing xs), sum, cents-small rows (credits-small rates xs h), (standing_within rates xs h).1 e p)

@@ -7,21 +7,21 @@ use Rattle.std.specs.Option.{option_map}
 use Rattle.std.specs.List.{range_with_len, filter_map, cons_option}
 use Rattle.clear_account.specs.declared.entries.Charge.{Charge}
 use Rattle.clear_money.specs.Calendar.{IsMonth}
-use Rattle.clear_book.specs.declared.texts.WageLine.{WageLine}
+use Rattle.clear_values.specs.declared.texts.WageLine.{WageLine}
 use Rattle.clear_book.specs.declared.calls.Command.{Command}
 use Rattle.clear_book.specs.declared.calls.WageReport.{WageReport}
 use Rattle.clear_book.specs.declared.calls.Command.TheVariants.{Register, Report, Correct, ImportBank}
-use Rattle.clear_book.specs.declared.rows.ReportRow.{ReportRow}
-use Rattle.clear_book.specs.declared.rows.WageRow.{WageRow}
+use Rattle.clear_values.specs.declared.rows.ReportRow.{ReportRow}
+use Rattle.clear_values.specs.declared.rows.WageRow.{WageRow}
 use Rattle.clear_book.specs.Accounts.{base_of, month_charge, reported_charge, book_charge, charges_of}
 use Rattle.clear_book.specs.Book.{Book, Entry, is_for, rates_of, member_of, reported_by, latest_lines, version_of, reported_version, RateTable}
 use Rattle.clear_book.specs.Judge.{own_rule}
-use Rattle.clear_book.specs.Ranges.{IsCommand}
-use Rattle.clear_book.specs.Keyed.{is_before, find_row, AllBehind, AreInOrder}
+use Rattle.clear_book.specs.Calls.{IsCommand}
+use Rattle.clear_values.specs.Keyed.{is_before, find_row, AllBehind, AreInOrder}
 use Rattle.clear_book.specs.Machine.{AreJudged, IsLawful}
 use Rattle.clear_book.specs.Tables.{Tables, Stands, report_key, wage_key, gross_at, gross_of, reported_gross, table_base, row_charge, table_charges}
 use Rattle.clear_book.proofs.DistinctLemmas.{AreDistinct, same_worker, itself}
-use Rattle.clear_book.proofs.KeyedLemmas.{none_behind, found_key}
+use Rattle.clear_values.proofs.KeyedLemmas.{none_behind, found_key}
 use Rattle.clear_book.proofs.LimitsLemmas.{months_are, accepted, latest_means}
 use Rattle.clear_book.proofs.ReportTablesLemmas.{report_distinct, correction_distinct}
 use Rattle.clear_book.proofs.VersionLemmas.{key_is}

@@ -1,7 +1,7 @@
 -- No rule of the judge says that the store failed.
-use Rattle.std.proofs.Common.{◌≡◌, ◌⊎◌, inl, inr, ℕ, List, [], ◌∷◌, length, Option, Some, None, Bool, true, false, cond, not, is_some, nat_le, nat_lt, refl, sym, ap, ◌∙◌, subst}
+use Rattle.std.proofs.Common.{◌≡◌, inl, inr, ℕ, List, [], ◌∷◌, Option, Some, None, Bool, true, false, cond, is_some, refl, sym, subst}
 use Rattle.std.specs.Prelude.{Result, Ok, Err}
-use Rattle.std.specs.List.{AllByRecursion, find, list_any}
+use Rattle.std.specs.List.{AllByRecursion}
 use Rattle.clear_bank.specs.declared.fault.BankFault.{BankFault}
 use Rattle.clear_bank.specs.declared.fault.BankFault.TheVariants as fault
 use Rattle.clear_bank.specs.Newness.{Placed}
@@ -13,11 +13,11 @@ use Rattle.clear_book.specs.declared.calls.Query.{Query}
 use Rattle.clear_book.specs.declared.calls.Query.TheVariants.{Owed, Statement}
 use Rattle.clear_book.specs.declared.outcomes.Answer.{Answer}
 use Rattle.clear_book.specs.declared.outcomes.Outcome.TheVariants.{Refused}
-use Rattle.clear_book.specs.declared.outcomes.Reply.{Reply}
+use Rattle.clear_values.specs.declared.replies.Reply.{Reply}
 use Rattle.clear_book.specs.declared.rules.Rule.{Rule}
-use Rattle.clear_book.specs.declared.rules.Rule.TheVariants.{Memory, Store, NumberReused, OverLimit}
-use Rattle.clear_book.specs.declared.rules.StoreCause.{StoreCause}
-use Rattle.clear_book.specs.declared.rules.StoreCause.TheVariants.{Other}
+use Rattle.clear_book.specs.declared.rules.Rule.TheVariants.{Store, NumberReused}
+use Rattle.clear_values.specs.declared.causes.StoreCause.{StoreCause}
+use Rattle.clear_values.specs.declared.causes.StoreCause.TheVariants.{Other}
 use Rattle.clear_money.specs.Rates.{rate_in_force}
 use Rattle.clear_book.specs.Book.{Book, Entry, rates_of, member_of, employer_count, reported_version}
 use Rattle.clear_book.specs.Checks.{when, first_of}
@@ -28,7 +28,7 @@ use Rattle.clear_book.specs.Own.ImportBank.{ahead_rule, fault_rule, import_rules
 use Rattle.clear_book.specs.Own.Lines.{twice_rule}
 use Rattle.clear_book.specs.Own.Register.{register_rules}
 use Rattle.clear_book.specs.Own.Report.{exists_rule, report_rules}
-use Rattle.clear_book.specs.Lines.{credit_count, lines_of_rows, lines_seen, lines_standing, rows_brought, suspense_count}
+use Rattle.clear_book.specs.Lines.{credit_count, credits_after, lines_after, lines_of_rows, lines_seen, rows_brought, suspense_count}
 
 -- the rule says that the store failed
 abbrev tells_fault : Rule → Bool
@@ -88,7 +88,7 @@ own_other b t (Correct c) =
     first_other (correct_rules (member_of b.entries c.report.employer) (reported_version b.entries c.report.employer c.report.month) t c)
     (when_other _ _ refl, (when_other _ _ refl, (when_other _ _ refl, (stale_other (reported_version b.entries c.report.employer c.report.month) c.version, (twice_other _, (when_other _ _ refl, (when_other _ _ refl, (when_other _ _ refl, tt))))))))
 own_other b t (ImportBank file) =
-    first_other (import_rules (lines_of_rows (lines_seen b.entries)) (rows_brought b.entries (lines_seen b.entries) file) (suspense_count (lines_standing b.entries)) (credit_count (lines_standing b.entries)) t file)
+    first_other (import_rules (lines_of_rows (lines_seen b.entries)) (rows_brought b.entries (lines_seen b.entries) file) (suspense_count (lines_after b.entries file)) (credit_count (credits_after b.entries file)) t file)
     (fault_other _, (fault_other _, (ahead_other _, (when_other _ _ refl, (when_other _ _ refl, tt)))))
 
 query_other : (b : Book) (query : Query) → IsOther (own_query b query)

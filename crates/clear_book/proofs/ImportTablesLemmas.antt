@@ -1,26 +1,27 @@
 -- The tables of a book, after a bank file more.
 use Rattle.std.proofs.Common.{◌≡◌, ℕ, List, [], ◌∷◌, ◌++◌, None, cond, refl, sym, ap, ◌∙◌, subst, arith}
-use Rattle.std.proofs.lemmas.List.{append-nil, length-append}
+use Rattle.std.proofs.lemmas.List.{append-nil}
 use Rattle.std.proofs.lemmas.List.Sums.{sum_by-cons}
 use Rattle.std.specs.Option.{option_map}
-use Rattle.clear_book.specs.declared.calls.Caller.{Caller}
+use Rattle.clear_values.specs.declared.callers.Caller.{Caller}
 use Rattle.clear_book.specs.declared.calls.Call.TheVariants.{Do}
 use Rattle.clear_book.specs.declared.calls.Command.TheVariants.{ImportBank}
-use Rattle.clear_book.specs.declared.outcomes.Reply.{Reply}
-use Rattle.clear_book.specs.declared.rows.BankRow.{BankRow}
-use Rattle.clear_book.specs.declared.rows.CreditRow.{CreditRow}
-use Rattle.clear_book.specs.declared.rows.Change.TheVariants.{AddBankLines}
+use Rattle.clear_values.specs.declared.replies.Reply.{Reply}
+use Rattle.clear_values.specs.declared.rows.BankRow.{BankRow}
+use Rattle.clear_values.specs.declared.rows.CreditRow.{CreditRow}
+use Rattle.clear_values.specs.declared.rows.Change.TheVariants.{AddBankLines}
 use Rattle.clear_book.specs.Accounts.{credit_key}
 use Rattle.clear_book.specs.Book.{Book, Entry, rates_of, entry, entry_under, newer, is_registration, latest_lines}
 use Rattle.clear_book.specs.Judge.{Verdict, new_reply, judge}
-use Rattle.clear_book.specs.Keyed.{find_row, with_rows, AreOnce}
-use Rattle.clear_book.specs.Lines.{lines_seen, lines_standing, rows_brought, credits_of_lines}
+use Rattle.clear_values.specs.Keyed.{find_row, with_rows, AreOnce}
+use Rattle.clear_book.specs.Lines.{lines_seen, lines_standing, rows_brought, credits_made, credits_of_lines}
 use Rattle.clear_book.specs.Machine.{step, after, appended}
 use Rattle.clear_book.specs.Tables.{Tables, Stands, bank_key, changed, noted}
 use Rattle.clear_book.proofs.JudgeLemmas.{unrefused}
 use Rattle.clear_book.proofs.RequestLemmas.{requests_found, requests_still_in_order}
-use Rattle.clear_book.proofs.LinesLemmas.{references_new, credits_new, credits_of_lines-append, standing_seen}
-use Rattle.clear_book.proofs.KeyedRowsLemmas.{AreNew, find_row-append, find_row-with_rows, AreInOrder-with_rows}
+use Rattle.clear_book.proofs.CreditsMadeLemmas.{credits_new, made_with}
+use Rattle.clear_book.proofs.LinesLemmas.{references_new, serial_count-next, standing_seen}
+use Rattle.clear_values.proofs.KeyedRowsLemmas.{AreNew, find_row-append, find_row-with_rows, AreInOrder-with_rows}
 use Rattle.clear_book.proofs.VersionLemmas.{version_of-other}
 
 -- rows that are new to a list are so to each with the same look-ups
@@ -58,7 +59,10 @@ module _ (b : Book) (t : Tables) (stands : Stands b t) (caller : Caller) (number
   new_lines_there : AreNew bank_key standing rows
   new_lines_there = subst (λ (old : List BankRow). AreNew bank_key old rows) (sym (standing_seen b.entries)) (references_new b.entries file).1
 
-  new_credits_there : AreNew credit_key (credits_of_lines standing) (credits_of_lines rows)
+  abbrev credits : List CreditRow
+  credits = credits_made b.entries
+
+  new_credits_there : AreNew credit_key credits (credits_of_lines rows)
   new_credits_there = (credits_new b.entries file).1
 
   imported_tables : Stands (appended b import) (noted import (changed (AddBankLines rows) t))
@@ -78,12 +82,12 @@ module _ (b : Book) (t : Tables) (stands : Stands b t) (caller : Caller) (number
         ∙ ap (λ (all : List BankRow). find_row bank_key all reference) (sym stand_now);
     bank_in_order = AreInOrder-with_rows bank_key t.bank rows stands.bank_in_order (still_new bank_key t.bank standing rows stands.bank new_lines_there) (references_new b.entries file).0;
     credits = λ k.
-        grown credit_key t.credits (credits_of_lines standing) (credits_of_lines rows) stands.credits new_credits_there (credits_new b.entries file).0 k
-        ∙ ap (λ (all : List CreditRow). find_row credit_key all k) (sym (ap credits_of_lines stand_now ∙ credits_of_lines-append standing rows));
-    credits_in_order = AreInOrder-with_rows credit_key t.credits (credits_of_lines rows) stands.credits_in_order (still_new credit_key t.credits (credits_of_lines standing) (credits_of_lines rows) stands.credits new_credits_there) (credits_new b.entries file).0;
+        grown credit_key t.credits credits (credits_of_lines rows) stands.credits new_credits_there (credits_new b.entries file).0 k
+        ∙ ap (λ (all : List CreditRow). find_row credit_key all k) (sym (made_with b.entries import rows refl stand_now));
+    credits_in_order = AreInOrder-with_rows credit_key t.credits (credits_of_lines rows) stands.credits_in_order (still_new credit_key t.credits credits (credits_of_lines rows) stands.credits new_credits_there) (credits_new b.entries file).0;
     requests = requests_found b t stands import no_number;
     requests_in_order = requests_still_in_order b t stands import no_number;
-    serial = omega (arith, stands.serial, length-append seen rows);
+    serial = let next = serial_count-next b.entries import in omega (arith, stands.serial, next);
     unfilled = let unfilled = stands.unfilled in record { claims = unfilled.claims; lists = unfilled.lists; runs = unfilled.runs; reminders = unfilled.reminders; last_claim = unfilled.last_claim; last_list = unfilled.last_list; last_run = unfilled.last_run };
   }
 

@@ -1,15 +1,15 @@
 -- What a new reply of the judge says of the checks.
 use Rattle.std.proofs.Common.{◌≡◌, ℕ, length, Option, Some, None, Bool, true, false, cond, refl}
-use Rattle.clear_book.specs.declared.calls.Caller.{Caller}
+use Rattle.clear_values.specs.declared.callers.Caller.{Caller}
 use Rattle.clear_book.specs.declared.calls.Command.{Command}
 use Rattle.clear_book.specs.declared.calls.Call.TheVariants.{Do}
-use Rattle.clear_book.specs.declared.outcomes.Reply.{Reply}
+use Rattle.clear_values.specs.declared.replies.Reply.{Reply}
 use Rattle.clear_book.specs.declared.rules.Rule.{Rule}
 use Rattle.clear_book.specs.declared.rules.Rule.TheVariants.{NumberReused}
-use Rattle.clear_book.specs.Access.{may_do}
+use Rattle.clear_book.specs.Calls.{may_do}
 use Rattle.clear_book.specs.Book.{Book, Entry, entry_under, ledger_day}
 use Rattle.clear_book.specs.Judge.{new_reply, kept_reply, a_refusal, is_full, judge, judged_do, said_before, day_back, own_rule, reply_to}
-use Rattle.clear_book.specs.Kept.{same_command}
+use Rattle.clear_book.specs.Calls.{same_command}
 
 -- what was said before is no new reply
 not_new : (same : Bool) (kept said : Reply) → cond same (kept_reply kept) (a_refusal NumberReused) ≡ new_reply said → ⊥

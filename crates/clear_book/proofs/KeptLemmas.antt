@@ -8,14 +8,14 @@ use Rattle.std.proofs.lemmas.Bool.Decides.{Decides-eqb}
 use Rattle.std.proofs.lemmas.Slice.Eq.{bytes_eq-Decides}
 use Rattle.std.proofs.lemmas.List.{append_assoc, append_cancel_left}
 use Rattle.clear_money.specs.Texts.{month_text}
-use Rattle.clear_book.specs.declared.texts.WageLine.{WageLine}
+use Rattle.clear_values.specs.declared.texts.WageLine.{WageLine}
 use Rattle.clear_book.specs.declared.calls.Registration.{Registration}
 use Rattle.clear_book.specs.declared.calls.WageReport.{WageReport}
 use Rattle.clear_book.specs.declared.calls.Correction.{Correction}
 use Rattle.clear_book.specs.declared.calls.Command.{Command}
 use Rattle.clear_book.specs.declared.calls.Command.TheVariants.{Register, Report, Correct, ImportBank}
-use Rattle.clear_book.specs.Kept.{same_line, same_report, same_command, lines_text, command_bytes}
-use Rattle.clear_book.specs.Ranges.{IsWageLine, IsReport, IsCommand}
+use Rattle.clear_book.specs.Calls.{same_line, same_report, same_command, lines_text, command_bytes}
+use Rattle.clear_book.specs.Calls.{IsWageLine, IsReport, IsCommand}
 use Rattle.clear_book.proofs.FrontLemmas.{number_front, month_front, Begins}
 
 -- ---- the same as values

@@ -1,22 +1,21 @@
 -- The limits of a lawful book.
-use Rattle.std.proofs.Common.{◌≡◌, ℕ, ◌≤◌, List, Some, length, refl, arith}
-use Rattle.clear_bank.specs.declared.lines.Purpose.TheVariants.{Contribution, Interest}
-use Rattle.clear_book.specs.declared.texts.WageLine.{WageLine}
+use Rattle.std.proofs.Common.{◌≡◌, ℕ, List, Some, refl, arith}
+use Rattle.clear_values.specs.declared.lines.Purpose.TheVariants.{Contribution, Interest}
+use Rattle.clear_values.specs.declared.texts.WageLine.{WageLine}
 use Rattle.clear_book.specs.Book.{Book, rates_of, latest_lines}
 use Rattle.clear_book.specs.Laws.{IsSmall}
 use Rattle.clear_book.specs.Machine.{IsLawful}
 use Rattle.clear_book.proofs.LimitsLemmas.{lawful_few, lawful_rates, lawful_entries, few_base, few_charge, charge_small, charged_small}
 use Rattle.clear_book.proofs.AccountLimitLemmas.{standing_within, lawful_credit_count, lawful_paid}
-use Rattle.clear_book.proofs.SeenLemmas.{credits-come, seen-few}
+use Rattle.clear_book.proofs.SeenLemmas.{credits-come, lawful_serials}
 use Rattle.clear_book.proofs.VersionLemmas.{lawful_versions}
-use Rattle.clear_book.specs.Lines.{lines_seen}
 
 -- no sum over a lawful book goes beyond these
 pub lawful_small : (b : Book) → IsLawful b → IsSmall b
 lawful_small b h =
     let few = lawful_few b.opening b.entries h in
     let rates = (lawful_rates b.opening b.entries h).ranges in
-    let few_serials : length (lines_seen b.entries) ≤ 500000000000 = omega (arith, seen-few b.entries, lawful_entries b.opening b.entries h) in
+    let few_serials = lawful_serials b.opening b.entries h in
     let charge = λ (e m : ℕ) (lines : List WageLine) (is : latest_lines b.entries e m ≡ Some lines). few_charge (rates_of b) m lines rates (few e m lines is) in
     record {
       entries = lawful_entries b.opening b.entries h;
@@ -30,7 +29,7 @@ lawful_small b h =
       paid = λ e. lawful_paid e Contribution b.opening b.entries h;
       interest_paid = λ e. lawful_paid e Interest b.opening b.entries h;
       suspense = (standing_within b.opening b.entries h).0;
-      seen = few_serials;
+      seen = omega (arith, few_serials);
       serials = few_serials;
       days = credits-come b.opening b.entries h;
     }

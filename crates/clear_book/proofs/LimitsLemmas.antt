@@ -9,7 +9,7 @@ use Rattle.clear_account.specs.Account.{charged}
 use Rattle.clear_account.specs.declared.entries.Charge.{Charge}
 use Rattle.clear_money.specs.Calendar.{months}
 use Rattle.clear_money.specs.Rates.{Rate, IsRate, rate_in_force, later_row, contribution_of}
-use Rattle.clear_book.specs.declared.texts.WageLine.{WageLine}
+use Rattle.clear_values.specs.declared.texts.WageLine.{WageLine}
 use Rattle.clear_book.specs.declared.calls.Command.{Command}
 use Rattle.clear_book.specs.declared.calls.Command.TheVariants.{Register, Report, Correct, ImportBank}
 use Rattle.clear_book.specs.declared.calls.Call.{Call}
@@ -22,13 +22,14 @@ use Rattle.clear_book.specs.declared.outcomes.Outcome.TheVariants.{Refused}
 use Rattle.clear_book.specs.Accounts.{base_of, contribution_of_lines, month_charge, reported_charge, book_charge, charges_of, months}
 use Rattle.clear_book.specs.Book.{Book, Entry, Member, is_for, rates_of, newer, reported_by, latest_lines, member_of, reported_version, RateTable, rates_added, rates_behind}
 use Rattle.clear_book.specs.Judge.{Verdict, new_reply, kept_reply, an_answer, a_refusal, outcome_of, judge, own_rule}
-use Rattle.clear_book.specs.Limits.{most_entries, most_lines, most_gross}
+use Rattle.clear_values.specs.Limits.{most_entries, most_lines, most_gross}
 use Rattle.clear_book.specs.Own.Lines.{has_large_gross}
 use Rattle.clear_book.specs.Own.Correct.{own_correct, correct_rules}
 use Rattle.clear_book.specs.Own.Report.{own_report, report_rules}
 use Rattle.clear_book.specs.Laws.{AreFew}
-use Rattle.clear_book.specs.Machine.{AreJudged, IsLawful, AreRates, after, step, is_allowed, Takes, Goes, Runs}
-use Rattle.clear_book.specs.Ranges.{IsCall}
+use Rattle.clear_book.specs.Machine.{AreJudged, IsLawful, after, step, is_allowed, Takes, Goes, Runs}
+use Rattle.clear_book.specs.Calls.{IsCall}
+use Rattle.clear_values.specs.Ranges.{AreRates}
 use Rattle.clear_book.proofs.ChecksLemmas.{none_applies, when-none}
 use Rattle.clear_book.proofs.JudgeLemmas.{unrefused}
 

@@ -1,30 +1,29 @@
--- Bank lines: those that a book has seen, and the rows and payments that they are.
-use Rattle.std.proofs.Common.{◌≡◌, ℕ, zero, suc, ◌+◌, ◌<◌, ◌≤◌, List, [], ◌∷◌, ◌++◌, length, take, drop, map, filter, Option, Some, None, is_some, Bool, true, false, cond, ◌&&◌, ◌==◌, refl, sym, ap, ◌∙◌, subst, arith, append_assoc, add-one, length-append}
+-- Bank lines: those that a book has seen, the rows that they are, and their serials.
+use Rattle.std.proofs.Common.{◌≡◌, ℕ, zero, suc, ◌+◌, ◌<◌, ◌≤◌, ◌⊎◌, inl, inr, List, [], ◌∷◌, ◌++◌, length, take, drop, map, filter, Option, Some, None, is_some, Bool, true, false, cond, refl, sym, ap, ◌∙◌, subst, arith, append_assoc, add-one, length-append}
 use Rattle.std.proofs.lemmas.Bool.{false_from_ne_true}
-use Rattle.std.proofs.lemmas.Bool.Decides.{nat_tests}
-use Rattle.std.proofs.lemmas.List.{append-nil, map-append}
+use Rattle.std.proofs.lemmas.List.{append-nil}
 use Rattle.std.proofs.lemmas.List.Elements.{filter_map-append}
 use Rattle.std.proofs.lemmas.List.Folds.{find-append}
-use Rattle.std.proofs.lemmas.List.Sums.{sum_by-append}
+use Rattle.std.proofs.lemmas.List.Sums.{sum_by-append, sum_by-cons}
 use Rattle.std.proofs.lemmas.Slice.Eq.{bytes_eq-Decides}
-use Rattle.std.specs.List.{cons_option, enumerate_from, range_with_len, AllByRecursion}
+use Rattle.std.specs.List.{enumerate_from, range_with_len, AllByRecursion}
 use Rattle.std.specs.Option.{option_map, option_or}
-use Rattle.std.specs.Prelude.{is_none, count_by}
+use Rattle.std.specs.Prelude.{is_none}
 use Rattle.std.specs.Str.{bytes_eq}
 use Rattle.clear_bank.specs.Newness.{Placed, line_under, lines_before, earlier_line, is_new}
-use Rattle.clear_bank.specs.declared.lines.BankLine.{BankLine}
-use Rattle.clear_bank.specs.declared.lines.Purpose.{Purpose}
+use Rattle.clear_values.specs.declared.lines.BankLine.{BankLine}
 use Rattle.clear_book.specs.declared.calls.Command.{Command}
 use Rattle.clear_book.specs.declared.calls.Command.TheVariants.{Register, Report, Correct, ImportBank}
-use Rattle.clear_book.specs.declared.rows.BankRow.{BankRow}
-use Rattle.clear_book.specs.declared.rows.CreditRow.{CreditRow}
-use Rattle.clear_book.specs.Accounts.{credit_key, rank_of}
+use Rattle.clear_values.specs.declared.rows.BankRow.{BankRow}
 use Rattle.clear_book.specs.Book.{Entry, newer, member_of}
-use Rattle.clear_book.specs.Keyed.{is_key, find_row, AreOnce}
-use Rattle.clear_book.specs.Lines.{lines_in, new_lines, employer_of_line, rows_from, lines_of_rows, rows_brought, rows_by, lines_seen, serial_count, standing, lines_standing, is_in_suspense, suspense_count, credit_of_line, line_credit, credits_of_lines, is_credit_of, credit_count}
+use Rattle.clear_values.specs.Keyed.{is_key, find_row, AreInOrder, AreOnce}
+use Rattle.clear_book.specs.Lines.{lines_in, new_lines, employer_of_line, rows_from, lines_of_rows, serial_key, is_release, release_count, rows_brought, rows_by, lines_seen, serial_count, serials_given, standing, lines_standing, is_in_suspense, suspense_count, credit_of_line, credits_of_lines}
 use Rattle.clear_book.specs.Tables.{bank_key}
-use Rattle.clear_book.proofs.KeyedLemmas.{is_key-refl, is_key-true, is_key-sym, other_row}
-use Rattle.clear_book.proofs.KeyedRowsLemmas.{AreNew, AreOnce-append}
+use Rattle.clear_values.proofs.KeyedLemmas.{is_key-refl, is_key-true, is_key-sym}
+use Rattle.clear_values.proofs.KeyedRowsLemmas.{AreNew, AreOnce-append}
+use Rattle.clear_values.proofs.ListLemmas.{both, each}
+use Rattle.clear_book.proofs.SerialLemmas.{follow-between, follow-in_order, in_order-append, in_order-once}
+pub use Rattle.clear_values.proofs.CreditRowsLemmas.{credits_of_lines-append, is_key-bytes_eq}
 
 -- ---- each line that was seen stands
 
@@ -35,26 +34,12 @@ all_stand xs (row ∷ rows) = ap (λ (rest : List BankRow). row ∷ rest) (all_s
 pub standing_seen : (xs : List Entry) → lines_standing xs ≡ lines_seen xs
 standing_seen xs = all_stand xs (lines_seen xs)
 
--- a command that brings no lines gives no serial, and no line moves
-module _ (xs : List Entry) (x : Entry) (none : rows_by xs (lines_seen xs) x.command ≡ []) where
-  none_seen : lines_seen (x ∷ xs) ≡ lines_seen xs
-  none_seen = ap (λ (rows : List BankRow). lines_seen xs ++ rows) none ∙ append-nil (lines_seen xs)
-
-  pub none_brought : serial_count (x ∷ xs) ≡ serial_count xs
-  none_brought = ap (λ (rows : List BankRow). length rows) none_seen
-
-  pub none_moved : lines_standing (x ∷ xs) ≡ lines_standing xs
-  none_moved = standing_seen (x ∷ xs) ∙ none_seen ∙ sym (standing_seen xs)
+-- a command that brings no lines moves none
+pub none_moved : (xs : List Entry) (x : Entry) → rows_by xs (lines_seen xs) x.command ≡ [] → lines_standing (x ∷ xs) ≡ lines_standing xs
+none_moved xs x none =
+    standing_seen (x ∷ xs) ∙ ap (λ (rows : List BankRow). lines_seen xs ++ rows) none ∙ append-nil (lines_seen xs) ∙ sym (standing_seen xs)
 
 -- ---- lines under their references
-
--- the two tests of references are one
-pub is_key-bytes_eq : (k l : List ℕ) → is_key k l ≡ bytes_eq l k
-is_key-bytes_eq k l = told (is_key k l) refl
-  where
-    told : (b : Bool) → is_key k l ≡ b → is_key k l ≡ bytes_eq l k
-    told true e = e ∙ sym ((bytes_eq-Decides l k).1 (sym (is_key-true k l e)))
-    told false e = e ∙ sym (false_from_ne_true (bytes_eq l k) (λ same. absurd (cc (subst (λ (m : List ℕ). is_key k m ≡ true) (sym ((bytes_eq-Decides l k).0 same)) (is_key-refl k)))))
 
 -- the row of a reference has the line under it
 pub found_line : (rows : List BankRow) (reference : List ℕ) → option_map (λ (row : BankRow). row.line) (find_row bank_key rows reference) ≡ line_under reference (lines_of_rows rows)
@@ -89,50 +74,6 @@ module _ (is_registered : ℕ → Bool) where
   pub serials_from : (last : ℕ) (new : List Placed) → map (λ (row : BankRow). row.serial) (rows_from is_registered last new) ≡ range_with_len (last + 1) (length new)
   serials_from last [] = refl
   serials_from last (p ∷ new) = ap (λ ns. (last + 1) ∷ ns) (serials_from (last + 1) new)
-
--- the serial of a bank row
-abbrev pub serial_key : BankRow → List ℕ
-serial_key row = row.serial ∷ []
-
--- rows whose serials follow on each other
-pub same_parts : (a b : ℕ) (xs ys : List ℕ) → a ∷ xs ≡ b ∷ ys → (a ≡ b) × (xs ≡ ys)
-same_parts a b xs ys e = (cc e, cc e)
-
-serials_between : (low high a n : ℕ) (rows : List BankRow) → low ≤ a → a + n ≤ high → map (λ (row : BankRow). row.serial) rows ≡ range_with_len a n
-    → AllByRecursion (λ row. (low ≤ row.serial) × (row.serial < high)) rows
-serials_between low high a n [] h k e = tt
-serials_between low high a zero (row ∷ rows) h k e = absurd (cc e)
-serials_between low high a (suc n) (row ∷ rows) h k e =
-    let parts = same_parts row.serial a (map (λ (r : BankRow). r.serial) rows) (range_with_len (a + 1) n) e in
-    ((omega (arith, parts.0), omega (arith, parts.0)), serials_between low high (a + 1) n rows (omega arith) (omega arith) parts.1)
-
-other_serial : (a b : ℕ) → b < a → is_key (a ∷ []) (b ∷ []) ≡ false
-other_serial a b h = grind (arith, nat_tests)
-
-none_above : (s a n : ℕ) (rows : List BankRow) → s < a → map (λ (row : BankRow). row.serial) rows ≡ range_with_len a n → find_row serial_key rows (s ∷ []) ≡ None
-none_above s a n [] h e = refl
-none_above s a zero (row ∷ rows) h e = absurd (cc e)
-none_above s a (suc n) (row ∷ rows) h e =
-    let parts = same_parts row.serial a (map (λ (r : BankRow). r.serial) rows) (range_with_len (a + 1) n) e in
-    ap (λ b. cond b (Some row) (find_row serial_key rows (s ∷ []))) (other_serial row.serial s (omega (arith, parts.0))) ∙ none_above s (a + 1) n rows (omega arith) parts.1
-
-serials_differ : (a n : ℕ) (rows : List BankRow) → map (λ (row : BankRow). row.serial) rows ≡ range_with_len a n → AreOnce serial_key rows
-serials_differ a n [] e = tt
-serials_differ a zero (row ∷ rows) e = absurd (cc e)
-serials_differ a (suc n) (row ∷ rows) e =
-    let parts = same_parts row.serial a (map (λ (r : BankRow). r.serial) rows) (range_with_len (a + 1) n) e in
-    (none_above row.serial (a + 1) n rows (omega (arith, parts.0)) parts.1, serials_differ (a + 1) n rows parts.1)
-
-module _ (is_registered : ℕ → Bool) (last : ℕ) (new : List Placed) where
-  pub serials_from-between : AllByRecursion (λ row. (last < row.serial) × (row.serial ≤ last + length new)) (rows_from is_registered last new)
-  serials_from-between = turned (rows_from is_registered last new) (serials_between (last + 1) (last + 1 + length new) (last + 1) (length new) (rows_from is_registered last new) (omega arith) (omega arith) (serials_from is_registered last new))
-    where
-      turned : (rows : List BankRow) → AllByRecursion (λ row. (last + 1 ≤ row.serial) × (row.serial < last + 1 + length new)) rows → AllByRecursion (λ row. (last < row.serial) × (row.serial ≤ last + length new)) rows
-      turned [] h = tt
-      turned (row ∷ rows) h = let low = h.0.0 in let high = h.0.1 in ((omega (arith, low), omega (arith, high)), turned rows h.1)
-
-  pub serials_from-once : AreOnce serial_key (rows_from is_registered last new)
-  serials_from-once = serials_differ (last + 1) (length new) (rows_from is_registered last new) (serials_from is_registered last new)
 
 -- ---- a new line has another reference than each line before it
 
@@ -257,13 +198,13 @@ references_once (x ∷ xs) = AreOnce-append bank_key (lines_seen xs) (rows_by xs
     once (Register r) = tt
     once (Report r) = tt
     once (Correct c) = tt
-    once (ImportBank file) = new_once (member_in xs) (length (lines_seen xs)) (lines_of_rows (lines_seen xs)) (lines_in file)
+    once (ImportBank file) = new_once (member_in xs) (serial_count xs) (lines_of_rows (lines_seen xs)) (lines_in file)
 
     apart : (command : Command) → AreNew bank_key (lines_seen xs) (rows_by xs (lines_seen xs) command)
     apart (Register r) = tt
     apart (Report r) = tt
     apart (Correct c) = tt
-    apart (ImportBank file) = new_apart (member_in xs) (length (lines_seen xs)) (lines_seen xs) (lines_of_rows (lines_seen xs)) (lines_in file) refl
+    apart (ImportBank file) = new_apart (member_in xs) (serial_count xs) (lines_seen xs) (lines_of_rows (lines_seen xs)) (lines_in file) refl
 
 pub references_standing : (xs : List Entry) → AreOnce bank_key (lines_standing xs)
 references_standing xs = subst (AreOnce bank_key) (sym (standing_seen xs)) (references_once xs)
@@ -271,8 +212,8 @@ references_standing xs = subst (AreOnce bank_key) (sym (standing_seen xs)) (refe
 -- and those that a file brings are new
 pub references_new : (xs : List Entry) (file : List ℕ) → AreOnce bank_key (rows_brought xs (lines_seen xs) file) × AreNew bank_key (lines_seen xs) (rows_brought xs (lines_seen xs) file)
 references_new xs file = (
-  new_once (member_in xs) (length (lines_seen xs)) (lines_of_rows (lines_seen xs)) (lines_in file),
-  new_apart (member_in xs) (length (lines_seen xs)) (lines_seen xs) (lines_of_rows (lines_seen xs)) (lines_in file) refl,
+  new_once (member_in xs) (serial_count xs) (lines_of_rows (lines_seen xs)) (lines_in file),
+  new_apart (member_in xs) (serial_count xs) (lines_seen xs) (lines_of_rows (lines_seen xs)) (lines_in file) refl,
 )
 
 -- ---- the serials of a book are the numbers from 1 on
@@ -284,115 +225,97 @@ range_with_len-append a (suc m) n (suc k) e =
     let start : a + 1 + m ≡ a + suc m = omega arith in
     ap (λ ns. a ∷ ns) (range_with_len-append (a + 1) m n k (omega (arith, e)) ∙ ap (λ b. range_with_len (a + 1) m ++ range_with_len b n) start)
 
-serials_by : (xs : List Entry) (command : Command) → map (λ (row : BankRow). row.serial) (rows_by xs (lines_seen xs) command) ≡ range_with_len (length (lines_seen xs) + 1) (length (rows_by xs (lines_seen xs) command))
-serials_by xs (Register r) = refl
-serials_by xs (Report r) = refl
-serials_by xs (Correct c) = refl
-serials_by xs (ImportBank file) =
+-- those of the lines that a command brings follow on the last one
+row_serials : (xs : List Entry) (command : Command) → map (λ (row : BankRow). row.serial) (rows_by xs (lines_seen xs) command) ≡ range_with_len (serial_count xs + 1) (length (rows_by xs (lines_seen xs) command))
+row_serials xs (Register r) = refl
+row_serials xs (Report r) = refl
+row_serials xs (Correct c) = refl
+row_serials xs (ImportBank file) =
     let new = new_lines (lines_of_rows (lines_seen xs)) (lines_in file) in
-    serials_from (member_in xs) (length (lines_seen xs)) new ∙ ap (λ n. range_with_len (length (lines_seen xs) + 1) n) (sym (length-rows_from (member_in xs) (length (lines_seen xs)) new))
+    serials_from (member_in xs) (serial_count xs) new ∙ ap (λ n. range_with_len (serial_count xs + 1) n) (sym (length-rows_from (member_in xs) (serial_count xs) new))
 
-pub serials_are : (xs : List Entry) → map (λ (row : BankRow). row.serial) (lines_seen xs) ≡ range_with_len 1 (length (lines_seen xs))
+-- no command both brings lines and releases
+pub lines_or_release : (xs : List Entry) (seen : List BankRow) (command : Command) → (rows_by xs seen command ≡ []) ⊎ (is_release command ≡ false)
+lines_or_release xs seen (Register r) = inl refl
+lines_or_release xs seen (Report r) = inl refl
+lines_or_release xs seen (Correct c) = inl refl
+lines_or_release xs seen (ImportBank file) = inr refl
+
+-- the serials that a command takes itself
+abbrev pub own_count : Command → ℕ
+own_count command = cond (is_release command) 1 0
+
+pub release_count-next : (xs : List Entry) (x : Entry) → release_count (x ∷ xs) ≡ own_count x.command + release_count xs
+release_count-next xs x = sum_by-cons (λ (y : Entry). own_count y.command) x xs
+
+pub serial_count-next : (xs : List Entry) (x : Entry) → serial_count (x ∷ xs) ≡ serial_count xs + (length (rows_by xs (lines_seen xs) x.command) + own_count x.command)
+serial_count-next xs x =
+    omega (arith, length-append (lines_seen xs) (rows_by xs (lines_seen xs) x.command), release_count-next xs x)
+
+-- a command that brings no lines and is no release takes no serial
+pub none_taken : (xs : List Entry) (x : Entry) → rows_by xs (lines_seen xs) x.command ≡ [] → is_release x.command ≡ false → serial_count (x ∷ xs) ≡ serial_count xs
+none_taken xs x none other =
+    let rows : length (rows_by xs (lines_seen xs) x.command) ≡ 0 = ap (λ (found : List BankRow). length found) none in
+    let own : own_count x.command ≡ 0 = ap (λ b. cond {A = ℕ} b 1 0) other in
+    omega (arith, serial_count-next xs x, rows, own)
+
+-- the serials of lines, or one more
+taken_by : (n : ℕ) (rows : List BankRow) (release : Bool) → map (λ (row : BankRow). row.serial) rows ≡ range_with_len (n + 1) (length rows) → (rows ≡ []) ⊎ (release ≡ false)
+    → map (λ (row : BankRow). row.serial) rows ++ cond release ((n + 1) ∷ []) [] ≡ range_with_len (n + 1) (length rows + cond {A = ℕ} release 1 0)
+taken_by n rows false e apart =
+    append-nil (map (λ (row : BankRow). row.serial) rows) ∙ e ∙ (let same : length rows ≡ length rows + 0 = omega arith in ap (range_with_len (n + 1)) same)
+taken_by n [] true e apart = refl
+taken_by n (row ∷ rows) true e (inl none) = absurd (cc none)
+taken_by n (row ∷ rows) true e (inr other) = absurd (cc other)
+
+pub serials_are : (xs : List Entry) → serials_given xs ≡ range_with_len 1 (serial_count xs)
 serials_are [] = refl
-serials_are (x ∷ xs) = joined (lines_seen xs) (rows_by xs (lines_seen xs) x.command) (serials_are xs) (serials_by xs x.command)
-  where
-    joined : (rows news : List BankRow) → map (λ (row : BankRow). row.serial) rows ≡ range_with_len 1 (length rows) → map (λ (row : BankRow). row.serial) news ≡ range_with_len (length rows + 1) (length news)
-        → map (λ (row : BankRow). row.serial) (rows ++ news) ≡ range_with_len 1 (length (rows ++ news))
-    joined rows news e k =
-        map-append (λ (row : BankRow). row.serial) rows news
-        ∙ (λ i. e i ++ k i)
-        ∙ (let start : length rows + 1 ≡ 1 + length rows = omega arith in ap (λ a. range_with_len 1 (length rows) ++ range_with_len a (length news)) start)
-        ∙ sym (range_with_len-append 1 (length rows) (length news) (length (rows ++ news)) (length-append rows news))
+serials_are (x ∷ xs) =
+    let n = serial_count xs in
+    let rows = rows_by xs (lines_seen xs) x.command in
+    let more = length rows + own_count x.command in
+    let start : n + 1 ≡ 1 + n = omega arith in
+    (λ i. serials_are xs i ++ taken_by n rows (is_release x.command) (row_serials xs x.command) (lines_or_release xs (lines_seen xs) x.command) i)
+    ∙ ap (λ a. range_with_len 1 n ++ range_with_len a more) start
+    ∙ sym (range_with_len-append 1 n more (serial_count (x ∷ xs)) (serial_count-next xs x))
 
-pub serials_small : (xs : List Entry) → AllByRecursion (λ row. (1 ≤ row.serial) × (row.serial ≤ length (lines_seen xs))) (lines_seen xs)
-serials_small xs = turned (lines_seen xs) (serials_between 1 (1 + length (lines_seen xs)) 1 (length (lines_seen xs)) (lines_seen xs) (omega arith) (omega arith) (serials_are xs))
-  where
-    turned : (rows : List BankRow) → AllByRecursion (λ row. (1 ≤ row.serial) × (row.serial < 1 + length (lines_seen xs))) rows → AllByRecursion (λ row. (1 ≤ row.serial) × (row.serial ≤ length (lines_seen xs))) rows
-    turned [] h = tt
-    turned (row ∷ rows) h = let high = h.0.1 in ((h.0.0, omega (arith, high)), turned rows h.1)
+-- the lines that a command brings have serials above those before
+pub serials_above : (xs : List Entry) (command : Command) → AllByRecursion (λ row. (serial_count xs < row.serial) × (row.serial ≤ serial_count xs + length (rows_by xs (lines_seen xs) command))) (rows_by xs (lines_seen xs) command)
+serials_above xs command =
+    let rows = rows_by xs (lines_seen xs) command in
+    follow-between (λ (row : BankRow). row.serial) (serial_count xs) (serial_count xs + length rows) (serial_count xs + 1) (length rows) rows (omega arith) (omega arith) (row_serials xs command)
+
+pub serials_small : (xs : List Entry) → AllByRecursion (λ row. (1 ≤ row.serial) × (row.serial ≤ serial_count xs)) (lines_seen xs)
+serials_small [] = tt
+serials_small (x ∷ xs) =
+    let rows = rows_by xs (lines_seen xs) x.command in
+    let more = serial_count-next xs x in
+    both (λ row. (1 ≤ row.serial) × (row.serial ≤ serial_count (x ∷ xs))) (lines_seen xs) rows
+    (each (λ (row : BankRow). (1 ≤ row.serial) × (row.serial ≤ serial_count xs)) (λ row. (1 ≤ row.serial) × (row.serial ≤ serial_count (x ∷ xs)))
+    (λ row h. let high = h.1 in (h.0, omega (arith, high, more))) (lines_seen xs) (serials_small xs))
+    (each (λ (row : BankRow). (serial_count xs < row.serial) × (row.serial ≤ serial_count xs + length rows)) (λ row. (1 ≤ row.serial) × (row.serial ≤ serial_count (x ∷ xs)))
+    (λ row h. let low = h.0 in let high = h.1 in (omega (arith, low), omega (arith, high, more))) rows (serials_above xs x.command))
+
+pub serials_rise : (xs : List Entry) → AreInOrder serial_key (lines_seen xs)
+serials_rise [] = tt
+serials_rise (x ∷ xs) =
+    let n = serial_count xs in
+    let rows = rows_by xs (lines_seen xs) x.command in
+    in_order-append (λ (row : BankRow). row.serial) n (lines_seen xs) rows (serials_rise xs)
+    (follow-in_order (λ (row : BankRow). row.serial) (n + 1) (length rows) rows (row_serials xs x.command))
+    (each (λ (row : BankRow). (1 ≤ row.serial) × (row.serial ≤ n)) (λ row. row.serial ≤ n) (λ row h. h.1) (lines_seen xs) (serials_small xs))
+    (each (λ (row : BankRow). (n < row.serial) × (row.serial ≤ n + length rows)) (λ row. n < row.serial) (λ row h. h.0) rows (serials_above xs x.command))
 
 pub serials_once : (xs : List Entry) → AreOnce serial_key (lines_seen xs)
-serials_once xs = serials_differ 1 (length (lines_seen xs)) (lines_seen xs) (serials_are xs)
+serials_once xs = in_order-once serial_key (lines_seen xs) (serials_rise xs)
 
-other_above : (a b n : ℕ) → a ≤ n → n < b → is_key (a ∷ []) (b ∷ []) ≡ false
-other_above a b n h k = grind (arith, nat_tests)
-
-none_below : (s n : ℕ) (rows : List BankRow) → n < s → AllByRecursion (λ row. (1 ≤ row.serial) × (row.serial ≤ n)) rows → find_row serial_key rows (s ∷ []) ≡ None
-none_below s n [] h all = refl
-none_below s n (row ∷ rows) h all = ap (λ b. cond b (Some row) (find_row serial_key rows (s ∷ []))) (other_above row.serial s n all.0.1 h) ∙ none_below s n rows h all.1
-
-all_apart : (n high : ℕ) (rows news : List BankRow) → AllByRecursion (λ row. (1 ≤ row.serial) × (row.serial ≤ n)) rows → AllByRecursion (λ row. (n < row.serial) × (row.serial ≤ high)) news
-    → AreNew serial_key rows news
-all_apart n high rows [] low all = tt
-all_apart n high rows (row ∷ news) low all = (none_below row.serial n rows all.0.0 low, all_apart n high rows news low all.1)
-
--- the rows that a file brings have serials of their own
-pub serials_new : (xs : List Entry) (file : List ℕ) → AreOnce serial_key (rows_brought xs (lines_seen xs) file) × AreNew serial_key (lines_seen xs) (rows_brought xs (lines_seen xs) file)
-serials_new xs file =
-    let new = new_lines (lines_of_rows (lines_seen xs)) (lines_in file) in
-    let last = length (lines_seen xs) in (
-      serials_from-once (member_in xs) last new,
-      all_apart last (last + length new) (lines_seen xs) (rows_brought xs (lines_seen xs) file) (serials_small xs) (serials_from-between (member_in xs) last new),
-    )
-
--- ---- payments: the key of one ends with its serial
-
-other_end : (a b c s : Bool) → s && true ≡ false → a && (b && (c && (s && true))) ≡ false
-other_end a b c true h = absurd (cc)
-other_end true true true false h = refl
-other_end true true false false h = refl
-other_end true false c false h = refl
-other_end false b c false h = refl
-
-none_paid : (e p d s : ℕ) (rows : List BankRow) → find_row serial_key rows (s ∷ []) ≡ None → find_row credit_key (credits_of_lines rows) (e ∷ p ∷ d ∷ s ∷ []) ≡ None
-none_paid e p d s [] h = refl
-none_paid e p d s (row ∷ rows) h =
-    let parts = other_row serial_key row rows (s ∷ []) h in
-    told row.employer parts.0 (none_paid e p d s rows parts.1)
-  where
-    told : (firm : Option ℕ) → is_key (row.serial ∷ []) (s ∷ []) ≡ false → find_row credit_key (credits_of_lines rows) (e ∷ p ∷ d ∷ s ∷ []) ≡ None
-        → find_row credit_key (cons_option (credit_of_line row firm) (credits_of_lines rows)) (e ∷ p ∷ d ∷ s ∷ []) ≡ None
-    told None other rest = rest
-    told (Some f) other rest =
-        ap (λ b. cond b (Some (line_credit row f)) (find_row credit_key (credits_of_lines rows) (e ∷ p ∷ d ∷ s ∷ []))) (other_end (f == e) (rank_of row.line.purpose == p) (row.line.value == d) (row.serial == s) other) ∙ rest
-
-pub credits_of_lines-once : (rows : List BankRow) → AreOnce serial_key rows → AreOnce credit_key (credits_of_lines rows)
-credits_of_lines-once [] h = tt
-credits_of_lines-once (row ∷ rows) h = told row.employer (credits_of_lines-once rows h.1)
-  where
-    told : (firm : Option ℕ) → AreOnce credit_key (credits_of_lines rows) → AreOnce credit_key (cons_option (credit_of_line row firm) (credits_of_lines rows))
-    told None rest = rest
-    told (Some f) rest = (none_paid f (rank_of row.line.purpose) row.line.value row.serial rows h.0, rest)
-
-pub credits_of_lines-apart : (seen rows : List BankRow) → AreNew serial_key seen rows → AreNew credit_key (credits_of_lines seen) (credits_of_lines rows)
-credits_of_lines-apart seen [] h = tt
-credits_of_lines-apart seen (row ∷ rows) h = told row.employer (credits_of_lines-apart seen rows h.1)
-  where
-    told : (firm : Option ℕ) → AreNew credit_key (credits_of_lines seen) (credits_of_lines rows) → AreNew credit_key (credits_of_lines seen) (cons_option (credit_of_line row firm) (credits_of_lines rows))
-    told None rest = rest
-    told (Some f) rest = (none_paid f (rank_of row.line.purpose) row.line.value row.serial seen h.0, rest)
-
-pub credits_once : (xs : List Entry) → AreOnce credit_key (credits_of_lines (lines_standing xs))
-credits_once xs =
-    subst (λ (rows : List BankRow). AreOnce credit_key (credits_of_lines rows)) (sym (standing_seen xs)) (credits_of_lines-once (lines_seen xs) (serials_once xs))
-
-pub credits_new : (xs : List Entry) (file : List ℕ)
-    → AreOnce credit_key (credits_of_lines (rows_brought xs (lines_seen xs) file)) × AreNew credit_key (credits_of_lines (lines_standing xs)) (credits_of_lines (rows_brought xs (lines_seen xs) file))
-credits_new xs file =
-    let new = serials_new xs file in
-    let rows = rows_brought xs (lines_seen xs) file in (
-      credits_of_lines-once rows new.0,
-      subst (λ (seen : List BankRow). AreNew credit_key (credits_of_lines seen) (credits_of_lines rows)) (sym (standing_seen xs)) (credits_of_lines-apart (lines_seen xs) rows new.1),
-    )
+-- those of the lines that a file brings stand once
+pub serials_brought : (xs : List Entry) (file : List ℕ) → AreOnce serial_key (rows_brought xs (lines_seen xs) file)
+serials_brought xs file =
+    let rows = rows_brought xs (lines_seen xs) file in
+    in_order-once serial_key rows (follow-in_order (λ (row : BankRow). row.serial) (serial_count xs + 1) (length rows) rows (row_serials xs (ImportBank file)))
 
 -- ---- counts, one list after another
-
-pub credits_of_lines-append : (xs ys : List BankRow) → credits_of_lines (xs ++ ys) ≡ credits_of_lines xs ++ credits_of_lines ys
-credits_of_lines-append xs ys = filter_map-append (λ (row : BankRow). credit_of_line row row.employer) xs ys
-
-pub credit_count-append : (xs ys : List BankRow) (e : ℕ) (p : Purpose) → credit_count (xs ++ ys) e p ≡ credit_count xs e p + credit_count ys e p
-credit_count-append xs ys e p =
-    ap (count_by (is_credit_of e p)) (credits_of_lines-append xs ys) ∙ sum_by-append (λ (row : CreditRow). cond {A = ℕ} (is_credit_of e p row) 1 0) (credits_of_lines xs) (credits_of_lines ys)
 
 pub suspense_count-append : (xs ys : List BankRow) → suspense_count (xs ++ ys) ≡ suspense_count xs + suspense_count ys
 suspense_count-append xs ys = sum_by-append (λ (row : BankRow). cond {A = ℕ} (is_in_suspense row) 1 0) xs ys

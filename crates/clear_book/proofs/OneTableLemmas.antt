@@ -1,16 +1,16 @@
 -- The tables that stand for a book are one.
 use Rattle.std.proofs.Common.{◌≡◌, ℕ, List, Option, Some, None, refl, sym, ap, ◌∙◌}
 use Rattle.std.specs.Option.{option_map}
-use Rattle.clear_book.specs.declared.rows.EmployerRow.{EmployerRow}
-use Rattle.clear_book.specs.declared.rows.ReportRow.{ReportRow}
-use Rattle.clear_book.specs.declared.rows.WageRow.{WageRow}
+use Rattle.clear_values.specs.declared.rows.EmployerRow.{EmployerRow}
+use Rattle.clear_values.specs.declared.rows.ReportRow.{ReportRow}
+use Rattle.clear_values.specs.declared.rows.WageRow.{WageRow}
 use Rattle.clear_book.specs.Accounts.{credit_key}
 use Rattle.clear_book.specs.Book.{Book}
-use Rattle.clear_book.specs.Keyed.{find_row, AreInOrder}
+use Rattle.clear_values.specs.Keyed.{find_row, AreInOrder}
 use Rattle.clear_book.specs.Tables.{Tables, Stands, employer_key, report_key, wage_key, bank_key, request_key, member_in}
-use Rattle.clear_book.proofs.KeyedLemmas.{found_key}
-use Rattle.clear_book.proofs.KeyedRowsLemmas.{same_rows}
-use Rattle.clear_book.proofs.KeyedChangesLemmas.{same_rows_by_key}
+use Rattle.clear_values.proofs.KeyedLemmas.{found_key}
+use Rattle.clear_values.proofs.KeyedRowsLemmas.{same_rows}
+use Rattle.clear_values.proofs.KeyedChangesLemmas.{same_rows_by_key}
 
 -- ---- rows told by their keys and values
 

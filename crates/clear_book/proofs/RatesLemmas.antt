@@ -1,10 +1,10 @@
 -- In a lawful book a rate is in force for each month that has a report: the membership begins with a rate, and the month
 -- doesn't lie before it.
-use Rattle.std.proofs.Common.{◌≡◌, ℕ, ◌≤◌, ◌⊎◌, ⊎_elim, inl, inr, List, [], ◌∷◌, Option, Some, None, Bool, true, false, not, cond, ◌&&◌, ◌==◌, nat_le, nat_lt, is_some, refl, sym, subst, arith, ◌++◌}
+use Rattle.std.proofs.Common.{◌≡◌, ℕ, ◌≤◌, ◌⊎◌, ⊎_elim, inl, inr, List, [], ◌∷◌, Option, Some, None, Bool, true, false, not, cond, ◌&&◌, ◌==◌, nat_le, nat_lt, is_some, IsSome, refl, sym, subst, arith, ◌++◌}
 use Rattle.std.proofs.lemmas.Bool.Decides.{nat_tests}
 use Rattle.std.specs.Option.{option_map_or}
 use Rattle.clear_money.specs.Rates.{Rate, rate_in_force, later_row}
-use Rattle.clear_book.specs.declared.texts.WageLine.{WageLine}
+use Rattle.clear_values.specs.declared.texts.WageLine.{WageLine}
 use Rattle.clear_book.specs.declared.calls.Command.{Command}
 use Rattle.clear_book.specs.declared.calls.Correction.{Correction}
 use Rattle.clear_book.specs.declared.calls.WageReport.{WageReport}
@@ -186,3 +186,10 @@ module _ (rates : RateTable) where
       told : (o : Option Member) → IsRated xs o → IsSince m o → is_some (rate_in_force (rates_behind rates xs) m) ≡ true
       told None rated there = absurd there
       told (Some member) rated there = rate-later (rates_behind rates xs) member.start m there rated
+
+  pub reported_rated : (xs : List Entry) → AreJudged rates xs → (e m : ℕ) → IsSome (latest_lines xs e m) → IsSome (rate_in_force (rates_behind rates xs) m)
+  reported_rated xs h e m there = told (latest_lines xs e m) refl there
+    where
+      told : (o : Option (List WageLine)) → latest_lines xs e m ≡ o → is_some o ≡ true → IsSome (rate_in_force (rates_behind rates xs) m)
+      told (Some lines) is there = lawful_rated xs h e m lines is
+      told None is there = absurd (cc there)

@@ -4,13 +4,13 @@ use Rattle.std.proofs.lemmas.Map.Keys.{IsDistinct-cons}
 use Rattle.std.specs.List.{AllByRecursion, IsDistinct}
 use Rattle.std.specs.Str.{bytes_eq}
 use Rattle.clear_bank.specs.Laws.{HasNoReferenceTwice}
-use Rattle.clear_bank.specs.declared.lines.BankLine.{BankLine}
-use Rattle.clear_book.specs.declared.rows.BankRow.{BankRow}
+use Rattle.clear_values.specs.declared.lines.BankLine.{BankLine}
+use Rattle.clear_values.specs.declared.rows.BankRow.{BankRow}
 use Rattle.clear_book.specs.Book.{Entry}
-use Rattle.clear_book.specs.Keyed.{find_row, AreOnce}
+use Rattle.clear_values.specs.Keyed.{find_row, AreOnce}
 use Rattle.clear_book.specs.Lines.{lines_of_rows, lines_seen}
 use Rattle.clear_book.specs.Tables.{bank_key}
-use Rattle.clear_book.proofs.KeyedLemmas.{other_row}
+use Rattle.clear_values.proofs.KeyedLemmas.{other_row}
 use Rattle.clear_book.proofs.LinesLemmas.{is_key-bytes_eq, references_once}
 
 -- the references of lines

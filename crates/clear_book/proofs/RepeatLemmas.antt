@@ -1,20 +1,20 @@
 -- A command that was accepted and comes again has the reply that stands, and leaves the book.
 use Rattle.std.proofs.Common.{◌≡◌, ℕ, List, [], ◌∷◌, Option, Some, None, Bool, true, false, cond, inl, inr, refl, sym, ap, ◌∙◌, subst, length}
-use Rattle.clear_book.specs.declared.calls.Caller.{Caller}
+use Rattle.clear_values.specs.declared.callers.Caller.{Caller}
 use Rattle.clear_book.specs.declared.calls.Command.{Command}
 use Rattle.clear_book.specs.declared.calls.Call.{Call}
 use Rattle.clear_book.specs.declared.calls.Call.TheVariants.{Do, Ask}
 use Rattle.clear_book.specs.declared.outcomes.Outcome.{Outcome}
-use Rattle.clear_book.specs.declared.outcomes.Reply.{Reply}
+use Rattle.clear_values.specs.declared.replies.Reply.{Reply}
 use Rattle.clear_book.specs.declared.rules.Rule.TheVariants.{NumberReused}
-use Rattle.clear_book.specs.Access.{may_do}
+use Rattle.clear_book.specs.Calls.{may_do}
 use Rattle.clear_book.specs.Book.{Book, Entry, entry, entry_under, request_number, ledger_day}
 use Rattle.clear_book.specs.Judge.{Verdict, new_reply, kept_reply, an_answer, a_refusal, judge, judged_do, said_before, is_full, day_back, own_rule, reply_to}
-use Rattle.clear_book.specs.Keyed.{is_key, find_row}
+use Rattle.clear_values.specs.Keyed.{is_key, find_row}
 use Rattle.clear_book.specs.Machine.{after, step, Goes, Runs}
 use Rattle.clear_book.proofs.JudgeLemmas.{unrefused}
 use Rattle.clear_book.proofs.KeptLemmas.{same_command-is}
-use Rattle.clear_book.proofs.KeyedLemmas.{is_key-refl, is_key-true}
+use Rattle.clear_values.proofs.KeyedLemmas.{is_key-refl, is_key-true}
 
 module _ (caller : Caller) (number : ℕ) (command : Command) (reply : Reply) where
   -- the request stands in the book with this reply

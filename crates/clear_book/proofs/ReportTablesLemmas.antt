@@ -4,21 +4,22 @@ use Rattle.std.proofs.lemmas.List.{append-nil}
 use Rattle.std.proofs.lemmas.List.Sums.{sum_by-cons}
 use Rattle.std.specs.Option.{option_map}
 use Rattle.clear_book.specs.declared.calls.Call.TheVariants.{Do}
-use Rattle.clear_book.specs.declared.calls.Caller.{Caller}
+use Rattle.clear_values.specs.declared.callers.Caller.{Caller}
 use Rattle.clear_book.specs.declared.calls.Command.TheVariants.{Report, Correct}
 use Rattle.clear_book.specs.declared.calls.Correction.{Correction}
 use Rattle.clear_book.specs.declared.calls.WageReport.{WageReport}
-use Rattle.clear_book.specs.declared.outcomes.Reply.{Reply}
-use Rattle.clear_book.specs.declared.rows.Change.TheVariants.{AddReport, ReplaceReport}
-use Rattle.clear_book.specs.declared.rows.BankRow.{BankRow}
-use Rattle.clear_book.specs.declared.rows.ReportRow.{ReportRow}
-use Rattle.clear_book.specs.declared.rows.WageRow.{WageRow}
-use Rattle.clear_book.specs.declared.texts.WageLine.{WageLine}
+use Rattle.clear_values.specs.declared.replies.Reply.{Reply}
+use Rattle.clear_values.specs.declared.rows.Change.TheVariants.{AddReport, ReplaceReport}
+use Rattle.clear_values.specs.declared.rows.BankRow.{BankRow}
+use Rattle.clear_values.specs.declared.rows.CreditRow.{CreditRow}
+use Rattle.clear_values.specs.declared.rows.ReportRow.{ReportRow}
+use Rattle.clear_values.specs.declared.rows.WageRow.{WageRow}
+use Rattle.clear_values.specs.declared.texts.WageLine.{WageLine}
 use Rattle.clear_book.specs.Accounts.{credit_key}
 use Rattle.clear_book.specs.Book.{Book, Entry, Member, entry, entry_under, is_for, newer, registered_by, member_of, is_registration, reported_by, latest_lines, is_report_of, version_of, reported_version, rates_added, rates_of}
 use Rattle.clear_book.specs.Judge.{Verdict, new_reply, judge}
-use Rattle.clear_book.specs.Keyed.{find_row, put_row}
-use Rattle.clear_book.specs.Lines.{lines_seen, credits_of_lines, rows_by}
+use Rattle.clear_values.specs.Keyed.{find_row, put_row}
+use Rattle.clear_book.specs.Lines.{is_release, lines_seen, rows_by}
 use Rattle.clear_book.specs.Machine.{step, after, appended}
 use Rattle.clear_book.specs.Own.Correct.{own_correct, correct_rules}
 use Rattle.clear_book.specs.Own.Lines.{twice_rule, worker_twice}
@@ -27,8 +28,9 @@ use Rattle.clear_book.specs.Tables.{Tables, Stands, report_key, bank_key, versio
 use Rattle.clear_book.proofs.ChecksLemmas.{none_applies}
 use Rattle.clear_book.proofs.DistinctLemmas.{AreDistinct, distinct}
 use Rattle.clear_book.proofs.JudgeLemmas.{unrefused}
-use Rattle.clear_book.proofs.KeyedChangesLemmas.{find_row-put_row, AreInOrder-put_row, put_row-new}
-use Rattle.clear_book.proofs.LinesLemmas.{none_brought, none_moved}
+use Rattle.clear_values.proofs.KeyedChangesLemmas.{find_row-put_row, AreInOrder-put_row, put_row-new}
+use Rattle.clear_book.proofs.LinesLemmas.{none_moved, none_taken}
+use Rattle.clear_book.proofs.CreditsMadeLemmas.{none_made}
 use Rattle.clear_book.proofs.RequestLemmas.{requests_found, requests_still_in_order}
 use Rattle.clear_book.proofs.TablesLemmas.{no_map}
 use Rattle.clear_book.proofs.VersionLemmas.{is_some-cond, version_of-other, version_of-more, version_of-none, unreported, corrected, reported_some, reported_none, key_is}
@@ -57,6 +59,7 @@ pub record Reports (xs : List Entry) (x : Entry) (r : WageReport) : Type 0 where
   pub nobody : (e : ℕ) → registered_by x.command e ≡ None
   pub no_registration : is_registration x.command ≡ false
   pub no_rows : rows_by xs (lines_seen xs) x.command ≡ []
+  pub no_release : is_release x.command ≡ false
   pub no_rates : rates_added x.command ≡ []
 
 abbrev version_in : ReportRow → ℕ
@@ -110,11 +113,11 @@ module _ (b : Book) (t : Tables) (stands : Stands b t) (x : Entry) (r : WageRepo
     wages_in_order = with_wages-in_order r.employer r.month r.lines t.wages apart stands.wages_in_order;
     bank = λ reference. stands.bank reference ∙ ap (λ (rows : List BankRow). find_row bank_key rows reference) (sym (none_moved b.entries x reports.no_rows));
     bank_in_order = stands.bank_in_order;
-    credits = λ k. stands.credits k ∙ ap (λ (rows : List BankRow). find_row credit_key (credits_of_lines rows) k) (sym (none_moved b.entries x reports.no_rows));
+    credits = λ k. stands.credits k ∙ ap (λ (rows : List CreditRow). find_row credit_key rows k) (sym (none_made b.entries x reports.no_rows reports.no_release));
     credits_in_order = stands.credits_in_order;
     requests = requests_found b t stands x free;
     requests_in_order = requests_still_in_order b t stands x free;
-    serial = stands.serial ∙ sym (none_brought b.entries x reports.no_rows);
+    serial = stands.serial ∙ sym (none_taken b.entries x reports.no_rows reports.no_release);
     unfilled = let unfilled = stands.unfilled in record { claims = unfilled.claims; lists = unfilled.lists; runs = unfilled.runs; reminders = unfilled.reminders; last_claim = unfilled.last_claim; last_list = unfilled.last_list; last_run = unfilled.last_run };
   }
 
@@ -137,7 +140,7 @@ module _ (b : Book) (t : Tables) (stands : Stands b t) (caller : Caller) (number
       let no_lines = reported_none b.entries r.employer r.month none in
       let zero : version_of b.entries r.employer r.month ≡ 0 = version_of-none b.entries r.employer r.month no_lines in
       let x = entry caller number day (Report r) reply in
-      let there = first_tables b t stands x r (record { lines = λ e m. refl; counted = λ e m. is_some-cond (is_for e m r) r.lines; nobody = λ e. refl; no_registration = refl; no_rows = refl; no_rates = refl }) 1 (omega (arith, zero))
+      let there = first_tables b t stands x r (record { lines = λ e m. refl; counted = λ e m. is_some-cond (is_for e m r) r.lines; nobody = λ e. refl; no_registration = refl; no_rows = refl; no_release = refl; no_rates = refl }) 1 (omega (arith, zero))
       (report_distinct (member_of b.entries r.employer) (reported_version b.entries r.employer r.month) day r.month r.lines own) said.free
       (no_map version_in (find_row report_key t.reports (r.employer ∷ r.month ∷ [])) (stands.reports r.employer r.month ∙ none))
       (λ w. stands.wages r.employer r.month w ∙ ap (λ (o : Option (List WageLine)). reported_gross o w) no_lines) in
@@ -152,6 +155,6 @@ module _ (b : Book) (t : Tables) (stands : Stands b t) (caller : Caller) (number
       let latest = corrected member (reported_version b.entries c.report.employer c.report.month) day c own in
       let now : version_of b.entries c.report.employer c.report.month ≡ c.version = reported_some b.entries c.report.employer c.report.month c.version latest.0 in
       let x = entry caller number day (Correct c) reply in
-      let there = replaced_tables b t stands x c.report (record { lines = λ e m. refl; counted = λ e m. is_some-cond (is_for e m c.report) c.report.lines; nobody = λ e. refl; no_registration = refl; no_rows = refl; no_rates = refl }) version (omega (arith, now, more))
+      let there = replaced_tables b t stands x c.report (record { lines = λ e m. refl; counted = λ e m. is_some-cond (is_for e m c.report) c.report.lines; nobody = λ e. refl; no_registration = refl; no_rows = refl; no_release = refl; no_rates = refl }) version (omega (arith, now, more))
       (correction_distinct member (reported_version b.entries c.report.employer c.report.month) day c own) said.free in
       subst (λ (p : Verdict × List WageLine). Stands (after b (Do caller number day (Correct c)) p.0) (noted x (changed (ReplaceReport (record { employer = c.report.employer; month = c.report.month; version = version }) p.1) t))) (λ i. (sym judged i, sym same i)) there

@@ -2,9 +2,9 @@
 use Rattle.std.proofs.Common.{◌≡◌, ℕ, List, [], ◌∷◌, Option, Some, None, Bool, true, false, cond, refl, ap, ◌∙◌}
 use Rattle.std.specs.Option.{option_map}
 use Rattle.clear_book.specs.Book.{Book, Entry, request_number, entry_under}
-use Rattle.clear_book.specs.Keyed.{is_key, find_row, with_row, AreInOrder}
+use Rattle.clear_values.specs.Keyed.{is_key, find_row, with_row, AreInOrder}
 use Rattle.clear_book.specs.Tables.{RequestRow, Tables, Stands, request_key, request_row, requests_of}
-use Rattle.clear_book.proofs.KeyedLemmas.{find_row-with_row, AreInOrder-with_row}
+use Rattle.clear_values.proofs.KeyedLemmas.{find_row-with_row, AreInOrder-with_row}
 
 -- what an entry is known by
 abbrev entry_key : Entry → List ℕ

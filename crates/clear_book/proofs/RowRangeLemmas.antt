@@ -1,40 +1,42 @@
 -- Each row of the tables of a lawful book lies in its ranges.
-use Rattle.std.proofs.Common.{◌≡◌, ℕ, ◌+◌, ◌≤◌, ◌⊎◌, ⊎_elim, inl, inr, List, [], ◌∷◌, length, Option, Some, None, IfSome, is_some, option_and_then, Bool, true, false, cond, ◌==◌, refl, sym, ap, ◌∙◌, subst, arith}
+use Rattle.std.proofs.Common.{◌≡◌, ℕ, ◌+◌, ◌≤◌, ◌⊎◌, ⊎_elim, inl, inr, List, [], ◌∷◌, Option, Some, None, IfSome, is_some, option_and_then, Bool, true, false, cond, ◌==◌, refl, sym, ap, ◌∙◌, subst, arith}
 use Rattle.std.proofs.lemmas.Option.{cond_some}
 use Rattle.std.specs.Option.{option_map}
 use Rattle.std.specs.List.{AllByRecursion}
-use Rattle.clear_bank.specs.declared.lines.BankLine.{BankLine}
+use Rattle.clear_values.specs.declared.lines.BankLine.{BankLine}
 use Rattle.clear_bank.specs.Newness.{Placed, is_new}
-use Rattle.clear_bank.specs.Ranges.{IsBankLine}
+use Rattle.clear_values.specs.Ranges.{IsBankLine}
 use Rattle.clear_money.specs.Calendar.{IsMonth, IsDay}
 use Rattle.clear_money.specs.Numbers.{IsEmployerNo, IsWorkerNo}
-use Rattle.clear_book.specs.declared.texts.WageLine.{WageLine}
+use Rattle.clear_values.specs.declared.texts.WageLine.{WageLine}
 use Rattle.clear_book.specs.declared.calls.Command.{Command}
 use Rattle.clear_book.specs.declared.calls.Command.TheVariants.{Register, Report, Correct, ImportBank}
 use Rattle.clear_book.specs.declared.calls.WageReport.{WageReport}
-use Rattle.clear_book.specs.declared.rows.BankRow.{BankRow}
-use Rattle.clear_book.specs.declared.rows.CreditRow.{CreditRow}
-use Rattle.clear_book.specs.declared.rows.EmployerRow.{EmployerRow}
-use Rattle.clear_book.specs.declared.rows.ReportRow.{ReportRow}
-use Rattle.clear_book.specs.declared.rows.WageRow.{WageRow}
+use Rattle.clear_values.specs.declared.rows.BankRow.{BankRow}
+use Rattle.clear_values.specs.declared.rows.CreditRow.{CreditRow}
+use Rattle.clear_values.specs.declared.rows.EmployerRow.{EmployerRow}
+use Rattle.clear_values.specs.declared.rows.ReportRow.{ReportRow}
+use Rattle.clear_values.specs.declared.rows.WageRow.{WageRow}
 use Rattle.clear_book.specs.Accounts.{credit_key}
 use Rattle.clear_book.specs.Book.{Book, Entry, Member, ledger_day, newer, registered_by, member_of, is_for, reported_by, latest_lines, is_report_of, version_of, reported_version, RateTable, rates_of}
 use Rattle.clear_book.specs.Judge.{own_rule, reply_to}
-use Rattle.clear_book.specs.Keyed.{is_key, find_row, AreOnce, in_key_order}
-use Rattle.clear_book.specs.Lines.{lines_in, new_lines, employer_of_line, rows_from, lines_of_rows, rows_by, lines_seen, lines_standing, credit_of_line, line_credit, credits_of_lines}
-use Rattle.clear_book.specs.Machine.{AreRates, AreJudged, IsLawful}
-use Rattle.clear_book.specs.Ranges.{IsWageLine, IsReport, IsCommand}
-use Rattle.clear_book.specs.RowRanges.{IsSerial, IsReply, IsRequestRow, IsEmployerRow, IsReportRow, IsWageRow, IsBankRow, IsCreditRow, AreInRange, IsClaimRow, IsListRow, IsRunRow, IsReminderRow}
+use Rattle.clear_values.specs.Keyed.{is_key, find_row, AreOnce, in_key_order}
+use Rattle.clear_book.specs.Lines.{lines_in, new_lines, employer_of_line, rows_from, lines_of_rows, rows_by, lines_seen, lines_standing, credit_of_line, line_credit, credits_made, credits_of_lines, serial_count, serials_of, set_offs}
+use Rattle.clear_book.specs.Machine.{AreJudged, IsLawful}
+use Rattle.clear_book.specs.Calls.{IsWageLine, IsReport, IsCommand}
+use Rattle.clear_values.specs.Ranges.{AreRates}
+use Rattle.clear_values.specs.RowRanges.{IsSerial, IsReply, IsRequestRow, IsEmployerRow, IsReportRow, IsWageRow, IsBankRow, IsCreditRow, AreInRange, IsClaimRow, IsListRow, IsRunRow, IsReminderRow}
 use Rattle.clear_book.specs.Tables.{RequestRow, Tables, Stands, employer_key, report_key, wage_key, bank_key, request_key, request_row, requests_of, gross_of, reported_gross, member_in}
-use Rattle.clear_book.specs.Texts.{IsName}
+use Rattle.clear_values.specs.Texts.{IsName}
 use Rattle.clear_book.proofs.CreditsLemmas.{credits-standing}
 use Rattle.clear_book.proofs.DistinctLemmas.{same_worker}
 use Rattle.clear_book.proofs.JudgeLemmas.{unrefused}
-use Rattle.clear_book.proofs.KeyedChangesLemmas.{all_from_found, AllByRecursion-in_key_order}
-use Rattle.clear_book.proofs.KeyedRowsLemmas.{ordered}
+use Rattle.clear_values.proofs.KeyedChangesLemmas.{all_from_found, AllByRecursion-in_key_order}
+use Rattle.clear_values.proofs.KeyedRowsLemmas.{ordered}
 use Rattle.clear_book.proofs.LimitsLemmas.{lawful_rates, lawful_few, lawful_entries, few_lines, few_corrected, few_charge}
 use Rattle.clear_book.proofs.LinesLemmas.{standing_seen, references_once, serials_small}
-use Rattle.clear_book.proofs.SeenLemmas.{both, by-few, chosen, file-few, HasRanges, lines-in-range, seen-in-range, seen-few, of_credits, of_standing}
+use Rattle.clear_values.proofs.ListLemmas.{both}
+use Rattle.clear_book.proofs.SeenLemmas.{by-few, chosen, file-few, HasRanges, lines-in-range, seen-in-range, set_offs-in-range, lawful_serials, of_credits, of_standing}
 use Rattle.clear_book.proofs.VersionLemmas.{corrected, key_is, no_report, version_of-more, version_of-other, lawful_versions, reported_some}
 
 -- the newer of two is one of them
@@ -196,17 +198,13 @@ firms-by xs seen (Register r) = tt
 firms-by xs seen (Report r) = tt
 firms-by xs seen (Correct c) = tt
 firms-by xs seen (ImportBank file) =
-    firms-of-rows (λ e. is_some (member_of xs e)) (length seen) (new_lines (lines_of_rows seen) (lines_in file))
+    firms-of-rows (λ e. is_some (member_of xs e)) (serials_of xs seen) (new_lines (lines_of_rows seen) (lines_in file))
     (chosen IsBankLine (is_new (lines_of_rows seen) (lines_in file)) 0 (lines_in file) (lines-in-range file))
 
 -- the firm of each line that a book has seen is in range
 seen-firms : (xs : List Entry) → AllByRecursion HasFirm (lines_seen xs)
 seen-firms [] = tt
 seen-firms (x ∷ xs) = both HasFirm (lines_seen xs) (rows_by xs (lines_seen xs) x.command) (seen-firms xs) (firms-by xs (lines_seen xs) x.command)
-
--- a lawful book has given at most 500,000,000,000 serials
-few-serials : (rates : RateTable) (xs : List Entry) → AreJudged rates xs → length (lines_seen xs) ≤ 500000000000
-few-serials rates xs h = omega (arith, seen-few xs, lawful_entries rates xs h)
 
 -- each line that a lawful book has seen is in range, its serial and its firm too
 seen-rows : (rates : RateTable) (xs : List Entry) → AreJudged rates xs → AllByRecursion IsBankRow (lines_seen xs)
@@ -216,13 +214,13 @@ seen-rows rates xs h =
     (seen-firms xs)
   where
     IsGiven : BankRow → Type 0
-    IsGiven row = (1 ≤ row.serial) × (row.serial ≤ length (lines_seen xs))
+    IsGiven row = (1 ≤ row.serial) × (row.serial ≤ serial_count xs)
 
     HasPlace : BankRow → Type 0
     HasPlace row = IsBankLine row.line × IsSerial row.serial
 
-    given : (n : ℕ) → n ≤ length (lines_seen xs) → n ≤ 500000000000
-    given n low = omega (arith, low, few-serials rates xs h)
+    given : (n : ℕ) → n ≤ serial_count xs → n ≤ 500000000000
+    given n low = omega (arith, low, lawful_serials rates xs h)
 
 -- and so is each line that stands
 standing-rows : (rates : RateTable) (xs : List Entry) → AreJudged rates xs → AllByRecursion IsBankRow (lines_standing xs)
@@ -260,7 +258,7 @@ reply-in-range b t (Correct c) lawful own =
     (omega arith, omega (arith, last), few_charge (rates_of b) c.report.month c.report.lines (lawful_rates b.opening b.entries lawful).ranges few)
 reply-in-range b t (ImportBank file) lawful own =
     let rows = by-few b.entries (lines_seen b.entries) (ImportBank file) in
-    (rows, omega (arith, file-few file))
+    (omega (arith, rows), omega (arith, file-few file))
 
 -- so the row of each accepted request is in range
 entry-in-range : (rates : RateTable) (x : Entry) (xs : List Entry) → AreJudged rates (x ∷ xs) → IsRequestRow (request_row x)
@@ -322,8 +320,9 @@ module _ (b : Book) (t : Tables) (lawful : IsLawful b) (stands : Stands b t) whe
   credits-in-range : AllByRecursion IsCreditRow t.credits
   credits-in-range =
       subst (AllByRecursion IsCreditRow) (sym (credits-standing b t stands))
-      (AllByRecursion-in_key_order credit_key IsCreditRow (credits_of_lines (lines_standing b.entries))
-      (of_credits IsBankRow IsCreditRow credit_row (lines_standing b.entries) (standing-rows b.opening b.entries lawful)))
+      (AllByRecursion-in_key_order credit_key IsCreditRow (credits_made b.entries)
+      (both IsCreditRow (set_offs b.entries) (credits_of_lines (lines_standing b.entries)) (set_offs-in-range b.opening b.entries lawful)
+      (of_credits IsBankRow IsCreditRow credit_row (lines_standing b.entries) (standing-rows b.opening b.entries lawful))))
 
   -- and the accepted requests
   requests-in-range : AllByRecursion IsRequestRow t.requests
@@ -347,7 +346,7 @@ rows_in_range b t lawful stands = record {
   requests = requests-in-range b t lawful stands;
   day = subst (λ (o : Option ℕ). IfSome o IsDay) (sym stands.day) (last-day b.opening b.entries lawful);
   entries = subst (λ (n : ℕ). n ≤ 50000000) (sym stands.entries) (lawful_entries b.opening b.entries lawful);
-  serial = subst (λ (n : ℕ). n ≤ 500000000000) (sym stands.serial) (few-serials b.opening b.entries lawful);
+  serial = subst (λ (n : ℕ). n ≤ 500000000000) (sym stands.serial) (lawful_serials b.opening b.entries lawful);
   last_claim = subst (λ (n : ℕ). n ≤ 50000000) (sym stands.unfilled.last_claim) (omega arith);
   last_list = subst (λ (n : ℕ). n ≤ 50000000) (sym stands.unfilled.last_list) (omega arith);
   last_run = subst (λ (n : ℕ). n ≤ 50000000) (sym stands.unfilled.last_run) (omega arith);

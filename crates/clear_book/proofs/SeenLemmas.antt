@@ -1,42 +1,37 @@
 -- What holds of each bank line that a book has seen, and of the credits that lines are.
-use Rattle.std.proofs.Common.{◌≡◌, ℕ, ◌+◌, ◌*◌, ◌≤◌, List, [], ◌∷◌, ◌++◌, length, filter, Option, Some, None, Result, Ok, Err, is_some, Bool, true, false, cond, nat_lt, refl, sym, subst, arith, length-append}
+use Rattle.std.proofs.Common.{◌≡◌, ℕ, ◌+◌, ◌*◌, ◌≤◌, List, [], ◌∷◌, length, filter, Option, Some, None, Result, Ok, Err, is_some, Bool, true, false, cond, nat_lt, refl, sym, subst, arith}
 use Rattle.std.proofs.lemmas.Bool.Decides.{nat_tests}
 use Rattle.std.specs.List.{AllByRecursion, cons_option, enumerate_from, find}
 use Rattle.clear_bank.specs.declared.fault.BankFault.{BankFault}
-use Rattle.clear_bank.specs.declared.lines.BankLine.{BankLine}
+use Rattle.clear_values.specs.declared.lines.BankLine.{BankLine}
 use Rattle.clear_bank.specs.Files.{file_lines}
 use Rattle.clear_bank.specs.Newness.{Placed, is_new}
-use Rattle.clear_bank.specs.Ranges.{IsBankLine}
+use Rattle.clear_values.specs.Ranges.{IsBankLine}
 use Rattle.clear_bank.proofs.LengthLemmas.{few_lines}
 use Rattle.clear_bank.proofs.RangeLemmas.{HaveRanges, file-lines-in-range}
+use Rattle.clear_money.specs.Calendar.{IsDay}
 use Rattle.clear_book.specs.declared.calls.Command.{Command}
 use Rattle.clear_book.specs.declared.calls.Command.TheVariants.{Register, Report, Correct, ImportBank}
-use Rattle.clear_book.specs.declared.rows.BankRow.{BankRow}
-use Rattle.clear_book.specs.declared.rows.CreditRow.{CreditRow}
+use Rattle.clear_values.specs.declared.replies.Reply.{Reply}
+use Rattle.clear_values.specs.declared.rows.BankRow.{BankRow}
+use Rattle.clear_values.specs.declared.rows.CreditRow.{CreditRow}
 use Rattle.clear_book.specs.declared.rules.Rule.TheVariants.{DayBack}
 use Rattle.clear_book.specs.Accounts.{credit_key, credits_standing}
 use Rattle.clear_book.specs.Book.{RateTable, Book, Entry, ledger_day, member_of}
-use Rattle.clear_book.specs.Judge.{day_back, own_rule}
+use Rattle.clear_book.specs.Judge.{day_back, own_rule, reply_to}
 use Rattle.clear_book.specs.Laws.{IsBy}
-use Rattle.clear_book.specs.Lines.{lines_or_none, lines_in, new_lines, rows_from, lines_of_rows, rows_brought, rows_by, lines_seen, lines_standing, credit_of_line, credits_of_lines, suspense_count, credit_count}
-use Rattle.clear_book.specs.Machine.{AreJudged}
+use Rattle.clear_book.specs.Lines.{lines_or_none, lines_in, new_lines, rows_from, lines_of_rows, rows_brought, rows_by, lines_seen, lines_standing, lines_after, credit_of_line, credits_after, credits_made, credits_of_lines, serial_count, serials_of, set_offs, set_offs_by, suspense_count, credit_count}
+use Rattle.clear_book.specs.Machine.{AreJudged, IsLawful}
+use Rattle.clear_values.specs.RowRanges.{IsCreditRow}
 use Rattle.clear_book.specs.Own.ImportBank.{ahead_rule, is_ahead, import_rules}
 use Rattle.clear_book.proofs.ChecksLemmas.{none_applies, when-none}
 use Rattle.clear_book.proofs.JudgeLemmas.{unrefused}
-use Rattle.clear_book.proofs.KeyedChangesLemmas.{AllByRecursion-in_key_order}
-use Rattle.clear_book.proofs.LimitsLemmas.{accepted}
-use Rattle.clear_book.proofs.LinesLemmas.{length-rows_from, standing_seen}
+use Rattle.clear_values.proofs.KeyedChangesLemmas.{AllByRecursion-in_key_order}
+use Rattle.clear_book.proofs.LimitsLemmas.{accepted, lawful_entries}
+use Rattle.clear_book.proofs.LinesLemmas.{length-rows_from, own_count, serial_count-next, standing_seen}
+use Rattle.clear_values.proofs.ListLemmas.{both, each}
 
 -- ---- from a file's lines to rows and credits
-
-pub both : {A : Type 0} (P : A → Type 0) (xs ys : List A) → AllByRecursion P xs → AllByRecursion P ys → AllByRecursion P (xs ++ ys)
-both P [] ys h k = k
-both P (x ∷ xs) ys h k = (h.0, both P xs ys h.1 k)
-
--- what implies something else implies it of each
-each : {A : Type 0} (P Q : A → Type 0) → ((x : A) → P x → Q x) → (xs : List A) → AllByRecursion P xs → AllByRecursion Q xs
-each P Q f [] h = tt
-each P Q f (x ∷ xs) h = (f x h.0, each P Q f xs h.1)
 
 module _ (P : BankLine → Type 0) where
   abbrev OfLine : BankRow → Type 0
@@ -73,7 +68,7 @@ by-in-range xs seen (Register r) = tt
 by-in-range xs seen (Report r) = tt
 by-in-range xs seen (Correct c) = tt
 by-in-range xs seen (ImportBank file) =
-    of_rows IsBankLine (λ e. is_some (member_of xs e)) (length seen) (new_lines (lines_of_rows seen) (lines_in file))
+    of_rows IsBankLine (λ e. is_some (member_of xs e)) (serials_of xs seen) (new_lines (lines_of_rows seen) (lines_in file))
     (chosen IsBankLine (is_new (lines_of_rows seen) (lines_in file)) 0 (lines_in file) (lines-in-range file))
 
 -- each line that a book has seen is in range
@@ -81,7 +76,7 @@ pub seen-in-range : (xs : List Entry) → AllByRecursion HasRanges (lines_seen x
 seen-in-range [] = tt
 seen-in-range (x ∷ xs) = both HasRanges (lines_seen xs) (rows_by xs (lines_seen xs) x.command) (seen-in-range xs) (by-in-range xs (lines_seen xs) x.command)
 
--- ---- each request brings at most 10,000 lines
+-- ---- each request takes at most 10,000 serials
 
 pub file-few : (file : List ℕ) → length (lines_in file) ≤ 10000
 unfolding lines_in
@@ -103,19 +98,23 @@ placed-length : (n : ℕ) (lines : List BankLine) → length (enumerate_from n l
 placed-length n [] = refl
 placed-length n (line ∷ lines) = let rest = placed-length (n + 1) lines in omega (arith, rest)
 
-pub by-few : (xs : List Entry) (seen : List BankRow) (command : Command) → length (rows_by xs seen command) ≤ 10000
+pub by-few : (xs : List Entry) (seen : List BankRow) (command : Command) → length (rows_by xs seen command) + own_count command ≤ 10000
 by-few xs seen (Register r) = omega arith
 by-few xs seen (Report r) = omega arith
 by-few xs seen (Correct c) = omega arith
 by-few xs seen (ImportBank file) =
     let known = lines_of_rows seen in
     let new = new_lines known (lines_in file) in
-    let rows : length (rows_brought xs seen file) ≡ length new = length-rows_from (λ e. is_some (member_of xs e)) (length seen) new in
+    let rows : length (rows_brought xs seen file) ≡ length new = length-rows_from (λ e. is_some (member_of xs e)) (serials_of xs seen) new in
     omega (arith, rows, chosen-few (is_new known (lines_in file)) (enumerate_from 0 (lines_in file)), placed-length 0 (lines_in file), file-few file)
 
-pub seen-few : (xs : List Entry) → length (lines_seen xs) ≤ 10000 * length xs
-seen-few [] = omega arith
-seen-few (x ∷ xs) = omega (arith, seen-few xs, by-few xs (lines_seen xs) x.command, length-append (lines_seen xs) (rows_by xs (lines_seen xs) x.command))
+serials-few : (xs : List Entry) → serial_count xs ≤ 10000 * length xs
+serials-few [] = omega arith
+serials-few (x ∷ xs) = omega (arith, serials-few xs, by-few xs (lines_seen xs) x.command, serial_count-next xs x)
+
+-- a lawful book has given at most 500,000,000,000 serials
+pub lawful_serials : (rates : RateTable) (xs : List Entry) → AreJudged rates xs → serial_count xs ≤ 500000000000
+lawful_serials rates xs h = omega (arith, serials-few xs, lawful_entries rates xs h)
 
 -- ---- no line has a value date after the last request
 
@@ -137,8 +136,8 @@ by-come b t (Correct c) own = tt
 by-come b t (ImportBank file) own =
     let seen = lines_seen b.entries in
     let new = new_lines (lines_of_rows seen) (lines_in file) in
-    let none = none_applies (import_rules (lines_of_rows seen) (rows_brought b.entries seen file) (suspense_count (lines_standing b.entries)) (credit_count (lines_standing b.entries)) t file) own in
-    of_rows (λ line. line.value ≤ t) (λ e. is_some (member_of b.entries e)) (length seen) new (come t new none.1.1.0)
+    let none = none_applies (import_rules (lines_of_rows seen) (rows_brought b.entries seen file) (suspense_count (lines_after b.entries file)) (credit_count (credits_after b.entries file)) t file) own in
+    of_rows (λ line. line.value ≤ t) (λ e. is_some (member_of b.entries e)) (serial_count b.entries) new (come t new none.1.1.0)
 
 -- a day that had come by the ledger day has come by a later one
 still_by : (ledger : Option ℕ) (t v : ℕ) → day_back ledger t ≡ None → IsBy ledger v → v ≤ t
@@ -173,13 +172,49 @@ module _ (P : BankRow → Type 0) (Q : CreditRow → Type 0) (credited : (row : 
 pub of_standing : (P : BankRow → Type 0) (xs : List Entry) → AllByRecursion P (lines_seen xs) → AllByRecursion P (lines_standing xs)
 of_standing P xs h = subst (AllByRecursion P) (sym (standing_seen xs)) h
 
+-- ---- set-offs
+
+-- a set-off is of the day on which its command was accepted
+set_off-days : (xs : List Entry) (t : ℕ) (reply : Reply) (command : Command) → AllByRecursion (λ credit. credit.day ≡ t) (set_offs_by xs t reply command)
+set_off-days xs t reply (Register r) = tt
+set_off-days xs t reply (Report r) = tt
+set_off-days xs t reply (Correct c) = tt
+set_off-days xs t reply (ImportBank file) = tt
+
+-- and in range
+set_off-in-range : (b : Book) (t : ℕ) (reply : Reply) (command : Command) → IsLawful b → IsDay t → own_rule b t command ≡ None → reply_to b t command ≡ reply → AllByRecursion IsCreditRow (set_offs_by b.entries t reply command)
+set_off-in-range b t reply (Register r) lawful day own replied = tt
+set_off-in-range b t reply (Report r) lawful day own replied = tt
+set_off-in-range b t reply (Correct c) lawful day own replied = tt
+set_off-in-range b t reply (ImportBank file) lawful day own replied = tt
+
+pub set_offs-in-range : (rates : RateTable) (xs : List Entry) → AreJudged rates xs → AllByRecursion IsCreditRow (set_offs xs)
+set_offs-in-range rates [] h = tt
+set_offs-in-range rates (x ∷ xs) h =
+    let b : Book = record { opening = rates; entries = xs } in
+    let said = unrefused b x.caller x.number x.day x.command x.reply h.2 in
+    both IsCreditRow (set_offs xs) (set_offs_by xs x.day x.reply x.command) (set_offs-in-range rates xs h.0)
+    (set_off-in-range b x.day x.reply x.command h.0 h.1.2 said.unruled said.replied)
+
+set_offs-come : (rates : RateTable) (xs : List Entry) → AreJudged rates xs → AllByRecursion (λ credit. IsBy (ledger_day xs) credit.day) (set_offs xs)
+set_offs-come rates [] h = tt
+set_offs-come rates (x ∷ xs) h =
+    let b : Book = record { opening = rates; entries = xs } in
+    let order = (unrefused b x.caller x.number x.day x.command x.reply h.2).in_order in
+    both (λ credit. credit.day ≤ x.day) (set_offs xs) (set_offs_by xs x.day x.reply x.command)
+    (each (λ (credit : CreditRow). IsBy (ledger_day xs) credit.day) (λ credit. credit.day ≤ x.day) (λ credit by. still_by (ledger_day xs) x.day credit.day order by) (set_offs xs) (set_offs-come rates xs h.0))
+    (each (λ (credit : CreditRow). credit.day ≡ x.day) (λ credit. credit.day ≤ x.day) (λ credit is. omega (arith, is)) (set_offs_by xs x.day x.reply x.command) (set_off-days xs x.day x.reply x.command))
+
+-- ---- all credits
+
 -- each credit's day has come
 pub credits-come : (rates : RateTable) (xs : List Entry) → AreJudged rates xs → AllByRecursion (λ row. IsBy (ledger_day xs) row.day) (credits_standing xs)
 credits-come rates xs h =
-    AllByRecursion-in_key_order credit_key (λ row. IsBy (ledger_day xs) row.day) (credits_of_lines (lines_standing xs))
+    AllByRecursion-in_key_order credit_key (λ row. IsBy (ledger_day xs) row.day) (credits_made xs)
+    (both (λ row. IsBy (ledger_day xs) row.day) (set_offs xs) (credits_of_lines (lines_standing xs)) (set_offs-come rates xs h)
     (of_credits (λ row. IsBy (ledger_day xs) row.line.value) (λ row. IsBy (ledger_day xs) row.day)
     (λ row e is by credit made. subst (λ (o : Option CreditRow). DayBy o) made by) (lines_standing xs)
-    (of_standing (λ row. IsBy (ledger_day xs) row.line.value) xs (seen-come rates xs h)))
+    (of_standing (λ row. IsBy (ledger_day xs) row.line.value) xs (seen-come rates xs h))))
   where
     DayBy : Option CreditRow → Type 0
     DayBy None = ⊥

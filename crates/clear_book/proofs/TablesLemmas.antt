@@ -3,25 +3,26 @@ use Rattle.std.proofs.Common.{◌≡◌, ℕ, List, ◌∷◌, [], Option, Some,
 use Rattle.std.proofs.lemmas.List.{append-nil}
 use Rattle.std.proofs.lemmas.List.Sums.{sum_by-cons}
 use Rattle.std.specs.Option.{option_map}
-use Rattle.clear_book.specs.declared.calls.Caller.{Caller}
+use Rattle.clear_values.specs.declared.callers.Caller.{Caller}
 use Rattle.clear_book.specs.declared.calls.Command.TheVariants.{Register}
 use Rattle.clear_book.specs.declared.calls.Call.TheVariants.{Do}
 use Rattle.clear_book.specs.declared.calls.Registration.{Registration}
-use Rattle.clear_book.specs.declared.outcomes.Reply.{Reply}
-use Rattle.clear_book.specs.declared.rows.BankRow.{BankRow}
-use Rattle.clear_book.specs.declared.rows.EmployerRow.{EmployerRow}
-use Rattle.clear_book.specs.declared.rows.Change.TheVariants.{AddEmployer}
-use Rattle.clear_book.specs.Book.{Book, Entry, entry, entry_under, newer, registered_by, member_of, is_registration, latest_lines, Member, rates_of}
+use Rattle.clear_values.specs.declared.replies.Reply.{Reply}
+use Rattle.clear_values.specs.declared.rows.BankRow.{BankRow}
+use Rattle.clear_values.specs.declared.rows.CreditRow.{CreditRow}
+use Rattle.clear_values.specs.declared.rows.EmployerRow.{EmployerRow}
+use Rattle.clear_values.specs.declared.rows.Change.TheVariants.{AddEmployer}
+use Rattle.clear_book.specs.Book.{Book, Entry, entry, entry_under, newer, registered_by, member_of, is_registration, latest_lines, rates_of}
 use Rattle.clear_book.specs.Accounts.{credit_key}
-use Rattle.clear_book.specs.Lines.{credits_of_lines}
 use Rattle.clear_book.specs.Judge.{Verdict, new_reply, judge}
 use Rattle.clear_book.specs.Own.Register.{own_register}
-use Rattle.clear_book.specs.Keyed.{find_row}
+use Rattle.clear_values.specs.Keyed.{find_row}
 use Rattle.clear_book.specs.Machine.{step, after, appended}
 use Rattle.clear_book.specs.Tables.{Tables, Stands, employer_key, bank_key, changed, noted, member_in}
 use Rattle.clear_book.proofs.JudgeLemmas.{unrefused}
-use Rattle.clear_book.proofs.KeyedLemmas.{find_row-with_row, length-with_row, AreInOrder-with_row}
-use Rattle.clear_book.proofs.LinesLemmas.{none_brought, none_moved}
+use Rattle.clear_values.proofs.KeyedLemmas.{find_row-with_row, length-with_row, AreInOrder-with_row}
+use Rattle.clear_book.proofs.LinesLemmas.{none_moved, none_taken}
+use Rattle.clear_book.proofs.CreditsMadeLemmas.{none_made}
 use Rattle.clear_book.proofs.RequestLemmas.{requests_found, requests_still_in_order}
 use Rattle.clear_book.proofs.VersionLemmas.{no_some, version_of-other}
 
@@ -73,11 +74,11 @@ module _ (b : Book) (t : Tables) (stands : Stands b t) (caller : Caller) (number
       wages_in_order = stands.wages_in_order;
       bank = λ reference. stands.bank reference ∙ ap (λ (rows : List BankRow). find_row bank_key rows reference) (sym (none_moved b.entries registration refl));
       bank_in_order = stands.bank_in_order;
-      credits = λ k. stands.credits k ∙ ap (λ (rows : List BankRow). find_row credit_key (credits_of_lines rows) k) (sym (none_moved b.entries registration refl));
+      credits = λ k. stands.credits k ∙ ap (λ (rows : List CreditRow). find_row credit_key rows k) (sym (none_made b.entries registration refl refl));
       credits_in_order = stands.credits_in_order;
       requests = requests_found b t stands registration no_number;
       requests_in_order = requests_still_in_order b t stands registration no_number;
-      serial = stands.serial ∙ sym (none_brought b.entries registration refl);
+      serial = stands.serial ∙ sym (none_taken b.entries registration refl refl);
       unfilled = let unfilled = stands.unfilled in record { claims = unfilled.claims; lists = unfilled.lists; runs = unfilled.runs; reminders = unfilled.reminders; last_claim = unfilled.last_claim; last_list = unfilled.last_list; last_run = unfilled.last_run };
     }
 

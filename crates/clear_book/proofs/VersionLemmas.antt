@@ -8,7 +8,7 @@ use Rattle.clear_book.specs.declared.calls.Command.TheVariants.{Register, Report
 use Rattle.clear_book.specs.declared.calls.Correction.{Correction}
 use Rattle.clear_book.specs.declared.rules.Limit.TheVariants.{Versions}
 use Rattle.clear_book.specs.declared.rules.Rule.TheVariants.{OverLimit, StaleVersion}
-use Rattle.clear_book.specs.declared.texts.WageLine.{WageLine}
+use Rattle.clear_values.specs.declared.texts.WageLine.{WageLine}
 use Rattle.clear_book.specs.Book.{Book, Entry, Member, newer, reported_by, latest_lines, is_report_of, version_of, reported_version, member_of, RateTable, is_for}
 use Rattle.clear_book.specs.Judge.{own_rule}
 use Rattle.clear_book.specs.Own.Correct.{own_correct, correct_rules, is_last_version}

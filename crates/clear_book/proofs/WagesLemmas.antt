@@ -4,15 +4,15 @@ use Rattle.std.proofs.lemmas.Bool.Decides.{nat_tests}
 use Rattle.std.proofs.lemmas.List.Sums.{sum_by-cons}
 use Rattle.std.specs.List.{AllByRecursion}
 use Rattle.std.specs.Option.{option_map}
-use Rattle.clear_book.specs.declared.rows.WageRow.{WageRow}
-use Rattle.clear_book.specs.declared.texts.WageLine.{WageLine}
+use Rattle.clear_values.specs.declared.rows.WageRow.{WageRow}
+use Rattle.clear_values.specs.declared.texts.WageLine.{WageLine}
 use Rattle.clear_book.specs.Accounts.{base_of}
 use Rattle.clear_book.specs.Book.{newer}
-use Rattle.clear_book.specs.Keyed.{is_key, find_row, AreInOrder, with_rows, without_rows, AreOnce}
+use Rattle.clear_values.specs.Keyed.{is_key, find_row, AreInOrder, with_rows, without_rows, AreOnce}
 use Rattle.clear_book.specs.Tables.{wage_key, gross_at, gross_of, table_base, wage_row, wage_rows, is_wage_key_of, with_wages}
 use Rattle.clear_book.proofs.DistinctLemmas.{AreDistinct}
-use Rattle.clear_book.proofs.KeyedChangesLemmas.{find_row-without_rows, AreInOrder-without_rows, without_rows-none, sum_by-without_rows}
-use Rattle.clear_book.proofs.KeyedRowsLemmas.{AreNew, find_row-with_rows, AreInOrder-with_rows, sum_by-with_rows}
+use Rattle.clear_values.proofs.KeyedChangesLemmas.{find_row-without_rows, AreInOrder-without_rows, without_rows-none, sum_by-without_rows}
+use Rattle.clear_values.proofs.KeyedRowsLemmas.{AreNew, find_row-with_rows, AreInOrder-with_rows, sum_by-with_rows}
 
 -- the amount of a row
 abbrev gross_in : WageRow → ℕ

@@ -1,5 +1,5 @@
 -- The employers of a lawful book, and the numbers of claims.
-use Rattle.std.proofs.Common.{◌≡◌, ℕ, zero, suc, ◌+◌, ◌<◌, List, [], ◌∷◌, ◌++◌, length, map, Option, Some, None, is_some, Bool, true, false, cond, ◌&&◌, ◌==◌, refl, sym, ap, ◌∙◌, subst, arith, length-append}
+use Rattle.std.proofs.Common.{◌≡◌, ℕ, ◌+◌, List, [], ◌∷◌, ◌++◌, length, map, Option, Some, None, is_some, Bool, true, false, cond, ◌&&◌, ◌==◌, refl, sym, ap, ◌∙◌, subst, arith, length-append}
 use Rattle.std.proofs.lemmas.List.{length-map, map-append}
 use Rattle.std.proofs.lemmas.List.Sums.{sum_by-cons}
 use Rattle.std.specs.List.{cons_option, range_with_len}
@@ -9,19 +9,19 @@ use Rattle.clear_money.specs.Rates.{rate_in_force}
 use Rattle.clear_book.specs.declared.calls.Command.{Command}
 use Rattle.clear_book.specs.declared.calls.Command.TheVariants.{Register, Report, Correct, ImportBank}
 use Rattle.clear_book.specs.declared.calls.Registration.{Registration}
-use Rattle.clear_book.specs.declared.outcomes.Reply.{Reply}
-use Rattle.clear_book.specs.declared.rows.ClaimRow.{ClaimRow}
+use Rattle.clear_values.specs.declared.replies.Reply.{Reply}
+use Rattle.clear_values.specs.declared.rows.ClaimRow.{ClaimRow}
 use Rattle.clear_book.specs.Book.{RateTable, Book, Entry, Member, rates_of, newer, registration_in, member_by, member_of, employer_count}
 use Rattle.clear_book.specs.Judge.{own_rule}
-use Rattle.clear_book.specs.Keyed.{find_row, with_row, with_rows, in_key_order, AllBehind, AreInOrder, AreOnce}
+use Rattle.clear_values.specs.Keyed.{find_row, with_row, with_rows, AreOnce}
 use Rattle.clear_book.specs.Laws.{AreEmployers, AreNumbered}
 use Rattle.clear_book.specs.Machine.{AreJudged, IsLawful}
-use Rattle.clear_book.specs.Tables.{claim_key}
-use Rattle.clear_book.specs.Workers.{registered_in, number_key, employers_of, claims_by, claim_after, claims_of}
-use Rattle.clear_book.proofs.KeyedLemmas.{first_less, length-with_row}
-use Rattle.clear_book.proofs.KeyedRowsLemmas.{AreInOrder-in_key_order, find_row-in_key_order}
+use Rattle.clear_book.specs.Workers.{registered_in, number_key, claims_by, claim_after, claims_of}
+use Rattle.clear_values.proofs.KeyedLemmas.{length-with_row}
+use Rattle.clear_values.proofs.KeyedRowsLemmas.{AreInOrder-in_key_order, find_row-in_key_order}
 use Rattle.clear_book.proofs.LimitsLemmas.{accepted}
-use Rattle.clear_book.proofs.LinesLemmas.{range_with_len-append, same_parts}
+use Rattle.clear_book.proofs.LinesLemmas.{range_with_len-append}
+use Rattle.clear_book.proofs.SerialLemmas.{follow-in_order}
 use Rattle.clear_book.proofs.RatesLemmas.{new_and_rated}
 use Rattle.clear_book.proofs.VersionLemmas.{no_some}
 
@@ -126,20 +126,5 @@ numbers_are (x ∷ xs) =
         ∙ (let start : n + 1 ≡ 1 + n = omega arith in ap (λ a. range_with_len 1 n ++ range_with_len a (length new)) start)
         ∙ sym (range_with_len-append 1 n (length new) (length (old ++ new)) (length-append old new ∙ ap (λ m. m + length new) count))
 
--- numbers that follow on each other rise
-all_behind : (s a n : ℕ) (claims : List ClaimRow) → s < a → map claim_no claims ≡ range_with_len a n → AllBehind claim_key (s ∷ []) claims
-all_behind s a n [] h e = tt
-all_behind s a zero (claim ∷ claims) h e = absurd (cc e)
-all_behind s a (suc n) (claim ∷ claims) h e =
-    let parts = same_parts claim.claim a (map claim_no claims) (range_with_len (a + 1) n) e in
-    (first_less s claim.claim [] [] (omega (arith, parts.0)), all_behind s (a + 1) n claims (omega arith) parts.1)
-
-in_order : (a n : ℕ) (claims : List ClaimRow) → map claim_no claims ≡ range_with_len a n → AreInOrder claim_key claims
-in_order a n [] e = tt
-in_order a zero (claim ∷ claims) e = absurd (cc e)
-in_order a (suc n) (claim ∷ claims) e =
-    let parts = same_parts claim.claim a (map claim_no claims) (range_with_len (a + 1) n) e in
-    (all_behind claim.claim (a + 1) n claims (omega (arith, parts.0)) parts.1, in_order (a + 1) n claims parts.1)
-
 pub claims_numbered : (xs : List Entry) → AreNumbered (claims_of xs)
-claims_numbered xs = record { numbers = numbers_are xs; order = in_order 1 (length (claims_of xs)) (claims_of xs) (numbers_are xs) }
+claims_numbered xs = record { numbers = numbers_are xs; order = follow-in_order claim_no 1 (length (claims_of xs)) (claims_of xs) (numbers_are xs) }

@@ -11,14 +11,15 @@ use Rattle.clear_account.specs.Arrears.{arrears_on}
 use Rattle.clear_account.specs.Interest.{all_interest_on}
 use Rattle.clear_account.specs.declared.entries.Charge.{Charge}
 use Rattle.clear_account.specs.declared.entries.Credit.{Credit}
-use Rattle.clear_bank.specs.declared.lines.Purpose.{Purpose}
-use Rattle.clear_bank.specs.declared.lines.Purpose.TheVariants.{Contribution, Interest}
-use Rattle.clear_book.specs.declared.rows.CreditRow.{CreditRow}
-use Rattle.clear_book.specs.declared.texts.WageLine.{WageLine}
+use Rattle.clear_values.specs.declared.lines.Purpose.{Purpose}
+use Rattle.clear_values.specs.declared.lines.Purpose.TheVariants.{Contribution, Interest}
+use Rattle.clear_values.specs.declared.rows.CreditRow.{CreditRow}
+use Rattle.clear_values.specs.declared.texts.WageLine.{WageLine}
 use Rattle.clear_book.specs.Book.{Book, Entry, rates_of, member_of, is_member_month, latest_lines}
 use Rattle.clear_book.specs.Book.{reported_version}
-use Rattle.clear_book.specs.Keyed.{in_key_order}
-use Rattle.clear_book.specs.Lines.{lines_standing, credits_of_lines, is_credit_of}
+use Rattle.clear_values.specs.Keyed.{in_key_order}
+pub use Rattle.clear_values.specs.Credits.{rank_of, credit_key}
+use Rattle.clear_book.specs.Lines.{credits_made, is_credit_of}
 
 -- the base of a report: the sum of its gross amounts
 abbrev pub base_of : List WageLine → ℕ
@@ -58,22 +59,13 @@ book_charge b e m = reported_charge b m (latest_lines b.entries e m)
 abbrev pub charges_of : Book → ℕ → List Charge
 charges_of b e = filter_map (book_charge b e) months
 
--- the rank of a purpose in the order of credits
-abbrev pub rank_of : Purpose → ℕ
-rank_of Contribution = 0
-rank_of Interest = 1
-
--- credits come in the order of firm, purpose, day and serial
-abbrev pub credit_key : CreditRow → List ℕ
-credit_key row = row.employer ∷ rank_of row.purpose ∷ row.day ∷ row.serial ∷ []
-
 -- the credit that a row holds
 abbrev pub row_credit : CreditRow → Credit
 row_credit row = record { day = row.day; serial = row.serial; cents = row.cents }
 
--- the credits of all firms: the standing lines that are not in suspense
+-- the credits of all firms, each at its place
 abbrev pub credits_standing : List Entry → List CreditRow
-credits_standing xs = in_key_order credit_key (credits_of_lines (lines_standing xs))
+credits_standing xs = in_key_order credit_key (credits_made xs)
 
 -- the credits of an employer among rows, for a purpose
 abbrev pub credits_under : List CreditRow → ℕ → Purpose → List Credit

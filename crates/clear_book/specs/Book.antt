@@ -4,18 +4,21 @@ use Rattle.std.specs.Prelude.{◌&&◌, ◌==◌, if◌then◌else◌, count_by,
 use Rattle.std.specs.Prelude.{option_and_then}
 use Rattle.std.specs.Option.{option_map, option_map_or}
 use Rattle.clear_money.specs.Rates.{Rate}
-use Rattle.clear_book.specs.declared.texts.WageLine.{WageLine}
+use Rattle.clear_values.specs.declared.texts.WageLine.{WageLine}
 use Rattle.clear_book.specs.declared.calls.Call.{Call}
 use Rattle.clear_book.specs.declared.calls.Call.TheVariants.{Do}
-use Rattle.clear_book.specs.declared.calls.Caller.{Caller}
-use Rattle.clear_book.specs.declared.calls.Caller.TheVariants.{Firm, Clerk}
+use Rattle.clear_values.specs.declared.callers.Caller.{Caller}
+use Rattle.clear_values.specs.declared.callers.Caller.TheVariants.{Firm, Clerk}
 use Rattle.clear_book.specs.declared.calls.Command.{Command}
 use Rattle.clear_book.specs.declared.calls.Command.TheVariants.{Register, Report, Correct}
 use Rattle.clear_book.specs.declared.calls.Command.TheVariants.{ImportBank}
 use Rattle.clear_book.specs.declared.calls.Registration.{Registration}
 use Rattle.clear_book.specs.declared.calls.WageReport.{WageReport}
-use Rattle.clear_book.specs.declared.outcomes.Reply.{Reply}
-use Rattle.clear_book.specs.Keyed.{find_row}
+use Rattle.clear_values.specs.declared.replies.Reply.{Reply}
+use Rattle.clear_values.specs.Keyed.{find_row}
+pub use Rattle.clear_values.specs.Keyed.{newer}
+pub use Rattle.clear_values.specs.Members.{Member, is_member_in, is_member_month}
+pub use Rattle.clear_values.specs.Tables.{caller_number, request_number}
 
 -- an accepted request with its reply
 pub record Entry : Type 0 where
@@ -52,15 +55,6 @@ abbrev pub ledger_day : List Entry → Option ℕ
 ledger_day [] = None
 ledger_day (x ∷ xs) = Some x.day
 
--- the number that a caller is known by: a firm's own, and 0 for all clerks
-abbrev pub caller_number : Caller → ℕ
-caller_number Clerk = 0
-caller_number (Firm e) = e
-
--- what a request is known by: its caller, and the number that this gave it
-abbrev pub request_number : Caller → ℕ → List ℕ
-request_number caller number = caller_number caller ∷ number ∷ []
-
 -- the accepted request that stands under a caller's number, if there is one
 abbrev pub entry_under : List Entry → Caller → ℕ → Option Entry
 entry_under xs caller number =
@@ -81,27 +75,6 @@ rates_behind table (x ∷ xs) = rates_behind table xs ++ rates_added x.command
 -- the rate rows of a book: the opening ones, and those of its entries
 abbrev pub rates_of : Book → List Rate
 rates_of b = rates_behind b.opening b.entries
-
--- the newer of two, if it is there
-abbrev pub newer : {A : Type 0} → Option A → Option A → Option A
-newer (Some x) old = Some x
-newer None old = old
-
--- a registered employer: its name, its first member month, and its last one once an end is set
-pub record Member : Type 0 where
-  pub name : List ℕ
-  pub start : ℕ
-  pub last : Option ℕ
-
--- the member is one in the month: it lies from the first member month on, up to the last
-abbrev pub is_member_in : Member → ℕ → Bool
-is_member_in member m =
-    nat_le member.start m && option_map_or (λ last. nat_le m last) member.last true
-
--- an employer is a member in the month, if it is registered
-abbrev pub is_member_month : Option Member → ℕ → Bool
-is_member_month None m = false
-is_member_month (Some member) m = is_member_in member m
 
 -- the registration that a command is
 abbrev pub registration_in : Command → Option Registration

@@ -15,20 +15,20 @@ use Rattle.clear_book.specs.declared.outcomes.Answer.{Answer}
 use Rattle.clear_book.specs.declared.outcomes.Answer.TheVariants.{Text}
 use Rattle.clear_book.specs.declared.outcomes.Outcome.{Outcome}
 use Rattle.clear_book.specs.declared.outcomes.Outcome.TheVariants.{Replied, Answered, Refused}
-use Rattle.clear_book.specs.declared.outcomes.Reply.{Reply}
+use Rattle.clear_values.specs.declared.replies.Reply.{Reply}
 use Rattle.clear_book.specs.declared.rules.Limit.TheVariants.{Book as BookLimit}
 use Rattle.clear_book.specs.declared.rules.Rule.{Rule}
 use Rattle.clear_book.specs.declared.rules.Rule.TheVariants.{NotYours, NumberReused, DayBack}
 use Rattle.clear_book.specs.declared.rules.Rule.TheVariants.{OverLimit}
-use Rattle.clear_book.specs.Access.{may_do, may_query}
+use Rattle.clear_book.specs.Calls.{may_do, may_query}
 use Rattle.clear_book.specs.Book.{Book, Entry, entry_under, rates_of, ledger_day, member_of}
 use Rattle.clear_book.specs.Book.{employer_count, reported_version}
 use Rattle.clear_book.specs.Checks.{when, first_of}
 use Rattle.clear_book.specs.Documents.Statement.{statement_text}
-use Rattle.clear_book.specs.Kept.{same_command}
-use Rattle.clear_book.specs.Limits.{most_entries}
-use Rattle.clear_book.specs.Lines.{lines_of_rows, lines_seen, lines_standing, rows_brought}
-use Rattle.clear_book.specs.Lines.{credit_count, suspense_count}
+use Rattle.clear_book.specs.Calls.{same_command}
+use Rattle.clear_values.specs.Limits.{most_entries}
+use Rattle.clear_book.specs.Lines.{credit_count, credits_after, lines_after, lines_of_rows}
+use Rattle.clear_book.specs.Lines.{lines_seen, rows_brought, suspense_count}
 use Rattle.clear_book.specs.Own.Correct.{own_correct, correct_reply}
 use Rattle.clear_book.specs.Own.ImportBank.{own_import, import_reply}
 use Rattle.clear_book.specs.Own.Owed.{own_owed, owed_by}
@@ -73,7 +73,8 @@ own_rule b t (Correct c) =
 own_rule b t (ImportBank file) =
     own_import (lines_of_rows (lines_seen b.entries))
     (rows_brought b.entries (lines_seen b.entries) file)
-    (suspense_count (lines_standing b.entries)) (credit_count (lines_standing b.entries)) t file
+    (suspense_count (lines_after b.entries file)) (credit_count (credits_after b.entries file))
+    t file
 
 -- the reply, on a day, to a command that no rule refuses
 abbrev pub reply_to : Book → ℕ → Command → Reply

@@ -3,18 +3,18 @@ use Rattle.std.specs.Prelude.{◌≡◌, ℕ, ◌≤◌, List, Option, Some, Non
 use Rattle.std.specs.List.{AllByRecursion, range_with_len}
 use Rattle.clear_money.specs.Rates.{rate_in_force}
 use Rattle.clear_account.specs.Account.{charged, credited}
-use Rattle.clear_book.specs.declared.rows.BankRow.{BankRow}
-use Rattle.clear_book.specs.declared.rows.ClaimRow.{ClaimRow}
-use Rattle.clear_book.specs.declared.texts.WageLine.{WageLine}
-use Rattle.clear_book.specs.Book.{Book, rates_of, ledger_day, latest_lines, version_of}
+use Rattle.clear_values.specs.declared.rows.ClaimRow.{ClaimRow}
+use Rattle.clear_values.specs.declared.texts.WageLine.{WageLine}
+use Rattle.clear_book.specs.Book.{Book, Entry, rates_of, ledger_day, latest_lines, version_of}
 use Rattle.clear_book.specs.Book.{employer_count, member_of}
 use Rattle.clear_book.specs.Accounts.{base_of, contribution_of_lines, charges_of, credits_of}
 use Rattle.clear_book.specs.Accounts.{interest_credits_of, credits_standing}
-use Rattle.clear_book.specs.Keyed.{find_row, AreInOrder, AreOnce}
-use Rattle.clear_book.specs.Limits.{most_entries, most_lines, most_gross, most_base, most_charged}
-use Rattle.clear_book.specs.Limits.{most_credits, most_credited, most_suspense, most_serials}
-use Rattle.clear_book.specs.Limits.{most_versions}
+use Rattle.clear_values.specs.Keyed.{find_row, AreInOrder, AreOnce}
+use Rattle.clear_values.specs.Limits.{most_entries, most_lines, most_gross, most_base, most_charged}
+use Rattle.clear_values.specs.Limits.{most_credits, most_credited, most_suspense, most_serials}
+use Rattle.clear_values.specs.Limits.{most_versions}
 use Rattle.clear_book.specs.Lines.{lines_seen, lines_standing, suspense_count, serial_count}
+use Rattle.clear_book.specs.Lines.{serial_key, serials_given}
 use Rattle.clear_book.specs.Tables.{bank_key, claim_key}
 use Rattle.clear_book.specs.Workers.{employers_of, number_key}
 
@@ -49,11 +49,12 @@ pub record IsSmall (b : Book) : Type 0 where
   pub days : AllByRecursion (λ row. IsBy (ledger_day b.entries) row.day)
       (credits_standing b.entries)
 
--- the bank lines of a book: the first takes serial 1 and each further one the next, and no
--- reference stands twice
-pub record AreCounted (rows : List BankRow) : Type 0 where
-  pub serials : map (λ row. row.serial) rows ≡ range_with_len 1 (length rows)
-  pub references : AreOnce bank_key rows
+-- of the bank lines and the releases of a book, in the order of its entries, the first takes serial
+-- 1 and each further one the next; so those of the lines rise; and no reference stands twice
+pub record AreCounted (xs : List Entry) : Type 0 where
+  pub serials : serials_given xs ≡ range_with_len 1 (serial_count xs)
+  pub rising : AreInOrder serial_key (lines_seen xs)
+  pub references : AreOnce bank_key (lines_seen xs)
 
 -- the employers rise, each is one that the book has registered, and there are as many
 pub record AreEmployers (b : Book) : Type 0 where

@@ -1,21 +1,25 @@
--- Bank lines: those that a book has seen, and those that a file brings to it.
+-- Bank lines: those that a book has seen, and those that a file brings to it; the serials of lines
+-- and releases; the credits that lines and set-offs are.
 use Rattle.std.specs.Prelude.{ℕ, ◌+◌, List, [], ◌∷◌, ◌++◌, length, map, filter, count_by, Option}
-use Rattle.std.specs.Prelude.{Some, None, Bool, ◌&&◌, ◌==◌, if◌then◌else◌, is_none, is_some, Result}
-use Rattle.std.specs.Prelude.{Ok, Err, option_and_then}
+use Rattle.std.specs.Prelude.{Some, None, Bool, false, ◌&&◌, ◌==◌, if◌then◌else◌, is_none, is_some}
+use Rattle.std.specs.Prelude.{Result, Ok, Err, option_and_then}
 use Rattle.std.specs.List.{enumerate_from, filter_map}
 use Rattle.clear_bank.specs.declared.fault.BankFault.{BankFault}
-use Rattle.clear_bank.specs.declared.lines.BankLine.{BankLine}
-use Rattle.clear_bank.specs.declared.lines.Purpose.{Purpose}
+use Rattle.clear_values.specs.declared.lines.BankLine.{BankLine}
+use Rattle.clear_values.specs.declared.lines.Purpose.{Purpose}
 use Rattle.clear_bank.specs.Files.{file_lines}
-use Rattle.clear_bank.specs.Lines.{same_purpose}
+use Rattle.clear_values.specs.Lines.{same_purpose}
 use Rattle.clear_bank.specs.Newness.{Placed, is_new}
 use Rattle.clear_book.specs.declared.calls.Command.{Command}
 use Rattle.clear_book.specs.declared.calls.Command.TheVariants.{Register, Report, Correct}
 use Rattle.clear_book.specs.declared.calls.Command.TheVariants.{ImportBank}
-use Rattle.clear_book.specs.declared.rows.BankRow.{BankRow}
-use Rattle.clear_book.specs.declared.rows.CreditRow.{CreditRow}
+use Rattle.clear_values.specs.declared.replies.Reply.{Reply}
+use Rattle.clear_values.specs.declared.rows.BankRow.{BankRow}
+use Rattle.clear_values.specs.declared.rows.CreditRow.{CreditRow}
 use Rattle.clear_book.specs.Book.{Entry, member_of}
-use Rattle.clear_book.specs.Limits.{most_records}
+use Rattle.clear_values.specs.Limits.{most_records}
+pub use Rattle.clear_values.specs.Credits.{is_in_suspense, line_credit, credit_of_line}
+pub use Rattle.clear_values.specs.Credits.{credits_of_lines, is_credit_of}
 
 -- the lines, and none where there is a fault
 abbrev pub lines_or_none : Result (List BankLine) BankFault → List BankLine
@@ -51,11 +55,27 @@ rows_from is_registered last new =
 abbrev pub lines_of_rows : List BankRow → List BankLine
 lines_of_rows rows = map (λ row. row.line) rows
 
+-- the serial of a row
+abbrev pub serial_key : BankRow → List ℕ
+serial_key row = row.serial ∷ []
+
 -- ---- the bank lines of a book
 
--- how many serials a book has given, where these lines were seen: one for each
+-- a command that releases a claim
+abbrev pub is_release : Command → Bool
+is_release (Register r) = false
+is_release (Report r) = false
+is_release (Correct c) = false
+is_release (ImportBank file) = false
+
+-- how many releases there were
+abbrev pub release_count : List Entry → ℕ
+release_count xs = count_by (λ x. is_release x.command) xs
+
+-- how many serials a book has given, where these lines were seen: one for each, and one for each
+-- release
 abbrev pub serials_of : List Entry → List BankRow → ℕ
-serials_of xs seen = length seen
+serials_of xs seen = length seen + release_count xs
 
 -- the rows that a file brings to a book, where these were seen before it
 abbrev pub rows_brought : List Entry → List BankRow → List ℕ → List BankRow
@@ -80,6 +100,20 @@ lines_seen (x ∷ xs) = lines_seen xs ++ rows_by xs (lines_seen xs) x.command
 abbrev pub serial_count : List Entry → ℕ
 serial_count xs = serials_of xs (lines_seen xs)
 
+-- the serial that a release takes behind the last one given; another command takes none itself
+abbrev pub own_serials : ℕ → Command → List ℕ
+own_serials last command = if is_release command then (last + 1) ∷ [] else []
+
+-- the serials that a command takes: those of the lines that it brings, and its own
+abbrev pub serials_by : List Entry → List BankRow → Command → List ℕ
+serials_by xs seen command =
+    map (λ row. row.serial) (rows_by xs seen command) ++ own_serials (serials_of xs seen) command
+
+-- the serials that a book has given, in the order of its entries
+abbrev pub serials_given : List Entry → List ℕ
+serials_given [] = []
+serials_given (x ∷ xs) = serials_given xs ++ serials_by xs (lines_seen xs) x.command
+
 -- the firm of a line that was seen: the one that was found for it when it came in
 abbrev pub firm_of_line : List Entry → BankRow → Option ℕ
 firm_of_line xs row = row.employer
@@ -94,39 +128,34 @@ lines_standing xs = map (standing xs) (lines_seen xs)
 
 -- ---- suspense and credits
 
--- a line that has no firm
-abbrev pub is_in_suspense : BankRow → Bool
-is_in_suspense row = is_none row.employer
-
 -- how many lines are in suspense
 abbrev pub suspense_count : List BankRow → ℕ
 suspense_count rows = count_by is_in_suspense rows
 
--- the credit that a line is for its firm
-abbrev pub line_credit : BankRow → ℕ → CreditRow
-line_credit row e =
-    record {
-      employer = e;
-      purpose = row.line.purpose;
-      day = row.line.value;
-      serial = row.serial;
-      cents = row.line.cents;
-      reference = row.line.reference;
-    }
+-- the set-offs above 0 of a command that was accepted on a day with a reply, as credits: those of a
+-- release to contributions and to interest, both with its day and its serial
+abbrev pub set_offs_by : List Entry → ℕ → Reply → Command → List CreditRow
+set_offs_by xs t reply (Register r) = []
+set_offs_by xs t reply (Report r) = []
+set_offs_by xs t reply (Correct c) = []
+set_offs_by xs t reply (ImportBank file) = []
 
--- the credit that a line is, where it has a firm
-abbrev pub credit_of_line : BankRow → Option ℕ → Option CreditRow
-credit_of_line row None = None
-credit_of_line row (Some e) = Some (line_credit row e)
+-- the set-offs of all releases
+abbrev pub set_offs : List Entry → List CreditRow
+set_offs [] = []
+set_offs (x ∷ xs) = set_offs xs ++ set_offs_by xs x.day x.reply x.command
 
--- the credits that lines are: none of a line in suspense
-abbrev pub credits_of_lines : List BankRow → List CreditRow
-credits_of_lines rows = filter_map (λ row. credit_of_line row row.employer) rows
+-- the credits of all firms: the set-offs, and the standing lines that are not in suspense
+abbrev pub credits_made : List Entry → List CreditRow
+credits_made xs = set_offs xs ++ credits_of_lines (lines_standing xs)
 
--- a credit of this employer for this purpose
-abbrev pub is_credit_of : ℕ → Purpose → CreditRow → Bool
-is_credit_of e purpose row = (row.employer == e) && same_purpose row.purpose purpose
+-- the lines that stand once a file has come in, and the credits that there are then
+abbrev pub lines_after : List Entry → List ℕ → List BankRow
+lines_after xs file = lines_standing xs ++ rows_brought xs (lines_seen xs) file
 
--- how many credits of an employer for a purpose there are
-abbrev pub credit_count : List BankRow → ℕ → Purpose → ℕ
-credit_count rows e purpose = count_by (is_credit_of e purpose) (credits_of_lines rows)
+abbrev pub credits_after : List Entry → List ℕ → List CreditRow
+credits_after xs file = set_offs xs ++ credits_of_lines (lines_after xs file)
+
+-- how many of these credits are an employer's for a purpose
+abbrev pub credit_count : List CreditRow → ℕ → Purpose → ℕ
+credit_count credits e purpose = count_by (is_credit_of e purpose) credits

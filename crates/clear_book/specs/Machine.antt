@@ -1,18 +1,17 @@
 -- The clearing machine: how the book goes on from call to call.
-use Rattle.std.specs.Prelude.{◌≡◌, ◌<◌, List, [], ◌∷◌, length, Bool, true, false, ◌⊎◌}
-use Rattle.std.specs.List.{AllByRecursion}
-use Rattle.clear_money.specs.Rates.{Rate, IsRate, IsRising}
+use Rattle.std.specs.Prelude.{◌≡◌, List, [], ◌∷◌, Bool, true, false, ◌⊎◌}
 use Rattle.clear_book.specs.declared.calls.Call.{Call}
 use Rattle.clear_book.specs.declared.calls.Call.TheVariants.{Do, Ask}
 use Rattle.clear_book.specs.declared.rules.Rule.TheVariants.{Memory, Store, Failed}
-use Rattle.clear_book.specs.declared.rules.StoreCause.TheVariants.{Other}
+use Rattle.clear_values.specs.declared.causes.StoreCause.TheVariants.{Other}
 use Rattle.clear_book.specs.declared.outcomes.Outcome.{Outcome}
 use Rattle.clear_book.specs.declared.outcomes.Outcome.TheVariants.{Refused}
 use Rattle.clear_book.specs.Book.{Entry, RateTable, Book, call_of, entry}
 use Rattle.clear_book.specs.Judge.{Verdict, new_reply, kept_reply, an_answer, a_refusal}
 use Rattle.clear_book.specs.Judge.{judge, outcome_of}
-use Rattle.clear_book.specs.Access.{may_do, may_query}
-use Rattle.clear_book.specs.Ranges.{IsCall}
+use Rattle.clear_book.specs.Calls.{may_do, may_query}
+use Rattle.clear_book.specs.Calls.{IsCall}
+use Rattle.clear_values.specs.Ranges.{AreRates}
 
 -- the book with one entry more
 abbrev pub appended : Book → Entry → Book
@@ -65,12 +64,6 @@ Runs failed end b (call ∷ calls) (outcome ∷ outcomes) last =
     × Runs then end next calls outcomes last
 Runs failed end b [] (outcome ∷ outcomes) last = ⊥
 Runs failed end b (call ∷ calls) [] last = ⊥
-
--- one rate row at least, the first months rising, each in its ranges
-pub record AreRates (rates : List Rate) : Type 0 where
-  pub some : 0 < length rates
-  pub rising : IsRising rates
-  pub ranges : AllByRecursion IsRate rates
 
 -- each entry is a call whose values lie in their ranges, with the new reply that the judge gives it
 -- on the book behind it

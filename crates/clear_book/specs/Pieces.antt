@@ -5,9 +5,9 @@ use Rattle.clear_account.specs.Account.{charge_at, places}
 use Rattle.clear_account.specs.Allocation.{share}
 use Rattle.clear_account.specs.declared.entries.Charge.{Charge}
 use Rattle.clear_account.specs.declared.entries.Piece.{Piece}
-use Rattle.clear_bank.specs.declared.lines.Purpose.TheVariants.{Contribution}
-use Rattle.clear_book.specs.declared.rows.CreditRow.{CreditRow}
-use Rattle.clear_book.specs.declared.rows.PieceRow.{PieceRow}
+use Rattle.clear_values.specs.declared.lines.Purpose.TheVariants.{Contribution}
+use Rattle.clear_values.specs.declared.rows.CreditRow.{CreditRow}
+use Rattle.clear_values.specs.declared.rows.PieceRow.{PieceRow}
 use Rattle.clear_book.specs.Accounts.{charges_of, credit_rows_of, row_credit}
 use Rattle.clear_book.specs.Book.{Book}
 

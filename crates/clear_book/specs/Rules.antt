@@ -1,4 +1,4 @@
--- The rules: the number and the name of each, and what it carries; the words for limits and causes.
+-- The rules: the number and the name of each, and what it carries; the words for limits.
 use Rattle.std.specs.Prelude.{ℕ, List, codes}
 use Rattle.clear_book.specs.declared.rules.Carried.{Carried}
 use Rattle.clear_book.specs.declared.rules.Carried.TheVariants.{Nothing, Day, Month, Number}
@@ -24,8 +24,7 @@ use Rattle.clear_book.specs.declared.rules.Rule.TheVariants.{EndBeforeReports, N
 use Rattle.clear_book.specs.declared.rules.Rule.TheVariants.{UnknownDocument, Memory, Store, Failed}
 use Rattle.clear_book.specs.declared.rules.Rule.TheVariants.{WrongVersion, BadOldRow}
 use Rattle.clear_book.specs.declared.rules.RuleEntry.{RuleEntry}
-use Rattle.clear_book.specs.declared.rules.StoreCause.{StoreCause}
-use Rattle.clear_book.specs.declared.rules.StoreCause.TheVariants.{Constraint, Row, Other}
+pub use Rattle.clear_values.specs.Causes.{cause_of}
 
 -- how a rule is known, and what is told of it
 pub record Known : Type 0 where
@@ -111,9 +110,3 @@ table_word table.Rates = codes "rates"
 table_word table.Charges = codes "charges"
 table_word table.Pieces = codes "pieces"
 table_word table.Credits = codes "credits"
-
--- the word that names a cause
-abbrev pub cause_of : StoreCause → List ℕ
-cause_of Constraint = codes "Constraint"
-cause_of Row = codes "Row"
-cause_of Other = codes "Other"

@@ -9,13 +9,13 @@ use Rattle.clear_money.specs.Rates.{Rate, rate_in_force}
 use Rattle.clear_book.specs.declared.calls.Command.{Command}
 use Rattle.clear_book.specs.declared.calls.Command.TheVariants.{Register, Report, Correct}
 use Rattle.clear_book.specs.declared.calls.Command.TheVariants.{ImportBank}
-use Rattle.clear_book.specs.declared.outcomes.Reply.{Reply}
-use Rattle.clear_book.specs.declared.rows.ClaimRow.{ClaimRow}
-use Rattle.clear_book.specs.declared.rows.ClaimState.{ClaimState}
-use Rattle.clear_book.specs.declared.rows.ClaimState.TheVariants.{Open, Withdrawn, Released}
-use Rattle.clear_book.specs.declared.texts.WageLine.{WageLine}
+use Rattle.clear_values.specs.declared.replies.Reply.{Reply}
+use Rattle.clear_values.specs.declared.rows.ClaimRow.{ClaimRow}
+use Rattle.clear_values.specs.declared.rows.ClaimState.{ClaimState}
+use Rattle.clear_values.specs.declared.rows.ClaimState.TheVariants.{Open, Withdrawn, Released}
+use Rattle.clear_values.specs.declared.texts.WageLine.{WageLine}
 use Rattle.clear_book.specs.Book.{Book, Entry, rates_of, registration_in, latest_lines}
-use Rattle.clear_book.specs.Keyed.{in_key_order}
+use Rattle.clear_values.specs.Keyed.{in_key_order}
 
 -- ---- employers
 

@@ -1,18 +1,20 @@
-//! Who calls, and what is called for.
+//! Who calls, and what is called for: who may call for it, the bytes under which a command is kept,
+//! and the ranges in which the values of a call lie.
+ghost use Rattle.std.specs.Prelude.{◌≡◌, ◌++◌, IfOk};
+ghost use Rattle.std.specs.Fmt.{decimal};
+ghost use Rattle.std.specs.List.{AllByRecursion};
+ghost use Rattle.clear_money.specs.Texts.{month_text};
+ghost use Rattle.clear_book.specs.Calls.{command_bytes as kept_bytes, line_text, lines_text};
+ghost use Rattle.clear_book.specs.Calls.{IsCommand, IsReport, IsWageLine, may_do, may_query};
 
 use crate::files::BankFile;
 use crate::numbers::RequestNo;
-use crate::texts::{Name, WageLines};
+use crate::texts::{Name, WageLine, WageLines};
 use clear_money::days::Day;
 use clear_money::months::Month;
 use clear_money::numbers::EmployerNo;
-
-/// Who calls. All clerks are one caller, and a firm is one whatever its keys.
-#[derive(Clone, Copy)]
-pub enum Caller {
-    Firm(EmployerNo),
-    Clerk,
-}
+pub use clear_values::callers::Caller;
+use std::alloc::{AllocError, Global};
 
 /// A firm joins: it is a member from the month `start` on.
 #[derive(Drop)]
@@ -70,4 +72,148 @@ pub enum Call {
         day: Day,
         query: Query,
     },
+}
+
+/// Whether the caller may give the command.
+pub fn may(caller: Caller, command: &Command) -> bool
+    ensures { result ≡ may_do caller command.now }
+{
+    match caller {
+        Caller::Clerk => true,
+        Caller::Firm(firm) => match command {
+            Command::Register(_) => false,
+            Command::Report(report) => firm == report.employer,
+            Command::Correct(correction) => firm == correction.report.employer,
+            Command::ImportBank(_) => false,
+        },
+    }
+}
+
+/// Whether the caller may ask the query.
+pub fn may_ask(caller: Caller, query: &Query) -> bool
+    ensures { result ≡ may_query caller query.now }
+{
+    match caller {
+        Caller::Clerk => true,
+        Caller::Firm(firm) => match query {
+            Query::Owed { employer } => firm == *employer,
+            Query::Statement { employer } => firm == *employer,
+        },
+    }
+}
+
+/// The bytes under which a command is kept: its word and its values in decimal, with a space between
+/// them. Different commands have different bytes. docs/formats.md has the table.
+pub fn command_bytes(alloc: Global, command: &Command) -> Result<Vec<u8>, AllocError>
+    ensures { IfOk result (λ bytes. bytes.items ≡ kept_bytes command.now) }
+{
+    let mut out = Vec::new(alloc);
+    match command {
+        Command::Register(registration) => {
+            let employer = u64::from(registration.employer.number());
+            append_number(&mut out, b"employer ", employer)?;
+            append_month(&mut out, b" ", registration.start)?;
+            out.extend_from_slice(b" ")?;
+            out.extend_from_slice(registration.name.as_str().as_bytes())?;
+        }
+        Command::Report(report) => {
+            append_number(&mut out, b"report ", u64::from(report.employer.number()))?;
+            append_month(&mut out, b" ", report.month)?;
+            append_lines(&mut out, report.lines.as_slice())?;
+        }
+        Command::Correct(correction) => {
+            let employer = u64::from(correction.report.employer.number());
+            append_number(&mut out, b"correct ", employer)?;
+            append_month(&mut out, b" ", correction.report.month)?;
+            append_number(&mut out, b" ", u64::from(correction.version))?;
+            append_lines(&mut out, correction.report.lines.as_slice())?;
+        }
+        Command::ImportBank(file) => {
+            out.extend_from_slice(b"bank ")?;
+            out.extend_from_slice(file.as_slice())?;
+        }
+    }
+    Ok(out)
+}
+
+// Appends a text, and a number in decimal.
+fn append_number(out: &mut Vec<u8>, before: &[u8], number: u64) -> Result<(), AllocError>
+    ensures { IfOk result (λ _. out.new.items ≡ out.old.items ++ before.now ++ decimal number) }
+{
+    let digits = number.to_string(*out.allocator())?;
+    out.extend_from_slice(before)?;
+    out.extend_from_slice(digits.as_bytes())
+}
+
+// Appends a text, and a month.
+fn append_month(out: &mut Vec<u8>, before: &[u8], month: Month) -> Result<(), AllocError>
+    ensures { IfOk result (λ _. out.new.items ≡ out.old.items ++ before.now ++ month_text month) }
+{
+    let text = month.text();
+    out.extend_from_slice(before)?;
+    out.extend_from_slice(text.as_slice())
+}
+
+// Appends a line of a report, behind a space.
+fn append_line(out: &mut Vec<u8>, line: &WageLine) -> Result<(), AllocError>
+    ensures { IfOk result (λ _. out.new.items ≡ out.old.items ++ line_text line.now) }
+{
+    append_number(out, b" ", u64::from(line.worker.number()))?;
+    append_number(out, b":", line.gross)
+}
+
+// Appends the lines of a report.
+fn append_lines(out: &mut Vec<u8>, lines: &[WageLine]) -> Result<(), AllocError>
+    ensures { IfOk result (λ _. out.new.items ≡ out.old.items ++ lines_text lines.now) }
+{
+    for line in lines {
+        append_line(out, line)?;
+    }
+    Ok(())
+}
+
+/// The values of the command lie in their ranges, since each is of a type that holds no others. This
+/// has no effect: a proof reads from it what the types say.
+pub fn command_in_range(command: &Command)
+    ensures { IsCommand command.now }
+{
+    match command {
+        Command::Register(registration) => {
+            let _employer = registration.employer.number();
+            let _name = registration.name.as_str();
+            let _start = registration.start.number();
+        }
+        Command::Report(report) => report_in_range(report),
+        Command::Correct(correction) => {
+            let _version = correction.version;
+            report_in_range(&correction.report);
+        }
+        Command::ImportBank(_) => {}
+    }
+}
+
+// The values of a report lie in their ranges.
+fn report_in_range(report: &WageReport)
+    ensures { IsReport report.now }
+{
+    let _employer = report.employer.number();
+    let _month = report.month.number();
+    lines_in_range(report.lines.as_slice());
+}
+
+// And of its lines.
+fn lines_in_range(lines: &[WageLine])
+    ensures { AllByRecursion IsWageLine lines.now }
+{
+    for line in lines {
+        line_in_range(line);
+    }
+}
+
+// And of one line.
+fn line_in_range(line: &WageLine)
+    ensures { IsWageLine line.now }
+{
+    let _worker = line.worker.number();
+    let _gross = line.gross;
 }

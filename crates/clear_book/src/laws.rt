@@ -1,38 +1,47 @@
 //! Laws: what follows from the definitions alone. A law has no parameters and no effect; its
 //! contract is the law.
-ghost use Rattle.std.specs.Prelude.{◌≡◌, ◌↔◌, ℕ, List, Bool, true, IsTrue, map};
+ghost use Rattle.std.specs.Prelude.{◌≡◌, ◌↔◌, ℕ, List, ◌∷◌, Bool, true, IsSome, IsTrue, map};
 ghost use Rattle.std.specs.List.{AllByRecursion};
-ghost use Rattle.clear_money.specs.Rates.{Rate};
+ghost use Rattle.clear_money.specs.Rates.{Rate, rate_in_force};
 ghost use Rattle.clear_account.specs.Allocation.{right_pieces};
 ghost use Rattle.clear_bank.specs.Laws.{HasNoReferenceTwice};
+ghost use Rattle.clear_values.specs.First.{first_tables};
 ghost use Rattle.clear_book.specs.declared.calls.Call.{Call};
 ghost use Rattle.clear_book.specs.declared.calls.Call.TheVariants.{Do};
-ghost use Rattle.clear_book.specs.declared.calls.Caller.{Caller};
+ghost use Rattle.clear_values.specs.declared.callers.Caller.{Caller};
 ghost use Rattle.clear_book.specs.declared.calls.Command.{Command};
+ghost use Rattle.clear_book.specs.declared.calls.Command.TheVariants.{ImportBank};
 ghost use Rattle.clear_book.specs.declared.outcomes.Outcome.{Outcome};
 ghost use Rattle.clear_book.specs.declared.outcomes.Outcome.TheVariants.{Refused};
-ghost use Rattle.clear_book.specs.declared.outcomes.Reply.{Reply};
+ghost use Rattle.clear_values.specs.declared.replies.Reply.{Reply};
 ghost use Rattle.clear_book.specs.declared.rules.Rule.TheVariants.{Failed, Store};
-ghost use Rattle.clear_book.specs.declared.rules.StoreCause.{StoreCause};
-ghost use Rattle.clear_book.specs.declared.rules.StoreCause.TheVariants.{Other};
+ghost use Rattle.clear_values.specs.declared.causes.StoreCause.{StoreCause};
+ghost use Rattle.clear_values.specs.declared.causes.StoreCause.TheVariants.{Other};
 ghost use Rattle.clear_book.specs.Accounts.{charges_of, credit_key, credits_of, credits_standing};
-ghost use Rattle.clear_book.specs.Book.{Book, first_book, rates_of};
+ghost use Rattle.clear_book.specs.Book.{Book, Entry, entry, first_book, latest_lines, rates_of};
 ghost use Rattle.clear_book.specs.Judge.{judge, kept_reply, new_reply};
-ghost use Rattle.clear_book.specs.Kept.{command_bytes, same_command};
+ghost use Rattle.clear_book.specs.Calls.{command_bytes, same_command};
 ghost use Rattle.clear_book.specs.Laws.{AreCounted, AreEmployers, AreNumbered, AreSorted, IsSmall};
-ghost use Rattle.clear_book.specs.Lines.{credits_of_lines, lines_of_rows, lines_seen};
-ghost use Rattle.clear_book.specs.Lines.{lines_standing};
-ghost use Rattle.clear_book.specs.Machine.{AreRates, Goes, IsLawful, Runs, step};
+ghost use Rattle.clear_book.specs.Lines.{credits_after, credits_made, lines_after};
+ghost use Rattle.clear_book.specs.Lines.{lines_of_rows, lines_seen, lines_standing};
+ghost use Rattle.clear_book.specs.Machine.{Goes, IsLawful, Runs, step};
 ghost use Rattle.clear_book.specs.Pieces.{piece_rows_of, row_piece};
-ghost use Rattle.clear_book.specs.Ranges.{IsCall, IsCommand};
-ghost use Rattle.clear_book.specs.RowRanges.{AreInRange};
+ghost use Rattle.clear_book.specs.Calls.{IsCall, IsCommand};
+ghost use Rattle.clear_values.specs.Ranges.{AreRates};
+ghost use Rattle.clear_values.specs.RowRanges.{AreInRange};
 ghost use Rattle.clear_book.specs.Tables.{Tables, Stands, table_charges, table_credits};
 ghost use Rattle.clear_book.specs.Workers.{claims_of};
+ghost use Rattle.clear_book.specs.Reached.{IsReached};
 
 /// A book without entries over a table of rates is lawful.
 pub fn law_first_book()
     ensures { (rates : List Rate) → AreRates rates
         → IsLawful (first_book rates) }
+{}
+
+/// The tables of an office without requests are those of the book without entries.
+pub fn law_first_tables()
+    ensures { (rates : List Rate) → Stands (first_book rates) (first_tables rates) }
 {}
 
 /// The rates of a lawful book are ones that a `RateTable` allows: there is a row, the first months
@@ -41,11 +50,23 @@ pub fn law_rates()
     ensures { (b : Book) → IsLawful b → AreRates (rates_of b) }
 {}
 
+/// A rate row is in force for each month of which a lawful book has a report, so a definition that
+/// says something of a month without one is never asked for it.
+pub fn law_rated()
+    ensures { (b : Book) (e m : ℕ) → IsLawful b → IsSome (latest_lines b.entries e m)
+        → IsSome (rate_in_force (rates_of b) m) }
+{}
+
 /// A run over calls whose values lie in their ranges leads from a lawful book to a lawful one.
 pub fn law_lawful()
     ensures { (failed end : Bool) (b : Book) (calls : List Call) (outcomes : List Outcome)
         (last : Book) → Runs failed end b calls outcomes last → AllByRecursion IsCall calls
         → IsLawful b → IsLawful last }
+{}
+
+/// And each lawful book is one that such a run leads to, from the book without entries.
+pub fn law_reached()
+    ensures { (b : Book) → IsLawful b → IsReached b }
 {}
 
 /// Once the store has failed, every outcome is that the office has failed, and the book stays.
@@ -67,9 +88,9 @@ pub fn law_store_fault()
 /// A lawful book has at most 50,000,000 entries, its reports at most 10,000 versions of at most 500
 /// lines of at most 10,000,000 cents, a base of at most 5,000,000,000 cents; the charges of a firm
 /// come to at most 12,000,000,000,000 cents; a firm has at most 100,000 payments for each purpose,
-/// together at most 10,000,000,000,000,000 cents; at most 100,000 lines are in suspense, and at
-/// most 500,000,000,000 came in, each with its serial: no sum leaves its type. No payment has a
-/// day after that of the last request.
+/// together at most 10,000,000,000,000,000 cents; at most 100,000 lines are in suspense, at most
+/// 500,000,000,000 came in, and no more serials than that were given: no sum leaves its type. No
+/// payment has a day after that of the last request.
 pub fn law_small()
     ensures { (b : Book) → IsLawful b → IsSmall b }
 {}
@@ -108,18 +129,28 @@ pub fn law_pieces()
         ≡ right_pieces (charges_of b e) (credits_of b e) }
 {}
 
-/// The bank lines of a book have the serials 1, 2, 3, .. in the order in which they came, and no
-/// reference stands twice.
+/// The bank lines and the releases of a book together have the serials 1, 2, 3, .. in the order in
+/// which they came, those of the lines rise, and no reference stands twice.
 pub fn law_bank_lines()
-    ensures counted { (b : Book) → AreCounted (lines_seen b.entries) }
+    ensures counted { (b : Book) → AreCounted b.entries }
     ensures references { (b : Book) → HasNoReferenceTwice (lines_of_rows (lines_seen b.entries)) }
 {}
 
-/// The payments of a book are those of its standing lines, in the strict order of firm, purpose,
-/// day and serial.
+/// What stands after a file is what stands in the book with it: the lines, and the payments.
+pub fn law_after_import()
+    ensures lines { (xs : List Entry) (caller : Caller) (number day : ℕ) (file : List ℕ)
+        (reply : Reply) → lines_standing (entry caller number day (ImportBank file) reply ∷ xs)
+        ≡ lines_after xs file }
+    ensures credits { (xs : List Entry) (caller : Caller) (number day : ℕ) (file : List ℕ)
+        (reply : Reply) → credits_made (entry caller number day (ImportBank file) reply ∷ xs)
+        ≡ credits_after xs file }
+{}
+
+/// The payments of a book are those of its standing lines and the set-offs of its releases, in the
+/// strict order of firm, purpose, day and serial.
 pub fn law_credits_standing()
     ensures { (b : Book) → AreSorted credit_key (credits_standing b.entries)
-        (credits_of_lines (lines_standing b.entries)) }
+        (credits_made b.entries) }
 {}
 
 /// The payments of contributions that the tables hold for an employer are those of the book, by

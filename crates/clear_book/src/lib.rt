@@ -7,16 +7,12 @@
 //! and `limits` that of all limits.
 #![tactic(auto)]
 
-pub mod access;
 pub mod calls;
 pub mod documents;
+pub mod examples;
 pub mod files;
-pub mod kept;
 pub mod laws;
-pub mod limits;
-pub mod numbers;
 pub mod outcomes;
-pub mod ranges;
-pub mod rows;
 pub mod rules;
-pub mod texts;
+
+pub use clear_values::{limits, numbers, ranges, rows, texts};

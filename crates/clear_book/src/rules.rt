@@ -1,11 +1,12 @@
 //! The rules by which a call is refused: the number and the name of each, and what it carries.
 ghost use Rattle.std.specs.Prelude.{◌≡◌};
 ghost use Rattle.clear_book.specs.Rules.{Known, entry_of, known, number_of, name_of, carried_by};
-ghost use Rattle.clear_book.specs.Rules.{word_of, table_word, cause_of};
+ghost use Rattle.clear_book.specs.Rules.{word_of, table_word};
 
 use clear_money::days::Day;
 use clear_money::months::Month;
 use clear_money::numbers::WorkerNo;
+pub use clear_values::causes::StoreCause;
 
 /// What a limit is set on.
 #[derive(Clone, Copy)]
@@ -26,16 +27,6 @@ pub enum Limit {
     Suspense,
     /// 100,000 credits of a firm for contributions, and as many for interest.
     Credits,
-}
-
-/// Why the records could not be read or written.
-#[derive(Clone, Copy)]
-pub enum StoreCause {
-    /// A key or a unique value stood already.
-    Constraint,
-    /// A row was out of its range.
-    Row,
-    Other,
 }
 
 /// A table whose rows are judged where an older store is taken over.
@@ -274,19 +265,6 @@ impl OldTable {
             OldTable::Charges => "charges",
             OldTable::Pieces => "pieces",
             OldTable::Credits => "credits",
-        }
-    }
-}
-
-impl StoreCause {
-    /// The word that names the cause.
-    pub fn word(self) -> &'static str
-        ensures { result.now ≡ cause_of self }
-    {
-        match self {
-            StoreCause::Constraint => "Constraint",
-            StoreCause::Row => "Row",
-            StoreCause::Other => "Other",
         }
     }
 }

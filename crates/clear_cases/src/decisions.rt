@@ -1,8 +1,7 @@
 //! Decisions at the limits that no request file comes to, and the bytes under which commands are
 //! kept.
-use clear_book::calls::{Command, Correction, Registration, WageReport};
+use clear_book::calls::{Command, Correction, Registration, WageReport, command_bytes};
 use clear_book::files::BankFile;
-use clear_book::kept::command_bytes;
 use clear_book::numbers::SerialCount;
 use clear_book::rows::{Decision, EmployerRow};
 use clear_book::rules::{Limit, Rule};

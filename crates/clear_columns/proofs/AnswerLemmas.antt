@@ -1,6 +1,5 @@
 -- Answers that are read row by row.
 use Rattle.std.proofs.Common.{◌≡◌, ℕ, zero, suc, ◌<◌, ◌+◌, List, [], ◌∷◌, ◌++◌, Some, length, map, take, get_or, slice_get, refl, sym, ap, add-one, subst, ◌∙◌, arith}
-use Rattle.std.proofs.lemmas.List.{length-map, take_all}
 use Rattle.std.specs.List.{AllByRecursion}
 use Rattle.sqlite.specs.Order.{Row}
 
@@ -19,10 +18,6 @@ module _ {X : Type 0} (show : X → Row) where
   reads_more rows i row got before after lt is so_far reads pushed xs same =
       let it = shown_at xs i row (subst (λ l. i < length l) same lt) (subst (λ l. row ≡ get_or l i row) same is) in
       pushed ∙ ap (λ l. l ++ got ∷ []) (so_far xs same) ∙ ap (λ x. take i xs ++ x ∷ []) (reads it.0 it.1) ∙ sym it.2 ∙ ap (λ n. take n xs) (sym (add-one i))
-
-  -- all rows are read
-  pub reads_all : (rows : List Row) (i : ℕ) (got : List X) → ¬ (i < length rows) → ((xs : List X) → rows ≡ map show xs → got ≡ take i xs) → (xs : List X) → rows ≡ map show xs → got ≡ xs
-  reads_all rows i got past so_far xs same = so_far xs same ∙ take_all i xs (omega (arith, past, ap length same, length-map xs show))
 
   -- a row that is out of its range is one of them
   pub out_of_range : (P : X → Type 0) (rows : List Row) (i : ℕ) (row : Row) → i < length rows → row ≡ get_or rows i row → ((x : X) → row ≡ show x → ¬ P x) → (xs : List X) → rows ≡ map show xs → ¬ AllByRecursion P xs

@@ -9,11 +9,11 @@ use Rattle.std.specs.List.{list_all}
 use Rattle.std.specs.Str.{IsAscii, IsUtf8, is_utf8}
 use Rattle.sqlite.specs.declared.types.Value.{Value}
 use Rattle.sqlite.specs.declared.types.Value.TheVariants.{Text}
-use Rattle.clear_bank.proofs.TextLemmas.{is_utf8-visible}
-use Rattle.clear_bank.specs.Texts.{is_note, is_printable, is_reference, is_visible}
-use Rattle.clear_bank.specs.declared.lines.Purpose.{Purpose}
-use Rattle.clear_bank.specs.declared.lines.Purpose.TheVariants.{Contribution, Interest}
-use Rattle.clear_book.specs.Texts.{IsCreditReference}
+use Rattle.clear_values.proofs.TextLemmas.{is_utf8-visible}
+use Rattle.clear_values.specs.Texts.{is_note, is_printable, is_reference, is_visible}
+use Rattle.clear_values.specs.declared.lines.Purpose.{Purpose}
+use Rattle.clear_values.specs.declared.lines.Purpose.TheVariants.{Contribution, Interest}
+use Rattle.clear_values.specs.Texts.{IsCreditReference}
 use Rattle.clear_schema.specs.Values as stored
 
 head : (b : ℕ) (t : Bool) → nat_lt b 128 && t ≡ true → b < 128

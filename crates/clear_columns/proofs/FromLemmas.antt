@@ -1,21 +1,11 @@
 -- A query for the rows of a table from a key on, in the order of their keys.
-use Rattle.std.proofs.Common.{◌≡◌, ℕ, ℤ, Bool, true, false, not, ◌&&◌, cond, List, [], ◌∷◌, Ordering, Less, Equal, Greater, drop, filter, length, map, refl, sym, ap, subst, ◌∙◌, true≢false}
-use Rattle.std.specs.Cmp.Lexicographic.{slice_cmp, nat_list_cmp_total}
-use Rattle.std.specs.Ordering.{is_lt, nat_cmp}
-use Rattle.sqlite.specs.Effect.{Database}
-use Rattle.sqlite.specs.Order.{Row}
-use Rattle.sqlite.specs.Query.{output, output_cmp}
-use Rattle.sqlite.specs.Store.{Ghosts}
-use Rattle.sqlite.specs.Term.{Term}
+use Rattle.clear_columns.proofs.Words.{◌≡◌, ℕ, ℤ, Bool, true, false, not, ◌&&◌, cond, List, [], ◌∷◌, Less, Equal, drop, filter, length, map, refl, sym, ap, subst, ◌∙◌, true≢false, slice_cmp, nat_cmp, Database, Row, output, output_cmp, Ghosts, Term, Key, Tables, meets, plain_program, plain_query, content, AnswersJust, HasTables, by_key}
+use Rattle.std.proofs.Common.{Ordering, Greater}
+use Rattle.std.specs.Cmp.Lexicographic.{nat_list_cmp_total}
+use Rattle.std.specs.Ordering.{is_lt}
 use Rattle.sqlite.specs.Tree.{IsAscending}
 use Rattle.sqlite_keyed.proofs.ListLemmas.{all_weaker, filter_all, filter_none}
-use Rattle.sqlite_value.specs.declared.keys.Key.{Key}
-use Rattle.clear_book.specs.Keyed.{is_before}
-use Rattle.clear_book.specs.Tables.{Tables}
-use Rattle.clear_rows.specs.Plain.{passes as meets, plain_program, plain_query}
-use Rattle.clear_rows.proofs.Held.{content}
-use Rattle.clear_schema.specs.Frame.{AnswersJust}
-use Rattle.clear_schema.specs.Held.{HasTables, by_key}
+use Rattle.clear_values.specs.Keyed.{is_before}
 use Rattle.clear_columns.proofs.KeyLemmas.{before_is}
 use Rattle.clear_columns.proofs.KeyedTable.{KeyedTable, lists}
 use Rattle.clear_columns.proofs.Says.{SaysQuery}

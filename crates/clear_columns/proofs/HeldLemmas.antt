@@ -1,25 +1,10 @@
 -- UPDATE of the one row that has a key, in a table whose rows have keys of their own.
-use Rattle.std.proofs.Common.{◌≡◌, ℕ, ℤ, ◌≤◌, Bool, true, false, cond, List, [], ◌∷◌, map, filter, drop, length, refl, sym, ap, ap₂, subst, ◌∙◌, Less, IsPermutation, arith}
-use Rattle.std.proofs.lemmas.List.{length-map}
-use Rattle.std.proofs.lemmas.List.Sorted.{IsPermutation-map, length_permutation}
-use Rattle.std.specs.Cmp.Lexicographic.{slice_cmp}
-use Rattle.std.specs.Ordering.{nat_cmp}
-use Rattle.sqlite.specs.declared.types.Value.TheVariants.{Int}
-use Rattle.sqlite.specs.Cast.{cast_row}
-use Rattle.sqlite.specs.Edit.{edit_of, edited}
-use Rattle.sqlite.specs.Order.{Row}
-use Rattle.sqlite.specs.Rowids.TheVariants.{Given}
-use Rattle.sqlite.specs.Table.{Table}
-use Rattle.sqlite.specs.Tree.{Trees, rowid}
-use Rattle.sqlite_keyed.specs.Lists.{update_where}
-use Rattle.sqlite_keyed.proofs.KeyedLemmas.{IsKeyedBy-update_where}
-use Rattle.sqlite_keyed.proofs.ListLemmas.{map-map, map_same, filter-map, ascending-map, ascending_weaker, IsPermutation-filter}
-use Rattle.sqlite_rules.specs.Calls.{ids_of}
+use Rattle.clear_columns.proofs.Words.{◌≡◌, ℕ, ℤ, ◌≤◌, Bool, true, false, cond, List, [], ◌∷◌, map, filter, drop, length, refl, sym, ap, subst, ◌∙◌, Less, IsPermutation, arith, length-map, IsPermutation-map, slice_cmp, nat_cmp, Int, cast_row, edit_of, edited, Row, Given, Table, Trees, rowid, update_where, IsKeyedBy-update_where, ascending_weaker, IsPermutation-filter, ids_of, no_rows, updated_is, content, by_key, each_fails, none_replaced, one_passes}
+use Rattle.std.proofs.Common.{ap₂}
+use Rattle.std.proofs.lemmas.List.Sorted.{length_permutation}
+use Rattle.sqlite_keyed.proofs.ListLemmas.{map-map, map_same, filter-map, ascending-map}
 use Rattle.clear_rows.specs.Kept.{IsHeldBy}
-use Rattle.clear_rows.proofs.Edits.{no_rows, updated_is}
-use Rattle.clear_rows.proofs.Held.{number, content}
-use Rattle.clear_schema.specs.Held.{by_key}
-use Rattle.clear_columns.proofs.ListLemmas.{each_fails, none_replaced, one_passes}
+use Rattle.clear_rows.proofs.Held.{number}
 
 module _ {X : Type 0} (key : X → List ℕ) (to_row : ℤ × X → Row) (keyed : (y : ℤ × X) → rowid (to_row y) ≡ Int (number y)) (db : Trees) (table : Table) (xs : List X)
     (held : IsHeldBy (by_key key) to_row xs (db table.tree)) (p : X → Bool) (g : X → X) (same_key : (x : X) → key (g x) ≡ key x) where

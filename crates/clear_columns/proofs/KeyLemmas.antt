@@ -10,9 +10,9 @@ use Rattle.sqlite.specs.Tree.{IsAscending}
 use Rattle.sqlite_keyed.specs.Keyed.{get_by, has_key, insert_by}
 use Rattle.sqlite_keyed.specs.Lists.{insert_sorted, update_where}
 use Rattle.sqlite_keyed.proofs.ListLemmas.{filter_all, all_weaker}
-use Rattle.clear_book.specs.Keyed.{is_key, is_before, find_row, with_row, without_rows, put_row}
-use Rattle.clear_book.proofs.KeyedLemmas.{is_key-refl, is_key-true}
-use Rattle.clear_book.proofs.LinesLemmas.{is_key-bytes_eq}
+use Rattle.clear_values.specs.Keyed.{is_key, is_before, find_row, with_row, without_rows, put_row}
+use Rattle.clear_values.proofs.KeyedLemmas.{is_key-refl, is_key-true}
+use Rattle.clear_values.proofs.CreditRowsLemmas.{is_key-bytes_eq}
 use Rattle.clear_schema.specs.Held.{by_key}
 use Rattle.clear_columns.specs.Keys.{replaced}
 use Rattle.clear_columns.proofs.ListLemmas.{none_replaced}
@@ -102,10 +102,6 @@ module _ {X : Type 0} (key : X → List ℕ) where
 pub none_if : {X : Type 0} (o : Option X) → is_some o ≡ false → o ≡ None
 none_if None h = refl
 none_if (Some x) h = absurd (true≢false h)
-
--- what is said of one of two equal finds is said of the other
-pub found_out : {X : Type 0} (P : X → Type 0) (o p : Option X) → o ≡ p → (x : X) × (o ≡ Some x) × ¬ P x → (x : X) × (p ≡ Some x) × ¬ P x
-found_out {X = X} P o p same found = subst (λ (a : Option X). (x : X) × (a ≡ Some x) × ¬ P x) same found
 
 -- ---- keys
 

@@ -1,64 +1,25 @@
 -- What the statements on a table do whose rows stand under keys, beside numbers that are chosen,
 -- whatever the table is.
-use Rattle.std.proofs.Common.{◌≡◌, ◌≤◌, ◌/◌, ℤ, ℕ, Bool, true, false, not, ◌&&◌, ◌||◌, List, [], ◌∷◌, Some, Less, length, map, filter, drop, refl, sym, ap, subst, ◌∙◌, inl, inr, is_eq, slice_get, IsPermutation, map-id, true≢false}
+use Rattle.clear_columns.proofs.Words.{◌≡◌, ◌≤◌, ◌/◌, ℤ, ℕ, Bool, true, false, not, ◌&&◌, ◌||◌, List, [], ◌∷◌, Some, Less, length, map, filter, drop, refl, sym, ap, subst, ◌∙◌, inl, inr, is_eq, slice_get, IsPermutation, map-id, true≢false, length-map, IsPermutation-map, list_any, cast_row, Delete, Insert, Update, edit_of, with_rowid, IsRefused, Answers, Database, IsDatabase, value_rows, Row, output, output_cmp, stamped, Chosen, Values, State, Ghosts, Table, Term, col, Trees, rowid, Int, Null, insert_by, update_where, ids_of, IsPermutation-filter, Has, some_from, agree, guards, passes, Check, Datatype, NotNull, Index, Enforced, Key, is_key, with_row, Tables, IsEdited, meets, plain_program, plain_query, content, update_harmless, update_violates, in_order, one_row, shown_in_some_order, apart_if, held_if_refused, insert_violates, inserted, updated, HasTables, by_key, IsBroken, IsDone, all_indexes, all_tables, store_schema, refer_to_none, sound_by_schema, Others, by_key_total, key_is, answers_just, all_pass, is_held, Result, Held, state, Fault, AnswersJust, Runs, Writes, writes}
 use Rattle.std.proofs.lemmas.Bool.{not-true}
-use Rattle.std.proofs.lemmas.List.{length-map}
-use Rattle.std.proofs.lemmas.List.Sorted.{IsPermutation-map, IsPermutation-trans, IsPermutation-sym}
-use Rattle.std.specs.List.{list_any, AllByRecursion}
-use Rattle.sqlite.specs.Cast.{cast_row}
-use Rattle.sqlite.specs.Command.TheVariants.{Delete, Insert, Update}
-use Rattle.sqlite.specs.Edit.{edit_of, with_rowid, IsRefused}
-use Rattle.sqlite.specs.Effect.{Answers, Database, IsDatabase, value_rows}
-use Rattle.sqlite.specs.Order.{Row}
-use Rattle.sqlite.specs.Query.{output, output_cmp}
-use Rattle.sqlite.specs.Rows.{stamped}
-use Rattle.sqlite.specs.Rowids.TheVariants.{Chosen}
-use Rattle.sqlite.specs.Source.TheVariants.{Values}
-use Rattle.sqlite.specs.State.{State}
-use Rattle.sqlite.specs.Store.{Ghosts}
-use Rattle.sqlite.specs.Table.{Table}
-use Rattle.sqlite.specs.Term.{Term, col}
-use Rattle.sqlite.specs.Tree.{Trees, rowid}
-use Rattle.sqlite.specs.declared.types.Value.TheVariants.{Int, Null}
-use Rattle.sqlite_keyed.specs.Keyed.{insert_by, next_key, has_key}
-use Rattle.sqlite_keyed.specs.Lists.{delete_where, update_where}
-use Rattle.sqlite_rules.specs.Calls.{ids_of}
+use Rattle.std.proofs.lemmas.List.Sorted.{IsPermutation-trans, IsPermutation-sym}
+use Rattle.std.specs.List.{AllByRecursion}
+use Rattle.sqlite_keyed.specs.Keyed.{next_key, has_key}
+use Rattle.sqlite_keyed.specs.Lists.{delete_where}
 use Rattle.sqlite_keyed.proofs.KeyedLemmas.{next_key_is_free}
-use Rattle.sqlite_keyed.proofs.ListLemmas.{IsPermutation-filter}
-use Rattle.sqlite_rules.specs.Lists.{Has}
-use Rattle.sqlite_rules.proofs.ListLemmas.{all_has, all_from, has_filtered, has_kept, some_from, some_has, test_has}
+use Rattle.sqlite_rules.proofs.ListLemmas.{all_has, all_from, has_filtered, has_kept, some_has, test_has}
 use Rattle.sqlite_rules.specs.declared.error.Refusal.TheVariants as why
-use Rattle.sqlite_schema.specs.Rules.{agree, clashes, differ, guards, passes}
-use Rattle.sqlite_schema.specs.declared.schema.Constraint.TheVariants.{Check, Datatype, NotNull, Unique}
-use Rattle.sqlite_schema.specs.declared.schema.Index.{Index}
-use Rattle.sqlite_schema.specs.declared.schema.Keys.TheVariants.{Enforced}
+use Rattle.sqlite_schema.specs.Rules.{clashes, differ}
+use Rattle.sqlite_schema.specs.declared.schema.Constraint.TheVariants.{Unique}
 use Rattle.sqlite_value.specs.Keys.{plain as plain_order}
-use Rattle.sqlite_value.specs.declared.keys.Key.{Key}
-use Rattle.clear_book.specs.Keyed.{is_key, with_row}
-use Rattle.clear_book.specs.Tables.{Tables}
-use Rattle.clear_rows.specs.Edited.{IsEdited}
-use Rattle.clear_rows.specs.Plain.{passes as meets, plain_program, plain_query}
 use Rattle.clear_rows.proofs.Edits.{appended_is, appended_row, deleted_is}
-use Rattle.clear_rows.proofs.Held.{number, content, key_was_free, held-delete_where, held-insert}
-use Rattle.clear_rows.proofs.KeepsKeys.{delete_never, delete_violates, update_harmless, update_violates}
-use Rattle.clear_rows.proofs.Queries.{in_order, one_row, shown_in_some_order}
-use Rattle.clear_rows.proofs.Refused.{apart_if, held_if_refused, insert_violates, key_held}
-use Rattle.clear_rows.proofs.Statements.{deleted, inserted, updated}
-use Rattle.clear_schema.specs.Held.{HasTables, HasKeyed, by_key}
-use Rattle.clear_schema.specs.Runs.{IsBroken, IsDone}
-use Rattle.clear_schema.specs.Schema.{all_indexes, all_tables, store_schema}
-use Rattle.clear_schema.proofs.Causes.{refer_to_none, sound_by_schema}
-use Rattle.clear_schema.proofs.Changes.{Others}
-use Rattle.clear_columns.proofs.KeyLemmas.{by_key_total, found_any, key_is, none_found, one_found, placed as at_its_place}
-use Rattle.clear_columns.proofs.ReadingLemmas.{answers_just}
-use Rattle.clear_columns.proofs.ListLemmas.{all_pass}
+use Rattle.clear_rows.proofs.Held.{number, key_was_free, held-delete_where, held-insert}
+use Rattle.clear_rows.proofs.KeepsKeys.{delete_never, delete_violates}
+use Rattle.clear_rows.proofs.Refused.{key_held}
+use Rattle.clear_rows.proofs.Statements.{deleted}
+use Rattle.clear_schema.specs.Held.{HasKeyed}
+use Rattle.clear_columns.proofs.KeyLemmas.{found_any, none_found, one_found, placed as at_its_place}
 use Rattle.clear_columns.proofs.HeldLemmas.{few_numbered, held_updated, updated_rows}
-use Rattle.clear_columns.specs.Keys.{is_held}
-use Rattle.std.specs.Prelude.{Result}
-use Rattle.sqlite.specs.Held.{Held, state}
-use Rattle.clear_schema.specs.declared.fault.Fault.{Fault}
-use Rattle.clear_schema.specs.Frame.{AnswersJust, Runs, Writes}
-use Rattle.clear_schema.proofs.FrameLemmas.{writes}
 use Rattle.clear_columns.proofs.Says.{Says, SaysQuery, is, is_query, plain, plain_query_text, unlisted_query}
 
 -- a key of rows of a type, and the index that keeps it unique

@@ -1,66 +1,17 @@
 -- What the statements on a table do whose rows stand under a number, whatever the table is.
-use Rattle.std.proofs.Common.{◌≡◌, ◌≤◌, ◌/◌, ℤ, ℕ, Bool, true, false, List, [], ◌∷◌, Some, Equal, length, map, filter, refl, sym, ap, subst, ◌∙◌, map-id, IsPermutation, int_cmp, is_some, slice_get, arith}
+use Rattle.clear_columns.proofs.Words.{◌≡◌, ◌≤◌, ◌/◌, ℤ, ℕ, Bool, true, false, List, [], ◌∷◌, Some, Equal, length, map, filter, refl, sym, ap, subst, ◌∙◌, map-id, IsPermutation, int_cmp, slice_get, arith, length-map, list_any, ordering_then, cast_row, Insert, Update, edit_of, edited, with_rowid, IsRefused, Answers, Database, IsDatabase, value_rows, Row, output, stamped, Chosen, Given, Values, State, Ghosts, Table, Binary, Term, col, Trees, rowid, Int, insert_by, update_where, IsKeyedBy-update_where, ascending_weaker, ids_of, Has, some_from, guards, passes, Check, Datatype, NotNull, Index, Enforced, Key, is_key, with_row, Tables, IsEdited, IsNumbered, meets, plain_program, plain_query, no_rows, updated_is, update_harmless, update_violates, in_order, one_row, shown_in_some_order, apart_if, held_if_refused, insert_violates, inserted, updated, HasTables, IsBroken, IsDone, all_indexes, all_tables, store_schema, refer_to_none, sound_by_schema, Others, answers_just, all_pass, each_fails, none_replaced, one_passes, is_held, Result, Held, state, Fault, AnswersJust, Runs, Writes, writes}
+use Rattle.std.proofs.Common.{is_some}
 use Rattle.std.proofs.lemmas.Bool.{both_ways}
-use Rattle.std.proofs.lemmas.List.{length-map}
-use Rattle.std.specs.List.{list_any}
-use Rattle.std.specs.Ordering.{ordering_then}
-use Rattle.sqlite.specs.Cast.{cast_row}
-use Rattle.sqlite.specs.Command.TheVariants.{Insert, Update}
-use Rattle.sqlite.specs.Edit.{edit_of, edited, with_rowid, IsRefused}
-use Rattle.sqlite.specs.Effect.{Answers, Database, IsDatabase, value_rows}
-use Rattle.sqlite.specs.Order.{Row}
-use Rattle.sqlite.specs.Query.{output}
-use Rattle.sqlite.specs.Rows.{stamped}
-use Rattle.sqlite.specs.Rowids.TheVariants.{Chosen, Given}
-use Rattle.sqlite.specs.Source.TheVariants.{Values}
-use Rattle.sqlite.specs.State.{State}
-use Rattle.sqlite.specs.Store.{Ghosts}
-use Rattle.sqlite.specs.Table.{Table}
-use Rattle.sqlite.specs.Collation.TheVariants.{Binary}
-use Rattle.sqlite.specs.Term.{Term, col}
-use Rattle.sqlite.specs.Tree.{Trees, rowid}
-use Rattle.sqlite.specs.declared.types.Value.TheVariants.{Int}
-use Rattle.sqlite_keyed.specs.Keyed.{insert_by}
-use Rattle.sqlite_keyed.specs.Lists.{update_where}
-use Rattle.sqlite_keyed.proofs.KeyedLemmas.{IsKeyedBy-insert_by, IsKeyedBy-update_where, Less-from_lt}
-use Rattle.sqlite_keyed.proofs.ListLemmas.{IsPermutation-same, ascending_weaker}
+use Rattle.sqlite_keyed.proofs.KeyedLemmas.{IsKeyedBy-insert_by, Less-from_lt}
+use Rattle.sqlite_keyed.proofs.ListLemmas.{IsPermutation-same}
 use Rattle.sqlite_keyed.proofs.RuleLemmas.{at_most_one}
-use Rattle.sqlite_rules.specs.Calls.{ids_of}
-use Rattle.sqlite_rules.specs.Lists.{Has}
-use Rattle.sqlite_rules.proofs.ListLemmas.{some_from}
 use Rattle.sqlite_rules.specs.declared.error.Refusal.TheVariants as why
-use Rattle.sqlite_schema.specs.Rules.{guards, passes}
-use Rattle.sqlite_schema.specs.declared.schema.Constraint.TheVariants.{Check, Datatype, NotNull}
-use Rattle.sqlite_schema.specs.declared.schema.Index.{Index}
-use Rattle.sqlite_schema.specs.declared.schema.Keys.TheVariants.{Enforced}
 use Rattle.sqlite_value.proofs.OrderLemmas.{value_cmp-Int}
 use Rattle.sqlite_value.specs.Keys.{ascending}
-use Rattle.sqlite_value.specs.declared.keys.Key.{Key}
-use Rattle.clear_book.specs.Keyed.{is_key, with_row}
-use Rattle.clear_book.specs.Tables.{Tables}
-use Rattle.clear_rows.specs.Edited.{IsEdited}
-use Rattle.clear_rows.specs.Kept.{IsNumbered}
-use Rattle.clear_rows.specs.Plain.{passes as meets, plain_program, plain_query}
-use Rattle.clear_rows.proofs.Edits.{inserted_is, named, no_rows, updated_is, was_free}
-use Rattle.clear_rows.proofs.KeepsKeys.{update_harmless, update_violates}
-use Rattle.clear_rows.proofs.Queries.{in_order, one_row, shown_in_some_order}
-use Rattle.clear_rows.proofs.Refused.{apart_if, held_if_refused, insert_violates, number_held}
-use Rattle.clear_rows.proofs.Statements.{inserted, updated}
-use Rattle.clear_schema.specs.Held.{HasTables}
-use Rattle.clear_schema.specs.Runs.{IsBroken, IsDone}
-use Rattle.clear_schema.specs.Schema.{all_indexes, all_tables, store_schema}
-use Rattle.clear_schema.proofs.Causes.{refer_to_none, sound_by_schema}
-use Rattle.clear_schema.proofs.Changes.{Others}
-use Rattle.clear_columns.proofs.ReadingLemmas.{answers_just}
+use Rattle.clear_rows.proofs.Edits.{inserted_is, named, was_free}
+use Rattle.clear_rows.proofs.Refused.{number_held}
 use Rattle.clear_columns.proofs.StoredLemmas.{KeepsOrder}
 use Rattle.clear_columns.proofs.KeyLemmas.{get_is, one_key, put_is}
-use Rattle.clear_columns.proofs.ListLemmas.{all_pass, each_fails, none_replaced, one_passes}
-use Rattle.clear_columns.specs.Keys.{is_held}
-use Rattle.std.specs.Prelude.{Result}
-use Rattle.sqlite.specs.Held.{Held, state}
-use Rattle.clear_schema.specs.declared.fault.Fault.{Fault}
-use Rattle.clear_schema.specs.Frame.{AnswersJust, Runs, Writes}
-use Rattle.clear_schema.proofs.FrameLemmas.{writes}
 use Rattle.clear_columns.proofs.Says.{Says, SaysQuery, is, is_query, plain, plain_query_text, unlisted_query}
 
 -- by the number in front of the row

@@ -19,12 +19,12 @@ use Rattle.sqlite_value.specs.declared.keys.Key.{Key}
 use Rattle.clear_rows.proofs.Inside.{query_keeps}
 use Rattle.clear_rows.proofs.Refused.{query_never}
 use Rattle.clear_rows.specs.Plain.{plain_program}
-use Rattle.clear_book.specs.declared.rules.StoreCause.TheVariants.{Constraint}
+use Rattle.clear_values.specs.declared.causes.StoreCause.TheVariants.{Constraint}
 use Rattle.clear_schema.proofs.Causes.{query_broke}
 use Rattle.clear_schema.specs.Faults.{fault_of}
 use Rattle.clear_schema.specs.declared.fault.Fault.TheVariants.{Store}
 use Rattle.clear_schema.specs.Frame.{AnswersJust}
-use Rattle.clear_book.specs.Tables.{Tables}
+use Rattle.clear_values.specs.Tables.{Tables}
 use Rattle.clear_schema.specs.Held.{HasTables}
 use Rattle.clear_columns.specs.Reading.{Begun, HasSomeTables, HasToGive, IsLeft, ReadsOn}
 

@@ -11,10 +11,10 @@ use Rattle.sqlite_schema.specs.Rules.{is_of}
 use Rattle.sqlite_sql.specs.declared.ops.BinaryOp.TheVariants.{Compare}
 use Rattle.sqlite_sql.specs.declared.ops.CompareOp.TheVariants.{Eq}
 use Rattle.sqlite_value.proofs.OrderLemmas.{value_cmp-Int, value_cmp-Text}
-use Rattle.clear_bank.specs.Lines.{same_purpose}
-use Rattle.clear_bank.specs.declared.lines.Purpose.{Purpose}
-use Rattle.clear_bank.specs.declared.lines.Purpose.TheVariants.{Contribution, Interest}
-use Rattle.clear_book.specs.Accounts.{rank_of}
+use Rattle.clear_values.specs.Lines.{same_purpose}
+use Rattle.clear_values.specs.declared.lines.Purpose.{Purpose}
+use Rattle.clear_values.specs.declared.lines.Purpose.TheVariants.{Contribution, Interest}
+use Rattle.clear_values.specs.Credits.{rank_of}
 use Rattle.clear_schema.proofs.ValueLemmas.{cast_null, cast_int, equal_ints, equal_texts}
 use Rattle.clear_schema.specs.Values.{number, maybe, month, month_number, maybe_month, purpose}
 

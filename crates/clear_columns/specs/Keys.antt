@@ -1,6 +1,6 @@
 -- When a row that is to be added finds its key held, and when one takes another's place.
 use Rattle.std.specs.Prelude.{ℕ, Bool, List, is_some, if◌then◌else◌}
-use Rattle.clear_book.specs.Keyed.{find_row, put_row}
+use Rattle.clear_values.specs.Keyed.{find_row, put_row}
 
 -- a row has the key of this one
 abbrev pub is_held : {X : Type 0} → (X → List ℕ) → X → List X → Bool

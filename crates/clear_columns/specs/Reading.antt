@@ -8,8 +8,8 @@ use Rattle.sqlite.specs.Order.{Row}
 use Rattle.sqlite.specs.State.{HasCleanDisk, IsUnchanged, KeepsCommit, Survives}
 use Rattle.sqlite.specs.Store.{Ghosts}
 use Rattle.sqlite.specs.declared.error.Error.{Error}
-use Rattle.clear_book.specs.declared.rules.StoreCause.TheVariants.{Constraint, Row as OutOfRange}
-use Rattle.clear_book.specs.Tables.{Tables}
+use Rattle.clear_values.specs.declared.causes.StoreCause.TheVariants.{Constraint, Row as OutOfRange}
+use Rattle.clear_values.specs.Tables.{Tables}
 use Rattle.clear_schema.specs.Faults.{fault_of}
 use Rattle.clear_schema.specs.Frame.{AnswersJust}
 use Rattle.clear_schema.specs.Held.{HasTables}

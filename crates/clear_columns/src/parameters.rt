@@ -5,13 +5,13 @@ ghost use Rattle.sqlite_value.specs.Value.{owned};
 ghost use Rattle.sqlite_value.specs.declared.value.Value.TheVariants.{Blob};
 ghost use Rattle.clear_schema.specs.Values as stored;
 
-use clear_bank::lines::Purpose;
-use clear_book::calls::Caller;
-use clear_book::numbers::RequestNo;
 use clear_money::days::Day;
 use clear_money::months::Month;
 use clear_money::numbers::{Amount, EmployerNo, WorkerNo};
 use clear_schema::values::{month, number, text};
+use clear_values::callers::Caller;
+use clear_values::lines::Purpose;
+use clear_values::numbers::RequestNo;
 use sqlite_value::value::ValueRef;
 
 /// The number of a firm.

@@ -1,9 +1,9 @@
 //! Whether plain numbers of a row lie in their ranges.
 ghost use Rattle.std.specs.Prelude.{◌≡◌, ◌≤◌, ◌↔◌, true};
-ghost use Rattle.clear_book.specs.Limits.{most_entries, most_gross, most_serials, most_versions};
-ghost use Rattle.clear_book.specs.RowRanges.{IsSerial};
+ghost use Rattle.clear_values.specs.Limits.{most_entries, most_gross, most_serials, most_versions};
+ghost use Rattle.clear_values.specs.RowRanges.{IsSerial};
 
-use clear_book::limits::{MAX_ENTRIES, MAX_GROSS, MAX_SERIALS, MAX_VERSIONS};
+use clear_values::limits::{MAX_ENTRIES, MAX_GROSS, MAX_SERIALS, MAX_VERSIONS};
 
 /// Whether a report can have this version, 1 to 10,000.
 pub fn is_version(number: u32) -> bool

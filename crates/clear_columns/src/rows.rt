@@ -11,8 +11,8 @@ ghost use Rattle.sqlite.specs.contracts.connection.Connection.{the_row};
 ghost use Rattle.clear_schema.specs.Frame.{AnswersJust};
 ghost use Rattle.clear_columns.specs.Reading.{Advances, Begun, IsLeft};
 
-use clear_book::rules::StoreCause;
 use clear_schema::fault::{Fault, fault_of};
+use clear_values::causes::StoreCause;
 use sqlite::{Alter, Connection, Error, Row, Rows};
 use sqlite_value::value::ValueRef;
 use std::alloc::Global;

@@ -3,7 +3,7 @@ use Rattle.std.proofs.Common.{zero, suc, ◌+◌, ◌<◌, ◌≤◌, length, ta
 use Rattle.clear_columns.proofs.Words.{◌≡◌, arith, pos, ℕ, List, [], ◌∷◌, map, refl, sym, subst, inl, inr, codes, cast_row, Database, Ghosts, Term, col, Tables, plain_program, HasTables, rates_table, rate_values, month_number, cast_int, cast_null, months_keep, AnswersJust}
 use Rattle.sqlite_tied.specs.Compute.{everything}
 use Rattle.clear_money.specs.Rates.{Rate, IsRising, last_first}
-use Rattle.clear_book.specs.Machine.{AreRates}
+use Rattle.clear_values.specs.Ranges.{AreRates}
 use Rattle.clear_schema.proofs.Changes.{rates_changed}
 use Rattle.clear_columns.proofs.NumberedTable.{NumberedTable, by_number, lists_all}
 use Rattle.clear_columns.proofs.Says.{SaysQuery}

@@ -2,7 +2,7 @@
 use Rattle.clear_columns.proofs.Words.{◌≡◌, ◌==◌, ℤ, pos, ℕ, Bool, true, false, ◌&&◌, List, [], ◌∷◌, Less, map, filter, refl, inl, inr, is_eq, codes, cast_row, Binary, Insert, Update, Database, Row, Values, Ghosts, Term, lit, col, op2, Null, automatic, agree, Compare, Eq, Key, is_key, Tables, ReportRow, report_key, meets, output_cmp, plain_program, plain_query, content, HasTables, by_key, reports_table, report_values, month, month_number, number, cast_int, cast_null, equal_months, equal_numbers, key_is, months_compare, numbers_compare, AnswersJust}
 use Rattle.sqlite_tied.specs.Compute.{everything}
 use Rattle.sqlite_value.specs.Keys.{ascending, first_key, plain}
-use Rattle.clear_book.proofs.KeyedLemmas.{is_key-true}
+use Rattle.clear_values.proofs.KeyedLemmas.{is_key-true}
 use Rattle.clear_schema.proofs.Changes.{reports_changed}
 use Rattle.clear_columns.proofs.KeyedTable.{KeyedTable, few, finds, lists, or_false}
 use Rattle.clear_columns.proofs.Says.{Says, SaysQuery}

@@ -2,7 +2,7 @@
 use Rattle.std.specs.Prelude.{[], ◌∷◌, ◌<◌, ◌≤◌, ◌^◌, IfSome}
 use Rattle.sqlite.specs.Order.{Row}
 use Rattle.clear_money.specs.Calendar.{IsDay}
-use Rattle.clear_book.specs.Limits.{most_entries, most_serials}
+use Rattle.clear_values.specs.Limits.{most_entries, most_serials}
 use Rattle.clear_schema.specs.Values.{Counts, number, maybe}
 use Rattle.clear_firms.specs.declared.counts.Counts.{Counts as Told}
 

@@ -4,9 +4,9 @@ use Rattle.std.specs.Prelude.{ℕ, [], ◌∷◌}
 use Rattle.sqlite.specs.declared.types.Value.TheVariants.{Text}
 use Rattle.sqlite.specs.Order.{Row}
 use Rattle.clear_money.specs.Rates.{Rate}
-use Rattle.clear_book.specs.declared.rows.EmployerRow.{EmployerRow}
-use Rattle.clear_book.specs.declared.rows.ReportRow.{ReportRow}
-use Rattle.clear_book.specs.declared.rows.WageRow.{WageRow}
+use Rattle.clear_values.specs.declared.rows.EmployerRow.{EmployerRow}
+use Rattle.clear_values.specs.declared.rows.ReportRow.{ReportRow}
+use Rattle.clear_values.specs.declared.rows.WageRow.{WageRow}
 use Rattle.clear_schema.specs.Values.{number, month, maybe_month}
 
 abbrev pub rate_shown : Rate → Row

@@ -1,12 +1,11 @@
 //! The counts of the office: the one row of `meta`.
 ghost use Rattle.std.specs.Prelude.{◌≡◌, ◌≢◌, ◌≤◌, [], ◌∷◌, false, IfErr, IfOk};
 ghost use Rattle.sqlite.specs.Values.{bound};
-ghost use Rattle.clear_book.specs.Limits.{most_entries, most_serials};
+ghost use Rattle.clear_values.specs.Limits.{most_entries, most_serials};
 ghost use Rattle.clear_schema.specs.Frame.{LooksUp, Writes};
 ghost use Rattle.clear_schema.specs.Values.{Counts as Stored, counts_of, with_counts};
 ghost use Rattle.clear_firms.specs.Counts.{AreCounts, as_stored, counts_given};
 
-use clear_book::rules::StoreCause;
 use clear_columns::columns::{count_at, entry_count_at, maybe_day_at, serial_count_at};
 use clear_columns::parameters::maybe_day;
 use clear_columns::ranges::{is_entry_count, is_serial_count};
@@ -14,6 +13,7 @@ use clear_money::days::Day;
 use clear_schema::fault::Fault;
 use clear_schema::statement::{look, put};
 use clear_schema::values::number;
+use clear_values::causes::StoreCause;
 use sqlite::{Alter, Row, Transaction};
 use sqlite_value::value::ValueRef;
 
@@ -74,16 +74,14 @@ fn read_counts(row: &Row) -> Result<Counts, Fault>
     ensures range { IfErr result (λ fault. fault ≡ Fault.Store StoreCause.Row
         → (c : Stored) → row.now ≡ counts_given c → ¬ AreCounts c) }
 {
-    let read = Counts {
+    Ok(Counts {
         day: maybe_day_at(row, 0)?,
         entries: entry_count_at(row, 1)?,
         serial: serial_count_at(row, 2)?,
         claims: count_at(row, 3)?,
         lists: count_at(row, 4)?,
         runs: count_at(row, 5)?,
-    };
-    let _day = read.day.map(Day::number);
-    Ok(read)
+    })
 }
 
 /// Writes the counts in place of those that stand. More than 50,000,000 entries or 500,000,000,000

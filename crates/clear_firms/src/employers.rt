@@ -1,23 +1,22 @@
 //! The table of employers.
 ghost use Rattle.std.specs.Prelude.{◌≡◌, [], ◌∷◌};
 ghost use Rattle.sqlite.specs.Values.{bound};
-ghost use Rattle.clear_book.specs.Keyed.{find_row, with_row};
-ghost use Rattle.clear_book.specs.RowRanges.{IsEmployerRow};
-ghost use Rattle.clear_book.specs.Tables.{employer_key};
+ghost use Rattle.clear_values.specs.Keyed.{find_row, with_row};
+ghost use Rattle.clear_values.specs.RowRanges.{IsEmployerRow};
+ghost use Rattle.clear_values.specs.Tables.{employer_key};
 ghost use Rattle.clear_schema.specs.Frame.{Finds, Lists, Writes};
 ghost use Rattle.clear_columns.specs.Keys.{is_held};
 ghost use Rattle.clear_firms.specs.Shown.{employer_shown};
 
-use clear_book::rows::EmployerRow;
 use clear_columns::columns::{employer_at, maybe_month_at, month_at, name_at};
 use clear_columns::parameters::{employer, maybe_month};
 use clear_columns::queries::{find, list};
 use clear_columns::rows::StoredTable;
-use clear_money::months::Month;
 use clear_money::numbers::EmployerNo;
 use clear_schema::fault::Fault;
 use clear_schema::statement::put;
 use clear_schema::values::{month, text};
+use clear_values::rows::EmployerRow;
 use sqlite::{Alter, Row, Transaction};
 use sqlite_value::value::ValueRef;
 
@@ -72,7 +71,7 @@ pub fn all_employers<S: Alter>(tx: &mut Transaction<'_, S>) -> Result<Vec<Employ
 pub struct Employers;
 
 impl StoredTable for Employers {
-    ghost use Rattle.clear_book.specs.RowRanges.{IsEmployerRow};
+    ghost use Rattle.clear_values.specs.RowRanges.{IsEmployerRow};
     ghost use Rattle.clear_firms.specs.Shown.{employer_shown};
 
     type Row = EmployerRow;
@@ -82,25 +81,13 @@ impl StoredTable for Employers {
     ghost is_in_range = { IsEmployerRow };
 
     fn read(row: &Row) -> Result<EmployerRow, Fault> {
-        let read = EmployerRow {
+        Ok(EmployerRow {
             employer: employer_at(row, 0)?,
             name: name_at(row, 1)?,
             start: month_at(row, 2)?,
             last: maybe_month_at(row, 3)?,
-        };
-        employer_in_range(&read);
-        Ok(read)
+        })
     }
-}
-
-// The values of a firm's row lie in their ranges, since each is of a type that holds no others.
-fn employer_in_range(row: &EmployerRow)
-    ensures { IsEmployerRow row.now }
-{
-    let _number = row.employer.number();
-    let _name = row.name.as_str();
-    let _start = row.start.number();
-    let _last = row.last.map(Month::number);
 }
 
 // What a statement is given of a row.

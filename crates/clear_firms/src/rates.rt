@@ -1,15 +1,15 @@
 //! The table of rates.
 ghost use Rattle.std.specs.Prelude.{◌≡◌, ◌≢◌, IfErr, IfOk};
 ghost use Rattle.clear_money.specs.Rates.{IsRate};
-ghost use Rattle.clear_book.specs.Machine.{AreRates};
+ghost use Rattle.clear_values.specs.Ranges.{AreRates};
 ghost use Rattle.clear_schema.specs.Frame.{Lists, LooksUp};
 
-use clear_book::rules::StoreCause;
 use clear_columns::columns::{month_at, month_day_at, rate_at};
 use clear_columns::queries::list;
 use clear_columns::rows::StoredTable;
 use clear_money::rates::{PushFault, RateRow, RateTable};
 use clear_schema::fault::Fault;
+use clear_values::causes::StoreCause;
 use sqlite::{Alter, Row, Transaction};
 use std::alloc::Global;
 

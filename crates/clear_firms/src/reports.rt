@@ -1,17 +1,15 @@
 //! The table of reports: the version of each month's latest report.
 ghost use Rattle.std.specs.Prelude.{◌≡◌, ◌≤◌, ◌==◌, [], ◌∷◌, false, filter};
 ghost use Rattle.sqlite.specs.Values.{bound};
-ghost use Rattle.clear_book.specs.Keyed.{find_row, with_row};
-ghost use Rattle.clear_book.specs.Limits.{most_versions};
-ghost use Rattle.clear_book.specs.RowRanges.{IsReportRow};
-ghost use Rattle.clear_book.specs.Tables.{report_key};
+ghost use Rattle.clear_values.specs.Keyed.{find_row, with_row};
+ghost use Rattle.clear_values.specs.Limits.{most_versions};
+ghost use Rattle.clear_values.specs.RowRanges.{IsReportRow};
+ghost use Rattle.clear_values.specs.Tables.{report_key};
 ghost use Rattle.clear_schema.specs.Frame.{Finds, Lists, Writes};
 ghost use Rattle.clear_columns.specs.Keys.{is_held, replaced};
 ghost use Rattle.clear_firms.specs.Shown.{report_shown};
 
 use crate::parameters::month_values;
-use clear_book::rows::ReportRow;
-use clear_book::rules::StoreCause;
 use clear_columns::columns::{employer_at, month_at, version_at};
 use clear_columns::parameters::employer;
 use clear_columns::queries::{find, list};
@@ -22,6 +20,8 @@ use clear_money::numbers::EmployerNo;
 use clear_schema::fault::Fault;
 use clear_schema::statement::put;
 use clear_schema::values::{month, number};
+use clear_values::causes::StoreCause;
+use clear_values::rows::ReportRow;
 use sqlite::{Alter, Row, Transaction};
 use sqlite_value::value::ValueRef;
 
@@ -99,7 +99,7 @@ pub fn reports_of<S: Alter>(
 pub struct Reports;
 
 impl StoredTable for Reports {
-    ghost use Rattle.clear_book.specs.RowRanges.{IsReportRow};
+    ghost use Rattle.clear_values.specs.RowRanges.{IsReportRow};
     ghost use Rattle.clear_firms.specs.Shown.{report_shown};
 
     type Row = ReportRow;
@@ -109,14 +109,11 @@ impl StoredTable for Reports {
     ghost is_in_range = { IsReportRow };
 
     fn read(row: &Row) -> Result<ReportRow, Fault> {
-        let read = ReportRow {
+        Ok(ReportRow {
             employer: employer_at(row, 0)?,
             month: month_at(row, 1)?,
             version: version_at(row, 2)?,
-        };
-        let _number = read.employer.number();
-        let _month = read.month.number();
-        Ok(read)
+        })
     }
 }
 

@@ -1,17 +1,15 @@
 //! The table of wages: the lines of each month's latest report.
 ghost use Rattle.std.specs.Prelude.{◌≡◌, ◌≤◌, false, filter};
 ghost use Rattle.sqlite.specs.Values.{bound};
-ghost use Rattle.clear_book.specs.Keyed.{with_row, without_rows};
-ghost use Rattle.clear_book.specs.Limits.{most_gross};
-ghost use Rattle.clear_book.specs.RowRanges.{IsWageRow};
-ghost use Rattle.clear_book.specs.Tables.{is_wage_key_of, wage_key};
+ghost use Rattle.clear_values.specs.Keyed.{with_row, without_rows};
+ghost use Rattle.clear_values.specs.Limits.{most_gross};
+ghost use Rattle.clear_values.specs.RowRanges.{IsWageRow};
+ghost use Rattle.clear_values.specs.Tables.{is_wage_key_of, wage_key};
 ghost use Rattle.clear_schema.specs.Frame.{Lists, Writes};
 ghost use Rattle.clear_columns.specs.Keys.{is_held};
 ghost use Rattle.clear_firms.specs.Shown.{wage_shown};
 
 use crate::parameters::month_values;
-use clear_book::rows::WageRow;
-use clear_book::rules::StoreCause;
 use clear_columns::columns::{employer_at, gross_at, month_at, worker_at};
 use clear_columns::parameters::{employer, worker};
 use clear_columns::queries::list;
@@ -22,6 +20,8 @@ use clear_money::numbers::EmployerNo;
 use clear_schema::fault::Fault;
 use clear_schema::statement::put;
 use clear_schema::values::{month, number};
+use clear_values::causes::StoreCause;
+use clear_values::rows::WageRow;
 use sqlite::{Alter, Row, Transaction};
 use sqlite_value::value::ValueRef;
 
@@ -82,7 +82,7 @@ pub fn wages_of<S: Alter>(
 pub struct Wages;
 
 impl StoredTable for Wages {
-    ghost use Rattle.clear_book.specs.RowRanges.{IsWageRow};
+    ghost use Rattle.clear_values.specs.RowRanges.{IsWageRow};
     ghost use Rattle.clear_firms.specs.Shown.{wage_shown};
 
     type Row = WageRow;
@@ -92,16 +92,12 @@ impl StoredTable for Wages {
     ghost is_in_range = { IsWageRow };
 
     fn read(row: &Row) -> Result<WageRow, Fault> {
-        let read = WageRow {
+        Ok(WageRow {
             employer: employer_at(row, 0)?,
             month: month_at(row, 1)?,
             worker: worker_at(row, 2)?,
             gross: gross_at(row, 3)?,
-        };
-        let _number = read.employer.number();
-        let _month = read.month.number();
-        let _worker = read.worker.number();
-        Ok(read)
+        })
     }
 }
 

@@ -7,16 +7,16 @@ use Rattle.sqlite.specs.Files.{IsNothing}
 use Rattle.sqlite.specs.State.{State}
 use Rattle.sqlite.proofs.ListingLemmas.{empty_is_sound}
 use Rattle.clear_book.specs.Tables.{Tables}
-use Rattle.clear_schema.specs.Held.{StandsFor, TellsAs, TellsSchema, this_schema}
-use Rattle.clear_schema.specs.Schema.{no_schema}
+use Rattle.clear_schema.specs.Held.{StandsFor, StandsOtherwise, TellsAs, TellsSchema}
+use Rattle.clear_schema.specs.Schema.{no_schema, this_layout}
 use Rattle.clear_schema.proofs.OpenLemmas.{tells_seen}
-use Rattle.clear_host.specs.Contents.{HoldsSchema, HoldsStore}
+use Rattle.clear_host.specs.Contents.{HoldsOtherLayout, HoldsSchema, HoldsStore}
 use Rattle.clear_host.specs.Seen.{SeesIn}
 use Rattle.clear_host.proofs.BlankLemmas.{none_found}
 
 module _ (image : Image) (s : State) (seen : SeesIn image s) where
   -- the store that the files hold
-  pub store_seen : (t : Tables) → HoldsStore this_schema t image → StandsFor t s.committed.trees
+  pub store_seen : (t : Tables) → HoldsStore this_layout t image → StandsFor t s.committed.trees
   store_seen t (trees, holds, stands) = subst (StandsFor t) (sym (seen.1.holds trees holds)) stands
 
   -- or the number that their database tells
@@ -24,6 +24,10 @@ module _ (image : Image) (s : State) (seen : SeesIn image s) where
   told_seen number (trees, holds, tells) =
       let there : TellsAs number s.committed.trees = subst (TellsAs number) (sym (seen.1.holds trees holds)) tells in
       (there, tells_seen number s seen.0.0.clean seen.0.1 seen.0.0.is_open there)
+
+  -- or a database of another layout
+  pub other_is_seen : HoldsOtherLayout image → StandsOtherwise s.committed.trees
+  other_is_seen (trees, holds, stands) = subst StandsOtherwise (sym (seen.1.holds trees holds)) stands
 
   -- or no table, where they hold no database yet
   pub nothing_seen : IsNothing image → s.now.schema ≡ no_schema

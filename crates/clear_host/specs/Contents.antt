@@ -1,5 +1,5 @@
 -- What the files of the program hold. No contract knows that, so clauses speak of each content.
-use Rattle.std.specs.Prelude.{◌≡◌, ◌≤◌, ⊤, ℕ, List, length, IfSome, None, Option, Result, Ok}
+use Rattle.std.specs.Prelude.{◌≡◌, ◌≢◌, ◌≤◌, ⊤, ℕ, List, length, IfSome, None, Option, Result, Ok}
 use Rattle.sqlite_wal.specs.Recovery.{Image}
 use Rattle.sqlite.specs.Files.{HoldsDatabase}
 use Rattle.sqlite.specs.Held.{state}
@@ -8,7 +8,10 @@ use Rattle.sqlite.specs.Store.{Ghosts}
 use Rattle.sqlite.specs.Tree.{Trees}
 use Rattle.clear_book.specs.Book.{Book}
 use Rattle.clear_book.specs.Tables.{Tables, Stands}
-use Rattle.clear_schema.specs.Held.{StandsAs, TellsAs, this_schema}
+use Rattle.clear_schema.specs.Faults.{other_layout}
+use Rattle.clear_schema.specs.Held.{StandsAs, StandsOtherwise, TellsAs}
+use Rattle.clear_schema.specs.Schema.{Layout, this_layout}
+use Rattle.clear_schema.specs.declared.fault.Fault.TheVariants.{Memory}
 use Rattle.clear_schema.specs.declared.fault.OpenFault.{OpenFault}
 use Rattle.clear_schema.specs.declared.fault.OpenFault.TheVariants.{WrongVersion, Failed}
 use Rattle.clear_host.specs.declared.offices.NotOpened.{NotOpened}
@@ -31,18 +34,23 @@ SomeFileSays read it = BytesSay None read it
 
 -- ---- a store, in its log and its database file
 
--- they hold a store of this number, with these tables
-abbrev pub HoldsStore : ℕ → Tables → Image → Type 0
-HoldsStore number t image = (trees : Trees) × HoldsDatabase image trees × StandsAs number t trees
+-- they hold a store of this layout, with these tables
+abbrev pub HoldsStore : Layout → Tables → Image → Type 0
+HoldsStore layout t image = (trees : Trees) × HoldsDatabase image trees × StandsAs layout t trees
 
 -- they hold a database that tells this number of its schema, whatever tables it has
 abbrev pub HoldsSchema : ℕ → Image → Type 0
 HoldsSchema number image =
     (trees : Trees) × HoldsDatabase image trees × TellsAs number trees
 
+-- they hold a database that tells this program's number, but has other tables or indexes than this
+-- program's stores
+abbrev pub HoldsOtherLayout : Image → Type 0
+HoldsOtherLayout image = (trees : Trees) × HoldsDatabase image trees × StandsOtherwise trees
+
 -- they hold a store of this program, with the tables of the book
 abbrev pub HoldsBook : Book → Image → Type 0
-HoldsBook b image = (t : Tables) × Stands b t × HoldsStore this_schema t image
+HoldsBook b image = (t : Tables) × Stands b t × HoldsStore this_layout t image
 
 -- where the fault tells a number, it is this one
 abbrev pub TellsOnly : ℕ → OpenFault → Type 0
@@ -53,6 +61,10 @@ TellsOnly number (Failed fault) = ⊤
 abbrev pub TellsNone : OpenFault → Type 0
 TellsNone (WrongVersion told) = ⊥
 TellsNone (Failed fault) = ⊤
+
+-- want of memory aside, the fault is that of another layout
+abbrev pub TellsOther : OpenFault → Type 0
+TellsOther fault = fault ≢ Failed Memory → fault ≡ other_layout
 
 -- where the files were opened and their database was not taken, and the disk has so far returned
 -- what was written, the fault is so

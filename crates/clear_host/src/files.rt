@@ -1,7 +1,7 @@
 //! Files that are read whole.
 ghost use Rattle.std.specs.Prelude.{◌≡◌, ◌≤◌, length, IfOk, IfSome};
 ghost use Rattle.clear_money.specs.RateFile.{rates_of};
-ghost use Rattle.clear_book.specs.Machine.{AreRates};
+ghost use Rattle.clear_book.specs.Ranges.{AreRates};
 ghost use Rattle.clear_callers.specs.CallerFile.{directory_of};
 ghost use Rattle.clear_host.specs.Contents.{BytesSay, SomeFileSays, most_file_bytes};
 

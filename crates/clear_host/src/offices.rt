@@ -12,14 +12,16 @@ ghost use Rattle.clear_book.specs.Tables.{Tables, Stands};
 ghost use Rattle.clear_schema.specs.Faults.{IsWrong};
 ghost use Rattle.clear_schema.specs.First.{first_tables};
 ghost use Rattle.clear_schema.specs.Held.{HasTables, this_schema};
+ghost use Rattle.clear_schema.specs.Schema.{this_layout};
 ghost use Rattle.clear_office.specs.Office.{Holds, IsHonest, Keeps};
-ghost use Rattle.clear_host.specs.Contents.{HoldsBook, HoldsSchema, HoldsStore};
-ghost use Rattle.clear_host.specs.Contents.{IfRefused, TellsNone, TellsOnly};
+ghost use Rattle.clear_host.specs.Contents.{HoldsBook, HoldsOtherLayout, HoldsSchema};
+ghost use Rattle.clear_host.specs.Contents.{HoldsStore, IfRefused, TellsNone, TellsOnly, TellsOther};
 ghost use Rattle.clear_host.specs.Seen.{Sees};
 
 use crate::ledger::ledger_day;
 use clear_money::days::Day;
 use clear_money::rates::RateTable;
+use clear_office::made::make_office;
 use clear_office::office::Office;
 use clear_schema::fault::OpenFault;
 use clear_schema::store::Store;
@@ -53,7 +55,7 @@ pub struct NotOpened<S: Alter> {
 /// Makes a store without requests, with these opening rates, in an empty database, and an office
 /// over it. Where the database has tables, `WrongVersion` with the number of its schema, 0 without
 /// one.
-pub(crate) fn make_office<S: Alter>(
+pub(crate) fn new_office<S: Alter>(
     alloc: Global,
     connection: Connection<S>,
     rates: &RateTable,
@@ -76,9 +78,9 @@ pub(crate) fn make_office<S: Alter>(
     ensures empty { (image : Image) → Sees S.Store image connection → IsNothing image
         → IfErr result (IfRefused S.Store TellsNone) }
 {
-    match Store::create(connection, rates) {
-        Ok(store) => Ok(Opened {
-            office: Office::open(alloc, store),
+    match make_office(alloc, connection, rates) {
+        Ok(office) => Ok(Opened {
+            office,
             ledger_day: None,
         }),
         Err(refusal) => Err(NotOpened {
@@ -91,7 +93,8 @@ pub(crate) fn make_office<S: Alter>(
 /// Finds the store in a database, and opens an office over it, which keeps the book that it finds.
 /// The store is confirmed to stand, so that a crash leaves the tables that it has and no others.
 /// Where the database is no store of this program, `WrongVersion` with the number of its schema, 0
-/// without one.
+/// without one; where that is our number, but its tables or indexes are others than ours,
+/// `Store(Other)`.
 pub(crate) fn find_office<S: Alter>(
     alloc: Global,
     connection: Connection<S>,
@@ -100,7 +103,7 @@ pub(crate) fn find_office<S: Alter>(
     ensures working { IfOk result (λ opened. opened.office.failed ≡ false) }
     ensures found { (image : Image) → Sees S.Store image connection
         → IfOk result (λ opened. IsHonest S.Store opened.office
-        → (t : Tables) → HoldsStore this_schema t image
+        → (t : Tables) → HoldsStore this_layout t image
         → Holds S.Store opened.office.conn t) }
     ensures keeps { (image : Image) → Sees S.Store image connection
         → IfOk result (λ opened. IsHonest S.Store opened.office
@@ -111,11 +114,15 @@ pub(crate) fn find_office<S: Alter>(
     ensures only_this { (image : Image) → Sees S.Store image connection
         → IfOk result (λ opened. IsHonest S.Store opened.office
         → (number : ℕ) → HoldsSchema number image → number ≡ this_schema) }
+    ensures not_other { (image : Image) → Sees S.Store image connection
+        → IfOk result (λ opened. IsHonest S.Store opened.office → ¬ HoldsOtherLayout image) }
     ensures only_stores { (image : Image) → Sees S.Store image connection
         → IfOk result (λ opened. IsHonest S.Store opened.office → ¬ IsNothing image) }
     ensures version { (image : Image) → Sees S.Store image connection
         → (number : ℕ) → HoldsSchema number image
         → IfErr result (IfRefused S.Store (IsWrong this_schema number)) }
+    ensures other { (image : Image) → Sees S.Store image connection → HoldsOtherLayout image
+        → IfErr result (IfRefused S.Store TellsOther) }
     ensures empty { (image : Image) → Sees S.Store image connection → IsNothing image
         → IfErr result (IfRefused S.Store (TellsOnly 0)) }
 {
@@ -131,15 +138,20 @@ fn find_store<S: Alter>(connection: Connection<S>) -> Result<Store<S>, NotOpened
     ensures mode { IfOk result (λ store. store.conn.in_transaction ≡ false) }
     ensures found { (image : Image) → Sees S.Store image connection
         → IfOk result (λ store. HasCleanDisk (state S.Store store.conn)
-        → (t : Tables) → HoldsStore this_schema t image → Holds S.Store store.conn t) }
+        → (t : Tables) → HoldsStore this_layout t image → Holds S.Store store.conn t) }
     ensures only_this { (image : Image) → Sees S.Store image connection
         → IfOk result (λ store. HasCleanDisk (state S.Store store.conn)
         → (number : ℕ) → HoldsSchema number image → number ≡ this_schema) }
+    ensures not_other { (image : Image) → Sees S.Store image connection
+        → IfOk result (λ store. HasCleanDisk (state S.Store store.conn)
+        → ¬ HoldsOtherLayout image) }
     ensures only_stores { (image : Image) → Sees S.Store image connection
         → IfOk result (λ store. HasCleanDisk (state S.Store store.conn) → ¬ IsNothing image) }
     ensures version { (image : Image) → Sees S.Store image connection
         → (number : ℕ) → HoldsSchema number image
         → IfErr result (IfRefused S.Store (IsWrong this_schema number)) }
+    ensures other { (image : Image) → Sees S.Store image connection → HoldsOtherLayout image
+        → IfErr result (IfRefused S.Store TellsOther) }
     ensures empty { (image : Image) → Sees S.Store image connection → IsNothing image
         → IfErr result (IfRefused S.Store (TellsOnly 0)) }
 {
@@ -162,6 +174,8 @@ fn confirm<S: Alter>(store: Store<S>) -> Result<Store<S>, NotOpened<S>>
     ensures clean { IfOk result (λ confirmed. HasCleanDisk (state S.Store confirmed.conn)
         → HasCleanDisk (state S.Store store.conn)) }
     ensures untold { IfErr result (IfRefused S.Store TellsNone) }
+    ensures clean_left { IfErr result (IfRefused S.Store (λ fault.
+        HasCleanDisk (state S.Store store.conn))) }
 {
     let mut store = store;
     match store.confirm() {
@@ -189,6 +203,8 @@ fn office_over<S: Alter>(alloc: Global, store: Store<S>) -> Result<Opened<S>, No
         → (t : Tables) → HasTables t (state S.Store store.conn).now
         → opened.ledger_day ≡ t.day) }
     ensures untold { IfErr result (IfRefused S.Store TellsNone) }
+    ensures clean_left { IfErr result (IfRefused S.Store (λ fault.
+        HasCleanDisk (state S.Store store.conn))) }
 {
     let mut store = store;
     match ledger_day(&mut store) {

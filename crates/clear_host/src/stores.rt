@@ -12,11 +12,12 @@ ghost use Rattle.clear_book.specs.Tables.{Tables};
 ghost use Rattle.clear_schema.specs.Faults.{IsWrong};
 ghost use Rattle.clear_schema.specs.First.{first_tables};
 ghost use Rattle.clear_schema.specs.Held.{this_schema};
+ghost use Rattle.clear_schema.specs.Schema.{this_layout};
 ghost use Rattle.clear_office.specs.Office.{Holds, IsHonest, Keeps};
-ghost use Rattle.clear_host.specs.Contents.{HoldsBook, HoldsSchema, HoldsStore};
-ghost use Rattle.clear_host.specs.Contents.{IfRefused, TellsNone, TellsOnly};
+ghost use Rattle.clear_host.specs.Contents.{HoldsBook, HoldsOtherLayout, HoldsSchema};
+ghost use Rattle.clear_host.specs.Contents.{HoldsStore, IfRefused, TellsNone, TellsOnly, TellsOther};
 
-use crate::offices::{NotOpened, Opened, find_office, make_office};
+use crate::offices::{NotOpened, Opened, find_office, new_office};
 use clear_book::ranges::rates_in_range;
 use clear_book::rules::StoreCause;
 use clear_money::rates::RateTable;
@@ -61,7 +62,7 @@ pub fn create_office<S: Start>(
     rates_in_range(rates);
     make_private(rt, path);
     match Connection::open_from(rt, path, false, start) {
-        Ok(connection) => make_office(rt.alloc(), connection, rates),
+        Ok(connection) => new_office(rt.alloc(), connection, rates),
         Err((error, _left)) => Err(NotOpened {
             fault: OpenFault::Failed(fault_of(error)),
             connection: None,
@@ -72,7 +73,8 @@ pub fn create_office<S: Start>(
 /// Opens the store in the file at a path, and an office over it, which keeps the book that it finds.
 /// The store is confirmed to stand, so that a crash leaves the tables that it has and no others.
 /// Where no file is, none is made. Where the file holds no store of this program, `WrongVersion`
-/// with the number of its schema, 0 without one.
+/// with the number of its schema, 0 without one; where that is our number, but its tables or indexes
+/// are others than ours, `Store(Other)`.
 pub fn open_office<S: Start>(
     rt: &HostRuntime,
     path: &str,
@@ -80,7 +82,7 @@ pub fn open_office<S: Start>(
 ) -> Result<Opened<FileStore<FileFrom<S>>>, NotOpened<FileStore<FileFrom<S>>>>
     ensures working { IfOk result (λ opened. opened.office.failed ≡ false) }
     ensures found { IfOk result (λ opened. IsHonest over_files opened.office
-        → (t : Tables) → HoldsStore this_schema t (image_at S.Start)
+        → (t : Tables) → HoldsStore this_layout t (image_at S.Start)
         → Holds over_files opened.office.conn t) }
     ensures keeps { IfOk result (λ opened. IsHonest over_files opened.office
         → (b : Book) → HoldsBook b (image_at S.Start) → Keeps over_files opened.office b) }
@@ -90,10 +92,14 @@ pub fn open_office<S: Start>(
     ensures only_this { IfOk result (λ opened. IsHonest over_files opened.office
         → (number : ℕ) → HoldsSchema number (image_at S.Start)
         → number ≡ this_schema) }
+    ensures not_other { IfOk result (λ opened. IsHonest over_files opened.office
+        → ¬ HoldsOtherLayout (image_at S.Start)) }
     ensures only_stores { IfOk result (λ opened. IsHonest over_files opened.office
         → ¬ IsNothing (image_at S.Start)) }
     ensures version { (number : ℕ) → HoldsSchema number (image_at S.Start)
         → IfErr result (IfRefused over_files (IsWrong this_schema number)) }
+    ensures other { HoldsOtherLayout (image_at S.Start)
+        → IfErr result (IfRefused over_files TellsOther) }
     ensures empty { IsNothing (image_at S.Start)
         → IfErr result (IfRefused over_files (TellsOnly 0)) }
 {

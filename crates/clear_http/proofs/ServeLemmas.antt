@@ -10,9 +10,11 @@ use Rattle.clear_answers.specs.Answer.{answer_of, head_of, first_lines, further_
 use Rattle.clear_answers.specs.Said.{refused_by}
 use Rattle.clear_wire.specs.Head.{Heading}
 use Rattle.clear_wire.specs.Stream.{NextItem, ended, Next}
-use Rattle.clear_wire.specs.Cut.{left_after, left_after_all, BeginsCut, Cuts}
+use Rattle.clear_wire.specs.Cut.{left_after, left_after_all, BeginsCut, Cuts, IsAnswered}
 use Rattle.clear_wire.specs.Known.{Leads}
 use Rattle.clear_wire.specs.Limits.{request_limit}
+use Rattle.clear_wire.specs.Request.{next_item}
+use Rattle.clear_wire.specs.declared.request.Item.{Item}
 use Rattle.clear_wire.proofs.CutLemmas.{Cuts-append, left_after_all-append, cut_ended, cut_full, cut_begun, nothing_cut}
 use Rattle.clear_wire.proofs.KnownLemmas.{Leads-refl, Leads-then, Appends-nil, Appends-then}
 use Rattle.clear_http.specs.declared.serve.Served.{Served}
@@ -53,6 +55,17 @@ if_some f None h = tt
 if_some f (Some x) h = f x h
 
 module _ {H : Type 0} (responds : H → Heading → List ℕ → Said → H → Type 0) where
+  -- an item has an answer, this may be said to it, and want of memory in its place where nothing was done
+  abbrev pub Replied : H → Item → Said → H → Type 0
+  Replied h item said h' =
+      IsAnswered (next_item item) × Says responds h (next_item item) said h'
+      × (was_done said ≡ false → Says responds h (next_item item) (refused_by Memory) h')
+
+  pub replied_as : (h : H) (item read : Item) (said told : Said) (h' then : H) → item ≡ read → said ≡ told → h' ≡ then → Replied h read told then → Replied h item said h'
+  replied_as h item read said told h' then item_is said_is then_is there =
+      subst (λ (x : Item). Replied h x said h') (sym item_is)
+      (subst (λ (x : Said). Replied h read x h') (sym said_is) (subst (λ (x : H). Replied h read told x) (sym then_is) there))
+
   -- what is sent for an item may be said to it
   pub says : (h : H) (p : NextItem) (wanted said : Said) (h' : H) → Says responds h p wanted h' → (was_done wanted ≡ false → Says responds h p (refused_by Memory) h') → MaySend wanted said
       → Says responds h p said h'

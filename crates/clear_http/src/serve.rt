@@ -2,11 +2,8 @@
 ghost use Rattle.std.specs.Prelude.{◌≡◌, ◌≢◌, ℕ, ◌+◌, ◌<◌, ◌≤◌, ◌++◌, ◌==◌, true, false, List, []};
 ghost use Rattle.std.specs.Prelude.{length, IfOk, IfErr, IfSome, IfNone, OnOk, OnErr, Err};
 ghost use Rattle.std.specs.Io.KnownBytes.{Appends};
-ghost use Rattle.clear_book.specs.declared.rules.Rule.TheVariants.{Memory as no_memory};
 ghost use Rattle.clear_answers.specs.Answer.{answer_of};
-ghost use Rattle.clear_answers.specs.Said.{refused_by};
 ghost use Rattle.clear_wire.specs.Counted.{inner, has_failed, reads_of};
-ghost use Rattle.clear_wire.specs.Cut.{IsAnswered};
 ghost use Rattle.clear_wire.specs.Input.{stream, reads_made, failed_of, CountsReads, KeepsBorrow};
 ghost use Rattle.clear_wire.specs.Known.{Leads};
 ghost use Rattle.clear_wire.specs.Limits.{read_limit};
@@ -14,7 +11,7 @@ ghost use Rattle.clear_wire.specs.Request.{next_item};
 ghost use Rattle.clear_wire.specs.Parsed.{heading};
 ghost use Rattle.clear_wire.specs.Stream.{ended, whole, Next};
 ghost use Rattle.clear_http.specs.Serve.{is_bad, is_bare, was_done, ends_stream, left_then};
-ghost use Rattle.clear_http.specs.Serve.{Says, AnswersOne, BreaksOff, Serves, ServesPart};
+ghost use Rattle.clear_http.specs.Serve.{AnswersOne, BreaksOff, Serves, ServesPart};
 ghost use Rattle.clear_http.specs.Serve.{MaySend, TellsFailed};
 
 use clear_answers::answer::{answer_bytes, failed_text, memory_text};
@@ -167,24 +164,6 @@ fn left_behind(request: &Request, said: &Said, left: u32) -> u32
     }
 }
 
-// Replies to what a stream goes on with; not to its end.
-fn reply<T, H: Responder<T>>(responder: &H, state: &mut T, item: &Item) -> Option<Said>
-    ensures none { IfNone result
-        ((next_item item.now ≡ ended) × (state.new ≡ state.old)) }
-    ensures answered { IfSome result (λ said. IsAnswered (next_item item.now)) }
-    ensures says { IfSome result (λ said.
-        Says (H.responds responder.now) state.old (next_item item.now) said state.new) }
-    ensures memory { IfSome result (λ said. was_done said ≡ false
-        → Says (H.responds responder.now) state.old (next_item item.now) (refused_by no_memory)
-        state.new) }
-{
-    match item {
-        Item::Whole(request) => Some(responder.reply(state, request)),
-        Item::Bad { rule, .. } => Some(Said::No(Refused::by_stream(*rule))),
-        Item::End => None,
-    }
-}
-
 // What follows an item to which this is said.
 fn what_follows(item: &Item, said: &Said, left: u32) -> Behind
     requires { 0 < left }
@@ -278,19 +257,20 @@ fn turn<T, H: Responder<T>, R: NotedRead, W: Write>(
     ensures write { result ≡ Err Fault.Write → has_failed writer.new ≡ true }
     ensures writer { result ≢ Err Fault.Write → has_failed writer.new ≡ has_failed writer.old }
 {
-    match read_request(input) {
-        Ok(item) => match reply(responder, state, &item) {
-            Some(said) => {
-                let behind = what_follows(&item, &said, left);
-                let bare = is_bare(&item);
-                match write_answer(&said, behind.after == 0, bare, buffer, writer) {
-                    Ok(()) => Ok(Some(behind)),
-                    Err(fault) => Err(fault),
-                }
-            }
-            None => Ok(None),
-        },
-        Err(fault) => Err(fault_of(fault)),
+    let item = match read_request(input) {
+        Ok(item) => item,
+        Err(fault) => return Err(fault_of(fault)),
+    };
+    let said = match &item {
+        Item::Whole(request) => responder.reply(state, request),
+        Item::Bad { rule, .. } => Said::No(Refused::by_stream(*rule)),
+        Item::End => return Ok(None),
+    };
+    let behind = what_follows(&item, &said, left);
+    let bare = is_bare(&item);
+    match write_answer(&said, behind.after == 0, bare, buffer, writer) {
+        Ok(()) => Ok(Some(behind)),
+        Err(fault) => Err(fault),
     }
 }
 

@@ -1,7 +1,7 @@
 -- A reply and the numbers that it is kept as.
 use Rattle.std.proofs.Common.{◌≡◌, refl}
-use Rattle.clear_book.specs.declared.outcomes.Reply.{Reply}
-use Rattle.clear_book.specs.declared.outcomes.Reply.TheVariants.{Done, Reported, Imported}
+use Rattle.clear_values.specs.declared.replies.Reply.{Reply}
+use Rattle.clear_values.specs.declared.replies.Reply.TheVariants.{Done, Reported, Imported}
 use Rattle.clear_schema.specs.Values.{reply_values}
 use Rattle.clear_ledger.specs.Shown.{numbers_of, numbers_shown}
 

@@ -1,10 +1,10 @@
 -- Accepted requests as they are kept, each under its caller and number.
 use Rattle.std.specs.Prelude.{ℕ, List}
 use Rattle.clear_money.specs.Calendar.{IsDay}
-use Rattle.clear_book.specs.declared.calls.Caller.{Caller}
-use Rattle.clear_book.specs.declared.outcomes.Reply.{Reply}
-use Rattle.clear_book.specs.RowRanges.{IsReply}
-use Rattle.clear_book.specs.Tables.{RequestRow}
+use Rattle.clear_values.specs.declared.callers.Caller.{Caller}
+use Rattle.clear_values.specs.declared.replies.Reply.{Reply}
+use Rattle.clear_values.specs.RowRanges.{IsReply}
+use Rattle.clear_values.specs.Tables.{RequestRow}
 use Rattle.clear_ledger.specs.declared.requests.KeptRequest.{KeptRequest}
 
 -- the day of a request, the bytes of its command, and its reply

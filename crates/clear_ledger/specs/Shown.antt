@@ -2,11 +2,11 @@
 use Rattle.std.specs.Prelude.{ℕ, ◌<◌, ◌^◌, Bool, ◌||◌, List, [], ◌∷◌}
 use Rattle.sqlite.specs.declared.types.Value.TheVariants.{Blob, Text}
 use Rattle.sqlite.specs.Order.{Row}
-use Rattle.clear_book.specs.Tables.{RequestRow, bank_key}
-use Rattle.clear_book.specs.declared.rows.BankRow.{BankRow}
-use Rattle.clear_book.specs.declared.rows.CreditRow.{CreditRow}
-use Rattle.clear_book.specs.declared.outcomes.Reply.{Reply}
-use Rattle.clear_book.specs.declared.outcomes.Reply.TheVariants.{Done, Reported, Imported}
+use Rattle.clear_values.specs.Tables.{RequestRow, bank_key}
+use Rattle.clear_values.specs.declared.rows.BankRow.{BankRow}
+use Rattle.clear_values.specs.declared.rows.CreditRow.{CreditRow}
+use Rattle.clear_values.specs.declared.replies.Reply.{Reply}
+use Rattle.clear_values.specs.declared.replies.Reply.TheVariants.{Done, Reported, Imported}
 use Rattle.clear_schema.specs.Values.{caller_number, number, maybe, purpose}
 use Rattle.clear_columns.specs.Keys.{is_held}
 use Rattle.clear_ledger.specs.declared.replies.ReplyNumbers.{ReplyNumbers}

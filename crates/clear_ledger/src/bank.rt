@@ -1,22 +1,17 @@
 //! The bank lines, by their references.
 ghost use Rattle.std.specs.Borrow.{sem, RestsIfErr};
-ghost use Rattle.std.specs.Prelude.{◌≡◌, filter, IfOk, IfSome};
+ghost use Rattle.std.specs.Prelude.{◌≡◌, filter, IfOk};
 ghost use Rattle.sqlite.specs.Held.{state};
 ghost use Rattle.sqlite.specs.Values.{bound};
 ghost use Rattle.sqlite.specs.contracts.connection.Connection.{the_row};
-ghost use Rattle.clear_book.specs.Keyed.{find_row, with_row};
-ghost use Rattle.clear_book.specs.Lines.{is_in_suspense};
-ghost use Rattle.clear_money.specs.Numbers.{IsEmployerNo};
-ghost use Rattle.clear_book.specs.RowRanges.{IsBankRow, IsSerial};
-ghost use Rattle.clear_book.specs.Tables.{bank_key};
+ghost use Rattle.clear_values.specs.Keyed.{find_row, with_row};
+ghost use Rattle.clear_values.specs.Credits.{is_in_suspense};
+ghost use Rattle.clear_values.specs.RowRanges.{IsBankRow, IsSerial};
+ghost use Rattle.clear_values.specs.Tables.{bank_key};
 ghost use Rattle.clear_ledger.specs.Shown.{bank_shown, is_line_held};
 ghost use Rattle.clear_columns.specs.Reading.{HasSomeTables, IsLeft, ReadsOn};
 ghost use Rattle.clear_schema.specs.Frame.{Finds, Lists, Writes};
 
-use clear_bank::lines::BankLine;
-use clear_bank::texts::Reference;
-use clear_book::rows::BankRow;
-use clear_book::rules::StoreCause;
 use clear_columns::columns::{
     amount_at, day_at, maybe_employer_at, note_at, purpose_at, reference_at, serial_at,
 };
@@ -24,10 +19,13 @@ use clear_columns::parameters::{amount, day, maybe_employer, purpose};
 use clear_columns::queries::{find, list};
 use clear_columns::ranges::is_serial;
 use clear_columns::rows::{StoredTable, begin_rows};
-use clear_money::numbers::EmployerNo;
 use clear_schema::fault::Fault;
 use clear_schema::statement::put;
 use clear_schema::values::{number, text};
+use clear_values::causes::StoreCause;
+use clear_values::lines::BankLine;
+use clear_values::rows::BankRow;
+use clear_values::texts::Reference;
 use sqlite::{Alter, Connection, Error, Row, Rows, Transaction};
 use sqlite_value::value::ValueRef;
 
@@ -103,7 +101,7 @@ pub struct Bank;
 
 impl StoredTable for Bank {
     ghost use Rattle.clear_ledger.specs.Shown.{bank_shown};
-    ghost use Rattle.clear_book.specs.RowRanges.{IsBankRow};
+    ghost use Rattle.clear_values.specs.RowRanges.{IsBankRow};
 
     type Row = BankRow;
 
@@ -120,35 +118,11 @@ impl StoredTable for Bank {
             purpose: purpose_at(row, 6)?,
             note: note_at(row, 7)?,
         };
-        let read = BankRow {
+        Ok(BankRow {
             line,
             serial: serial_at(row, 1)?,
             employer: maybe_employer_at(row, 4)?,
-        };
-        line_in_range(&read);
-        Ok(read)
-    }
-}
-
-// The values of a line lie in their ranges, since each is of a type that holds no others.
-fn line_in_range(row: &BankRow)
-    requires { IsSerial row.now.serial }
-    ensures { IsBankRow row.now }
-{
-    let _reference = row.line.reference.as_str();
-    let _value = row.line.value.number();
-    employer_in_range(row.line.employer);
-    let _cents = row.line.cents.cents();
-    let _note = row.line.note.as_str();
-    employer_in_range(row.employer);
-}
-
-// And of a firm, if there is one.
-fn employer_in_range(employer: Option<EmployerNo>)
-    ensures { IfSome employer IsEmployerNo }
-{
-    if let Some(employer) = employer {
-        let _employer = employer.number();
+        })
     }
 }
 

@@ -4,18 +4,15 @@ ghost use Rattle.std.specs.Prelude.{◌≡◌, filter, IfOk};
 ghost use Rattle.sqlite.specs.Held.{state};
 ghost use Rattle.sqlite.specs.Values.{bound};
 ghost use Rattle.sqlite.specs.contracts.connection.Connection.{the_row};
-ghost use Rattle.clear_book.specs.Accounts.{credit_key};
-ghost use Rattle.clear_book.specs.Keyed.{with_row};
-ghost use Rattle.clear_book.specs.Lines.{is_credit_of};
-ghost use Rattle.clear_book.specs.RowRanges.{IsCreditRow, IsSerial};
+ghost use Rattle.clear_values.specs.Credits.{credit_key};
+ghost use Rattle.clear_values.specs.Keyed.{with_row};
+ghost use Rattle.clear_values.specs.Credits.{is_credit_of};
+ghost use Rattle.clear_values.specs.RowRanges.{IsCreditRow, IsSerial};
 ghost use Rattle.clear_ledger.specs.Shown.{credit_shown};
 ghost use Rattle.clear_columns.specs.Keys.{is_held};
 ghost use Rattle.clear_columns.specs.Reading.{HasSomeTables, IsLeft, ReadsOn};
 ghost use Rattle.clear_schema.specs.Frame.{Lists, Writes};
 
-use clear_bank::lines::Purpose;
-use clear_book::rows::CreditRow;
-use clear_book::rules::StoreCause;
 use clear_columns::columns::{
     amount_at, credit_reference_at, day_at, employer_at, purpose_at, serial_at,
 };
@@ -27,6 +24,9 @@ use clear_money::numbers::EmployerNo;
 use clear_schema::fault::Fault;
 use clear_schema::statement::put;
 use clear_schema::values::{number, text};
+use clear_values::causes::StoreCause;
+use clear_values::lines::Purpose;
+use clear_values::rows::CreditRow;
 use sqlite::{Alter, Connection, Error, Row, Rows, Transaction};
 use sqlite_value::value::ValueRef;
 
@@ -88,7 +88,7 @@ pub struct Credits;
 
 impl StoredTable for Credits {
     ghost use Rattle.clear_ledger.specs.Shown.{credit_shown};
-    ghost use Rattle.clear_book.specs.RowRanges.{IsCreditRow};
+    ghost use Rattle.clear_values.specs.RowRanges.{IsCreditRow};
 
     type Row = CreditRow;
 
@@ -101,28 +101,15 @@ impl StoredTable for Credits {
             Ok(reference) => reference,
             Err(fault) => return Err(fault),
         };
-        let read = CreditRow {
+        Ok(CreditRow {
             employer: employer_at(row, 0)?,
             purpose: purpose_at(row, 1)?,
             day: day_at(row, 2)?,
             serial: serial_at(row, 3)?,
             cents: amount_at(row, 4)?,
             reference,
-        };
-        credit_in_range(&read);
-        Ok(read)
+        })
     }
-}
-
-// The values of a credit lie in their ranges, since each is of a type that holds no others.
-fn credit_in_range(row: &CreditRow)
-    requires { IsSerial row.now.serial }
-    ensures { IsCreditRow row.now }
-{
-    let _employer = row.employer.number();
-    let _day = row.day.number();
-    let _cents = row.cents.cents();
-    let _reference = row.reference.as_str();
 }
 
 // The parameters of a statement that writes a row.

@@ -1,11 +1,11 @@
 //! Replies as the numbers that they are kept as.
 ghost use Rattle.std.specs.Prelude.{◌≡◌, ◌↔◌, Some, IfSome, IsTrue};
-ghost use Rattle.clear_book.specs.declared.outcomes.Reply.{Reply};
-ghost use Rattle.clear_book.specs.RowRanges.{IsReply};
+ghost use Rattle.clear_values.specs.declared.replies.Reply.{Reply};
+ghost use Rattle.clear_values.specs.RowRanges.{IsReply};
 ghost use Rattle.clear_ledger.specs.Shown.{AreSmall, numbers_of};
 
-use clear_book::limits::{MAX_BASE, MAX_RECORDS, MAX_VERSIONS};
-use clear_book::outcomes::Reply;
+use clear_values::limits::{MAX_BASE, MAX_RECORDS, MAX_VERSIONS};
+use clear_values::replies::Reply;
 
 /// The kind of a reply, and its own numbers: 0 stands for those that it has not.
 #[derive(Clone, Copy, PartialEq, Eq)]

@@ -1,6 +1,6 @@
 -- A request that reads as a call reads as no other.
 use Rattle.std.proofs.Common.{◌≡◌, ◌∙◌, ℕ, List, Some, Result, Ok, Err, refl, sym, ap, subst, inl, inr}
-use Rattle.clear_bodies.specs.Faults.{Part, part_of}
+use Rattle.clear_routes.specs.Faults.{Part, part_of}
 use Rattle.clear_book.specs.declared.calls.Call.{Call}
 use Rattle.clear_book.specs.declared.calls.Caller.{Caller}
 use Rattle.clear_book.specs.declared.rules.Rule.{Rule}

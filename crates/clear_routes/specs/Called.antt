@@ -9,19 +9,19 @@ use Rattle.clear_book.specs.declared.calls.Command.{Command}
 use Rattle.clear_book.specs.declared.calls.Command.TheVariants as command
 use Rattle.clear_book.specs.declared.calls.Query.{Query}
 use Rattle.clear_book.specs.declared.calls.Query.TheVariants as query
-use Rattle.clear_bodies.specs.Bodies.{registration_of, report_of, correction_of}
+use Rattle.clear_routes.specs.Bodies.{registration_of, report_of, correction_of}
 use Rattle.clear_money.specs.Results.{◌>>=◌, or_fault}
-use Rattle.clear_bodies.specs.Faults.{Part, request_number}
+use Rattle.clear_routes.specs.Faults.{Part, request_number}
 use Rattle.clear_book.specs.Limits.{most_request_no}
 use Rattle.clear_book.specs.declared.calls.Caller.{Caller}
 use Rattle.clear_routes.specs.declared.methods.Action.{Action}
 use Rattle.clear_routes.specs.declared.methods.Action.TheVariants as action
-use Rattle.clear_routes.specs.declared.methods.CommandKind.{CommandKind}
-use Rattle.clear_routes.specs.declared.methods.CommandKind.TheVariants as kind
-use Rattle.clear_routes.specs.declared.methods.QueryKind.{QueryKind}
-use Rattle.clear_routes.specs.declared.methods.QueryKind.TheVariants as asked
 use Rattle.clear_routes.specs.declared.parameters.Parameters.{Parameters}
 use Rattle.clear_routes.specs.declared.route.Route.{Route}
+use Rattle.clear_routes.specs.declared.table.CommandKind.{CommandKind}
+use Rattle.clear_routes.specs.declared.table.CommandKind.TheVariants as kind
+use Rattle.clear_routes.specs.declared.table.QueryKind.{QueryKind}
+use Rattle.clear_routes.specs.declared.table.QueryKind.TheVariants as asked
 use Rattle.clear_wire.specs.Head.{Heading}
 
 -- the number, if the text is its decimal digits and it is 1 to 999,999,999,999,999,999

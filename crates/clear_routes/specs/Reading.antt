@@ -1,7 +1,7 @@
 -- From a request to its call, or the first that refuses it.
 use Rattle.std.specs.Prelude.{◌≡◌, ⊤, ℕ, List, Option, Some, None, Result, Ok, Err}
 use Rattle.std.specs.Prelude.{option_and_then}
-use Rattle.clear_bodies.specs.Faults.{Part, part_of}
+use Rattle.clear_routes.specs.Faults.{Part, part_of}
 use Rattle.clear_book.specs.declared.calls.Call.{Call}
 use Rattle.clear_book.specs.declared.calls.Caller.{Caller}
 use Rattle.clear_book.specs.declared.rules.Rule.{Rule}

@@ -1,18 +1,19 @@
 //! What a request calls for.
 ghost use Rattle.std.specs.Prelude.{◌≡◌};
-ghost use Rattle.clear_bodies.specs.Faults.{Gives};
+ghost use Rattle.clear_routes.specs.Faults.{Gives};
 ghost use Rattle.clear_wire.specs.Parsed.{heading};
 ghost use Rattle.clear_routes.specs.Called.{number_spelled, number_of, called_for};
 ghost use Rattle.clear_routes.specs.Called.{command_for, query_for};
 ghost use Rattle.clear_routes.specs.Reading.{caller_at, Reads};
 
-use crate::methods::{Action, CommandKind, QueryKind};
+use crate::bodies::{read_correction, read_registration, read_report};
+use crate::faults::{BodyFault, Member};
+use crate::methods::Action;
 use crate::parameters::Parameters;
 use crate::refused::Refused;
 use crate::route::Route;
 use crate::routes::Routes;
-use clear_bodies::bodies::{read_correction, read_registration, read_report};
-use clear_bodies::faults::{BodyFault, Member};
+use crate::table::{CommandKind, QueryKind};
 use clear_book::calls::{Call, Caller, Command, Query};
 use clear_book::files::BankFile;
 use clear_book::numbers::RequestNo;

@@ -3,23 +3,8 @@ ghost use Rattle.std.specs.Prelude.{◌≡◌};
 ghost use Rattle.clear_routes.specs.Methods.{action_for, allow_of};
 
 use crate::allow::Allow;
+use crate::table::{CommandKind, QueryKind};
 use clear_wire::method::Method;
-
-/// What is commanded.
-#[derive(Clone, Copy)]
-pub enum CommandKind {
-    Register,
-    Report,
-    Correct,
-    ImportBank,
-}
-
-/// What is asked.
-#[derive(Clone, Copy)]
-pub enum QueryKind {
-    Owed,
-    Statement,
-}
 
 /// What a request asks for: to do something, or to be told it.
 #[derive(Clone, Copy)]

@@ -1,8 +1,23 @@
-//! The table of the office's paths.
+//! What may be asked of the office, and the table of its paths.
 use crate::kinds::Kind::{Employer, Month};
 use crate::kinds::Kinds::{self, One, Two, Zero};
 use crate::methods::Methods::{self, Get, Post, PostPut};
-use crate::methods::{CommandKind as Do, QueryKind as Ask};
+
+/// What is commanded.
+#[derive(Clone, Copy)]
+pub enum CommandKind {
+    Register,
+    Report,
+    Correct,
+    ImportBank,
+}
+
+/// What is asked.
+#[derive(Clone, Copy)]
+pub enum QueryKind {
+    Owed,
+    Statement,
+}
 
 /// What the router keeps of a path.
 #[derive(Clone, Copy)]
@@ -14,17 +29,17 @@ pub struct Row {
 /// Each path of the office: its text, with a name in braces for each parameter, the kinds of the
 /// parameters in their order, and what its methods ask for. Contracts read this very table.
 pub const PATHS: &'static [(&'static str, Kinds, Methods)] = &[
-    ("/employers", Zero, Post(Do::Register)),
+    ("/employers", Zero, Post(CommandKind::Register)),
     (
         "/employers/{e}/reports/{m}",
         Two(Employer, Month),
-        PostPut(Do::Report, Do::Correct),
+        PostPut(CommandKind::Report, CommandKind::Correct),
     ),
-    ("/bank", Zero, Post(Do::ImportBank)),
-    ("/employers/{e}/owed", One(Employer), Get(Ask::Owed)),
+    ("/bank", Zero, Post(CommandKind::ImportBank)),
+    ("/employers/{e}/owed", One(Employer), Get(QueryKind::Owed)),
     (
         "/employers/{e}/statement",
         One(Employer),
-        Get(Ask::Statement),
+        Get(QueryKind::Statement),
     ),
 ];

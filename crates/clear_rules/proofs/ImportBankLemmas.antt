@@ -27,14 +27,14 @@ use Rattle.clear_book.specs.declared.rules.Rule.TheVariants.{OverLimit, ValueAhe
 use Rattle.clear_book.specs.declared.rows.BankRow.{BankRow}
 use Rattle.clear_book.specs.declared.rows.CreditRow.{CreditRow}
 use Rattle.clear_book.specs.Book.{Book, member_of}
-use Rattle.clear_rules.specs.Counts.{Index, IsIndexOf, is_indexed, count_indexed}
-use Rattle.clear_rules.specs.Views.Serves.{Serves}
-use Rattle.clear_rules.specs.Views.ImportBank.{IsEmployerViewed, IsImportView, count_for, credit_count_viewed, is_registered_by, rows_viewed, rows_of_file, import_rule, ReadsAs}
+use Rattle.clear_rules.specs.Counts.{Index, IsIndexOf, is_indexed, count_then}
+use Rattle.clear_rules.specs.Views.Serves.{ServesAfter}
+use Rattle.clear_rules.specs.Views.ImportBank.{IsEmployerViewed, IsImportView, count_for, credits_then, suspense_then, is_registered_by, rows_viewed, rows_of_file, import_rule, ReadsAs}
 use Rattle.clear_book.specs.Judge.{own_rule, reply_to}
 use Rattle.clear_book.specs.Own.ImportBank.{is_ahead, is_over, fault_rule, ahead_rule, limit_rules, rule_of}
 use Rattle.clear_book.specs.Limits.{most_credits, most_suspense, most_records}
 use Rattle.clear_book.specs.Checks.{first_of, when}
-use Rattle.clear_book.specs.Lines.{lines_in, lines_or_none, new_lines, employer_of_line, rows_from, lines_of_rows, lines_seen, lines_standing, credit_of_line, credits_of_lines, credit_count, suspense_count}
+use Rattle.clear_book.specs.Lines.{lines_in, lines_or_none, new_lines, employer_of_line, rows_from, lines_of_rows, lines_seen, lines_after, credit_of_line, credits_after, credits_of_lines, credit_count, serial_count, suspense_count}
 use Rattle.clear_book.proofs.LinesLemmas.{length-rows_from}
 
 -- ---- what holds of each line of a file
@@ -117,28 +117,28 @@ module _ (r s : ℕ → Bool) where
 -- ---- the payments of registered firms, by a view
 
 -- the limit says the same of a number that serves as of the count
-limit-same : (viewed count more limit : ℕ) → Serves viewed count more limit → nat_lt limit (viewed + more) ≡ nat_lt limit (count + more)
-limit-same viewed count more limit (inl same) = ap (λ (n : ℕ). nat_lt limit (n + more)) same
-limit-same viewed count more limit (inr within) = le-ltb limit (viewed + more) within.1 ∙ sym (le-ltb limit (count + more) (omega arith))
+limit-same : (viewed count limit : ℕ) → ServesAfter viewed count limit → nat_lt limit viewed ≡ nat_lt limit count
+limit-same viewed count limit (inl same) = ap (nat_lt limit) same
+limit-same viewed count limit (inr within) = le-ltb limit viewed within.1 ∙ sym (le-ltb limit count (omega arith))
 
 -- two counts by which the limit says the same of the firms that new lines name give one answer for the rows that a file brings
-module _ (is_registered : ℕ → Bool) (c d : ℕ → Purpose → ℕ) (rows : List BankRow) where
+module _ (is_registered : ℕ → Bool) (c d : ℕ → Purpose → ℕ) where
   abbrev IsLimitedAlike : ℕ → Type 0
-  IsLimitedAlike e = (purpose : Purpose) → is_registered e ≡ true → nat_lt most_credits (c e purpose + credit_count rows e purpose) ≡ nat_lt most_credits (d e purpose + credit_count rows e purpose)
+  IsLimitedAlike e = (purpose : Purpose) → is_registered e ≡ true → nat_lt most_credits (c e purpose) ≡ nat_lt most_credits (d e purpose)
 
-  over-test : (row : BankRow) (e : ℕ) (t : Bool) → is_registered e ≡ t → IsLimitedAlike e → (xs : List CreditRow) → list_any (is_over c rows) xs ≡ list_any (is_over d rows) xs
-      → list_any (is_over c rows) (cons_option (credit_of_line row (cond t (Some e) None)) xs) ≡ list_any (is_over d rows) (cons_option (credit_of_line row (cond t (Some e) None)) xs)
+  over-test : (row : BankRow) (e : ℕ) (t : Bool) → is_registered e ≡ t → IsLimitedAlike e → (xs : List CreditRow) → list_any (is_over c) xs ≡ list_any (is_over d) xs
+      → list_any (is_over c) (cons_option (credit_of_line row (cond t (Some e) None)) xs) ≡ list_any (is_over d) (cons_option (credit_of_line row (cond t (Some e) None)) xs)
   over-test row e false is alike xs h = h
   over-test row e true is alike xs h = λ i. alike row.line.purpose is i || h i
 
-  over-firm : (row : BankRow) (o : Option ℕ) → IfSome o IsLimitedAlike → (xs : List CreditRow) → list_any (is_over c rows) xs ≡ list_any (is_over d rows) xs
-      → list_any (is_over c rows) (cons_option (credit_of_line row (option_and_then (λ e. cond (is_registered e) (Some e) None) o)) xs)
-      ≡ list_any (is_over d rows) (cons_option (credit_of_line row (option_and_then (λ e. cond (is_registered e) (Some e) None) o)) xs)
+  over-firm : (row : BankRow) (o : Option ℕ) → IfSome o IsLimitedAlike → (xs : List CreditRow) → list_any (is_over c) xs ≡ list_any (is_over d) xs
+      → list_any (is_over c) (cons_option (credit_of_line row (option_and_then (λ e. cond (is_registered e) (Some e) None) o)) xs)
+      ≡ list_any (is_over d) (cons_option (credit_of_line row (option_and_then (λ e. cond (is_registered e) (Some e) None) o)) xs)
   over-firm row None alike xs h = h
   over-firm row (Some e) alike xs h = over-test row e (is_registered e) refl alike xs h
 
   over-rows : (last : ℕ) (new : List Placed) → AllByRecursion (λ p. IfSome p.1.employer IsLimitedAlike) new
-      → list_any (is_over c rows) (credits_of_lines (rows_from is_registered last new)) ≡ list_any (is_over d rows) (credits_of_lines (rows_from is_registered last new))
+      → list_any (is_over c) (credits_of_lines (rows_from is_registered last new)) ≡ list_any (is_over d) (credits_of_lines (rows_from is_registered last new))
   over-rows last [] h = refl
   over-rows last (p ∷ new) h =
       over-firm (record { line = p.1; serial = last + 1; employer = employer_of_line is_registered p.1 }) p.1.employer h.0
@@ -176,22 +176,23 @@ module _ (b : Book) (file : List ℕ) (view : ImportView) (is : IsImportView b f
   pub viewed_rows : rows_viewed view file ≡ rows_of_file b file
   viewed_rows =
       (λ i. rows_from (is_registered_by view) (is.serials_is i) (viewed-new i))
-      ∙ rows-agree (is_registered_by view) is_member (length (lines_seen b.entries)) (new_lines lines_known (lines_in file)) (each-firm (λ e. is_registered_by view e ≡ is_member e) (λ e h. h.registered_is))
+      ∙ rows-agree (is_registered_by view) is_member (serial_count b.entries) (new_lines lines_known (lines_in file)) (each-firm (λ e. is_registered_by view e ≡ is_member e) (λ e h. h.registered_is))
 
   -- whether a firm has too many payments after the file
-  viewed-over : list_any (is_over (credit_count_viewed view) (rows_viewed view file)) (credits_of_lines (rows_viewed view file))
-      ≡ list_any (is_over (credit_count (lines_standing b.entries)) (rows_of_file b file)) (credits_of_lines (rows_of_file b file))
+  viewed-over : list_any (is_over (credits_then view (rows_viewed view file))) (credits_of_lines (rows_viewed view file))
+      ≡ list_any (is_over (credit_count (credits_after b.entries file))) (credits_of_lines (rows_of_file b file))
   viewed-over =
-      let alike = each-firm (IsLimitedAlike is_member (credit_count_viewed view) (credit_count (lines_standing b.entries)) (rows_of_file b file)) (λ e h purpose registered.
-      limit-same (credit_count_viewed view e purpose) (credit_count (lines_standing b.entries) e purpose) (credit_count (rows_of_file b file) e purpose) most_credits (h.credits_serve purpose registered)) in
-      ap (λ rows. list_any (is_over (credit_count_viewed view) rows) (credits_of_lines rows)) viewed_rows
-      ∙ over-rows is_member (credit_count_viewed view) (credit_count (lines_standing b.entries)) (rows_of_file b file) (length (lines_seen b.entries)) (new_lines lines_known (lines_in file)) alike
+      let viewed = credits_then view (rows_of_file b file) in
+      let after = credit_count (credits_after b.entries file) in
+      let alike = each-firm (IsLimitedAlike is_member viewed after) (λ e h purpose registered. limit-same (viewed e purpose) (after e purpose) most_credits (h.credits_serve purpose registered)) in
+      ap (λ rows. list_any (is_over (credits_then view rows)) (credits_of_lines rows)) viewed_rows
+      ∙ over-rows is_member viewed after (serial_count b.entries) (new_lines lines_known (lines_in file)) alike
 
   -- whether too many lines are in suspense after the file
-  viewed-many : nat_lt most_suspense (view.suspense + suspense_count (rows_viewed view file)) ≡ nat_lt most_suspense (suspense_count (lines_standing b.entries) + suspense_count (rows_of_file b file))
+  viewed-many : nat_lt most_suspense (suspense_then view (rows_viewed view file)) ≡ nat_lt most_suspense (suspense_count (lines_after b.entries file))
   viewed-many =
-      ap (λ rows. nat_lt most_suspense (view.suspense + suspense_count rows)) viewed_rows
-      ∙ limit-same view.suspense (suspense_count (lines_standing b.entries)) (suspense_count (rows_of_file b file)) most_suspense is.suspense_serves
+      ap (λ rows. nat_lt most_suspense (suspense_then view rows)) viewed_rows
+      ∙ limit-same (suspense_then view (rows_of_file b file)) (suspense_count (lines_after b.entries file)) most_suspense is.suspense_serves
 
   -- the rule is the book's
   pub viewed_rule : (day : ℕ) → import_rule view day file ≡ own_rule b day (ImportBank file)
@@ -369,7 +370,7 @@ skip-none rule rules e = ap (λ (o : Option Rule). first_of (o ∷ rules)) e
 
 -- the rules on what stands after some rows
 abbrev pub limits_viewed : ImportView → List BankRow → List (Option Rule)
-limits_viewed view rows = limit_rules view.suspense (credit_count_viewed view) rows
+limits_viewed view rows = limit_rules (suspense_then view rows) (credits_then view rows) rows
 
 -- the rule on the new lines' values
 abbrev pub values_rule : ImportView → ℕ → List BankLine → Option Rule
@@ -417,18 +418,22 @@ module _ (view : ImportView) (index : Index) (is : IsIndexOf view.employers.item
   pub indexed_rows : (last : ℕ) (new : List Placed) → rows_from (is_indexed index) last new ≡ rows_from (is_registered_by view) last new
   indexed_rows last new = λ i. rows_from (λ e. is_some (is e i)) last new
 
-  indexed_limits : (rows : List BankRow) → limit_rules view.suspense (count_indexed index) rows ≡ limits_viewed view rows
-  indexed_limits rows = λ i. limit_rules view.suspense (λ e purpose. option_map_or (count_for purpose) (is e i) 0) rows
+  -- the rules on what stands after rows, by the index
+  abbrev limits_indexed : List BankRow → List (Option Rule)
+  limits_indexed rows = limit_rules (view.suspense + suspense_count rows) (count_then index rows) rows
+
+  indexed_limits : (rows : List BankRow) → limits_indexed rows ≡ limits_viewed view rows
+  indexed_limits rows = λ i. limit_rules (suspense_then view rows) (λ e purpose. option_map_or (count_for purpose) (is e i) 0 + credit_count (credits_of_lines rows) e purpose) rows
 
   -- a limit that refuses by the index does so by the view
   pub limits_refuse : (r : Rule) (ahead : Option Rule) (last : ℕ) (new : List Placed) (rows found : List BankRow) → ahead ≡ None
       → rows ≡ rows_from (is_registered_by view) last new → found ≡ rows_from (is_indexed index) last new
-      → RefusedBy r (first_of (limit_rules view.suspense (count_indexed index) found)) → RefusedBy r (first_of (ahead ∷ limits_viewed view rows))
+      → RefusedBy r (first_of (limits_indexed found)) → RefusedBy r (first_of (ahead ∷ limits_viewed view rows))
   limits_refuse r ahead last new rows found none are is_found h =
       let same : rows ≡ found = are ∙ sym (indexed_rows last new) ∙ sym is_found in
-      let rules : first_of (ahead ∷ limits_viewed view rows) ≡ first_of (limit_rules view.suspense (count_indexed index) found) =
+      let rules : first_of (ahead ∷ limits_viewed view rows) ≡ first_of (limits_indexed found) =
       skip-none ahead (limits_viewed view rows) none ∙ ap (λ (rs : List BankRow). first_of (limits_viewed view rs)) same ∙ sym (ap first_of (indexed_limits found)) in
-      refused_as r (first_of (ahead ∷ limits_viewed view rows)) (first_of (limit_rules view.suspense (count_indexed index) found)) rules h
+      refused_as r (first_of (ahead ∷ limits_viewed view rows)) (first_of (limits_indexed found)) rules h
 
 -- ---- what is answered
 
@@ -462,7 +467,7 @@ judged_unread b day file given why r is_file is fails =
     (refused_unread (file_lines most_records file) why (subst (λ (bytes : List ℕ). Fails why (file_lines most_records bytes)) is_file fails)) in
     refused_first r (fault_rule (file_lines most_records file))
     (fault_rule (judgement known (lines_in file)) ∷ ahead_rule (find (is_ahead day) (new_lines known (lines_in file)))
-    ∷ limit_rules (suspense_count (lines_standing b.entries)) (credit_count (lines_standing b.entries)) rows) refused
+    ∷ limit_rules (suspense_count (lines_after b.entries file)) (credit_count (credits_after b.entries file)) rows) refused
 
 -- a refusal, and a reply
 module _ (b : Book) (file : List ℕ) (view : ImportView) (is : IsImportView b file view) (day : ℕ) (given : List ℕ) (is_file : given ≡ file) where

@@ -11,4 +11,4 @@
 pub mod decide;
 pub mod gate;
 
-pub use clear_book::{access, calls, kept, laws, outcomes, rows, rules};
+pub use clear_book::{calls, laws, outcomes, rows, rules};

@@ -1,5 +1,5 @@
 -- New files in memory hold an empty database.
-use Rattle.std.proofs.Common.{◌≡◌, ◌∙◌, [], sym, ap, subst, IsTrue, inl, inr, arith, false}
+use Rattle.std.proofs.Common.{◌≡◌, ◌∙◌, [], ap, IsTrue, inl, inr, arith}
 use Rattle.std.proofs.lemmas.Bool.{and_from}
 use Rattle.sqlite_disk.specs.declared.Disk.{Ghosts}
 use Rattle.sqlite_disk.specs.declared.Files.{Files}
@@ -12,16 +12,10 @@ use Rattle.sqlite_trees.proofs.Doubt.{no_doubt}
 use Rattle.sqlite_pool.proofs.StateLemmas.{clean_is}
 use Rattle.sqlite_catalog.proofs.ReadLemmas.{lists_once}
 use Rattle.sqlite.specs.Files.{AreFoundIn, Finds, IsOpened, file_state}
-use Rattle.sqlite.specs.Held.{Held, state}
-use Rattle.sqlite.specs.State.{HasCleanDisk}
-use Rattle.sqlite.specs.Store as store
+use Rattle.sqlite.specs.Held.{Held}
 use Rattle.sqlite.proofs.ListingLemmas.{empty_is_sound}
 use Rattle.sqlite_wal.specs.Recovery.{Image}
-use Rattle.clear_book.specs.Book.{Book}
-use Rattle.clear_book.specs.Tables.{Tables, Stands}
-use Rattle.clear_schema.specs.Held.{HasTables, StandsFor}
 use Rattle.clear_schema.specs.Schema.{no_schema}
-use Rattle.clear_office.specs.Office.{AtOffice, IsHonest, Keeps}
 
 -- an empty database file holds no database, so one is made
 none_found : (image : Image) (trees : Trees) → image.db ≡ [] → AreFoundIn image trees → trees catalog_tree ≡ []
@@ -40,10 +34,3 @@ module _ {D : Type 0} {g : Ghosts D} where
   -- on disks that never lie, a connection's disk is clean
   pub always_clean : ((d : D) → IsTrue (g.is_clean d)) → (it : FileStore D g) → IsClean (view it)
   always_clean honest it = no_doubt _ (clean_is it.pool ∙ and_from _ _ (honest _) (honest _))
-
--- an office just opened keeps the book that its store's tables stand for
-pub opened_keeps : {S : Type 0} (g : store.Ghosts S) (office : AtOffice S) (conn : Held S) (b : Book) (t : Tables) → office ≡ record { conn = conn; failed = false } → Stands b t
-    → (HasCleanDisk (state g conn) → HasTables t (state g conn).now × HasTables t (state g conn).committed × ((trees : Trees) → (state g conn).may_leave trees → StandsFor t trees))
-    → IsHonest g office → Keeps g office b
-opened_keeps g office conn b t is stands has =
-    subst (λ o. IsHonest g o → Keeps g o b) (sym is) (λ clean. let it = has clean in (t, stands, record { now = it.0; committed = it.1; left = it.2 }))

@@ -1,6 +1,7 @@
 //! An office over a new store in memory.
 ghost use Rattle.std.specs.Prelude.{◌≡◌, false, IfSome};
 ghost use Rattle.sqlite.specs.Files.{file_state, over_files};
+ghost use Rattle.sqlite.specs.Held.{state};
 ghost use Rattle.clear_book.specs.Book.{first_book};
 ghost use Rattle.clear_book.specs.Machine.{IsLawful};
 ghost use Rattle.clear_schema.specs.Schema.{no_schema};
@@ -8,9 +9,9 @@ ghost use Rattle.clear_office.specs.Office.{IsHonest, Keeps};
 
 use clear_book::ranges::rates_in_range;
 use clear_money::rates::RateTable;
+use clear_office::made::make_office;
 use clear_office::office::Office;
-use clear_schema::store::Store;
-use sqlite::{Connection, FileStore, Files, Options};
+use sqlite::{Alter, Connection, FileStore, Files, Options};
 use sqlite_disk::Memory;
 use std::alloc::Global;
 
@@ -24,9 +25,26 @@ pub fn office_in_memory(alloc: Global, rates: &RateTable) -> Option<Office<FileS
 {
     // No effect at run time: the proof reads from this call that the rates are lawful.
     rates_in_range(rates);
-    let conn = connection_in_memory(alloc)?;
-    match Store::create(conn, rates) {
-        Ok(store) => Some(Office::open(alloc, store)),
+    match connection_in_memory(alloc) {
+        Some(connection) => office_over(alloc, connection, rates),
+        None => None,
+    }
+}
+
+// An office without requests over a connection on an empty database, whatever keeps that.
+fn office_over<S: Alter + Drop>(
+    alloc: Global,
+    connection: Connection<S>,
+    rates: &RateTable,
+) -> Option<Office<S>>
+    requires { connection.in_transaction ≡ false }
+    ensures working { IfSome result (λ office. office.failed ≡ false) }
+    ensures keeps { IfSome result (λ office. IsHonest S.Store office
+        → (state S.Store connection).now.schema ≡ no_schema
+        → Keeps S.Store office (first_book rates.now)) }
+{
+    match make_office(alloc, connection, rates) {
+        Ok(office) => Some(office),
         Err(_) => None,
     }
 }

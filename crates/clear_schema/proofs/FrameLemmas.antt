@@ -10,8 +10,8 @@ use Rattle.sqlite.specs.Store.{Ghosts}
 use Rattle.clear_rows.proofs.Inside.{keeps_none, survives_none, unchanged_keeps}
 use Rattle.clear_rows.proofs.Refused.{query_never}
 use Rattle.clear_rows.proofs.Statements.{shown_unchanged}
-use Rattle.clear_book.specs.Tables.{Tables}
-use Rattle.clear_book.specs.declared.rules.StoreCause.TheVariants.{Constraint, Row as OutOfRange}
+use Rattle.clear_values.specs.Tables.{Tables}
+use Rattle.clear_values.specs.declared.causes.StoreCause.TheVariants.{Constraint, Row as OutOfRange}
 use Rattle.clear_schema.specs.Held.{HasTables}
 use Rattle.clear_schema.specs.Runs.{IsDone, IsBroken, IsBrokenQuery}
 use Rattle.clear_schema.specs.declared.fault.Fault.{Fault}

@@ -11,8 +11,8 @@ use Rattle.sqlite.specs.Listing.{understood}
 use Rattle.sqlite.specs.Order.{Row}
 use Rattle.sqlite.specs.State.{Begins, HasCleanDisk, IsUnchanged, KeepsCommit, Shown, Survives}
 use Rattle.sqlite.specs.Store.{Ghosts}
-use Rattle.clear_book.specs.Tables.{Tables}
-use Rattle.clear_book.specs.declared.rules.StoreCause.TheVariants.{Constraint, Row as OutOfRange}
+use Rattle.clear_values.specs.Tables.{Tables}
+use Rattle.clear_values.specs.declared.causes.StoreCause.TheVariants.{Constraint, Row as OutOfRange}
 use Rattle.clear_schema.specs.Held.{HasTables}
 use Rattle.clear_schema.specs.Runs.{IsDone, IsBroken}
 use Rattle.clear_schema.specs.declared.fault.Fault.{Fault}

@@ -1,11 +1,12 @@
--- A later schema, as an example: that of a store, with one table and one index more.
+-- A later layout, as an example: that of this program's stores, with one table and one index more.
 use Rattle.std.specs.Prelude.{◌++◌, [], ◌∷◌, false, codes}
 use Rattle.sqlite.specs.Schema.{Schema}
 use Rattle.sqlite.specs.Table.{Table}
 use Rattle.sqlite_catalog.specs.Listing.{automatic}
 use Rattle.sqlite_schema.specs.declared.schema.Index.{Index}
 use Rattle.sqlite_value.specs.Keys.{plain}
-use Rattle.clear_schema.specs.Schema.{all_tables, all_indexes, int, keyed, wages_table}
+use Rattle.clear_schema.specs.Schema.{Layout, all_indexes, int, keyed, schema_of, this_layout}
+use Rattle.clear_schema.specs.Schema.{wages_table}
 
 abbrev pub pieces_table : Table
 pieces_table =
@@ -26,9 +27,16 @@ by_worker = record {
   is_unique = false;
 }
 
-abbrev pub later_schema : Schema
-later_schema = record {
-  tables = all_tables ++ pieces_table ∷ [];
+-- this program's number still tells of it
+abbrev pub more_layout : Layout
+more_layout = record this_layout {
+  further = pieces_table ∷ [];
   indexes = all_indexes ++ automatic pieces_table 0 (1 ∷ 2 ∷ []) 20 ∷ by_worker ∷ [];
-  views = [];
 }
+
+-- or one of its own
+abbrev pub later_layout : Layout
+later_layout = record more_layout { number = 1 }
+
+abbrev pub later_schema : Schema
+later_schema = schema_of later_layout

@@ -5,7 +5,7 @@ ghost use Rattle.sqlite.specs.Held.{state};
 ghost use Rattle.sqlite.specs.State.{HasCleanDisk, KeepsCommit, Survives};
 ghost use Rattle.sqlite.specs.Tree.{Trees};
 ghost use Rattle.clear_rows.specs.Stands.{Stands};
-ghost use Rattle.clear_book.specs.Tables.{Tables};
+ghost use Rattle.clear_values.specs.Tables.{Tables};
 ghost use Rattle.clear_schema.specs.Faults.{IsOfDisk};
 ghost use Rattle.clear_schema.specs.Held.{HasTables, StandsFor};
 ghost use Rattle.clear_schema.specs.Still.{IsStill};

@@ -7,14 +7,14 @@ ghost use Rattle.sqlite.specs.Held.{state};
 ghost use Rattle.sqlite.specs.State.{HasCleanDisk, Survives};
 ghost use Rattle.sqlite.specs.Tree.{Trees};
 ghost use Rattle.clear_rows.specs.Stands.{Stands};
-ghost use Rattle.clear_book.specs.Book.{first_book};
-ghost use Rattle.clear_book.specs.Tables.{Tables, Stands as StandsForBook};
-ghost use Rattle.clear_schema.specs.Faults.{IsOfDisk, IsWrong};
+ghost use Rattle.clear_values.specs.Tables.{Tables};
+ghost use Rattle.clear_schema.specs.Faults.{IsOfDisk, IsWrong, other_layout};
 ghost use Rattle.clear_schema.specs.First.{first_tables};
-ghost use Rattle.clear_schema.specs.Held.{HasTables, StandsFor, TellsAs, TellsSchema, this_schema};
+ghost use Rattle.clear_schema.specs.Held.{HasTables, StandsFor, StandsOtherwise, TellsAs};
+ghost use Rattle.clear_schema.specs.Held.{TellsSchema, this_schema};
 ghost use Rattle.clear_schema.specs.Lending.{lends_connection};
 ghost use Rattle.clear_schema.specs.Opening.{TellsOrIsEmpty};
-ghost use Rattle.clear_schema.specs.Schema.{no_schema};
+ghost use Rattle.clear_schema.specs.Schema.{no_schema, store_schema};
 ghost use Rattle.clear_schema.specs.Still.{IsStill};
 
 use crate::body::{Body, Stop, confirm, within};
@@ -88,7 +88,6 @@ impl<S: Alter> Store<S> {
             → HasCleanDisk (state S.Store connection)) }
         ensures clean_left { IfErr result (λ left. HasCleanDisk (state S.Store left.connection)
             → HasCleanDisk (state S.Store connection)) }
-        ensures book { StandsForBook (first_book rates.now) (first_tables rates.now) }
     {
         let mut connection = connection;
         match create_in(&mut connection, rates) {
@@ -97,7 +96,8 @@ impl<S: Alter> Store<S> {
         }
     }
 
-    /// Finds the store in a database that it was made in. A refusal hands the connection back.
+    /// Finds the store in a database that it was made in. Where the database tells our number, but has
+    /// other tables or indexes than ours, `Store(Other)`. A refusal hands the connection back.
     pub fn open(connection: Connection<S>) -> Result<Store<S>, Refusal<S>>
         requires { connection.in_transaction ≡ false }
         ensures mode { IfOk result (λ store. store.conn.in_transaction ≡ false) }
@@ -113,6 +113,15 @@ impl<S: Alter> Store<S> {
         ensures version { IfErr result (λ left. HasCleanDisk (state S.Store left.connection)
             → (number : ℕ) → TellsAs number (state S.Store connection).committed.trees
             → IsTrue (state S.Store connection).is_open → IsWrong this_schema number left.fault) }
+        // A database is a store only where its tables and indexes are just those of our layout.
+        ensures only_ours { OnOk result ((state S.Store connection).now.schema ≡ store_schema) }
+        ensures other { IfErr result (λ left. HasCleanDisk (state S.Store left.connection)
+            → StandsOtherwise (state S.Store connection).committed.trees
+            → IsTrue (state S.Store connection).is_open
+            → left.fault ≢ OpenFault.Failed Fault.Memory → left.fault ≡ other_layout) }
+        ensures not_other { IfOk result (λ store. HasCleanDisk (state S.Store store.conn)
+            → IsTrue (state S.Store connection).is_open
+            → ¬ StandsOtherwise (state S.Store connection).committed.trees) }
         ensures empty { IfErr result (λ left. HasCleanDisk (state S.Store left.connection)
             → (state S.Store connection).now.schema ≡ no_schema
             → (told : ℕ) → left.fault ≡ OpenFault.WrongVersion told → told ≡ 0) }

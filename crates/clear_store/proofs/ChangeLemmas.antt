@@ -1,8 +1,8 @@
 -- The rows of a change lie beside the counts.
 use Rattle.std.proofs.Common.{◌≡◌, ℕ, ◌+◌, refl, sym, ap, subst, arith}
-use Rattle.clear_book.specs.declared.rows.Change.{Change}
-use Rattle.clear_book.specs.declared.rows.Change.TheVariants.{AddEmployer, AddReport, ReplaceReport, AddBankLines}
-use Rattle.clear_book.specs.Tables.{Tables, changed, dated}
+use Rattle.clear_values.specs.declared.rows.Change.{Change}
+use Rattle.clear_values.specs.declared.rows.Change.TheVariants.{AddEmployer, AddReport, ReplaceReport, AddBankLines}
+use Rattle.clear_values.specs.Tables.{Tables, changed, dated}
 use Rattle.clear_schema.specs.Values.{Counts, counts_of, with_counts}
 use Rattle.clear_store.specs.Changes.{IsThere, IsFree, serials_taken, counts_after}
 

@@ -2,11 +2,11 @@
 use Rattle.std.proofs.Common.{◌≡◌, ℕ, ◌+◌, ◌<◌, List, [], ◌∷◌, ◌++◌, length, take, get_or, append-nil, Option, Some, None, sym, ap, ◌∙◌}
 use Rattle.std.proofs.lemmas.List.{take_more}
 use Rattle.std.specs.List.{cons_option, AllByRecursion}
-use Rattle.clear_book.specs.declared.rows.BankRow.{BankRow}
-use Rattle.clear_book.specs.declared.rows.CreditRow.{CreditRow}
-use Rattle.clear_book.specs.Lines.{credit_of_line, credits_of_lines}
-use Rattle.clear_book.specs.RowRanges.{IsSerial}
-use Rattle.clear_book.proofs.LinesLemmas.{credits_of_lines-append}
+use Rattle.clear_values.specs.declared.rows.BankRow.{BankRow}
+use Rattle.clear_values.specs.declared.rows.CreditRow.{CreditRow}
+use Rattle.clear_values.specs.Credits.{credit_of_line, credits_of_lines}
+use Rattle.clear_values.specs.RowRanges.{IsSerial}
+use Rattle.clear_values.proofs.CreditRowsLemmas.{credits_of_lines-append}
 use Rattle.clear_store.specs.Changes.{AreSerials}
 
 module _ (rows : List BankRow) (i : ℕ) (row : BankRow) (inside : i < length rows) (is : row ≡ get_or rows i row) where

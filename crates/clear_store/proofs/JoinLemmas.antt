@@ -6,8 +6,8 @@ use Rattle.sqlite.specs.Held.{Held, state}
 use Rattle.sqlite.specs.State.{HasCleanDisk, State, Survives}
 use Rattle.sqlite.specs.Store.{Ghosts}
 use Rattle.clear_rows.proofs.Inside.{keeps_both, keeps_none, survives_both, survives_none}
-use Rattle.clear_book.specs.Tables.{Tables}
-use Rattle.clear_book.specs.declared.rules.StoreCause.TheVariants.{Constraint, Row as OutOfRange}
+use Rattle.clear_values.specs.Tables.{Tables}
+use Rattle.clear_values.specs.declared.causes.StoreCause.TheVariants.{Constraint, Row as OutOfRange}
 use Rattle.clear_schema.specs.Frame.{Writes}
 use Rattle.clear_schema.specs.Held.{HasTables}
 use Rattle.clear_schema.specs.declared.fault.Fault.{Fault}

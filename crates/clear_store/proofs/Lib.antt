@@ -1,6 +1,5 @@
 pub mod ChangeLemmas
 pub mod CreditLemmas
 pub mod JoinLemmas
-pub mod LawLemmas
 pub mod OnceLemmas
 pub mod RowLemmas

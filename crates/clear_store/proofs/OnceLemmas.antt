@@ -2,9 +2,9 @@
 use Rattle.std.proofs.Common.{◌≡◌, ℕ, ◌+◌, ◌≤◌, List, [], ◌∷◌, Some, None, Bool, true, false, cond, refl, ap, subst, arith}
 use Rattle.std.specs.List.{AllByRecursion, sum_by}
 use Rattle.std.proofs.lemmas.List.Sums.{sum_by-cons}
-use Rattle.clear_book.specs.Keyed.{is_key, is_before, find_row, AreInOrder, AreOnce, with_row, with_rows}
-use Rattle.clear_book.proofs.KeyedLemmas.{is_key-refl, is_key-true, none_behind}
-use Rattle.clear_book.proofs.KeyedRowsLemmas.{sum_by-with_row, sum_by-with_rows}
+use Rattle.clear_values.specs.Keyed.{is_key, is_before, find_row, AreInOrder, AreOnce, with_row, with_rows}
+use Rattle.clear_values.proofs.KeyedLemmas.{is_key-refl, is_key-true, none_behind}
+use Rattle.clear_values.proofs.KeyedRowsLemmas.{sum_by-with_row, sum_by-with_rows}
 use Rattle.clear_store.specs.Changes.{AreFree}
 
 module _ {Row : Type 0} (key : Row → List ℕ) where

@@ -2,8 +2,8 @@
 use Rattle.std.proofs.Common.{◌≡◌, ℕ, ◌+◌, ◌<◌, List, [], ◌∷◌, ◌++◌, length, get_or, take, map, zero, suc, Option, None, Some, is_some, Bool, true, false, cond, ◌||◌, refl, sym, ap, ap₂, ◌∙◌, subst, arith}
 use Rattle.std.proofs.lemmas.List.{take_more, take-map, length-map, get_or-map}
 use Rattle.std.specs.List.{AllByRecursion}
-use Rattle.clear_book.specs.Keyed.{is_key, is_before, find_row, with_row, with_rows}
-use Rattle.clear_book.proofs.KeyedLemmas.{other_row}
+use Rattle.clear_values.specs.Keyed.{is_key, is_before, find_row, with_row, with_rows}
+use Rattle.clear_values.proofs.KeyedLemmas.{other_row}
 use Rattle.clear_store.specs.Changes.{AreFree}
 
 module _ {Row : Type 0} (key : Row → List ℕ) where

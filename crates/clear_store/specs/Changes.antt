@@ -5,19 +5,19 @@ use Rattle.std.specs.List.{AllByRecursion}
 use Rattle.sqlite.specs.Held.{Held, state}
 use Rattle.sqlite.specs.State.{HasCleanDisk, KeepsCommit, Survives}
 use Rattle.sqlite.specs.Store.{Ghosts}
-use Rattle.clear_book.specs.Accounts.{credit_key}
-use Rattle.clear_book.specs.declared.rows.BankRow.{BankRow}
-use Rattle.clear_book.specs.declared.rows.Change.{Change}
-use Rattle.clear_book.specs.declared.rows.Change.TheVariants.{AddEmployer, AddReport}
-use Rattle.clear_book.specs.declared.rows.Change.TheVariants.{ReplaceReport, AddBankLines}
-use Rattle.clear_book.specs.declared.texts.WageLine.{WageLine}
-use Rattle.clear_book.specs.Keyed.{find_row, with_row, without_rows}
-use Rattle.clear_book.specs.Limits.{most_entries, most_gross, most_serials, most_versions}
-use Rattle.clear_book.specs.Lines.{credits_of_lines}
-use Rattle.clear_book.specs.RowRanges.{IsSerial}
-use Rattle.clear_book.specs.Tables.{Tables, bank_key, employer_key, report_key, wage_key}
-use Rattle.clear_book.specs.Tables.{is_wage_key_of, wage_rows}
-use Rattle.clear_book.specs.declared.rules.StoreCause.TheVariants.{Constraint, Row as OutOfRange}
+use Rattle.clear_values.specs.Credits.{credit_key}
+use Rattle.clear_values.specs.declared.rows.BankRow.{BankRow}
+use Rattle.clear_values.specs.declared.rows.Change.{Change}
+use Rattle.clear_values.specs.declared.rows.Change.TheVariants.{AddEmployer, AddReport}
+use Rattle.clear_values.specs.declared.rows.Change.TheVariants.{ReplaceReport, AddBankLines}
+use Rattle.clear_values.specs.declared.texts.WageLine.{WageLine}
+use Rattle.clear_values.specs.Keyed.{find_row, with_row, without_rows}
+use Rattle.clear_values.specs.Limits.{most_entries, most_gross, most_serials, most_versions}
+use Rattle.clear_values.specs.Credits.{credits_of_lines}
+use Rattle.clear_values.specs.RowRanges.{IsSerial}
+use Rattle.clear_values.specs.Tables.{Tables, bank_key, employer_key, report_key, wage_key}
+use Rattle.clear_values.specs.Tables.{is_wage_key_of, wage_rows}
+use Rattle.clear_values.specs.declared.causes.StoreCause.TheVariants.{Constraint, Row as OutOfRange}
 use Rattle.clear_schema.specs.Held.{HasTables}
 use Rattle.clear_schema.specs.declared.fault.Fault.{Fault}
 use Rattle.clear_schema.specs.declared.fault.Fault.TheVariants.{Store}

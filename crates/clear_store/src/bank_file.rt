@@ -1,19 +1,19 @@
 //! The new lines of a bank file, and the credits that they are.
 ghost use Rattle.std.specs.Prelude.{◌≡◌, IfOk};
 ghost use Rattle.std.specs.List.{AllByRecursion};
-ghost use Rattle.clear_book.specs.Accounts.{credit_key};
-ghost use Rattle.clear_book.specs.Keyed.{with_rows};
-ghost use Rattle.clear_book.specs.Lines.{credits_of_lines};
-ghost use Rattle.clear_book.specs.RowRanges.{IsSerial};
-ghost use Rattle.clear_book.specs.Tables.{bank_key};
+ghost use Rattle.clear_values.specs.Credits.{credit_key};
+ghost use Rattle.clear_values.specs.Keyed.{with_rows};
+ghost use Rattle.clear_values.specs.Credits.{credits_of_lines};
+ghost use Rattle.clear_values.specs.RowRanges.{IsSerial};
+ghost use Rattle.clear_values.specs.Tables.{bank_key};
 ghost use Rattle.clear_ledger.specs.Shown.{serial_key};
 ghost use Rattle.clear_store.specs.Changes.{AreFree, AreSerials, Puts};
 
-use clear_book::rows::{BankRow, CreditRow};
-use clear_book::texts::CreditReference;
 use clear_ledger::bank::insert_line;
 use clear_ledger::credits::insert_credit;
 use clear_schema::fault::Fault;
+use clear_values::rows::{BankRow, CreditRow};
+use clear_values::texts::CreditReference;
 use sqlite::{Alter, Transaction};
 use std::alloc::{AllocError, Global};
 

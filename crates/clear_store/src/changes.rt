@@ -1,6 +1,6 @@
 //! Putting the change of a decision into the tables.
 ghost use Rattle.std.specs.Prelude.{◌≡◌, None, IfSome};
-ghost use Rattle.clear_book.specs.Tables.{changed, dated};
+ghost use Rattle.clear_values.specs.Tables.{changed, dated};
 ghost use Rattle.clear_schema.specs.Values.{counts_of, with_counts};
 ghost use Rattle.clear_firms.specs.Counts.{as_stored};
 ghost use Rattle.clear_store.specs.Changes.{HasRoom, IsFree, IsInRange, IsPuttable, IsThere, Puts};
@@ -8,12 +8,12 @@ ghost use Rattle.clear_store.specs.Changes.{counts_after, serials_taken};
 
 use crate::bank_file::add_lines;
 use crate::month_report::{add_report, put_report};
-use clear_book::rows::{Change, EmployerRow};
-use clear_book::rules::StoreCause;
 use clear_firms::counts::{Counts, put_counts};
 use clear_firms::employers::insert_employer;
 use clear_money::days::Day;
 use clear_schema::fault::Fault;
+use clear_values::causes::StoreCause;
+use clear_values::rows::{Change, EmployerRow};
 use sqlite::{Alter, Transaction};
 use std::alloc::Global;
 

@@ -4,7 +4,6 @@
 
 mod bank_file;
 pub mod changes;
-pub mod laws;
 mod month_report;
 
 pub use clear_firms::{counts, employers, rates, reports, wages};

@@ -1,16 +1,16 @@
 //! A month's report: its row, and the wage rows of its lines.
 ghost use Rattle.std.specs.Prelude.{◌≡◌};
-ghost use Rattle.clear_book.specs.Keyed.{with_rows, without_rows};
-ghost use Rattle.clear_book.specs.Tables.{changed, is_wage_key_of, wage_key, wage_rows, with_wages};
+ghost use Rattle.clear_values.specs.Keyed.{with_rows, without_rows};
+ghost use Rattle.clear_values.specs.Tables.{changed, is_wage_key_of, wage_key, wage_rows, with_wages};
 ghost use Rattle.clear_store.specs.Changes.{AreFree, AreGross, IsFree, IsInRange, IsThere, Puts};
 
-use clear_book::rows::{Change, ReportRow, WageRow};
-use clear_book::texts::WageLine;
 use clear_firms::reports::{insert_report, replace_report};
 use clear_firms::wages::{delete_wages, insert_wage};
 use clear_money::months::Month;
 use clear_money::numbers::EmployerNo;
 use clear_schema::fault::Fault;
+use clear_values::rows::{Change, ReportRow, WageRow};
+use clear_values::texts::WageLine;
 use sqlite::{Alter, Transaction};
 
 // Adds the first report of a month.

@@ -19,21 +19,22 @@ use Rattle.clear_bank.specs.declared.lines.Purpose.{Purpose}
 use Rattle.clear_bank.specs.declared.lines.Purpose.TheVariants.{Contribution, Interest}
 use Rattle.clear_book.proofs.KeyedRowsLemmas.{count_by-ordered}
 use Rattle.clear_book.proofs.LawsLemmas.{lawful_small}
-use Rattle.clear_book.proofs.LinesLemmas.{credits_once, found_line, is_key-bytes_eq, length-rows_from, references_standing, standing_seen}
+use Rattle.clear_book.proofs.CreditsMadeLemmas.{credits-few, credits_after-count, credits_once, lines-few}
+use Rattle.clear_book.proofs.LinesLemmas.{found_line, is_key-bytes_eq, length-rows_from, references_standing, standing_seen, suspense_count-append}
 use Rattle.clear_book.proofs.KeyedLemmas.{is_key-refl, is_key-true}
 use Rattle.clear_book.specs.Accounts.{credit_key}
 use Rattle.clear_book.specs.Book.{Book, member_of}
 use Rattle.clear_book.specs.Keyed.{find_row, is_key}
 use Rattle.clear_book.specs.Limits.{most_credits, most_suspense}
-use Rattle.clear_book.specs.Lines.{credit_count, credit_of_line, credits_of_lines, is_credit_of, is_in_suspense, lines_in, lines_of_rows, lines_seen, lines_standing, new_lines, suspense_count}
+use Rattle.clear_book.specs.Lines.{credit_count, credits_after, credits_made, lines_after, credits_of_lines, is_credit_of, serial_count, is_in_suspense, lines_in, lines_of_rows, lines_seen, lines_standing, new_lines, suspense_count}
 use Rattle.clear_book.specs.Machine.{IsLawful}
 use Rattle.clear_book.specs.RowRanges.{AreInRange}
 use Rattle.clear_book.specs.Tables.{Stands, Tables, bank_key, employer_key}
 use Rattle.clear_book.specs.declared.rows.BankRow.{BankRow}
 use Rattle.clear_book.specs.declared.rows.EmployerRow.{EmployerRow}
 use Rattle.clear_firms.specs.Counts.{AreCounts}
-use Rattle.clear_rules.specs.Views.ImportBank.{IsEmployerViewed, IsImportView, count_for, employer_under, rows_of_file}
-use Rattle.clear_rules.specs.Views.Serves.{Serves}
+use Rattle.clear_rules.specs.Views.ImportBank.{IsEmployerViewed, IsImportView, count_for, credit_count_viewed, employer_under, rows_of_file}
+use Rattle.clear_rules.specs.Views.Serves.{Serves, ServesAfter}
 use Rattle.clear_rules.specs.declared.decide.import.EmployerCredits.{EmployerCredits}
 use Rattle.clear_rules.specs.declared.decide.import.ImportView.{ImportView}
 use Rattle.clear_schema.specs.Values.{counts_of}
@@ -95,24 +96,13 @@ module _ (t : Tables) where
 
 -- ---- how many there are at most
 
-credits_few : (rows : List BankRow) → length (credits_of_lines rows) ≤ length rows
-credits_few [] = omega arith
-credits_few (row ∷ rows) = told row.employer (credits_few rows)
-  where
-    told : (firm : Option ℕ) → length (credits_of_lines rows) ≤ length rows → length (cons_option (credit_of_line row firm) (credits_of_lines rows)) ≤ length (row ∷ rows)
-    told None rest = omega arith
-    told (Some e) rest = omega arith
-
-credit_count-le : (rows : List BankRow) (e : ℕ) (p : Purpose) → credit_count rows e p ≤ length rows
-credit_count-le rows e p = omega (arith, count_by-le-length (is_credit_of e p) (credits_of_lines rows), credits_few rows)
-
 new_few : (known lines : List BankLine) → length (new_lines known lines) ≤ length lines
 new_few known lines =
     omega (arith, length-filter (is_new known lines) (enumerate_from 0 lines), count_by-le-length (is_new known lines) (enumerate_from 0 lines), length-enumerate_from 0 lines)
 
 file_few : (b : Book) (file : List ℕ) → length (rows_of_file b file) ≤ length (lines_in file)
 file_few b file =
-    omega (arith, length-rows_from (λ e. is_some (member_of b.entries e)) (length (lines_seen b.entries)) (new_lines (lines_of_rows (lines_seen b.entries)) (lines_in file)), new_few (lines_of_rows (lines_seen b.entries)) (lines_in file))
+    omega (arith, length-rows_from (λ e. is_some (member_of b.entries e)) (serial_count b.entries) (new_lines (lines_of_rows (lines_seen b.entries)) (lines_in file)), new_few (lines_of_rows (lines_seen b.entries)) (lines_in file))
 
 -- the serials serve for a count that is no more
 serials_serve : (serials more limit n count new : ℕ) → IsServing serials more limit n → count ≤ serials → new ≤ more → Serves n count new limit
@@ -121,11 +111,16 @@ serials_serve serials more limit n count new serves few small =
     let within = serves.1 in
     inr (omega (arith, at), omega (arith, within))
 
+-- a number that serves for what stood serves, with so many more, for what stands then
+then_serves : (viewed count more after limit : ℕ) → after ≡ count + more → Serves viewed count more limit → ServesAfter (viewed + more) after limit
+then_serves viewed count more after limit sum (inl same) = inl (ap (λ (n : ℕ). n + more) same ∙ sym sum)
+then_serves viewed count more after limit sum (inr within) = let high = within.0 in inr (omega (arith, sum, high), within.1)
+
 -- ---- the view of a book
 
 module _ (b : Book) (t : Tables) (lawful : IsLawful b) (stands : Stands b t) (file : List ℕ) (view : ImportView) (read : IsImportRead t t.serial (lines_in file) view) where
-  seen_length : length (lines_standing b.entries) ≡ t.serial
-  seen_length = ap length (standing_seen b.entries) ∙ sym stands.serial
+  lines_given : length (lines_standing b.entries) ≤ t.serial
+  lines_given = let lines : length (lines_standing b.entries) ≡ length (lines_seen b.entries) = ap length (standing_seen b.entries) in omega (arith, lines, stands.serial)
 
   known-at : (reference : List ℕ) → option_map (λ (row : BankRow). row.line) (find_row bank_key t.bank reference) ≡ line_under reference (lines_of_rows (lines_seen b.entries))
   known-at reference =
@@ -136,15 +131,15 @@ module _ (b : Book) (t : Tables) (lawful : IsLawful b) (stands : Stands b t) (fi
   suspense_counted : count_by is_in_suspense t.bank ≡ suspense_count (lines_standing b.entries)
   suspense_counted = count_by-ordered bank_key is_in_suspense t.bank (lines_standing b.entries) stands.bank_in_order (references_standing b.entries) stands.bank
 
-  credits_counted : (e : ℕ) (p : Purpose) → count_by (is_credit_of e p) t.credits ≡ credit_count (lines_standing b.entries) e p
-  credits_counted e p = count_by-ordered credit_key (is_credit_of e p) t.credits (credits_of_lines (lines_standing b.entries)) stands.credits_in_order (credits_once b.entries) stands.credits
+  credits_counted : (e : ℕ) (p : Purpose) → count_by (is_credit_of e p) t.credits ≡ credit_count (credits_made b.entries) e p
+  credits_counted e p = count_by-ordered credit_key (is_credit_of e p) t.credits (credits_made b.entries) stands.credits_in_order (credits_once b.entries) stands.credits
 
   suspense_serves : (view.suspense ≡ count_by is_in_suspense t.bank) ⊎ IsServing t.serial (length (lines_in file)) most_suspense view.suspense ⊎ ((view.suspense ≡ most_suspense) × (lines_in file ≡ []))
       → Serves view.suspense (suspense_count (lines_standing b.entries)) (suspense_count (rows_of_file b file)) most_suspense
   suspense_serves (inl counted) = inl (counted ∙ suspense_counted)
   suspense_serves (inr (inl serves)) =
       serials_serve t.serial (length (lines_in file)) most_suspense view.suspense _ _ serves
-      (omega (arith, count_by-le-length is_in_suspense (lines_standing b.entries), seen_length))
+      (omega (arith, count_by-le-length is_in_suspense (lines_standing b.entries), lines_given))
       (omega (arith, count_by-le-length is_in_suspense (rows_of_file b file), file_few b file))
   suspense_serves (inr (inr none)) =
       let most = none.0 in
@@ -153,12 +148,12 @@ module _ (b : Book) (t : Tables) (lawful : IsLawful b) (stands : Stands b t) (fi
       inr (omega (arith, most, few), omega (arith, most, count_by-le-length is_in_suspense (rows_of_file b file), file_few b file, no_lines))
 
   credits_serve : (e : ℕ) (p : Purpose) (serving : Option ℕ) → IfSome serving (IsServing t.serial (length (lines_in file)) most_credits)
-      → Serves (credits_viewed serving t e p) (credit_count (lines_standing b.entries) e p) (credit_count (rows_of_file b file) e p) most_credits
+      → Serves (credits_viewed serving t e p) (credit_count (credits_made b.entries) e p) (credit_count (credits_of_lines (rows_of_file b file)) e p) most_credits
   credits_serve e p None serves = inl (credits_counted e p)
   credits_serve e p (Some n) serves =
       serials_serve t.serial (length (lines_in file)) most_credits n _ _ serves
-      (omega (arith, credit_count-le (lines_standing b.entries) e p, seen_length))
-      (omega (arith, credit_count-le (rows_of_file b file) e p, file_few b file))
+      (omega (arith, credits-few b.entries e p, stands.serial))
+      (omega (arith, lines-few (rows_of_file b file) e p, file_few b file))
 
   counted-for : (e : ℕ) (p : Purpose) → count_for p (counted_firm read.serving t e) ≡ credits_viewed read.serving t e p
   counted-for e Contribution = refl
@@ -176,9 +171,11 @@ module _ (b : Book) (t : Tables) (lawful : IsLawful b) (stands : Stands b t) (fi
   firm_stands e found = record {
     registered_is = ap is_some found ∙ is_some-map (λ (row : EmployerRow). counted_firm read.serving t e) (find_row employer_key t.employers (e ∷ [])) ∙ registered-at e;
     credits_serve = λ p registered.
-        subst (λ n. Serves n (credit_count (lines_standing b.entries) e p) (credit_count (rows_of_file b file) e p) most_credits)
+        then_serves (credit_count_viewed view e p) (credit_count (credits_made b.entries) e p) (credit_count (credits_of_lines (rows_of_file b file)) e p) (credit_count (credits_after b.entries file) e p) most_credits
+        (credits_after-count b.entries file e p)
+        (subst (λ n. Serves n (credit_count (credits_made b.entries) e p) (credit_count (credits_of_lines (rows_of_file b file)) e p) most_credits)
         (sym (ap (λ (o : Option EmployerCredits). option_map_or (count_for p) o 0) found ∙ count_found e p (find_row employer_key t.employers (e ∷ [])) (registered-at e ∙ registered)))
-        (credits_serve e p read.serving read.serves);
+        (credits_serve e p read.serving read.serves));
   }
 
   firm_of_line : (o : Option ℕ) → IfSome o (λ e. employer_under view.employers.items e ≡ firm_viewed read.serving t e) → IfSome o (IsEmployerViewed b file view)
@@ -192,7 +189,9 @@ module _ (b : Book) (t : Tables) (lawful : IsLawful b) (stands : Stands b t) (fi
         (λ line found. ap (line_under line.reference) read.known ∙ found ∙ known-at line.reference) (lines_in file) (each_line t (lines_in file));
     employers_are = all_weaker (λ line. IfSome line.employer (λ e. employer_under view.employers.items e ≡ firm_viewed read.serving t e)) (λ line. IfSome line.employer (IsEmployerViewed b file view))
         (λ line found. firm_of_line line.employer found) (lines_in file) read.employers;
-    suspense_serves = suspense_serves read.suspense;
+    suspense_serves =
+        then_serves view.suspense (suspense_count (lines_standing b.entries)) (suspense_count (rows_of_file b file)) (suspense_count (lines_after b.entries file)) most_suspense
+        (suspense_count-append (lines_standing b.entries) (rows_of_file b file)) (suspense_serves read.suspense);
     serials_is = read.serials_is ∙ stands.serial;
   }
 

@@ -1,28 +1,30 @@
 -- The tables of a lawful book make up the account of each firm, and it is the book's.
-use Rattle.std.proofs.Common.{◌≡◌, ℕ, ◌≤◌, List, [], ◌∷◌, length, filter, Option, Some, None, Bool, true, false, cond, ◌&&◌, ◌==◌, is_some, refl, sym, ap, ◌∙◌, subst, arith}
+use Rattle.std.proofs.Common.{◌≡◌, ℕ, ◌≤◌, List, [], ◌∷◌, length, filter, Some, None, Bool, true, false, cond, ◌&&◌, ◌==◌, is_some, refl, sym, ap, ◌∙◌, subst, arith}
 use Rattle.std.specs.Prelude.{IsSome}
-use Rattle.std.specs.List.{AllByRecursion, cons_option}
+use Rattle.std.specs.List.{AllByRecursion}
 use Rattle.std.proofs.lemmas.Bool.Decides.{nat_tests}
 use Rattle.std.proofs.lemmas.List.Sums.{sum_by-cons}
 use Rattle.clear_account.specs.declared.entries.Credit.{Credit}
-use Rattle.clear_bank.specs.declared.lines.Purpose.TheVariants.{Contribution}
+use Rattle.clear_bank.specs.declared.lines.Purpose.{Purpose}
+use Rattle.clear_bank.specs.declared.lines.Purpose.TheVariants.{Contribution, Interest}
+use Rattle.clear_bank.specs.Lines.{same_purpose}
 use Rattle.clear_money.specs.Rates.{Rate, rate_in_force}
-use Rattle.clear_book.specs.declared.rows.BankRow.{BankRow}
+use Rattle.clear_book.specs.declared.rows.CreditRow.{CreditRow}
 use Rattle.clear_book.specs.declared.rows.ReportRow.{ReportRow}
 use Rattle.clear_book.specs.declared.rows.WageRow.{WageRow}
-use Rattle.clear_book.specs.Accounts.{charges_of, credits_of, credit_key}
+use Rattle.clear_book.specs.Accounts.{charges_of, credits_of, credit_key, rank_of}
 use Rattle.clear_book.specs.Book.{Book, rates_of}
 use Rattle.clear_book.specs.Keyed.{find_row, is_key, is_before, with_row, with_rows, AreOnce}
-use Rattle.clear_book.specs.Lines.{credit_of_line, credits_of_lines, is_credit_of, line_credit, lines_standing}
+use Rattle.clear_book.specs.Lines.{credits_made, is_credit_of}
 use Rattle.clear_book.specs.Machine.{IsLawful}
 use Rattle.clear_book.specs.Tables.{Tables, Stands, is_wage_key_of, table_base, table_charges, table_credits, wage_key}
 use Rattle.clear_book.proofs.AccountLimitLemmas.{lawful_credit_count}
 use Rattle.clear_book.proofs.ChargesLemmas.{is_found, found_behind, found_first, reported, base_same, table_charges-charges_of}
 use Rattle.clear_book.proofs.CreditsLemmas.{credits-standing, table_credits-credits_of}
+use Rattle.clear_book.proofs.CreditsMadeLemmas.{made_once, paid_key}
 use Rattle.clear_book.proofs.KeyedLemmas.{is_key-sym, other_row}
 use Rattle.clear_book.proofs.KeyedRowsLemmas.{AreNew}
 use Rattle.clear_book.proofs.LimitsLemmas.{few_base, lawful_few}
-use Rattle.clear_book.proofs.LinesLemmas.{serial_key, serials_once, standing_seen}
 use Rattle.clear_book.proofs.RatesLemmas.{lawful_rated}
 use Rattle.clear_book.proofs.RowRangeLemmas.{rows_in_range}
 use Rattle.clear_views.specs.Owed.{IsChargeable, HasAccount, credit_serial, gross_sum, with_charges, with_credits}
@@ -52,7 +54,7 @@ gross_of_month (row ∷ rows) e m = told ((e == row.employer) && (m == row.month
         let here : weight row ≡ 0 = ap (λ b. cond b row.gross 0) is in
         omega (arith, sum_by-cons weight row rows, here, rest)
 
--- ---- serials: a payment has that of its bank line, and they stay apart in another order
+-- ---- keys that are apart stay so in another order
 
 module _ {Row : Type 0} (key other : Row → List ℕ) where
   none_with_row : (rows : List Row) (new : Row) (k : List ℕ) → is_key (other new) k ≡ false → find_row other rows k ≡ None → find_row other (with_row key rows new) k ≡ None
@@ -90,44 +92,44 @@ module _ {Row : Type 0} (key other : Row → List ℕ) where
   new_to_none [] = tt
   new_to_none (new ∷ news) = (refl, new_to_none news)
 
--- some of the rows
-module _ {Row : Type 0} (key : Row → List ℕ) (p : Row → Bool) where
-  none_chosen : (rows : List Row) (k : List ℕ) → find_row key rows k ≡ None → find_row key (filter p rows) k ≡ None
-  none_chosen [] k none = refl
-  none_chosen (row ∷ rows) k none =
-      let parts = other_row key row rows k none in
-      told (p row) parts.0 (none_chosen rows k parts.1)
+-- ---- a firm's payments for a purpose: no serial stands twice among them
+
+same_rank : (p q : Purpose) → same_purpose p q ≡ true → rank_of p ≡ rank_of q
+same_rank Contribution Contribution h = refl
+same_rank Contribution Interest h = absurd (cc h)
+same_rank Interest Contribution h = absurd (cc h)
+same_rank Interest Interest h = refl
+
+other_of_rank : (a b x y : ℕ) → a ≡ b → (a == b) && ((x == y) && true) ≡ false → (x == y) && true ≡ false
+other_of_rank a b x y same h = grind (arith, nat_tests)
+
+module _ (e : ℕ) (p : Purpose) where
+  none_chosen : (s : ℕ) (rows : List CreditRow) → find_row paid_key rows (rank_of p ∷ s ∷ []) ≡ None → find_row credit_serial (filter (is_credit_of e p) rows) (s ∷ []) ≡ None
+  none_chosen s [] none = refl
+  none_chosen s (row ∷ rows) none =
+      let parts = other_row paid_key row rows (rank_of p ∷ s ∷ []) none in
+      told (row.employer == e) (same_purpose row.purpose p) refl parts.0 (none_chosen s rows parts.1)
     where
-      told : (b : Bool) → is_key (key row) k ≡ false → find_row key (filter p rows) k ≡ None → find_row key (cond b (row ∷ filter p rows) (filter p rows)) k ≡ None
-      told true away rest = ap (λ b. cond b (Some row) (find_row key (filter p rows) k)) away ∙ rest
-      told false away rest = rest
+      chosen : List CreditRow
+      chosen = filter (is_credit_of e p) rows
 
-  once_chosen : (rows : List Row) → AreOnce key rows → AreOnce key (filter p rows)
-  once_chosen [] once = tt
-  once_chosen (row ∷ rows) once = told (p row) (once_chosen rows once.1)
+      told : (a b : Bool) → same_purpose row.purpose p ≡ b → is_key (paid_key row) (rank_of p ∷ s ∷ []) ≡ false → find_row credit_serial chosen (s ∷ []) ≡ None → find_row credit_serial (cond (a && b) (row ∷ chosen) chosen) (s ∷ []) ≡ None
+      told true true is away rest =
+          ap (λ t. cond t (Some row) (find_row credit_serial chosen (s ∷ []))) (other_of_rank (rank_of row.purpose) (rank_of p) row.serial s (same_rank row.purpose p is) away) ∙ rest
+      told true false is away rest = rest
+      told false b is away rest = rest
+
+  serials_chosen : (rows : List CreditRow) → AreOnce paid_key rows → AreOnce credit_serial (filter (is_credit_of e p) rows)
+  serials_chosen [] once = tt
+  serials_chosen (row ∷ rows) once = told (row.employer == e) (same_purpose row.purpose p) refl (serials_chosen rows once.1)
     where
-      told : (b : Bool) → AreOnce key (filter p rows) → AreOnce key (cond b (row ∷ filter p rows) (filter p rows))
-      told true rest = (none_chosen rows (key row) once.0, rest)
-      told false rest = rest
+      chosen : List CreditRow
+      chosen = filter (is_credit_of e p) rows
 
-none_paid : (s : ℕ) (rows : List BankRow) → find_row serial_key rows (s ∷ []) ≡ None → find_row credit_serial (credits_of_lines rows) (s ∷ []) ≡ None
-none_paid s [] none = refl
-none_paid s (row ∷ rows) none =
-    let parts = other_row serial_key row rows (s ∷ []) none in
-    told row.employer parts.0 (none_paid s rows parts.1)
-  where
-    told : (firm : Option ℕ) → is_key (row.serial ∷ []) (s ∷ []) ≡ false → find_row credit_serial (credits_of_lines rows) (s ∷ []) ≡ None
-        → find_row credit_serial (cons_option (credit_of_line row firm) (credits_of_lines rows)) (s ∷ []) ≡ None
-    told None other rest = rest
-    told (Some f) other rest = ap (λ b. cond b (Some (line_credit row f)) (find_row credit_serial (credits_of_lines rows) (s ∷ []))) other ∙ rest
-
-once_paid : (rows : List BankRow) → AreOnce serial_key rows → AreOnce credit_serial (credits_of_lines rows)
-once_paid [] once = tt
-once_paid (row ∷ rows) once = told row.employer (once_paid rows once.1)
-  where
-    told : (firm : Option ℕ) → AreOnce credit_serial (credits_of_lines rows) → AreOnce credit_serial (cons_option (credit_of_line row firm) (credits_of_lines rows))
-    told None rest = rest
-    told (Some f) rest = (none_paid row.serial rows once.0, rest)
+      told : (a b : Bool) → same_purpose row.purpose p ≡ b → AreOnce credit_serial chosen → AreOnce credit_serial (cond (a && b) (row ∷ chosen) chosen)
+      told true true is rest = (none_chosen row.serial rows (subst (λ n. find_row paid_key rows (n ∷ row.serial ∷ []) ≡ None) (same_rank row.purpose p is) once.0), rest)
+      told true false is rest = rest
+      told false b is rest = rest
 
 -- ---- a lawful book
 
@@ -157,17 +159,17 @@ module _ (b : Book) (t : Tables) (lawful : IsLawful b) (stands : Stands b t) (e 
           ((here.0, subst (λ f. table_base t.wages f row.month ≤ 5000000000) (sym (same row.employer is)) here.1), rest)
       told false is rest = rest
 
-  serials_apart : AreOnce credit_serial t.credits
+  serials_apart : AreOnce paid_key t.credits
   serials_apart =
-      let paid = once_paid (lines_standing b.entries) (subst (AreOnce serial_key) (sym (standing_seen b.entries)) (serials_once b.entries)) in
-      subst (AreOnce credit_serial) (sym (credits-standing b t stands)) (once_with_rows credit_key credit_serial [] (credits_of_lines (lines_standing b.entries)) tt paid (new_to_none credit_key credit_serial (credits_of_lines (lines_standing b.entries))))
+      subst (AreOnce paid_key) (sym (credits-standing b t stands))
+      (once_with_rows credit_key paid_key [] (credits_made b.entries) tt (made_once b.entries) (new_to_none credit_key paid_key (credits_made b.entries)))
 
   pub has_account : HasAccount t e
   has_account = record {
     ranges = rows_in_range b t lawful stands;
     charges = months_chargeable t.reports (λ m found. found);
     few_credits = subst (λ (ks : List Credit). length ks ≤ 100000) (sym (table_credits-credits_of b t stands e)) (lawful_credit_count b.opening b.entries lawful e Contribution);
-    serials = once_chosen credit_serial (is_credit_of e Contribution) t.credits serials_apart;
+    serials = serials_chosen e Contribution t.credits serials_apart;
   }
 
   pub charges_read : with_charges (table_charges t e) [] ≡ charges_of b e

@@ -36,12 +36,12 @@ use std::alloc::Global;
 
 /// What the lines of a bank file are judged by, where these counts stand: the lines under their
 /// references, the firms that they name, and numbers for the credits of these and for the lines in
-/// suspense. While no more than 100,000 lines came in, those of the file among them, the serials
-/// given serve for these numbers, and none is counted.
+/// suspense. While no more than 100,000 serials were given, one for each line of the file among
+/// them, these serve for the numbers, and nothing is counted.
 ///
 /// It costs n log n steps for n lines of the file, and one search for each of its references and
-/// for each firm that it names; once 100,000 lines came in, also each credit of these firms, and
-/// one pass over all lines. More serials than an office gives are a fault of the store.
+/// for each firm that it names; once 100,000 serials were given, also each credit of these firms,
+/// and one pass over all lines. More serials than an office gives are a fault of the store.
 pub fn import_view<S: Alter>(
     alloc: Global,
     tx: &mut Transaction<'_, S>,

@@ -1,4 +1,5 @@
-//! A list of calls, taken by an office over a store in memory.
+//! Lists of calls that an office takes at once.
+use crate::cases::{Case, holds};
 use clear_book::calls::{Call, Caller, Command, Query, Registration, WageReport};
 use clear_book::files::BankFile;
 use clear_book::numbers::RequestNo;
@@ -8,8 +9,6 @@ use clear_money::days::Day;
 use clear_money::months::Month;
 use clear_money::numbers::{EmployerNo, WorkerNo};
 use clear_office::office::Office;
-use clear_sample::memory::office_in_memory;
-use clear_sample::samples::sample_rates;
 use sqlite::Alter;
 use std::alloc::Global;
 
@@ -111,21 +110,26 @@ fn is_imported(outcome: &Outcome) -> bool {
     )
 }
 
-fn runs_nothing<S: Alter>(alloc: Global, office: &mut Office<S>) -> bool {
+// No calls, and then those of a first account, one after another.
+pub(crate) fn takes_calls<S: Alter>(alloc: Global, office: &mut Office<S>) -> bool {
     match office.run(alloc, &[]) {
-        Ok(outcomes) => outcomes.is_empty(),
+        Ok(outcomes) => outcomes.is_empty() && takes_first_account(alloc, office),
         Err(_) => false,
     }
 }
 
-fn runs_first_account<S: Alter>(alloc: Global, office: &mut Office<S>) -> bool {
+fn takes_first_account<S: Alter>(alloc: Global, office: &mut Office<S>) -> bool {
     let Some(calls) = first_account(alloc) else {
         return false;
     };
-    let Ok(outcomes) = office.run(alloc, &calls) else {
-        return false;
-    };
-    match outcomes.as_slice() {
+    match office.run(alloc, &calls) {
+        Ok(outcomes) => is_first_account(outcomes.as_slice()),
+        Err(_) => false,
+    }
+}
+
+fn is_first_account(outcomes: &[Outcome]) -> bool {
+    match outcomes {
         [registered, january, february, imported, owed] => {
             is_done(registered)
                 && is_reported(january, 200_000)
@@ -139,9 +143,5 @@ fn runs_first_account<S: Alter>(alloc: Global, office: &mut Office<S>) -> bool {
 
 #[test]
 fn an_office_takes_calls_one_after_another(rt: HostRuntime) {
-    let alloc = rt.alloc();
-    let rates = sample_rates(alloc).expect(&rt, "no rates");
-    let mut office = office_in_memory(alloc, &rates).expect(&rt, "no office");
-    assert!(rt; runs_nothing(alloc, &mut office));
-    assert!(rt; runs_first_account(alloc, &mut office));
+    assert!(rt; holds(rt.alloc(), Case::Calls));
 }

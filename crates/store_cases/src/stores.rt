@@ -17,21 +17,9 @@ use clear_money::rates::{RateRow, RateTable};
 use clear_schema::fault::{Fault, OpenFault};
 use clear_schema::files::crash_and_open;
 use clear_schema::store::{Refusal, Store};
-use sqlite::{Alter, Connection, Error, FileStore, Files, Options, Rows, Transaction};
+use sqlite::{Alter, Connection, Error, FileStore, Files, Leftover, Options, Rows, Transaction};
 use sqlite_disk::{Crash, Memory};
 use std::alloc::Global;
-
-// A connection on an empty database in two files in memory.
-fn connection(alloc: Global) -> Option<Connection<FileStore<Memory>>> {
-    let files = Files {
-        log: Memory::new(alloc),
-        db: Memory::new(alloc),
-    };
-    match Connection::open_files(alloc, files, Options::new(7)) {
-        Ok(conn) => Some(conn),
-        Err(_) => None,
-    }
-}
 
 // 20 percent from 2024-01 on.
 fn rates(alloc: Global) -> Option<RateTable> {
@@ -40,62 +28,48 @@ fn rates(alloc: Global) -> Option<RateTable> {
     RateTable::first(alloc, row).ok()
 }
 
-// The connection on a database that is refused as one of schema 0.
-fn refused<S: Alter + Drop>(tried: Result<Store<S>, Refusal<S>>) -> Option<Connection<S>> {
+#[derive(Clone, Copy)]
+enum Try {
+    Make,
+    Open,
+}
+
+// The connection on a store that is made or opened, and on a database that is refused as one of
+// schema 0, as is wanted.
+fn tried<S: Alter + Drop>(
+    alloc: Global,
+    conn: Connection<S>,
+    how: Try,
+    is_refused: bool,
+) -> Option<Connection<S>> {
+    if !conn.is_autocommit() {
+        return None;
+    }
+    let tried = match how {
+        Try::Make => Store::create(conn, &rates(alloc)?),
+        Try::Open => Store::open(conn),
+    };
     match tried {
-        Ok(_) => None,
+        Ok(store) => {
+            if is_refused {
+                None
+            } else {
+                Some(store.into_connection())
+            }
+        }
         Err(Refusal { fault, connection }) => match fault {
-            OpenFault::WrongVersion(0) => Some(connection),
+            OpenFault::WrongVersion(0) => { if is_refused { Some(connection) } else { None } }
             _ => None,
         },
     }
 }
 
-// The connection on a store that is made or found.
-fn taken<S: Alter + Drop>(tried: Result<Store<S>, Refusal<S>>) -> Option<Connection<S>> {
-    match tried {
-        Ok(store) => Some(store.into_connection()),
-        Err(_) => None,
-    }
-}
-
-fn open<S: Alter + Drop>(conn: Connection<S>) -> Option<Result<Store<S>, Refusal<S>>> {
-    if conn.is_autocommit() {
-        Some(Store::open(conn))
-    } else {
-        None
-    }
-}
-
-fn make<S: Alter + Drop>(
-    alloc: Global,
-    conn: Connection<S>,
-) -> Option<Result<Store<S>, Refusal<S>>> {
-    let rates = rates(alloc)?;
-    if conn.is_autocommit() {
-        Some(Store::create(conn, &rates))
-    } else {
-        None
-    }
-}
-
 // A store that is made in an empty database, which is no store, and not made again.
 fn made_once<S: Alter + Drop>(alloc: Global, conn: Connection<S>) -> Option<Connection<S>> {
-    let conn = refused(open(conn)?)?;
-    let conn = taken(make(alloc, conn)?)?;
-    let conn = refused(make(alloc, conn)?)?;
-    taken(open(conn)?)
-}
-
-// The store once the machine has stopped.
-fn opened_again<D: Crash + Drop>(
-    alloc: Global,
-    conn: Connection<FileStore<D>>,
-) -> Option<Connection<FileStore<D>>> {
-    match crash_and_open(alloc, conn, Options::new(7)) {
-        Ok(store) => Some(store.into_connection()),
-        Err(_) => None,
-    }
+    let conn = tried(alloc, conn, Try::Open, true)?;
+    let conn = tried(alloc, conn, Try::Make, false)?;
+    let conn = tried(alloc, conn, Try::Make, true)?;
+    tried(alloc, conn, Try::Open, false)
 }
 
 // The contribution rate in the store.
@@ -135,24 +109,6 @@ fn credit(alloc: Global, reference: &str, day: u64, serial: u64) -> Option<Credi
     })
 }
 
-// Puts a line and a credit.
-fn put_rows<S: Alter>(tx: &mut Transaction<'_, S>, line: &BankRow, credit: &CreditRow) -> bool {
-    insert_line(tx, line).is_ok() && insert_credit(tx, credit).is_ok()
-}
-
-// Keeps a line and a credit.
-fn keep_rows<S: Alter>(conn: &mut Connection<S>, line: &BankRow, credit: &CreditRow) -> bool {
-    if !conn.is_autocommit() {
-        return false;
-    }
-    let mut tx = conn.transaction();
-    if put_rows(&mut tx, line, credit) {
-        tx.commit().is_ok()
-    } else {
-        false
-    }
-}
-
 // The later ones come first.
 fn keep_all<S: Alter>(alloc: Global, conn: &mut Connection<S>) -> bool {
     let (Some(second), Some(first)) = (suspense(alloc, "B2", 1), suspense(alloc, "B1", 2)) else {
@@ -164,7 +120,19 @@ fn keep_all<S: Alter>(alloc: Global, conn: &mut Connection<S>) -> bool {
     ) else {
         return false;
     };
-    keep_rows(conn, &second, &late) && keep_rows(conn, &first, &early)
+    if !conn.is_autocommit() {
+        return false;
+    }
+    let mut tx = conn.transaction();
+    if insert_line(&mut tx, &second).is_ok()
+        && insert_credit(&mut tx, &late).is_ok()
+        && insert_line(&mut tx, &first).is_ok()
+        && insert_credit(&mut tx, &early).is_ok()
+    {
+        tx.commit().is_ok()
+    } else {
+        false
+    }
 }
 
 // The serial of the next credit, and 0 past the last.
@@ -245,15 +213,43 @@ fn tells_bad_rows<S: Alter>(alloc: Global, conn: &mut Connection<S>) -> bool {
     tells_bad_line(&mut tx, &row.line.reference) && tells_bad_request(&mut tx, number)
 }
 
+// A store that is opened again after a stop has its rates, tells bad rows and reads good ones.
+fn is_whole<S: Alter + Drop>(alloc: Global, store: Store<S>) -> bool {
+    let mut conn = store.into_connection();
+    matches!(rate_kept(&mut conn), Ok(2_000))
+        && tells_bad_rows(alloc, &mut conn)
+        && keep_all(alloc, &mut conn)
+        && reads_credits(&mut conn)
+        && reads_lines(&mut conn)
+}
+
+// A store in two files, made once and opened once more after the machine has stopped.
+fn is_made_and_found<D: Crash + Drop>(
+    alloc: Global,
+    opened: Result<Connection<FileStore<D>>, (Error, Leftover<D>)>,
+) -> bool {
+    let Ok(conn) = opened else {
+        return false;
+    };
+    let Some(conn) = made_once(alloc, conn) else {
+        return false;
+    };
+    match crash_and_open(alloc, conn, Options::new(7)) {
+        Ok(store) => is_whole(alloc, store),
+        Err(_) => false,
+    }
+}
+
+// Two files in memory, of which no function else knows.
+fn holds(alloc: Global) -> bool {
+    let files = Files {
+        log: Memory::new(alloc),
+        db: Memory::new(alloc),
+    };
+    is_made_and_found(alloc, Connection::open_files(alloc, files, Options::new(7)))
+}
+
 #[test]
 fn a_store_is_made_once_and_opened_again(rt: HostRuntime) {
-    let alloc = rt.alloc();
-    let conn = connection(alloc).expect(&rt, "no database");
-    let conn = made_once(alloc, conn).expect(&rt, "no store");
-    let mut conn = opened_again(alloc, conn).expect(&rt, "not opened");
-    assert!(rt; matches!(rate_kept(&mut conn), Ok(2_000)));
-    assert!(rt; tells_bad_rows(alloc, &mut conn));
-    assert!(rt; keep_all(alloc, &mut conn));
-    assert!(rt; reads_credits(&mut conn));
-    assert!(rt; reads_lines(&mut conn));
+    assert!(rt; holds(rt.alloc()));
 }

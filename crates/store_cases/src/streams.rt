@@ -1,13 +1,12 @@
-//! Streams to an office over a store in memory, whose readers and writers fail.
+//! Streams to an office, whose readers and writers fail.
+use crate::cases::{Case, holds};
 use clear_callers::directory::Directory;
 use clear_http::desk::serve;
 use clear_http::serve::{Fault, ServeFault, Served};
+use clear_money::days::Day;
 use clear_office::office::Office;
-use clear_sample::memory::office_in_memory;
-use clear_sample::samples::{sample_day, sample_rates};
 use clear_wire::counted::{Counted, RequestRead};
-use sqlite::{Alter, FileStore};
-use sqlite_disk::Memory;
+use sqlite::Alter;
 use std::alloc::{AllocError, Global};
 use std::io;
 use std::io::{Read, Write};
@@ -83,44 +82,64 @@ impl Write for FailingWriter<'_> {
     }
 }
 
-// An office without requests.
-fn office(alloc: Global) -> Option<Office<FileStore<Memory>>> {
-    match sample_rates(alloc) {
-        Ok(rates) => office_in_memory(alloc, &rates),
-        Err(_) => None,
-    }
+// A stream: its bytes, how many of them a read gives at most, and after how many calls its reads
+// and its writes fail.
+#[derive(Clone, Copy)]
+struct Stream<'a> {
+    bytes: &'a [u8],
+    step: usize,
+    reads: usize,
+    writes: usize,
 }
 
-// Serves a stream to the callers and on the day of the sample.
-fn serve_sample<S: Alter>(
+// Serves a stream, and what is written is appended to what was taken.
+fn served<S: Alter>(
     alloc: Global,
     office: &mut Office<S>,
-    reader: FailingReader<'_>,
-    writer: FailingWriter<'_>,
-) -> Option<Result<Served, ServeFault>> {
-    let (Ok(keys), Some(day)) = (Directory::sample(alloc), sample_day()) else {
-        return None;
-    };
-    let mut reader = Counted::new(reader);
-    let mut writer = Counted::new(writer);
-    Some(serve(alloc, office, &keys, day, &mut reader, &mut writer))
+    directory: &Directory,
+    day: Day,
+    stream: Stream<'_>,
+    taken: &mut Vec<u8>,
+) -> Result<Served, ServeFault> {
+    let mut reader = Counted::new(FailingReader {
+        rest: stream.bytes,
+        step: stream.step,
+        left: stream.reads,
+    });
+    let mut writer = Counted::new(FailingWriter {
+        taken,
+        left: stream.writes,
+    });
+    serve(alloc, office, directory, day, &mut reader, &mut writer)
 }
 
 // Whether all requests have the answers that they should have, now that nothing fails.
-fn answers_all<S: Alter>(alloc: Global, office: &mut Office<S>, bytes: &[u8]) -> bool {
-    let mut taken = Vec::new(alloc);
-    let reader = FailingReader {
-        rest: bytes,
+fn answers_all<S: Alter>(
+    alloc: Global,
+    office: &mut Office<S>,
+    directory: &Directory,
+    day: Day,
+    bytes: &[u8],
+) -> bool {
+    let stream = Stream {
+        bytes,
         step: 4096,
-        left: 1000,
+        reads: 1000,
+        writes: 1000,
     };
-    let writer = FailingWriter {
-        taken: &mut taken,
-        left: 1000,
-    };
-    let served = serve_sample(alloc, office, reader, writer);
+    let mut taken = Vec::new(alloc);
+    match served(alloc, office, directory, day, stream, &mut taken) {
+        Ok(_) => are_answers(alloc, taken.as_slice(), true),
+        Err(_) => false,
+    }
+}
+
+// Whether these are the bytes of all answers, or a front of them.
+fn are_answers(alloc: Global, taken: &[u8], all: bool) -> bool {
     match ANSWERS.concat(alloc) {
-        Ok(answers) => { matches!(served, Some(Ok(_))) && taken.as_slice() == answers.as_bytes() }
+        Ok(answers) => {
+            answers.as_bytes().starts_with(taken) && (!all || taken.len() == answers.len())
+        }
         Err(_) => false,
     }
 }
@@ -138,69 +157,32 @@ fn whole_before(texts: &[&str], place: usize) -> u64 {
     count
 }
 
-// Why a stream is not served, where a read fails after so many.
-fn cut_off<S: Alter>(
-    alloc: Global,
-    office: &mut Office<S>,
-    bytes: &[u8],
-    step: usize,
-    left: usize,
-) -> Option<ServeFault> {
-    let mut taken = Vec::new(alloc);
-    let reader = FailingReader {
-        rest: bytes,
-        step,
-        left,
-    };
-    let writer = FailingWriter {
-        taken: &mut taken,
-        left: 1000,
-    };
-    serve_sample(alloc, office, reader, writer)?.err()
-}
-
 // The three requests come in 6 reads, and a seventh finds their end. A request is answered before a
 // further read. Sent again to the office, all have the answers that they would have had.
-fn stops_at_read<S: Alter>(alloc: Global, office: &mut Office<S>, reads: usize) -> bool {
+pub(crate) fn stops_at_read<S: Alter>(
+    alloc: Global,
+    office: &mut Office<S>,
+    directory: &Directory,
+    day: Day,
+    reads: usize,
+) -> bool {
     let Ok(text) = REQUESTS.concat(alloc) else {
         return false;
     };
-    let wanted = whole_before(&REQUESTS, reads.saturating_mul(64));
-    match cut_off(alloc, office, text.as_bytes(), 64, reads) {
-        Some(stopped) => {
-            matches!(stopped.fault, Fault::Read)
-                && stopped.answered == wanted
-                && answers_all(alloc, office, text.as_bytes())
-        }
-        None => false,
-    }
-}
-
-// How many answers are written whole, where a write fails after so many and the front of all
-// answers is written.
-fn cut_short<S: Alter>(
-    alloc: Global,
-    office: &mut Office<S>,
-    bytes: &[u8],
-    left: usize,
-) -> Option<u64> {
+    let stream = Stream {
+        bytes: text.as_bytes(),
+        step: 64,
+        reads,
+        writes: 1000,
+    };
     let mut taken = Vec::new(alloc);
-    let reader = FailingReader {
-        rest: bytes,
-        step: 4096,
-        left: 1000,
-    };
-    let writer = FailingWriter {
-        taken: &mut taken,
-        left,
-    };
-    let stopped = serve_sample(alloc, office, reader, writer)?.err()?;
-    let answers = ANSWERS.concat(alloc).ok()?;
-    let is_front = answers.as_bytes().starts_with(taken.as_slice());
-    if is_front && matches!(stopped.fault, Fault::Write) {
-        Some(stopped.answered)
-    } else {
-        None
+    match served(alloc, office, directory, day, stream, &mut taken) {
+        Ok(_) => false,
+        Err(stopped) => {
+            matches!(stopped.fault, Fault::Read)
+                && stopped.answered == whole_before(&REQUESTS, reads.saturating_mul(64))
+                && answers_all(alloc, office, directory, day, text.as_bytes())
+        }
     }
 }
 
@@ -208,18 +190,35 @@ fn cut_short<S: Alter>(
 // and 4 writes.
 const WRITTEN: [u64; 10] = [0, 0, 0, 1, 1, 1, 2, 2, 2, 2];
 
-// Sent again to the office, all requests have the answers that they would have had.
-fn stops_at_write<S: Alter>(
+// A front of all answers is written, so many of them whole. Sent again to the office, all requests
+// have the answers that they would have had.
+pub(crate) fn stops_at_write<S: Alter>(
     alloc: Global,
     office: &mut Office<S>,
+    directory: &Directory,
+    day: Day,
     writes: usize,
     count: u64,
 ) -> bool {
     let Ok(text) = REQUESTS.concat(alloc) else {
         return false;
     };
-    cut_short(alloc, office, text.as_bytes(), writes) == Some(count)
-        && answers_all(alloc, office, text.as_bytes())
+    let stream = Stream {
+        bytes: text.as_bytes(),
+        step: 4096,
+        reads: 1000,
+        writes,
+    };
+    let mut taken = Vec::new(alloc);
+    match served(alloc, office, directory, day, stream, &mut taken) {
+        Ok(_) => false,
+        Err(stopped) => {
+            matches!(stopped.fault, Fault::Write)
+                && stopped.answered == count
+                && are_answers(alloc, taken.as_slice(), false)
+                && answers_all(alloc, office, directory, day, text.as_bytes())
+        }
+    }
 }
 
 // The first request, and a second one with a body of a million bytes.
@@ -231,32 +230,25 @@ fn long_stream(alloc: Global) -> Result<Vec<u8>, AllocError> {
 }
 
 // A body that comes a byte a call uses up the reads, once the request before it is answered.
-fn uses_up_the_reads<S: Alter>(alloc: Global, office: &mut Office<S>) -> bool {
+pub(crate) fn uses_up_the_reads<S: Alter>(
+    alloc: Global,
+    office: &mut Office<S>,
+    directory: &Directory,
+    day: Day,
+) -> bool {
     let Ok(bytes) = long_stream(alloc) else {
         return false;
     };
-    match cut_off(alloc, office, bytes.as_slice(), 1, 1_000_200) {
-        Some(stopped) => matches!(stopped.fault, Fault::Reads) && stopped.answered == 1,
-        None => false,
-    }
-}
-
-// What is done with an office without requests.
-#[derive(Clone, Copy)]
-enum Cut {
-    Read(usize),
-    Write(usize, u64),
-    AllReads,
-}
-
-fn holds(alloc: Global, cut: Cut) -> bool {
-    match office(alloc) {
-        Some(mut office) => match cut {
-            Cut::Read(reads) => stops_at_read(alloc, &mut office, reads),
-            Cut::Write(writes, count) => stops_at_write(alloc, &mut office, writes, count),
-            Cut::AllReads => uses_up_the_reads(alloc, &mut office),
-        },
-        None => false,
+    let stream = Stream {
+        bytes: bytes.as_slice(),
+        step: 1,
+        reads: 1_000_200,
+        writes: 1000,
+    };
+    let mut taken = Vec::new(alloc);
+    match served(alloc, office, directory, day, stream, &mut taken) {
+        Ok(_) => false,
+        Err(stopped) => matches!(stopped.fault, Fault::Reads) && stopped.answered == 1,
     }
 }
 
@@ -264,10 +256,10 @@ fn holds(alloc: Global, cut: Cut) -> bool {
 fn a_stream_tells_where_it_stopped(rt: HostRuntime) {
     let alloc = rt.alloc();
     for reads in 0..7 {
-        assert!(rt; holds(alloc, Cut::Read(reads)));
+        assert!(rt; holds(alloc, Case::Reads(reads)));
     }
     for (writes, count) in WRITTEN.iter().enumerate() {
-        assert!(rt; holds(alloc, Cut::Write(writes, *count)));
+        assert!(rt; holds(alloc, Case::Writes(writes, *count)));
     }
-    assert!(rt; holds(alloc, Cut::AllReads));
+    assert!(rt; holds(alloc, Case::AllReads));
 }

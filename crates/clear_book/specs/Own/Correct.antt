@@ -3,15 +3,15 @@ use Rattle.std.specs.Prelude.{ℕ, ◌+◌, List, ◌∷◌, ◌++◌, Option, S
 use Rattle.std.specs.Prelude.{nat_le}
 use Rattle.clear_money.specs.Rates.{Rate}
 use Rattle.clear_book.specs.declared.calls.Correction.{Correction}
-use Rattle.clear_book.specs.declared.outcomes.Reply.{Reply}
-use Rattle.clear_book.specs.declared.outcomes.Reply.TheVariants.{Reported}
+use Rattle.clear_values.specs.declared.replies.Reply.{Reply}
+use Rattle.clear_values.specs.declared.replies.Reply.TheVariants.{Reported}
 use Rattle.clear_book.specs.declared.rules.Limit.TheVariants.{Versions}
 use Rattle.clear_book.specs.declared.rules.Rule.{Rule}
 use Rattle.clear_book.specs.declared.rules.Rule.TheVariants.{StaleVersion, OverLimit}
 use Rattle.clear_book.specs.Accounts.{contribution_of_lines}
 use Rattle.clear_book.specs.Book.{Member, is_member_month}
 use Rattle.clear_book.specs.Checks.{when, first_of}
-use Rattle.clear_book.specs.Limits.{most_versions}
+use Rattle.clear_values.specs.Limits.{most_versions}
 use Rattle.clear_book.specs.Own.Lines.{month_rules, size_rules, twice_rule, worker_twice}
 
 -- the rule on a version that is not the month's latest one, with the latest, 0 if there is none

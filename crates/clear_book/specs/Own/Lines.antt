@@ -8,10 +8,10 @@ use Rattle.clear_book.specs.declared.rules.Limit.TheVariants.{Lines, Gross}
 use Rattle.clear_book.specs.declared.rules.Rule.{Rule}
 use Rattle.clear_book.specs.declared.rules.Rule.TheVariants.{UnknownEmployer, MonthOutside}
 use Rattle.clear_book.specs.declared.rules.Rule.TheVariants.{MonthAhead, WorkerTwice, OverLimit}
-use Rattle.clear_book.specs.declared.texts.WageLine.{WageLine}
+use Rattle.clear_values.specs.declared.texts.WageLine.{WageLine}
 use Rattle.clear_book.specs.Book.{Member, is_member_month}
 use Rattle.clear_book.specs.Checks.{when}
-use Rattle.clear_book.specs.Limits.{most_lines, most_gross}
+use Rattle.clear_values.specs.Limits.{most_lines, most_gross}
 
 -- ---- the month
 

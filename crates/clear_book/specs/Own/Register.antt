@@ -1,12 +1,12 @@
 -- Register: an employer that is not registered becomes a member.
 use Rattle.std.specs.Prelude.{ℕ, List, [], ◌∷◌, Option, Bool, not, nat_le}
-use Rattle.clear_book.specs.declared.outcomes.Reply.{Reply}
-use Rattle.clear_book.specs.declared.outcomes.Reply.TheVariants.{Done}
+use Rattle.clear_values.specs.declared.replies.Reply.{Reply}
+use Rattle.clear_values.specs.declared.replies.Reply.TheVariants.{Done}
 use Rattle.clear_book.specs.declared.rules.Limit.TheVariants.{Employers}
 use Rattle.clear_book.specs.declared.rules.Rule.{Rule}
 use Rattle.clear_book.specs.declared.rules.Rule.TheVariants.{EmployerExists, OverLimit, NoRate}
 use Rattle.clear_book.specs.Checks.{when, first_of}
-use Rattle.clear_book.specs.Limits.{most_employers}
+use Rattle.clear_values.specs.Limits.{most_employers}
 
 -- the own rules in their order, from whether the employer is registered, how many employers there
 -- are, and whether a rate is in force for the first member month

@@ -1,11 +1,11 @@
 -- Report: the first report of a firm's month.
 use Rattle.std.specs.Prelude.{ℕ, List, ◌∷◌, ◌++◌, Option, Some, None}
 use Rattle.clear_money.specs.Rates.{Rate}
-use Rattle.clear_book.specs.declared.outcomes.Reply.{Reply}
-use Rattle.clear_book.specs.declared.outcomes.Reply.TheVariants.{Reported}
+use Rattle.clear_values.specs.declared.replies.Reply.{Reply}
+use Rattle.clear_values.specs.declared.replies.Reply.TheVariants.{Reported}
 use Rattle.clear_book.specs.declared.rules.Rule.{Rule}
 use Rattle.clear_book.specs.declared.rules.Rule.TheVariants.{ReportExists}
-use Rattle.clear_book.specs.declared.texts.WageLine.{WageLine}
+use Rattle.clear_values.specs.declared.texts.WageLine.{WageLine}
 use Rattle.clear_book.specs.Accounts.{contribution_of_lines}
 use Rattle.clear_book.specs.Book.{Member}
 use Rattle.clear_book.specs.Checks.{first_of}

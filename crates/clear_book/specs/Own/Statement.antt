@@ -7,12 +7,12 @@ use Rattle.clear_account.specs.Allocation.{open_part, prepaid}
 use Rattle.clear_account.specs.Interest.{interest_on}
 use Rattle.clear_account.specs.declared.entries.Charge.{Charge}
 use Rattle.clear_account.specs.declared.entries.Credit.{Credit}
-use Rattle.clear_bank.specs.declared.lines.Purpose.TheVariants.{Contribution, Interest}
+use Rattle.clear_values.specs.declared.lines.Purpose.TheVariants.{Contribution, Interest}
 use Rattle.clear_book.specs.declared.documents.ChargeState.{ChargeState}
 use Rattle.clear_book.specs.declared.documents.FirmAccount.{FirmAccount}
 use Rattle.clear_book.specs.declared.documents.Payment.{Payment}
-use Rattle.clear_book.specs.declared.rows.CreditRow.{CreditRow}
-use Rattle.clear_book.specs.declared.rows.PieceRow.{PieceRow}
+use Rattle.clear_values.specs.declared.rows.CreditRow.{CreditRow}
+use Rattle.clear_values.specs.declared.rows.PieceRow.{PieceRow}
 use Rattle.clear_book.specs.declared.rules.Rule.{Rule}
 use Rattle.clear_book.specs.declared.rules.Rule.TheVariants.{UnknownEmployer}
 use Rattle.clear_book.specs.Accounts.{arrears, charges_of, credit_rows_of, interest_arrears}

@@ -1,5 +1,5 @@
 -- What a bank file is judged by, and the rows that it brings by a view.
-use Rattle.std.specs.Prelude.{◌≡◌, ℕ, ◌==◌, List, Bool, true, Ok}
+use Rattle.std.specs.Prelude.{◌≡◌, ℕ, ◌+◌, ◌==◌, List, Bool, true, Ok}
 use Rattle.std.specs.Prelude.{Option, is_some, IfSome}
 use Rattle.std.specs.List.{find, AllByRecursion}
 use Rattle.std.specs.Option.{option_map_or}
@@ -13,10 +13,10 @@ use Rattle.clear_book.specs.declared.rules.Rule.{Rule}
 use Rattle.clear_book.specs.Book.{Book, member_of}
 use Rattle.clear_book.specs.Limits.{most_credits, most_records, most_suspense}
 use Rattle.clear_book.specs.Lines.{lines_in, new_lines, rows_from, rows_brought, lines_of_rows}
-use Rattle.clear_book.specs.Lines.{lines_seen, lines_standing, suspense_count, credit_count}
-use Rattle.clear_book.specs.Lines.{serial_count}
+use Rattle.clear_book.specs.Lines.{lines_seen, lines_after, suspense_count, credit_count}
+use Rattle.clear_book.specs.Lines.{credits_after, credits_of_lines, serial_count}
 use Rattle.clear_book.specs.Own.ImportBank.{own_import}
-use Rattle.clear_rules.specs.Views.Serves.{Serves}
+use Rattle.clear_rules.specs.Views.Serves.{ServesAfter}
 use Rattle.clear_rules.specs.declared.decide.import.EmployerCredits.{EmployerCredits}
 use Rattle.clear_rules.specs.declared.decide.import.ImportView.{ImportView}
 
@@ -47,11 +47,20 @@ abbrev pub rows_viewed : ImportView → List ℕ → List BankRow
 rows_viewed view file =
     rows_from (is_registered_by view) view.serials (new_lines view.known.items (lines_in file))
 
+-- by a view, the number of lines in suspense once these rows stand
+abbrev pub suspense_then : ImportView → List BankRow → ℕ
+suspense_then view rows = view.suspense + suspense_count rows
+
+-- and that of an employer's credits for a purpose
+abbrev pub credits_then : ImportView → List BankRow → ℕ → Purpose → ℕ
+credits_then view rows e purpose =
+    credit_count_viewed view e purpose + credit_count (credits_of_lines rows) e purpose
+
 -- the first of an import's own rules that applies, by a view
 abbrev pub import_rule : ImportView → ℕ → List ℕ → Option Rule
 import_rule view t file =
-    own_import view.known.items (rows_viewed view file) view.suspense (credit_count_viewed view) t
-    file
+    own_import view.known.items (rows_viewed view file) (suspense_then view (rows_viewed view file))
+    (credits_then view (rows_viewed view file)) t file
 
 -- the rows that a file brings to a book
 abbrev pub rows_of_file : Book → List ℕ → List BankRow
@@ -61,11 +70,11 @@ rows_of_file b file = rows_brought b.entries (lines_seen b.entries) file
 pub record IsEmployerViewed (b : Book) (file : List ℕ) (view : ImportView) (e : ℕ) : Type 0 where
   -- whether it is registered
   pub registered_is : is_registered_by view e ≡ is_some (member_of b.entries e)
-  -- for each purpose a number that serves for its credits, if it is registered
+  -- for each purpose a number that serves, with the rows of the file, for the credits that it has
+  -- then, if it is registered
   pub credits_serve : (purpose : Purpose) → is_some (member_of b.entries e) ≡ true
-      → Serves (credit_count_viewed view e purpose)
-      (credit_count (lines_standing b.entries) e purpose)
-      (credit_count (rows_of_file b file) e purpose) most_credits
+      → ServesAfter (credits_then view (rows_of_file b file) e purpose)
+      (credit_count (credits_after b.entries file) e purpose) most_credits
 
 -- the view is what the book says of the lines and the employers that a file names
 pub record IsImportView (b : Book) (file : List ℕ) (view : ImportView) : Type 0 where
@@ -75,8 +84,8 @@ pub record IsImportView (b : Book) (file : List ℕ) (view : ImportView) : Type 
   -- for each line that names an employer, that employer
   pub employers_are : AllByRecursion (λ line.
       IfSome line.employer (IsEmployerViewed b file view)) (lines_in file)
-  -- a number that serves for the lines in suspense
-  pub suspense_serves : Serves view.suspense (suspense_count (lines_standing b.entries))
-      (suspense_count (rows_of_file b file)) most_suspense
+  -- a number that serves, with the rows of the file, for the lines in suspense then
+  pub suspense_serves : ServesAfter (suspense_then view (rows_of_file b file))
+      (suspense_count (lines_after b.entries file)) most_suspense
   -- how many serials were given
   pub serials_is : view.serials ≡ serial_count b.entries

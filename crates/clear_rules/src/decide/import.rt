@@ -15,8 +15,9 @@ ghost use Rattle.clear_book.specs.Own.ImportBank.{ahead_rule, fault_rule, import
 ghost use Rattle.clear_book.specs.Own.ImportBank.{limit_rules, rule_of};
 ghost use Rattle.clear_rules.specs.Counts.{Index, is_indexed};
 ghost use Rattle.clear_rules.specs.Decisions.{Refuses, Obeys, IsJudged, TakesTables};
-ghost use Rattle.clear_rules.specs.Views.ImportBank.{IsImportView, credit_count_viewed};
-ghost use Rattle.clear_rules.specs.Views.ImportBank.{ReadsAs, import_rule, is_registered_by, rows_viewed};
+ghost use Rattle.clear_rules.specs.Views.ImportBank.{IsImportView, ReadsAs, credits_then};
+ghost use Rattle.clear_rules.specs.Views.ImportBank.{import_rule, is_registered_by, rows_viewed};
+ghost use Rattle.clear_rules.specs.Views.ImportBank.{suspense_then};
 
 mod counts;
 
@@ -186,7 +187,7 @@ fn check_new(
         view.now.serials (new_lines view.now.known.items lines.now)
         → Refuses result (first_of (
         ahead_rule (find (is_ahead day) (new_lines view.now.known.items lines.now))
-        ∷ limit_rules view.now.suspense (credit_count_viewed view.now) rows)) }
+        ∷ limit_rules (suspense_then view.now rows) (credits_then view.now rows) rows)) }
     ensures rows { IfOk result (λ rows. rows.items ≡ rows_from (is_registered_by view.now)
         view.now.serials (new_lines view.now.known.items lines.now)) }
 {

@@ -1,5 +1,5 @@
 use Rattle.std.proofs.Common.{◌≤◌, arith, refl, rules, true}
-use Rattle.clear_book.specs.Limits.{most_entries, most_serials}
+use Rattle.clear_values.specs.Limits.{most_entries, most_serials}
 use Rattle.clear_columns.proofs.NumberedTable.{sets}
 use Rattle.clear_firms.specs.Counts.{as_stored, counts_given}
 use Rattle.clear_firms.proofs.CountsTable.{counts, is_one, update_says}

@@ -1,4 +1,4 @@
-use Rattle.clear_book.specs.RowRanges.{IsEmployerRow}
+use Rattle.clear_values.specs.RowRanges.{IsEmployerRow}
 use Rattle.clear_schema.proofs.FrameLemmas.{lists}
 use Rattle.clear_firms.specs.Shown.{employer_shown}
 use Rattle.clear_firms.proofs.EmployerTable.{answers_all}

@@ -1,7 +1,7 @@
 use Rattle.std.proofs.Common.{[], ◌∷◌, filter}
-use Rattle.clear_book.specs.Keyed.{is_key}
-use Rattle.clear_book.specs.RowRanges.{IsEmployerRow}
-use Rattle.clear_book.specs.Tables.{employer_key}
+use Rattle.clear_values.specs.Keyed.{is_key}
+use Rattle.clear_values.specs.RowRanges.{IsEmployerRow}
+use Rattle.clear_values.specs.Tables.{employer_key}
 use Rattle.clear_schema.proofs.FrameLemmas.{finds}
 use Rattle.clear_columns.proofs.KeyLemmas.{first_found}
 use Rattle.clear_firms.specs.Shown.{employer_shown}

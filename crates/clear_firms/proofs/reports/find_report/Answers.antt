@@ -1,6 +1,6 @@
 use Rattle.std.proofs.Common.{[], ◌∷◌, filter}
-use Rattle.clear_book.specs.RowRanges.{IsReportRow}
-use Rattle.clear_book.specs.Tables.{report_key}
+use Rattle.clear_values.specs.RowRanges.{IsReportRow}
+use Rattle.clear_values.specs.Tables.{report_key}
 use Rattle.clear_schema.proofs.FrameLemmas.{finds}
 use Rattle.clear_columns.proofs.KeyLemmas.{first_found}
 use Rattle.clear_firms.specs.Shown.{report_shown}

@@ -1,6 +1,6 @@
 use Rattle.std.proofs.Common.{◌≤◌, [], ◌∷◌, ap, refl, rules}
-use Rattle.clear_book.specs.Limits.{most_versions}
-use Rattle.clear_book.specs.Tables.{report_key}
+use Rattle.clear_values.specs.Limits.{most_versions}
+use Rattle.clear_values.specs.Tables.{report_key}
 use Rattle.clear_schema.specs.Values.{number}
 use Rattle.clear_schema.proofs.FrameLemmas.{writes_as, writes_none}
 use Rattle.clear_columns.proofs.KeyLemmas.{becomes}

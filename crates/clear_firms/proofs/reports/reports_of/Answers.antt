@@ -1,4 +1,4 @@
-use Rattle.clear_book.specs.RowRanges.{IsReportRow}
+use Rattle.clear_values.specs.RowRanges.{IsReportRow}
 use Rattle.clear_schema.proofs.FrameLemmas.{lists}
 use Rattle.clear_firms.specs.Shown.{report_shown}
 use Rattle.clear_firms.proofs.ReportTable.{answers_of}

@@ -1,5 +1,5 @@
 use Rattle.std.proofs.Common.{◌≤◌, refl, rules}
-use Rattle.clear_book.specs.Limits.{most_gross}
+use Rattle.clear_values.specs.Limits.{most_gross}
 use Rattle.clear_schema.proofs.FrameLemmas.{writes_none}
 use Rattle.clear_columns.proofs.KeyedTable.{puts}
 use Rattle.clear_firms.proofs.WageTable.{insert_says, wages}

@@ -1,4 +1,4 @@
-use Rattle.clear_book.specs.RowRanges.{IsWageRow}
+use Rattle.clear_values.specs.RowRanges.{IsWageRow}
 use Rattle.clear_schema.proofs.FrameLemmas.{lists}
 use Rattle.clear_firms.specs.Shown.{wage_shown}
 use Rattle.clear_firms.proofs.WageTable.{answers}

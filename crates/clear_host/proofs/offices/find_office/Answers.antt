@@ -1,8 +1,10 @@
 use Rattle.std.proofs.Common.{◌∙◌}
 use Rattle.std.proofs.lemmas.Result.{IfOk-weaker}
+use Rattle.sqlite.specs.Held.{state}
+use Rattle.sqlite.specs.State.{HasCleanDisk}
 use Rattle.clear_schema.specs.Faults.{IsWrong}
 use Rattle.clear_schema.specs.Held.{this_schema}
-use Rattle.clear_host.specs.Contents.{TellsNone, TellsOnly}
+use Rattle.clear_host.specs.Contents.{TellsNone, TellsOnly, TellsOther}
 use Rattle.clear_host.proofs.RefusalLemmas.{if_ok_both, none_only, none_wrong, refused_weaker}
 use Rattle.clear_host.proofs.offices.find_office.Goals as goal
 
@@ -39,3 +41,11 @@ returns-in-Ok-clause-version g c image sees number holds =
 pub returns-in-Ok-clause-empty : goal.returns-in-Ok-clause-empty
 returns-in-Ok-clause-empty g c image sees nothing =
     refused_weaker g.S.Store TellsNone (TellsOnly 0) (none_only 0) c.office_over.result c.office_over.ensures.untold
+
+pub returns-in-Ok-clause-not_other : goal.returns-in-Ok-clause-not_other
+returns-in-Ok-clause-not_other g c image sees =
+    IfOk-weaker c.office_over.result _ _ (λ opened clean honest. c.in-Ok.ensures.not_other image sees (clean honest)) c.office_over.ensures.clean
+
+pub returns-in-Ok-clause-other : goal.returns-in-Ok-clause-other
+returns-in-Ok-clause-other g c image sees holds =
+    refused_weaker g.S.Store (λ fault. HasCleanDisk (state g.S.Store c.in-Ok.store.conn)) TellsOther (λ fault sound. absurd (c.in-Ok.ensures.not_other image sees sound holds)) c.office_over.result c.office_over.ensures.clean_left

@@ -1,10 +1,11 @@
 use Rattle.std.proofs.lemmas.Result.{IfOk-weaker}
 use Rattle.sqlite.specs.Held.{state}
+use Rattle.sqlite.specs.State.{HasCleanDisk}
 use Rattle.clear_schema.specs.Faults.{IsWrong}
 use Rattle.clear_schema.specs.Held.{this_schema}
-use Rattle.clear_host.specs.Contents.{TellsNone, TellsOnly}
+use Rattle.clear_host.specs.Contents.{TellsNone, TellsOnly, TellsOther}
 use Rattle.clear_host.proofs.RefusalLemmas.{if_ok_both, none_only, none_wrong, refused_weaker, tells_only}
-use Rattle.clear_host.proofs.StoreLemmas.{nothing_seen, store_seen, told_seen}
+use Rattle.clear_host.proofs.StoreLemmas.{nothing_seen, other_is_seen, store_seen, told_seen}
 use Rattle.clear_host.proofs.offices.find_store.Goals as goal
 
 pub returns-in-Ok-clause-found : goal.returns-in-Ok-clause-found
@@ -49,3 +50,23 @@ pub returns-in-Err-clause-empty : goal.returns-in-Err-clause-empty
 returns-in-Err-clause-empty g c image sees nothing clean =
     let seen = sees (c.in-Err.ensures.clean_left clean) in
     tells_only 0 c.in-Err.refusal.fault (c.in-Err.ensures.empty clean (nothing_seen image (state g.S.Store c.args.connection) seen nothing))
+
+pub returns-in-Ok-clause-not_other : goal.returns-in-Ok-clause-not_other
+returns-in-Ok-clause-not_other g c image sees =
+    IfOk-weaker c.confirm.result _ _ (λ store honest clean holds.
+    let sound = honest clean in
+    let seen = sees (c.in-Ok.ensures.clean sound) in
+    c.in-Ok.ensures.not_other sound seen.0.0.is_open (other_is_seen image (state g.S.Store c.args.connection) seen holds))
+    c.confirm.ensures.clean
+
+pub returns-in-Ok-clause-other : goal.returns-in-Ok-clause-other
+returns-in-Ok-clause-other g c image sees holds =
+    refused_weaker g.S.Store (λ fault. HasCleanDisk (state g.S.Store c.in-Ok.store.conn)) TellsOther (λ fault sound.
+    let seen = sees (c.in-Ok.ensures.clean sound) in
+    absurd (c.in-Ok.ensures.not_other sound seen.0.0.is_open (other_is_seen image (state g.S.Store c.args.connection) seen holds)))
+    c.confirm.result c.confirm.ensures.clean_left
+
+pub returns-in-Err-clause-other : goal.returns-in-Err-clause-other
+returns-in-Err-clause-other g c image sees holds clean =
+    let seen = sees (c.in-Err.ensures.clean_left clean) in
+    c.in-Err.ensures.other clean (other_is_seen image (state g.S.Store c.args.connection) seen holds) seen.0.0.is_open

@@ -1,4 +1,4 @@
-use Rattle.clear_host.proofs.OfficeLemmas.{holds_still, honest_store, keeps_book}
+use Rattle.clear_office.proofs.OpenedLemmas.{holds_still, honest_store, keeps_book}
 use Rattle.clear_host.proofs.offices.office_over.Goals as goal
 
 pub returns-in-Ok-clause-clean : goal.returns-in-Ok-clause-clean

@@ -31,3 +31,11 @@ returns-in-Ok-clause-empty g c =
 
 pub returns-in-Ok-clause-working : goal.returns-in-Ok-clause-working
 returns-in-Ok-clause-working g c = c.find_office.ensures.working
+
+pub returns-in-Ok-clause-not_other : goal.returns-in-Ok-clause-not_other
+returns-in-Ok-clause-not_other g c =
+    c.find_office.ensures.not_other (image_at g.S.Start) (λ clean. (c.in-Ok.ensures.opened clean, c.in-Ok.ensures.found clean))
+
+pub returns-in-Ok-clause-other : goal.returns-in-Ok-clause-other
+returns-in-Ok-clause-other g c =
+    c.find_office.ensures.other (image_at g.S.Start) (λ clean. (c.in-Ok.ensures.opened clean, c.in-Ok.ensures.found clean))

@@ -1,27 +1,33 @@
-use Rattle.std.proofs.Common.{Bool, cond, ◌∷◌, ◌++◌, [], refl, sym, ap, ◌∙◌, subst, arith}
+use Rattle.std.proofs.Common.{Bool, cond, ◌∷◌, ◌++◌, [], inl, inr, refl, sym, ap, ◌∙◌, subst, arith}
 use Rattle.std.proofs.lemmas.List.{append-nil}
 use Rattle.std.specs.Io.KnownBytes.{Appends}
+use Rattle.clear_answers.specs.declared.said.Said.TheVariants.{No}
 use Rattle.clear_wire.specs.Counted.{inner}
 use Rattle.clear_wire.specs.Cut.{left_after}
 use Rattle.clear_wire.specs.Request.{next_item}
 use Rattle.clear_wire.proofs.CutLemmas.{cuts_one, nothing_cut}
 use Rattle.clear_wire.proofs.KnownLemmas.{Appends-nil}
-use Rattle.clear_http.proofs.ServeLemmas.{same_answer, says, sent_ends}
+use Rattle.clear_http.proofs.ServeLemmas.{Replied, replied_as, same_answer, says, sent_ends}
 use Rattle.clear_http.proofs.serve.turn.Goals as goal
+use Rattle.clear_http.proofs.serve.turn.Goals.{in-Bad, in-Whole}
 
 pub returns-in-Ok-write_answer-clause-answered : goal.returns-in-Ok-write_answer-clause-answered
 returns-in-Ok-write_answer-clause-answered g c =
     let p = next_item c.in-Ok.item in
-    let wanted = c.in-Some.said in
-    let e = c.in-Some.ensures in
+    let wanted = c.match-item.said in
+    let e : Replied (g.H.Responder.responds c.args.responder.now) c.args.state.now c.in-Ok.item wanted c.match-item.state =
+    elim c.match-item.branch [
+      | in-Whole w ↦ replied_as (g.H.Responder.responds c.args.responder.now) c.args.state.now _ _ _ _ _ _ w.in-Whole.is w.said-is w.state-is (tt, w.reply-said.ensures.said, w.reply-said.ensures.memory)
+      | in-Bad w ↦ replied_as (g.H.Responder.responds c.args.responder.now) c.args.state.now _ _ _ _ _ _ w.in-Bad.is w.said-is w.state-is (tt, (inl (ap No w.by_stream.ensures), refl), λ none. (inr refl, refl))
+    ] in
     let behind = c.what_follows-behind.result in
     let f = c.what_follows-behind.ensures in
     let w = c.in-Ok-write_answer.ensures.wrote in
-    let told = says (g.H.Responder.responds c.args.responder.now) c.args.state.now p wanted w.0 c.reply.new.state e.says e.memory w.3 in
+    let told = says (g.H.Responder.responds c.args.responder.now) c.args.state.now p wanted w.0 c.match-item.state e.1 e.2 w.3 in
     let same = same_answer c.args.left p wanted w.0 c.is_bare-bare.result behind.after c.is_bare-bare.ensures f.after w.3 in (
       p,
       w.0,
-      e.answered,
+      e.0,
       c.in-Ok.ensures.next,
       f.after ∙ ap (λ (t : Bool). cond t 0 (left_after c.args.left p)) (sent_ends wanted w.0 w.3),
       told,
@@ -30,28 +36,32 @@ returns-in-Ok-write_answer-clause-answered g c =
       f.unread,
     )
 
-pub returns-in-Some-clause-fault : goal.returns-in-Some-clause-fault
-returns-in-Some-clause-fault g c =
+pub returns-clause-fault : goal.returns-clause-fault
+returns-clause-fault g c =
     let p = next_item c.in-Ok.item in
-    let wanted = c.in-Some.said in
-    let e = c.in-Some.ensures in
+    let wanted = c.match-item.said in
+    let e : Replied (g.H.Responder.responds c.args.responder.now) c.args.state.now c.in-Ok.item wanted c.match-item.state =
+    elim c.match-item.branch [
+      | in-Whole w ↦ replied_as (g.H.Responder.responds c.args.responder.now) c.args.state.now _ _ _ _ _ _ w.in-Whole.is w.said-is w.state-is (tt, w.reply-said.ensures.said, w.reply-said.ensures.memory)
+      | in-Bad w ↦ replied_as (g.H.Responder.responds c.args.responder.now) c.args.state.now _ _ _ _ _ _ w.in-Bad.is w.said-is w.state-is (tt, (inl (ap No w.by_stream.ensures), refl), λ none. (inr refl, refl))
+    ] in
     let behind = c.what_follows-behind.result in
     let f = c.what_follows-behind.ensures in
     let w = c.in-Err-write_answer.ensures.wrote in
-    let told = says (g.H.Responder.responds c.args.responder.now) c.args.state.now p wanted w.0 c.reply.new.state e.says e.memory w.3 in
+    let told = says (g.H.Responder.responds c.args.responder.now) c.args.state.now p wanted w.0 c.match-item.state e.1 e.2 w.3 in
     let same = same_answer c.args.left p wanted w.0 c.is_bare-bare.result behind.after c.is_bare-bare.ensures f.after w.3 in (
       p ∷ [],
       w.0 ∷ [],
       w.1,
       w.2,
       omega arith,
-      cuts_one c.args.left p _ _ c.requires e.answered c.in-Ok.ensures.next,
-      (c.reply.new.state, told, refl),
+      cuts_one c.args.left p _ _ c.requires e.0 c.in-Ok.ensures.next,
+      (c.match-item.state, told, refl),
       w.5,
       append-nil _ ∙ sym same ∙ w.4,
       w.7,
     )
 
-pub returns-clause-fault : goal.returns-clause-fault
-returns-clause-fault g c =
+pub returns-in-Err-clause-fault : goal.returns-in-Err-clause-fault
+returns-in-Err-clause-fault g c =
     ([], [], [], [], omega arith, nothing_cut c.args.left _, refl, Appends-nil _, refl, tt)

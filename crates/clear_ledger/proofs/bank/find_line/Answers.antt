@@ -1,7 +1,7 @@
 use Rattle.std.proofs.Common.{filter}
-use Rattle.clear_book.specs.Keyed.{is_key}
-use Rattle.clear_book.specs.RowRanges.{IsBankRow}
-use Rattle.clear_book.specs.Tables.{bank_key}
+use Rattle.clear_values.specs.Keyed.{is_key}
+use Rattle.clear_values.specs.RowRanges.{IsBankRow}
+use Rattle.clear_values.specs.Tables.{bank_key}
 use Rattle.clear_columns.proofs.KeyLemmas.{first_found}
 use Rattle.clear_ledger.proofs.BankTable.{answers}
 use Rattle.clear_ledger.specs.Shown.{bank_shown}

@@ -1,5 +1,5 @@
 use Rattle.std.proofs.Common.{refl, rules}
-use Rattle.clear_book.specs.RowRanges.{IsSerial}
+use Rattle.clear_values.specs.RowRanges.{IsSerial}
 use Rattle.clear_ledger.proofs.BankTable.{bank, insert_says}
 use Rattle.clear_schema.proofs.FrameLemmas.{writes_none}
 use Rattle.clear_columns.proofs.KeyedTable.{puts}

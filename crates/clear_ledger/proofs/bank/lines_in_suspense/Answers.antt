@@ -1,4 +1,4 @@
-use Rattle.clear_book.specs.RowRanges.{IsBankRow}
+use Rattle.clear_values.specs.RowRanges.{IsBankRow}
 use Rattle.clear_ledger.proofs.BankTable.{answers_suspense}
 use Rattle.clear_ledger.specs.Shown.{bank_shown}
 use Rattle.clear_schema.proofs.FrameLemmas.{lists}

@@ -1,4 +1,4 @@
-use Rattle.clear_book.specs.RowRanges.{IsCreditRow}
+use Rattle.clear_values.specs.RowRanges.{IsCreditRow}
 use Rattle.clear_ledger.specs.Shown.{credit_shown}
 use Rattle.clear_ledger.proofs.CreditTable.{answers}
 use Rattle.clear_schema.proofs.FrameLemmas.{lists}

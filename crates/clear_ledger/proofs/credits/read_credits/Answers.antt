@@ -1,5 +1,5 @@
 use Rattle.std.proofs.Common.{filter, refl}
-use Rattle.clear_book.specs.Lines.{is_credit_of}
+use Rattle.clear_values.specs.Credits.{is_credit_of}
 use Rattle.clear_columns.proofs.ReadingLemmas.{left_on, reads_on}
 use Rattle.clear_ledger.proofs.CreditTable.{answers}
 use Rattle.clear_ledger.specs.Shown.{credit_shown}

@@ -1,8 +1,8 @@
 use Rattle.std.proofs.Common.{◌≡◌, ◌∙◌, [], ◌∷◌, ap, filter, slice_get, subst}
 use Rattle.std.specs.Option.{option_map}
 use Rattle.sqlite.specs.Held.{state}
-use Rattle.clear_book.specs.Book.{request_number}
-use Rattle.clear_book.specs.Keyed.{is_key}
+use Rattle.clear_values.specs.Tables.{request_number}
+use Rattle.clear_values.specs.Keyed.{is_key}
 use Rattle.clear_columns.proofs.KeyLemmas.{first_found}
 use Rattle.clear_schema.specs.Held.{HasTables, request_key}
 use Rattle.clear_schema.specs.Values.{caller_number, number}

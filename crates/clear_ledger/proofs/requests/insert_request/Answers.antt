@@ -1,5 +1,5 @@
 use Rattle.std.proofs.Common.{refl, rules}
-use Rattle.clear_book.specs.RowRanges.{IsReply}
+use Rattle.clear_values.specs.RowRanges.{IsReply}
 use Rattle.clear_ledger.specs.Kept.{as_kept, row_of}
 use Rattle.clear_schema.proofs.FrameLemmas.{writes_none}
 use Rattle.clear_columns.proofs.KeyedTable.{puts}

@@ -10,7 +10,7 @@ ghost use Rattle.clear_book.specs.Lines.{credit_count, credit_of_line, credits_o
 ghost use Rattle.clear_book.specs.Lines.{employer_of_line, is_credit_of, suspense_count};
 ghost use Rattle.clear_book.specs.Own.ImportBank.{is_over, limit_rules};
 ghost use Rattle.clear_rules.specs.Counts.{AreCountsOf, IsIndexOf, count_in, count_indexed};
-ghost use Rattle.clear_rules.specs.Counts.{counts_for, is_indexed};
+ghost use Rattle.clear_rules.specs.Counts.{count_then, counts_for, is_indexed};
 ghost use Rattle.clear_rules.specs.Decisions.{Refuses};
 
 use super::EmployerCredits;
@@ -69,7 +69,8 @@ pub(super) fn check_limits(
     index: &BTreeMap<u32, EmployerCredits>,
     rows: &[BankRow],
 ) -> Result<(), Rule>
-    ensures { Refuses result (first_of (limit_rules suspense (count_indexed index.now) rows.now)) }
+    ensures { Refuses result (first_of (limit_rules (suspense + suspense_count rows.now)
+        (count_then index.now rows.now) rows.now)) }
 {
     if suspense.saturating_add(count_waiting(rows)) > MAX_SUSPENSE {
         return Err(Rule::OverLimit(Limit::Suspense));
@@ -114,7 +115,7 @@ fn count_credits(
     purpose: Purpose,
 ) -> Result<BTreeMap<u32, u64>, AllocError>
     ensures { IfOk result (λ counts.
-        (e : ℕ) → count_in counts e ≡ credit_count rows.now e purpose) }
+        (e : ℕ) → count_in counts e ≡ credit_count (credits_of_lines rows.now) e purpose) }
 {
     let mut counts = BTreeMap::new(alloc);
     for row in rows {
@@ -149,7 +150,7 @@ fn count_credit(
 // Whether an employer of these rows has too many credits for a purpose.
 fn has_over(index: &BTreeMap<u32, EmployerCredits>, counts: &CreditCounts, rows: &[BankRow]) -> bool
     requires { AreCountsOf rows.now counts.now }
-    ensures { result ≡ list_any (is_over (count_indexed index.now) rows.now)
+    ensures { result ≡ list_any (is_over (count_then index.now rows.now))
         (credits_of_lines rows.now) }
 {
     for row in rows {
@@ -163,7 +164,7 @@ fn has_over(index: &BTreeMap<u32, EmployerCredits>, counts: &CreditCounts, rows:
 // Whether the employer of a row has too many credits for its purpose.
 fn is_over(index: &BTreeMap<u32, EmployerCredits>, counts: &CreditCounts, row: &BankRow) -> bool
     ensures { (rows : List BankRow) → AreCountsOf rows counts.now
-        → result ≡ option_map_or (is_over (count_indexed index.now) rows)
+        → result ≡ option_map_or (is_over (count_then index.now rows))
         (credit_of_line row.now row.now.employer) false }
 {
     let Some(employer) = row.employer else {

@@ -1,5 +1,5 @@
 use Rattle.std.proofs.Common.{◌≡◌, take}
-use Rattle.clear_book.specs.Lines.{credits_of_lines}
+use Rattle.clear_values.specs.Credits.{credits_of_lines}
 use Rattle.clear_store.proofs.bank_file.credits_of_rows.Given as goal
 
 abbrev pub invariant-loop-row : goal.invariant-loop-row

@@ -1,9 +1,9 @@
 use Rattle.std.proofs.Common.{◌∙◌, List, ap, arith, refl, sym}
 use Rattle.std.proofs.lemmas.List.{take_all}
-use Rattle.clear_book.specs.Accounts.{credit_key}
-use Rattle.clear_book.specs.Keyed.{with_rows}
-use Rattle.clear_book.specs.RowRanges.{IsSerial}
-use Rattle.clear_book.specs.declared.rows.CreditRow.{CreditRow}
+use Rattle.clear_values.specs.Credits.{credit_key}
+use Rattle.clear_values.specs.Keyed.{with_rows}
+use Rattle.clear_values.specs.RowRanges.{IsSerial}
+use Rattle.clear_values.specs.declared.rows.CreditRow.{CreditRow}
 use Rattle.clear_store.proofs.JoinLemmas.{Always, all_put, more_failed, put_more, put_none}
 use Rattle.clear_store.proofs.RowLemmas.{at_place, free_next, not_held, with_next}
 use Rattle.clear_store.proofs.bank_file.insert_credits.Goals as goal

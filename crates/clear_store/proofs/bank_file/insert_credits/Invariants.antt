@@ -1,6 +1,6 @@
 use Rattle.std.proofs.Common.{◌≡◌, Ok, take}
-use Rattle.clear_book.specs.Keyed.{with_rows}
-use Rattle.clear_book.specs.Accounts.{credit_key}
+use Rattle.clear_values.specs.Keyed.{with_rows}
+use Rattle.clear_values.specs.Credits.{credit_key}
 use Rattle.clear_store.specs.Changes.{Puts}
 use Rattle.clear_store.proofs.JoinLemmas.{Always}
 use Rattle.clear_store.proofs.bank_file.insert_credits.Given as goal

@@ -1,9 +1,9 @@
 use Rattle.std.proofs.Common.{◌∙◌, List, ap, arith, refl, sym}
 use Rattle.std.proofs.lemmas.List.{take_all}
-use Rattle.clear_book.specs.Keyed.{with_rows}
-use Rattle.clear_book.specs.RowRanges.{IsSerial}
-use Rattle.clear_book.specs.Tables.{bank_key}
-use Rattle.clear_book.specs.declared.rows.BankRow.{BankRow}
+use Rattle.clear_values.specs.Keyed.{with_rows}
+use Rattle.clear_values.specs.RowRanges.{IsSerial}
+use Rattle.clear_values.specs.Tables.{bank_key}
+use Rattle.clear_values.specs.declared.rows.BankRow.{BankRow}
 use Rattle.clear_ledger.specs.Shown.{serial_key}
 use Rattle.clear_store.proofs.JoinLemmas.{Always, all_put, more_failed, put_more, put_none}
 use Rattle.clear_store.proofs.RowLemmas.{at_place, free_next, free_under, neither_held, with_next}

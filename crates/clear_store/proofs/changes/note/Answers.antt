@@ -1,5 +1,5 @@
 use Rattle.std.proofs.Common.{◌≤◌, ap, refl, subst, sym}
-use Rattle.clear_book.specs.Limits.{most_entries, most_serials}
+use Rattle.clear_values.specs.Limits.{most_entries, most_serials}
 use Rattle.clear_schema.specs.Values.{Counts, with_counts}
 use Rattle.clear_schema.proofs.FrameLemmas.{writes_as}
 use Rattle.clear_store.proofs.JoinLemmas.{Always, not_put, put_by}

@@ -1,6 +1,6 @@
 use Rattle.std.proofs.Common.{◌≡◌, None, Ok, Err, refl}
-use Rattle.clear_book.specs.Keyed.{find_row}
-use Rattle.clear_book.specs.Tables.{Tables, report_key}
+use Rattle.clear_values.specs.Keyed.{find_row}
+use Rattle.clear_values.specs.Tables.{Tables, report_key}
 use Rattle.clear_store.specs.Changes.{IsVersion}
 use Rattle.clear_store.proofs.JoinLemmas.{first_failed, put_by, put_then}
 use Rattle.clear_store.proofs.RowLemmas.{not_held}

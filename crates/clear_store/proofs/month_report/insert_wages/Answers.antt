@@ -1,10 +1,10 @@
 use Rattle.std.proofs.Common.{◌∙◌, ◌≤◌, List, ap, arith, refl, sym}
 use Rattle.std.proofs.lemmas.List.{take_all}
-use Rattle.clear_book.specs.Keyed.{with_rows}
-use Rattle.clear_book.specs.Limits.{most_gross}
-use Rattle.clear_book.specs.Tables.{wage_key, wage_row, wage_rows}
-use Rattle.clear_book.specs.declared.rows.WageRow.{WageRow}
-use Rattle.clear_book.specs.declared.texts.WageLine.{WageLine}
+use Rattle.clear_values.specs.Keyed.{with_rows}
+use Rattle.clear_values.specs.Limits.{most_gross}
+use Rattle.clear_values.specs.Tables.{wage_key, wage_row, wage_rows}
+use Rattle.clear_values.specs.declared.rows.WageRow.{WageRow}
+use Rattle.clear_values.specs.declared.texts.WageLine.{WageLine}
 use Rattle.clear_store.proofs.JoinLemmas.{Always, all_put, more_failed, put_more, put_none}
 use Rattle.clear_store.proofs.RowLemmas.{at_place, free_next_of, not_held, with_next_of}
 use Rattle.clear_store.proofs.month_report.insert_wages.Goals as goal

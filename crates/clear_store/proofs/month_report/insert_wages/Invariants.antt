@@ -1,6 +1,6 @@
 use Rattle.std.proofs.Common.{◌≡◌, Ok, take}
-use Rattle.clear_book.specs.Keyed.{with_rows}
-use Rattle.clear_book.specs.Tables.{wage_key, wage_rows}
+use Rattle.clear_values.specs.Keyed.{with_rows}
+use Rattle.clear_values.specs.Tables.{wage_key, wage_rows}
 use Rattle.clear_store.specs.Changes.{Puts}
 use Rattle.clear_store.proofs.JoinLemmas.{Always}
 use Rattle.clear_store.proofs.month_report.insert_wages.Given as goal

@@ -1,0 +1,19 @@
+use Rattle.std.proofs.Common.{refl}
+use Rattle.std.specs.Fmt.{digits}
+use Rattle.clear_book.proofs.examples.law_kept_bytes.Goals as goal
+
+pub returns-clause-register : goal.returns-clause-register
+unfolding digits
+returns-clause-register c = refl
+
+pub returns-clause-report : goal.returns-clause-report
+unfolding digits
+returns-clause-report c = refl
+
+pub returns-clause-no_lines : goal.returns-clause-no_lines
+unfolding digits
+returns-clause-no_lines c = refl
+
+pub returns-clause-correct : goal.returns-clause-correct
+unfolding digits
+returns-clause-correct c = refl

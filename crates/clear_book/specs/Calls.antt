@@ -1,0 +1,141 @@
+-- What calls are, one by one: who may make each, when two commands are the same and under which
+-- bytes one is kept, and the values that a call has. A further request is a case in each.
+use Rattle.std.specs.Prelude.{ℕ, ◌<◌, ◌^◌, List, ◌++◌, Bool, true, false, ◌&&◌, ◌==◌}
+use Rattle.std.specs.Prelude.{bytes_eq, codes}
+use Rattle.std.specs.Cmp.Lexicographic.{pointwise}
+use Rattle.std.specs.List.{flat_map, AllByRecursion}
+use Rattle.std.specs.Fmt.{decimal}
+use Rattle.clear_money.specs.Texts.{month_text}
+use Rattle.clear_money.specs.Calendar.{IsMonth, IsDay}
+use Rattle.clear_money.specs.Numbers.{IsEmployerNo, IsWorkerNo}
+use Rattle.clear_values.specs.declared.callers.Caller.{Caller}
+use Rattle.clear_values.specs.declared.callers.Caller.TheVariants.{Firm, Clerk}
+use Rattle.clear_values.specs.declared.texts.WageLine.{WageLine}
+use Rattle.clear_values.specs.Numbers.{IsRequestNo}
+use Rattle.clear_values.specs.Ranges.{IsCaller}
+use Rattle.clear_values.specs.Texts.{IsName}
+use Rattle.clear_book.specs.declared.calls.Command.{Command}
+use Rattle.clear_book.specs.declared.calls.Command.TheVariants.{Register, Report, Correct}
+use Rattle.clear_book.specs.declared.calls.Command.TheVariants.{ImportBank}
+use Rattle.clear_book.specs.declared.calls.Query.{Query}
+use Rattle.clear_book.specs.declared.calls.Query.TheVariants.{Owed, Statement}
+use Rattle.clear_book.specs.declared.calls.Correction.{Correction}
+use Rattle.clear_book.specs.declared.calls.Registration.{Registration}
+use Rattle.clear_book.specs.declared.calls.WageReport.{WageReport}
+use Rattle.clear_book.specs.declared.calls.Call.{Call}
+use Rattle.clear_book.specs.declared.calls.Call.TheVariants.{Do, Ask}
+
+-- ---- who may make it
+
+-- a firm may report its own wages and correct its reports, and give no other command
+abbrev pub may_do : Caller → Command → Bool
+may_do Clerk command = true
+may_do (Firm e) (Register r) = false
+may_do (Firm e) (Report r) = e == r.employer
+may_do (Firm e) (Correct c) = e == c.report.employer
+may_do (Firm e) (ImportBank file) = false
+
+-- a firm may ask what it owes itself
+abbrev pub may_query : Caller → Query → Bool
+may_query Clerk query = true
+may_query (Firm e) (Owed employer) = e == employer
+may_query (Firm e) (Statement employer) = e == employer
+
+-- ---- the same as values
+
+-- the same worker and gross amount
+abbrev pub same_line : WageLine → WageLine → Bool
+same_line a b = (a.worker == b.worker) && (a.gross == b.gross)
+
+-- the same employer and month, and the same lines in the same order
+abbrev pub same_report : WageReport → WageReport → Bool
+same_report r s =
+    (r.employer == s.employer) && (r.month == s.month) && pointwise same_line r.lines s.lines
+
+-- the registration of the same employer, name and first month
+abbrev pub is_registration_of : Registration → Command → Bool
+is_registration_of r (Register s) =
+    (r.employer == s.employer) && bytes_eq r.name s.name && (r.start == s.start)
+is_registration_of r (Report s) = false
+is_registration_of r (Correct d) = false
+is_registration_of r (ImportBank g) = false
+
+-- the same report
+abbrev pub reports_the_same : WageReport → Command → Bool
+reports_the_same r (Register s) = false
+reports_the_same r (Report s) = same_report r s
+reports_the_same r (Correct d) = false
+reports_the_same r (ImportBank g) = false
+
+-- the same report in the place of the same version
+abbrev pub corrects_the_same : Correction → Command → Bool
+corrects_the_same c (Register s) = false
+corrects_the_same c (Report s) = false
+corrects_the_same c (Correct d) = same_report c.report d.report && (c.version == d.version)
+corrects_the_same c (ImportBank g) = false
+
+-- the same bytes of a bank file
+abbrev pub imports_the_same : List ℕ → Command → Bool
+imports_the_same f (Register s) = false
+imports_the_same f (Report s) = false
+imports_the_same f (Correct d) = false
+imports_the_same f (ImportBank g) = bytes_eq f g
+
+-- the same kind of command, and each of its values the same
+abbrev pub same_command : Command → Command → Bool
+same_command (Register r) command = is_registration_of r command
+same_command (Report r) command = reports_the_same r command
+same_command (Correct c) command = corrects_the_same c command
+same_command (ImportBank f) command = imports_the_same f command
+
+-- ---- the kept bytes
+
+-- a worker and a gross amount, behind a space
+abbrev pub line_text : WageLine → List ℕ
+line_text line = codes " " ++ decimal line.worker ++ codes ":" ++ decimal line.gross
+
+-- the lines of a report
+abbrev pub lines_text : List WageLine → List ℕ
+lines_text lines = flat_map line_text lines
+
+-- the word of a command and its values, with a space between them; a name stands last, and so do
+-- the bytes of a bank file
+abbrev pub command_bytes : Command → List ℕ
+command_bytes (Register r) =
+    codes "employer " ++ decimal r.employer ++ codes " " ++ month_text r.start
+    ++ codes " " ++ r.name
+command_bytes (Report r) =
+    codes "report " ++ decimal r.employer ++ codes " " ++ month_text r.month ++ lines_text r.lines
+command_bytes (Correct c) =
+    codes "correct " ++ decimal c.report.employer ++ codes " " ++ month_text c.report.month
+    ++ codes " " ++ decimal c.version ++ lines_text c.report.lines
+command_bytes (ImportBank file) = codes "bank " ++ file
+
+-- ---- values
+
+-- any gross amount of 64 bits may be asked
+abbrev pub IsWageLine : WageLine → Type 0
+IsWageLine line = IsWorkerNo line.worker × (line.gross < 2 ^ 64)
+
+-- the values of a report
+abbrev pub IsReport : WageReport → Type 0
+IsReport r = IsEmployerNo r.employer × IsMonth r.month × AllByRecursion IsWageLine r.lines
+
+-- the values of a command; a correction may name any version of 32 bits, and any bytes may be a
+-- bank file
+abbrev pub IsCommand : Command → Type 0
+IsCommand (Register r) = IsEmployerNo r.employer × IsName r.name × IsMonth r.start
+IsCommand (Report r) = IsReport r
+IsCommand (Correct c) = (c.version < 2 ^ 32) × IsReport c.report
+IsCommand (ImportBank file) = Unit {0}
+
+-- the values of a query
+abbrev pub IsQuery : Query → Type 0
+IsQuery (Owed employer) = IsEmployerNo employer
+IsQuery (Statement employer) = IsEmployerNo employer
+
+-- the values of a call
+abbrev pub IsCall : Call → Type 0
+IsCall (Do caller number day command) =
+    IsCaller caller × IsRequestNo number × IsDay day × IsCommand command
+IsCall (Ask caller day query) = IsCaller caller × IsDay day × IsQuery query

@@ -1,0 +1,74 @@
+//! Examples: what definitions come to in small cases. Each is a law without parameters.
+ghost use Rattle.std.specs.Prelude.{◌≡◌, ◌+◌, [], ◌∷◌, codes};
+ghost use Rattle.clear_account.specs.Allocation.{prepaid, right_pieces};
+ghost use Rattle.clear_book.specs.declared.calls.Command.TheVariants.{Register, Report, Correct};
+ghost use Rattle.clear_book.specs.declared.calls.Command.TheVariants.{ImportBank};
+ghost use Rattle.clear_book.specs.Documents.Amounts.{amount_text};
+ghost use Rattle.clear_book.specs.Documents.Lines.{missing_line};
+ghost use Rattle.clear_book.specs.Examples.{charge, credit, february, january, piece};
+ghost use Rattle.clear_book.specs.Calls.{command_bytes};
+
+/// Two payments, of which the first reaches a part of January, and the second the rest of it and
+/// February: three pieces, and what is left over is prepaid.
+pub fn law_pieces_of_two_payments()
+    ensures pieces { right_pieces
+        (charge january 200000 ∷ charge february 100010 ∷ [])
+        (credit 1 150000 ∷ credit 2 200000 ∷ [])
+        ≡ piece january 1 150000 ∷ piece january 2 50000 ∷ piece february 2 100010 ∷ [] }
+    ensures prepaid { prepaid
+        (charge january 200000 ∷ charge february 100010 ∷ [])
+        (credit 1 150000 ∷ credit 2 200000 ∷ []) ≡ 49990 }
+{}
+
+/// A third payment that is dated before them comes first, and moves them on.
+pub fn law_pieces_of_an_earlier_payment()
+    ensures { right_pieces
+        (charge january 200000 ∷ charge february 100010 ∷ [])
+        (credit 3 60000 ∷ credit 1 150000 ∷ credit 2 200000 ∷ [])
+        ≡ piece january 3 60000 ∷ piece january 1 140000 ∷ piece february 1 10000
+        ∷ piece february 2 90010 ∷ [] }
+{}
+
+/// A contribution of 0 has no piece.
+pub fn law_pieces_of_nothing()
+    ensures { right_pieces
+        (charge january 0 ∷ charge february 100010 ∷ [])
+        (credit 1 100010 ∷ []) ≡ piece february 1 100010 ∷ [] }
+{}
+
+/// The bytes under which commands are kept.
+pub fn law_kept_bytes()
+    ensures register { command_bytes
+        (Register (record { employer = 1001; name = codes "Bau Nord"; start = january }))
+        ≡ codes "employer 1001 2024-01 Bau Nord" }
+    ensures report { command_bytes (Report (record {
+      employer = 1001;
+      month = january;
+      lines = record { worker = 7; gross = 1000000 } ∷ record { worker = 8; gross = 50000 } ∷ [];
+    })) ≡ codes "report 1001 2024-01 7:1000000 8:50000" }
+    ensures no_lines { command_bytes
+        (Report (record { employer = 1001; month = january; lines = [] }))
+        ≡ codes "report 1001 2024-01" }
+    ensures correct { command_bytes (Correct (record {
+      report = record {
+        employer = 1001;
+        month = january;
+        lines = record { worker = 7; gross = 500000 } ∷ [];
+      };
+      version = 1;
+    })) ≡ codes "correct 1001 2024-01 1 7:500000" }
+    ensures bank { command_bytes (ImportBank (codes "reference")) ≡ codes "bank reference" }
+{}
+
+/// An amount stands right in 14 places; a wider one takes what it needs.
+pub fn law_amounts()
+    ensures nothing { amount_text 0 ≡ codes "          0.00" }
+    ensures euros { amount_text 49990 ≡ codes "        499.90" }
+    ensures wide { amount_text 1000000000005 ≡ codes "10000000000.05" }
+    ensures wider { amount_text 10000000000050 ≡ codes "100000000000.50" }
+{}
+
+/// A line of a statement.
+pub fn law_missing_line()
+    ensures { missing_line (january + 2) ≡ codes "missing 2024-03\n" }
+{}

@@ -1,0 +1,29 @@
+use Rattle.sqlite.specs.Held.{state}
+use Rattle.clear_host.proofs.RefusalLemmas.{tells_none, tells_only}
+use Rattle.clear_host.proofs.StoreLemmas.{nothing_seen, told_seen}
+use Rattle.clear_host.proofs.offices.new_office.Goals as goal
+
+pub returns-in-Ok-clause-created : goal.returns-in-Ok-clause-created
+returns-in-Ok-clause-created g c image sees honest nothing =
+    let seen = sees (c.in-Ok.ensures.clean honest) in
+    c.in-Ok.ensures.created honest (nothing_seen image (state g.S.Store c.args.connection) seen nothing)
+
+pub returns-in-Ok-clause-keeps : goal.returns-in-Ok-clause-keeps
+returns-in-Ok-clause-keeps g c image sees honest nothing =
+    let seen = sees (c.in-Ok.ensures.clean honest) in
+    c.in-Ok.ensures.keeps honest (nothing_seen image (state g.S.Store c.args.connection) seen nothing)
+
+pub returns-in-Ok-clause-only_new : goal.returns-in-Ok-clause-only_new
+returns-in-Ok-clause-only_new g c image sees honest number holds =
+    let seen = sees (c.in-Ok.ensures.clean honest) in
+    c.in-Ok.ensures.only_empty honest number (told_seen image (state g.S.Store c.args.connection) seen number holds).1
+
+pub returns-in-Err-clause-version : goal.returns-in-Err-clause-version
+returns-in-Err-clause-version g c image sees number holds clean =
+    let seen = sees (c.in-Err.ensures.clean_left clean) in
+    tells_only number c.in-Err.refusal.fault (c.in-Err.ensures.there clean number (told_seen image (state g.S.Store c.args.connection) seen number holds).1)
+
+pub returns-in-Err-clause-empty : goal.returns-in-Err-clause-empty
+returns-in-Err-clause-empty g c image sees nothing clean =
+    let seen = sees (c.in-Err.ensures.clean_left clean) in
+    tells_none c.in-Err.refusal.fault (c.in-Err.ensures.empty clean (nothing_seen image (state g.S.Store c.args.connection) seen nothing))

@@ -1,0 +1,115 @@
+-- A change that leads to the tables of a book.
+use Rattle.std.proofs.Common.{◌≡◌, ℕ, ◌+◌, ◌≤◌, List, [], ◌∷◌, None, refl, ap, arith}
+use Rattle.std.specs.List.{AllByRecursion}
+use Rattle.clear_values.specs.declared.rows.Change.{Change}
+use Rattle.clear_values.specs.declared.rows.Change.TheVariants.{AddEmployer, AddReport, ReplaceReport, AddBankLines}
+use Rattle.clear_values.specs.declared.texts.WageLine.{WageLine}
+use Rattle.clear_values.specs.Credits.{credit_key}
+use Rattle.clear_values.specs.Tables.{request_number}
+use Rattle.clear_book.specs.Book.{Book, Entry}
+use Rattle.clear_values.specs.Keyed.{is_key, find_row, without_rows, AreOnce}
+use Rattle.clear_values.specs.Credits.{credits_of_lines}
+use Rattle.clear_book.specs.Lines.{lines_standing}
+use Rattle.clear_book.specs.Machine.{IsLawful}
+use Rattle.clear_values.specs.RowRanges.{AreInRange, IsBankRow, IsReply, IsReportRow, IsRequestRow, IsSerial, IsWageRow}
+use Rattle.clear_values.specs.Tables.{Tables, bank_key, changed, employer_key, is_wage_key_of, report_key, request_key, wage_key, wage_rows}
+use Rattle.clear_book.specs.Tables.{Stands, noted, request_row}
+use Rattle.clear_values.proofs.KeyedRowsLemmas.{count_by-ordered}
+use Rattle.clear_book.proofs.LinesLemmas.{references_standing, serials_once, standing_seen}
+use Rattle.clear_book.proofs.RowRangeLemmas.{rows_in_range}
+use Rattle.sqlite_keyed.proofs.ListLemmas.{all_weaker}
+use Rattle.clear_schema.specs.Values.{Counts as Stored, counts_of}
+use Rattle.clear_firms.specs.declared.counts.Counts.{Counts}
+use Rattle.clear_firms.specs.Counts.{as_stored}
+use Rattle.clear_ledger.specs.Shown.{serial_key}
+use Rattle.clear_store.specs.Changes.{AreGross, HasRoom, IsFree, IsInRange, IsPuttable, serials_taken}
+use Rattle.clear_store.proofs.OnceLemmas.{all_new, all_with, in_order_free, key_count, once_counted, once_free}
+
+-- ---- keys
+
+-- no serial stands twice in the tables of a book
+serials_counted : (b : Book) (t : Tables) → Stands b t → (k : List ℕ) → key_count serial_key k t.bank ≤ 1
+serials_counted b t stands k =
+    let once : AreOnce serial_key (lines_standing b.entries) = rw (standing_seen b.entries) (serials_once b.entries) in
+    let same = count_by-ordered bank_key (λ row. is_key (serial_key row) k) t.bank (lines_standing b.entries) stands.bank_in_order (references_standing b.entries) stands.bank in
+    omega (arith, same, once_counted serial_key k (lines_standing b.entries) once)
+
+-- each key that the change adds was free
+pub change_free : (next : Book) (t : Tables) (x : Entry) (change : Change) → Stands next (noted x (changed change t)) → IsFree change t
+change_free next t x (AddEmployer row) stands =
+    (in_order_free employer_key t.employers (row ∷ []) stands.employers_in_order).0
+change_free next t x (AddReport row lines) stands = (
+  (in_order_free report_key t.reports (row ∷ []) stands.reports_in_order).0,
+  in_order_free wage_key t.wages (wage_rows row.employer row.month lines) stands.wages_in_order,
+)
+change_free next t x (ReplaceReport row lines) stands =
+    in_order_free wage_key (without_rows wage_key (is_wage_key_of row.employer row.month) t.wages)
+    (wage_rows row.employer row.month lines) stands.wages_in_order
+change_free next t x (AddBankLines rows) stands = (
+  in_order_free bank_key t.bank rows stands.bank_in_order,
+  once_free serial_key bank_key t.bank rows (serials_counted next (noted x (changed (AddBankLines rows) t)) stands),
+  in_order_free credit_key t.credits (credits_of_lines rows) stands.credits_in_order,
+)
+
+-- and the number of the request
+pub number_free : (next : Book) (t : Tables) (x : Entry) (change : Change) → Stands next (noted x (changed change t)) → find_row request_key t.requests (request_number x.caller x.number) ≡ None
+number_free next t x (AddEmployer row) stands = (in_order_free request_key t.requests (request_row x ∷ []) stands.requests_in_order).0
+number_free next t x (AddReport row lines) stands = (in_order_free request_key t.requests (request_row x ∷ []) stands.requests_in_order).0
+number_free next t x (ReplaceReport row lines) stands = (in_order_free request_key t.requests (request_row x ∷ []) stands.requests_in_order).0
+number_free next t x (AddBankLines rows) stands = (in_order_free request_key t.requests (request_row x ∷ []) stands.requests_in_order).0
+
+-- ---- ranges
+
+-- the numbers of the reply are in range
+pub reply_in_range : (next : Book) (t : Tables) (x : Entry) (change : Change) → IsLawful next → Stands next (noted x (changed change t)) → IsReply x.reply
+reply_in_range next t x change lawful stands =
+    (all_with request_key IsRequestRow (changed change t).requests (request_row x) (rows_in_range next (noted x (changed change t)) lawful stands).requests).1.reply
+
+all_gross : (e m : ℕ) (lines : List WageLine) → AllByRecursion IsWageRow (wage_rows e m lines) → AreGross lines
+all_gross e m [] all = tt
+all_gross e m (line ∷ lines) all = (all.0.gross, all_gross e m lines all.1)
+
+-- the numbers in the rows are those of rows in their ranges
+rows_puttable : (t : Tables) (x : Entry) (change : Change) → AreInRange (noted x (changed change t)) → IsInRange change
+rows_puttable t x (AddEmployer row) within = tt
+rows_puttable t x (AddReport row lines) within =
+    let report = (all_with report_key IsReportRow t.reports row within.reports).1 in
+    let wages = all_new wage_key IsWageRow t.wages (wage_rows row.employer row.month lines) within.wages in
+    ((report.some, report.few), all_gross row.employer row.month lines wages.1)
+rows_puttable t x (ReplaceReport row lines) within =
+    let report = (all_with report_key IsReportRow (without_rows report_key (λ k. is_key k (report_key row)) t.reports) row within.reports).1 in
+    let wages = all_new wage_key IsWageRow (without_rows wage_key (is_wage_key_of row.employer row.month) t.wages) (wage_rows row.employer row.month lines) within.wages in
+    ((report.some, report.few), all_gross row.employer row.month lines wages.1)
+rows_puttable t x (AddBankLines rows) within =
+    all_weaker IsBankRow (λ row. IsSerial row.serial) (λ row good. good.serial) rows (all_new bank_key IsBankRow t.bank rows within.bank).1
+
+-- the last serial after a change is as many more as it takes
+serial_after : (change : Change) (t : Tables) → t.serial + serials_taken change ≡ (changed change t).serial
+serial_after (AddEmployer row) t = omega arith
+serial_after (AddReport row lines) t = omega arith
+serial_after (ReplaceReport row lines) t = omega arith
+serial_after (AddBankLines rows) t = omega arith
+
+-- so the change can be put
+pub change_puttable : (next : Book) (t : Tables) (x : Entry) (change : Change) (counts : Counts) → IsLawful next → Stands next (noted x (changed change t)) → as_stored counts ≡ counts_of t → IsPuttable counts change
+change_puttable next t x change counts lawful stands same =
+    let within = rows_in_range next (noted x (changed change t)) lawful stands in
+    (rows_puttable t x change within, room change within)
+  where
+    entries : counts.entries ≡ t.entries
+    entries = ap (λ (c : Stored). c.entries) same
+
+    serial : counts.serial ≡ t.serial
+    serial = ap (λ (c : Stored). c.serial) same
+
+    entries_after : (change : Change) → t.entries + 1 ≡ (noted x (changed change t)).entries
+    entries_after (AddEmployer row) = refl
+    entries_after (AddReport row lines) = refl
+    entries_after (ReplaceReport row lines) = refl
+    entries_after (AddBankLines rows) = refl
+
+    room : (change : Change) → AreInRange (noted x (changed change t)) → HasRoom counts (serials_taken change)
+    room change within = (
+      omega (arith, entries, entries_after change, within.entries),
+      omega (arith, serial, serial_after change t, within.serial),
+    )

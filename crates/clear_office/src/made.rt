@@ -1,0 +1,51 @@
+//! Offices over stores that are just made, whatever keeps them.
+ghost use Rattle.std.specs.Prelude.{◌≡◌, ◌≢◌, false, ℕ, IfErr, IfOk};
+ghost use Rattle.sqlite.specs.Held.{state};
+ghost use Rattle.sqlite.specs.State.{HasCleanDisk};
+ghost use Rattle.clear_book.specs.Book.{first_book};
+ghost use Rattle.clear_schema.specs.First.{first_tables};
+ghost use Rattle.clear_schema.specs.Held.{TellsSchema};
+ghost use Rattle.clear_schema.specs.Schema.{no_schema};
+ghost use Rattle.clear_schema.specs.declared.fault.OpenFault.TheVariants.{WrongVersion};
+ghost use Rattle.clear_office.specs.Office.{Holds, IsHonest, Keeps};
+
+use crate::office::Office;
+use clear_money::rates::RateTable;
+use clear_schema::store::{Refusal, Store};
+use sqlite::{Alter, Connection};
+use std::alloc::Global;
+
+/// Makes a store without requests, with these opening rates, in an empty database, and an office
+/// over it. On another database `WrongVersion` with the number of its schema, 0 without one. A
+/// refusal hands the connection back.
+pub fn make_office<S: Alter>(
+    alloc: Global,
+    connection: Connection<S>,
+    rates: &RateTable,
+) -> Result<Office<S>, Refusal<S>>
+    requires { connection.in_transaction ≡ false }
+    ensures working { IfOk result (λ office. office.failed ≡ false) }
+    ensures clean { IfOk result (λ office. IsHonest S.Store office
+        → HasCleanDisk (state S.Store connection)) }
+    ensures clean_left { IfErr result (λ left. HasCleanDisk (state S.Store left.connection)
+        → HasCleanDisk (state S.Store connection)) }
+    ensures created { IfOk result (λ office. IsHonest S.Store office
+        → (state S.Store connection).now.schema ≡ no_schema
+        → Holds S.Store office.conn (first_tables rates.now)) }
+    ensures keeps { IfOk result (λ office. IsHonest S.Store office
+        → (state S.Store connection).now.schema ≡ no_schema
+        → Keeps S.Store office (first_book rates.now)) }
+    ensures only_empty { IfOk result (λ office. IsHonest S.Store office
+        → (number : ℕ) → ¬ TellsSchema number (state S.Store connection).now) }
+    ensures there { IfErr result (λ left. HasCleanDisk (state S.Store left.connection)
+        → (number : ℕ) → TellsSchema number (state S.Store connection).now
+        → (told : ℕ) → left.fault ≡ WrongVersion told → told ≡ number) }
+    ensures empty { IfErr result (λ left. HasCleanDisk (state S.Store left.connection)
+        → (state S.Store connection).now.schema ≡ no_schema
+        → (told : ℕ) → left.fault ≢ WrongVersion told) }
+{
+    match Store::create(connection, rates) {
+        Ok(store) => Ok(Office::open(alloc, store)),
+        Err(refusal) => Err(refusal),
+    }
+}

@@ -1,0 +1,243 @@
+//! The layout of this program's stores, and whether a database has it.
+ghost use Rattle.std.specs.Prelude.{◌≡◌, ◌↔◌, IsTrue};
+ghost use Rattle.clear_schema.specs.Schema.{all_indexes, all_tables, store_schema};
+
+use crate::laid::ColumnLayout::{Blob, Int, MaybeInt, Text};
+use crate::laid::{IndexLayout, KeyLayout, TableLayout, are};
+use sqlite_schema::schema::Schema;
+
+// The tables, in the order in which they are made.
+const TABLES: &'static [TableLayout] = &[
+    TableLayout {
+        name: "meta",
+        tree: 0,
+        key: Some(0),
+        primary: &[0],
+        uniques: &[],
+        columns: &[
+            MaybeInt("one"),
+            Int("schema"),
+            MaybeInt("day"),
+            Int("entries"),
+            Int("serial"),
+            Int("claims"),
+            Int("lists"),
+            Int("runs"),
+        ],
+    },
+    TableLayout {
+        name: "rates",
+        tree: 1,
+        key: Some(0),
+        primary: &[0],
+        uniques: &[],
+        columns: &[
+            MaybeInt("first"),
+            Int("contribution"),
+            Int("report_day"),
+            Int("due_day"),
+            Int("interest"),
+            Int("entitlement"),
+        ],
+    },
+    TableLayout {
+        name: "employers",
+        tree: 2,
+        key: Some(0),
+        primary: &[0],
+        uniques: &[],
+        columns: &[MaybeInt("no"), Text("name"), Int("start"), MaybeInt("last")],
+    },
+    TableLayout {
+        name: "reports",
+        tree: 3,
+        key: None,
+        primary: &[1, 2],
+        uniques: &[KeyLayout(&[1, 2])],
+        columns: &[Int("employer"), Int("month"), Int("version")],
+    },
+    TableLayout {
+        name: "wages",
+        tree: 5,
+        key: None,
+        primary: &[1, 2, 3],
+        uniques: &[KeyLayout(&[1, 2, 3])],
+        columns: &[Int("employer"), Int("month"), Int("worker"), Int("gross")],
+    },
+    TableLayout {
+        name: "bank",
+        tree: 7,
+        key: None,
+        primary: &[1],
+        uniques: &[KeyLayout(&[1]), KeyLayout(&[2])],
+        columns: &[
+            Text("reference"),
+            Int("serial"),
+            Int("value"),
+            MaybeInt("named"),
+            MaybeInt("employer"),
+            Int("cents"),
+            Text("purpose"),
+            Text("note"),
+        ],
+    },
+    TableLayout {
+        name: "credits",
+        tree: 10,
+        key: None,
+        primary: &[1, 2, 3, 4],
+        uniques: &[KeyLayout(&[1, 2, 3, 4])],
+        columns: &[
+            Int("employer"),
+            Text("purpose"),
+            Int("day"),
+            Int("serial"),
+            Int("cents"),
+            Text("ref"),
+        ],
+    },
+    TableLayout {
+        name: "claims",
+        tree: 12,
+        key: Some(0),
+        primary: &[0],
+        uniques: &[],
+        columns: &[
+            MaybeInt("no"),
+            Int("employer"),
+            Int("worker"),
+            Int("cents"),
+            Int("state"),
+            Int("made"),
+            MaybeInt("released"),
+            Int("to_contributions"),
+            Int("to_interest"),
+            Int("paid"),
+            MaybeInt("list"),
+        ],
+    },
+    TableLayout {
+        name: "lists",
+        tree: 13,
+        key: Some(0),
+        primary: &[0],
+        uniques: &[],
+        columns: &[MaybeInt("no"), Int("day"), Int("items"), Int("total")],
+    },
+    TableLayout {
+        name: "runs",
+        tree: 14,
+        key: Some(0),
+        primary: &[0],
+        uniques: &[],
+        columns: &[MaybeInt("no"), Int("day"), Int("firms")],
+    },
+    TableLayout {
+        name: "reminders",
+        tree: 15,
+        key: None,
+        primary: &[1, 2],
+        uniques: &[KeyLayout(&[1, 2])],
+        columns: &[
+            Int("run"),
+            Int("employer"),
+            Int("level"),
+            Int("missing"),
+            MaybeInt("first"),
+            Int("arrears"),
+            Int("interest"),
+        ],
+    },
+    TableLayout {
+        name: "requests",
+        tree: 17,
+        key: None,
+        primary: &[1, 2],
+        uniques: &[KeyLayout(&[1, 2])],
+        columns: &[
+            Int("caller"),
+            Int("number"),
+            Int("day"),
+            Blob("command"),
+            Int("kind"),
+            Int("a"),
+            Int("b"),
+            Int("c"),
+        ],
+    },
+];
+
+// The indexes that keep the keys.
+const INDEXES: &'static [IndexLayout] = &[
+    IndexLayout {
+        name: "sqlite_autoindex_reports_1",
+        tree: 4,
+        table: 3,
+        columns: &[1, 2],
+        is_unique: true,
+    },
+    IndexLayout {
+        name: "sqlite_autoindex_wages_1",
+        tree: 6,
+        table: 5,
+        columns: &[1, 2, 3],
+        is_unique: true,
+    },
+    IndexLayout {
+        name: "sqlite_autoindex_bank_1",
+        tree: 8,
+        table: 7,
+        columns: &[1],
+        is_unique: true,
+    },
+    IndexLayout {
+        name: "sqlite_autoindex_bank_2",
+        tree: 9,
+        table: 7,
+        columns: &[2],
+        is_unique: true,
+    },
+    IndexLayout {
+        name: "sqlite_autoindex_credits_1",
+        tree: 11,
+        table: 10,
+        columns: &[1, 2, 3, 4],
+        is_unique: true,
+    },
+    IndexLayout {
+        name: "sqlite_autoindex_reminders_1",
+        tree: 16,
+        table: 15,
+        columns: &[1, 2],
+        is_unique: true,
+    },
+    IndexLayout {
+        name: "sqlite_autoindex_requests_1",
+        tree: 18,
+        table: 17,
+        columns: &[1, 2],
+        is_unique: true,
+    },
+];
+
+/// Whether the tables and indexes of a database are just those of this program's stores, each in its
+/// place.
+pub fn has_this_layout(schema: &Schema) -> bool
+    ensures { IsTrue result ↔ (schema.now ≡ store_schema) }
+{
+    has_tables(schema) && has_indexes(schema) && schema.views.is_empty()
+}
+
+// Whether the tables of a database are those.
+fn has_tables(schema: &Schema) -> bool
+    ensures { IsTrue result ↔ (schema.now.tables ≡ all_tables) }
+{
+    are(TABLES, schema.tables.as_slice())
+}
+
+// Whether its indexes are those.
+fn has_indexes(schema: &Schema) -> bool
+    ensures { IsTrue result ↔ (schema.now.indexes ≡ all_indexes) }
+{
+    are(INDEXES, schema.indexes.as_slice())
+}

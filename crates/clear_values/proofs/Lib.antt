@@ -1,0 +1,7 @@
+pub mod CreditRowsLemmas
+pub mod KeyedChangesLemmas
+pub mod KeyedLemmas
+pub mod KeyedRowsLemmas
+pub mod ListLemmas
+pub mod SetOffLemmas
+pub mod TextLemmas

@@ -1,0 +1,46 @@
+-- Credits: those that bank lines are for their firms, and the order in which credits come.
+use Rattle.std.specs.Prelude.{ℕ, List, [], ◌∷◌, Option, Some, None, Bool, ◌&&◌, ◌==◌, is_none}
+use Rattle.std.specs.List.{filter_map}
+use Rattle.clear_values.specs.Lines.{same_purpose}
+use Rattle.clear_values.specs.declared.lines.Purpose.{Purpose}
+use Rattle.clear_values.specs.declared.lines.Purpose.TheVariants.{Contribution, Interest}
+use Rattle.clear_values.specs.declared.rows.BankRow.{BankRow}
+use Rattle.clear_values.specs.declared.rows.CreditRow.{CreditRow}
+
+-- a line that has no firm
+abbrev pub is_in_suspense : BankRow → Bool
+is_in_suspense row = is_none row.employer
+
+-- the credit that a line is for its firm
+abbrev pub line_credit : BankRow → ℕ → CreditRow
+line_credit row e =
+    record {
+      employer = e;
+      purpose = row.line.purpose;
+      day = row.line.value;
+      serial = row.serial;
+      cents = row.line.cents;
+      reference = row.line.reference;
+    }
+
+-- the credit that a line is, where it has a firm
+abbrev pub credit_of_line : BankRow → Option ℕ → Option CreditRow
+credit_of_line row None = None
+credit_of_line row (Some e) = Some (line_credit row e)
+
+-- the credits that lines are: none of a line in suspense
+abbrev pub credits_of_lines : List BankRow → List CreditRow
+credits_of_lines rows = filter_map (λ row. credit_of_line row row.employer) rows
+
+-- a credit of this employer for this purpose
+abbrev pub is_credit_of : ℕ → Purpose → CreditRow → Bool
+is_credit_of e purpose row = (row.employer == e) && same_purpose row.purpose purpose
+
+-- the rank of a purpose in the order of credits
+abbrev pub rank_of : Purpose → ℕ
+rank_of Contribution = 0
+rank_of Interest = 1
+
+-- credits come in the order of firm, purpose, day and serial
+abbrev pub credit_key : CreditRow → List ℕ
+credit_key row = row.employer ∷ rank_of row.purpose ∷ row.day ∷ row.serial ∷ []

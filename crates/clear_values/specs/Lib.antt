@@ -1,0 +1,12 @@
+pub mod Causes
+pub mod Credits
+pub mod First
+pub mod Keyed
+pub mod Limits
+pub mod Lines
+pub mod Members
+pub mod Numbers
+pub mod Ranges
+pub mod RowRanges
+pub mod Tables
+pub mod Texts

@@ -1,0 +1,137 @@
+-- The values that the rows of tables may hold.
+use Rattle.std.specs.Prelude.{◌≡◌, ℕ, ◌+◌, ◌≤◌, IfSome, length}
+use Rattle.std.specs.List.{AllByRecursion}
+use Rattle.clear_money.specs.Calendar.{IsMonth, IsDay, months}
+use Rattle.clear_money.specs.Numbers.{IsEmployerNo, IsWorkerNo, IsAmount}
+use Rattle.clear_values.specs.Ranges.{AreRates, IsBankLine, IsCaller}
+use Rattle.clear_values.specs.declared.replies.Reply.{Reply}
+use Rattle.clear_values.specs.declared.replies.Reply.TheVariants.{Done, Reported, Imported}
+use Rattle.clear_values.specs.declared.rows.BankRow.{BankRow}
+use Rattle.clear_values.specs.declared.rows.ClaimRow.{ClaimRow}
+use Rattle.clear_values.specs.declared.rows.ClaimState.{ClaimState}
+use Rattle.clear_values.specs.declared.rows.ClaimState.TheVariants.{Open, Withdrawn, Released}
+use Rattle.clear_values.specs.declared.rows.CreditRow.{CreditRow}
+use Rattle.clear_values.specs.declared.rows.EmployerRow.{EmployerRow}
+use Rattle.clear_values.specs.declared.rows.ListRow.{ListRow}
+use Rattle.clear_values.specs.declared.rows.ReleasedClaim.{ReleasedClaim}
+use Rattle.clear_values.specs.declared.rows.ReminderRow.{ReminderRow}
+use Rattle.clear_values.specs.declared.rows.ReportRow.{ReportRow}
+use Rattle.clear_values.specs.declared.rows.RunRow.{RunRow}
+use Rattle.clear_values.specs.declared.rows.WageRow.{WageRow}
+use Rattle.clear_values.specs.Limits.{most_base, most_charged, most_claimed, most_employers}
+use Rattle.clear_values.specs.Limits.{most_entries, most_gross, most_interest, most_records}
+use Rattle.clear_values.specs.Limits.{most_serials, most_versions}
+use Rattle.clear_values.specs.Numbers.{IsClaimNo, IsListNo, IsRequestNo, IsRunNo}
+use Rattle.clear_values.specs.Tables.{RequestRow, Tables, AreUnfilled}
+use Rattle.clear_values.specs.Texts.{IsName, IsCreditReference}
+
+-- a serial that is given
+abbrev pub IsSerial : ℕ → Type 0
+IsSerial n = (1 ≤ n) × (n ≤ most_serials)
+
+pub record IsEmployerRow (row : EmployerRow) : Type 0 where
+  pub employer : IsEmployerNo row.employer
+  pub name : IsName row.name
+  pub start : IsMonth row.start
+  pub last : IfSome row.last IsMonth
+
+pub record IsReportRow (row : ReportRow) : Type 0 where
+  pub employer : IsEmployerNo row.employer
+  pub month : IsMonth row.month
+  pub some : 1 ≤ row.version
+  pub few : row.version ≤ most_versions
+
+pub record IsWageRow (row : WageRow) : Type 0 where
+  pub employer : IsEmployerNo row.employer
+  pub month : IsMonth row.month
+  pub worker : IsWorkerNo row.worker
+  pub gross : row.gross ≤ most_gross
+
+pub record IsBankRow (row : BankRow) : Type 0 where
+  pub line : IsBankLine row.line
+  pub serial : IsSerial row.serial
+  pub employer : IfSome row.employer IsEmployerNo
+
+pub record IsCreditRow (row : CreditRow) : Type 0 where
+  pub employer : IsEmployerNo row.employer
+  pub day : IsDay row.day
+  pub serial : IsSerial row.serial
+  pub cents : IsAmount row.cents
+  pub reference : IsCreditReference row.reference
+
+-- a settlement of so many cents: the three amounts are their sum
+pub record IsReleased (cents : ℕ) (release : ReleasedClaim) : Type 0 where
+  pub day : IsDay release.day
+  pub whole : release.to_contributions + release.to_interest + release.paid ≡ cents
+  pub list : IfSome release.list IsListNo
+
+-- how a claim of so many cents stands
+abbrev pub IsClaimState : ℕ → ClaimState → Type 0
+IsClaimState cents Open = Unit {0}
+IsClaimState cents Withdrawn = Unit {0}
+IsClaimState cents (Released release) = IsReleased cents release
+
+pub record IsClaimRow (row : ClaimRow) : Type 0 where
+  pub claim : IsClaimNo row.claim
+  pub employer : IsEmployerNo row.employer
+  pub worker : IsWorkerNo row.worker
+  pub cents : IsAmount row.cents
+  pub made : IsDay row.made
+  pub state : IsClaimState row.cents row.state
+
+pub record IsListRow (row : ListRow) : Type 0 where
+  pub list : IsListNo row.list
+  pub day : IsDay row.day
+  pub some : 1 ≤ row.items
+  pub items : row.items ≤ most_entries
+  pub total : row.total ≤ most_claimed
+
+pub record IsRunRow (row : RunRow) : Type 0 where
+  pub run : IsRunNo row.run
+  pub day : IsDay row.day
+  pub some : 1 ≤ row.firms
+  pub firms : row.firms ≤ most_employers
+
+pub record IsReminderRow (row : ReminderRow) : Type 0 where
+  pub run : IsRunNo row.run
+  pub employer : IsEmployerNo row.employer
+  pub level : (1 ≤ row.level) × (row.level ≤ 3)
+  pub missing : row.missing ≤ length months
+  pub first : IfSome row.first IsMonth
+  pub arrears : row.arrears ≤ most_charged
+  pub interest : row.interest ≤ most_interest
+
+-- the numbers of a reply: a contribution is at most its base, and a bank file has so many records
+-- at most
+abbrev pub IsReply : Reply → Type 0
+IsReply Done = Unit {0}
+IsReply (Reported version charge) =
+    (1 ≤ version) × (version ≤ most_versions) × (charge ≤ most_base)
+IsReply (Imported new repeats) = (new ≤ most_records) × (repeats ≤ most_records)
+
+pub record IsRequestRow (row : RequestRow) : Type 0 where
+  pub caller : IsCaller row.caller
+  pub number : IsRequestNo row.number
+  pub day : IsDay row.day
+  pub reply : IsReply row.reply
+
+-- each row of the tables is in its ranges, and so are the numbers beside them
+pub record AreInRange (t : Tables) : Type 0 where
+  pub rates : AreRates t.rates
+  pub employers : AllByRecursion IsEmployerRow t.employers
+  pub reports : AllByRecursion IsReportRow t.reports
+  pub wages : AllByRecursion IsWageRow t.wages
+  pub bank : AllByRecursion IsBankRow t.bank
+  pub credits : AllByRecursion IsCreditRow t.credits
+  pub claims : AllByRecursion IsClaimRow t.claims
+  pub lists : AllByRecursion IsListRow t.lists
+  pub runs : AllByRecursion IsRunRow t.runs
+  pub reminders : AllByRecursion IsReminderRow t.reminders
+  pub requests : AllByRecursion IsRequestRow t.requests
+  pub day : IfSome t.day IsDay
+  pub entries : t.entries ≤ most_entries
+  pub serial : t.serial ≤ most_serials
+  pub last_claim : t.last_claim ≤ most_entries
+  pub last_list : t.last_list ≤ most_entries
+  pub last_run : t.last_run ≤ most_entries
+  pub unfilled : AreUnfilled t

@@ -1,0 +1,161 @@
+-- The tables: rows by their keys. What a store keeps of accounts besides, the charges with what is
+-- open of them and the pieces, is to be no part of these but a record of its own beside them: so a
+-- store can be said to be right but for some cents of pieces.
+use Rattle.std.specs.Prelude.{◌≡◌, ℕ, ◌+◌, List, [], ◌∷◌, Option, Some, Bool, false, ◌&&◌, ◌==◌}
+use Rattle.std.specs.Prelude.{length, map}
+use Rattle.clear_money.specs.Rates.{Rate}
+use Rattle.clear_values.specs.declared.callers.Caller.{Caller}
+use Rattle.clear_values.specs.declared.callers.Caller.TheVariants.{Firm, Clerk}
+use Rattle.clear_values.specs.declared.replies.Reply.{Reply}
+use Rattle.clear_values.specs.declared.rows.BankRow.{BankRow}
+use Rattle.clear_values.specs.declared.rows.Change.{Change}
+use Rattle.clear_values.specs.declared.rows.Change.TheVariants.{AddEmployer, AddReport}
+use Rattle.clear_values.specs.declared.rows.Change.TheVariants.{ReplaceReport, AddBankLines}
+use Rattle.clear_values.specs.declared.rows.ClaimRow.{ClaimRow}
+use Rattle.clear_values.specs.declared.rows.CreditRow.{CreditRow}
+use Rattle.clear_values.specs.declared.rows.EmployerRow.{EmployerRow}
+use Rattle.clear_values.specs.declared.rows.ListRow.{ListRow}
+use Rattle.clear_values.specs.declared.rows.ReminderRow.{ReminderRow}
+use Rattle.clear_values.specs.declared.rows.ReportRow.{ReportRow}
+use Rattle.clear_values.specs.declared.rows.RunRow.{RunRow}
+use Rattle.clear_values.specs.declared.rows.WageRow.{WageRow}
+use Rattle.clear_values.specs.declared.texts.WageLine.{WageLine}
+use Rattle.clear_values.specs.Credits.{credit_key, credits_of_lines}
+use Rattle.clear_values.specs.Keyed.{with_row, with_rows, put_row, without_rows}
+use Rattle.clear_values.specs.Members.{Member}
+
+-- an accepted request, as it is kept: under its caller and number its day, the bytes of its command
+-- and its reply
+pub record RequestRow : Type 0 where
+  pub caller : Caller
+  pub number : ℕ
+  pub day : ℕ
+  pub command : List ℕ
+  pub reply : Reply
+
+-- each table in the order of its keys; the day of the last accepted request, how many there were,
+-- and the last numbers that were given to bank lines and releases, claims, payout lists and
+-- reminder runs
+pub record Tables : Type 0 where
+  pub rates : List Rate
+  pub employers : List EmployerRow
+  pub reports : List ReportRow
+  pub wages : List WageRow
+  pub bank : List BankRow
+  pub credits : List CreditRow
+  pub claims : List ClaimRow
+  pub lists : List ListRow
+  pub runs : List RunRow
+  pub reminders : List ReminderRow
+  pub requests : List RequestRow
+  pub day : Option ℕ
+  pub entries : ℕ
+  pub serial : ℕ
+  pub last_claim : ℕ
+  pub last_list : ℕ
+  pub last_run : ℕ
+
+-- ---- keys
+
+-- an employer's number
+abbrev pub employer_key : EmployerRow → List ℕ
+employer_key row = row.employer ∷ []
+
+-- an employer and a month
+abbrev pub report_key : ReportRow → List ℕ
+report_key row = row.employer ∷ row.month ∷ []
+
+-- an employer, a month and a worker
+abbrev pub wage_key : WageRow → List ℕ
+wage_key row = row.employer ∷ row.month ∷ row.worker ∷ []
+
+-- the reference of a bank line
+abbrev pub bank_key : BankRow → List ℕ
+bank_key row = row.line.reference
+
+-- the number of a claim
+abbrev pub claim_key : ClaimRow → List ℕ
+claim_key row = row.claim ∷ []
+
+-- the number of a payout list
+abbrev pub list_key : ListRow → List ℕ
+list_key row = row.list ∷ []
+
+-- the number of a reminder run
+abbrev pub run_key : RunRow → List ℕ
+run_key row = row.run ∷ []
+
+-- a reminder run and an employer
+abbrev pub reminder_key : ReminderRow → List ℕ
+reminder_key row = row.run ∷ row.employer ∷ []
+
+-- the number that a caller is known by: a firm's own, and 0 for all clerks
+abbrev pub caller_number : Caller → ℕ
+caller_number Clerk = 0
+caller_number (Firm e) = e
+
+-- what a request is known by: its caller, and the number that this gave it
+abbrev pub request_number : Caller → ℕ → List ℕ
+request_number caller number = caller_number caller ∷ number ∷ []
+
+-- a caller and the number that it gave the request
+abbrev pub request_key : RequestRow → List ℕ
+request_key row = request_number row.caller row.number
+
+-- the member that a row tells
+abbrev pub member_in : EmployerRow → Member
+member_in row = record { name = row.name; start = row.start; last = row.last }
+
+-- the tables that no command fills yet are empty, and none of their numbers was given
+pub record AreUnfilled (t : Tables) : Type 0 where
+  pub claims : t.claims ≡ []
+  pub lists : t.lists ≡ []
+  pub runs : t.runs ≡ []
+  pub reminders : t.reminders ≡ []
+  pub last_claim : t.last_claim ≡ 0
+  pub last_list : t.last_list ≡ 0
+  pub last_run : t.last_run ≡ 0
+
+-- ---- changes
+
+-- the row of a line of a month's report
+abbrev pub wage_row : ℕ → ℕ → WageLine → WageRow
+wage_row e m line = record { employer = e; month = m; worker = line.worker; gross = line.gross }
+
+-- the rows of the lines of a month's report
+abbrev pub wage_rows : ℕ → ℕ → List WageLine → List WageRow
+wage_rows e m lines = map (wage_row e m) lines
+
+-- the key of a wage row of this employer and month
+abbrev pub is_wage_key_of : ℕ → ℕ → List ℕ → Bool
+is_wage_key_of e m (f ∷ n ∷ k) = (e == f) && (m == n)
+is_wage_key_of e m k = false
+
+-- the wage rows, those of a month's report in the place of what stood for the month
+abbrev pub with_wages : ℕ → ℕ → List WageLine → List WageRow → List WageRow
+with_wages e m lines rows =
+    with_rows wage_key (without_rows wage_key (is_wage_key_of e m) rows) (wage_rows e m lines)
+
+-- what a decision changes
+abbrev pub changed : Change → Tables → Tables
+changed (AddEmployer row) t = record t { employers = with_row employer_key t.employers row }
+changed (AddReport row lines) t =
+    record t {
+      reports = with_row report_key t.reports row;
+      wages = with_rows wage_key t.wages (wage_rows row.employer row.month lines);
+    }
+changed (ReplaceReport row lines) t =
+    record t {
+      reports = put_row report_key t.reports row;
+      wages = with_wages row.employer row.month lines t.wages;
+    }
+changed (AddBankLines rows) t =
+    record t {
+      bank = with_rows bank_key t.bank rows;
+      credits = with_rows credit_key t.credits (credits_of_lines rows);
+      serial = t.serial + length rows;
+    }
+
+-- the day of an accepted request, and that it is one more
+abbrev pub dated : ℕ → Tables → Tables
+dated day t = record t { day = Some day; entries = t.entries + 1 }

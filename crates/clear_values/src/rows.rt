@@ -1,0 +1,217 @@
+//! The rows of the tables, and what a decision changes in them.
+ghost use Rattle.std.specs.Prelude.{◌≡◌};
+
+use crate::lines::{BankLine, Purpose};
+use crate::replies::Reply;
+use crate::texts::{CreditReference, Name, WageLines};
+use clear_money::days::Day;
+use clear_money::months::Month;
+use clear_money::numbers::{Amount, EmployerNo, WorkerNo};
+use std::marker::Model;
+
+/// A registered employer.
+#[derive(Drop)]
+pub struct EmployerRow {
+    pub employer: EmployerNo,
+    pub name: Name,
+    /// The first member month.
+    pub start: Month,
+    /// The last member month, once an end is set.
+    pub last: Option<Month>,
+}
+
+impl EmployerRow {
+    ghost use Rattle.clear_values.specs.Members.{is_member_in};
+    ghost use Rattle.clear_values.specs.Tables.{member_in};
+
+    /// Whether the employer is a member in a month.
+    pub fn is_member_in(&self, month: Month) -> bool
+        ensures { result ≡ is_member_in (member_in self.now) month }
+    {
+        match self.last {
+            Some(last) => self.start <= month && month <= last,
+            None => self.start <= month,
+        }
+    }
+}
+
+/// The latest report of an employer's month.
+#[derive(Clone, Copy)]
+pub struct ReportRow {
+    pub employer: EmployerNo,
+    pub month: Month,
+    pub version: u32,
+}
+
+/// A worker's line in the latest report of a month.
+#[derive(Clone, Copy)]
+pub struct WageRow {
+    pub employer: EmployerNo,
+    pub month: Month,
+    pub worker: WorkerNo,
+    /// Cents.
+    pub gross: u64,
+}
+
+/// A bank line that came in, and counts.
+#[derive(Drop)]
+pub struct BankRow {
+    pub line: BankLine,
+    /// Its number among all bank lines and releases of the office, from 1.
+    pub serial: u64,
+    /// The firm that it is for. None while it is in suspense.
+    pub employer: Option<EmployerNo>,
+}
+
+/// Rows of bank lines, whatever they are. A contract sees a list.
+#[derive(Drop)]
+pub struct BankRows {
+    rows: Vec<BankRow>,
+}
+
+impl Model for BankRows {
+    ghost use Rattle.std.specs.Prelude.{List};
+    ghost use Rattle.clear_values.specs.declared.rows.BankRow.{BankRow};
+
+    ghost Value = { List BankRow };
+
+    ghost view = { λ a. a.rows.items };
+}
+
+impl BankRows {
+    /// These rows.
+    pub fn new(rows: Vec<BankRow>) -> BankRows
+        ensures { result ≡ rows.items }
+    {
+        BankRows { rows }
+    }
+
+    /// The rows in their order.
+    pub fn as_slice(&self) -> &[BankRow]
+        ensures { result.now ≡ self.now }
+    {
+        self.rows.as_slice()
+    }
+}
+
+/// A credit of a firm: a bank line that is for it, or a set-off of a release.
+#[derive(Drop)]
+pub struct CreditRow {
+    pub employer: EmployerNo,
+    pub purpose: Purpose,
+    /// The day from which it counts as paid: the line's value date, or the day of the release.
+    pub day: Day,
+    /// The serial of the bank line, or of the release.
+    pub serial: u64,
+    pub cents: Amount,
+    pub reference: CreditReference,
+}
+
+/// What a credit pays of the contribution of a month: 1 cent or more.
+#[derive(Drop)]
+pub struct PieceRow {
+    pub employer: EmployerNo,
+    pub month: Month,
+    /// The day of the credit.
+    pub day: Day,
+    /// The serial of the credit.
+    pub serial: u64,
+    /// At most those of the contribution.
+    pub cents: u64,
+    /// The reference of the credit.
+    pub reference: CreditReference,
+}
+
+/// A firm's claim for the holiday pay that it has advanced to a worker.
+#[derive(Clone, Copy)]
+pub struct ClaimRow {
+    /// Its number among all claims, from 1.
+    pub claim: u32,
+    pub employer: EmployerNo,
+    pub worker: WorkerNo,
+    pub cents: Amount,
+    /// The day on which it was made.
+    pub made: Day,
+    pub state: ClaimState,
+}
+
+/// How a claim stands.
+#[derive(Clone, Copy)]
+pub enum ClaimState {
+    Open,
+    Withdrawn,
+    Released(ReleasedClaim),
+}
+
+/// How a claim was settled. The three amounts are cents, and their sum is the claim's.
+#[derive(Clone, Copy)]
+pub struct ReleasedClaim {
+    pub day: Day,
+    /// What was set off to contributions.
+    pub to_contributions: u64,
+    /// What was set off to interest.
+    pub to_interest: u64,
+    /// What is paid out.
+    pub paid: u64,
+    /// The payout list that it is on.
+    pub list: Option<u32>,
+}
+
+/// A payout list.
+#[derive(Clone, Copy)]
+pub struct ListRow {
+    /// Its number, from 1.
+    pub list: u32,
+    pub day: Day,
+    /// How many claims are on it.
+    pub items: u64,
+    /// Cents.
+    pub total: u64,
+}
+
+/// A reminder run.
+#[derive(Clone, Copy)]
+pub struct RunRow {
+    /// Its number, from 1.
+    pub run: u32,
+    pub day: Day,
+    /// How many firms were reminded.
+    pub firms: u64,
+}
+
+/// A firm's reminder in a run.
+#[derive(Clone, Copy)]
+pub struct ReminderRow {
+    pub run: u32,
+    pub employer: EmployerNo,
+    /// 1 to 3.
+    pub level: u8,
+    /// How many months had no report.
+    pub missing: u32,
+    /// The first of them.
+    pub first: Option<Month>,
+    /// Cents in arrears.
+    pub arrears: u64,
+    /// Cents of interest in arrears.
+    pub interest: u64,
+}
+
+/// What an accepted command changes.
+#[derive(Drop)]
+pub enum Change {
+    /// An employer that was not there.
+    AddEmployer(EmployerRow),
+    /// A first report, with a wage row for each of its lines.
+    AddReport(ReportRow, WageLines),
+    /// A correction: its row and its wage rows stand in the place of the month's.
+    ReplaceReport(ReportRow, WageLines),
+    /// The new lines of a bank file; each that has a firm is a credit of it.
+    AddBankLines(BankRows),
+}
+
+/// What is changed, and what is replied.
+#[derive(Drop)]
+pub struct Decision {
+    pub change: Change,
+    pub reply: Reply,
+}

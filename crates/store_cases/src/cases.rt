@@ -1,0 +1,60 @@
+//! What is done with an office without requests over a store in memory, which is named here alone:
+//! all else goes over any store.
+use crate::calls::takes_calls;
+use crate::streams::{stops_at_read, stops_at_write, uses_up_the_reads};
+use clear_callers::directory::Directory;
+use clear_money::days::Day;
+use clear_office::office::Office;
+use clear_sample::desk::{Desk, sample_desk};
+use sqlite::Alter;
+use std::alloc::Global;
+
+#[derive(Clone, Copy)]
+pub(crate) enum Case {
+    /// Calls are given at once.
+    Calls,
+    /// A stream's reads fail after so many.
+    Reads(usize),
+    /// Its writes fail after so many, by which so many answers are written whole.
+    Writes(usize, u64),
+    /// It has more reads than a stream may.
+    AllReads,
+}
+
+/// Whether all is as it should be.
+pub(crate) fn holds(alloc: Global, case: Case) -> bool {
+    match sample_desk(alloc) {
+        Some(
+            Desk {
+                office,
+                directory,
+                day,
+            },
+        ) => holds_over(alloc, office, directory, day, case),
+        None => false,
+    }
+}
+
+fn holds_over<S: Alter + Drop>(
+    alloc: Global,
+    office: Office<S>,
+    directory: Directory,
+    day: Day,
+    case: Case,
+) -> bool {
+    let mut office = office;
+    let callers = &directory;
+    match case {
+        Case::Calls => takes_calls(alloc, &mut office),
+        Case::Reads(reads) => stops_at_read(alloc, &mut office, callers, day, reads),
+        Case::Writes(writes, count) => stops_at_write(
+            alloc,
+            &mut office,
+            callers,
+            day,
+            writes,
+            count,
+        ),
+        Case::AllReads => uses_up_the_reads(alloc, &mut office, callers, day),
+    }
+}
