@@ -8,7 +8,8 @@ uses, too, outside of it: some 9 minutes the first time where the crates are pro
 each size in a temporary file: it registers 250 firms, and fills the book through the office with bank files that
 have no lines. Then it takes 1,000 requests of each kind on a fresh copy of either store, one size after the other:
 reports of one line, each a firm's first of its month; the same again, which are answered as before; bank files of
-one new line; and what a firm owes. Each is a transaction of the office, its commit included. The whole is done
+one new line; what a firm owes; claims of 10.00 each for a firm's worker; their releases, each set off to interest;
+and the withdrawals of as many other claims. Each is a transaction of the office, its commit included. The whole is done
 three times if no other number is given. PAGES is how many pages of 4,096 bytes the store keeps in memory, 2,000
 if not given, which is the kit's own number.
 
@@ -42,7 +43,7 @@ MEMORY = "/dev/shm"
 SIZES = (1_000, 100_000)
 # How many requests the program takes of each kind, and the kinds in its order.
 REQUESTS = 1_000
-KINDS = ("report", "repeat", "import", "owed")
+KINDS = ("report", "repeat", "import", "owed", "claim", "release", "withdraw")
 
 
 def copy_crates():

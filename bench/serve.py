@@ -13,8 +13,9 @@ firms' numbers are drawn at random, so what is written lies all over the tables.
 are stopped, and copies of their stores are opened and measured, so that the book has so many accepted
 requests when that begins. The servers take turns of ten requests of a kind: what firms owe, statements of
 firms drawn from the whole book (11 charges, 10 payments), reports of further months, registrations; then
-the mix, which is growth as above with a query after two of five commands; then bank files of 100 lines for
-100 firms. Where nearly 100,000 bank lines came in, more come until they are past that, and bank files again.
+the mix, which is growth as above with a query after two of five commands; then claims of ten new firms that
+have reported every month (23 charges, 10 or 30 payments), releases of half of them and withdrawals of the
+others; then bank files of 100 lines for 100 firms. Where nearly 100,000 bank lines came in, more come until they are past that, and bank files again.
 
 A first table has requests a second, in one after another, the client's own time included; a second one
 the median milliseconds of a request by the clock; a third the processor time of the server's process,
@@ -47,6 +48,8 @@ REPORTED = 11
 FIRMS = 10_000
 LINES = 20
 HEADER = "reference,value_date,employer,cents,purpose,note\n"
+# So many months of each firm that claims are reported: none is missing on the day.
+ALL_REPORTED = 23
 # Commands that ten firms make: registrations, reports, a bank file.
 BLOCK = 10 + 10 * REPORTED + 1
 MIX_BLOCKS = 5
@@ -54,7 +57,7 @@ SLICE = 10
 # Beyond so many bank lines ever the limit on lines in suspense isn't told from the serials.
 MANY_LINES = 100_000
 # In the order in which they are measured: bank files come last, since they make statements longer.
-KINDS = ("owed", "statement", "report", "register", "mix", "import")
+KINDS = ("owed", "statement", "report", "register", "mix", "claim", "release", "withdraw", "import")
 PAST = "import past 100,000 lines"
 
 
@@ -114,6 +117,27 @@ class Requests:
             yield self.bank_file(firms * 10)
             self.grown += firms
 
+    def claiming(self):
+        """Commands by which ten new firms join, report each month and pay: some too little, some more."""
+        firms = [self.new.pop() for _ in range(10)]
+        self.claimants = firms
+        yield from (self.register(no) for no in firms)
+        for month in MONTHS[:ALL_REPORTED]:
+            yield from (self.report(no, month) for no in firms)
+        yield self.bank_file(firms * 10 + firms[5:] * 20)
+
+    def claim(self, place):
+        no = self.claimants[place % 10]
+        body = f'{{"cents":{self.random.randint(1_000, 50_000)},"worker":{no + place // 10 % LINES}}}'
+        return self.command("claim", f"/employers/{no}/claims", f"k{no}", body)
+
+    def release(self, place):
+        return self.command("release", f"/claims/{place + 1}/release", "desk", "")
+
+    def withdraw(self, place):
+        no = self.claimants[place % 10]
+        return self.command("withdraw", f"/employers/{no}/claims/{place + 1}/withdraw", f"k{no}", "")
+
     def mix(self):
         for command in islice(self.commands(), MIX_BLOCKS * BLOCK):
             yield command
@@ -129,6 +153,12 @@ class Requests:
             return [self.register(self.new.pop()) for _ in range(count)]
         if kind == "mix":
             return list(self.mix())
+        if kind == "claim":
+            return [self.claim(place) for place in range(2 * count)]
+        if kind == "release":
+            return [self.release(place) for place in range(count)]
+        if kind == "withdraw":
+            return [self.withdraw(place) for place in range(count, 2 * count)]
         if kind == "import":
             return [self.bank_file(self.random.choices(self.grown, k=100)) for _ in range(count)]
         months = self.random.sample(range(len(self.grown) * (24 - REPORTED)), count)
@@ -217,8 +247,42 @@ def odd_requests():
         ("GET", "/employers/1001/owed", "k1", None, ""), ("GET", "/suspense/1", "desk", None, ""),
         ("GET", "/employers/1002/owed", "desk", None, ""), ("GET", "/bank", "desk", None, ""),
         ("GET", "/employers/1001/statement", "desk", None, ""),
+        *odd_claims(),
     ]
     return [("odd", request(*row)) for row in rows]
+
+
+def odd_claims():
+    """Claims, withdrawals and releases behind those: of a firm that owes both, and then nothing."""
+    firm = '{"employer":1003,"name":"Bau Ost","start":"2025-11"}'
+    other = '{"employer":1,"name":"x","start":"2025-12"}'
+    lines = '{"lines":[{"gross":1000000,"worker":7},{"gross":0,"worker":8}]}'
+    claims, line = "/employers/1003/claims", "C1,2025-12-21,1003,150000,,\n"
+
+    def claim(cents, worker=7):
+        return f'{{"cents":{cents},"worker":{worker}}}'
+
+    return [
+        ("POST", "/employers", "desk", 20, firm), ("POST", "/employers", "desk", 21, other),
+        ("POST", claims, "desk", 22, claim(1)), ("POST", "/bank", "desk", 22, HEADER + line),
+        ("POST", "/employers/1003/reports/2025-11", "desk", 23, lines),
+        ("POST", claims, "desk", 24, claim(1, 8)), ("POST", claims, "desk", 24, claim(0)),
+        ("POST", claims, "desk", 24, '{"worker":7}'), ("POST", claims, "desk", 24, claim(1, '7,"a":1')),
+        ("POST", claims, "desk", 24, claim(300_000)), ("POST", claims, "k1", 24, claim(1)),
+        ("POST", claims, "desk", 24, claim(50_000)), ("POST", claims, "desk", 24, claim(50_000)),
+        ("POST", claims, "desk", 25, claim(50_000)), ("POST", claims, "desk", 26, claim(200_000)),
+        ("POST", "/employers/1/claims/1/withdraw", "k1", 1, ""), ("GET", claims, "desk", None, ""),
+        ("POST", claims + "/3/withdraw", "desk", 26, ""), ("POST", claims + "/1/withdraw", "desk", 26, " "),
+        ("POST", claims + "/0/withdraw", "desk", 26, ""), ("POST", "/claims/1/release", "k1", 2, ""),
+        ("POST", "/claims/1/release", "desk", 26, "{}"), ("POST", "/claims/50000001/release", "desk", 26, ""),
+        ("POST", "/claims/50000000/release", "desk", 26, ""), ("POST", "/claims/1/release", "desk", 26, ""),
+        ("POST", "/claims/1/release", "desk", 26, ""), ("GET", "/employers/1003/statement", "desk", None, ""),
+        ("POST", "/claims/1/release", "desk", 27, ""), ("POST", claims + "/1/withdraw", "desk", 27, ""),
+        ("POST", claims + "/2/withdraw", "desk", 27, ""), ("POST", "/claims/2/release", "desk", 28, ""),
+        ("POST", claims, "desk", 29, claim(50_000)), ("POST", "/claims/3/release", "desk", 30, ""),
+        ("GET", "/employers/1003/owed", "desk", None, ""),
+        ("GET", "/employers/1003/statement", "desk", None, ""),
+    ]
 
 
 def send_both(servers, comparison, requests):
@@ -252,6 +316,8 @@ def measure_copies(servers, comparison, requests, each, folder):
     grown, lines = len(requests.grown), requests.lines
     taken = {"start": [Taken([server.start()]) for server in copies]}
     for kind in KINDS:
+        if kind == "claim":
+            send_both(copies, comparison, list(requests.claiming()))
         taken[kind] = measure(copies, comparison, requests.of_kind(kind, each))
     if files := requests.many_lines():
         send_both(copies, comparison, files)

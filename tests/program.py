@@ -122,6 +122,11 @@ class Init(Program):
         with sqlite3.connect(self.folder / "fund.db") as store:
             self.assertEqual(store.execute("PRAGMA integrity_check").fetchall(), [("ok",)])
             self.assertEqual(store.execute("SELECT first FROM rates ORDER BY first").fetchall(), [(288,), (300,)])
+            indexes = store.execute(
+                "SELECT m.name, m.tbl_name, group_concat(i.name) FROM sqlite_schema m, pragma_index_info(m.name) i "
+                "WHERE m.type = 'index' AND m.sql IS NOT NULL GROUP BY m.name").fetchall()
+            self.assertEqual(indexes, [("claims_by_worker", "claims", "worker,no"),
+                                       ("wages_by_worker", "wages", "worker,employer,month")])
         store.close()
 
     def test_an_empty_file_is_taken(self):
@@ -145,6 +150,8 @@ class Init(Program):
         changes = (
             "CREATE TABLE pieces (employer INTEGER NOT NULL, month INTEGER NOT NULL, cents INTEGER NOT NULL) STRICT",
             "CREATE INDEX wages_by_gross ON wages (gross)",
+            "DROP INDEX wages_by_worker",
+            "DROP INDEX claims_by_worker",
             "CREATE VIEW firms AS SELECT no FROM employers",
             "ALTER TABLE runs ADD COLUMN level INTEGER",
             "ALTER TABLE lists RENAME COLUMN total TO sum",

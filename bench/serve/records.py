@@ -13,10 +13,13 @@ CREATE TABLE reports (employer INT, month INT, version INT, due TEXT, charge INT
   PRIMARY KEY (employer, month)) STRICT, WITHOUT ROWID;
 CREATE TABLE wages (employer INT, month INT, worker INT, gross INT,
   PRIMARY KEY (employer, month, worker)) STRICT, WITHOUT ROWID;
+CREATE INDEX wages_by_worker ON wages (worker, employer, month, gross);
 CREATE TABLE bank (serial INTEGER PRIMARY KEY, reference TEXT UNIQUE, value TEXT, named INT,
   cents INT, purpose TEXT, note TEXT, employer INT) STRICT;
 CREATE TABLE credits (employer INT, purpose TEXT, day TEXT, serial INT, cents INT, reference TEXT,
   PRIMARY KEY (employer, purpose, day, serial)) STRICT, WITHOUT ROWID;
+CREATE TABLE claims (no INTEGER PRIMARY KEY, employer INT, worker INT, cents INT, state TEXT) STRICT;
+CREATE INDEX claims_by_worker ON claims (worker, state, cents);
 CREATE TABLE requests (caller INT, number INT, day TEXT, command BLOB, reply TEXT,
   PRIMARY KEY (caller, number)) STRICT, WITHOUT ROWID;
 INSERT INTO meta VALUES (1, NULL, 0, 0, 0);
@@ -56,7 +59,7 @@ class Office:
 
     def open(self):
         self.rates = self.run(
-            "SELECT first, contribution, report_day, due_day, interest FROM rates "
+            "SELECT first, contribution, report_day, due_day, interest, entitlement FROM rates "
             "ORDER BY first DESC").fetchall()
 
     def one(self, text, *values):
@@ -124,7 +127,7 @@ class Office:
         if version and stands != (version,):
             raise Refusal(16, stands[0] if stands else 0)
         check_lines(lines, version)
-        _, contribution, _, due_day, _ = self.rate(month)
+        _, contribution, _, due_day, _, _ = self.rate(month)
         charge = (sum(gross for _, gross in lines) * contribution + 5000) // 10000
         self.run("INSERT OR REPLACE INTO reports VALUES (?, ?, ?, ?, ?)",
                  (no, month, version + 1, day_after(month, due_day), charge))
@@ -133,6 +136,67 @@ class Office:
         self.db.executemany("INSERT INTO wages VALUES (?, ?, ?, ?)",
                             [(no, month, worker, gross) for worker, gross in lines])
         return {"charge": charge, "version": version + 1}
+
+    def balance(self, worker):
+        """What a worker has earned, less all claims that aren't withdrawn, and at least 0."""
+        earned = sum(gross * self.rate(month)[5] // 10000 for month, gross in self.run(
+            "SELECT month, gross FROM wages WHERE worker = ?", (worker,)))
+        claimed, = self.one("SELECT ifnull(sum(cents), 0) FROM claims "
+                            "WHERE worker = ? AND state <> 'withdrawn'", worker)
+        return max(0, earned - claimed)
+
+    def claim(self, no, worker, cents):
+        self.employer(no)
+        if not self.one("SELECT 1 FROM wages WHERE worker = ? AND employer = ?", worker, no):
+            raise Refusal(24)
+        balance = self.balance(worker)
+        if cents > balance:
+            raise Refusal(25, balance)
+        made = self.run("INSERT INTO claims (employer, worker, cents, state) VALUES (?, ?, ?, 'open')",
+                        (no, worker, cents))
+        return {"claim": made.lastrowid}
+
+    def open_claim(self, claim, no=None):
+        """The firm and the cents of an open claim, which has to be that of the firm, if one is given."""
+        stands = self.one("SELECT employer, cents, state FROM claims WHERE no = ?", claim)
+        if not stands or no not in (None, stands[0]):
+            raise Refusal(26)
+        if stands[2] != "open":
+            raise Refusal(27)
+        return stands[:2]
+
+    def withdraw(self, no, claim):
+        self.employer(no)
+        self.open_claim(claim, no)
+        self.run("UPDATE claims SET state = 'withdrawn' WHERE no = ?", (claim,))
+        return {"done": True}
+
+    def release(self, claim):
+        no, cents = self.open_claim(claim)
+        reports = self.reports(no)
+        missing = self.missing(self.employer(no)[1], reports)
+        if missing:
+            raise Refusal(28, month_text(missing[0]))
+        interest, _ = self.charges_told(no, reports)
+        to_contributions = min(cents, self.sums(no)["arrears"])
+        to_interest = min(cents - to_contributions, interest)
+        serial = self.one("SELECT serial FROM meta")[0] + 1
+        self.set_off(no, "C", serial, to_contributions, claim)
+        self.set_off(no, "I", serial, to_interest, claim)
+        self.run("UPDATE meta SET serial = ?", (serial,))
+        self.run("UPDATE claims SET state = 'released' WHERE no = ?", (claim,))
+        return {"paid": cents - to_contributions - to_interest,
+                "to_contributions": to_contributions, "to_interest": to_interest}
+
+    def set_off(self, no, purpose, serial, cents, claim):
+        """Makes a credit of what a release sets off, if that is something."""
+        if not cents:
+            return
+        count, = self.one("SELECT count(*) FROM credits WHERE employer = ? AND purpose = ?", no, purpose)
+        if count >= 100_000:
+            raise Refusal(18, "credits")
+        self.run("INSERT INTO credits VALUES (?, ?, ?, ?, ?, ?)",
+                 (no, purpose, self.day, serial, cents, f"set-off {claim}"))
 
     def take_file(self, body):
         lines = read_file(body)
@@ -194,22 +258,31 @@ class Office:
         self.employer(no)
         return compact(self.sums(no))
 
+    def reports(self, no):
+        return self.run("SELECT month, version, due, charge FROM reports WHERE employer = ? "
+                        "ORDER BY month", (no,)).fetchall()
+
     def statement(self, no):
         name, start = self.employer(no)
-        reports = self.run("SELECT month, version, due, charge FROM reports WHERE employer = ? "
-                           "ORDER BY month", (no,)).fetchall()
+        reports = self.reports(no)
+        interest, told = self.charges_told(no, reports)
+        lines = [f"statement {no} {self.day}", f"name {name}", f"member {month_text(start)} -", *told]
+        lines += [f"missing {month_text(month)}" for month in self.missing(start, reports)]
+        sums = self.sums(no)
+        lines += [f"prepaid {euros(sums['prepaid'])}", f"arrears {euros(sums['arrears'])}",
+                  f"interest {euros(interest)}", ""]
+        return "\n".join(lines)
+
+    def charges_told(self, no, reports):
+        """A firm's interest arrears, and the lines that tell its charges and payments of interest."""
         for_interest = self.credits(no, "I")
-        lines = [f"statement {no} {self.day}", f"name {name}", f"member {month_text(start)} -"]
+        lines = []
         interest = -sum(cents for _, cents, _ in for_interest)
         pieces = pieces_of([report[3] for report in reports], self.credits(no, "C"))
         for report, paid in zip(reports, pieces):
             interest += self.tell_charge(lines, report, paid)
         lines += [f"interest-paid {day} {euros(cents)} {text}" for day, cents, text in for_interest]
-        lines += [f"missing {month_text(month)}" for month in self.missing(start, reports)]
-        sums = self.sums(no)
-        lines += [f"prepaid {euros(sums['prepaid'])}", f"arrears {euros(sums['arrears'])}",
-                  f"interest {euros(max(0, interest))}", ""]
-        return "\n".join(lines)
+        return max(0, interest), lines
 
     def tell_charge(self, lines, report, pieces):
         """Tells a charge and what pays it, and gives its interest."""

@@ -3,6 +3,7 @@ ghost use Rattle.std.specs.Prelude.{◌≡◌, ◌++◌, codes, IfOk, is_ok, if�
 ghost use Rattle.std.specs.Fmt.{decimal};
 ghost use Rattle.clear_money.specs.Texts.{day_text, month_text};
 ghost use Rattle.clear_book.specs.declared.outcomes.Answer.TheVariants.{Owed};
+ghost use Rattle.clear_book.specs.declared.outcomes.Reply.TheVariants.{Released};
 ghost use Rattle.clear_book.specs.declared.rules.Rule.TheVariants.{Memory, Failed};
 ghost use Rattle.clear_answers.specs.Said.{refused_by};
 ghost use Rattle.clear_answers.specs.Answer.{framing_status, status_by, status_of, carried_text};
@@ -12,7 +13,7 @@ ghost use Rattle.clear_answers.specs.Answer.{further_field, close_field, sent_bo
 ghost use Rattle.clear_answers.specs.Answer.{answer_of, head_of};
 
 use crate::said::{Extra, Refused, Said};
-use clear_book::outcomes::{Answer, Reply};
+use clear_book::outcomes::{Answer, Reply, Settlement};
 use clear_book::rules::Carried;
 use clear_money::days::Day;
 use clear_money::months::Month;
@@ -161,7 +162,30 @@ fn reply_body(alloc: Global, reply: &Reply) -> Result<Vec<u8>, AllocError>
             body.extend_from_slice(b"}")?;
             Ok(body)
         }
+        Reply::Claimed { claim } => {
+            let mut body = Vec::new(alloc);
+            append_number(&mut body, b"{\"claim\":", u64::from(*claim))?;
+            body.extend_from_slice(b"}")?;
+            Ok(body)
+        }
+        Reply::Released(settlement) => settlement_body(alloc, settlement),
     }
+}
+
+#[tactic(auto, unfolding(crate::specs::Answer::reply_body))]
+fn settlement_body(alloc: Global, settlement: &Settlement) -> Result<Vec<u8>, AllocError>
+    ensures { IfOk result (λ body. body.items ≡ reply_body (Released settlement.now)) }
+{
+    let mut body = Vec::new(alloc);
+    append_number(&mut body, b"{\"paid\":", settlement.paid)?;
+    append_number(
+        &mut body,
+        b",\"to_contributions\":",
+        settlement.to_contributions,
+    )?;
+    append_number(&mut body, b",\"to_interest\":", settlement.to_interest)?;
+    body.extend_from_slice(b"}")?;
+    Ok(body)
 }
 
 #[tactic(auto, unfolding(crate::specs::Answer::query_body))]

@@ -1,31 +1,37 @@
 -- The limits on the payments of a lawful book.
-use Rattle.std.proofs.Common.{◌≡◌, ℕ, ◌+◌, ◌*◌, ◌≤◌, ◌⊎◌, ⊎_elim, inl, inr, List, [], ◌∷◌, ◌++◌, length, map, filter, Option, Some, None, Bool, true, false, cond, ◌&&◌, ◌||◌, ◌==◌, nat_lt, refl, sym, ap, ◌∙◌, subst, arith}
+use Rattle.std.proofs.Common.{◌≡◌, ℕ, ◌+◌, ◌*◌, ◌≤◌, ◌⊎◌, ⊎_elim, inl, inr, List, [], ◌∷◌, ◌++◌, length, map, filter, Option, Some, None, Bool, true, false, cond, ◌&&◌, ◌||◌, ◌==◌, nat_le, nat_lt, refl, sym, ap, ◌∙◌, subst, arith}
 use Rattle.std.specs.Prelude.{count_by, sum_by}
 use Rattle.std.proofs.lemmas.Bool.Decides.{nat_tests}
 use Rattle.std.proofs.lemmas.List.{append-nil}
 use Rattle.std.proofs.lemmas.List.Sums.{sum_by-cons}
 use Rattle.std.specs.List.{AllByRecursion, cons_option, list_any}
+use Rattle.std.specs.Option.{option_map_or}
 use Rattle.clear_values.specs.declared.lines.Purpose.{Purpose}
 use Rattle.clear_values.specs.declared.lines.Purpose.TheVariants.{Contribution, Interest}
 use Rattle.clear_values.specs.Lines.{same_purpose}
 use Rattle.clear_account.specs.Account.{credited}
 use Rattle.clear_account.specs.declared.entries.Credit.{Credit}
 use Rattle.clear_book.specs.declared.calls.Command.{Command}
-use Rattle.clear_book.specs.declared.calls.Command.TheVariants.{Register, Report, Correct, ImportBank}
+use Rattle.clear_book.specs.declared.calls.Command.TheVariants.{ImportBank, Release}
 use Rattle.clear_values.specs.declared.replies.Reply.{Reply}
 use Rattle.clear_book.specs.declared.rules.Limit.TheVariants.{Suspense, Credits}
 use Rattle.clear_book.specs.declared.rules.Rule.TheVariants.{OverLimit}
 use Rattle.clear_values.specs.declared.rows.BankRow.{BankRow}
+use Rattle.clear_values.specs.declared.rows.ClaimRow.{ClaimRow}
 use Rattle.clear_values.specs.declared.rows.CreditRow.{CreditRow}
+use Rattle.clear_values.specs.declared.rows.ReleasedClaim.{ReleasedClaim}
+use Rattle.clear_values.specs.Credits.{set_offs_at}
 use Rattle.clear_book.specs.Accounts.{credit_key, credits_standing, row_credit, credits_under}
 use Rattle.clear_book.specs.Book.{RateTable, Book, Entry}
 use Rattle.clear_book.specs.Judge.{own_rule, reply_to}
 use Rattle.clear_book.specs.Own.ImportBank.{import_rules, is_over}
+use Rattle.clear_book.specs.Own.Release.{Debts, debts_of, has_too_many, is_too_many, own_release, release_reply, release_rules, settles}
+use Rattle.clear_book.specs.Workers.{claim_of, released, released_by}
 use Rattle.clear_values.specs.RowRanges.{IsCreditRow}
 use Rattle.clear_values.specs.Limits.{most_credits, most_suspense}
-use Rattle.clear_book.specs.Lines.{credit_of_line, credits_after, credits_made, lines_after, lines_of_rows, rows_by, rows_brought, lines_seen, lines_standing, set_offs, set_offs_by, suspense_count, credits_of_lines, is_credit_of, credit_count}
+use Rattle.clear_book.specs.Lines.{credit_of_line, credits_after, credits_made, lines_after, lines_of_rows, rows_by, rows_brought, lines_seen, lines_standing, serial_count, set_offs, set_offs_by, set_offs_of, suspense_count, credits_of_lines, is_credit_of, credit_count}
 use Rattle.clear_book.specs.Machine.{AreJudged}
-use Rattle.clear_book.proofs.CreditsMadeLemmas.{credits_after-count}
+use Rattle.clear_book.proofs.CreditsMadeLemmas.{credit_count-append, credits_after-count, part_for, release-count}
 use Rattle.clear_book.proofs.JudgeLemmas.{unrefused}
 use Rattle.clear_book.proofs.LinesLemmas.{standing_seen}
 use Rattle.clear_values.proofs.ListLemmas.{both, each}
@@ -105,14 +111,89 @@ import_within b t file own old =
     few : (before new after : ℕ) → after ≡ before + new → before ≤ 100000 → (new ≡ 0) ⊎ (after ≤ 100000) → after ≤ 100000
     few before new after sum old now = ⊎_elim (λ (none : new ≡ 0). omega (arith, sum, none, old)) (λ (low : after ≤ 100000). low) now
 
+-- ---- what the rules on a release leave
+
+-- one credit more, where it is above 0, is not too many
+room : (cents count : ℕ) → count ≤ 100000 → is_too_many cents count ≡ false → count + cond {A = ℕ} (nat_lt 0 cents) 1 0 ≤ 100000
+room cents count low h = told (nat_lt 0 cents) h
+  where
+    below : nat_le 100000 count ≡ false → count + 1 ≤ 100000
+    below k = grind (arith, nat_tests)
+
+    told : (some : Bool) → some && nat_le most_credits count ≡ false → count + cond {A = ℕ} some 1 0 ≤ 100000
+    told true k = below k
+    told false k = omega (arith, low)
+
+-- so the set-offs of a claim leave each firm as many as it may have for each purpose
+settled_within : (count : ℕ → Purpose → ℕ) (claim : ClaimRow) (serial : ℕ) (release : ReleasedClaim) → ((e : ℕ) (p : Purpose) → count e p ≤ 100000) → has_too_many release.settlement (count claim.employer) ≡ false
+    → (e : ℕ) (p : Purpose) → count e p + credit_count (set_offs_at claim serial release) e p ≤ 100000
+settled_within count claim serial release low h e p =
+    let counted = release-count claim serial release e p in
+    let within = told (claim.employer == e) refl p in
+    omega (arith, counted, within)
+  where
+    same : claim.employer == e ≡ true → claim.employer ≡ e
+    same k = grind (arith, nat_tests)
+
+    neither : (a b : Bool) → a || b ≡ false → (a ≡ false) × (b ≡ false)
+    neither false false k = (refl, refl)
+    neither false true k = absurd (cc)
+    neither true b k = absurd (cc)
+
+    fits : (q : Purpose) → is_too_many (part_for release.settlement q) (count claim.employer q) ≡ false
+    fits Contribution = (neither (is_too_many release.settlement.to_contributions (count claim.employer Contribution)) (is_too_many release.settlement.to_interest (count claim.employer Interest)) h).0
+    fits Interest = (neither (is_too_many release.settlement.to_contributions (count claim.employer Contribution)) (is_too_many release.settlement.to_interest (count claim.employer Interest)) h).1
+
+    told : (f : Bool) → claim.employer == e ≡ f → (q : Purpose) → count e q + cond {A = ℕ} f (cond (nat_lt 0 (part_for release.settlement q)) 1 0) 0 ≤ 100000
+    told true is q =
+        subst (λ (n : ℕ). count n q + cond {A = ℕ} (nat_lt 0 (part_for release.settlement q)) 1 0 ≤ 100000) (same is)
+        (room (part_for release.settlement q) (count claim.employer q) (low claim.employer q) (fits q))
+    told false is q = let few = low e q in omega (arith, few)
+
+release_within : (b : Book) (t : ℕ) (reply : Reply) (number : ℕ) → own_rule b t (Release number) ≡ None → reply_to b t (Release number) ≡ reply → IsWithin (lines_standing b.entries) (credits_made b.entries)
+    → IsWithinThen (lines_standing b.entries) (set_offs b.entries) [] (set_offs_by b.entries t reply (Release number))
+release_within b t reply number own replied old = told (claim_of b.entries number) own replied
+  where
+    debts : ClaimRow → Debts
+    debts row = debts_of b t row.employer
+
+    lines : List BankRow
+    lines = lines_standing b.entries
+
+    offs : List CreditRow
+    offs = set_offs b.entries
+
+    -- the same credits, those of the release in the middle
+    counted : (more : List CreditRow) (e : ℕ) (p : Purpose) → credit_count ((offs ++ more) ++ credits_of_lines lines) e p ≡ credit_count (credits_made b.entries) e p + credit_count more e p
+    counted more e p =
+        let outer = credit_count-append (offs ++ more) (credits_of_lines lines) e p in
+        let inner = credit_count-append offs more e p in
+        let before = credit_count-append offs (credits_of_lines lines) e p in
+        omega (arith, outer, inner, before)
+
+    then : (more : List CreditRow) → ((e : ℕ) (p : Purpose) → credit_count (credits_made b.entries) e p + credit_count more e p ≤ 100000) → IsWithinThen lines offs [] more
+    then more few =
+        subst (λ (rows : List BankRow). IsWithin rows ((offs ++ more) ++ credits_of_lines rows)) (sym (append-nil lines))
+        (old.0, λ e p. let sum = counted more e p in let low = few e p in omega (arith, sum, low))
+
+    told : (o : Option ClaimRow) → own_release o debts ≡ None → release_reply o debts ≡ reply
+        → IsWithinThen lines offs [] (option_map_or (λ claim. set_offs_of (released_by t reply claim) (serial_count b.entries + 1)) o [])
+    told None unruled said = none_more lines offs old
+    told (Some claim) unruled said =
+        let settlement = settles (debts claim) claim in
+        let none = none_applies (release_rules (Some claim) debts) unruled in
+        let fits = when-none (has_too_many settlement (debts claim).count) (OverLimit Credits) none.1.1.1.0 in
+        subst (λ (r : Reply). IsWithinThen lines offs [] (set_offs_of (released_by t r claim) (serial_count b.entries + 1))) said
+        (then (set_offs_of (released t settlement claim) (serial_count b.entries + 1))
+        (settled_within (credit_count (credits_made b.entries)) (released t settlement claim) (serial_count b.entries + 1) (record { day = t; settlement = settlement; list = None }) old.1 fits))
+
 -- ---- over a lawful book
 
 entry_within : (b : Book) (t : ℕ) (reply : Reply) (command : Command) → own_rule b t command ≡ None → reply_to b t command ≡ reply → IsWithin (lines_standing b.entries) (credits_made b.entries)
     → IsWithinThen (lines_standing b.entries) (set_offs b.entries) (rows_by b.entries (lines_seen b.entries) command) (set_offs_by b.entries t reply command)
-entry_within b t reply (Register r) own replied old = none_more (lines_standing b.entries) (set_offs b.entries) old
-entry_within b t reply (Report r) own replied old = none_more (lines_standing b.entries) (set_offs b.entries) old
-entry_within b t reply (Correct c) own replied old = none_more (lines_standing b.entries) (set_offs b.entries) old
 entry_within b t reply (ImportBank file) own replied old = import_within b t file own old
+entry_within b t reply (Release number) own replied old = release_within b t reply number own replied old
+entry_within b t reply command own replied old = none_more (lines_standing b.entries) (set_offs b.entries) old
 
 pub standing_within : (rates : RateTable) (xs : List Entry) → AreJudged rates xs → IsWithin (lines_standing xs) (credits_made xs)
 standing_within rates [] h = (omega arith, λ e p. omega arith)
@@ -162,7 +243,7 @@ module _ (e : ℕ) (p : Purpose) where
   abbrev cents_in : CreditRow → ℕ
   cents_in row = cond (is_credit_of e p row) row.cents 0
 
-  among-cents : (rows : List CreditRow) → credited (credits_under rows e p) ≡ sum_by cents_in rows
+  pub among-cents : (rows : List CreditRow) → credited (credits_under rows e p) ≡ sum_by cents_in rows
   among-cents [] = refl
   among-cents (row ∷ rows) = told (is_credit_of e p row) (among-cents rows) (sum_by-cons cents_in row rows)
     where

@@ -10,7 +10,7 @@ use Rattle.clear_money.specs.Calendar.{IsMonth}
 use Rattle.clear_values.specs.declared.texts.WageLine.{WageLine}
 use Rattle.clear_book.specs.declared.calls.Command.{Command}
 use Rattle.clear_book.specs.declared.calls.WageReport.{WageReport}
-use Rattle.clear_book.specs.declared.calls.Command.TheVariants.{Register, Report, Correct, ImportBank}
+use Rattle.clear_book.specs.declared.calls.Command.TheVariants.{Report, Correct}
 use Rattle.clear_values.specs.declared.rows.ReportRow.{ReportRow}
 use Rattle.clear_values.specs.declared.rows.WageRow.{WageRow}
 use Rattle.clear_book.specs.Accounts.{base_of, month_charge, reported_charge, book_charge, charges_of}
@@ -285,14 +285,13 @@ chosen_right e m r lines h apart month = told (is_for e m r) refl h
     told false is g = absurd (cc)
 
 reported_right : (b : Book) (t : ℕ) (command : Command) (e m : ℕ) (lines : List WageLine) → own_rule b t command ≡ None → IsCommand command → reported_by command e m ≡ Some lines → IsRight m lines
-reported_right b t (Register r) e m lines own in_range h = absurd (cc)
-reported_right b t (ImportBank file) e m lines own in_range h = absurd (cc)
 reported_right b t (Report r) e m lines own in_range h =
     chosen_right e m r lines h (report_distinct (member_of b.entries r.employer) (reported_version b.entries r.employer r.month) t r.month r.lines own) in_range.1
 reported_right b t (Correct c) e m lines own in_range h =
     chosen_right e m c.report lines h (correction_distinct (member_of b.entries c.report.employer) (reported_version b.entries c.report.employer c.report.month) t c own) in_range.1.1
+reported_right b t command e m lines own in_range h = absurd (cc)
 
-lawful_right : (rates : RateTable) (xs : List Entry) → AreJudged rates xs → (e m : ℕ) (lines : List WageLine) → latest_lines xs e m ≡ Some lines → IsRight m lines
+pub lawful_right : (rates : RateTable) (xs : List Entry) → AreJudged rates xs → (e m : ℕ) (lines : List WageLine) → latest_lines xs e m ≡ Some lines → IsRight m lines
 lawful_right rates [] h e m lines is = absurd (cc)
 lawful_right rates (x ∷ xs) h e m lines is =
     ⊎_elim

@@ -1,18 +1,29 @@
 -- The credits of a book: of set-offs and lines, each with a serial that no other has for its purpose.
-use Rattle.std.proofs.Common.{◌≡◌, ℕ, ◌+◌, ◌<◌, ◌≤◌, ◌⊎◌, inl, inr, List, [], ◌∷◌, ◌++◌, length, Option, Some, None, Bool, true, false, cond, ◌&&◌, ◌==◌, refl, sym, ap, ◌∙◌, subst, arith, append_assoc}
+use Rattle.std.proofs.Common.{◌≡◌, ℕ, ◌+◌, ◌<◌, ◌≤◌, ◌⊎◌, inl, inr, List, [], ◌∷◌, ◌++◌, length, Option, Some, None, Bool, true, false, cond, ◌&&◌, ◌==◌, nat_lt, refl, sym, ap, ◌∙◌, subst, arith, append_assoc}
 use Rattle.std.proofs.lemmas.List.{append-nil}
-use Rattle.std.proofs.lemmas.List.Sums.{count_by-le-length, sum_by-append}
+use Rattle.std.proofs.lemmas.List.Sums.{count_by-le-length, sum_by-append, sum_by-cons}
 use Rattle.std.specs.List.{cons_option, AllByRecursion}
+use Rattle.std.specs.Option.{option_map_or}
 use Rattle.clear_values.specs.declared.lines.Purpose.{Purpose}
+use Rattle.clear_values.specs.declared.lines.Purpose.TheVariants.{Contribution, Interest}
+use Rattle.clear_values.specs.Credits.{set_off, set_offs_at, set_offs_if}
+use Rattle.clear_values.specs.Lines.{same_purpose}
 use Rattle.clear_book.specs.declared.calls.Command.{Command}
-use Rattle.clear_book.specs.declared.calls.Command.TheVariants.{Register, Report, Correct, ImportBank}
+use Rattle.clear_book.specs.declared.calls.Command.TheVariants.{ImportBank, Release}
 use Rattle.clear_values.specs.declared.replies.Reply.{Reply}
+use Rattle.clear_values.specs.declared.replies.Settlement.{Settlement}
 use Rattle.clear_values.specs.declared.rows.BankRow.{BankRow}
+use Rattle.clear_values.specs.declared.rows.ClaimRow.{ClaimRow}
+use Rattle.clear_values.specs.declared.rows.ClaimState.{ClaimState}
+use Rattle.clear_values.specs.declared.rows.ClaimState.TheVariants.{Open, Withdrawn, Released}
 use Rattle.clear_values.specs.declared.rows.CreditRow.{CreditRow}
+use Rattle.clear_values.specs.declared.rows.ReleasedClaim.{ReleasedClaim}
 use Rattle.clear_book.specs.Accounts.{credit_key, rank_of}
 use Rattle.clear_book.specs.Book.{Entry}
 use Rattle.clear_values.specs.Keyed.{is_key, find_row, AreOnce}
-use Rattle.clear_book.specs.Lines.{credit_count, credit_of_line, credits_after, credits_made, credits_of_lines, is_credit_of, is_release, line_credit, lines_after, lines_seen, lines_standing, release_count, rows_brought, rows_by, serial_count, serial_key, set_offs, set_offs_by}
+use Rattle.clear_book.specs.Lines.{credit_count, credit_of_line, credits_after, credits_made, credits_of_lines, is_credit_of, is_release, line_credit, lines_after, lines_seen, lines_standing, release_count, rows_brought, rows_by, serial_count, serial_key, set_offs, set_offs_by, set_offs_of}
+use Rattle.clear_book.specs.Workers.{claim_of, released_by}
+use Rattle.clear_values.proofs.CreditRowsLemmas.{set_off_row, set_offs-serial}
 use Rattle.clear_values.proofs.KeyedLemmas.{other_row}
 use Rattle.clear_values.proofs.KeyedRowsLemmas.{AreNew, AreOnce-append, all_new}
 use Rattle.clear_book.proofs.LinesLemmas.{credits_of_lines-append, lines_or_release, none_moved, own_count, release_count-next, serial_count-next, serials_above, serials_brought, serials_once, serials_small, standing_seen}
@@ -34,24 +45,117 @@ paid_key credit = rank_of credit.purpose ∷ credit.serial ∷ []
 
 -- each has the serial that the command takes
 set_offs-serials : (xs : List Entry) (t : ℕ) (reply : Reply) (command : Command) → AllByRecursion (λ credit. (serial_count xs < credit.serial) × (credit.serial ≤ serial_count xs + own_count command)) (set_offs_by xs t reply command)
-set_offs-serials xs t reply (Register r) = tt
-set_offs-serials xs t reply (Report r) = tt
-set_offs-serials xs t reply (Correct c) = tt
-set_offs-serials xs t reply (ImportBank file) = tt
+set_offs-serials xs t reply (Release number) = told (claim_of xs number)
+  where
+    told : (o : Option ClaimRow) → AllByRecursion (λ credit. (serial_count xs < credit.serial) × (credit.serial ≤ serial_count xs + 1)) (option_map_or (λ claim. set_offs_of (released_by t reply claim) (serial_count xs + 1)) o [])
+    told None = tt
+    told (Some claim) =
+        each (λ (credit : CreditRow). credit.serial ≡ serial_count xs + 1) (λ credit. (serial_count xs < credit.serial) × (credit.serial ≤ serial_count xs + 1))
+        (λ credit is. (omega (arith, is), omega (arith, is))) (set_offs_of (released_by t reply claim) (serial_count xs + 1)) (set_offs-serial (released_by t reply claim) (serial_count xs + 1))
+set_offs-serials xs t reply command = tt
 
--- and they have purposes of their own
+-- those of a claim have purposes of their own
+claim_offs-apart : (claim : ClaimRow) (serial : ℕ) → AreOnce paid_key (set_offs_of claim serial)
+claim_offs-apart claim serial = told claim.state
+  where
+    two : (day : ℕ) (a b : ℕ) (c d : Bool) → AreOnce paid_key (cond c (set_off_row claim day serial Contribution a ∷ []) [] ++ cond d (set_off_row claim day serial Interest b ∷ []) [])
+    two day a b true true = (refl, (refl, tt))
+    two day a b true false = (refl, tt)
+    two day a b false true = (refl, tt)
+    two day a b false false = tt
+
+    told : (state : ClaimState) → AreOnce paid_key (set_offs_if claim serial state)
+    told Open = tt
+    told Withdrawn = tt
+    told (Released release) =
+        two release.day release.settlement.to_contributions release.settlement.to_interest (nat_lt 0 release.settlement.to_contributions) (nat_lt 0 release.settlement.to_interest)
+
+-- so do those of a command
 set_offs-apart : (xs : List Entry) (t : ℕ) (reply : Reply) (command : Command) → AreOnce paid_key (set_offs_by xs t reply command)
-set_offs-apart xs t reply (Register r) = tt
-set_offs-apart xs t reply (Report r) = tt
-set_offs-apart xs t reply (Correct c) = tt
-set_offs-apart xs t reply (ImportBank file) = tt
+set_offs-apart xs t reply (Release number) = told (claim_of xs number)
+  where
+    told : (o : Option ClaimRow) → AreOnce paid_key (option_map_or (λ claim. set_offs_of (released_by t reply claim) (serial_count xs + 1)) o [])
+    told None = tt
+    told (Some claim) = claim_offs-apart (released_by t reply claim) (serial_count xs + 1)
+set_offs-apart xs t reply command = tt
 
--- so of a purpose there is one at most
+pub credit_count-append : (xs ys : List CreditRow) (e : ℕ) (p : Purpose) → credit_count (xs ++ ys) e p ≡ credit_count xs e p + credit_count ys e p
+credit_count-append xs ys e p = sum_by-append (λ (credit : CreditRow). cond {A = ℕ} (is_credit_of e p credit) 1 0) xs ys
+
+-- one set-off counts for its firm and its purpose, if it is above 0
+set_off-count : (claim : ClaimRow) (day serial : ℕ) (purpose : Purpose) (cents e : ℕ) (p : Purpose)
+    → credit_count (set_off claim day serial purpose cents) e p ≡ cond {A = ℕ} (claim.employer == e) (cond (same_purpose purpose p) (cond (nat_lt 0 cents) 1 0) 0) 0
+set_off-count claim day serial purpose cents e p = told (nat_lt 0 cents)
+  where
+    row : CreditRow
+    row = set_off_row claim day serial purpose cents
+
+    counts : (f s : Bool) → cond {A = ℕ} (f && s) 1 0 ≡ cond {A = ℕ} f (cond s 1 0) 0
+    counts true s = refl
+    counts false s = refl
+
+    none : (f s : Bool) → 0 ≡ cond {A = ℕ} f (cond s 0 0) 0
+    none true true = refl
+    none true false = refl
+    none false s = refl
+
+    told : (b : Bool) → credit_count (cond b (row ∷ []) []) e p ≡ cond {A = ℕ} (claim.employer == e) (cond (same_purpose purpose p) (cond b 1 0) 0) 0
+    told true =
+        let one = sum_by-cons (λ (credit : CreditRow). cond {A = ℕ} (is_credit_of e p credit) 1 0) row [] in
+        let here = counts (claim.employer == e) (same_purpose purpose p) in
+        omega (arith, one, here)
+    told false = none (claim.employer == e) (same_purpose purpose p)
+
+-- what of a settlement is for a purpose
+abbrev pub part_for : Settlement → Purpose → ℕ
+part_for settlement Contribution = settlement.to_contributions
+part_for settlement Interest = settlement.to_interest
+
+-- so a release has one credit for a purpose, if that part is above 0, and it is its firm's
+pub release-count : (claim : ClaimRow) (serial : ℕ) (release : ReleasedClaim) (e : ℕ) (p : Purpose)
+    → credit_count (set_offs_at claim serial release) e p ≡ cond {A = ℕ} (claim.employer == e) (cond (nat_lt 0 (part_for release.settlement p)) 1 0) 0
+release-count claim serial release e p = both_counts ∙ told (claim.employer == e) p
+  where
+    first : List CreditRow
+    first = set_off claim release.day serial Contribution release.settlement.to_contributions
+
+    second : List CreditRow
+    second = set_off claim release.day serial Interest release.settlement.to_interest
+
+    counted : Bool → Purpose → Purpose → ℕ
+    counted f purpose q = cond {A = ℕ} f (cond (same_purpose purpose q) (cond (nat_lt 0 (part_for release.settlement purpose)) 1 0) 0) 0
+
+    both_counts : credit_count (first ++ second) e p ≡ counted (claim.employer == e) Contribution p + counted (claim.employer == e) Interest p
+    both_counts =
+        credit_count-append first second e p
+        ∙ (λ i. set_off-count claim release.day serial Contribution release.settlement.to_contributions e p i + set_off-count claim release.day serial Interest release.settlement.to_interest e p i)
+
+    told : (f : Bool) (q : Purpose) → counted f Contribution q + counted f Interest q ≡ cond {A = ℕ} f (cond (nat_lt 0 (part_for release.settlement q)) 1 0) 0
+    told true Contribution = omega arith
+    told true Interest = omega arith
+    told false q = refl
+
+-- so of a purpose it has one at most
+release-few : (claim : ClaimRow) (serial e : ℕ) (p : Purpose) → credit_count (set_offs_of claim serial) e p ≤ 1
+release-few claim serial e p = told claim.state
+  where
+    at_most : (f s : Bool) → cond {A = ℕ} f (cond s 1 0) 0 ≤ 1
+    at_most true true = omega arith
+    at_most true false = omega arith
+    at_most false s = omega arith
+
+    told : (state : ClaimState) → credit_count (set_offs_if claim serial state) e p ≤ 1
+    told Open = omega arith
+    told Withdrawn = omega arith
+    told (Released release) = omega (arith, release-count claim serial release e p, at_most (claim.employer == e) (nat_lt 0 (part_for release.settlement p)))
+
 set_offs-few : (xs : List Entry) (t : ℕ) (reply : Reply) (command : Command) (e : ℕ) (p : Purpose) → credit_count (set_offs_by xs t reply command) e p ≤ own_count command
-set_offs-few xs t reply (Register r) e p = omega arith
-set_offs-few xs t reply (Report r) e p = omega arith
-set_offs-few xs t reply (Correct c) e p = omega arith
-set_offs-few xs t reply (ImportBank file) e p = omega arith
+set_offs-few xs t reply (Release number) e p = told (claim_of xs number)
+  where
+    told : (o : Option ClaimRow) → credit_count (option_map_or (λ claim. set_offs_of (released_by t reply claim) (serial_count xs + 1)) o []) e p ≤ 1
+    told None = omega arith
+    told (Some claim) = release-few (released_by t reply claim) (serial_count xs + 1) e p
+set_offs-few xs t reply command e p = omega arith
 
 none_between : (n : ℕ) (credits : List CreditRow) → AllByRecursion (λ credit. (n < credit.serial) × (credit.serial ≤ n + 0)) credits → credits ≡ []
 none_between n [] h = refl
@@ -214,7 +318,16 @@ made-given xs =
     subst (λ (rows : List BankRow). AllByRecursion (λ credit. credit.serial ≤ serial_count xs) (set_offs xs ++ credits_of_lines rows)) (sym (standing_seen xs))
     (both (λ credit. credit.serial ≤ serial_count xs) (set_offs xs) (credits_of_lines (lines_seen xs)) (set_offs-given xs) (lines-given xs))
 
--- and those of the lines that a file brings are new
+-- the set-offs of a command are new
+pub set_offs_new : (xs : List Entry) (x : Entry) → AreOnce credit_key (set_offs_by xs x.day x.reply x.command) × AreNew credit_key (credits_made xs) (set_offs_by xs x.day x.reply x.command)
+set_offs_new xs x =
+    let more = set_offs_by xs x.day x.reply x.command in (
+      once-finer paid_key credit_key by_key more (set_offs-apart xs x.day x.reply x.command),
+      new-finer paid_key credit_key by_key (credits_made xs) more
+          (new-finer credit_serial paid_key by_purpose (credits_made xs) more (above-new serial_of (serial_count xs) (credits_made xs) more (made-given xs) (set_offs-above xs x))),
+    )
+
+-- and so are the credits of the lines that a file brings
 pub credits_new : (xs : List Entry) (file : List ℕ)
     → AreOnce credit_key (credits_of_lines (rows_brought xs (lines_seen xs) file)) × AreNew credit_key (credits_made xs) (credits_of_lines (rows_brought xs (lines_seen xs) file))
 credits_new xs file =
@@ -226,9 +339,6 @@ credits_new xs file =
     )
 
 -- ---- counts
-
-pub credit_count-append : (xs ys : List CreditRow) (e : ℕ) (p : Purpose) → credit_count (xs ++ ys) e p ≡ credit_count xs e p + credit_count ys e p
-credit_count-append xs ys e p = sum_by-append (λ (credit : CreditRow). cond {A = ℕ} (is_credit_of e p credit) 1 0) xs ys
 
 -- a firm has after a file as many credits as before, and those that the file brings
 pub credits_after-count : (xs : List Entry) (file : List ℕ) (e : ℕ) (p : Purpose) → credit_count (credits_after xs file) e p ≡ credit_count (credits_made xs) e p + credit_count (credits_of_lines (rows_brought xs (lines_seen xs) file)) e p

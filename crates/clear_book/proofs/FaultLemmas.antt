@@ -2,20 +2,23 @@
 use Rattle.std.proofs.Common.{◌≡◌, inl, inr, ℕ, List, [], ◌∷◌, Option, Some, None, Bool, true, false, cond, is_some, refl, sym, subst}
 use Rattle.std.specs.Prelude.{Result, Ok, Err}
 use Rattle.std.specs.List.{AllByRecursion}
+use Rattle.std.specs.Option.{option_map_or}
 use Rattle.clear_bank.specs.declared.fault.BankFault.{BankFault}
 use Rattle.clear_bank.specs.declared.fault.BankFault.TheVariants as fault
 use Rattle.clear_bank.specs.Newness.{Placed}
 use Rattle.clear_book.specs.declared.calls.Call.{Call}
 use Rattle.clear_book.specs.declared.calls.Call.TheVariants.{Do, Ask}
 use Rattle.clear_book.specs.declared.calls.Command.{Command}
-use Rattle.clear_book.specs.declared.calls.Command.TheVariants.{Register, Report, Correct, ImportBank}
+use Rattle.clear_book.specs.declared.calls.Command.TheVariants.{Register, Report, Correct, ImportBank, Claim, Withdraw, Release}
 use Rattle.clear_book.specs.declared.calls.Query.{Query}
 use Rattle.clear_book.specs.declared.calls.Query.TheVariants.{Owed, Statement}
 use Rattle.clear_book.specs.declared.outcomes.Answer.{Answer}
 use Rattle.clear_book.specs.declared.outcomes.Outcome.TheVariants.{Refused}
 use Rattle.clear_values.specs.declared.replies.Reply.{Reply}
+use Rattle.clear_values.specs.declared.rows.ClaimRow.{ClaimRow}
 use Rattle.clear_book.specs.declared.rules.Rule.{Rule}
-use Rattle.clear_book.specs.declared.rules.Rule.TheVariants.{Store, NumberReused}
+use Rattle.clear_book.specs.declared.rules.Limit.TheVariants.{Credits}
+use Rattle.clear_book.specs.declared.rules.Rule.TheVariants.{Store, NumberReused, OverLimit}
 use Rattle.clear_values.specs.declared.causes.StoreCause.{StoreCause}
 use Rattle.clear_values.specs.declared.causes.StoreCause.TheVariants.{Other}
 use Rattle.clear_money.specs.Rates.{rate_in_force}
@@ -23,12 +26,16 @@ use Rattle.clear_book.specs.Book.{Book, Entry, rates_of, member_of, employer_cou
 use Rattle.clear_book.specs.Checks.{when, first_of}
 use Rattle.clear_book.specs.Judge.{Verdict, new_reply, kept_reply, an_answer, a_refusal, outcome_of, day_back, judge, judged_do, judged_ask, said_before, own_rule, own_query}
 use Rattle.clear_book.specs.Machine.{Goes}
+use Rattle.clear_book.specs.Own.Claim.{claim_rules}
 use Rattle.clear_book.specs.Own.Correct.{correct_rules, stale_rule}
 use Rattle.clear_book.specs.Own.ImportBank.{ahead_rule, fault_rule, import_rules, rule_of}
 use Rattle.clear_book.specs.Own.Lines.{twice_rule}
 use Rattle.clear_book.specs.Own.Register.{register_rules}
+use Rattle.clear_book.specs.Own.Release.{Debts, debts_of, has_too_many, missing_rule, own_release, release_rules, settles}
 use Rattle.clear_book.specs.Own.Report.{exists_rule, report_rules}
+use Rattle.clear_book.specs.Own.Withdraw.{withdraw_rules}
 use Rattle.clear_book.specs.Lines.{credit_count, credits_after, lines_after, lines_of_rows, lines_seen, rows_brought, suspense_count}
+use Rattle.clear_book.specs.Workers.{balance_of, claim_of, is_employed}
 
 -- the rule says that the store failed
 abbrev tells_fault : Rule → Bool
@@ -77,6 +84,22 @@ ahead_other : (line : Option Placed) → IsOther (ahead_rule line)
 ahead_other None = tt
 ahead_other (Some p) = refl
 
+missing_other : (months : List ℕ) → IsOther (missing_rule months)
+missing_other [] = tt
+missing_other (m ∷ more) = refl
+
+release_other : (claim : Option ClaimRow) (debts : ClaimRow → Debts) → IsOther (own_release claim debts)
+release_other claim debts =
+    first_other (release_rules claim debts) (when_other _ _ refl, (when_other _ _ refl, (months_other claim, (many_other claim, tt))))
+  where
+    months_other : (o : Option ClaimRow) → IsOther (option_map_or (λ row. missing_rule (debts row).months) o None)
+    months_other None = tt
+    months_other (Some row) = missing_other (debts row).months
+
+    many_other : (o : Option ClaimRow) → IsOther (option_map_or (λ row. when (has_too_many (settles (debts row) row) (debts row).count) (OverLimit Credits)) o None)
+    many_other None = tt
+    many_other (Some row) = when_other _ _ refl
+
 own_other : (b : Book) (t : ℕ) (command : Command) → IsOther (own_rule b t command)
 own_other b t (Register r) =
     first_other (register_rules (is_some (member_of b.entries r.employer)) (employer_count b.entries) (is_some (rate_in_force (rates_of b) r.start)))
@@ -90,6 +113,13 @@ own_other b t (Correct c) =
 own_other b t (ImportBank file) =
     first_other (import_rules (lines_of_rows (lines_seen b.entries)) (rows_brought b.entries (lines_seen b.entries) file) (suspense_count (lines_after b.entries file)) (credit_count (credits_after b.entries file)) t file)
     (fault_other _, (fault_other _, (ahead_other _, (when_other _ _ refl, (when_other _ _ refl, tt)))))
+own_other b t (Claim c) =
+    first_other (claim_rules (is_some (member_of b.entries c.employer)) (is_employed b c.employer c.worker) (balance_of b c.worker) c.cents)
+    (when_other _ _ refl, (when_other _ _ refl, (when_other _ _ refl, tt)))
+own_other b t (Withdraw w) =
+    first_other (withdraw_rules (is_some (member_of b.entries w.employer)) w.employer (claim_of b.entries w.claim))
+    (when_other _ _ refl, (when_other _ _ refl, (when_other _ _ refl, tt)))
+own_other b t (Release number) = release_other (claim_of b.entries number) (λ row. debts_of b t row.employer)
 
 query_other : (b : Book) (query : Query) → IsOther (own_query b query)
 query_other b (Owed employer) = when_other _ _ refl

@@ -24,6 +24,8 @@ first_stands rates = record {
   credits_in_order = tt;
   requests = λ k. refl;
   requests_in_order = tt;
+  claims = refl;
+  last_claim = refl;
   serial = refl;
-  unfilled = record { claims = refl; lists = refl; runs = refl; reminders = refl; last_claim = refl; last_list = refl; last_run = refl };
+  unfilled = record { lists = refl; runs = refl; reminders = refl; last_list = refl; last_run = refl };
 }

@@ -1,5 +1,5 @@
 -- The tables of a book, after a bank file more.
-use Rattle.std.proofs.Common.{◌≡◌, ℕ, List, [], ◌∷◌, ◌++◌, None, cond, refl, sym, ap, ◌∙◌, subst, arith}
+use Rattle.std.proofs.Common.{◌≡◌, ℕ, List, [], ◌∷◌, ◌++◌, length, None, cond, refl, sym, ap, ◌∙◌, subst, arith}
 use Rattle.std.proofs.lemmas.List.{append-nil}
 use Rattle.std.proofs.lemmas.List.Sums.{sum_by-cons}
 use Rattle.std.specs.Option.{option_map}
@@ -8,6 +8,7 @@ use Rattle.clear_book.specs.declared.calls.Call.TheVariants.{Do}
 use Rattle.clear_book.specs.declared.calls.Command.TheVariants.{ImportBank}
 use Rattle.clear_values.specs.declared.replies.Reply.{Reply}
 use Rattle.clear_values.specs.declared.rows.BankRow.{BankRow}
+use Rattle.clear_values.specs.declared.rows.ClaimRow.{ClaimRow}
 use Rattle.clear_values.specs.declared.rows.CreditRow.{CreditRow}
 use Rattle.clear_values.specs.declared.rows.Change.TheVariants.{AddBankLines}
 use Rattle.clear_book.specs.Accounts.{credit_key}
@@ -17,6 +18,7 @@ use Rattle.clear_values.specs.Keyed.{find_row, with_rows, AreOnce}
 use Rattle.clear_book.specs.Lines.{lines_seen, lines_standing, rows_brought, credits_made, credits_of_lines}
 use Rattle.clear_book.specs.Machine.{step, after, appended}
 use Rattle.clear_book.specs.Tables.{Tables, Stands, bank_key, changed, noted}
+use Rattle.clear_book.proofs.ClaimsLemmas.{claims_left}
 use Rattle.clear_book.proofs.JudgeLemmas.{unrefused}
 use Rattle.clear_book.proofs.RequestLemmas.{requests_found, requests_still_in_order}
 use Rattle.clear_book.proofs.CreditsMadeLemmas.{credits_new, made_with}
@@ -25,12 +27,12 @@ use Rattle.clear_values.proofs.KeyedRowsLemmas.{AreNew, find_row-append, find_ro
 use Rattle.clear_book.proofs.VersionLemmas.{version_of-other}
 
 -- rows that are new to a list are so to each with the same look-ups
-still_new : {Row : Type 0} (key : Row → List ℕ) (table rows news : List Row) → ((k : List ℕ) → find_row key table k ≡ find_row key rows k) → AreNew key rows news → AreNew key table news
+pub still_new : {Row : Type 0} (key : Row → List ℕ) (table rows news : List Row) → ((k : List ℕ) → find_row key table k ≡ find_row key rows k) → AreNew key rows news → AreNew key table news
 still_new key table rows [] same new = tt
 still_new key table rows (row ∷ news) same new = (same (key row) ∙ new.0, still_new key table rows news same new.1)
 
 -- and a table with them has the look-ups of the list with them
-grown : {Row : Type 0} (key : Row → List ℕ) (table rows news : List Row) → ((k : List ℕ) → find_row key table k ≡ find_row key rows k) → AreNew key rows news → AreOnce key news → (k : List ℕ) → find_row key (with_rows key table news) k ≡ find_row key (rows ++ news) k
+pub grown : {Row : Type 0} (key : Row → List ℕ) (table rows news : List Row) → ((k : List ℕ) → find_row key table k ≡ find_row key rows k) → AreNew key rows news → AreOnce key news → (k : List ℕ) → find_row key (with_rows key table news) k ≡ find_row key (rows ++ news) k
 grown key table rows news same new once k =
     find_row-with_rows key table news k (still_new key table rows news same new) once
     ∙ ap (λ o. newer o (find_row key news k)) (same k)
@@ -87,8 +89,10 @@ module _ (b : Book) (t : Tables) (stands : Stands b t) (caller : Caller) (number
     credits_in_order = AreInOrder-with_rows credit_key t.credits (credits_of_lines rows) stands.credits_in_order (still_new credit_key t.credits credits (credits_of_lines rows) stands.credits new_credits_there) (credits_new b.entries file).0;
     requests = requests_found b t stands import no_number;
     requests_in_order = requests_still_in_order b t stands import no_number;
+    claims = stands.claims ∙ sym (claims_left b.entries import (record { kept = λ claim. refl; none = λ last. refl }));
+    last_claim = stands.last_claim ∙ sym (ap (λ (claims : List ClaimRow). length claims) (claims_left b.entries import (record { kept = λ claim. refl; none = λ last. refl })));
     serial = let next = serial_count-next b.entries import in omega (arith, stands.serial, next);
-    unfilled = let unfilled = stands.unfilled in record { claims = unfilled.claims; lists = unfilled.lists; runs = unfilled.runs; reminders = unfilled.reminders; last_claim = unfilled.last_claim; last_list = unfilled.last_list; last_run = unfilled.last_run };
+    unfilled = let unfilled = stands.unfilled in record { lists = unfilled.lists; runs = unfilled.runs; reminders = unfilled.reminders; last_list = unfilled.last_list; last_run = unfilled.last_run };
   }
 
   pub Stands-imported : (new : List BankRow) → new ≡ rows → Stands (step b (Do caller number day (ImportBank file))) (noted import (changed (AddBankLines new) t))

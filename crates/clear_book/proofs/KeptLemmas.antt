@@ -6,14 +6,17 @@ use Rattle.std.specs.List.{AllByRecursion}
 use Rattle.std.specs.Fmt.{decimal}
 use Rattle.std.proofs.lemmas.Bool.Decides.{Decides-eqb}
 use Rattle.std.proofs.lemmas.Slice.Eq.{bytes_eq-Decides}
+use Rattle.std.proofs.lemmas.Fmt.{decimal_injective}
 use Rattle.std.proofs.lemmas.List.{append_assoc, append_cancel_left}
 use Rattle.clear_money.specs.Texts.{month_text}
 use Rattle.clear_values.specs.declared.texts.WageLine.{WageLine}
 use Rattle.clear_book.specs.declared.calls.Registration.{Registration}
 use Rattle.clear_book.specs.declared.calls.WageReport.{WageReport}
 use Rattle.clear_book.specs.declared.calls.Correction.{Correction}
+use Rattle.clear_book.specs.declared.calls.HolidayClaim.{HolidayClaim}
+use Rattle.clear_book.specs.declared.calls.Withdrawal.{Withdrawal}
 use Rattle.clear_book.specs.declared.calls.Command.{Command}
-use Rattle.clear_book.specs.declared.calls.Command.TheVariants.{Register, Report, Correct, ImportBank}
+use Rattle.clear_book.specs.declared.calls.Command.TheVariants.{Register, Report, Correct, ImportBank, Claim, Withdraw, Release}
 use Rattle.clear_book.specs.Calls.{same_line, same_report, same_command, lines_text, command_bytes}
 use Rattle.clear_book.specs.Calls.{IsWageLine, IsReport, IsCommand}
 use Rattle.clear_book.proofs.FrontLemmas.{number_front, month_front, Begins}
@@ -79,6 +82,19 @@ same_command-true (Correct c) (Correct d) h =
     let version : c.version ≡ d.version = (Decides-eqb c.version d.version).0 parts.1 in
     (λ i. Correct (record { report = report i; version = version i }))
 same_command-true (ImportBank f) (ImportBank g) h = ap ImportBank ((bytes_eq-Decides f g).0 h)
+same_command-true (Claim c) (Claim d) h =
+    let outer = both ((c.employer == d.employer) && (c.worker == d.worker)) (c.cents == d.cents) h in
+    let inner = both (c.employer == d.employer) (c.worker == d.worker) outer.0 in
+    let employer : c.employer ≡ d.employer = (Decides-eqb c.employer d.employer).0 inner.0 in
+    let worker : c.worker ≡ d.worker = (Decides-eqb c.worker d.worker).0 inner.1 in
+    let cents : c.cents ≡ d.cents = (Decides-eqb c.cents d.cents).0 outer.1 in
+    (λ i. Claim (record { employer = employer i; worker = worker i; cents = cents i }))
+same_command-true (Withdraw w) (Withdraw v) h =
+    let parts = both (w.employer == v.employer) (w.claim == v.claim) h in
+    let employer : w.employer ≡ v.employer = (Decides-eqb w.employer v.employer).0 parts.0 in
+    let claim : w.claim ≡ v.claim = (Decides-eqb w.claim v.claim).0 parts.1 in
+    (λ i. Withdraw (record { employer = employer i; claim = claim i }))
+same_command-true (Release m) (Release n) h = ap Release ((Decides-eqb m n).0 h)
 same_command-true c d h = absurd (cc)
 
 pub same_command-refl : (c : Command) → same_command c c ≡ true
@@ -90,6 +106,13 @@ same_command-refl (Report r) = same_report-refl r
 same_command-refl (Correct c) =
     joined (same_report c.report c.report) (c.version == c.version) (same_report-refl c.report) ((Decides-eqb c.version c.version).1 refl)
 same_command-refl (ImportBank f) = (bytes_eq-Decides f f).1 refl
+same_command-refl (Claim c) =
+    joined ((c.employer == c.employer) && (c.worker == c.worker)) (c.cents == c.cents)
+    (joined (c.employer == c.employer) (c.worker == c.worker) ((Decides-eqb c.employer c.employer).1 refl) ((Decides-eqb c.worker c.worker).1 refl))
+    ((Decides-eqb c.cents c.cents).1 refl)
+same_command-refl (Withdraw w) =
+    joined (w.employer == w.employer) (w.claim == w.claim) ((Decides-eqb w.employer w.employer).1 refl) ((Decides-eqb w.claim w.claim).1 refl)
+same_command-refl (Release n) = (Decides-eqb n n).1 refl
 
 pub same_command-is : (c d : Command) → c ≡ d → same_command c d ≡ true
 same_command-is c d e = subst (λ (x : Command). same_command c x ≡ true) e (same_command-refl c)
@@ -119,8 +142,11 @@ lines_apart (l ∷ ls) (k ∷ ks) hl hk e =
 
 -- ---- each command in bytes
 
-register_regroup : (w a m n : List ℕ) → w ++ a ++ codes " " ++ m ++ codes " " ++ n ≡ w ++ (a ++ 32 ∷ (m ++ 32 ∷ n))
-register_regroup w a m n = simp append_assoc refl
+three_regroup : (w a m n : List ℕ) → w ++ a ++ codes " " ++ m ++ codes " " ++ n ≡ w ++ (a ++ 32 ∷ (m ++ 32 ∷ n))
+three_regroup w a m n = simp append_assoc refl
+
+two_regroup : (w a m : List ℕ) → w ++ a ++ codes " " ++ m ≡ w ++ (a ++ 32 ∷ m)
+two_regroup w a m = simp append_assoc refl
 
 report_regroup : (w a m l : List ℕ) → w ++ a ++ codes " " ++ m ++ l ≡ w ++ (a ++ 32 ∷ (m ++ l))
 report_regroup w a m l = simp append_assoc refl
@@ -131,7 +157,7 @@ correct_regroup w a m v l = simp append_assoc refl
 registrations_apart : (r s : Registration) → IsCommand (Register r) → IsCommand (Register s) → command_bytes (Register r) ≡ command_bytes (Register s) → r ≡ s
 registrations_apart r s hr hs e =
     let w = codes "employer " in
-    let f = append_cancel_left w _ _ (sym (register_regroup w (decimal r.employer) (month_text r.start) r.name) ∙ e ∙ register_regroup w (decimal s.employer) (month_text s.start) s.name) in
+    let f = append_cancel_left w _ _ (sym (three_regroup w (decimal r.employer) (month_text r.start) r.name) ∙ e ∙ three_regroup w (decimal s.employer) (month_text s.start) s.name) in
     let a = number_front 32 r.employer s.employer _ _ (inl (omega arith)) (omega (arith, hr.0.1)) (omega (arith, hs.0.1)) refl refl f in
     let m = month_front r.start s.start _ _ hr.2 hs.2 (tail 32 32 _ _ a.1) in
     let n = tail 32 32 _ _ m.1 in
@@ -158,6 +184,27 @@ corrections_apart c d hc hd e =
     let l = lines_apart r.lines s.lines hc.1.2 hd.1.2 v.1 in
     (λ i. record { report = record { employer = a.0 i; month = m.0 i; lines = l i }; version = v.0 i })
 
+claims_apart : (c d : HolidayClaim) → IsCommand (Claim c) → IsCommand (Claim d) → command_bytes (Claim c) ≡ command_bytes (Claim d) → c ≡ d
+claims_apart c d hc hd e =
+    let w = codes "claim " in
+    let f = append_cancel_left w _ _ (sym (three_regroup w (decimal c.employer) (decimal c.worker) (decimal c.cents)) ∙ e ∙ three_regroup w (decimal d.employer) (decimal d.worker) (decimal d.cents)) in
+    let a = number_front 32 c.employer d.employer _ _ (inl (omega arith)) (omega (arith, hc.0.1)) (omega (arith, hd.0.1)) refl refl f in
+    let b = number_front 32 c.worker d.worker _ _ (inl (omega arith)) (omega (arith, hc.1.1)) (omega (arith, hd.1.1)) refl refl (tail 32 32 _ _ a.1) in
+    let n = decimal_injective c.cents d.cents (omega (arith, hc.2.1)) (omega (arith, hd.2.1)) (tail 32 32 _ _ b.1) in
+    (λ i. record { employer = a.0 i; worker = b.0 i; cents = n i })
+
+withdrawals_apart : (w v : Withdrawal) → IsCommand (Withdraw w) → IsCommand (Withdraw v) → command_bytes (Withdraw w) ≡ command_bytes (Withdraw v) → w ≡ v
+withdrawals_apart w v hw hv e =
+    let word = codes "withdraw " in
+    let f = append_cancel_left word _ _ (sym (two_regroup word (decimal w.employer) (decimal w.claim)) ∙ e ∙ two_regroup word (decimal v.employer) (decimal v.claim)) in
+    let a = number_front 32 w.employer v.employer _ _ (inl (omega arith)) (omega (arith, hw.0.1)) (omega (arith, hv.0.1)) refl refl f in
+    let n = decimal_injective w.claim v.claim (omega (arith, hw.1.1)) (omega (arith, hv.1.1)) (tail 32 32 _ _ a.1) in
+    (λ i. record { employer = a.0 i; claim = n i })
+
+releases_apart : (m n : ℕ) → IsCommand (Release m) → IsCommand (Release n) → command_bytes (Release m) ≡ command_bytes (Release n) → m ≡ n
+releases_apart m n hm hn e =
+    decimal_injective m n (omega (arith, hm.1)) (omega (arith, hn.1)) (append_cancel_left (codes "release ") (decimal m) (decimal n) e)
+
 -- the bytes before the first space, which computes on every command
 first_word : List ℕ → List ℕ
 first_word [] = []
@@ -174,6 +221,9 @@ bytes_apart (Register r) (Register s) hr hs e = ap Register (registrations_apart
 bytes_apart (Report r) (Report s) hr hs e = ap Report (reports_apart r s hr hs e)
 bytes_apart (Correct c) (Correct d) hr hs e = ap Correct (corrections_apart c d hr hs e)
 bytes_apart (ImportBank f) (ImportBank g) hr hs e = ap ImportBank (append_cancel_left (codes "bank ") f g e)
+bytes_apart (Claim c) (Claim d) hr hs e = ap Claim (claims_apart c d hr hs e)
+bytes_apart (Withdraw w) (Withdraw v) hr hs e = ap Withdraw (withdrawals_apart w v hr hs e)
+bytes_apart (Release m) (Release n) hr hs e = ap Release (releases_apart m n hr hs e)
 bytes_apart c d hr hs e =
     let no : bytes_eq (first_word (command_bytes c)) (first_word (command_bytes d)) ≡ true = same_test (first_word (command_bytes c)) (first_word (command_bytes d)) (ap first_word e) in
     cc no

@@ -6,6 +6,7 @@ use Rattle.clear_book.specs.Book.{Book, rates_of, latest_lines}
 use Rattle.clear_book.specs.Laws.{IsSmall}
 use Rattle.clear_book.specs.Machine.{IsLawful}
 use Rattle.clear_book.proofs.LimitsLemmas.{lawful_few, lawful_rates, lawful_entries, few_base, few_charge, charge_small, charged_small}
+use Rattle.clear_book.proofs.EntitlementLemmas.{entitlement_of-small, claimed-small}
 use Rattle.clear_book.proofs.AccountLimitLemmas.{standing_within, lawful_credit_count, lawful_paid}
 use Rattle.clear_book.proofs.SeenLemmas.{credits-come, lawful_serials}
 use Rattle.clear_book.proofs.VersionLemmas.{lawful_versions}
@@ -32,4 +33,6 @@ lawful_small b h =
       seen = omega (arith, few_serials);
       serials = few_serials;
       days = credits-come b.opening b.entries h;
+      entitlement = λ w. entitlement_of-small b h w;
+      claimed = λ w. claimed-small b w h;
     }

@@ -1,9 +1,13 @@
 pub mod AccountLimitLemmas
 pub mod ChargesLemmas
 pub mod ChecksLemmas
+pub mod ClaimTablesLemmas
+pub mod ClaimsLemmas
+pub mod ConservedLemmas
 pub mod CreditsLemmas
 pub mod CreditsMadeLemmas
 pub mod DistinctLemmas
+pub mod EntitlementLemmas
 pub mod FaultLemmas
 pub mod FirstLemmas
 pub mod FrontLemmas
@@ -18,6 +22,7 @@ pub mod PiecesLemmas
 pub mod RatesLemmas
 pub mod ReachedLemmas
 pub mod ReferenceLemmas
+pub mod ReleasedLemmas
 pub mod RepeatLemmas
 pub mod ReportTablesLemmas
 pub mod RequestLemmas

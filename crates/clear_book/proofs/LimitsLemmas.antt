@@ -11,7 +11,7 @@ use Rattle.clear_money.specs.Calendar.{months}
 use Rattle.clear_money.specs.Rates.{Rate, IsRate, rate_in_force, later_row, contribution_of}
 use Rattle.clear_values.specs.declared.texts.WageLine.{WageLine}
 use Rattle.clear_book.specs.declared.calls.Command.{Command}
-use Rattle.clear_book.specs.declared.calls.Command.TheVariants.{Register, Report, Correct, ImportBank}
+use Rattle.clear_book.specs.declared.calls.Command.TheVariants.{Register, Report, Correct, ImportBank, Claim, Withdraw, Release}
 use Rattle.clear_book.specs.declared.calls.Call.{Call}
 use Rattle.clear_book.specs.declared.calls.Call.TheVariants.{Do, Ask}
 use Rattle.clear_book.specs.declared.calls.Correction.{Correction}
@@ -77,12 +77,11 @@ chosen_few true given lines h few = subst AreFew (cc) few
 chosen_few false given lines h few = absurd (cc)
 
 reported_few : (b : Book) (t : ℕ) (command : Command) (e m : ℕ) (lines : List WageLine) → own_rule b t command ≡ None → reported_by command e m ≡ Some lines → AreFew lines
-reported_few b t (Register r) e m lines own h = absurd (cc)
-reported_few b t (ImportBank file) e m lines own h = absurd (cc)
 reported_few b t (Report r) e m lines own h =
     chosen_few (is_for e m r) r.lines lines h (few_lines (member_of b.entries r.employer) (reported_version b.entries r.employer r.month) t r.month r.lines own)
 reported_few b t (Correct c) e m lines own h =
     chosen_few (is_for e m c.report) c.report.lines lines h (few_corrected (member_of b.entries c.report.employer) (reported_version b.entries c.report.employer c.report.month) t c own)
+reported_few b t command e m lines own h = absurd (cc)
 
 -- no check applies to an entry of a lawful book
 pub accepted : (rates : RateTable) (x : Entry) (xs : List Entry) → AreJudged rates (x ∷ xs) → (nat_le most_entries (length xs) ≡ false) × (own_rule (record { opening = rates; entries = xs }) x.day x.command ≡ None)
@@ -125,12 +124,13 @@ picked true q (Some p) r h =
     ⊎_elim (λ (e : q ≡ r). inl e) (λ (e : p ≡ r). inr (ap Some e)) (one_of (nat_lt p.first q.first) q p r h)
 picked false q o r h = inr h
 
-rate_small : (rs : List Rate) (m : ℕ) (r : Rate) → AllByRecursion IsRate rs → rate_in_force rs m ≡ Some r → r.contribution_rate ≤ 10000
-rate_small [] m r h is = absurd (cc)
-rate_small (q ∷ qs) m r h is =
+-- a row in force is one of the rows, so it is in its ranges
+pub rate_right : (rs : List Rate) (m : ℕ) (r : Rate) → AllByRecursion IsRate rs → rate_in_force rs m ≡ Some r → IsRate r
+rate_right [] m r h is = absurd (cc)
+rate_right (q ∷ qs) m r h is =
     ⊎_elim
-    (λ (e : q ≡ r). subst (λ (k : Rate). k.contribution_rate ≤ 10000) e h.0.contribution_rate)
-    (λ (e : rate_in_force qs m ≡ Some r). rate_small qs m r h.1 e)
+    (λ (e : q ≡ r). subst IsRate e h.0)
+    (λ (e : rate_in_force qs m ≡ Some r). rate_right qs m r h.1 e)
     (picked (nat_le q.first m) q (rate_in_force qs m) r is)
 
 product_small : (base rate : ℕ) → base ≤ 5000000000 → rate ≤ 10000 → contribution_of base rate ≤ 5000000000
@@ -141,7 +141,7 @@ chosen_small None base h k = omega arith
 chosen_small (Some r) base h k = product_small base r.contribution_rate h (k r refl)
 
 pub few_charge : (rates : List Rate) (m : ℕ) (lines : List WageLine) → AllByRecursion IsRate rates → AreFew lines → contribution_of_lines (rate_in_force rates m) lines ≤ 5000000000
-few_charge rates m lines h few = chosen_small (rate_in_force rates m) (base_of lines) (few_base lines few) (λ r e. rate_small rates m r h e)
+few_charge rates m lines h few = chosen_small (rate_in_force rates m) (base_of lines) (few_base lines few) (λ r e. (rate_right rates m r h e).contribution_rate)
 
 -- the rates are right with those that a command adds, which no rule refuses
 rates_right : (b : Book) (t : ℕ) (command : Command) → own_rule b t command ≡ None → AreRates (rates_of b) → AreRates (rates_of b ++ rates_added command)
@@ -149,6 +149,9 @@ rates_right b t (Register r) own h = subst AreRates (sym (append-nil (rates_of b
 rates_right b t (Report r) own h = subst AreRates (sym (append-nil (rates_of b))) h
 rates_right b t (Correct c) own h = subst AreRates (sym (append-nil (rates_of b))) h
 rates_right b t (ImportBank file) own h = subst AreRates (sym (append-nil (rates_of b))) h
+rates_right b t (Claim c) own h = subst AreRates (sym (append-nil (rates_of b))) h
+rates_right b t (Withdraw w) own h = subst AreRates (sym (append-nil (rates_of b))) h
+rates_right b t (Release claim) own h = subst AreRates (sym (append-nil (rates_of b))) h
 
 pub lawful_rates : (rates : RateTable) (xs : List Entry) → AreJudged rates xs → AreRates (rates_behind rates xs)
 lawful_rates rates [] h = h

@@ -1,11 +1,8 @@
 -- Bank lines: those that a book has seen, the rows that they are, and their serials.
 use Rattle.std.proofs.Common.{◌≡◌, ℕ, zero, suc, ◌+◌, ◌<◌, ◌≤◌, ◌⊎◌, inl, inr, List, [], ◌∷◌, ◌++◌, length, take, drop, map, filter, Option, Some, None, is_some, Bool, true, false, cond, refl, sym, ap, ◌∙◌, subst, arith, append_assoc, add-one, length-append}
-use Rattle.std.proofs.lemmas.Bool.{false_from_ne_true}
 use Rattle.std.proofs.lemmas.List.{append-nil}
-use Rattle.std.proofs.lemmas.List.Elements.{filter_map-append}
 use Rattle.std.proofs.lemmas.List.Folds.{find-append}
 use Rattle.std.proofs.lemmas.List.Sums.{sum_by-append, sum_by-cons}
-use Rattle.std.proofs.lemmas.Slice.Eq.{bytes_eq-Decides}
 use Rattle.std.specs.List.{enumerate_from, range_with_len, AllByRecursion}
 use Rattle.std.specs.Option.{option_map, option_or}
 use Rattle.std.specs.Prelude.{is_none}
@@ -13,13 +10,13 @@ use Rattle.std.specs.Str.{bytes_eq}
 use Rattle.clear_bank.specs.Newness.{Placed, line_under, lines_before, earlier_line, is_new}
 use Rattle.clear_values.specs.declared.lines.BankLine.{BankLine}
 use Rattle.clear_book.specs.declared.calls.Command.{Command}
-use Rattle.clear_book.specs.declared.calls.Command.TheVariants.{Register, Report, Correct, ImportBank}
+use Rattle.clear_book.specs.declared.calls.Command.TheVariants.{ImportBank, Release}
 use Rattle.clear_values.specs.declared.rows.BankRow.{BankRow}
 use Rattle.clear_book.specs.Book.{Entry, newer, member_of}
 use Rattle.clear_values.specs.Keyed.{is_key, find_row, AreInOrder, AreOnce}
-use Rattle.clear_book.specs.Lines.{lines_in, new_lines, employer_of_line, rows_from, lines_of_rows, serial_key, is_release, release_count, rows_brought, rows_by, lines_seen, serial_count, serials_given, standing, lines_standing, is_in_suspense, suspense_count, credit_of_line, credits_of_lines}
+use Rattle.clear_book.specs.Lines.{lines_in, new_lines, employer_of_line, rows_from, lines_of_rows, serial_key, is_release, release_count, rows_brought, rows_by, lines_seen, serial_count, serials_given, standing, lines_standing, is_in_suspense, suspense_count}
 use Rattle.clear_book.specs.Tables.{bank_key}
-use Rattle.clear_values.proofs.KeyedLemmas.{is_key-refl, is_key-true, is_key-sym}
+use Rattle.clear_values.proofs.KeyedLemmas.{is_key-sym}
 use Rattle.clear_values.proofs.KeyedRowsLemmas.{AreNew, AreOnce-append}
 use Rattle.clear_values.proofs.ListLemmas.{both, each}
 use Rattle.clear_book.proofs.SerialLemmas.{follow-between, follow-in_order, in_order-append, in_order-once}
@@ -195,16 +192,12 @@ references_once [] = tt
 references_once (x ∷ xs) = AreOnce-append bank_key (lines_seen xs) (rows_by xs (lines_seen xs) x.command) (references_once xs) (once x.command) (apart x.command)
   where
     once : (command : Command) → AreOnce bank_key (rows_by xs (lines_seen xs) command)
-    once (Register r) = tt
-    once (Report r) = tt
-    once (Correct c) = tt
     once (ImportBank file) = new_once (member_in xs) (serial_count xs) (lines_of_rows (lines_seen xs)) (lines_in file)
+    once command = tt
 
     apart : (command : Command) → AreNew bank_key (lines_seen xs) (rows_by xs (lines_seen xs) command)
-    apart (Register r) = tt
-    apart (Report r) = tt
-    apart (Correct c) = tt
     apart (ImportBank file) = new_apart (member_in xs) (serial_count xs) (lines_seen xs) (lines_of_rows (lines_seen xs)) (lines_in file) refl
+    apart command = tt
 
 pub references_standing : (xs : List Entry) → AreOnce bank_key (lines_standing xs)
 references_standing xs = subst (AreOnce bank_key) (sym (standing_seen xs)) (references_once xs)
@@ -227,19 +220,15 @@ range_with_len-append a (suc m) n (suc k) e =
 
 -- those of the lines that a command brings follow on the last one
 row_serials : (xs : List Entry) (command : Command) → map (λ (row : BankRow). row.serial) (rows_by xs (lines_seen xs) command) ≡ range_with_len (serial_count xs + 1) (length (rows_by xs (lines_seen xs) command))
-row_serials xs (Register r) = refl
-row_serials xs (Report r) = refl
-row_serials xs (Correct c) = refl
 row_serials xs (ImportBank file) =
     let new = new_lines (lines_of_rows (lines_seen xs)) (lines_in file) in
     serials_from (member_in xs) (serial_count xs) new ∙ ap (λ n. range_with_len (serial_count xs + 1) n) (sym (length-rows_from (member_in xs) (serial_count xs) new))
+row_serials xs command = refl
 
 -- no command both brings lines and releases
 pub lines_or_release : (xs : List Entry) (seen : List BankRow) (command : Command) → (rows_by xs seen command ≡ []) ⊎ (is_release command ≡ false)
-lines_or_release xs seen (Register r) = inl refl
-lines_or_release xs seen (Report r) = inl refl
-lines_or_release xs seen (Correct c) = inl refl
-lines_or_release xs seen (ImportBank file) = inr refl
+lines_or_release xs seen (Release number) = inl refl
+lines_or_release xs seen command = inr refl
 
 -- the serials that a command takes itself
 abbrev pub own_count : Command → ℕ

@@ -98,11 +98,11 @@ module _ (b : Book) (t u : Tables) (left : Stands b t) (right : Stands b u) wher
       let rates : t.rates ≡ u.rates = left.rates ∙ sym right.rates in
       let entries : t.entries ≡ u.entries = left.entries ∙ sym right.entries in
       let serial : t.serial ≡ u.serial = left.serial ∙ sym right.serial in
-      let claims : t.claims ≡ u.claims = left.unfilled.claims ∙ sym right.unfilled.claims in
+      let claims : t.claims ≡ u.claims = left.claims ∙ sym right.claims in
       let lists : t.lists ≡ u.lists = left.unfilled.lists ∙ sym right.unfilled.lists in
       let runs : t.runs ≡ u.runs = left.unfilled.runs ∙ sym right.unfilled.runs in
       let reminders : t.reminders ≡ u.reminders = left.unfilled.reminders ∙ sym right.unfilled.reminders in
-      let last_claim : t.last_claim ≡ u.last_claim = left.unfilled.last_claim ∙ sym right.unfilled.last_claim in
+      let last_claim : t.last_claim ≡ u.last_claim = left.last_claim ∙ sym right.last_claim in
       let last_list : t.last_list ≡ u.last_list = left.unfilled.last_list ∙ sym right.unfilled.last_list in
       let last_run : t.last_run ≡ u.last_run = left.unfilled.last_run ∙ sym right.unfilled.last_run in
       (λ i.

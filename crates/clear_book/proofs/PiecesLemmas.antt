@@ -11,7 +11,6 @@ use Rattle.clear_account.specs.Allocation.{right_pieces, share}
 use Rattle.clear_account.specs.Allocation.{piece_of as account_piece, pieces_of as account_pieces}
 use Rattle.clear_values.specs.declared.lines.Purpose.TheVariants.{Contribution}
 use Rattle.clear_values.specs.declared.rows.CreditRow.{CreditRow}
-use Rattle.clear_values.specs.declared.rows.PieceRow.{PieceRow}
 use Rattle.clear_book.specs.Accounts.{charges_of, credit_rows_of, credits_of, row_credit}
 use Rattle.clear_book.specs.Book.{Book}
 use Rattle.clear_book.specs.Pieces.{piece_of, piece_row, pieces_of, piece_rows_of, row_piece}

@@ -8,7 +8,7 @@ use Rattle.clear_values.specs.declared.texts.WageLine.{WageLine}
 use Rattle.clear_book.specs.declared.calls.Command.{Command}
 use Rattle.clear_book.specs.declared.calls.Correction.{Correction}
 use Rattle.clear_book.specs.declared.calls.WageReport.{WageReport}
-use Rattle.clear_book.specs.declared.calls.Command.TheVariants.{Register, Report, Correct, ImportBank}
+use Rattle.clear_book.specs.declared.calls.Command.TheVariants.{Register, Report, Correct}
 use Rattle.clear_book.specs.declared.rules.Rule.TheVariants.{EmployerExists, NoRate, UnknownEmployer, MonthOutside}
 use Rattle.clear_book.specs.Book.{Book, Entry, Member, is_for, is_member_in, is_member_month, newer, registered_by, member_of, reported_by, latest_lines, reported_version, employer_count, RateTable, rates_added, rates_behind}
 use Rattle.clear_book.specs.Checks.{when}
@@ -64,7 +64,7 @@ new_and_rated registered employer_count has_rate h =
     rated false h = absurd (cc)
 
 -- a member since a month up to this one
-abbrev IsSince : ℕ → Option Member → Type 0
+abbrev pub IsSince : ℕ → Option Member → Type 0
 IsSince m None = ⊥
 IsSince m (Some member) = member.start ≤ m
 
@@ -114,9 +114,7 @@ module _ (rates : RateTable) where
       told : (b : Bool) → is_some (rate_in_force (rates_behind rates xs) r.start) ≡ true → IsRated xs (cond {A = Option Member} b (Some (record { name = r.name; start = r.start; last = None })) None)
       told true h = h
       told false h = tt
-  registers_rated xs t (Report r) e own = tt
-  registers_rated xs t (Correct c) e own = tt
-  registers_rated xs t (ImportBank file) e own = tt
+  registers_rated xs t command e own = tt
 
   member_rated : (xs : List Entry) → AreJudged rates xs → (e : ℕ) → IsRated xs (member_of xs e)
   member_rated [] h e = tt
@@ -137,9 +135,7 @@ module _ (rates : RateTable) where
       told : (b : Bool) → r.employer == e ≡ b → is_some (member_of xs r.employer) ≡ false → (cond {A = Option Member} b (Some (record { name = r.name; start = r.start; last = None })) None ≡ None) ⊎ (is_some (member_of xs e) ≡ false)
       told true is none = inr (subst (λ (f : ℕ). is_some (member_of xs f) ≡ false) (same is) none)
       told false is none = inl refl
-  once xs t (Report r) e own = inl refl
-  once xs t (Correct c) e own = inl refl
-  once xs t (ImportBank file) e own = inl refl
+  once xs t command e own = inl refl
 
   -- a member stays one since the same month
   stays : (xs : List Entry) (t : ℕ) (command : Command) (e m : ℕ) → own_rule (book xs) t command ≡ None → IsSince m (member_of xs e) → IsSince m (newer (registered_by command e) (member_of xs e))
@@ -163,14 +159,13 @@ module _ (rates : RateTable) where
       told false is k = absurd (cc)
 
   reported_since : (xs : List Entry) (t : ℕ) (command : Command) (e m : ℕ) (lines : List WageLine) → own_rule (book xs) t command ≡ None → reported_by command e m ≡ Some lines → IsSince m (member_of xs e)
-  reported_since xs t (Register r) e m lines own h = absurd (cc)
-  reported_since xs t (ImportBank file) e m lines own h = absurd (cc)
   reported_since xs t (Report r) e m lines own h =
       chosen_since xs e m r lines h (since (member_of xs r.employer) (reported_version xs r.employer r.month) t r.month r.lines own)
   reported_since xs t (Correct c) e m lines own h =
       chosen_since xs e m c.report lines h (corrected_since (member_of xs c.report.employer) (reported_version xs c.report.employer c.report.month) t c own)
+  reported_since xs t command e m lines own h = absurd (cc)
 
-  member_since : (xs : List Entry) → AreJudged rates xs → (e m : ℕ) (lines : List WageLine) → latest_lines xs e m ≡ Some lines → IsSince m (member_of xs e)
+  pub member_since : (xs : List Entry) → AreJudged rates xs → (e m : ℕ) (lines : List WageLine) → latest_lines xs e m ≡ Some lines → IsSince m (member_of xs e)
   member_since [] h e m lines is = absurd (cc)
   member_since (x ∷ xs) h e m lines is =
       let own = (accepted rates x xs h).1 in

@@ -4,7 +4,7 @@ use Rattle.clear_book.specs.declared.calls.Call.{Call}
 use Rattle.clear_book.specs.declared.outcomes.Outcome.{Outcome}
 use Rattle.clear_book.specs.declared.outcomes.Outcome.TheVariants.{Replied}
 use Rattle.clear_book.specs.Book.{Book, Entry, RateTable, call_of}
-use Rattle.clear_book.specs.Judge.{Verdict, judge, outcome_of}
+use Rattle.clear_book.specs.Judge.{Verdict, outcome_of}
 use Rattle.clear_book.specs.Machine.{AreJudged, after, Takes, Runs}
 use Rattle.clear_book.specs.Calls.{IsCall}
 use Rattle.clear_book.specs.Reached.{IsReached}

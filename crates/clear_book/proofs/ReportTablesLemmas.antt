@@ -1,5 +1,5 @@
 -- The tables of a book, after a report or a correction more.
-use Rattle.std.proofs.Common.{◌≡◌, ℕ, ◌+◌, List, [], ◌∷◌, ◌++◌, Option, Some, None, Bool, true, false, cond, ◌&&◌, ◌==◌, refl, sym, ap, ◌∙◌, subst, arith}
+use Rattle.std.proofs.Common.{◌≡◌, ℕ, ◌+◌, List, [], ◌∷◌, ◌++◌, length, Option, Some, None, Bool, true, false, cond, ◌&&◌, ◌==◌, refl, sym, ap, ◌∙◌, subst, arith}
 use Rattle.std.proofs.lemmas.List.{append-nil}
 use Rattle.std.proofs.lemmas.List.Sums.{sum_by-cons}
 use Rattle.std.specs.Option.{option_map}
@@ -11,6 +11,7 @@ use Rattle.clear_book.specs.declared.calls.WageReport.{WageReport}
 use Rattle.clear_values.specs.declared.replies.Reply.{Reply}
 use Rattle.clear_values.specs.declared.rows.Change.TheVariants.{AddReport, ReplaceReport}
 use Rattle.clear_values.specs.declared.rows.BankRow.{BankRow}
+use Rattle.clear_values.specs.declared.rows.ClaimRow.{ClaimRow}
 use Rattle.clear_values.specs.declared.rows.CreditRow.{CreditRow}
 use Rattle.clear_values.specs.declared.rows.ReportRow.{ReportRow}
 use Rattle.clear_values.specs.declared.rows.WageRow.{WageRow}
@@ -27,6 +28,7 @@ use Rattle.clear_book.specs.Own.Report.{own_report, report_rules}
 use Rattle.clear_book.specs.Tables.{Tables, Stands, report_key, bank_key, version_at, gross_at, gross_of, reported_gross, with_wages, changed, noted}
 use Rattle.clear_book.proofs.ChecksLemmas.{none_applies}
 use Rattle.clear_book.proofs.DistinctLemmas.{AreDistinct, distinct}
+use Rattle.clear_book.proofs.ClaimsLemmas.{LeavesClaims, claims_left}
 use Rattle.clear_book.proofs.JudgeLemmas.{unrefused}
 use Rattle.clear_values.proofs.KeyedChangesLemmas.{find_row-put_row, AreInOrder-put_row, put_row-new}
 use Rattle.clear_book.proofs.LinesLemmas.{none_moved, none_taken}
@@ -60,6 +62,7 @@ pub record Reports (xs : List Entry) (x : Entry) (r : WageReport) : Type 0 where
   pub no_registration : is_registration x.command ≡ false
   pub no_rows : rows_by xs (lines_seen xs) x.command ≡ []
   pub no_release : is_release x.command ≡ false
+  pub no_claims : LeavesClaims x.day x.reply x.command
   pub no_rates : rates_added x.command ≡ []
 
 abbrev version_in : ReportRow → ℕ
@@ -117,8 +120,10 @@ module _ (b : Book) (t : Tables) (stands : Stands b t) (x : Entry) (r : WageRepo
     credits_in_order = stands.credits_in_order;
     requests = requests_found b t stands x free;
     requests_in_order = requests_still_in_order b t stands x free;
+    claims = stands.claims ∙ sym (claims_left b.entries x reports.no_claims);
+    last_claim = stands.last_claim ∙ sym (ap (λ (claims : List ClaimRow). length claims) (claims_left b.entries x reports.no_claims));
     serial = stands.serial ∙ sym (none_taken b.entries x reports.no_rows reports.no_release);
-    unfilled = let unfilled = stands.unfilled in record { claims = unfilled.claims; lists = unfilled.lists; runs = unfilled.runs; reminders = unfilled.reminders; last_claim = unfilled.last_claim; last_list = unfilled.last_list; last_run = unfilled.last_run };
+    unfilled = let unfilled = stands.unfilled in record { lists = unfilled.lists; runs = unfilled.runs; reminders = unfilled.reminders; last_list = unfilled.last_list; last_run = unfilled.last_run };
   }
 
   -- for a month that has none, they are one more
@@ -140,7 +145,7 @@ module _ (b : Book) (t : Tables) (stands : Stands b t) (caller : Caller) (number
       let no_lines = reported_none b.entries r.employer r.month none in
       let zero : version_of b.entries r.employer r.month ≡ 0 = version_of-none b.entries r.employer r.month no_lines in
       let x = entry caller number day (Report r) reply in
-      let there = first_tables b t stands x r (record { lines = λ e m. refl; counted = λ e m. is_some-cond (is_for e m r) r.lines; nobody = λ e. refl; no_registration = refl; no_rows = refl; no_release = refl; no_rates = refl }) 1 (omega (arith, zero))
+      let there = first_tables b t stands x r (record { lines = λ e m. refl; counted = λ e m. is_some-cond (is_for e m r) r.lines; nobody = λ e. refl; no_registration = refl; no_rows = refl; no_release = refl; no_claims = record { kept = λ claim. refl; none = λ last. refl }; no_rates = refl }) 1 (omega (arith, zero))
       (report_distinct (member_of b.entries r.employer) (reported_version b.entries r.employer r.month) day r.month r.lines own) said.free
       (no_map version_in (find_row report_key t.reports (r.employer ∷ r.month ∷ [])) (stands.reports r.employer r.month ∙ none))
       (λ w. stands.wages r.employer r.month w ∙ ap (λ (o : Option (List WageLine)). reported_gross o w) no_lines) in
@@ -155,6 +160,6 @@ module _ (b : Book) (t : Tables) (stands : Stands b t) (caller : Caller) (number
       let latest = corrected member (reported_version b.entries c.report.employer c.report.month) day c own in
       let now : version_of b.entries c.report.employer c.report.month ≡ c.version = reported_some b.entries c.report.employer c.report.month c.version latest.0 in
       let x = entry caller number day (Correct c) reply in
-      let there = replaced_tables b t stands x c.report (record { lines = λ e m. refl; counted = λ e m. is_some-cond (is_for e m c.report) c.report.lines; nobody = λ e. refl; no_registration = refl; no_rows = refl; no_release = refl; no_rates = refl }) version (omega (arith, now, more))
+      let there = replaced_tables b t stands x c.report (record { lines = λ e m. refl; counted = λ e m. is_some-cond (is_for e m c.report) c.report.lines; nobody = λ e. refl; no_registration = refl; no_rows = refl; no_release = refl; no_claims = record { kept = λ claim. refl; none = λ last. refl }; no_rates = refl }) version (omega (arith, now, more))
       (correction_distinct member (reported_version b.entries c.report.employer c.report.month) day c own) said.free in
       subst (λ (p : Verdict × List WageLine). Stands (after b (Do caller number day (Correct c)) p.0) (noted x (changed (ReplaceReport (record { employer = c.report.employer; month = c.report.month; version = version }) p.1) t))) (λ i. (sym judged i, sym same i)) there

@@ -1,5 +1,6 @@
 -- Each row of the tables of a lawful book lies in its ranges.
-use Rattle.std.proofs.Common.{◌≡◌, ℕ, ◌+◌, ◌≤◌, ◌⊎◌, ⊎_elim, inl, inr, List, [], ◌∷◌, Option, Some, None, IfSome, is_some, option_and_then, Bool, true, false, cond, ◌==◌, refl, sym, ap, ◌∙◌, subst, arith}
+use Rattle.std.proofs.Common.{◌≡◌, ℕ, ◌+◌, ◌≤◌, ◌⊎◌, ⊎_elim, inl, inr, List, [], ◌∷◌, Option, Some, None, IfSome, is_some, option_and_then, Bool, true, false, cond, ◌==◌, length, nat_le, refl, sym, ap, ◌∙◌, subst, arith}
+use Rattle.std.proofs.lemmas.Bool.Decides.{nat_tests}
 use Rattle.std.proofs.lemmas.Option.{cond_some}
 use Rattle.std.specs.Option.{option_map}
 use Rattle.std.specs.List.{AllByRecursion}
@@ -7,12 +8,13 @@ use Rattle.clear_values.specs.declared.lines.BankLine.{BankLine}
 use Rattle.clear_bank.specs.Newness.{Placed, is_new}
 use Rattle.clear_values.specs.Ranges.{IsBankLine}
 use Rattle.clear_money.specs.Calendar.{IsMonth, IsDay}
-use Rattle.clear_money.specs.Numbers.{IsEmployerNo, IsWorkerNo}
+use Rattle.clear_money.specs.Numbers.{IsAmount, IsEmployerNo, IsWorkerNo}
 use Rattle.clear_values.specs.declared.texts.WageLine.{WageLine}
 use Rattle.clear_book.specs.declared.calls.Command.{Command}
-use Rattle.clear_book.specs.declared.calls.Command.TheVariants.{Register, Report, Correct, ImportBank}
+use Rattle.clear_book.specs.declared.calls.Command.TheVariants.{Register, Report, Correct, ImportBank, Claim, Withdraw, Release}
 use Rattle.clear_book.specs.declared.calls.WageReport.{WageReport}
 use Rattle.clear_values.specs.declared.rows.BankRow.{BankRow}
+use Rattle.clear_values.specs.declared.rows.ClaimRow.{ClaimRow}
 use Rattle.clear_values.specs.declared.rows.CreditRow.{CreditRow}
 use Rattle.clear_values.specs.declared.rows.EmployerRow.{EmployerRow}
 use Rattle.clear_values.specs.declared.rows.ReportRow.{ReportRow}
@@ -23,15 +25,19 @@ use Rattle.clear_book.specs.Judge.{own_rule, reply_to}
 use Rattle.clear_values.specs.Keyed.{is_key, find_row, AreOnce, in_key_order}
 use Rattle.clear_book.specs.Lines.{lines_in, new_lines, employer_of_line, rows_from, lines_of_rows, rows_by, lines_seen, lines_standing, credit_of_line, line_credit, credits_made, credits_of_lines, serial_count, serials_of, set_offs}
 use Rattle.clear_book.specs.Machine.{AreJudged, IsLawful}
+use Rattle.clear_book.specs.Own.Release.{Debts, debts_of, release_reply}
+use Rattle.clear_book.specs.Workers.{claim_of, claims_of}
 use Rattle.clear_book.specs.Calls.{IsWageLine, IsReport, IsCommand}
+use Rattle.clear_values.specs.Limits.{most_entries}
 use Rattle.clear_values.specs.Ranges.{AreRates}
 use Rattle.clear_values.specs.RowRanges.{IsSerial, IsReply, IsRequestRow, IsEmployerRow, IsReportRow, IsWageRow, IsBankRow, IsCreditRow, AreInRange, IsClaimRow, IsListRow, IsRunRow, IsReminderRow}
-use Rattle.clear_book.specs.Tables.{RequestRow, Tables, Stands, employer_key, report_key, wage_key, bank_key, request_key, request_row, requests_of, gross_of, reported_gross, member_in}
+use Rattle.clear_book.specs.Tables.{RequestRow, Tables, Stands, employer_key, report_key, wage_key, bank_key, claim_key, request_key, request_row, requests_of, gross_of, reported_gross, member_in}
 use Rattle.clear_values.specs.Texts.{IsName}
+use Rattle.clear_book.proofs.ClaimsLemmas.{claims-in-range, claims_few, settled_whole}
 use Rattle.clear_book.proofs.CreditsLemmas.{credits-standing}
 use Rattle.clear_book.proofs.DistinctLemmas.{same_worker}
 use Rattle.clear_book.proofs.JudgeLemmas.{unrefused}
-use Rattle.clear_values.proofs.KeyedChangesLemmas.{all_from_found, AllByRecursion-in_key_order}
+use Rattle.clear_values.proofs.KeyedChangesLemmas.{all_from_found, AllByRecursion-in_key_order, found_holds}
 use Rattle.clear_values.proofs.KeyedRowsLemmas.{ordered}
 use Rattle.clear_book.proofs.LimitsLemmas.{lawful_rates, lawful_few, lawful_entries, few_lines, few_corrected, few_charge}
 use Rattle.clear_book.proofs.LinesLemmas.{standing_seen, references_once, serials_small}
@@ -57,14 +63,12 @@ IsMember e member = IsEmployerNo e × IsName member.name × IsMonth member.start
 
 -- so it is with what a command registers
 registered-in-range : (command : Command) (e : ℕ) (member : Member) → IsCommand command → registered_by command e ≡ Some member → IsMember e member
-registered-in-range (Report r) e member in_range h = absurd (cc)
-registered-in-range (Correct c) e member in_range h = absurd (cc)
-registered-in-range (ImportBank file) e member in_range h = absurd (cc)
 registered-in-range (Register r) e member in_range h =
     let made : Member = record { name = r.name; start = r.start; last = None } in
     let parts = cond_some (r.employer == e) made member h in
     let number = subst IsEmployerNo (same_worker r.employer e parts.0) in_range.0 in
     subst (IsMember e) parts.1 (number, in_range.1, in_range.2, refl)
+registered-in-range command e member in_range h = absurd (cc)
 
 -- and with each registered employer of a lawful book
 member-in-range : (rates : RateTable) (xs : List Entry) → AreJudged rates xs → (e : ℕ) (member : Member) → member_of xs e ≡ Some member → IsMember e member
@@ -99,10 +103,9 @@ chosen-in-range e m r lines in_range h =
 
 -- so it is with what a command reports
 reported-in-range : (command : Command) (e m : ℕ) (lines : List WageLine) → IsCommand command → reported_by command e m ≡ Some lines → IsReported e m lines
-reported-in-range (Register r) e m lines in_range h = absurd (cc)
-reported-in-range (ImportBank file) e m lines in_range h = absurd (cc)
 reported-in-range (Report r) e m lines in_range h = chosen-in-range e m r lines in_range h
 reported-in-range (Correct c) e m lines in_range h = chosen-in-range e m c.report lines in_range.1 h
+reported-in-range command e m lines in_range h = absurd (cc)
 
 -- and with each latest report of a lawful book
 latest-in-range : (rates : RateTable) (xs : List Entry) → AreJudged rates xs → (e m : ℕ) (lines : List WageLine) → latest_lines xs e m ≡ Some lines → IsReported e m lines
@@ -194,12 +197,10 @@ firms-of-rows is_registered last (p ∷ new) h = (firm-in-range is_registered p.
 
 -- and with those that a command brings
 firms-by : (xs : List Entry) (seen : List BankRow) (command : Command) → AllByRecursion HasFirm (rows_by xs seen command)
-firms-by xs seen (Register r) = tt
-firms-by xs seen (Report r) = tt
-firms-by xs seen (Correct c) = tt
 firms-by xs seen (ImportBank file) =
     firms-of-rows (λ e. is_some (member_of xs e)) (serials_of xs seen) (new_lines (lines_of_rows seen) (lines_in file))
     (chosen IsBankLine (is_new (lines_of_rows seen) (lines_in file)) 0 (lines_in file) (lines-in-range file))
+firms-by xs seen command = tt
 
 -- the firm of each line that a book has seen is in range
 seen-firms : (xs : List Entry) → AllByRecursion HasFirm (lines_seen xs)
@@ -245,20 +246,35 @@ credit_row row e is h credit made =
 -- ---- accepted requests
 
 -- the numbers of the reply to a command that no rule refuses are in range
-reply-in-range : (b : Book) (t : ℕ) (command : Command) → IsLawful b → own_rule b t command ≡ None → IsReply (reply_to b t command)
-reply-in-range b t (Register r) lawful own = tt
-reply-in-range b t (Report r) lawful own =
+reply-in-range : (b : Book) (t : ℕ) (command : Command) → IsLawful b → nat_le most_entries (length b.entries) ≡ false → own_rule b t command ≡ None → IsReply (reply_to b t command)
+reply-in-range b t (Register r) lawful room own = tt
+reply-in-range b t (Report r) lawful room own =
     let few = few_lines (member_of b.entries r.employer) (reported_version b.entries r.employer r.month) t r.month r.lines own in
     (omega arith, omega arith, few_charge (rates_of b) r.month r.lines (lawful_rates b.opening b.entries lawful).ranges few)
-reply-in-range b t (Correct c) lawful own =
+reply-in-range b t (Correct c) lawful room own =
     let member = member_of b.entries c.report.employer in
     let version = reported_version b.entries c.report.employer c.report.month in
     let few = few_corrected member version t c own in
     let last = (corrected member version t c own).1 in
     (omega arith, omega (arith, last), few_charge (rates_of b) c.report.month c.report.lines (lawful_rates b.opening b.entries lawful).ranges few)
-reply-in-range b t (ImportBank file) lawful own =
+reply-in-range b t (ImportBank file) lawful room own =
     let rows = by-few b.entries (lines_seen b.entries) (ImportBank file) in
     (omega (arith, rows), omega (arith, file-few file))
+reply-in-range b t (Claim c) lawful room own = (omega arith, below (length b.entries) (length (claims_of b.entries)) room (claims_few b.entries))
+  where
+    below : (n k : ℕ) → nat_le 50000000 n ≡ false → k ≤ n → k + 1 ≤ 50000000
+    below n k h few = grind (arith, nat_tests)
+reply-in-range b t (Withdraw w) lawful room own = tt
+reply-in-range b t (Release number) lawful room own = told (claim_of b.entries number) refl
+  where
+    debts : ClaimRow → Debts
+    debts row = debts_of b t row.employer
+
+    told : (o : Option ClaimRow) → claim_of b.entries number ≡ o → IsReply (release_reply o debts)
+    told None is = tt
+    told (Some claim) is =
+        let good = found_holds claim_key IsClaimRow (claims_of b.entries) (number ∷ []) claim (claims-in-range b.opening b.entries lawful) is in
+        subst IsAmount (sym (settled_whole claim.cents (debts claim).owed (debts claim).interest)) good.cents
 
 -- so the row of each accepted request is in range
 entry-in-range : (rates : RateTable) (x : Entry) (xs : List Entry) → AreJudged rates (x ∷ xs) → IsRequestRow (request_row x)
@@ -269,7 +285,7 @@ entry-in-range rates x xs h =
       caller = h.1.0;
       number = h.1.1;
       day = h.1.2;
-      reply = subst IsReply said.replied (reply-in-range b x.day x.command h.0 said.unruled);
+      reply = subst IsReply said.replied (reply-in-range b x.day x.command h.0 said.room said.unruled);
     }
 
 kept_row : (rates : RateTable) (xs : List Entry) → AreJudged rates xs → (k : List ℕ) (row : RequestRow) → find_row request_key (requests_of xs) k ≡ Some row → IsRequestRow row
@@ -339,7 +355,7 @@ rows_in_range b t lawful stands = record {
   wages = wages-in-range b t lawful stands;
   bank = bank-in-range b t lawful stands;
   credits = credits-in-range b t lawful stands;
-  claims = subst (AllByRecursion IsClaimRow) (sym stands.unfilled.claims) tt;
+  claims = subst (AllByRecursion IsClaimRow) (sym stands.claims) (claims-in-range b.opening b.entries lawful);
   lists = subst (AllByRecursion IsListRow) (sym stands.unfilled.lists) tt;
   runs = subst (AllByRecursion IsRunRow) (sym stands.unfilled.runs) tt;
   reminders = subst (AllByRecursion IsReminderRow) (sym stands.unfilled.reminders) tt;
@@ -347,7 +363,7 @@ rows_in_range b t lawful stands = record {
   day = subst (λ (o : Option ℕ). IfSome o IsDay) (sym stands.day) (last-day b.opening b.entries lawful);
   entries = subst (λ (n : ℕ). n ≤ 50000000) (sym stands.entries) (lawful_entries b.opening b.entries lawful);
   serial = subst (λ (n : ℕ). n ≤ 500000000000) (sym stands.serial) (lawful_serials b.opening b.entries lawful);
-  last_claim = subst (λ (n : ℕ). n ≤ 50000000) (sym stands.unfilled.last_claim) (omega arith);
+  last_claim = subst (λ (n : ℕ). n ≤ 50000000) (sym stands.last_claim) (omega (arith, claims_few b.entries, lawful_entries b.opening b.entries lawful));
   last_list = subst (λ (n : ℕ). n ≤ 50000000) (sym stands.unfilled.last_list) (omega arith);
   last_run = subst (λ (n : ℕ). n ≤ 50000000) (sym stands.unfilled.last_run) (omega arith);
   unfilled = stands.unfilled;

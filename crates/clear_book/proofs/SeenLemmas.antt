@@ -2,6 +2,7 @@
 use Rattle.std.proofs.Common.{◌≡◌, ℕ, ◌+◌, ◌*◌, ◌≤◌, List, [], ◌∷◌, length, filter, Option, Some, None, Result, Ok, Err, is_some, Bool, true, false, cond, nat_lt, refl, sym, subst, arith}
 use Rattle.std.proofs.lemmas.Bool.Decides.{nat_tests}
 use Rattle.std.specs.List.{AllByRecursion, cons_option, enumerate_from, find}
+use Rattle.std.specs.Option.{option_map_or}
 use Rattle.clear_bank.specs.declared.fault.BankFault.{BankFault}
 use Rattle.clear_values.specs.declared.lines.BankLine.{BankLine}
 use Rattle.clear_bank.specs.Files.{file_lines}
@@ -11,22 +12,31 @@ use Rattle.clear_bank.proofs.LengthLemmas.{few_lines}
 use Rattle.clear_bank.proofs.RangeLemmas.{HaveRanges, file-lines-in-range}
 use Rattle.clear_money.specs.Calendar.{IsDay}
 use Rattle.clear_book.specs.declared.calls.Command.{Command}
-use Rattle.clear_book.specs.declared.calls.Command.TheVariants.{Register, Report, Correct, ImportBank}
+use Rattle.clear_book.specs.declared.calls.Command.TheVariants.{ImportBank, Release}
 use Rattle.clear_values.specs.declared.replies.Reply.{Reply}
 use Rattle.clear_values.specs.declared.rows.BankRow.{BankRow}
+use Rattle.clear_values.specs.declared.replies.Settlement.{Settlement}
+use Rattle.clear_values.specs.declared.rows.ClaimRow.{ClaimRow}
+use Rattle.clear_values.specs.declared.rows.ClaimState.TheVariants.{Released}
 use Rattle.clear_values.specs.declared.rows.CreditRow.{CreditRow}
+use Rattle.clear_values.specs.declared.rows.ReleasedClaim.{ReleasedClaim}
 use Rattle.clear_book.specs.declared.rules.Rule.TheVariants.{DayBack}
 use Rattle.clear_book.specs.Accounts.{credit_key, credits_standing}
 use Rattle.clear_book.specs.Book.{RateTable, Book, Entry, ledger_day, member_of}
 use Rattle.clear_book.specs.Judge.{day_back, own_rule, reply_to}
 use Rattle.clear_book.specs.Laws.{IsBy}
-use Rattle.clear_book.specs.Lines.{lines_or_none, lines_in, new_lines, rows_from, lines_of_rows, rows_brought, rows_by, lines_seen, lines_standing, lines_after, credit_of_line, credits_after, credits_made, credits_of_lines, serial_count, serials_of, set_offs, set_offs_by, suspense_count, credit_count}
+use Rattle.clear_book.specs.Lines.{lines_or_none, lines_in, new_lines, rows_from, lines_of_rows, rows_brought, rows_by, lines_seen, lines_standing, lines_after, credit_of_line, credits_after, credits_made, credits_of_lines, serial_count, serials_of, set_offs, set_offs_by, set_offs_of, suspense_count, credit_count}
 use Rattle.clear_book.specs.Machine.{AreJudged, IsLawful}
-use Rattle.clear_values.specs.RowRanges.{IsCreditRow}
+use Rattle.clear_values.specs.RowRanges.{IsClaimRow, IsCreditRow}
 use Rattle.clear_book.specs.Own.ImportBank.{ahead_rule, is_ahead, import_rules}
+use Rattle.clear_book.specs.Own.Release.{debts_of, release_reply, settles}
+use Rattle.clear_book.specs.Tables.{claim_key}
+use Rattle.clear_book.specs.Workers.{claim_of, claims_of, released, released_by}
 use Rattle.clear_book.proofs.ChecksLemmas.{none_applies, when-none}
+use Rattle.clear_book.proofs.ClaimsLemmas.{claims-in-range, released_in_range}
 use Rattle.clear_book.proofs.JudgeLemmas.{unrefused}
-use Rattle.clear_values.proofs.KeyedChangesLemmas.{AllByRecursion-in_key_order}
+use Rattle.clear_values.proofs.CreditRowsLemmas.{claim_set_offs-in-range, set_offs-all}
+use Rattle.clear_values.proofs.KeyedChangesLemmas.{AllByRecursion-in_key_order, found_holds}
 use Rattle.clear_book.proofs.LimitsLemmas.{accepted, lawful_entries}
 use Rattle.clear_book.proofs.LinesLemmas.{length-rows_from, own_count, serial_count-next, standing_seen}
 use Rattle.clear_values.proofs.ListLemmas.{both, each}
@@ -64,12 +74,10 @@ lines-in-range file = told (file_lines 10000 file) (file-lines-in-range 10000 fi
     told (Err fault) h = tt
 
 by-in-range : (xs : List Entry) (seen : List BankRow) (command : Command) → AllByRecursion HasRanges (rows_by xs seen command)
-by-in-range xs seen (Register r) = tt
-by-in-range xs seen (Report r) = tt
-by-in-range xs seen (Correct c) = tt
 by-in-range xs seen (ImportBank file) =
     of_rows IsBankLine (λ e. is_some (member_of xs e)) (serials_of xs seen) (new_lines (lines_of_rows seen) (lines_in file))
     (chosen IsBankLine (is_new (lines_of_rows seen) (lines_in file)) 0 (lines_in file) (lines-in-range file))
+by-in-range xs seen command = tt
 
 -- each line that a book has seen is in range
 pub seen-in-range : (xs : List Entry) → AllByRecursion HasRanges (lines_seen xs)
@@ -99,14 +107,12 @@ placed-length n [] = refl
 placed-length n (line ∷ lines) = let rest = placed-length (n + 1) lines in omega (arith, rest)
 
 pub by-few : (xs : List Entry) (seen : List BankRow) (command : Command) → length (rows_by xs seen command) + own_count command ≤ 10000
-by-few xs seen (Register r) = omega arith
-by-few xs seen (Report r) = omega arith
-by-few xs seen (Correct c) = omega arith
 by-few xs seen (ImportBank file) =
     let known = lines_of_rows seen in
     let new = new_lines known (lines_in file) in
     let rows : length (rows_brought xs seen file) ≡ length new = length-rows_from (λ e. is_some (member_of xs e)) (serials_of xs seen) new in
     omega (arith, rows, chosen-few (is_new known (lines_in file)) (enumerate_from 0 (lines_in file)), placed-length 0 (lines_in file), file-few file)
+by-few xs seen command = omega arith
 
 serials-few : (xs : List Entry) → serial_count xs ≤ 10000 * length xs
 serials-few [] = omega arith
@@ -130,14 +136,12 @@ come t (p ∷ new) h = told (nat_lt t p.1.value) refl h (come t new)
     told false is k rest = (within is, rest k)
 
 by-come : (b : Book) (t : ℕ) (command : Command) → own_rule b t command ≡ None → AllByRecursion (λ row. row.line.value ≤ t) (rows_by b.entries (lines_seen b.entries) command)
-by-come b t (Register r) own = tt
-by-come b t (Report r) own = tt
-by-come b t (Correct c) own = tt
 by-come b t (ImportBank file) own =
     let seen = lines_seen b.entries in
     let new = new_lines (lines_of_rows seen) (lines_in file) in
     let none = none_applies (import_rules (lines_of_rows seen) (rows_brought b.entries seen file) (suspense_count (lines_after b.entries file)) (credit_count (credits_after b.entries file)) t file) own in
     of_rows (λ line. line.value ≤ t) (λ e. is_some (member_of b.entries e)) (serial_count b.entries) new (come t new none.1.1.0)
+by-come b t command own = tt
 
 -- a day that had come by the ledger day has come by a later one
 still_by : (ledger : Option ℕ) (t v : ℕ) → day_back ledger t ≡ None → IsBy ledger v → v ≤ t
@@ -174,19 +178,35 @@ of_standing P xs h = subst (AllByRecursion P) (sym (standing_seen xs)) h
 
 -- ---- set-offs
 
+-- what holds of the set-offs of a claim that is released with a reply, whichever claim has the number
+by_claim : (Q : CreditRow → Type 0) (b : Book) (t number : ℕ) (reply : Reply) → reply_to b t (Release number) ≡ reply
+    → ((claim : ClaimRow) → claim_of b.entries number ≡ Some claim → release_reply (Some claim) (λ row. debts_of b t row.employer) ≡ reply → AllByRecursion Q (set_offs_of (released_by t reply claim) (serial_count b.entries + 1)))
+    → AllByRecursion Q (set_offs_by b.entries t reply (Release number))
+by_claim Q b t number reply replied each = told (claim_of b.entries number) refl replied
+  where
+    told : (o : Option ClaimRow) → claim_of b.entries number ≡ o → release_reply o (λ row. debts_of b t row.employer) ≡ reply → AllByRecursion Q (option_map_or (λ claim. set_offs_of (released_by t reply claim) (serial_count b.entries + 1)) o [])
+    told None is said = tt
+    told (Some claim) is said = each claim is said
+
 -- a set-off is of the day on which its command was accepted
-set_off-days : (xs : List Entry) (t : ℕ) (reply : Reply) (command : Command) → AllByRecursion (λ credit. credit.day ≡ t) (set_offs_by xs t reply command)
-set_off-days xs t reply (Register r) = tt
-set_off-days xs t reply (Report r) = tt
-set_off-days xs t reply (Correct c) = tt
-set_off-days xs t reply (ImportBank file) = tt
+set_off-days : (b : Book) (t : ℕ) (reply : Reply) (command : Command) → reply_to b t command ≡ reply → AllByRecursion (λ credit. credit.day ≡ t) (set_offs_by b.entries t reply command)
+set_off-days b t reply (Release number) replied =
+    by_claim (λ credit. credit.day ≡ t) b t number reply replied
+    (λ claim is said. subst (λ (r : Reply). AllByRecursion (λ credit. credit.day ≡ t) (set_offs_of (released_by t r claim) (serial_count b.entries + 1))) said
+    (set_offs-all (λ credit. credit.day ≡ t) (released t (settles (debts_of b t claim.employer) claim) claim) (serial_count b.entries + 1) (λ release same. (λ some. day release same, λ some. day release same))))
+  where
+    day : {settlement : Settlement} (release : ReleasedClaim) → Released (record { day = t; settlement = settlement; list = None }) ≡ Released release → release.day ≡ t
+    day release same = cc same
+set_off-days b t reply command replied = tt
 
 -- and in range
-set_off-in-range : (b : Book) (t : ℕ) (reply : Reply) (command : Command) → IsLawful b → IsDay t → own_rule b t command ≡ None → reply_to b t command ≡ reply → AllByRecursion IsCreditRow (set_offs_by b.entries t reply command)
-set_off-in-range b t reply (Register r) lawful day own replied = tt
-set_off-in-range b t reply (Report r) lawful day own replied = tt
-set_off-in-range b t reply (Correct c) lawful day own replied = tt
-set_off-in-range b t reply (ImportBank file) lawful day own replied = tt
+set_off-in-range : (b : Book) (t : ℕ) (reply : Reply) (command : Command) → IsLawful b → IsDay t → reply_to b t command ≡ reply → serial_count b.entries + own_count command ≤ 500000000000 → AllByRecursion IsCreditRow (set_offs_by b.entries t reply command)
+set_off-in-range b t reply (Release number) lawful day replied room =
+    by_claim IsCreditRow b t number reply replied
+    (λ claim is said. claim_set_offs-in-range (released_by t reply claim) (serial_count b.entries + 1)
+    (released_in_range t reply (λ row. debts_of b t row.employer) claim day said (found_holds claim_key IsClaimRow (claims_of b.entries) (number ∷ []) claim (claims-in-range b.opening b.entries lawful) is))
+    (omega arith, omega (arith, room)))
+set_off-in-range b t reply command lawful day replied room = tt
 
 pub set_offs-in-range : (rates : RateTable) (xs : List Entry) → AreJudged rates xs → AllByRecursion IsCreditRow (set_offs xs)
 set_offs-in-range rates [] h = tt
@@ -194,16 +214,17 @@ set_offs-in-range rates (x ∷ xs) h =
     let b : Book = record { opening = rates; entries = xs } in
     let said = unrefused b x.caller x.number x.day x.command x.reply h.2 in
     both IsCreditRow (set_offs xs) (set_offs_by xs x.day x.reply x.command) (set_offs-in-range rates xs h.0)
-    (set_off-in-range b x.day x.reply x.command h.0 h.1.2 said.unruled said.replied)
+    (set_off-in-range b x.day x.reply x.command h.0 h.1.2 said.replied (omega (arith, lawful_serials rates (x ∷ xs) h, serial_count-next xs x)))
 
 set_offs-come : (rates : RateTable) (xs : List Entry) → AreJudged rates xs → AllByRecursion (λ credit. IsBy (ledger_day xs) credit.day) (set_offs xs)
 set_offs-come rates [] h = tt
 set_offs-come rates (x ∷ xs) h =
     let b : Book = record { opening = rates; entries = xs } in
-    let order = (unrefused b x.caller x.number x.day x.command x.reply h.2).in_order in
+    let said = unrefused b x.caller x.number x.day x.command x.reply h.2 in
+    let order = said.in_order in
     both (λ credit. credit.day ≤ x.day) (set_offs xs) (set_offs_by xs x.day x.reply x.command)
     (each (λ (credit : CreditRow). IsBy (ledger_day xs) credit.day) (λ credit. credit.day ≤ x.day) (λ credit by. still_by (ledger_day xs) x.day credit.day order by) (set_offs xs) (set_offs-come rates xs h.0))
-    (each (λ (credit : CreditRow). credit.day ≡ x.day) (λ credit. credit.day ≤ x.day) (λ credit is. omega (arith, is)) (set_offs_by xs x.day x.reply x.command) (set_off-days xs x.day x.reply x.command))
+    (each (λ (credit : CreditRow). credit.day ≡ x.day) (λ credit. credit.day ≤ x.day) (λ credit is. omega (arith, is)) (set_offs_by xs x.day x.reply x.command) (set_off-days b x.day x.reply x.command said.replied))
 
 -- ---- all credits
 

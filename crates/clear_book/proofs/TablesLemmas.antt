@@ -1,5 +1,5 @@
 -- The tables of a book, after a registration more.
-use Rattle.std.proofs.Common.{◌≡◌, ℕ, List, ◌∷◌, [], Option, Some, None, Bool, true, false, cond, ◌&&◌, ◌==◌, refl, sym, ap, ◌∙◌, subst, arith}
+use Rattle.std.proofs.Common.{◌≡◌, ℕ, List, ◌∷◌, [], length, Option, Some, None, Bool, true, false, cond, ◌&&◌, ◌==◌, refl, sym, ap, ◌∙◌, subst, arith}
 use Rattle.std.proofs.lemmas.List.{append-nil}
 use Rattle.std.proofs.lemmas.List.Sums.{sum_by-cons}
 use Rattle.std.specs.Option.{option_map}
@@ -9,6 +9,7 @@ use Rattle.clear_book.specs.declared.calls.Call.TheVariants.{Do}
 use Rattle.clear_book.specs.declared.calls.Registration.{Registration}
 use Rattle.clear_values.specs.declared.replies.Reply.{Reply}
 use Rattle.clear_values.specs.declared.rows.BankRow.{BankRow}
+use Rattle.clear_values.specs.declared.rows.ClaimRow.{ClaimRow}
 use Rattle.clear_values.specs.declared.rows.CreditRow.{CreditRow}
 use Rattle.clear_values.specs.declared.rows.EmployerRow.{EmployerRow}
 use Rattle.clear_values.specs.declared.rows.Change.TheVariants.{AddEmployer}
@@ -19,6 +20,7 @@ use Rattle.clear_book.specs.Own.Register.{own_register}
 use Rattle.clear_values.specs.Keyed.{find_row}
 use Rattle.clear_book.specs.Machine.{step, after, appended}
 use Rattle.clear_book.specs.Tables.{Tables, Stands, employer_key, bank_key, changed, noted, member_in}
+use Rattle.clear_book.proofs.ClaimsLemmas.{claims_left}
 use Rattle.clear_book.proofs.JudgeLemmas.{unrefused}
 use Rattle.clear_values.proofs.KeyedLemmas.{find_row-with_row, length-with_row, AreInOrder-with_row}
 use Rattle.clear_book.proofs.LinesLemmas.{none_moved, none_taken}
@@ -78,8 +80,10 @@ module _ (b : Book) (t : Tables) (stands : Stands b t) (caller : Caller) (number
       credits_in_order = stands.credits_in_order;
       requests = requests_found b t stands registration no_number;
       requests_in_order = requests_still_in_order b t stands registration no_number;
+      claims = stands.claims ∙ sym (claims_left b.entries registration (record { kept = λ claim. refl; none = λ last. refl }));
+      last_claim = stands.last_claim ∙ sym (ap (λ (claims : List ClaimRow). length claims) (claims_left b.entries registration (record { kept = λ claim. refl; none = λ last. refl })));
       serial = stands.serial ∙ sym (none_taken b.entries registration refl refl);
-      unfilled = let unfilled = stands.unfilled in record { claims = unfilled.claims; lists = unfilled.lists; runs = unfilled.runs; reminders = unfilled.reminders; last_claim = unfilled.last_claim; last_list = unfilled.last_list; last_run = unfilled.last_run };
+      unfilled = let unfilled = stands.unfilled in record { lists = unfilled.lists; runs = unfilled.runs; reminders = unfilled.reminders; last_list = unfilled.last_list; last_run = unfilled.last_run };
     }
 
     pub Stands-registered : (name : List ℕ) → name ≡ r.name → Stands (step b (Do caller number day (Register r))) (noted registration (changed (AddEmployer (record { employer = r.employer; name = name; start = r.start; last = None })) t))

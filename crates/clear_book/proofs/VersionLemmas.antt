@@ -4,7 +4,7 @@ use Rattle.std.proofs.lemmas.Bool.Decides.{nat_tests}
 use Rattle.std.proofs.lemmas.List.Sums.{sum_by-cons}
 use Rattle.std.specs.Option.{option_map}
 use Rattle.clear_book.specs.declared.calls.Command.{Command}
-use Rattle.clear_book.specs.declared.calls.Command.TheVariants.{Register, Report, Correct, ImportBank}
+use Rattle.clear_book.specs.declared.calls.Command.TheVariants.{Report, Correct}
 use Rattle.clear_book.specs.declared.calls.Correction.{Correction}
 use Rattle.clear_book.specs.declared.rules.Limit.TheVariants.{Versions}
 use Rattle.clear_book.specs.declared.rules.Rule.TheVariants.{OverLimit, StaleVersion}
@@ -103,8 +103,6 @@ key_is a b c d h = (grind (arith, nat_tests), grind (arith, nat_tests))
 
 -- the month that a command reports has room for one more
 few_before : (b : Book) (t : ℕ) (command : Command) (e m : ℕ) → own_rule b t command ≡ None → is_report_of e m command ≡ true → version_of b.entries e m < 10000
-few_before b t (Register r) e m own is = absurd (cc)
-few_before b t (ImportBank file) e m own is = absurd (cc)
 few_before b t (Report r) e m own is =
     let same = key_is r.employer e r.month m (sym (is_some-cond (is_for e m r) r.lines) ∙ is) in
     let none = unreported (member_of b.entries r.employer) (reported_version b.entries r.employer r.month) t r.month r.lines own in
@@ -115,6 +113,7 @@ few_before b t (Correct c) e m own is =
     let there = corrected (member_of b.entries c.report.employer) (reported_version b.entries c.report.employer c.report.month) t c own in
     let now : version_of b.entries c.report.employer c.report.month ≡ c.version = reported_some b.entries c.report.employer c.report.month c.version there.0 in
     subst (λ (p : ℕ × ℕ). version_of b.entries p.0 p.1 < 10000) (λ i. (same.0 i, same.1 i)) (omega (arith, now, there.1))
+few_before b t command e m own is = absurd (cc)
 
 pub lawful_versions : (rates : RateTable) (xs : List Entry) → AreJudged rates xs → (e m : ℕ) → version_of xs e m ≤ 10000
 lawful_versions rates [] h e m = omega arith

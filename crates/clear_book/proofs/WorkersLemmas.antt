@@ -1,27 +1,22 @@
--- The employers of a lawful book, and the numbers of claims.
-use Rattle.std.proofs.Common.{◌≡◌, ℕ, ◌+◌, List, [], ◌∷◌, ◌++◌, length, map, Option, Some, None, is_some, Bool, true, false, cond, ◌&&◌, ◌==◌, refl, sym, ap, ◌∙◌, subst, arith, length-append}
-use Rattle.std.proofs.lemmas.List.{length-map, map-append}
+-- The employers of a lawful book.
+use Rattle.std.proofs.Common.{◌≡◌, ℕ, ◌+◌, List, [], ◌∷◌, length, Option, Some, None, is_some, Bool, true, false, cond, ◌&&◌, ◌==◌, refl, sym, ap, ◌∙◌, subst, arith}
 use Rattle.std.proofs.lemmas.List.Sums.{sum_by-cons}
-use Rattle.std.specs.List.{cons_option, range_with_len}
+use Rattle.std.specs.List.{cons_option}
 use Rattle.std.specs.Option.{option_map}
 use Rattle.std.specs.Prelude.{option_and_then}
 use Rattle.clear_money.specs.Rates.{rate_in_force}
 use Rattle.clear_book.specs.declared.calls.Command.{Command}
-use Rattle.clear_book.specs.declared.calls.Command.TheVariants.{Register, Report, Correct, ImportBank}
+use Rattle.clear_book.specs.declared.calls.Command.TheVariants.{Register}
 use Rattle.clear_book.specs.declared.calls.Registration.{Registration}
-use Rattle.clear_values.specs.declared.replies.Reply.{Reply}
-use Rattle.clear_values.specs.declared.rows.ClaimRow.{ClaimRow}
 use Rattle.clear_book.specs.Book.{RateTable, Book, Entry, Member, rates_of, newer, registration_in, member_by, member_of, employer_count}
 use Rattle.clear_book.specs.Judge.{own_rule}
 use Rattle.clear_values.specs.Keyed.{find_row, with_row, with_rows, AreOnce}
-use Rattle.clear_book.specs.Laws.{AreEmployers, AreNumbered}
+use Rattle.clear_book.specs.Laws.{AreEmployers}
 use Rattle.clear_book.specs.Machine.{AreJudged, IsLawful}
-use Rattle.clear_book.specs.Workers.{registered_in, number_key, claims_by, claim_after, claims_of}
+use Rattle.clear_book.specs.Workers.{registered_in, number_key}
 use Rattle.clear_values.proofs.KeyedLemmas.{length-with_row}
 use Rattle.clear_values.proofs.KeyedRowsLemmas.{AreInOrder-in_key_order, find_row-in_key_order}
 use Rattle.clear_book.proofs.LimitsLemmas.{accepted}
-use Rattle.clear_book.proofs.LinesLemmas.{range_with_len-append}
-use Rattle.clear_book.proofs.SerialLemmas.{follow-in_order}
 use Rattle.clear_book.proofs.RatesLemmas.{new_and_rated}
 use Rattle.clear_book.proofs.VersionLemmas.{no_some}
 
@@ -50,9 +45,7 @@ no_member b t (Register q) r own is =
     let same : q ≡ r = cc is in
     subst (λ (s : Registration). is_some (member_of b.entries s.employer) ≡ false) same
     (new_and_rated (is_some (member_of b.entries q.employer)) (employer_count b.entries) (is_some (rate_in_force (rates_of b) q.start)) own).0
-no_member b t (Report q) r own is = absurd (cc is)
-no_member b t (Correct c) r own is = absurd (cc is)
-no_member b t (ImportBank file) r own is = absurd (cc is)
+no_member b t command r own is = absurd (cc is)
 
 -- so each is registered once
 registered_once : (rates : RateTable) (xs : List Entry) → AreJudged rates xs → AreOnce number_key (registered_in xs)
@@ -89,42 +82,3 @@ employers_right b lawful =
           ∙ found_employer b.entries e;
       count = omega (arith, length-with_rows [] (registered_in b.entries), registered_count b.entries);
     }
-
--- ---- claims
-
-abbrev claim_no : ClaimRow → ℕ
-claim_no claim = claim.claim
-
--- no command changes the number of a claim
-same_number : (t : ℕ) (reply : Reply) (command : Command) (claim : ClaimRow) → (claim_after t reply command claim).claim ≡ claim.claim
-same_number t reply (Register r) claim = refl
-same_number t reply (Report r) claim = refl
-same_number t reply (Correct c) claim = refl
-same_number t reply (ImportBank file) claim = refl
-
-same_numbers : (t : ℕ) (reply : Reply) (command : Command) (claims : List ClaimRow) → map claim_no (map (claim_after t reply command) claims) ≡ map claim_no claims
-same_numbers t reply command [] = refl
-same_numbers t reply command (claim ∷ claims) = λ i. same_number t reply command claim i ∷ same_numbers t reply command claims i
-
--- the claims that a command makes take the next numbers
-next_numbers : (last t : ℕ) (command : Command) → map claim_no (claims_by last t command) ≡ range_with_len (last + 1) (length (claims_by last t command))
-next_numbers last t (Register r) = refl
-next_numbers last t (Report r) = refl
-next_numbers last t (Correct c) = refl
-next_numbers last t (ImportBank file) = refl
-
-numbers_are : (xs : List Entry) → map claim_no (claims_of xs) ≡ range_with_len 1 (length (claims_of xs))
-numbers_are [] = refl
-numbers_are (x ∷ xs) =
-    joined (map (claim_after x.day x.reply x.command) (claims_of xs)) (claims_by (length (claims_of xs)) x.day x.command) (length (claims_of xs)) (length-map (claims_of xs) (claim_after x.day x.reply x.command))
-    (same_numbers x.day x.reply x.command (claims_of xs) ∙ numbers_are xs) (next_numbers (length (claims_of xs)) x.day x.command)
-  where
-    joined : (old new : List ClaimRow) (n : ℕ) → length old ≡ n → map claim_no old ≡ range_with_len 1 n → map claim_no new ≡ range_with_len (n + 1) (length new) → map claim_no (old ++ new) ≡ range_with_len 1 (length (old ++ new))
-    joined old new n count e k =
-        map-append claim_no old new
-        ∙ (λ i. e i ++ k i)
-        ∙ (let start : n + 1 ≡ 1 + n = omega arith in ap (λ a. range_with_len 1 n ++ range_with_len a (length new)) start)
-        ∙ sym (range_with_len-append 1 n (length new) (length (old ++ new)) (length-append old new ∙ ap (λ m. m + length new) count))
-
-pub claims_numbered : (xs : List Entry) → AreNumbered (claims_of xs)
-claims_numbered xs = record { numbers = numbers_are xs; order = follow-in_order claim_no 1 (length (claims_of xs)) (claims_of xs) (numbers_are xs) }

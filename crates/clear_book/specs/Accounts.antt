@@ -1,6 +1,6 @@
 -- What a firm owes: the contributions for its latest reports, what it has paid, what is in arrears
 -- on a day, and which reports are missing.
-use Rattle.std.specs.Prelude.{ℕ, ◌-◌, List, [], ◌∷◌, Option, Some, None, Bool, false, ◌&&◌}
+use Rattle.std.specs.Prelude.{ℕ, ◌-◌, List, Option, Some, None, Bool, false, ◌&&◌}
 use Rattle.std.specs.Prelude.{filter, is_none, map, nat_lt, sum_by}
 use Rattle.std.specs.Option.{option_map_or}
 use Rattle.std.specs.List.{filter_map}

@@ -1,17 +1,17 @@
 -- The book: the opening rates and the accepted requests, and what is read off it.
-use Rattle.std.specs.Prelude.{ℕ, List, [], ◌∷◌, ◌++◌, Option, Some, None, Bool, true, false}
-use Rattle.std.specs.Prelude.{◌&&◌, ◌==◌, if◌then◌else◌, count_by, is_some, nat_le}
+use Rattle.std.specs.Prelude.{ℕ, List, [], ◌∷◌, ◌++◌, Option, Some, None, Bool}
+use Rattle.std.specs.Prelude.{◌&&◌, ◌==◌, if◌then◌else◌, count_by, is_some}
 use Rattle.std.specs.Prelude.{option_and_then}
-use Rattle.std.specs.Option.{option_map, option_map_or}
+use Rattle.std.specs.Option.{option_map}
 use Rattle.clear_money.specs.Rates.{Rate}
 use Rattle.clear_values.specs.declared.texts.WageLine.{WageLine}
 use Rattle.clear_book.specs.declared.calls.Call.{Call}
 use Rattle.clear_book.specs.declared.calls.Call.TheVariants.{Do}
 use Rattle.clear_values.specs.declared.callers.Caller.{Caller}
-use Rattle.clear_values.specs.declared.callers.Caller.TheVariants.{Firm, Clerk}
 use Rattle.clear_book.specs.declared.calls.Command.{Command}
 use Rattle.clear_book.specs.declared.calls.Command.TheVariants.{Register, Report, Correct}
 use Rattle.clear_book.specs.declared.calls.Command.TheVariants.{ImportBank}
+use Rattle.clear_book.specs.declared.calls.Command.TheVariants.{Claim, Withdraw, Release}
 use Rattle.clear_book.specs.declared.calls.Registration.{Registration}
 use Rattle.clear_book.specs.declared.calls.WageReport.{WageReport}
 use Rattle.clear_values.specs.declared.replies.Reply.{Reply}
@@ -66,6 +66,9 @@ rates_added (Register r) = []
 rates_added (Report r) = []
 rates_added (Correct c) = []
 rates_added (ImportBank file) = []
+rates_added (Claim c) = []
+rates_added (Withdraw w) = []
+rates_added (Release claim) = []
 
 -- the rows of a table, and behind them those that entries add
 abbrev pub rates_behind : RateTable → List Entry → List Rate
@@ -79,9 +82,7 @@ rates_of b = rates_behind b.opening b.entries
 -- the registration that a command is
 abbrev pub registration_in : Command → Option Registration
 registration_in (Register r) = Some r
-registration_in (Report r) = None
-registration_in (Correct c) = None
-registration_in (ImportBank file) = None
+registration_in command = None
 
 -- what a registration makes of an employer, if it is the employer's
 abbrev pub member_by : ℕ → Registration → Option Member
@@ -111,10 +112,9 @@ is_for e m r = (r.employer == e) && (r.month == m)
 
 -- the report that a command brings, be it the first of its month or a correction
 abbrev pub report_in : Command → Option WageReport
-report_in (Register r) = None
 report_in (Report r) = Some r
 report_in (Correct c) = Some c.report
-report_in (ImportBank file) = None
+report_in command = None
 
 -- the lines of a report, if it is the employer's and the month's
 abbrev pub lines_for : ℕ → ℕ → WageReport → Option (List WageLine)

@@ -7,33 +7,40 @@ use Rattle.std.specs.List.{flat_map, AllByRecursion}
 use Rattle.std.specs.Fmt.{decimal}
 use Rattle.clear_money.specs.Texts.{month_text}
 use Rattle.clear_money.specs.Calendar.{IsMonth, IsDay}
-use Rattle.clear_money.specs.Numbers.{IsEmployerNo, IsWorkerNo}
+use Rattle.clear_money.specs.Numbers.{IsAmount, IsEmployerNo, IsWorkerNo}
 use Rattle.clear_values.specs.declared.callers.Caller.{Caller}
 use Rattle.clear_values.specs.declared.callers.Caller.TheVariants.{Firm, Clerk}
 use Rattle.clear_values.specs.declared.texts.WageLine.{WageLine}
-use Rattle.clear_values.specs.Numbers.{IsRequestNo}
+use Rattle.clear_values.specs.Numbers.{IsClaimNo, IsRequestNo}
 use Rattle.clear_values.specs.Ranges.{IsCaller}
 use Rattle.clear_values.specs.Texts.{IsName}
 use Rattle.clear_book.specs.declared.calls.Command.{Command}
 use Rattle.clear_book.specs.declared.calls.Command.TheVariants.{Register, Report, Correct}
 use Rattle.clear_book.specs.declared.calls.Command.TheVariants.{ImportBank}
+use Rattle.clear_book.specs.declared.calls.Command.TheVariants.{Claim, Withdraw, Release}
 use Rattle.clear_book.specs.declared.calls.Query.{Query}
 use Rattle.clear_book.specs.declared.calls.Query.TheVariants.{Owed, Statement}
 use Rattle.clear_book.specs.declared.calls.Correction.{Correction}
+use Rattle.clear_book.specs.declared.calls.HolidayClaim.{HolidayClaim}
 use Rattle.clear_book.specs.declared.calls.Registration.{Registration}
 use Rattle.clear_book.specs.declared.calls.WageReport.{WageReport}
+use Rattle.clear_book.specs.declared.calls.Withdrawal.{Withdrawal}
 use Rattle.clear_book.specs.declared.calls.Call.{Call}
 use Rattle.clear_book.specs.declared.calls.Call.TheVariants.{Do, Ask}
 
 -- ---- who may make it
 
--- a firm may report its own wages and correct its reports, and give no other command
+-- a firm may report its own wages, correct its reports, claim holiday pay back and withdraw its
+-- claims, and give no other command
 abbrev pub may_do : Caller → Command → Bool
 may_do Clerk command = true
 may_do (Firm e) (Register r) = false
 may_do (Firm e) (Report r) = e == r.employer
 may_do (Firm e) (Correct c) = e == c.report.employer
 may_do (Firm e) (ImportBank file) = false
+may_do (Firm e) (Claim c) = e == c.employer
+may_do (Firm e) (Withdraw w) = e == w.employer
+may_do (Firm e) (Release claim) = false
 
 -- a firm may ask what it owes itself
 abbrev pub may_query : Caller → Query → Bool
@@ -56,30 +63,38 @@ same_report r s =
 abbrev pub is_registration_of : Registration → Command → Bool
 is_registration_of r (Register s) =
     (r.employer == s.employer) && bytes_eq r.name s.name && (r.start == s.start)
-is_registration_of r (Report s) = false
-is_registration_of r (Correct d) = false
-is_registration_of r (ImportBank g) = false
+is_registration_of r command = false
 
 -- the same report
 abbrev pub reports_the_same : WageReport → Command → Bool
-reports_the_same r (Register s) = false
 reports_the_same r (Report s) = same_report r s
-reports_the_same r (Correct d) = false
-reports_the_same r (ImportBank g) = false
+reports_the_same r command = false
 
 -- the same report in the place of the same version
 abbrev pub corrects_the_same : Correction → Command → Bool
-corrects_the_same c (Register s) = false
-corrects_the_same c (Report s) = false
 corrects_the_same c (Correct d) = same_report c.report d.report && (c.version == d.version)
-corrects_the_same c (ImportBank g) = false
+corrects_the_same c command = false
 
 -- the same bytes of a bank file
 abbrev pub imports_the_same : List ℕ → Command → Bool
-imports_the_same f (Register s) = false
-imports_the_same f (Report s) = false
-imports_the_same f (Correct d) = false
 imports_the_same f (ImportBank g) = bytes_eq f g
+imports_the_same f command = false
+
+-- the claim of the same employer for the same worker and the same cents
+abbrev pub claims_the_same : HolidayClaim → Command → Bool
+claims_the_same c (Claim d) =
+    (c.employer == d.employer) && (c.worker == d.worker) && (c.cents == d.cents)
+claims_the_same c command = false
+
+-- the withdrawal of the same claim by the same employer
+abbrev pub withdraws_the_same : Withdrawal → Command → Bool
+withdraws_the_same w (Withdraw v) = (w.employer == v.employer) && (w.claim == v.claim)
+withdraws_the_same w command = false
+
+-- the release of the same claim
+abbrev pub releases_the_same : ℕ → Command → Bool
+releases_the_same claim (Release other) = claim == other
+releases_the_same claim command = false
 
 -- the same kind of command, and each of its values the same
 abbrev pub same_command : Command → Command → Bool
@@ -87,6 +102,9 @@ same_command (Register r) command = is_registration_of r command
 same_command (Report r) command = reports_the_same r command
 same_command (Correct c) command = corrects_the_same c command
 same_command (ImportBank f) command = imports_the_same f command
+same_command (Claim c) command = claims_the_same c command
+same_command (Withdraw w) command = withdraws_the_same w command
+same_command (Release claim) command = releases_the_same claim command
 
 -- ---- the kept bytes
 
@@ -110,6 +128,12 @@ command_bytes (Correct c) =
     codes "correct " ++ decimal c.report.employer ++ codes " " ++ month_text c.report.month
     ++ codes " " ++ decimal c.version ++ lines_text c.report.lines
 command_bytes (ImportBank file) = codes "bank " ++ file
+command_bytes (Claim c) =
+    codes "claim " ++ decimal c.employer ++ codes " " ++ decimal c.worker
+    ++ codes " " ++ decimal c.cents
+command_bytes (Withdraw w) =
+    codes "withdraw " ++ decimal w.employer ++ codes " " ++ decimal w.claim
+command_bytes (Release claim) = codes "release " ++ decimal claim
 
 -- ---- values
 
@@ -128,6 +152,9 @@ IsCommand (Register r) = IsEmployerNo r.employer × IsName r.name × IsMonth r.s
 IsCommand (Report r) = IsReport r
 IsCommand (Correct c) = (c.version < 2 ^ 32) × IsReport c.report
 IsCommand (ImportBank file) = Unit {0}
+IsCommand (Claim c) = IsEmployerNo c.employer × IsWorkerNo c.worker × IsAmount c.cents
+IsCommand (Withdraw w) = IsEmployerNo w.employer × IsClaimNo w.claim
+IsCommand (Release claim) = IsClaimNo claim
 
 -- the values of a query
 abbrev pub IsQuery : Query → Type 0

@@ -1,8 +1,10 @@
 -- Short names for the values of examples.
-use Rattle.std.specs.Prelude.{ℕ}
+use Rattle.std.specs.Prelude.{ℕ, List, [], ◌∷◌, Option, Some, None, codes}
 use Rattle.clear_account.specs.declared.entries.Charge.{Charge}
 use Rattle.clear_account.specs.declared.entries.Credit.{Credit}
 use Rattle.clear_account.specs.declared.entries.Piece.{Piece}
+use Rattle.clear_values.specs.declared.lines.Purpose.TheVariants.{Contribution}
+use Rattle.clear_values.specs.declared.rows.BankRow.{BankRow}
 
 -- January 2024, as a number
 abbrev pub january : ℕ
@@ -23,3 +25,23 @@ credit serial cents = record { day = 0; serial = serial; cents = cents }
 -- so many cents of the payment of a serial, for a month
 abbrev pub piece : ℕ → ℕ → ℕ → Piece
 piece month serial cents = record { month = month; serial = serial; cents = cents }
+
+-- a line for contributions with a serial, of a firm or in suspense, its value date left open
+abbrev pub line : Option ℕ → ℕ → ℕ → BankRow
+line firm serial cents =
+    record {
+      line = record {
+        reference = codes "E2E";
+        value = 0;
+        employer = firm;
+        cents = cents;
+        purpose = Contribution;
+        note = [];
+      };
+      serial = serial;
+      employer = firm;
+    }
+
+-- two lines, one of firm 1001 and one in suspense
+abbrev pub two_lines : List BankRow
+two_lines = line (Some 1001) 1 250000 ∷ line None 2 50000 ∷ []

@@ -9,6 +9,7 @@ use Rattle.clear_book.specs.declared.calls.Call.TheVariants.{Do, Ask}
 use Rattle.clear_book.specs.declared.calls.Command.{Command}
 use Rattle.clear_book.specs.declared.calls.Command.TheVariants.{Register, Report, Correct}
 use Rattle.clear_book.specs.declared.calls.Command.TheVariants.{ImportBank}
+use Rattle.clear_book.specs.declared.calls.Command.TheVariants.{Claim, Withdraw, Release}
 use Rattle.clear_book.specs.declared.calls.Query.{Query}
 use Rattle.clear_book.specs.declared.calls.Query.TheVariants.{Owed, Statement}
 use Rattle.clear_book.specs.declared.outcomes.Answer.{Answer}
@@ -29,12 +30,16 @@ use Rattle.clear_book.specs.Calls.{same_command}
 use Rattle.clear_values.specs.Limits.{most_entries}
 use Rattle.clear_book.specs.Lines.{credit_count, credits_after, lines_after, lines_of_rows}
 use Rattle.clear_book.specs.Lines.{lines_seen, rows_brought, suspense_count}
+use Rattle.clear_book.specs.Own.Claim.{own_claim, claim_reply}
 use Rattle.clear_book.specs.Own.Correct.{own_correct, correct_reply}
 use Rattle.clear_book.specs.Own.ImportBank.{own_import, import_reply}
 use Rattle.clear_book.specs.Own.Owed.{own_owed, owed_by}
 use Rattle.clear_book.specs.Own.Register.{own_register, register_reply}
+use Rattle.clear_book.specs.Own.Release.{debts_of, own_release, release_reply}
 use Rattle.clear_book.specs.Own.Report.{own_report, report_reply}
 use Rattle.clear_book.specs.Own.Statement.{own_statement, firm_on, statement_of}
+use Rattle.clear_book.specs.Own.Withdraw.{own_withdraw, withdraw_reply}
+use Rattle.clear_book.specs.Workers.{balance_of, claim_of, claims_of, is_employed}
 
 -- what is said of a call: a reply to a new request, the reply that stands for one already, the
 -- answer to a query, or the rule that refuses it
@@ -75,6 +80,14 @@ own_rule b t (ImportBank file) =
     (rows_brought b.entries (lines_seen b.entries) file)
     (suspense_count (lines_after b.entries file)) (credit_count (credits_after b.entries file))
     t file
+own_rule b t (Claim c) =
+    own_claim (is_some (member_of b.entries c.employer)) (is_employed b c.employer c.worker)
+    (balance_of b c.worker) c.cents
+own_rule b t (Withdraw w) =
+    own_withdraw (is_some (member_of b.entries w.employer)) w.employer
+    (claim_of b.entries w.claim)
+own_rule b t (Release claim) =
+    own_release (claim_of b.entries claim) (λ row. debts_of b t row.employer)
 
 -- the reply, on a day, to a command that no rule refuses
 abbrev pub reply_to : Book → ℕ → Command → Reply
@@ -83,6 +96,10 @@ reply_to b t (Report r) = report_reply (rate_in_force (rates_of b) r.month) r.li
 reply_to b t (Correct c) = correct_reply c (rate_in_force (rates_of b) c.report.month)
 reply_to b t (ImportBank file) =
     import_reply (rows_brought b.entries (lines_seen b.entries) file) file
+reply_to b t (Claim c) = claim_reply (length (claims_of b.entries))
+reply_to b t (Withdraw w) = withdraw_reply
+reply_to b t (Release claim) =
+    release_reply (claim_of b.entries claim) (λ row. debts_of b t row.employer)
 
 -- the first of a query's own rules that applies
 abbrev pub own_query : Book → Query → Option Rule

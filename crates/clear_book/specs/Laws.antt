@@ -12,11 +12,11 @@ use Rattle.clear_book.specs.Accounts.{interest_credits_of, credits_standing}
 use Rattle.clear_values.specs.Keyed.{find_row, AreInOrder, AreOnce}
 use Rattle.clear_values.specs.Limits.{most_entries, most_lines, most_gross, most_base, most_charged}
 use Rattle.clear_values.specs.Limits.{most_credits, most_credited, most_suspense, most_serials}
-use Rattle.clear_values.specs.Limits.{most_versions}
+use Rattle.clear_values.specs.Limits.{most_versions, most_entitled, most_claimed}
 use Rattle.clear_book.specs.Lines.{lines_seen, lines_standing, suspense_count, serial_count}
 use Rattle.clear_book.specs.Lines.{serial_key, serials_given}
 use Rattle.clear_book.specs.Tables.{bank_key, claim_key}
-use Rattle.clear_book.specs.Workers.{employers_of, number_key}
+use Rattle.clear_book.specs.Workers.{claimed, employers_of, entitlement_of, number_key}
 
 -- the limits on a report's lines
 pub record AreFew (lines : List WageLine) : Type 0 where
@@ -48,6 +48,8 @@ pub record IsSmall (b : Book) : Type 0 where
   pub serials : serial_count b.entries ≤ most_serials
   pub days : AllByRecursion (λ row. IsBy (ledger_day b.entries) row.day)
       (credits_standing b.entries)
+  pub entitlement : (w : ℕ) → entitlement_of b w ≤ most_entitled
+  pub claimed : (w : ℕ) → claimed b w ≤ most_claimed
 
 -- of the bank lines and the releases of a book, in the order of its entries, the first takes serial
 -- 1 and each further one the next; so those of the lines rise; and no reference stands twice

@@ -2,6 +2,7 @@ pub mod Accounts
 pub mod Book
 pub mod Calls
 pub mod Checks
+pub mod Conserved
 pub mod Documents
 pub mod Examples
 pub mod Judge
@@ -11,6 +12,7 @@ pub mod Machine
 pub mod Own
 pub mod Pieces
 pub mod Reached
+pub mod Released
 pub mod Rules
 pub mod Tables
 pub mod Workers

@@ -1,25 +1,25 @@
 -- Bank lines: those that a book has seen, and those that a file brings to it; the serials of lines
 -- and releases; the credits that lines and set-offs are.
 use Rattle.std.specs.Prelude.{ℕ, ◌+◌, List, [], ◌∷◌, ◌++◌, length, map, filter, count_by, Option}
-use Rattle.std.specs.Prelude.{Some, None, Bool, false, ◌&&◌, ◌==◌, if◌then◌else◌, is_none, is_some}
+use Rattle.std.specs.Prelude.{Some, None, Bool, false, true, if◌then◌else◌, is_some}
 use Rattle.std.specs.Prelude.{Result, Ok, Err, option_and_then}
-use Rattle.std.specs.List.{enumerate_from, filter_map}
+use Rattle.std.specs.List.{enumerate_from}
+use Rattle.std.specs.Option.{option_map_or}
 use Rattle.clear_bank.specs.declared.fault.BankFault.{BankFault}
 use Rattle.clear_values.specs.declared.lines.BankLine.{BankLine}
 use Rattle.clear_values.specs.declared.lines.Purpose.{Purpose}
 use Rattle.clear_bank.specs.Files.{file_lines}
-use Rattle.clear_values.specs.Lines.{same_purpose}
 use Rattle.clear_bank.specs.Newness.{Placed, is_new}
 use Rattle.clear_book.specs.declared.calls.Command.{Command}
-use Rattle.clear_book.specs.declared.calls.Command.TheVariants.{Register, Report, Correct}
-use Rattle.clear_book.specs.declared.calls.Command.TheVariants.{ImportBank}
+use Rattle.clear_book.specs.declared.calls.Command.TheVariants.{ImportBank, Release}
 use Rattle.clear_values.specs.declared.replies.Reply.{Reply}
 use Rattle.clear_values.specs.declared.rows.BankRow.{BankRow}
 use Rattle.clear_values.specs.declared.rows.CreditRow.{CreditRow}
 use Rattle.clear_book.specs.Book.{Entry, member_of}
+use Rattle.clear_book.specs.Workers.{claim_of, released_by}
 use Rattle.clear_values.specs.Limits.{most_records}
 pub use Rattle.clear_values.specs.Credits.{is_in_suspense, line_credit, credit_of_line}
-pub use Rattle.clear_values.specs.Credits.{credits_of_lines, is_credit_of}
+pub use Rattle.clear_values.specs.Credits.{credits_of_lines, is_credit_of, set_offs_of}
 
 -- the lines, and none where there is a fault
 abbrev pub lines_or_none : Result (List BankLine) BankFault → List BankLine
@@ -63,10 +63,8 @@ serial_key row = row.serial ∷ []
 
 -- a command that releases a claim
 abbrev pub is_release : Command → Bool
-is_release (Register r) = false
-is_release (Report r) = false
-is_release (Correct c) = false
-is_release (ImportBank file) = false
+is_release (Release claim) = true
+is_release command = false
 
 -- how many releases there were
 abbrev pub release_count : List Entry → ℕ
@@ -85,10 +83,8 @@ rows_brought xs seen file =
 
 -- the rows that a command brings to a book
 abbrev pub rows_by : List Entry → List BankRow → Command → List BankRow
-rows_by xs seen (Register r) = []
-rows_by xs seen (Report r) = []
-rows_by xs seen (Correct c) = []
 rows_by xs seen (ImportBank file) = rows_brought xs seen file
+rows_by xs seen command = []
 
 -- the lines that the files of all imports brought, in the order in which they came, each under the
 -- firm that was found for it then
@@ -135,10 +131,10 @@ suspense_count rows = count_by is_in_suspense rows
 -- the set-offs above 0 of a command that was accepted on a day with a reply, as credits: those of a
 -- release to contributions and to interest, both with its day and its serial
 abbrev pub set_offs_by : List Entry → ℕ → Reply → Command → List CreditRow
-set_offs_by xs t reply (Register r) = []
-set_offs_by xs t reply (Report r) = []
-set_offs_by xs t reply (Correct c) = []
-set_offs_by xs t reply (ImportBank file) = []
+set_offs_by xs t reply (Release number) =
+    option_map_or (λ claim. set_offs_of (released_by t reply claim) (serial_count xs + 1))
+    (claim_of xs number) []
+set_offs_by xs t reply command = []
 
 -- the set-offs of all releases
 abbrev pub set_offs : List Entry → List CreditRow

@@ -1,8 +1,11 @@
 -- The own rules and the reply of each request.
+pub mod Claim
 pub mod Correct
 pub mod ImportBank
 pub mod Lines
 pub mod Owed
 pub mod Register
+pub mod Release
 pub mod Report
 pub mod Statement
+pub mod Withdraw

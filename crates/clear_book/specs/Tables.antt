@@ -4,6 +4,7 @@ use Rattle.std.specs.Prelude.{if◌then◌else◌, length, sum_by, map, filter}
 use Rattle.std.specs.Option.{option_map}
 use Rattle.clear_account.specs.declared.entries.Charge.{Charge}
 use Rattle.clear_account.specs.declared.entries.Credit.{Credit}
+use Rattle.clear_money.specs.Rates.{rate_in_force}
 use Rattle.clear_values.specs.declared.lines.Purpose.TheVariants.{Contribution}
 use Rattle.clear_values.specs.declared.texts.WageLine.{WageLine}
 use Rattle.clear_values.specs.declared.rows.EmployerRow.{EmployerRow}
@@ -14,7 +15,8 @@ use Rattle.clear_book.specs.Book.{Book, Entry, Member, rates_of, ledger_day}
 use Rattle.clear_book.specs.Book.{member_of, employer_count, latest_lines, reported_version}
 use Rattle.clear_book.specs.Calls.{command_bytes}
 use Rattle.clear_values.specs.Keyed.{find_row, with_row, AreInOrder}
-use Rattle.clear_book.specs.Lines.{lines_standing, credits_made, credits_of_lines, serial_count}
+use Rattle.clear_book.specs.Lines.{lines_standing, credits_made, serial_count}
+use Rattle.clear_book.specs.Workers.{claims_of, entitlement_for}
 pub use Rattle.clear_values.specs.Tables.{RequestRow, Tables, AreUnfilled, employer_key, report_key}
 pub use Rattle.clear_values.specs.Tables.{wage_key, bank_key, claim_key, list_key, run_key}
 pub use Rattle.clear_values.specs.Tables.{reminder_key, request_key, member_in, wage_row, wage_rows}
@@ -82,6 +84,8 @@ pub record Stands (b : Book) (t : Tables) : Type 0 where
   pub requests : (k : List ℕ) → find_row request_key t.requests k
       ≡ find_row request_key (requests_of b.entries) k
   pub requests_in_order : AreInOrder request_key t.requests
+  pub claims : t.claims ≡ claims_of b.entries
+  pub last_claim : t.last_claim ≡ length (claims_of b.entries)
   pub serial : t.serial ≡ serial_count b.entries
   pub unfilled : AreUnfilled t
 
@@ -103,6 +107,20 @@ table_charges t e = map (row_charge t) (filter (λ row. row.employer == e) t.rep
 -- the credits for contributions that an employer's rows hold
 abbrev pub table_credits : Tables → ℕ → List Credit
 table_credits t e = credits_under t.credits e Contribution
+
+-- ---- what the tables say of a worker
+
+-- the wage rows of a worker
+abbrev pub wages_of_worker : Tables → ℕ → List WageRow
+wages_of_worker t w = filter (λ row. row.worker == w) t.wages
+
+-- what a wage row earns, at the rate row in force for its month
+abbrev pub row_entitlement : Tables → WageRow → ℕ
+row_entitlement t row = entitlement_for (rate_in_force t.rates row.month) row.gross
+
+-- all that a worker has earned, by its wage rows
+abbrev pub table_entitlement : Tables → ℕ → ℕ
+table_entitlement t w = sum_by (row_entitlement t) (wages_of_worker t w)
 
 -- ---- changes
 

@@ -1,21 +1,25 @@
 -- Employers and workers: who is registered, what a worker has earned and claimed, and what of it is
 -- still to be claimed.
 use Rattle.std.specs.Prelude.{ℕ, ◌-◌, ◌*◌, ◌/◌, List, [], ◌∷◌, ◌++◌, Option, Some, None, Bool, true}
-use Rattle.std.specs.Prelude.{false, ◌&&◌, ◌==◌, not, filter, length, map, sum_by}
+use Rattle.std.specs.Prelude.{false, ◌&&◌, ◌==◌, if◌then◌else◌, not, filter, length, map}
+use Rattle.std.specs.Prelude.{◌+◌, nat_lt, sum_by}
 use Rattle.std.specs.List.{filter_map, flat_map}
 use Rattle.std.specs.Option.{option_map, option_map_or}
 use Rattle.clear_money.specs.Calendar.{months}
 use Rattle.clear_money.specs.Rates.{Rate, rate_in_force}
 use Rattle.clear_book.specs.declared.calls.Command.{Command}
-use Rattle.clear_book.specs.declared.calls.Command.TheVariants.{Register, Report, Correct}
-use Rattle.clear_book.specs.declared.calls.Command.TheVariants.{ImportBank}
+use Rattle.clear_book.specs.declared.calls.Command.TheVariants.{Claim, Withdraw, Release}
+use Rattle.clear_book.specs.declared.calls.HolidayClaim.{HolidayClaim}
 use Rattle.clear_values.specs.declared.replies.Reply.{Reply}
+use Rattle.clear_values.specs.declared.replies.Reply.TheVariants.{Released as release_reply}
+use Rattle.clear_values.specs.declared.replies.Settlement.{Settlement}
 use Rattle.clear_values.specs.declared.rows.ClaimRow.{ClaimRow}
 use Rattle.clear_values.specs.declared.rows.ClaimState.{ClaimState}
 use Rattle.clear_values.specs.declared.rows.ClaimState.TheVariants.{Open, Withdrawn, Released}
 use Rattle.clear_values.specs.declared.texts.WageLine.{WageLine}
 use Rattle.clear_book.specs.Book.{Book, Entry, rates_of, registration_in, latest_lines}
-use Rattle.clear_values.specs.Keyed.{in_key_order}
+use Rattle.clear_values.specs.Keyed.{find_row, in_key_order}
+use Rattle.clear_values.specs.Tables.{claim_key}
 
 -- ---- employers
 
@@ -73,21 +77,54 @@ earned_of b w = flat_map (earned_at b w) (employers_of b.entries)
 abbrev pub entitlement_of : Book → ℕ → ℕ
 entitlement_of b w = sum_by (λ line. line.cents) (earned_of b w)
 
+-- the latest reports of a firm have a line of the worker, be it of 0 cents
+abbrev pub is_employed : Book → ℕ → ℕ → Bool
+is_employed b e w = nat_lt 0 (length (earned_at b w e))
+
 -- ---- claims
+
+-- a claim as it is made on a day, under its number
+abbrev pub new_claim : ℕ → ℕ → HolidayClaim → ClaimRow
+new_claim number t c =
+    record {
+      claim = number;
+      employer = c.employer;
+      worker = c.worker;
+      cents = c.cents;
+      made = t;
+      state = Open;
+    }
 
 -- the claims that a command makes, on its day and behind the last number that was given
 abbrev pub claims_by : ℕ → ℕ → Command → List ClaimRow
-claims_by last t (Register r) = []
-claims_by last t (Report r) = []
-claims_by last t (Correct c) = []
-claims_by last t (ImportBank file) = []
+claims_by last t (Claim c) = new_claim (last + 1) t c ∷ []
+claims_by last t command = []
+
+-- a claim that is withdrawn
+abbrev pub withdrawn : ClaimRow → ClaimRow
+withdrawn claim = record claim { state = Withdrawn }
+
+-- a claim that is released on a day with a settlement, and on no list yet
+abbrev pub released : ℕ → Settlement → ClaimRow → ClaimRow
+released t settlement claim =
+    record claim { state = Released (record { day = t; settlement = settlement; list = None }) }
+
+-- a claim after a release on a day, with the reply to it
+abbrev pub released_by : ℕ → Reply → ClaimRow → ClaimRow
+released_by t (release_reply settlement) claim = released t settlement claim
+released_by t reply claim = claim
+
+-- the claim has the number
+abbrev pub is_claim : ℕ → ClaimRow → Bool
+is_claim number claim = claim.claim == number
 
 -- a claim that stands, after a command, on its day and with the reply to it
 abbrev pub claim_after : ℕ → Reply → Command → ClaimRow → ClaimRow
-claim_after t reply (Register r) claim = claim
-claim_after t reply (Report r) claim = claim
-claim_after t reply (Correct c) claim = claim
-claim_after t reply (ImportBank file) claim = claim
+claim_after t reply (Withdraw w) claim =
+    if is_claim w.claim claim then withdrawn claim else claim
+claim_after t reply (Release number) claim =
+    if is_claim number claim then released_by t reply claim else claim
+claim_after t reply command claim = claim
 
 -- the claims of all workers by their numbers, as they stand
 abbrev pub claims_of : List Entry → List ClaimRow
@@ -95,6 +132,16 @@ claims_of [] = []
 claims_of (x ∷ xs) =
     map (claim_after x.day x.reply x.command) (claims_of xs)
     ++ claims_by (length (claims_of xs)) x.day x.command
+
+-- the claim of a number, if there is one
+abbrev pub claim_of : List Entry → ℕ → Option ClaimRow
+claim_of xs number = find_row claim_key (claims_of xs) (number ∷ [])
+
+-- the claim is open
+abbrev pub is_open : ClaimState → Bool
+is_open Open = true
+is_open Withdrawn = false
+is_open (Released release) = false
 
 -- the claim is withdrawn
 abbrev pub is_withdrawn : ClaimState → Bool

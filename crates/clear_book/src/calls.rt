@@ -4,15 +4,16 @@ ghost use Rattle.std.specs.Prelude.{◌≡◌, ◌++◌, IfOk};
 ghost use Rattle.std.specs.Fmt.{decimal};
 ghost use Rattle.std.specs.List.{AllByRecursion};
 ghost use Rattle.clear_money.specs.Texts.{month_text};
+ghost use Rattle.clear_book.specs.declared.calls.Command.TheVariants.{Claim, Withdraw};
 ghost use Rattle.clear_book.specs.Calls.{command_bytes as kept_bytes, line_text, lines_text};
 ghost use Rattle.clear_book.specs.Calls.{IsCommand, IsReport, IsWageLine, may_do, may_query};
 
 use crate::files::BankFile;
-use crate::numbers::RequestNo;
+use crate::numbers::{ClaimNo, RequestNo};
 use crate::texts::{Name, WageLine, WageLines};
 use clear_money::days::Day;
 use clear_money::months::Month;
-use clear_money::numbers::EmployerNo;
+use clear_money::numbers::{Amount, EmployerNo, WorkerNo};
 pub use clear_values::callers::Caller;
 use std::alloc::{AllocError, Global};
 
@@ -40,6 +41,21 @@ pub struct Correction {
     pub version: u32,
 }
 
+/// A firm claims the holiday pay back that it has advanced to a worker.
+#[derive(Clone, Copy)]
+pub struct HolidayClaim {
+    pub employer: EmployerNo,
+    pub worker: WorkerNo,
+    pub cents: Amount,
+}
+
+/// A firm takes a claim back.
+#[derive(Clone, Copy)]
+pub struct Withdrawal {
+    pub employer: EmployerNo,
+    pub claim: ClaimNo,
+}
+
 /// What changes the book, if it is accepted.
 #[derive(Drop)]
 pub enum Command {
@@ -47,6 +63,10 @@ pub enum Command {
     Report(WageReport),
     Correct(Correction),
     ImportBank(BankFile),
+    Claim(HolidayClaim),
+    Withdraw(Withdrawal),
+    /// The clerk settles a claim.
+    Release(ClaimNo),
 }
 
 /// What is only asked.
@@ -85,6 +105,9 @@ pub fn may(caller: Caller, command: &Command) -> bool
             Command::Report(report) => firm == report.employer,
             Command::Correct(correction) => firm == correction.report.employer,
             Command::ImportBank(_) => false,
+            Command::Claim(claim) => firm == claim.employer,
+            Command::Withdraw(withdrawal) => firm == withdrawal.employer,
+            Command::Release(_) => false,
         },
     }
 }
@@ -132,8 +155,31 @@ pub fn command_bytes(alloc: Global, command: &Command) -> Result<Vec<u8>, AllocE
             out.extend_from_slice(b"bank ")?;
             out.extend_from_slice(file.as_slice())?;
         }
+        Command::Claim(claim) => append_claim(&mut out, claim)?,
+        Command::Withdraw(withdrawal) => append_withdrawal(&mut out, withdrawal)?,
+        Command::Release(claim) => {
+            append_number(&mut out, b"release ", u64::from(claim.number()))?;
+        }
     }
     Ok(out)
+}
+
+// Appends the word and the values of a claim.
+fn append_claim(out: &mut Vec<u8>, claim: &HolidayClaim) -> Result<(), AllocError>
+    ensures { IfOk result (λ _. out.new.items ≡ out.old.items ++ kept_bytes (Claim claim.now)) }
+{
+    append_number(out, b"claim ", u64::from(claim.employer.number()))?;
+    append_number(out, b" ", u64::from(claim.worker.number()))?;
+    append_number(out, b" ", claim.cents.cents())
+}
+
+// Appends the word and the values of a withdrawal.
+fn append_withdrawal(out: &mut Vec<u8>, withdrawal: &Withdrawal) -> Result<(), AllocError>
+    ensures { IfOk result
+        (λ _. out.new.items ≡ out.old.items ++ kept_bytes (Withdraw withdrawal.now)) }
+{
+    append_number(out, b"withdraw ", u64::from(withdrawal.employer.number()))?;
+    append_number(out, b" ", u64::from(withdrawal.claim.number()))
 }
 
 // Appends a text, and a number in decimal.
@@ -189,6 +235,18 @@ pub fn command_in_range(command: &Command)
             report_in_range(&correction.report);
         }
         Command::ImportBank(_) => {}
+        Command::Claim(claim) => {
+            let _employer = claim.employer.number();
+            let _worker = claim.worker.number();
+            let _cents = claim.cents.cents();
+        }
+        Command::Withdraw(withdrawal) => {
+            let _employer = withdrawal.employer.number();
+            let _claim = withdrawal.claim.number();
+        }
+        Command::Release(claim) => {
+            let _claim = claim.number();
+        }
     }
 }
 

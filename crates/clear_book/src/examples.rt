@@ -1,11 +1,16 @@
 //! Examples: what definitions come to in small cases. Each is a law without parameters.
-ghost use Rattle.std.specs.Prelude.{◌≡◌, ◌+◌, [], ◌∷◌, codes};
+ghost use Rattle.std.specs.Prelude.{◌≡◌, ◌+◌, [], ◌∷◌, codes, filter};
 ghost use Rattle.clear_account.specs.Allocation.{prepaid, right_pieces};
 ghost use Rattle.clear_book.specs.declared.calls.Command.TheVariants.{Register, Report, Correct};
 ghost use Rattle.clear_book.specs.declared.calls.Command.TheVariants.{ImportBank};
+ghost use Rattle.clear_book.specs.declared.calls.Command.TheVariants.{Claim, Withdraw, Release};
+ghost use Rattle.clear_values.specs.declared.lines.Purpose.TheVariants.{Contribution};
+ghost use Rattle.clear_book.specs.Accounts.{credits_under};
+ghost use Rattle.clear_book.specs.Conserved.{is_line_of, line_cents};
 ghost use Rattle.clear_book.specs.Documents.Amounts.{amount_text};
 ghost use Rattle.clear_book.specs.Documents.Lines.{missing_line};
-ghost use Rattle.clear_book.specs.Examples.{charge, credit, february, january, piece};
+ghost use Rattle.clear_book.specs.Examples.{charge, credit, february, january, piece, two_lines};
+ghost use Rattle.clear_book.specs.Lines.{credits_of_lines, is_in_suspense};
 ghost use Rattle.clear_book.specs.Calls.{command_bytes};
 
 /// Two payments, of which the first reaches a part of January, and the second the rest of it and
@@ -36,6 +41,19 @@ pub fn law_pieces_of_nothing()
         (credit 1 100010 ∷ []) ≡ piece february 1 100010 ∷ [] }
 {}
 
+/// Of two lines for contributions, that of a firm pays January and a part of February, and the one
+/// in suspense pays nothing: what came in is in the pieces and in suspense.
+pub fn law_cents_of_two_lines()
+    ensures all { line_cents Contribution two_lines ≡ 300000 }
+    ensures suspense { line_cents Contribution (filter is_in_suspense two_lines) ≡ 50000 }
+    ensures firm { line_cents Contribution (filter (is_line_of 1001) two_lines) ≡ 250000 }
+    ensures payments { credits_under (credits_of_lines two_lines) 1001 Contribution
+        ≡ credit 1 250000 ∷ [] }
+    ensures pieces { right_pieces
+        (charge january 200000 ∷ charge february 100010 ∷ []) (credit 1 250000 ∷ [])
+        ≡ piece january 1 200000 ∷ piece february 1 50000 ∷ [] }
+{}
+
 /// The bytes under which commands are kept.
 pub fn law_kept_bytes()
     ensures register { command_bytes
@@ -58,6 +76,12 @@ pub fn law_kept_bytes()
       version = 1;
     })) ≡ codes "correct 1001 2024-01 1 7:500000" }
     ensures bank { command_bytes (ImportBank (codes "reference")) ≡ codes "bank reference" }
+    ensures claim { command_bytes
+        (Claim (record { employer = 1001; worker = 7; cents = 10000 }))
+        ≡ codes "claim 1001 7 10000" }
+    ensures withdraw { command_bytes (Withdraw (record { employer = 1001; claim = 1 }))
+        ≡ codes "withdraw 1001 1" }
+    ensures release { command_bytes (Release 1) ≡ codes "release 1" }
 {}
 
 /// An amount stands right in 14 places; a wider one takes what it needs.

@@ -1,7 +1,8 @@
 //! Laws: what follows from the definitions alone. A law has no parameters and no effect; its
 //! contract is the law.
-ghost use Rattle.std.specs.Prelude.{◌≡◌, ◌↔◌, ℕ, List, ◌∷◌, Bool, true, IsSome, IsTrue, map};
-ghost use Rattle.std.specs.List.{AllByRecursion};
+ghost use Rattle.std.specs.Prelude.{◌≡◌, ◌↔◌, ℕ, ◌+◌, List, ◌∷◌, Bool, true, ◌&&◌, ◌==◌, not};
+ghost use Rattle.std.specs.Prelude.{IsSome, IsTrue, filter, map, sum_by, Some};
+ghost use Rattle.std.specs.List.{AllByRecursion, list_any, Contains};
 ghost use Rattle.clear_money.specs.Rates.{Rate, rate_in_force};
 ghost use Rattle.clear_account.specs.Allocation.{right_pieces};
 ghost use Rattle.clear_bank.specs.Laws.{HasNoReferenceTwice};
@@ -9,6 +10,7 @@ ghost use Rattle.clear_values.specs.First.{first_tables};
 ghost use Rattle.clear_book.specs.declared.calls.Call.{Call};
 ghost use Rattle.clear_book.specs.declared.calls.Call.TheVariants.{Do};
 ghost use Rattle.clear_values.specs.declared.callers.Caller.{Caller};
+ghost use Rattle.clear_values.specs.declared.lines.Purpose.TheVariants.{Contribution, Interest};
 ghost use Rattle.clear_book.specs.declared.calls.Command.{Command};
 ghost use Rattle.clear_book.specs.declared.calls.Command.TheVariants.{ImportBank};
 ghost use Rattle.clear_book.specs.declared.outcomes.Outcome.{Outcome};
@@ -19,19 +21,29 @@ ghost use Rattle.clear_values.specs.declared.causes.StoreCause.{StoreCause};
 ghost use Rattle.clear_values.specs.declared.causes.StoreCause.TheVariants.{Other};
 ghost use Rattle.clear_book.specs.Accounts.{charges_of, credit_key, credits_of, credits_standing};
 ghost use Rattle.clear_book.specs.Book.{Book, Entry, entry, first_book, latest_lines, rates_of};
+ghost use Rattle.clear_book.specs.Conserved.{firm_cents, interest_cents, pieces_cents};
+ghost use Rattle.clear_book.specs.Conserved.{prepaid_cents, set_off_cents, standing_cents};
+ghost use Rattle.clear_book.specs.Conserved.{suspense_cents};
 ghost use Rattle.clear_book.specs.Judge.{judge, kept_reply, new_reply};
 ghost use Rattle.clear_book.specs.Calls.{command_bytes, same_command};
 ghost use Rattle.clear_book.specs.Laws.{AreCounted, AreEmployers, AreNumbered, AreSorted, IsSmall};
 ghost use Rattle.clear_book.specs.Lines.{credits_after, credits_made, lines_after};
 ghost use Rattle.clear_book.specs.Lines.{lines_of_rows, lines_seen, lines_standing};
-ghost use Rattle.clear_book.specs.Machine.{Goes, IsLawful, Runs, step};
+ghost use Rattle.clear_book.specs.Machine.{Goes, IsLawful, Runs, appended, step};
+ghost use Rattle.clear_book.specs.Own.Release.{settlement_of};
 ghost use Rattle.clear_book.specs.Pieces.{piece_rows_of, row_piece};
 ghost use Rattle.clear_book.specs.Calls.{IsCall, IsCommand};
 ghost use Rattle.clear_values.specs.Ranges.{AreRates};
-ghost use Rattle.clear_values.specs.RowRanges.{AreInRange};
+ghost use Rattle.clear_values.specs.RowRanges.{AreInRange, settled};
+ghost use Rattle.clear_values.specs.declared.rows.ClaimRow.{ClaimRow};
+ghost use Rattle.clear_values.specs.declared.rows.ClaimState.TheVariants.{Released};
+ghost use Rattle.clear_values.specs.declared.rows.ReleasedClaim.{ReleasedClaim};
 ghost use Rattle.clear_book.specs.Tables.{Tables, Stands, table_charges, table_credits};
-ghost use Rattle.clear_book.specs.Workers.{claims_of};
+ghost use Rattle.clear_book.specs.Tables.{table_entitlement, wages_of_worker};
+ghost use Rattle.clear_book.specs.Workers.{claimed, claims_of, entitlement_of, is_employed};
+ghost use Rattle.clear_book.specs.Workers.{is_withdrawn, claim_of};
 ghost use Rattle.clear_book.specs.Reached.{IsReached};
+ghost use Rattle.clear_book.specs.Released.{IsReleaseOf, IsSettlement};
 
 /// A book without entries over a table of rates is lawful.
 pub fn law_first_book()
@@ -89,8 +101,9 @@ pub fn law_store_fault()
 /// lines of at most 10,000,000 cents, a base of at most 5,000,000,000 cents; the charges of a firm
 /// come to at most 12,000,000,000,000 cents; a firm has at most 100,000 payments for each purpose,
 /// together at most 10,000,000,000,000,000 cents; at most 100,000 lines are in suspense, at most
-/// 500,000,000,000 came in, and no more serials than that were given: no sum leaves its type. No
-/// payment has a day after that of the last request.
+/// 500,000,000,000 came in, and no more serials than that were given; a worker has earned at most
+/// 240,000,000,000,000 cents, and at most 5,000,000,000,000,000,000 are claimed for it: no sum
+/// leaves its type. No payment has a day after that of the last request.
 pub fn law_small()
     ensures { (b : Book) → IsLawful b → IsSmall b }
 {}
@@ -122,11 +135,58 @@ pub fn law_claims()
     ensures { (b : Book) → AreNumbered (claims_of b.entries) }
 {}
 
+/// What the tables hold of a worker's claims that aren't withdrawn comes to what is claimed in the
+/// book.
+pub fn law_claimed()
+    ensures { (b : Book) (t : Tables) (w : ℕ) → Stands b t
+        → sum_by (λ claim. claim.cents)
+        (filter (λ claim. (claim.worker == w) && not (is_withdrawn claim.state)) t.claims)
+        ≡ claimed b w }
+{}
+
+/// A claim that is released in a lawful book is settled whole: its cents are those of the three
+/// parts. It comes of an entry that is its release, on that entry's day and with that entry's
+/// reply, and no later entry changes it.
+pub fn law_released()
+    ensures whole { (b : Book) (number : ℕ) (claim : ClaimRow) (release : ReleasedClaim)
+        → IsLawful b → claim_of b.entries number ≡ Some claim → claim.state ≡ Released release
+        → settled release.settlement ≡ claim.cents }
+    ensures entry { (b : Book) (number : ℕ) (claim : ClaimRow) (release : ReleasedClaim)
+        → IsLawful b → claim_of b.entries number ≡ Some claim → claim.state ≡ Released release
+        → (x : Entry) × Contains b.entries x × IsReleaseOf number release x }
+    ensures stays { (x : Entry) (b : Book) (number : ℕ) (claim : ClaimRow)
+        (release : ReleasedClaim) → IsLawful (appended b x)
+        → claim_of b.entries number ≡ Some claim → claim.state ≡ Released release
+        → claim_of (x ∷ b.entries) number ≡ Some claim }
+{}
+
+/// A settlement is whole: its three parts come to the cents of the claim. No more is set off than
+/// is owed, to interest only where all contributions that are owed are set off, and something is
+/// paid out only where all that is owed is.
+pub fn law_settlement()
+    ensures { (cents owed interest : ℕ)
+        → IsSettlement cents owed interest (settlement_of cents owed interest) }
+{}
+
 /// The pieces of a firm, told with the days and the references of its payments, are those of its
 /// account.
 pub fn law_pieces()
     ensures { (b : Book) (e : ℕ) → map row_piece (piece_rows_of b e)
         ≡ right_pieces (charges_of b e) (credits_of b e) }
+{}
+
+/// No cent of a lawful book is lost. What came in for contributions, by standing lines and by
+/// set-offs, is in the pieces of the firms, is prepaid, or is in suspense; the firms' payments of
+/// interest are their standing lines of interest and the set-offs to interest; and each standing
+/// line of interest is a firm's or is in suspense.
+pub fn law_conserved()
+    ensures contributions { (b : Book) → IsLawful b
+        → standing_cents b Contribution + set_off_cents b Contribution
+        ≡ pieces_cents b + prepaid_cents b + suspense_cents b Contribution }
+    ensures interest { (b : Book) → IsLawful b
+        → interest_cents b ≡ firm_cents b Interest + set_off_cents b Interest }
+    ensures interest_lines { (b : Book) → IsLawful b
+        → standing_cents b Interest ≡ firm_cents b Interest + suspense_cents b Interest }
 {}
 
 /// The bank lines and the releases of a book together have the serials 1, 2, 3, .. in the order in
@@ -157,6 +217,20 @@ pub fn law_credits_standing()
 /// day, then serial.
 pub fn law_credits()
     ensures { (b : Book) (t : Tables) (e : ℕ) → Stands b t → table_credits t e ≡ credits_of b e }
+{}
+
+/// What a worker has earned, in cents, by the wage rows that the tables of a lawful book hold is
+/// what it has earned by the book's latest reports.
+pub fn law_earned()
+    ensures { (b : Book) (t : Tables) (w : ℕ)
+        → IsLawful b → Stands b t → table_entitlement t w ≡ entitlement_of b w }
+{}
+
+/// The latest reports of a firm in a lawful book have a line of a worker exactly where the tables
+/// hold a wage row of the two.
+pub fn law_employed()
+    ensures { (b : Book) (t : Tables) (e w : ℕ) → IsLawful b → Stands b t
+        → list_any (λ row. row.employer == e) (wages_of_worker t w) ≡ is_employed b e w }
 {}
 
 /// A command that was accepted and comes again under its number, on any day and after any further

@@ -2,7 +2,7 @@
 
 use crate::documents::Document;
 use crate::rules::Rule;
-pub use clear_values::replies::Reply;
+pub use clear_values::replies::{Reply, Settlement};
 
 /// What a query is answered.
 #[derive(Drop)]

@@ -1,17 +1,20 @@
 //! Decisions at the limits that no request file comes to, and the bytes under which commands are
 //! kept.
-use clear_book::calls::{Command, Correction, Registration, WageReport, command_bytes};
+use clear_book::calls::{
+    Command, Correction, HolidayClaim, Registration, WageReport, Withdrawal, command_bytes,
+};
 use clear_book::files::BankFile;
-use clear_book::numbers::SerialCount;
-use clear_book::rows::{Decision, EmployerRow};
+use clear_book::numbers::{ClaimNo, SerialCount};
+use clear_book::rows::{ClaimRow, ClaimState, Decision, EmployerRow};
 use clear_book::rules::{Limit, Rule};
 use clear_book::texts::{Name, WageLine, WageLines};
 use clear_money::days::Day;
 use clear_money::months::Month;
-use clear_money::numbers::{EmployerNo, WorkerNo};
+use clear_money::numbers::{Amount, EmployerNo, WorkerNo};
 use clear_rules::decide::correct::decide_correct;
 use clear_rules::decide::import::{EmployerCredits, ImportView, decide_import, file_lines};
 use clear_rules::decide::register::{RegisterView, decide_register};
+use clear_rules::decide::release::{FirmDebts, OwingClaim, ReleaseView, decide_release};
 use clear_rules::decide::report::ReportView;
 use std::alloc::Global;
 
@@ -139,6 +142,45 @@ fn the_last_ones_are_taken(rt: HostRuntime) {
     assert!(rt; corrected(alloc, 10_000) == Some("versions"));
 }
 
+// The release of an open claim of 100 cents, whose firm owes this and has so many credits.
+fn released(
+    arrears: u64,
+    interest_arrears: u64,
+    contribution_count: u64,
+    interest_count: u64,
+) -> Option<&'static str> {
+    let claim = ClaimRow {
+        claim: 1,
+        employer: EmployerNo::new(1001)?,
+        worker: WorkerNo::new(7)?,
+        cents: Amount::new(100)?,
+        made: today()?,
+        state: ClaimState::Open,
+    };
+    let debts = FirmDebts {
+        missing: None,
+        arrears,
+        interest_arrears,
+        contribution_count,
+        interest_count,
+    };
+    let view = ReleaseView {
+        found: Some(OwingClaim { claim, debts }),
+        serials: SerialCount::new(200_000)?,
+    };
+    Some(told(decide_release(today()?, &view)))
+}
+
+#[test]
+fn the_last_set_offs_are_taken(rt: HostRuntime) {
+    assert!(rt; released(60, 40, 99_999, 99_999) == Some("taken"));
+    assert!(rt; released(60, 40, 100_000, 0) == Some("credits"));
+    assert!(rt; released(60, 40, 0, 100_000) == Some("credits"));
+    // Nothing is set off for the purpose that has no room.
+    assert!(rt; released(0, 40, 100_000, 0) == Some("taken"));
+    assert!(rt; released(100, 40, 0, 100_000) == Some("taken"));
+}
+
 // Whether a command is kept as this text.
 fn is_kept_as(alloc: Global, command: Option<Command>, text: &str) -> bool {
     match command {
@@ -184,4 +226,31 @@ fn commands_are_kept_as_texts(rt: HostRuntime) {
             "bank reference\nB1,2"
         )
     );
+}
+
+fn claims() -> Option<Command> {
+    Some(Command::Claim(HolidayClaim {
+        employer: EmployerNo::new(1001)?,
+        worker: WorkerNo::new(7)?,
+        cents: Amount::new(10_000)?,
+    }))
+}
+
+fn withdraws() -> Option<Command> {
+    Some(Command::Withdraw(Withdrawal {
+        employer: EmployerNo::new(1001)?,
+        claim: ClaimNo::new(1)?,
+    }))
+}
+
+fn releases() -> Option<Command> {
+    Some(Command::Release(ClaimNo::new(1)?))
+}
+
+#[test]
+fn commands_on_claims_are_kept_as_texts(rt: HostRuntime) {
+    let alloc = rt.alloc();
+    assert!(rt; is_kept_as(alloc, claims(), "claim 1001 7 10000"));
+    assert!(rt; is_kept_as(alloc, withdraws(), "withdraw 1001 1"));
+    assert!(rt; is_kept_as(alloc, releases(), "release 1"));
 }

@@ -1,5 +1,5 @@
 -- What the statements on a table do whose rows stand under a number, whatever the table is.
-use Rattle.clear_columns.proofs.Words.{◌≡◌, ◌≤◌, ◌/◌, ℤ, ℕ, Bool, true, false, List, [], ◌∷◌, Some, Equal, length, map, filter, refl, sym, ap, subst, ◌∙◌, map-id, IsPermutation, int_cmp, slice_get, arith, length-map, list_any, ordering_then, cast_row, Insert, Update, edit_of, edited, with_rowid, IsRefused, Answers, Database, IsDatabase, value_rows, Row, output, stamped, Chosen, Given, Values, State, Ghosts, Table, Binary, Term, col, Trees, rowid, Int, insert_by, update_where, IsKeyedBy-update_where, ascending_weaker, ids_of, Has, some_from, guards, passes, Check, Datatype, NotNull, Index, Enforced, Key, is_key, with_row, Tables, IsEdited, IsNumbered, meets, plain_program, plain_query, no_rows, updated_is, update_harmless, update_violates, in_order, one_row, shown_in_some_order, apart_if, held_if_refused, insert_violates, inserted, updated, HasTables, IsBroken, IsDone, all_indexes, all_tables, store_schema, refer_to_none, sound_by_schema, Others, answers_just, all_pass, each_fails, none_replaced, one_passes, is_held, Result, Held, state, Fault, AnswersJust, Runs, Writes, writes}
+use Rattle.clear_columns.proofs.Words.{◌≡◌, ◌≤◌, ◌/◌, ℤ, ℕ, Bool, true, false, List, [], ◌∷◌, Some, Equal, Less, length, map, filter, refl, sym, ap, subst, ◌∙◌, map-id, IsPermutation, int_cmp, slice_get, arith, length-map, list_any, ordering_then, cast_row, Insert, Update, edit_of, edited, with_rowid, IsRefused, Answers, Database, IsDatabase, value_rows, Row, output, stamped, Chosen, Given, Values, State, Ghosts, Table, Binary, Term, col, Trees, rowid, Int, insert_by, update_where, IsKeyedBy-update_where, ascending_weaker, ids_of, Has, some_from, guards, passes, Check, Datatype, NotNull, Index, Enforced, Key, is_key, with_row, Tables, IsEdited, IsNumbered, meets, plain_program, plain_query, no_rows, updated_is, update_harmless, update_violates, in_order, one_row, shown_in_some_order, apart_if, held_if_refused, insert_violates, inserted, updated, by_key, HasTables, IsBroken, IsDone, all_indexes, all_tables, store_schema, refer_to_none, sound_by_schema, Others, answers_just, all_pass, each_fails, none_replaced, one_passes, is_held, Result, Held, state, Fault, AnswersJust, Runs, Writes, writes}
 use Rattle.std.proofs.Common.{is_some}
 use Rattle.std.proofs.lemmas.Bool.{both_ways}
 use Rattle.sqlite_keyed.proofs.KeyedLemmas.{IsKeyedBy-insert_by, Less-from_lt}
@@ -8,6 +8,7 @@ use Rattle.sqlite_keyed.proofs.RuleLemmas.{at_most_one}
 use Rattle.sqlite_rules.specs.declared.error.Refusal.TheVariants as why
 use Rattle.sqlite_value.proofs.OrderLemmas.{value_cmp-Int}
 use Rattle.sqlite_value.specs.Keys.{ascending}
+use Rattle.sqlite.specs.Tree.{IsAscending}
 use Rattle.clear_rows.proofs.Edits.{inserted_is, named, was_free}
 use Rattle.clear_rows.proofs.Refused.{number_held}
 use Rattle.clear_columns.proofs.StoredLemmas.{KeepsOrder}
@@ -138,6 +139,10 @@ module _ {X : Type 0} (it : NumberedTable X) where
   -- of a number there is one row
   pub few : (t : Tables) (db : Database) → HasTables t db → (n : ℕ) → length (filter (λ x. is_key (key x) (n ∷ [])) (it.rows t)) ≤ 1
   few t db has n = at_most_one no (it.as_int n) (λ x. is_key (key x) (n ∷ [])) (λ x h. it.in_order.same (it.number x) n ∙ one_key (it.number x) n ∙ h) (it.rows t) (it.has t db has).keyed
+
+  -- the keys rise
+  pub rises : (t : Tables) (db : Database) → HasTables t db → IsAscending (λ a b. by_key key a b ≡ Less) (it.rows t)
+  rises t db has = ascending_weaker _ (λ a b. by_key key a b ≡ Less) (λ a b less. ap (λ o. ordering_then o Equal) (sym (it.in_order.order (it.number a) (it.number b)) ∙ Less-from_lt (no a) (no b) less)) (it.rows t) (it.has t db has).keyed
 
   -- ---- queries
 

@@ -31,7 +31,7 @@ pub use Rattle.clear_rows.specs.Plain.{passes as meets, plain_program, plain_que
 pub use Rattle.clear_schema.proofs.Causes.{refer_to_none, sound_by_schema}
 pub use Rattle.clear_schema.proofs.Changes.{Others}
 pub use Rattle.clear_schema.proofs.FrameLemmas.{writes}
-pub use Rattle.clear_schema.proofs.ValueLemmas.{cast_int, cast_null, equal_ints, equal_texts, greater_ints}
+pub use Rattle.clear_schema.proofs.ValueLemmas.{cast_int, cast_null, equal_ints, equal_texts}
 pub use Rattle.clear_schema.specs.Frame.{AnswersJust, Runs, Writes}
 pub use Rattle.clear_schema.specs.Held.{HasTables, by_key, request_key}
 pub use Rattle.clear_schema.specs.Runs.{IsBroken, IsDone}

@@ -9,12 +9,13 @@ ghost use Rattle.clear_money.specs.Rates.{IsDayOfEachMonth};
 ghost use Rattle.clear_values.specs.Texts.{is_note, is_reference};
 ghost use Rattle.clear_values.specs.declared.lines.Purpose.{Purpose};
 ghost use Rattle.clear_values.specs.Limits.{most_entries, most_gross, most_serials, most_versions};
+ghost use Rattle.clear_values.specs.Numbers.{IsClaimNo, IsListNo};
 ghost use Rattle.clear_values.specs.RowRanges.{IsSerial};
 ghost use Rattle.clear_values.specs.Texts.{IsCreditReference, IsName};
 ghost use Rattle.clear_schema.specs.Values as stored;
 ghost use Rattle.clear_columns.specs.Columns.{ReadsColumn};
 
-use crate::ranges::{is_entry_count, is_gross, is_serial, is_serial_count, is_version};
+use crate::ranges::{is_entry_count, is_gross, is_list_no, is_serial, is_serial_count, is_version};
 use clear_money::days::Day;
 use clear_money::months::Month;
 use clear_money::numbers::{Amount, EmployerNo, WorkerNo};
@@ -22,6 +23,7 @@ use clear_schema::fault::Fault;
 use clear_schema::values::value_at;
 use clear_values::causes::StoreCause;
 use clear_values::lines::Purpose;
+use clear_values::numbers::ClaimNo;
 use clear_values::texts::{CreditReference, Name, Note, Reference};
 use sqlite::Row;
 
@@ -205,6 +207,17 @@ pub fn entry_count_at(row: &Row, at: usize) -> Result<u64, Fault>
     Ok(count)
 }
 
+/// How many claims were made, in a column, at most 50,000,000.
+pub fn claim_count_at(row: &Row, at: usize) -> Result<u32, Fault>
+    ensures reads { ReadsColumn row.now at result stored.number (λ n. n ≤ most_entries) }
+{
+    let count: u32 = value_at(row, at)?;
+    if !is_entry_count(u64::from(count)) {
+        return Err(Fault::Store(StoreCause::Row));
+    }
+    Ok(count)
+}
+
 /// How many serials were given, in a column, at most 500,000,000,000.
 pub fn serial_count_at(row: &Row, at: usize) -> Result<u64, Fault>
     ensures reads { ReadsColumn row.now at result stored.number (λ n. n ≤ most_serials) }
@@ -238,6 +251,30 @@ pub fn month_day_at(row: &Row, at: usize) -> Result<u8, Fault>
     Ok(number as u8)
 }
 
+/// The number of a claim in a column, 1 to 50,000,000.
+pub fn claim_at(row: &Row, at: usize) -> Result<u32, Fault>
+    ensures reads { ReadsColumn row.now at result stored.number IsClaimNo }
+{
+    let claim = ClaimNo::new(number_at(row, at)?).ok_or(Fault::Store(StoreCause::Row))?;
+    Ok(claim.number())
+}
+
+/// The number of a payout list in a column, 1 to 50,000,000, or none where it is NULL.
+pub fn maybe_list_at(row: &Row, at: usize) -> Result<Option<u32>, Fault>
+    ensures reads { ReadsColumn row.now at result stored.maybe (λ n. IfSome n IsListNo) }
+{
+    let found: Option<u32> = value_at(row, at)?;
+    match found {
+        Some(list) => {
+            if !is_list_no(list) {
+                return Err(Fault::Store(StoreCause::Row));
+            }
+            Ok(Some(list))
+        }
+        None => Ok(None),
+    }
+}
+
 /// A number of 32 bits in a column.
 pub fn count_at(row: &Row, at: usize) -> Result<u32, Fault>
     ensures reads { ReadsColumn row.now at result stored.number (λ n. n < 2 ^ 32) }
@@ -247,8 +284,8 @@ pub fn count_at(row: &Row, at: usize) -> Result<u32, Fault>
 
 // The month that is so many after 2000-01. None past 2199-12.
 fn month_from(number: u64) -> Option<Month>
-    ensures some { IsSome result ↔ (number ≤ 2_399) }
-    ensures value { IfSome result (λ m. m ≡ 24_000 + number) }
+    ensures some { IsSome result ↔ IsMonth (Month.FIRST_NUMBER + number) }
+    ensures value { IfSome result (λ m. m ≡ Month.FIRST_NUMBER + number) }
 {
     if number > u64::from(Month::LAST_NUMBER - Month::FIRST_NUMBER) {
         return None;

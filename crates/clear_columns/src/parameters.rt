@@ -11,7 +11,7 @@ use clear_money::numbers::{Amount, EmployerNo, WorkerNo};
 use clear_schema::values::{month, number, text};
 use clear_values::callers::Caller;
 use clear_values::lines::Purpose;
-use clear_values::numbers::RequestNo;
+use clear_values::numbers::{ClaimNo, RequestNo};
 use sqlite_value::value::ValueRef;
 
 /// The number of a firm.
@@ -97,6 +97,23 @@ pub fn request_no(value: RequestNo) -> ValueRef<'static>
     ensures { bound_value (owned result) ≡ stored.number value }
 {
     number(value.number())
+}
+
+/// The number of a claim.
+pub fn claim_no(value: ClaimNo) -> ValueRef<'static>
+    ensures { bound_value (owned result) ≡ stored.number value }
+{
+    number(u64::from(value.number()))
+}
+
+/// The number of a payout list, or NULL.
+pub fn maybe_list(value: Option<u32>) -> ValueRef<'static>
+    ensures { bound_value (owned result) ≡ stored.maybe value }
+{
+    match value {
+        Some(list) => number(u64::from(list)),
+        None => ValueRef::Null,
+    }
 }
 
 /// Bytes.

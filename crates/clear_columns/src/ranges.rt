@@ -1,6 +1,7 @@
 //! Whether plain numbers of a row lie in their ranges.
 ghost use Rattle.std.specs.Prelude.{◌≡◌, ◌≤◌, ◌↔◌, true};
 ghost use Rattle.clear_values.specs.Limits.{most_entries, most_gross, most_serials, most_versions};
+ghost use Rattle.clear_values.specs.Numbers.{IsListNo};
 ghost use Rattle.clear_values.specs.RowRanges.{IsSerial};
 
 use clear_values::limits::{MAX_ENTRIES, MAX_GROSS, MAX_SERIALS, MAX_VERSIONS};
@@ -24,6 +25,13 @@ pub fn is_serial(number: u64) -> bool
     ensures { (result ≡ true) ↔ IsSerial number }
 {
     number >= 1 && number <= MAX_SERIALS
+}
+
+/// Whether a payout list can have this number, 1 to 50,000,000.
+pub fn is_list_no(number: u32) -> bool
+    ensures { (result ≡ true) ↔ IsListNo number }
+{
+    number >= 1 && u64::from(number) <= MAX_ENTRIES
 }
 
 /// Whether so many requests may have been accepted, at most 50,000,000.

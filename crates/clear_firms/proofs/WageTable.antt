@@ -103,3 +103,32 @@ rises a b less = rw (numbers_compare a.employer b.employer, months_compare a.mon
 
 pub answers : {S : Type 0} (g : Ghosts S) (t : Tables) (db : Database) (e m : ℕ) → HasTables t db → AnswersJust g list (month_given e m) db (map wage_shown (filter (is_of e m) t.wages))
 answers g t db e m has = lists wages g t db has (month_given e m) wage_shown (is_of e m) (of_month e m) list_says sorted (λ _. refl) rises
+
+-- ---- those of a worker
+
+abbrev by_worker : List Term
+by_worker = op2 (Compare Eq Binary) (col 1 3) (col 0 0) ∷ []
+
+abbrev pub of_worker : List ℕ
+of_worker = codes "SELECT employer, month, worker, gross FROM wages WHERE worker = ?1 ORDER BY employer, month, worker"
+
+of_worker_says : SaysQuery of_worker (plain_program 5 by_worker columns order)
+unfolding everything
+of_worker_says = record { names = _; said = (refl, refl, refl) }
+
+-- the row is of a worker
+abbrev pub is_for : ℕ → WageRow → Bool
+is_for w row = row.worker == w
+
+for_worker : (w : ℕ) (y : ℤ × WageRow) → meets by_worker (number w ∷ []) (wage_values y) ≡ is_for w (content y)
+for_worker w y = rw (equal_numbers (content y).worker w) (last ((content y).worker == w))
+  where
+    last : (b : Bool) → (b && true) ≡ b
+    last true = refl
+    last false = refl
+
+rises_for : (a b : WageRow) → by_key wage_key a b ≡ Less → output_cmp (plain_query 5 by_worker columns order) (sorted a, wage_shown a) (sorted b, wage_shown b) ≡ Less
+rises_for a b less = rw (numbers_compare a.employer b.employer, months_compare a.month b.month, numbers_compare a.worker b.worker) less
+
+pub answers_for : {S : Type 0} (g : Ghosts S) (t : Tables) (db : Database) (w : ℕ) → HasTables t db → AnswersJust g of_worker (number w ∷ []) db (map wage_shown (filter (is_for w) t.wages))
+answers_for g t db w has = lists wages g t db has (number w ∷ []) wage_shown (is_for w) (for_worker w) of_worker_says sorted (λ _. refl) rises_for

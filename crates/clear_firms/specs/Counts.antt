@@ -21,11 +21,15 @@ counts_given c =
     maybe c.day ∷ number c.entries ∷ number c.serial ∷ number c.claims ∷ number c.lists
     ∷ number c.runs ∷ []
 
+-- no more entries, serials and claims than there may be
+abbrev pub AreCountable : Told → Type 0
+AreCountable c = (c.entries ≤ most_entries) × (c.serial ≤ most_serials) × (c.claims ≤ most_entries)
+
 -- counts whose day and numbers lie in their ranges
 pub record AreCounts (c : Counts) : Type 0 where
   pub day : IfSome c.day IsDay
   pub entries : c.entries ≤ most_entries
   pub serial : c.serial ≤ most_serials
-  pub claims : c.claims < 2 ^ 32
+  pub claims : c.claims ≤ most_entries
   pub lists : c.lists < 2 ^ 32
   pub runs : c.runs < 2 ^ 32

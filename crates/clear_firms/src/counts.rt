@@ -1,12 +1,13 @@
 //! The counts of the office: the one row of `meta`.
-ghost use Rattle.std.specs.Prelude.{◌≡◌, ◌≢◌, ◌≤◌, [], ◌∷◌, false, IfErr, IfOk};
+ghost use Rattle.std.specs.Prelude.{◌≡◌, ◌≢◌, ◌↔◌, [], ◌∷◌, true, false, IfErr, IfOk};
 ghost use Rattle.sqlite.specs.Values.{bound};
-ghost use Rattle.clear_values.specs.Limits.{most_entries, most_serials};
 ghost use Rattle.clear_schema.specs.Frame.{LooksUp, Writes};
 ghost use Rattle.clear_schema.specs.Values.{Counts as Stored, counts_of, with_counts};
-ghost use Rattle.clear_firms.specs.Counts.{AreCounts, as_stored, counts_given};
+ghost use Rattle.clear_firms.specs.Counts.{AreCountable, AreCounts, as_stored, counts_given};
 
-use clear_columns::columns::{count_at, entry_count_at, maybe_day_at, serial_count_at};
+use clear_columns::columns::{
+    claim_count_at, count_at, entry_count_at, maybe_day_at, serial_count_at,
+};
 use clear_columns::parameters::maybe_day;
 use clear_columns::ranges::{is_entry_count, is_serial_count};
 use clear_money::days::Day;
@@ -78,21 +79,21 @@ fn read_counts(row: &Row) -> Result<Counts, Fault>
         day: maybe_day_at(row, 0)?,
         entries: entry_count_at(row, 1)?,
         serial: serial_count_at(row, 2)?,
-        claims: count_at(row, 3)?,
+        claims: claim_count_at(row, 3)?,
         lists: count_at(row, 4)?,
         runs: count_at(row, 5)?,
     })
 }
 
-/// Writes the counts in place of those that stand. More than 50,000,000 entries or 500,000,000,000
-/// serials are refused with `Fault::Store(StoreCause::Row)`, and nothing is done.
+/// Writes the counts in place of those that stand. More than 50,000,000 entries or claims, or
+/// 500,000,000,000 serials, are refused with `Fault::Store(StoreCause::Row)`, and nothing is done.
 pub fn put_counts<S: Alter>(tx: &mut Transaction<'_, S>, counts: &Counts) -> Result<(), Fault>
     ensures same_reference { tx.new.conn.ghost_name ≡ tx.old.conn.ghost_name }
     ensures writes { Writes S.Store tx.old.conn.now tx.new.conn.now result
-        (¬ ((counts.now.entries ≤ most_entries) × (counts.now.serial ≤ most_serials)))
+        (¬ AreCountable counts.now)
         (λ _. false) (λ t. with_counts (as_stored counts.now) t) }
 {
-    if !is_entry_count(counts.entries) || !is_serial_count(counts.serial) {
+    if !are_countable(counts) {
         return Err(Fault::Store(StoreCause::Row));
     }
     put(
@@ -103,10 +104,18 @@ pub fn put_counts<S: Alter>(tx: &mut Transaction<'_, S>, counts: &Counts) -> Res
     )
 }
 
+// Whether no count is above what it may be.
+fn are_countable(counts: &Counts) -> bool
+    ensures { (result ≡ true) ↔ AreCountable counts.now }
+{
+    is_entry_count(counts.entries)
+        && is_serial_count(counts.serial)
+        && is_entry_count(u64::from(counts.claims))
+}
+
 // What the statement is given of the counts.
 fn counts_values(counts: &Counts) -> [ValueRef<'static>; 6]
-    requires entries { counts.now.entries ≤ most_entries }
-    requires serial { counts.now.serial ≤ most_serials }
+    requires { AreCountable counts.now }
     ensures { bound result ≡ counts_given (as_stored counts.now) }
 {
     [

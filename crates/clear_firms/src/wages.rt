@@ -1,5 +1,5 @@
 //! The table of wages: the lines of each month's latest report.
-ghost use Rattle.std.specs.Prelude.{◌≡◌, ◌≤◌, false, filter};
+ghost use Rattle.std.specs.Prelude.{◌≡◌, ◌≤◌, ◌==◌, false, filter};
 ghost use Rattle.sqlite.specs.Values.{bound};
 ghost use Rattle.clear_values.specs.Keyed.{with_row, without_rows};
 ghost use Rattle.clear_values.specs.Limits.{most_gross};
@@ -11,12 +11,12 @@ ghost use Rattle.clear_firms.specs.Shown.{wage_shown};
 
 use crate::parameters::month_values;
 use clear_columns::columns::{employer_at, gross_at, month_at, worker_at};
-use clear_columns::parameters::{employer, worker};
+use clear_columns::parameters::{employer, worker as person};
 use clear_columns::queries::list;
 use clear_columns::ranges::is_gross;
 use clear_columns::rows::StoredTable;
 use clear_money::months::Month;
-use clear_money::numbers::EmployerNo;
+use clear_money::numbers::{EmployerNo, WorkerNo};
 use clear_schema::fault::Fault;
 use clear_schema::statement::put;
 use clear_schema::values::{month, number};
@@ -78,6 +78,23 @@ pub fn wages_of<S: Alter>(
     )
 }
 
+/// The lines of a worker in the latest reports, by firm and month.
+pub fn worker_wages<S: Alter>(
+    tx: &mut Transaction<'_, S>,
+    worker: WorkerNo,
+) -> Result<Vec<WageRow>, Fault>
+    ensures same_reference { tx.new.conn.ghost_name ≡ tx.old.conn.ghost_name }
+    ensures looks { Lists S.Store tx.old.conn.now tx.new.conn.now result IsWageRow
+        (λ t. filter (λ row. row.worker == worker) t.wages) }
+{
+    list::<S, Wages>(
+        tx,
+        "SELECT employer, month, worker, gross FROM wages WHERE worker = ?1 \
+         ORDER BY employer, month, worker",
+        &[person(worker)],
+    )
+}
+
 /// The table of wages.
 pub struct Wages;
 
@@ -109,7 +126,7 @@ fn wage_values(row: &WageRow) -> [ValueRef<'static>; 4]
     [
         employer(row.employer),
         month(row.month),
-        worker(row.worker),
+        person(row.worker),
         number(row.gross),
     ]
 }

@@ -1,4 +1,6 @@
 pub mod BankTable
+pub mod ClaimTable
 pub mod CreditTable
 pub mod ReplyLemmas
 pub mod RequestTable
+pub mod StateLemmas

@@ -1,15 +1,20 @@
 -- What a query shows of a row, and when a row that is to be added finds its key held.
-use Rattle.std.specs.Prelude.{ℕ, ◌<◌, ◌^◌, Bool, ◌||◌, List, [], ◌∷◌}
+use Rattle.std.specs.Prelude.{ℕ, ◌<◌, ◌^◌, Bool, ◌||◌, List, [], ◌∷◌, Some, None}
 use Rattle.sqlite.specs.declared.types.Value.TheVariants.{Blob, Text}
 use Rattle.sqlite.specs.Order.{Row}
 use Rattle.clear_values.specs.Tables.{RequestRow, bank_key}
 use Rattle.clear_values.specs.declared.rows.BankRow.{BankRow}
+use Rattle.clear_values.specs.declared.rows.ClaimRow.{ClaimRow}
+use Rattle.clear_values.specs.declared.rows.ClaimState.{ClaimState}
+use Rattle.clear_values.specs.declared.rows.ClaimState.TheVariants.{Open, Withdrawn, Released}
 use Rattle.clear_values.specs.declared.rows.CreditRow.{CreditRow}
 use Rattle.clear_values.specs.declared.replies.Reply.{Reply}
-use Rattle.clear_values.specs.declared.replies.Reply.TheVariants.{Done, Reported, Imported}
+use Rattle.clear_values.specs.declared.replies.Reply.TheVariants.{Done, Reported, Imported, Claimed}
+use Rattle.clear_values.specs.declared.replies.Reply.TheVariants.{Released as reply_of_release}
 use Rattle.clear_schema.specs.Values.{caller_number, number, maybe, purpose}
 use Rattle.clear_columns.specs.Keys.{is_held}
 use Rattle.clear_ledger.specs.declared.replies.ReplyNumbers.{ReplyNumbers}
+use Rattle.clear_ledger.specs.declared.states.StateColumns.{StateColumns}
 
 -- a bank line
 abbrev pub bank_shown : BankRow → Row
@@ -32,6 +37,40 @@ serial_key row = row.serial ∷ []
 abbrev pub is_line_held : BankRow → List BankRow → Bool
 is_line_held row rows = is_held bank_key row rows || is_held serial_key row rows
 
+-- ---- claims
+
+-- the columns of a claim that is not released: what its state is, and nothing besides
+abbrev pub unsettled : ℕ → StateColumns
+unsettled code = record {
+  code = code;
+  released = None;
+  settlement = record { to_contributions = 0; to_interest = 0; paid = 0 };
+  list = None;
+}
+
+-- the columns that tell how a claim stands: 0 is open, 1 is withdrawn, and 2 is released
+abbrev pub columns_of : ClaimState → StateColumns
+columns_of Open = unsettled 0
+columns_of Withdrawn = unsettled 1
+columns_of (Released release) = record {
+  code = 2;
+  released = Some release.day;
+  settlement = release.settlement;
+  list = release.list;
+}
+
+-- a claim whose state these columns tell
+abbrev pub shown_with : ClaimRow → StateColumns → Row
+shown_with row columns =
+    number row.claim ∷ number row.employer ∷ number row.worker ∷ number row.cents
+    ∷ number columns.code ∷ number row.made ∷ maybe columns.released
+    ∷ number columns.settlement.to_contributions ∷ number columns.settlement.to_interest
+    ∷ number columns.settlement.paid ∷ maybe columns.list ∷ []
+
+-- a claim
+abbrev pub claim_shown : ClaimRow → Row
+claim_shown row = shown_with row (columns_of row.state)
+
 -- ---- requests
 
 -- the kind of a reply, and its numbers
@@ -39,6 +78,13 @@ abbrev pub numbers_of : Reply → ReplyNumbers
 numbers_of Done = record { kind = 1; a = 0; b = 0; c = 0 }
 numbers_of (Reported version charge) = record { kind = 2; a = version; b = charge; c = 0 }
 numbers_of (Imported new repeats) = record { kind = 3; a = new; b = repeats; c = 0 }
+numbers_of (Claimed claim) = record { kind = 4; a = claim; b = 0; c = 0 }
+numbers_of (reply_of_release settlement) = record {
+  kind = 5;
+  a = settlement.to_contributions;
+  b = settlement.to_interest;
+  c = settlement.paid;
+}
 
 -- 63 bits hold each of them
 abbrev pub AreSmall : ReplyNumbers → Type 0

@@ -4,8 +4,11 @@ ghost use Rattle.clear_values.specs.declared.replies.Reply.{Reply};
 ghost use Rattle.clear_values.specs.RowRanges.{IsReply};
 ghost use Rattle.clear_ledger.specs.Shown.{AreSmall, numbers_of};
 
+use crate::states::settled_cents;
+use clear_money::numbers::Amount;
 use clear_values::limits::{MAX_BASE, MAX_RECORDS, MAX_VERSIONS};
-use clear_values::replies::Reply;
+use clear_values::numbers::ClaimNo;
+use clear_values::replies::{Reply, Settlement};
 
 /// The kind of a reply, and its own numbers: 0 stands for those that it has not.
 #[derive(Clone, Copy, PartialEq, Eq)]
@@ -16,7 +19,8 @@ pub struct ReplyNumbers {
     pub c: u64,
 }
 
-/// The numbers of a reply. Kind 1 is done, 2 is reported, and 3 is imported.
+/// The numbers of a reply. Kind 1 is done, 2 is reported, 3 is imported, 4 is claimed, and 5 is
+/// released.
 pub fn reply_numbers(reply: Reply) -> ReplyNumbers
     ensures value { result ≡ numbers_of reply }
     ensures small { IsReply reply → AreSmall result }
@@ -25,6 +29,8 @@ pub fn reply_numbers(reply: Reply) -> ReplyNumbers
         Reply::Done => numbers(1, 0, 0),
         Reply::Reported { version, charge } => numbers(2, u64::from(version), charge),
         Reply::Imported { new, repeats } => numbers(3, new, repeats),
+        Reply::Claimed { claim } => numbers(4, u64::from(claim), 0),
+        Reply::Released(settlement) => settlement_numbers(settlement),
     }
 }
 
@@ -33,6 +39,18 @@ fn numbers(kind: u64, a: u64, b: u64) -> ReplyNumbers
     ensures { result ≡ record { kind = kind; a = a; b = b; c = 0 } }
 {
     ReplyNumbers { kind, a, b, c: 0 }
+}
+
+// The numbers of a release.
+fn settlement_numbers(settlement: Settlement) -> ReplyNumbers
+    ensures { result ≡ numbers_of (Reply.Released settlement) }
+{
+    ReplyNumbers {
+        kind: 5,
+        a: settlement.to_contributions,
+        b: settlement.to_interest,
+        c: settlement.paid,
+    }
 }
 
 /// The reply in its ranges that has these numbers, if there is one.
@@ -69,6 +87,15 @@ fn reply_of_kind(numbers: ReplyNumbers) -> Option<Reply>
             new: numbers.a,
             repeats: numbers.b,
         }),
+        4 => match u32::try_from(numbers.a) {
+            Ok(claim) => Some(Reply::Claimed { claim }),
+            Err(_) => None,
+        },
+        5 => Some(Reply::Released(Settlement {
+            to_contributions: numbers.a,
+            to_interest: numbers.b,
+            paid: numbers.c,
+        })),
         _ => None,
     }
 }
@@ -85,5 +112,10 @@ pub fn is_reply(reply: Reply) -> bool
         Reply::Imported { new, repeats } => {
             new <= MAX_RECORDS as u64 && repeats <= MAX_RECORDS as u64
         }
+        Reply::Claimed { claim } => ClaimNo::new(u64::from(claim)).is_some(),
+        Reply::Released(settlement) => match settled_cents(settlement) {
+            Some(cents) => Amount::new(cents).is_some(),
+            None => false,
+        },
     }
 }

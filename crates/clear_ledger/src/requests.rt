@@ -36,7 +36,8 @@ pub struct KeptRequest {
     /// The bytes of its command, whatever they are.
     pub command: Vec<u8>,
     /// What it was answered: a version from 1 to 10,000 and a charge of at most 5,000,000,000
-    /// cents, or at most 10,000 new lines and as many repeats.
+    /// cents, at most 10,000 new lines and as many repeats, the number of a claim from 1 to
+    /// 50,000,000, or a settlement of 1 to 100,000,000,000 cents.
     pub reply: Reply,
 }
 

@@ -1,20 +1,21 @@
 -- A change that leads to the tables of a book.
-use Rattle.std.proofs.Common.{◌≡◌, ℕ, ◌+◌, ◌≤◌, List, [], ◌∷◌, None, refl, ap, arith}
+use Rattle.std.proofs.Common.{◌≡◌, ℕ, ◌+◌, ◌≤◌, List, [], ◌∷◌, None, refl, sym, ap, subst, arith}
 use Rattle.std.specs.List.{AllByRecursion}
 use Rattle.clear_values.specs.declared.rows.Change.{Change}
-use Rattle.clear_values.specs.declared.rows.Change.TheVariants.{AddEmployer, AddReport, ReplaceReport, AddBankLines}
+use Rattle.clear_values.specs.declared.rows.Change.TheVariants.{AddEmployer, AddReport, ReplaceReport, AddBankLines, AddClaim, WithdrawClaim, ReleaseClaim}
 use Rattle.clear_values.specs.declared.texts.WageLine.{WageLine}
 use Rattle.clear_values.specs.Credits.{credit_key}
 use Rattle.clear_values.specs.Tables.{request_number}
 use Rattle.clear_book.specs.Book.{Book, Entry}
-use Rattle.clear_values.specs.Keyed.{is_key, find_row, without_rows, AreOnce}
-use Rattle.clear_values.specs.Credits.{credits_of_lines}
+use Rattle.clear_values.specs.Keyed.{is_key, find_row, without_rows, AreInOrder, AreOnce}
+use Rattle.clear_values.specs.Credits.{credits_of_lines, set_offs_of}
 use Rattle.clear_book.specs.Lines.{lines_standing}
 use Rattle.clear_book.specs.Machine.{IsLawful}
-use Rattle.clear_values.specs.RowRanges.{AreInRange, IsBankRow, IsReply, IsReportRow, IsRequestRow, IsSerial, IsWageRow}
-use Rattle.clear_values.specs.Tables.{Tables, bank_key, changed, employer_key, is_wage_key_of, report_key, request_key, wage_key, wage_rows}
+use Rattle.clear_values.specs.RowRanges.{AreInRange, IsBankRow, IsClaimRow, IsCreditRow, IsReply, IsReportRow, IsRequestRow, IsSerial, IsWageRow}
+use Rattle.clear_values.specs.Tables.{Tables, bank_key, changed, claim_key, employer_key, is_wage_key_of, report_key, request_key, wage_key, wage_rows}
 use Rattle.clear_book.specs.Tables.{Stands, noted, request_row}
 use Rattle.clear_values.proofs.KeyedRowsLemmas.{count_by-ordered}
+use Rattle.clear_book.proofs.ClaimsLemmas.{claims_numbered}
 use Rattle.clear_book.proofs.LinesLemmas.{references_standing, serials_once, standing_seen}
 use Rattle.clear_book.proofs.RowRangeLemmas.{rows_in_range}
 use Rattle.sqlite_keyed.proofs.ListLemmas.{all_weaker}
@@ -22,7 +23,7 @@ use Rattle.clear_schema.specs.Values.{Counts as Stored, counts_of}
 use Rattle.clear_firms.specs.declared.counts.Counts.{Counts}
 use Rattle.clear_firms.specs.Counts.{as_stored}
 use Rattle.clear_ledger.specs.Shown.{serial_key}
-use Rattle.clear_store.specs.Changes.{AreGross, HasRoom, IsFree, IsInRange, IsPuttable, serials_taken}
+use Rattle.clear_store.specs.Changes.{AreGross, HasRoom, IsFree, IsInRange, IsPuttable, claims_taken, serials_taken}
 use Rattle.clear_store.proofs.OnceLemmas.{all_new, all_with, in_order_free, key_count, once_counted, once_free}
 
 -- ---- keys
@@ -50,6 +51,10 @@ change_free next t x (AddBankLines rows) stands = (
   once_free serial_key bank_key t.bank rows (serials_counted next (noted x (changed (AddBankLines rows) t)) stands),
   in_order_free credit_key t.credits (credits_of_lines rows) stands.credits_in_order,
 )
+change_free next t x (AddClaim row) stands =
+    (in_order_free claim_key t.claims (row ∷ []) (subst (AreInOrder claim_key) (sym stands.claims) (claims_numbered next.entries).order)).0
+change_free next t x (WithdrawClaim row) stands = tt
+change_free next t x (ReleaseClaim row serial) stands = in_order_free credit_key t.credits (set_offs_of row serial) stands.credits_in_order
 
 -- and the number of the request
 pub number_free : (next : Book) (t : Tables) (x : Entry) (change : Change) → Stands next (noted x (changed change t)) → find_row request_key t.requests (request_number x.caller x.number) ≡ None
@@ -57,6 +62,9 @@ number_free next t x (AddEmployer row) stands = (in_order_free request_key t.req
 number_free next t x (AddReport row lines) stands = (in_order_free request_key t.requests (request_row x ∷ []) stands.requests_in_order).0
 number_free next t x (ReplaceReport row lines) stands = (in_order_free request_key t.requests (request_row x ∷ []) stands.requests_in_order).0
 number_free next t x (AddBankLines rows) stands = (in_order_free request_key t.requests (request_row x ∷ []) stands.requests_in_order).0
+number_free next t x (AddClaim row) stands = (in_order_free request_key t.requests (request_row x ∷ []) stands.requests_in_order).0
+number_free next t x (WithdrawClaim row) stands = (in_order_free request_key t.requests (request_row x ∷ []) stands.requests_in_order).0
+number_free next t x (ReleaseClaim row serial) stands = (in_order_free request_key t.requests (request_row x ∷ []) stands.requests_in_order).0
 
 -- ---- ranges
 
@@ -82,6 +90,14 @@ rows_puttable t x (ReplaceReport row lines) within =
     ((report.some, report.few), all_gross row.employer row.month lines wages.1)
 rows_puttable t x (AddBankLines rows) within =
     all_weaker IsBankRow (λ row. IsSerial row.serial) (λ row good. good.serial) rows (all_new bank_key IsBankRow t.bank rows within.bank).1
+rows_puttable t x (AddClaim row) within = (all_with claim_key IsClaimRow t.claims row within.claims).1
+rows_puttable t x (WithdrawClaim row) within =
+    (all_with claim_key IsClaimRow (without_rows claim_key (λ k. is_key k (claim_key row)) t.claims) row within.claims).1
+rows_puttable t x (ReleaseClaim row serial) within = (
+  (all_with claim_key IsClaimRow (without_rows claim_key (λ k. is_key k (claim_key row)) t.claims) row within.claims).1,
+  all_weaker IsCreditRow (λ credit. IsSerial credit.serial) (λ credit good. good.serial) (set_offs_of row serial)
+      (all_new credit_key IsCreditRow t.credits (set_offs_of row serial) within.credits).1,
+)
 
 -- the last serial after a change is as many more as it takes
 serial_after : (change : Change) (t : Tables) → t.serial + serials_taken change ≡ (changed change t).serial
@@ -89,6 +105,19 @@ serial_after (AddEmployer row) t = omega arith
 serial_after (AddReport row lines) t = omega arith
 serial_after (ReplaceReport row lines) t = omega arith
 serial_after (AddBankLines rows) t = omega arith
+serial_after (AddClaim row) t = omega arith
+serial_after (WithdrawClaim row) t = omega arith
+serial_after (ReleaseClaim row serial) t = omega arith
+
+-- and so is the last number of a claim
+claims_after : (change : Change) (t : Tables) → t.last_claim + claims_taken change ≡ (changed change t).last_claim
+claims_after (AddEmployer row) t = omega arith
+claims_after (AddReport row lines) t = omega arith
+claims_after (ReplaceReport row lines) t = omega arith
+claims_after (AddBankLines rows) t = omega arith
+claims_after (AddClaim row) t = omega arith
+claims_after (WithdrawClaim row) t = omega arith
+claims_after (ReleaseClaim row serial) t = omega arith
 
 -- so the change can be put
 pub change_puttable : (next : Book) (t : Tables) (x : Entry) (change : Change) (counts : Counts) → IsLawful next → Stands next (noted x (changed change t)) → as_stored counts ≡ counts_of t → IsPuttable counts change
@@ -102,14 +131,21 @@ change_puttable next t x change counts lawful stands same =
     serial : counts.serial ≡ t.serial
     serial = ap (λ (c : Stored). c.serial) same
 
+    claims : counts.claims ≡ t.last_claim
+    claims = ap (λ (c : Stored). c.claims) same
+
     entries_after : (change : Change) → t.entries + 1 ≡ (noted x (changed change t)).entries
     entries_after (AddEmployer row) = refl
     entries_after (AddReport row lines) = refl
     entries_after (ReplaceReport row lines) = refl
     entries_after (AddBankLines rows) = refl
+    entries_after (AddClaim row) = refl
+    entries_after (WithdrawClaim row) = refl
+    entries_after (ReleaseClaim row serial) = refl
 
-    room : (change : Change) → AreInRange (noted x (changed change t)) → HasRoom counts (serials_taken change)
+    room : (change : Change) → AreInRange (noted x (changed change t)) → HasRoom counts (serials_taken change) (claims_taken change)
     room change within = (
       omega (arith, entries, entries_after change, within.entries),
       omega (arith, serial, serial_after change t, within.serial),
+      omega (arith, claims, claims_after change t, within.last_claim),
     )

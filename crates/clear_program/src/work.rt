@@ -168,7 +168,9 @@ fn import<S: Alter>(
         Reply::Imported { new, repeats } => {
             Ok(format!(in alloc; "new {new} repeats {repeats}\n")?)
         }
-        Reply::Done | Reply::Reported { .. } => Err(stop_at_records()),
+        Reply::Done | Reply::Reported { .. } | Reply::Claimed { .. } | Reply::Released(_) => Err(
+            stop_at_records(),
+        ),
     }
 }
 

@@ -15,7 +15,7 @@ use Rattle.clear_routes.specs.Raw.{texts_in}
 use Rattle.clear_routes.specs.Raw.{AllAscii}
 use Rattle.clear_routes.specs.Fitting.{NoSlash, IsParameter}
 use Rattle.clear_routes.specs.declared.kinds.Kind.{Kind}
-use Rattle.clear_routes.specs.declared.kinds.Kind.TheVariants.{Employer, Month}
+use Rattle.clear_routes.specs.declared.kinds.Kind.TheVariants.{Employer, Month, Claim}
 use Rattle.clear_routes.specs.declared.kinds.Kinds.{Kinds}
 use Rattle.clear_routes.specs.declared.kinds.Kinds.TheVariants.{One, Two}
 use Rattle.clear_routes.specs.declared.parameters.Parameters.{Parameters}
@@ -92,14 +92,17 @@ month_same m n hm hn e =
 spelling_part : (kind : Kind) (n : ℕ) → IsOfKind kind n → IsParameter (spelling kind n)
 spelling_part Employer n h = number_part n (omega (arith, h.1))
 spelling_part Month n h = month_part n h
+spelling_part Claim n h = number_part n (omega (arith, h.1))
 
 spelling_ascii : (kind : Kind) (n : ℕ) → IsOfKind kind n → IsAscii (spelling kind n)
 spelling_ascii Employer n h = IsAscii-decimal n (omega (arith, h.1))
 spelling_ascii Month n h = month_ascii n h
+spelling_ascii Claim n h = IsAscii-decimal n (omega (arith, h.1))
 
 spelling_one : (kind : Kind) (n m : ℕ) → IsOfKind kind n → IsOfKind kind m → spelling kind n ≡ spelling kind m → n ≡ m
 spelling_one Employer n m h k e = decimal_injective n m (omega (arith, h.1)) (omega (arith, k.1)) e
 spelling_one Month n m h k e = month_same n m h.1 k.1 e
+spelling_one Claim n m h k e = decimal_injective n m (omega (arith, h.1)) (omega (arith, k.1)) e
 
 -- ---- lists of values
 

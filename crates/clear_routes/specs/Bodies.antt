@@ -1,10 +1,12 @@
 -- What the JSON bodies of requests say.
 use Rattle.std.specs.Prelude.{ℕ, List, [], ◌∷◌, codes, Result, Ok, Err, ⊤}
 use Rattle.clear_book.specs.declared.calls.Correction.{Correction}
+use Rattle.clear_book.specs.declared.calls.HolidayClaim.{HolidayClaim}
 use Rattle.clear_book.specs.declared.calls.Registration.{Registration}
 use Rattle.clear_book.specs.declared.calls.WageReport.{WageReport}
 use Rattle.clear_routes.specs.Faults.{Part, whole_body}
 use Rattle.clear_routes.specs.Members.{employer_at, name_at, month_at, lines_at, within_at}
+use Rattle.clear_routes.specs.Members.{amount_at, worker_at}
 use Rattle.clear_money.specs.Results.{◌>>=◌}
 use Rattle.clear_routes.specs.Object.{body_of, also, done}
 
@@ -30,6 +32,13 @@ correction_of employer month bytes = do
     report = record { employer = employer; month = month; lines = said.0 };
     version = said.1.0;
   })
+
+-- the claim of an employer that the bytes are
+unfoldable pub claim_of : ℕ → List ℕ → Result HolidayClaim Part
+claim_of employer bytes = do
+  said ← body_of (also amount_at (also worker_at done))
+      (codes "cents" ∷ codes "worker" ∷ []) bytes
+  Ok (record { employer = employer; worker = said.1.0; cents = said.0 })
 
 -- there is no body
 abbrev pub nothing_of : List ℕ → Result ⊤ Part

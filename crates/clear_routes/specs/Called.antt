@@ -9,7 +9,8 @@ use Rattle.clear_book.specs.declared.calls.Command.{Command}
 use Rattle.clear_book.specs.declared.calls.Command.TheVariants as command
 use Rattle.clear_book.specs.declared.calls.Query.{Query}
 use Rattle.clear_book.specs.declared.calls.Query.TheVariants as query
-use Rattle.clear_routes.specs.Bodies.{registration_of, report_of, correction_of}
+use Rattle.clear_routes.specs.Bodies.{registration_of, report_of, correction_of, claim_of}
+use Rattle.clear_routes.specs.Bodies.{nothing_of}
 use Rattle.clear_money.specs.Results.{◌>>=◌, or_fault}
 use Rattle.clear_routes.specs.Faults.{Part, request_number}
 use Rattle.clear_book.specs.Limits.{most_request_no}
@@ -49,6 +50,15 @@ command_for kind.Report at body = do
 command_for kind.Correct at body = do
   correction ← correction_of at.employer at.month body
   Ok (command.Correct correction)
+command_for kind.Claim at body = do
+  claim ← claim_of at.employer body
+  Ok (command.Claim claim)
+command_for kind.Withdraw at body = do
+  _ ← nothing_of body
+  Ok (command.Withdraw (record { employer = at.employer; claim = at.claim }))
+command_for kind.Release at body = do
+  _ ← nothing_of body
+  Ok (command.Release at.claim)
 command_for kind.ImportBank at body = Ok (command.ImportBank body)
 
 -- the query of this kind about the path's parameters

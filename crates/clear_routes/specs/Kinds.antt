@@ -4,8 +4,9 @@ use Rattle.std.specs.Fmt.{decimal}
 use Rattle.clear_money.specs.Calendar.{IsMonth}
 use Rattle.clear_money.specs.Numbers.{IsEmployerNo}
 use Rattle.clear_money.specs.Texts.{month_text}
+use Rattle.clear_book.specs.Numbers.{IsClaimNo}
 use Rattle.clear_routes.specs.declared.kinds.Kind.{Kind}
-use Rattle.clear_routes.specs.declared.kinds.Kind.TheVariants.{Employer, Month}
+use Rattle.clear_routes.specs.declared.kinds.Kind.TheVariants.{Employer, Month, Claim}
 use Rattle.clear_routes.specs.declared.kinds.Kinds.{Kinds}
 use Rattle.clear_routes.specs.declared.kinds.Kinds.TheVariants.{Zero, One, Two}
 use Rattle.clear_routes.specs.declared.parameters.Parameters.{Parameters}
@@ -14,20 +15,23 @@ use Rattle.clear_routes.specs.declared.parameters.Parameters.{Parameters}
 abbrev pub IsOfKind : Kind → ℕ → Type 0
 IsOfKind Employer n = IsEmployerNo n
 IsOfKind Month n = IsMonth n
+IsOfKind Claim n = IsClaimNo n
 
 -- how a value of the kind is written
 abbrev pub spelling : Kind → ℕ → List ℕ
 spelling Employer n = decimal n
 spelling Month n = month_text n
+spelling Claim n = decimal n
 
 -- the parameters with this value in the place of its kind
 abbrev pub with_value : Kind → ℕ → Parameters → Parameters
 with_value Employer n p = record p { employer = n }
 with_value Month n p = record p { month = n }
+with_value Claim n p = record p { claim = n }
 
 -- the least value of each kind
 abbrev pub least : Parameters
-least = record { employer = 1; month = 24000 }
+least = record { employer = 1; month = 24000; claim = 1 }
 
 -- the kinds in their order
 abbrev pub kinds_in : Kinds → List Kind

@@ -40,6 +40,10 @@ employer_at name d = number_at name d >>= within 1 99999999
 abbrev pub worker_at : List ℕ → Data → Option ℕ
 worker_at name d = number_at name d >>= within 1 999999999
 
+-- the cents of a payment or a claim that the member is
+abbrev pub amount_at : List ℕ → Data → Option ℕ
+amount_at name d = number_at name d >>= within 1 100000000000
+
 -- the number from low to high that the member is
 abbrev pub within_at : ℕ → ℕ → List ℕ → Data → Option ℕ
 within_at low high name d = number_at name d >>= within low high

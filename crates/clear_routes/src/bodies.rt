@@ -3,17 +3,17 @@
 ghost use Rattle.std.specs.Prelude.{◌≡◌, IfErr};
 ghost use Rattle.clear_routes.specs.Faults.{Gives};
 ghost use Rattle.clear_routes.specs.Bodies.{registration_of, report_of};
-ghost use Rattle.clear_routes.specs.Bodies.{correction_of, nothing_of};
+ghost use Rattle.clear_routes.specs.Bodies.{correction_of, claim_of, nothing_of};
 ghost use Rattle.clear_routes.specs.declared.faults.BodyFault.TheVariants as fault;
 ghost use Rattle.clear_routes.specs.declared.faults.Member.TheVariants as member;
 
 use crate::faults::{BodyFault, Member};
 use crate::object::read_body;
 use crate::within::Within;
-use clear_book::calls::{Correction, Registration, WageReport};
+use clear_book::calls::{Correction, HolidayClaim, Registration, WageReport};
 use clear_book::texts::{Name, WageLines};
 use clear_money::months::Month;
-use clear_money::numbers::EmployerNo;
+use clear_money::numbers::{Amount, EmployerNo, WorkerNo};
 use std::alloc::Global;
 
 /// The version that a correction is to replace.
@@ -80,6 +80,28 @@ pub fn read_correction(
     Ok(Correction {
         report,
         version: version.number() as u32,
+    })
+}
+
+/// The claim of an employer: `cents`, a number from 1 to 100,000,000,000, and `worker`, a number from
+/// 1 to 999,999,999.
+#[tactic(auto, unfolding(crate::specs::Bodies::claim_of))]
+pub fn read_claim(
+    alloc: Global,
+    employer: EmployerNo,
+    body: &[u8],
+) -> Result<HolidayClaim, BodyFault>
+    ensures { Gives result (claim_of employer body.now) }
+{
+    let (cents, (worker, ())) = read_body::<(Amount, (WorkerNo, ()))>(
+        alloc,
+        body,
+        &["cents", "worker"],
+    )?;
+    Ok(HolidayClaim {
+        employer,
+        worker,
+        cents,
     })
 }
 

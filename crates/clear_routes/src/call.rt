@@ -6,7 +6,7 @@ ghost use Rattle.clear_routes.specs.Called.{number_spelled, number_of, called_fo
 ghost use Rattle.clear_routes.specs.Called.{command_for, query_for};
 ghost use Rattle.clear_routes.specs.Reading.{caller_at, Reads};
 
-use crate::bodies::{read_correction, read_registration, read_report};
+use crate::bodies::{read_claim, read_correction, read_nothing, read_registration, read_report};
 use crate::faults::{BodyFault, Member};
 use crate::methods::Action;
 use crate::parameters::Parameters;
@@ -14,7 +14,7 @@ use crate::refused::Refused;
 use crate::route::Route;
 use crate::routes::Routes;
 use crate::table::{CommandKind, QueryKind};
-use clear_book::calls::{Call, Caller, Command, Query};
+use clear_book::calls::{Call, Caller, Command, Query, Withdrawal};
 use clear_book::files::BankFile;
 use clear_book::numbers::RequestNo;
 use clear_book::rules::Rule;
@@ -114,6 +114,18 @@ fn command_for(
         CommandKind::Correct => {
             let correction = read_correction(alloc, at.employer, at.month, body)?;
             Ok(Command::Correct(correction))
+        }
+        CommandKind::Claim => Ok(Command::Claim(read_claim(alloc, at.employer, body)?)),
+        CommandKind::Withdraw => {
+            read_nothing(body)?;
+            Ok(Command::Withdraw(Withdrawal {
+                employer: at.employer,
+                claim: at.claim,
+            }))
+        }
+        CommandKind::Release => {
+            read_nothing(body)?;
+            Ok(Command::Release(at.claim))
         }
         CommandKind::ImportBank => {
             let bytes = Vec::from_slice(alloc, body)?;

@@ -7,6 +7,8 @@ pub enum Kind {
     Employer,
     /// A month, `YYYY-MM`.
     Month,
+    /// A claim's number.
+    Claim,
 }
 
 /// The kinds of a path's parameters, in their order.

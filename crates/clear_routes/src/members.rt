@@ -10,7 +10,7 @@ use crate::object::FromMember;
 use crate::within::Within;
 use clear_book::texts::{Name, WageLine, WageLines};
 use clear_money::months::Month;
-use clear_money::numbers::{EmployerNo, WorkerNo};
+use clear_money::numbers::{Amount, EmployerNo, WorkerNo};
 use serde_json::Value;
 use std::alloc::{AllocError, Global};
 
@@ -28,6 +28,37 @@ impl FromMember for EmployerNo {
             return Ok(None);
         };
         Ok(EmployerNo::new(number))
+    }
+}
+
+impl FromMember for WorkerNo {
+    ghost use Rattle.clear_routes.specs.Members.{worker_at};
+
+    ghost value_at = { worker_at };
+
+    fn from_member(
+        _alloc: Global,
+        value: &Value,
+        name: &str,
+    ) -> Result<Option<WorkerNo>, AllocError> {
+        Ok(worker_at(value, name))
+    }
+}
+
+impl FromMember for Amount {
+    ghost use Rattle.clear_routes.specs.Members.{amount_at};
+
+    ghost value_at = { amount_at };
+
+    fn from_member(
+        _alloc: Global,
+        value: &Value,
+        name: &str,
+    ) -> Result<Option<Amount>, AllocError> {
+        let Some(number) = number_at(value, name) else {
+            return Ok(None);
+        };
+        Ok(Amount::new(number))
     }
 }
 

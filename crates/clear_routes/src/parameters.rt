@@ -2,12 +2,14 @@
 ghost use Rattle.std.specs.Prelude.{◌≡◌, ◌≢◌, ℕ, List, IfSome, IfNone};
 ghost use Rattle.std.specs.Fmt.{decimal};
 ghost use Rattle.clear_money.specs.Numbers.{IsEmployerNo};
+ghost use Rattle.clear_book.specs.Numbers.{IsClaimNo};
 ghost use Rattle.clear_routes.specs.Kinds.{IsOfKind, AreOfKinds, kinds_in, spelling, spellings};
 ghost use Rattle.clear_routes.specs.Kinds.{with_value, parameters, least};
 ghost use Rattle.clear_routes.specs.Raw.{texts_in};
 
 use crate::kinds::{Kind, Kinds};
 use crate::paths::Texts;
+use clear_book::numbers::ClaimNo;
 use clear_money::months::Month;
 use clear_money::numbers::{EmployerNo, read_number};
 
@@ -17,6 +19,7 @@ use clear_money::numbers::{EmployerNo, read_number};
 pub struct Parameters {
     pub employer: EmployerNo,
     pub month: Month,
+    pub claim: ClaimNo,
 }
 
 impl Parameters {
@@ -24,10 +27,18 @@ impl Parameters {
     fn none() -> Parameters
         ensures { result ≡ least }
     {
-        let (Some(employer), Some(month)) = (EmployerNo::new(1), Month::new(2000, 1)) else {
+        let (Some(employer), Some(month), Some(claim)) = (
+            EmployerNo::new(1),
+            Month::new(2000, 1),
+            ClaimNo::new(1),
+        ) else {
             unreachable!()
         };
-        Parameters { employer, month }
+        Parameters {
+            employer,
+            month,
+            claim,
+        }
     }
 
     /// These and one more, which the text spells. None if it spells no value of the kind.
@@ -48,6 +59,12 @@ impl Parameters {
                     return None;
                 };
                 Some(Parameters { month, ..self })
+            }
+            Kind::Claim => {
+                let Some(claim) = claim_in(text) else {
+                    return None;
+                };
+                Some(Parameters { claim, ..self })
             }
         }
     }
@@ -102,4 +119,15 @@ fn month_in(text: &str) -> Option<Month>
         → spelling Kind.Month n ≢ text.now) }
 {
     Month::read(text.as_bytes())
+}
+
+/// The claim with this number.
+fn claim_in(text: &str) -> Option<ClaimNo>
+    ensures found { IfSome result (λ n. IsClaimNo n × (decimal n ≡ text.now)) }
+    ensures only { IfNone result ((n : ℕ) → IsClaimNo n → decimal n ≢ text.now) }
+{
+    let Some(number) = read_number(text.as_bytes()) else {
+        return None;
+    };
+    ClaimNo::new(number)
 }

@@ -1,5 +1,5 @@
 //! What may be asked of the office, and the table of its paths.
-use crate::kinds::Kind::{Employer, Month};
+use crate::kinds::Kind::{Claim, Employer, Month};
 use crate::kinds::Kinds::{self, One, Two, Zero};
 use crate::methods::Methods::{self, Get, Post, PostPut};
 
@@ -9,6 +9,9 @@ pub enum CommandKind {
     Register,
     Report,
     Correct,
+    Claim,
+    Withdraw,
+    Release,
     ImportBank,
 }
 
@@ -34,6 +37,21 @@ pub const PATHS: &'static [(&'static str, Kinds, Methods)] = &[
         "/employers/{e}/reports/{m}",
         Two(Employer, Month),
         PostPut(CommandKind::Report, CommandKind::Correct),
+    ),
+    (
+        "/employers/{e}/claims",
+        One(Employer),
+        Post(CommandKind::Claim),
+    ),
+    (
+        "/employers/{e}/claims/{c}/withdraw",
+        Two(Employer, Claim),
+        Post(CommandKind::Withdraw),
+    ),
+    (
+        "/claims/{c}/release",
+        One(Claim),
+        Post(CommandKind::Release),
     ),
     ("/bank", Zero, Post(CommandKind::ImportBank)),
     ("/employers/{e}/owed", One(Employer), Get(QueryKind::Owed)),

@@ -2,6 +2,7 @@ pub mod Edits
 pub mod Held
 pub mod Inside
 pub mod KeepsKeys
+pub mod LayoutLemmas
 pub mod Queries
 pub mod Refused
 pub mod Reopened

@@ -2,7 +2,7 @@
 -- list one schema at most.
 use Rattle.std.proofs.Common.{◌≡◌, ◌∙◌, inl, inr, refl, sym, subst, true, arith, ℕ, List, IsTrue}
 use Rattle.sqlite.specs.Effect.{Database, IsDatabase}
-use Rattle.sqlite.specs.State.{State, HasCleanDisk, IsLive, Opens, Survives, CommitsShowing, KeepsCommit, IsRolledBack}
+use Rattle.sqlite.specs.State.{State, HasCleanDisk, Survives, CommitsShowing, KeepsCommit, IsRolledBack}
 use Rattle.sqlite.specs.Steps.{FailsToCommit}
 use Rattle.sqlite.specs.declared.error.Error.{Error}
 use Rattle.sqlite.specs.Held.{Held, state}
@@ -28,12 +28,6 @@ module _ (P : Database → Type 0) (sound : (db : Database) → P db → IsDatab
   -- a database whose trees stand for P has P
   pub found_by_trees : (db : Database) → IsDatabase db → Stands P db.trees → P db
   found_by_trees db obeys stands = subst P (sym (database_once db stands.0 obeys (sound stands.0 stands.1) stands.2)) stands.1
-
-  -- so the database of a connection that was just opened has P
-  pub found_open : (s : State) → Opens s → IsLive s → Stands P s.committed.trees → P s.now × P s.committed
-  found_open s opens live stands =
-      let there = found_by_trees s.committed (live opens.is_open).1 stands in
-      (subst P (sym opens.clean) there, there)
 
 -- one transaction: a crash leaves what it could leave before, or what was committed
 pub commits_survive : {S : Type 0} (g : Ghosts S) (old : Held S) (mid end : State) (P : Database → Type 0) → (HasCleanDisk mid → P mid.now)

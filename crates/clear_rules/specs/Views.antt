@@ -1,5 +1,8 @@
 -- What each decision is handed of the records: each part is the value of its definition.
+pub mod Claim
 pub mod ImportBank
 pub mod Register
+pub mod Release
 pub mod Report
 pub mod Serves
+pub mod Withdraw

@@ -1,7 +1,11 @@
 //! One module a command: its view, and the decision on it.
 
+pub mod claim;
 pub mod correct;
 pub mod import;
 pub mod lines;
 pub mod register;
+pub mod release;
 pub mod report;
+pub mod settle;
+pub mod withdraw;

@@ -2,8 +2,8 @@
 ghost use Rattle.std.specs.Prelude.{◌≡◌, ◌↔◌, IsTrue};
 ghost use Rattle.clear_schema.specs.Schema.{all_indexes, all_tables, store_schema};
 
-use crate::laid::ColumnLayout::{Blob, Int, MaybeInt, Text};
-use crate::laid::{IndexLayout, KeyLayout, TableLayout, are};
+use clear_rows::laid::ColumnLayout::{Blob, Int, MaybeInt, Text};
+use clear_rows::laid::{IndexLayout, KeyLayout, TableLayout, are};
 use sqlite_schema::schema::Schema;
 
 // The tables, in the order in which they are made.
@@ -167,7 +167,7 @@ const TABLES: &'static [TableLayout] = &[
     },
 ];
 
-// The indexes that keep the keys.
+// The indexes that keep the keys, and those that find the rows of a worker.
 const INDEXES: &'static [IndexLayout] = &[
     IndexLayout {
         name: "sqlite_autoindex_reports_1",
@@ -217,6 +217,20 @@ const INDEXES: &'static [IndexLayout] = &[
         table: 17,
         columns: &[1, 2],
         is_unique: true,
+    },
+    IndexLayout {
+        name: "wages_by_worker",
+        tree: 19,
+        table: 5,
+        columns: &[3, 1, 2],
+        is_unique: false,
+    },
+    IndexLayout {
+        name: "claims_by_worker",
+        tree: 20,
+        table: 12,
+        columns: &[3, 0],
+        is_unique: false,
     },
 ];
 

@@ -5,17 +5,20 @@ use Rattle.std.specs.List.{AllByRecursion}
 use Rattle.sqlite.specs.Held.{Held, state}
 use Rattle.sqlite.specs.State.{HasCleanDisk, KeepsCommit, Survives}
 use Rattle.sqlite.specs.Store.{Ghosts}
-use Rattle.clear_values.specs.Credits.{credit_key}
+use Rattle.clear_values.specs.Credits.{credit_key, credits_of_lines, set_offs_of}
 use Rattle.clear_values.specs.declared.rows.BankRow.{BankRow}
 use Rattle.clear_values.specs.declared.rows.Change.{Change}
 use Rattle.clear_values.specs.declared.rows.Change.TheVariants.{AddEmployer, AddReport}
 use Rattle.clear_values.specs.declared.rows.Change.TheVariants.{ReplaceReport, AddBankLines}
+use Rattle.clear_values.specs.declared.rows.Change.TheVariants.{AddClaim, WithdrawClaim, ReleaseClaim}
+use Rattle.clear_values.specs.declared.rows.ClaimRow.{ClaimRow}
+use Rattle.clear_values.specs.declared.rows.CreditRow.{CreditRow}
 use Rattle.clear_values.specs.declared.texts.WageLine.{WageLine}
 use Rattle.clear_values.specs.Keyed.{find_row, with_row, without_rows}
 use Rattle.clear_values.specs.Limits.{most_entries, most_gross, most_serials, most_versions}
-use Rattle.clear_values.specs.Credits.{credits_of_lines}
-use Rattle.clear_values.specs.RowRanges.{IsSerial}
-use Rattle.clear_values.specs.Tables.{Tables, bank_key, employer_key, report_key, wage_key}
+use Rattle.clear_values.specs.RowRanges.{IsClaimRow, IsSerial}
+use Rattle.clear_values.specs.Tables.{Tables, bank_key, claim_key, employer_key, report_key}
+use Rattle.clear_values.specs.Tables.{wage_key}
 use Rattle.clear_values.specs.Tables.{is_wage_key_of, wage_rows}
 use Rattle.clear_values.specs.declared.causes.StoreCause.TheVariants.{Constraint, Row as OutOfRange}
 use Rattle.clear_schema.specs.Held.{HasTables}
@@ -46,12 +49,19 @@ AreFree key rows [] = Unit {0}
 AreFree key rows (new ∷ news) =
     (find_row key rows (key new) ≡ None) × AreFree key (with_row key rows new) news
 
--- the month of a correction has a report
+-- there is a claim of its number
+abbrev pub IsClaimThere : ClaimRow → Tables → Type 0
+IsClaimThere row t = IsSome (find_row claim_key t.claims (claim_key row))
+
+-- the month of a correction has a report, and a claim that is withdrawn or released is there
 abbrev pub IsThere : Change → Tables → Type 0
 IsThere (AddEmployer row) t = Unit {0}
 IsThere (AddReport row lines) t = Unit {0}
 IsThere (ReplaceReport row lines) t = IsSome (find_row report_key t.reports (report_key row))
 IsThere (AddBankLines rows) t = Unit {0}
+IsThere (AddClaim row) t = Unit {0}
+IsThere (WithdrawClaim row) t = IsClaimThere row t
+IsThere (ReleaseClaim row serial) t = IsClaimThere row t
 
 -- each gross amount can be that of a line
 abbrev pub AreGross : List WageLine → Type 0
@@ -60,6 +70,10 @@ AreGross lines = AllByRecursion (λ line. line.gross ≤ most_gross) lines
 -- each serial can be that of a line
 abbrev pub AreSerials : List BankRow → Type 0
 AreSerials rows = AllByRecursion (λ row. IsSerial row.serial) rows
+
+-- each serial can be that of a credit
+abbrev pub HaveSerials : List CreditRow → Type 0
+HaveSerials credits = AllByRecursion (λ row. IsSerial row.serial) credits
 
 -- a report can have this version
 abbrev pub IsVersion : ℕ → Type 0
@@ -77,6 +91,9 @@ IsFree (ReplaceReport row lines) t =
 IsFree (AddBankLines rows) t =
     AreFree bank_key t.bank rows × AreFree serial_key t.bank rows
     × AreFree credit_key t.credits (credits_of_lines rows)
+IsFree (AddClaim row) t = find_row claim_key t.claims (claim_key row) ≡ None
+IsFree (WithdrawClaim row) t = Unit {0}
+IsFree (ReleaseClaim row serial) t = AreFree credit_key t.credits (set_offs_of row serial)
 
 -- the numbers in the rows lie in their ranges
 abbrev pub IsInRange : Change → Type 0
@@ -84,23 +101,46 @@ IsInRange (AddEmployer row) = Unit {0}
 IsInRange (AddReport row lines) = IsVersion row.version × AreGross lines
 IsInRange (ReplaceReport row lines) = IsVersion row.version × AreGross lines
 IsInRange (AddBankLines rows) = AreSerials rows
+IsInRange (AddClaim row) = IsClaimRow row
+IsInRange (WithdrawClaim row) = IsClaimRow row
+IsInRange (ReleaseClaim row serial) = IsClaimRow row × HaveSerials (set_offs_of row serial)
 
--- how many serials the change takes: one for each new line
+-- how many serials the change takes: one for each new line, and one for a release
 abbrev pub serials_taken : Change → ℕ
 serials_taken (AddEmployer row) = 0
 serials_taken (AddReport row lines) = 0
 serials_taken (ReplaceReport row lines) = 0
 serials_taken (AddBankLines rows) = length rows
+serials_taken (AddClaim row) = 0
+serials_taken (WithdrawClaim row) = 0
+serials_taken (ReleaseClaim row serial) = 1
 
--- one entry more and so many serials more can be counted
-abbrev pub HasRoom : Counts → ℕ → Type 0
-HasRoom c serials = (c.entries + 1 ≤ most_entries) × (c.serial + serials ≤ most_serials)
+-- how many numbers of claims the change takes
+abbrev pub claims_taken : Change → ℕ
+claims_taken (AddEmployer row) = 0
+claims_taken (AddReport row lines) = 0
+claims_taken (ReplaceReport row lines) = 0
+claims_taken (AddBankLines rows) = 0
+claims_taken (AddClaim row) = 1
+claims_taken (WithdrawClaim row) = 0
+claims_taken (ReleaseClaim row serial) = 0
+
+-- one entry more, and so many serials and claims more, can be counted
+abbrev pub HasRoom : Counts → ℕ → ℕ → Type 0
+HasRoom c serials claims =
+    (c.entries + 1 ≤ most_entries) × (c.serial + serials ≤ most_serials)
+    × (c.claims + claims ≤ most_entries)
 
 -- the numbers in the rows lie in their ranges, and so do the counts after the change
 abbrev pub IsPuttable : Counts → Change → Type 0
-IsPuttable c change = IsInRange change × HasRoom c (serials_taken change)
+IsPuttable c change = IsInRange change × HasRoom c (serials_taken change) (claims_taken change)
 
--- the counts after one entry more, of this day, that took so many serials
-abbrev pub counts_after : ℕ → ℕ → Stored → Stored
-counts_after day serials c =
-    record c { day = Some day; entries = c.entries + 1; serial = c.serial + serials }
+-- the counts after one entry more, of this day, that took so many serials and claims
+abbrev pub counts_after : ℕ → ℕ → ℕ → Stored → Stored
+counts_after day serials claims c =
+    record c {
+      day = Some day;
+      entries = c.entries + 1;
+      serial = c.serial + serials;
+      claims = c.claims + claims;
+    }

@@ -1,13 +1,11 @@
 //! The new lines of a bank file, and the credits that they are.
 ghost use Rattle.std.specs.Prelude.{◌≡◌, IfOk};
-ghost use Rattle.std.specs.List.{AllByRecursion};
 ghost use Rattle.clear_values.specs.Credits.{credit_key};
 ghost use Rattle.clear_values.specs.Keyed.{with_rows};
 ghost use Rattle.clear_values.specs.Credits.{credits_of_lines};
-ghost use Rattle.clear_values.specs.RowRanges.{IsSerial};
 ghost use Rattle.clear_values.specs.Tables.{bank_key};
 ghost use Rattle.clear_ledger.specs.Shown.{serial_key};
-ghost use Rattle.clear_store.specs.Changes.{AreFree, AreSerials, Puts};
+ghost use Rattle.clear_store.specs.Changes.{AreFree, AreSerials, HaveSerials, Puts};
 
 use clear_ledger::bank::insert_line;
 use clear_ledger::credits::insert_credit;
@@ -34,11 +32,14 @@ fn insert_lines<S: Alter>(tx: &mut Transaction<'_, S>, rows: &[BankRow]) -> Resu
 }
 
 // Adds credits, one after another.
-fn insert_credits<S: Alter>(tx: &mut Transaction<'_, S>, credits: &[CreditRow]) -> Result<(), Fault>
+pub(crate) fn insert_credits<S: Alter>(
+    tx: &mut Transaction<'_, S>,
+    credits: &[CreditRow],
+) -> Result<(), Fault>
     ensures same_reference { tx.new.conn.ghost_name ≡ tx.old.conn.ghost_name }
     ensures puts { Puts S.Store tx.old.conn.now tx.new.conn.now result (λ _. Unit {0})
         (λ t. AreFree credit_key t.credits credits.now)
-        (AllByRecursion (λ row. IsSerial row.serial) credits.now)
+        (HaveSerials credits.now)
         (λ t. record t { credits = with_rows credit_key t.credits credits.now }) }
 {
     for credit in credits {

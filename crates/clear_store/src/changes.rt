@@ -4,9 +4,10 @@ ghost use Rattle.clear_values.specs.Tables.{changed, dated};
 ghost use Rattle.clear_schema.specs.Values.{counts_of, with_counts};
 ghost use Rattle.clear_firms.specs.Counts.{as_stored};
 ghost use Rattle.clear_store.specs.Changes.{HasRoom, IsFree, IsInRange, IsPuttable, IsThere, Puts};
-ghost use Rattle.clear_store.specs.Changes.{counts_after, serials_taken};
+ghost use Rattle.clear_store.specs.Changes.{claims_taken, counts_after, serials_taken};
 
 use crate::bank_file::add_lines;
+use crate::claims::{add_claim, put_claim, put_release};
 use crate::month_report::{add_report, put_report};
 use clear_firms::counts::{Counts, put_counts};
 use clear_firms::employers::insert_employer;
@@ -21,8 +22,8 @@ use std::alloc::Global;
 /// those that stand.
 ///
 /// A key that is not free is refused with `Fault::Store(StoreCause::Constraint)`; a number of a row
-/// that is out of its range, more than 50,000,000 entries and more than 500,000,000,000 serials are
-/// refused with `Fault::Store(StoreCause::Row)`. After an error a part of the change may be done:
+/// that is out of its range, more than 50,000,000 entries or claims and more than 500,000,000,000
+/// serials are refused with `Fault::Store(StoreCause::Row)`. After an error a part of the change may be done:
 /// the transaction is to be rolled back.
 pub fn put_change<S: Alter>(
     alloc: Global,
@@ -37,13 +38,14 @@ pub fn put_change<S: Alter>(
         (IsPuttable counts.now change.now) (λ t. dated day (changed change.now t)) }
 {
     let serials = serials_taken(change);
-    match note(tx, counts, day, serials) {
+    let claims = claims_taken(change);
+    match note(tx, counts, day, serials, claims) {
         Ok(()) => put_rows(alloc, tx, change),
         Err(fault) => Err(fault),
     }
 }
 
-// Puts the rows of a change. The serial count is left.
+// Puts the rows of a change. The counts of serials and claims are left.
 fn put_rows<S: Alter>(
     alloc: Global,
     tx: &mut Transaction<'_, S>,
@@ -52,13 +54,16 @@ fn put_rows<S: Alter>(
     ensures same_reference { tx.new.conn.ghost_name ≡ tx.old.conn.ghost_name }
     ensures puts { Puts S.Store tx.old.conn.now tx.new.conn.now result (IsThere change.now)
         (IsFree change.now) (IsInRange change.now)
-        (λ t. record (changed change.now t) { serial = t.serial }) }
+        (λ t. record (changed change.now t) { serial = t.serial; last_claim = t.last_claim }) }
 {
     match change {
         Change::AddEmployer(row) => add_employer(tx, row),
         Change::AddReport(row, lines) => add_report(tx, row, lines.as_slice()),
         Change::ReplaceReport(row, lines) => put_report(tx, row, lines.as_slice()),
         Change::AddBankLines(rows) => add_lines(alloc, tx, rows.as_slice()),
+        Change::AddClaim(row) => add_claim(tx, row),
+        Change::WithdrawClaim(row) => put_claim(tx, row),
+        Change::ReleaseClaim { claim, serial } => put_release(alloc, tx, claim, *serial),
     }
 }
 
@@ -71,7 +76,7 @@ fn add_employer<S: Alter>(tx: &mut Transaction<'_, S>, row: &EmployerRow) -> Res
     insert_employer(tx, row)
 }
 
-// How many serials a change takes: one for each new line.
+// How many serials a change takes: one for each new line, and one for a release.
 fn serials_taken(change: &Change) -> u64
     ensures { result ≡ serials_taken change.now }
 {
@@ -80,40 +85,60 @@ fn serials_taken(change: &Change) -> u64
         Change::AddReport(_, _) => 0,
         Change::ReplaceReport(_, _) => 0,
         Change::AddBankLines(rows) => rows.as_slice().len() as u64,
+        Change::AddClaim(_) => 0,
+        Change::WithdrawClaim(_) => 0,
+        Change::ReleaseClaim { .. } => 1,
     }
 }
 
-// Notes one entry more: its day, and the serials that it took.
+// How many numbers of claims a change takes.
+fn claims_taken(change: &Change) -> u32
+    ensures { result ≡ claims_taken change.now }
+{
+    match change {
+        Change::AddEmployer(_) => 0,
+        Change::AddReport(_, _) => 0,
+        Change::ReplaceReport(_, _) => 0,
+        Change::AddBankLines(_) => 0,
+        Change::AddClaim(_) => 1,
+        Change::WithdrawClaim(_) => 0,
+        Change::ReleaseClaim { .. } => 0,
+    }
+}
+
+// Notes one entry more: its day, and the serials and claims that it took.
 fn note<S: Alter>(
     tx: &mut Transaction<'_, S>,
     counts: &Counts,
     day: Day,
     serials: u64,
+    claims: u32,
 ) -> Result<(), Fault>
     ensures same_reference { tx.new.conn.ghost_name ≡ tx.old.conn.ghost_name }
     ensures puts { Puts S.Store tx.old.conn.now tx.new.conn.now result (λ _. Unit {0})
-        (λ _. Unit {0}) (HasRoom counts.now serials)
-        (with_counts (counts_after day serials (as_stored counts.now))) }
+        (λ _. Unit {0}) (HasRoom counts.now serials claims)
+        (with_counts (counts_after day serials claims (as_stored counts.now))) }
 {
-    match next_counts(counts, day, serials) {
+    match next_counts(counts, day, serials, claims) {
         Some(next) => put_counts(tx, &next),
         None => Err(Fault::Store(StoreCause::Row)),
     }
 }
 
-// The counts after one entry more. None where a count would pass 64 bits.
-fn next_counts(counts: &Counts, day: Day, serials: u64) -> Option<Counts>
+// The counts after one entry more. None where a count would pass its bits.
+fn next_counts(counts: &Counts, day: Day, serials: u64, claims: u32) -> Option<Counts>
     ensures next { IfSome result (λ next.
-        as_stored next ≡ counts_after day serials (as_stored counts.now)) }
-    ensures none { result ≡ None → ¬ HasRoom counts.now serials }
+        as_stored next ≡ counts_after day serials claims (as_stored counts.now)) }
+    ensures none { result ≡ None → ¬ HasRoom counts.now serials claims }
 {
     let entries = counts.entries.checked_add(1)?;
     let serial = counts.serial.checked_add(serials)?;
+    let claims = counts.claims.checked_add(claims)?;
     Some(Counts {
         day: Some(day),
         entries,
         serial,
-        claims: counts.claims,
+        claims,
         lists: counts.lists,
         runs: counts.runs,
     })

@@ -4,6 +4,7 @@
 
 mod bank_file;
 pub mod changes;
+mod claims;
 mod month_report;
 
 pub use clear_firms::{counts, employers, rates, reports, wages};

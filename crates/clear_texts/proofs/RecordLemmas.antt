@@ -22,7 +22,7 @@ use Rattle.clear_bank.specs.declared.lines.Purpose.TheVariants.{Contribution, In
 use Rattle.clear_book.specs.declared.documents.FirmAccount.{FirmAccount}
 use Rattle.clear_book.specs.declared.documents.Payment.{Payment}
 use Rattle.clear_book.specs.declared.rows.CreditRow.{CreditRow}
-use Rattle.clear_book.specs.Accounts.{credit_rows_of, credits_standing, is_overdue, months, row_credit}
+use Rattle.clear_book.specs.Accounts.{credit_rows_of, credits_standing, interest_arrears, is_overdue, missing, months, row_credit}
 use Rattle.clear_book.specs.Book.{Book, Member, is_member_month, ledger_day}
 use Rattle.clear_book.specs.declared.rules.Rule.TheVariants.{DayBack}
 use Rattle.clear_book.specs.Checks.{when}
@@ -38,7 +38,7 @@ use Rattle.clear_texts.specs.Text.{text_of_rows}
 use Rattle.clear_texts.proofs.LawLemmas.{statement_law}
 use Rattle.clear_texts.specs.declared.records.FirmRecords.{FirmRecords}
 use Rattle.clear_texts.specs.Records.{AreRecords, member_in, version_in}
-use Rattle.clear_texts.specs.Told.{charge_told_at, charges_told, is_missing_in, payment_at, payments_told}
+use Rattle.clear_texts.specs.Told.{charge_told_at, charges_told, interest_arrears_in, is_missing_in, payment_at, payments_told}
 
 -- ---- pieces
 
@@ -126,18 +126,17 @@ firm_by r day credits interest = record {
   interest = interest;
 }
 
-text_of_records : (r : FirmRecords) (day interest interest_paid : ℕ) (firm : FirmAccount) (interest_credits : List Payment) (missing : List ℕ) (rows : List ChargeRow) (document : List ℕ)
+text_of_records : (r : FirmRecords) (day interest : ℕ) (firm : FirmAccount) (interest_credits : List Payment) (missing : List ℕ) (rows : List ChargeRow) (document : List ℕ)
     → r.account.credits ≡ map row_credit r.credits.items → AllPairs (λ (c d : Charge). c.month < d.month) r.account.charges
-    → interest ≡ all_interest_on r.rates r.account.charges r.account.credits day → interest_paid ≡ credited (map row_credit r.interest_credits.items)
-    → firm ≡ firm_by r day r.account.credits (interest - interest_paid)
+    → interest ≡ interest_arrears_in r day → firm ≡ firm_by r day r.account.credits interest
     → interest_credits ≡ map whole_payment r.interest_credits.items → missing ≡ filter (is_missing_in r day) months → rows ≡ flat_map rows_of (charges_told r day)
     → document ≡ text_of_rows firm interest_credits missing rows
     → document ≡ statement_text (statement_of (firm_told r day))
-text_of_records r day interest interest_paid firm interest_credits missing rows document is rise owed paid firm_is credits_are missing_are rows_are text =
+text_of_records r day interest firm interest_credits missing rows document is rise owed firm_is credits_are missing_are rows_are text =
     text ∙ (λ k. text_of_rows (firm_is k) (credits_are k) (missing_are k) (rows_are k))
-    ∙ statement_law (record { firm = firm_by r day r.account.credits (interest - interest_paid); charges = charges_told r day; interest_credits = map whole_payment r.interest_credits.items; missing = filter (is_missing_in r day) months }) (rising r day rise)
+    ∙ statement_law (record { firm = firm_by r day r.account.credits interest; charges = charges_told r day; interest_credits = map whole_payment r.interest_credits.items; missing = filter (is_missing_in r day) months }) (rising r day rise)
     ∙ (λ k. statement_text (record {
-      firm = firm_by r day (is k) ((owed ∙ (λ j. all_interest_on r.rates r.account.charges (is j) day)) k - paid k);
+      firm = firm_by r day (is k) ((owed ∙ (λ j. all_interest_on r.rates r.account.charges (is j) day - credited (map row_credit r.interest_credits.items))) k);
       charges = charges_same r day is k;
       interest_credits = map whole_payment r.interest_credits.items;
       missing = filter (is_missing_in r day) months;
@@ -167,15 +166,23 @@ module _ (b : Book) (e : ℕ) (r : FirmRecords) (are : AreRecords b e r) where
       ap (λ (firm : FirmOnDay). statement_text (statement_of firm)) (firm_of_book day)
       ∙ sym (ap (λ (member : Option Member). option_map_or (λ m. statement_text (statement_of (firm_on b e day m))) member []) are.member)
 
-  pub told : (day interest interest_paid : ℕ) (firm : FirmAccount) (interest_credits : List Payment) (missing : List ℕ) (rows : List ChargeRow) (document : List ℕ)
+  pub told : (day interest : ℕ) (firm : FirmAccount) (interest_credits : List Payment) (missing : List ℕ) (rows : List ChargeRow) (document : List ℕ)
       → AllPairs (λ (c d : Charge). c.month < d.month) r.account.charges
-      → interest ≡ all_interest_on r.rates r.account.charges r.account.credits day → interest_paid ≡ credited (map row_credit r.interest_credits.items)
-      → firm ≡ firm_by r day r.account.credits (interest - interest_paid)
+      → interest ≡ interest_arrears_in r day → firm ≡ firm_by r day r.account.credits interest
       → interest_credits ≡ map whole_payment r.interest_credits.items → missing ≡ filter (is_missing_in r day) months → rows ≡ flat_map rows_of (charges_told r day)
       → document ≡ text_of_rows firm interest_credits missing rows
       → document ≡ statement_on b day e
-  told day interest interest_paid firm interest_credits missing rows document rise owed paid firm_is credits_are missing_are rows_are text =
-      text_of_records r day interest interest_paid firm interest_credits missing rows document paid_is rise owed paid firm_is credits_are missing_are rows_are text ∙ on_book day
+  told day interest firm interest_credits missing rows document rise owed firm_is credits_are missing_are rows_are text =
+      text_of_records r day interest firm interest_credits missing rows document paid_is rise owed firm_is credits_are missing_are rows_are text ∙ on_book day
+
+  -- what the records say is what the book says
+  pub interest_of_book : (day : ℕ) → interest_arrears_in r day ≡ interest_arrears b e day
+  interest_of_book day =
+      λ k. all_interest_on (are.rates k) (are.charges k) (are.paid k) day - credited (map row_credit (are.interest_credits k))
+
+  pub missing_of_book : (day : ℕ) → filter (is_missing_in r day) months ≡ missing b e day
+  missing_of_book day =
+      λ k. filter (λ m. is_member_month (sym are.member k) m && is_overdue (are.rates k) day m && is_none (are.versions m k)) months
 
 -- ---- limits
 

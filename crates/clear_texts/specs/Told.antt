@@ -1,16 +1,16 @@
 -- What is told of a charge by its records, over which it is told one after another.
-use Rattle.std.specs.Prelude.{ℕ, ◌*◌, ◌/◌, Bool, ◌&&◌, List, Option, is_none, map}
+use Rattle.std.specs.Prelude.{ℕ, ◌-◌, ◌*◌, ◌/◌, Bool, ◌&&◌, List, Option, is_none, map}
 use Rattle.std.specs.List.{filter_map, slice_get}
 use Rattle.std.specs.Option.{option_map, option_map_or}
 use Rattle.clear_account.specs.declared.entries.Charge.{Charge}
 use Rattle.clear_account.specs.declared.settled.Share.{Share}
-use Rattle.clear_account.specs.Account.{charge_at, places}
-use Rattle.clear_account.specs.Interest.{interest_rate}
+use Rattle.clear_account.specs.Account.{charge_at, credited, places}
+use Rattle.clear_account.specs.Interest.{all_interest_on, interest_rate}
 use Rattle.clear_account.specs.Settled.{SettledCharge, settled_on}
 use Rattle.clear_book.specs.declared.documents.ChargeState.{ChargeState}
 use Rattle.clear_book.specs.declared.documents.Payment.{Payment}
 use Rattle.clear_book.specs.declared.rows.CreditRow.{CreditRow}
-use Rattle.clear_book.specs.Accounts.{is_overdue}
+use Rattle.clear_book.specs.Accounts.{is_overdue, row_credit}
 use Rattle.clear_book.specs.Book.{is_member_in}
 use Rattle.clear_book.specs.Documents.Statement.{PaidCharge}
 use Rattle.clear_book.specs.Own.Statement.{payment_of}
@@ -66,3 +66,9 @@ abbrev pub is_missing_in : FirmRecords → ℕ → ℕ → Bool
 is_missing_in r day m =
     is_member_in (member_in r.member) m && is_overdue r.rates day m
     && is_none (version_in r.reports.items m)
+
+-- the interest of all charges up to a day, less all credits for interest
+abbrev pub interest_arrears_in : FirmRecords → ℕ → ℕ
+interest_arrears_in r day =
+    all_interest_on r.rates r.account.charges r.account.credits day
+    - credited (map row_credit r.interest_credits.items)

@@ -4,19 +4,18 @@ ghost use Rattle.std.specs.Prelude.{IsOk, OnOk, length, map};
 ghost use Rattle.std.specs.List.{flat_map};
 ghost use Rattle.std.specs.Option.{option_map_or};
 ghost use Rattle.clear_account.specs.Account.{IsAccount, last_day};
-ghost use Rattle.clear_account.specs.Interest.{all_interest_on};
-ghost use Rattle.clear_account.specs.Settled.{all_settled_on};
 ghost use Rattle.clear_book.specs.declared.documents.Payment.{Payment as PaymentValue};
 ghost use Rattle.clear_book.specs.Own.Statement.{payment_of};
 ghost use Rattle.clear_texts.specs.Laws.{row_of, rows_of};
 ghost use Rattle.clear_texts.specs.Records.{MonthsRise, version_in};
-ghost use Rattle.clear_texts.specs.Told.{charge_told, charge_with, charges_told, interest_of};
+ghost use Rattle.clear_texts.specs.Told.{charge_told, charge_with, charges_told};
 ghost use Rattle.clear_texts.specs.Told.{payment_at, payments_told, state_told};
 
+use crate::arrears::{interest, settle};
 use crate::records::FirmRecords;
 use crate::rows::{ChargeRow, RowFault};
 use crate::versions::find_version;
-use clear_account::entries::{AccountFault, Charge};
+use clear_account::entries::Charge;
 use clear_account::keeper::Keeper;
 use clear_account::settled::{Settled, Share};
 use clear_book::documents::{ChargeState, Payment};
@@ -26,24 +25,16 @@ use clear_money::days::Day;
 use clear_money::months::Month;
 use std::alloc::{AllocError, Global};
 
-/// The rows of all charges, and the interest of all, in cents.
-#[derive(Drop)]
-pub(crate) struct ToldCharges {
-    pub rows: Vec<ChargeRow>,
-    pub interest: u64,
-}
-
-/// Tells all charges of a firm on a day, which is not before its last credit for contributions.
+/// The rows of all charges of a firm on a day, which is not before its last credit for
+/// contributions.
 pub(crate) fn tell_charges(
     alloc: Global,
     records: &FirmRecords,
     day: Day,
-) -> Result<ToldCharges, RowFault>
+) -> Result<Vec<ChargeRow>, RowFault>
     requires day { last_day records.now.account.credits ≤ day }
-    ensures rows { MonthsRise records.now.reports.items → IfOk result (λ told. told.rows.items
+    ensures rows { MonthsRise records.now.reports.items → IfOk result (λ rows. rows.items
         ≡ flat_map rows_of (charges_told records.now day)) }
-    ensures interest { IfOk result (λ told. told.interest ≡ all_interest_on records.now.rates
-        records.now.account.charges records.now.account.credits day) }
     ensures account { IsOk result
         → IsAccount records.now.account.charges records.now.account.credits }
     ensures count { IsOk result → length records.now.account.charges ≤ 2_400 }
@@ -51,69 +42,39 @@ pub(crate) fn tell_charges(
         → IfErr result (λ fault. fault ≡ RowFault.Memory) }
 {
     let settled = settle(alloc, records, day)?;
-    let mut told = ToldCharges {
-        rows: Vec::new(alloc),
-        interest: 0,
-    };
+    let mut rows = Vec::new(alloc);
     for index in 0..records.account.charge_count() {
         let Some(charge) = records.account.charge_at(index) else {
             unreachable!()
         };
-        match add_charge(records, charge, &settled[index], &mut told) {
+        match add_charge(records, charge, &settled[index], &mut rows) {
             Ok(()) => {}
             Err(fault) => return Err(fault),
         }
     }
-    Ok(told)
+    Ok(rows)
 }
 
-// What the account tells of each charge.
-fn settle(alloc: Global, records: &FirmRecords, day: Day) -> Result<Vec<Settled>, RowFault>
-    requires day { last_day records.now.account.credits ≤ day }
-    ensures settled { IfOk result (λ all. all.items
-        ≡ all_settled_on records.now.account.charges records.now.account.credits day) }
-    ensures fault { IfErr result (λ fault. fault ≡ RowFault.Memory) }
-{
-    match records.account.settle(alloc, day) {
-        Ok(settled) => Ok(settled),
-        Err(AccountFault::Memory) => Err(RowFault::Memory),
-        Err(AccountFault::OverLimit) => unreachable!(),
-    }
-}
-
-// Tells one charge behind those told.
+// Adds the rows of one charge.
 fn add_charge(
     records: &FirmRecords,
     charge: Charge,
     settled: &Settled,
-    told: &mut ToldCharges,
+    rows: &mut Vec<ChargeRow>,
 ) -> Result<(), RowFault>
-    requires sum { told.old.interest ≤ 4_000_000_000_000_000 }
-    ensures rows { MonthsRise records.now.reports.items → OnOk result (told.new.rows.items
-        ≡ told.old.rows.items ++ rows_of (charge_told records.now charge settled.now)) }
-    ensures interest { OnOk result (told.new.interest
-        ≡ told.old.interest + interest_of records.now charge.month settled.now.weight) }
-    ensures range { OnOk result (told.new.interest ≤ told.old.interest + 1_206_000_000_000) }
+    ensures rows { MonthsRise records.now.reports.items → OnOk result (rows.new.items
+        ≡ rows.old.items ++ rows_of (charge_told records.now charge settled.now)) }
     ensures fault { All (λ share. share.place < length records.now.credits.items)
         settled.now.shares → IfErr result (λ fault. fault ≡ RowFault.Memory) }
 {
     let state = charge_state(records, &charge, settled);
-    told.interest += state.interest;
-    add_rows(
-        &mut told.rows,
-        &state,
-        records.credits.as_slice(),
-        settled.shares(),
-    )
+    add_rows(rows, &state, records.credits.as_slice(), settled.shares())
 }
 
 // A charge as it stands.
 fn charge_state(records: &FirmRecords, charge: &Charge, settled: &Settled) -> ChargeState
-    ensures state { MonthsRise records.now.reports.items
+    ensures { MonthsRise records.now.reports.items
         → result ≡ state_told records.now charge.now settled.now }
-    ensures interest { result.interest
-        ≡ interest_of records.now charge.now.month settled.now.weight }
-    ensures range { result.interest ≤ 1_206_000_000_000 }
 {
     let version = version_of(records, charge.month);
     let left = settled.left();
@@ -135,18 +96,6 @@ fn version_of(records: &FirmRecords, month: Month) -> u32
 {
     match find_version(records.reports.as_slice(), month) {
         Some(version) => version,
-        None => 0,
-    }
-}
-
-// The interest of a month's charge with this weight, in cents.
-fn interest(records: &FirmRecords, month: Month, weight: u64) -> u64
-    requires weight { weight ≤ 12_060_000_000_000 }
-    ensures value { result ≡ interest_of records.now month weight }
-    ensures range { result ≤ 1_206_000_000_000 }
-{
-    match records.rates.in_force(month) {
-        Some(row) => weight * u64::from(row.interest_rate()) / 10_000,
         None => 0,
     }
 }

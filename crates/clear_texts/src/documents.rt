@@ -7,15 +7,14 @@ ghost use Rattle.clear_texts.specs.Rows.{most_rows};
 ghost use Rattle.clear_texts.specs.Text.{text_of_rows};
 ghost use Rattle.clear_texts.specs.Records.{AreRecords};
 
+use crate::arrears::interest_arrears;
 use crate::charges::tell_charges;
-use crate::firm::{add_credits, firm_account, whole_payments};
+use crate::firm::{firm_account, whole_payments};
 use crate::missing::missing_months;
 use crate::records::FirmRecords;
 use crate::rows::{ChargeRow, ListedRows, RowFault};
 use crate::statement::append_statement;
-use clear_account::keeper::Keeper;
 use clear_book::documents::{Document, FirmAccount, Payment};
-use clear_book::rules::StoreCause;
 use clear_money::days::Day;
 use clear_money::months::Month;
 use std::alloc::Global;
@@ -29,22 +28,18 @@ pub fn firm_statement(alloc: Global, records: &FirmRecords, day: Day) -> Result<
         → day_back (ledger_day b.entries) day ≡ None
         → IfErr result (λ fault. fault ≡ RowFault.Memory) }
 {
-    let _in_range = day.number();
-    if day < records.account.last_day() {
-        return Err(RowFault::Store(StoreCause::Row));
-    }
-    let Some(interest_paid) = add_credits(records.interest_credits.as_slice()) else {
-        return Err(RowFault::Store(StoreCause::Row));
-    };
-    let told = match tell_charges(alloc, records, day) {
-        Ok(told) => told,
+    let interest = match interest_arrears(alloc, records, day) {
+        Ok(interest) => interest,
         Err(fault) => return Err(fault),
     };
-    let interest = told.interest.saturating_sub(interest_paid);
+    let rows = match tell_charges(alloc, records, day) {
+        Ok(rows) => rows,
+        Err(fault) => return Err(fault),
+    };
     let firm = firm_account(records, day, interest)?;
     let interest_credits = whole_payments(alloc, records.interest_credits.as_slice())?;
     let missing = missing_months(alloc, records, day)?;
-    make_document(alloc, &firm, &interest_credits, &missing, told.rows)
+    make_document(alloc, &firm, &interest_credits, &missing, rows)
 }
 
 // Makes the document with these parts.

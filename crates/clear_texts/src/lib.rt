@@ -5,7 +5,8 @@
 //! owed in interest. Where the records are those of a lawful book, the document is the one that the
 //! judge answers, and only want of memory refuses it. It takes one step for each charge, each
 //! credit and each month of the calendar, and for each of these months a search among the reports
-//! and a walk along the rates, from the newest on.
+//! and a walk along the rates, from the newest on. `interest_arrears` and `missing_months` say the
+//! same of interest and of reports for a release.
 //!
 //! `statement` appends the text of a statement whose charges it reads one at a time from a source
 //! of rows: what stands at the end of the account, and a line for each charge and each piece of a
@@ -15,12 +16,13 @@
 #![tactic(auto)]
 
 mod amounts;
+pub mod arrears;
 mod charges;
 pub mod documents;
 mod firm;
 pub mod laws;
 mod lines;
-mod missing;
+pub mod missing;
 pub mod records;
 pub mod rows;
 pub mod statement;

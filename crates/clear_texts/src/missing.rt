@@ -12,7 +12,7 @@ use clear_money::rates::RateTable;
 use std::alloc::{AllocError, Global};
 
 /// The months of the membership without a report whose report was to be in before the day, rising.
-pub(crate) fn missing_months(
+pub fn missing_months(
     alloc: Global,
     records: &FirmRecords,
     day: Day,

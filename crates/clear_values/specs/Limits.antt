@@ -61,6 +61,11 @@ most_credited = 10000000000000000
 abbrev pub most_interest : ℕ
 most_interest = 2894400000000000
 
+-- all that a worker has earned, in cents: one line of the greatest gross amount in each of 2,400
+-- months at each of 10,000 employers, at 100 percent
+abbrev pub most_entitled : ℕ
+most_entitled = 240000000000000
+
 -- all claims, in cents: 50,000,000 claims of 100,000,000,000 cents
 abbrev pub most_claimed : ℕ
 most_claimed = 5000000000000000000

@@ -5,7 +5,9 @@ use Rattle.clear_money.specs.Calendar.{IsMonth, IsDay, months}
 use Rattle.clear_money.specs.Numbers.{IsEmployerNo, IsWorkerNo, IsAmount}
 use Rattle.clear_values.specs.Ranges.{AreRates, IsBankLine, IsCaller}
 use Rattle.clear_values.specs.declared.replies.Reply.{Reply}
-use Rattle.clear_values.specs.declared.replies.Reply.TheVariants.{Done, Reported, Imported}
+use Rattle.clear_values.specs.declared.replies.Reply.TheVariants.{Done, Reported, Imported, Claimed}
+use Rattle.clear_values.specs.declared.replies.Reply.TheVariants.{Released as reply_of_release}
+use Rattle.clear_values.specs.declared.replies.Settlement.{Settlement}
 use Rattle.clear_values.specs.declared.rows.BankRow.{BankRow}
 use Rattle.clear_values.specs.declared.rows.ClaimRow.{ClaimRow}
 use Rattle.clear_values.specs.declared.rows.ClaimState.{ClaimState}
@@ -59,10 +61,14 @@ pub record IsCreditRow (row : CreditRow) : Type 0 where
   pub cents : IsAmount row.cents
   pub reference : IsCreditReference row.reference
 
--- a settlement of so many cents: the three amounts are their sum
+-- the sum of the three amounts of a settlement
+abbrev pub settled : Settlement → ℕ
+settled settlement = settlement.to_contributions + settlement.to_interest + settlement.paid
+
+-- a release of a claim of so many cents, which are settled whole
 pub record IsReleased (cents : ℕ) (release : ReleasedClaim) : Type 0 where
   pub day : IsDay release.day
-  pub whole : release.to_contributions + release.to_interest + release.paid ≡ cents
+  pub whole : settled release.settlement ≡ cents
   pub list : IfSome release.list IsListNo
 
 -- how a claim of so many cents stands
@@ -101,13 +107,15 @@ pub record IsReminderRow (row : ReminderRow) : Type 0 where
   pub arrears : row.arrears ≤ most_charged
   pub interest : row.interest ≤ most_interest
 
--- the numbers of a reply: a contribution is at most its base, and a bank file has so many records
--- at most
+-- the numbers of a reply: a contribution is at most its base, a bank file has so many records at
+-- most, and what is settled is the amount of a claim
 abbrev pub IsReply : Reply → Type 0
 IsReply Done = Unit {0}
 IsReply (Reported version charge) =
     (1 ≤ version) × (version ≤ most_versions) × (charge ≤ most_base)
 IsReply (Imported new repeats) = (new ≤ most_records) × (repeats ≤ most_records)
+IsReply (Claimed claim) = IsClaimNo claim
+IsReply (reply_of_release settlement) = IsAmount (settled settlement)
 
 pub record IsRequestRow (row : RequestRow) : Type 0 where
   pub caller : IsCaller row.caller

@@ -11,6 +11,7 @@ use Rattle.clear_values.specs.declared.rows.BankRow.{BankRow}
 use Rattle.clear_values.specs.declared.rows.Change.{Change}
 use Rattle.clear_values.specs.declared.rows.Change.TheVariants.{AddEmployer, AddReport}
 use Rattle.clear_values.specs.declared.rows.Change.TheVariants.{ReplaceReport, AddBankLines}
+use Rattle.clear_values.specs.declared.rows.Change.TheVariants.{AddClaim, WithdrawClaim, ReleaseClaim}
 use Rattle.clear_values.specs.declared.rows.ClaimRow.{ClaimRow}
 use Rattle.clear_values.specs.declared.rows.CreditRow.{CreditRow}
 use Rattle.clear_values.specs.declared.rows.EmployerRow.{EmployerRow}
@@ -20,7 +21,7 @@ use Rattle.clear_values.specs.declared.rows.ReportRow.{ReportRow}
 use Rattle.clear_values.specs.declared.rows.RunRow.{RunRow}
 use Rattle.clear_values.specs.declared.rows.WageRow.{WageRow}
 use Rattle.clear_values.specs.declared.texts.WageLine.{WageLine}
-use Rattle.clear_values.specs.Credits.{credit_key, credits_of_lines}
+use Rattle.clear_values.specs.Credits.{credit_key, credits_of_lines, set_offs_of}
 use Rattle.clear_values.specs.Keyed.{with_row, with_rows, put_row, without_rows}
 use Rattle.clear_values.specs.Members.{Member}
 
@@ -108,11 +109,9 @@ member_in row = record { name = row.name; start = row.start; last = row.last }
 
 -- the tables that no command fills yet are empty, and none of their numbers was given
 pub record AreUnfilled (t : Tables) : Type 0 where
-  pub claims : t.claims ≡ []
   pub lists : t.lists ≡ []
   pub runs : t.runs ≡ []
   pub reminders : t.reminders ≡ []
-  pub last_claim : t.last_claim ≡ 0
   pub last_list : t.last_list ≡ 0
   pub last_run : t.last_run ≡ 0
 
@@ -154,6 +153,15 @@ changed (AddBankLines rows) t =
       bank = with_rows bank_key t.bank rows;
       credits = with_rows credit_key t.credits (credits_of_lines rows);
       serial = t.serial + length rows;
+    }
+changed (AddClaim row) t =
+    record t { claims = with_row claim_key t.claims row; last_claim = t.last_claim + 1 }
+changed (WithdrawClaim row) t = record t { claims = put_row claim_key t.claims row }
+changed (ReleaseClaim row serial) t =
+    record t {
+      claims = put_row claim_key t.claims row;
+      credits = with_rows credit_key t.credits (set_offs_of row serial);
+      serial = t.serial + 1;
     }
 
 -- the day of an accepted request, and that it is one more

@@ -28,11 +28,15 @@ is_plain_text bytes = is_utf8 bytes && list_all is_printable bytes
 abbrev pub is_note : List ℕ → Bool
 is_note bytes = nat_le (length bytes) 140 && is_plain_text bytes
 
+-- the reference of the set-offs of a claim
+abbrev pub set_off_reference : ℕ → List ℕ
+set_off_reference claim = codes "set-off " ++ decimal claim
+
 -- what a release's set-off is known by: `set-off`, and the number of the claim
 pub record IsSetOff (bytes : List ℕ) : Type 0 where
   pub claim : ℕ
   pub number : IsClaimNo claim
-  pub text : bytes ≡ codes "set-off " ++ decimal claim
+  pub text : bytes ≡ set_off_reference claim
 
 -- the reference of a credit: that of a bank line, or of a set-off
 abbrev pub IsCreditReference : List ℕ → Type 0

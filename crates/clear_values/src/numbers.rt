@@ -1,8 +1,8 @@
-//! The numbers of requests, and how many serials were given.
+//! The numbers of requests and claims, and how many serials were given.
 ghost use Rattle.std.specs.Prelude.{◌≡◌, ◌↔◌, IsSome, IfSome};
-ghost use Rattle.clear_values.specs.Numbers.{IsRequestNo, IsSerialCount};
+ghost use Rattle.clear_values.specs.Numbers.{IsClaimNo, IsRequestNo, IsSerialCount};
 
-use crate::limits::{MAX_REQUEST_NO, MAX_SERIALS};
+use crate::limits::{MAX_ENTRIES, MAX_REQUEST_NO, MAX_SERIALS};
 use std::marker::Model;
 
 /// The number that a caller gives a command, 1 to 999,999,999,999,999,999.
@@ -40,6 +40,48 @@ impl RequestNo {
     pub fn number(self) -> u64
         ensures value { result ≡ self }
         ensures range { IsRequestNo result }
+    {
+        self.number
+    }
+}
+
+/// The number of a claim among all claims, 1 to 50,000,000.
+#[derive(Clone, Copy, PartialEq, Eq, PartialOrd, Ord)]
+pub struct ClaimNo {
+    number: u32,
+}
+
+impl Model for ClaimNo {
+    ghost use Rattle.std.specs.Prelude.{ℕ};
+    ghost use Rattle.clear_values.specs.Numbers.{IsClaimNo};
+
+    ghost Value = { ℕ };
+
+    ghost view = { λ a. a.number };
+
+    ghost invariant = { λ a. IsClaimNo a.number };
+
+    ghost inverse = { λ n. record { number = n } };
+}
+
+impl ClaimNo {
+    /// None outside 1 to 50,000,000.
+    pub fn new(number: u64) -> Option<ClaimNo>
+        ensures some { IsSome result ↔ IsClaimNo number }
+        ensures value { IfSome result (λ claim. claim ≡ number) }
+    {
+        if number < 1 || number > MAX_ENTRIES {
+            return None;
+        }
+        Some(ClaimNo {
+            number: number as u32,
+        })
+    }
+
+    /// The number, 1 to 50,000,000.
+    pub fn number(self) -> u32
+        ensures value { result ≡ self }
+        ensures range { IsClaimNo result }
     {
         self.number
     }

@@ -8,4 +8,21 @@ pub enum Reply {
     Reported { version: u32, charge: u64 },
     /// How many lines of a bank file were new, and how many repeat an earlier one.
     Imported { new: u64, repeats: u64 },
+    /// The number of the claim that was made.
+    Claimed { claim: u32 },
+    /// How the claim was settled.
+    Released(Settlement),
+}
+
+/// How the cents of a claim are settled: first what the firm owes of contributions, then what it
+/// owes of interest, and the rest is paid out. The three amounts are cents, and their sum is the
+/// claim's.
+#[derive(Clone, Copy)]
+pub struct Settlement {
+    /// What is set off to contributions.
+    pub to_contributions: u64,
+    /// What is set off to interest.
+    pub to_interest: u64,
+    /// What is paid out.
+    pub paid: u64,
 }

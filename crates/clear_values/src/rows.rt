@@ -2,7 +2,7 @@
 ghost use Rattle.std.specs.Prelude.{◌≡◌};
 
 use crate::lines::{BankLine, Purpose};
-use crate::replies::Reply;
+use crate::replies::{Reply, Settlement};
 use crate::texts::{CreditReference, Name, WageLines};
 use clear_money::days::Day;
 use clear_money::months::Month;
@@ -143,16 +143,11 @@ pub enum ClaimState {
     Released(ReleasedClaim),
 }
 
-/// How a claim was settled. The three amounts are cents, and their sum is the claim's.
+/// When a claim was released, and how it was settled.
 #[derive(Clone, Copy)]
 pub struct ReleasedClaim {
     pub day: Day,
-    /// What was set off to contributions.
-    pub to_contributions: u64,
-    /// What was set off to interest.
-    pub to_interest: u64,
-    /// What is paid out.
-    pub paid: u64,
+    pub settlement: Settlement,
     /// The payout list that it is on.
     pub list: Option<u32>,
 }
@@ -207,6 +202,13 @@ pub enum Change {
     ReplaceReport(ReportRow, WageLines),
     /// The new lines of a bank file; each that has a firm is a credit of it.
     AddBankLines(BankRows),
+    /// A claim that was not there.
+    AddClaim(ClaimRow),
+    /// A claim that is withdrawn; its row stands in the place of that of its number.
+    WithdrawClaim(ClaimRow),
+    /// A claim that is released: its row stands in the place of that of its number, and each of
+    /// its set-offs above 0 is a credit of its firm with the serial of the release.
+    ReleaseClaim { claim: ClaimRow, serial: u64 },
 }
 
 /// What is changed, and what is replied.

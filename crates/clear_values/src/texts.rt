@@ -6,9 +6,10 @@ ghost use Rattle.std.specs.Cmp.Lexicographic.{nat_list_eq_equiv, pointwise};
 ghost use Rattle.std.specs.Str.{is_utf8};
 ghost use Rattle.clear_values.specs.Numbers.{IsClaimNo};
 ghost use Rattle.clear_values.specs.Texts.{IsCreditReference, IsName, IsSetOff, is_note};
-ghost use Rattle.clear_values.specs.Texts.{is_plain_text, is_reference};
+ghost use Rattle.clear_values.specs.Texts.{is_plain_text, is_reference, set_off_reference};
 
 use crate::limits::{MAX_ENTRIES, MAX_NAME_BYTES};
+use crate::numbers::ClaimNo;
 use clear_money::bytes::{are_printable, are_visible};
 use clear_money::numbers::{WorkerNo, read_number};
 use std::alloc::{AllocError, Global};
@@ -318,6 +319,16 @@ impl CreditReference {
         Ok(CreditReference {
             text: String::from_str(alloc, line.as_str())?,
         })
+    }
+
+    /// The reference of the set-offs of a claim.
+    pub fn of_set_off(alloc: Global, claim: ClaimNo) -> Result<CreditReference, AllocError>
+        ensures { IfOk result (λ reference. reference ≡ set_off_reference claim) }
+    {
+        let digits = claim.number().to_string(alloc)?;
+        let mut text = String::from_str(alloc, "set-off ")?;
+        text.push_str(digits.as_str())?;
+        Ok(CreditReference { text })
     }
 
     /// The text of the reference.

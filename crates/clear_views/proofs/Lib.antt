@@ -1,3 +1,4 @@
+pub mod ClaimLemmas
 pub mod FaultLemmas
 pub mod FillLemmas
 pub mod FirmLemmas
@@ -5,6 +6,7 @@ pub mod FoundLemmas
 pub mod ImportLemmas
 pub mod OwedLemmas
 pub mod ReadLemmas
+pub mod ReleaseLemmas
 pub mod SerialLemmas
 pub mod StatementLemmas
 pub mod StillLemmas

@@ -1,7 +1,6 @@
 -- Several reads inside a transaction, one after another.
 use Rattle.std.proofs.Common.{◌∙◌, IsTrue, refl, sym, subst, arith}
-use Rattle.sqlite.specs.State.{State, HasCleanDisk, IsUnchanged, KeepsCommit, Survives}
-use Rattle.clear_rows.proofs.Inside.{keeps_both, unchanged_keeps}
+use Rattle.sqlite.specs.State.{State, HasCleanDisk, IsUnchanged, Survives}
 use Rattle.clear_book.specs.Tables.{Tables}
 use Rattle.clear_schema.specs.Held.{HasTables}
 
@@ -41,7 +40,3 @@ unchanged_both a b c one two = (
   },
   two.2 ∙ one.2,
 )
-
--- the last commit is kept by a read and what comes after it
-pub kept_after : (a b c : State) → IsUnchanged a b → KeepsCommit b c → KeepsCommit a c
-kept_after a b c one two = keeps_both a b c (unchanged_keeps a b one) two

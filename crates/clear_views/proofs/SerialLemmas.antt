@@ -168,12 +168,6 @@ module _ (i : ℕ) (row : CreditRow) (held : List Credit) (all : List CreditRow)
   going_here : IsGoing (row ∷ drop (i + 1) all) held all
   going_here = subst (λ rows. IsGoing rows held all) (drop_more all i row within is) h
 
-  pub serial_free : HasNone held row.serial
-  serial_free = going_here.free.0
-
-  pub room_left : length held + 1 ≤ length all
-  room_left = omega (arith, going_here.few)
-
   pub going_on : IsGoing (drop (i + 1) all) (with_credit (row_credit row) held) all
   going_on = record {
     rest = going_here.rest;

@@ -1,25 +1,30 @@
 -- What the tables of a book say of a request is what the book says.
-use Rattle.std.proofs.Common.{◌≡◌, inl, inr, ℕ, ◌≤◌, Bool, true, false, Option, Some, None, cond, is_some, length, nat_lt, refl, sym, ap, subst, ◌∙◌, arith}
+use Rattle.std.proofs.Common.{◌≡◌, inl, inr, ℕ, ◌≤◌, List, [], ◌∷◌, Bool, true, false, Option, Some, None, cond, is_some, length, nat_lt, refl, sym, ap, subst, ◌∙◌, arith}
 use Rattle.std.proofs.lemmas.Bool.{ltb-true}
 use Rattle.std.proofs.lemmas.List.Sums.{count_by-le-length}
 use Rattle.std.specs.Option.{option_map}
 use Rattle.clear_money.specs.Rates.{rate_in_force}
 use Rattle.clear_book.specs.declared.calls.Registration.{Registration}
 use Rattle.clear_book.specs.declared.calls.WageReport.{WageReport}
+use Rattle.clear_book.specs.declared.calls.Withdrawal.{Withdrawal}
+use Rattle.clear_book.specs.declared.rows.ClaimRow.{ClaimRow}
 use Rattle.clear_book.specs.declared.rows.EmployerRow.{EmployerRow}
 use Rattle.clear_book.specs.Book.{Book, Entry, employer_count, is_registration}
+use Rattle.clear_book.specs.Keyed.{find_row}
 use Rattle.clear_book.specs.Limits.{most_employers}
-use Rattle.clear_book.specs.Tables.{Tables, Stands, member_at, member_in, version_at}
+use Rattle.clear_book.specs.Tables.{Tables, Stands, claim_key, member_at, member_in, version_at}
 use Rattle.clear_rules.specs.declared.decide.register.RegisterView.{RegisterView}
 use Rattle.clear_rules.specs.declared.decide.report.ReportView.{ReportView}
 use Rattle.clear_rules.specs.Views.Register.{IsRegisterView}
 use Rattle.clear_rules.specs.Views.Report.{IsReportView}
 use Rattle.clear_rules.specs.Views.Serves.{Serves}
+use Rattle.clear_rules.specs.Views.Withdraw.{IsWithdrawView}
+use Rattle.clear_rules.specs.declared.decide.withdraw.WithdrawView.{WithdrawView}
 
 -- ---- a registration
 
 -- a firm that has a row is registered
-has_row : (o : Option EmployerRow) → is_some o ≡ is_some (option_map member_in o)
+pub has_row : (o : Option EmployerRow) → is_some o ≡ is_some (option_map member_in o)
 has_row None = refl
 has_row (Some row) = refl
 
@@ -52,4 +57,14 @@ report_viewed b t stands r view member version row =
       member_is = member ∙ stands.employers r.employer;
       version_is = version ∙ stands.reports r.employer r.month;
       row_is = row ∙ ap (λ rates. rate_in_force rates r.month) stands.rates;
+    }
+
+-- ---- a withdrawal
+
+pub withdraw_viewed : (b : Book) (t : Tables) → Stands b t → (w : Withdrawal) (view : WithdrawView) (member : Option EmployerRow) → view.registered ≡ is_some member → option_map member_in member ≡ member_at t.employers w.employer
+    → view.claim ≡ find_row claim_key t.claims (w.claim ∷ []) → IsWithdrawView b w view
+withdraw_viewed b t stands w view member registered found claim =
+    record {
+      registered_is = registered ∙ has_row member ∙ ap is_some (found ∙ stands.employers w.employer);
+      claim_is = claim ∙ ap (λ (claims : List ClaimRow). find_row claim_key claims (w.claim ∷ [])) stands.claims;
     }

@@ -1,3 +1,4 @@
+pub mod Claimed
 pub mod Imports
 pub mod Owed
 pub mod Reads

@@ -17,6 +17,7 @@ use clear_ledger::credits::credits_of;
 use clear_money::numbers::EmployerNo;
 use clear_schema::fault::Fault;
 use clear_texts::records::FirmRecords;
+use clear_texts::rows::RowFault;
 use sqlite::{Alter, Transaction};
 use std::alloc::Global;
 
@@ -62,4 +63,14 @@ pub fn firm_records<S: Alter>(
         credits: firm.credits,
         interest_credits,
     }))
+}
+
+/// The fault that kept a document, or a part of it, from being made.
+pub fn fault_of(fault: RowFault) -> Fault
+    ensures memory { fault ≡ RowFault.Memory → result ≡ Fault.Memory }
+{
+    match fault {
+        RowFault::Memory => Fault::Memory,
+        RowFault::Store(cause) => Fault::Store(cause),
+    }
 }

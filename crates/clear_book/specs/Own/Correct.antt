@@ -9,7 +9,7 @@ use Rattle.clear_book.specs.declared.rules.Limit.TheVariants.{Versions}
 use Rattle.clear_book.specs.declared.rules.Rule.{Rule}
 use Rattle.clear_book.specs.declared.rules.Rule.TheVariants.{StaleVersion, OverLimit}
 use Rattle.clear_book.specs.Accounts.{contribution_of_lines}
-use Rattle.clear_book.specs.Book.{Member, is_member_month}
+use Rattle.clear_book.specs.Book.{Member}
 use Rattle.clear_book.specs.Checks.{when, first_of}
 use Rattle.clear_values.specs.Limits.{most_versions}
 use Rattle.clear_book.specs.Own.Lines.{month_rules, size_rules, twice_rule, worker_twice}

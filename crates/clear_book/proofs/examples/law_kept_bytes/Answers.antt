@@ -17,3 +17,15 @@ returns-clause-no_lines c = refl
 pub returns-clause-correct : goal.returns-clause-correct
 unfolding digits
 returns-clause-correct c = refl
+
+pub returns-clause-claim : goal.returns-clause-claim
+unfolding digits
+returns-clause-claim c = refl
+
+pub returns-clause-withdraw : goal.returns-clause-withdraw
+unfolding digits
+returns-clause-withdraw c = refl
+
+pub returns-clause-release : goal.returns-clause-release
+unfolding digits
+returns-clause-release c = refl

@@ -1,4 +1,4 @@
-use Rattle.clear_book.proofs.WorkersLemmas.{claims_numbered}
+use Rattle.clear_book.proofs.ClaimsLemmas.{claims_numbered}
 use Rattle.clear_book.proofs.laws.law_claims.Goals as goal
 
 pub returns : goal.returns

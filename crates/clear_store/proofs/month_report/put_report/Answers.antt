@@ -1,7 +1,6 @@
-use Rattle.std.proofs.Common.{Ok, Err, List, ap, cond, refl}
+use Rattle.std.proofs.Common.{Ok, Err, ap, cond, refl}
 use Rattle.clear_values.specs.Keyed.{put_row}
 use Rattle.clear_values.specs.Tables.{report_key, with_wages}
-use Rattle.clear_values.specs.declared.rows.ReportRow.{ReportRow}
 use Rattle.clear_store.specs.Changes.{IsVersion}
 use Rattle.clear_store.proofs.JoinLemmas.{Always, first_failed, put_by, put_then}
 use Rattle.clear_store.proofs.month_report.put_report.Goals as goal

@@ -1,6 +1,6 @@
 use Rattle.std.proofs.Common.{◌≡◌, ◌<◌, Some, length, ap, ◌∙◌, arith}
 use Rattle.std.specs.List.{slice_get}
-use Rattle.clear_texts.proofs.ChargeLemmas.{length-all_settled_on, rows_more, interest_more, shares_within}
+use Rattle.clear_texts.proofs.ChargeLemmas.{length-all_settled_on, rows_more, shares_within}
 use Rattle.clear_texts.proofs.charges.tell_charges.Goals as goal
 
 pub index-requires : goal.index-requires
@@ -19,8 +19,5 @@ loop-index-preserved c =
     let r = c.args.records.now in
     let index = c.loop-index.index in
     let within : c.loop-index.index < length c.args.records.now.account.charges = omega (arith, c.loop-index-test.true, c.charge_count-index-end.ensures.count) in
-    let found : slice_get c.args.records.now.account.charges c.loop-index.index ≡ Some c.in-Some.charge = cc in (
-      λ rise. rows_more r c.args.day index c.in-Some.charge c.in_ok-settled.settled.items c.index.result.now _ within found c.in_ok-settled.ensures.settled c.index.ensures _ _ (c.loop-index.invariant.0 rise) (c.in-Ok.ensures.rows rise),
-      interest_more r c.args.day index c.in-Some.charge c.in_ok-settled.settled.items c.index.result.now _ within found c.in_ok-settled.ensures.settled c.index.ensures _ _ c.loop-index.invariant.1 c.in-Ok.ensures.interest,
-      omega (arith, c.loop-index.invariant.2, c.in-Ok.ensures.range),
-    )
+    let found : slice_get c.args.records.now.account.charges c.loop-index.index ≡ Some c.in-Some.charge = cc in
+    λ rise. rows_more r c.args.day index c.in-Some.charge c.in_ok-settled.settled.items c.index.result.now _ within found c.in_ok-settled.ensures.settled c.index.ensures _ _ (c.loop-index.invariant rise) (c.in-Ok.ensures.rows rise)

@@ -1,0 +1,149 @@
+-- The claims: under their numbers.
+use Rattle.clear_columns.proofs.Words.{◌≡◌, ◌==◌, pos, ℕ, Bool, true, false, ◌&&◌, List, [], ◌∷◌, map, filter, refl, sym, subst, inl, inr, codes, cast_row, Binary, Insert, Update, Database, Row, Values, Ghosts, Term, lit, col, op2, Trees, Null, passes, Datatype, Compare, Eq, is_key, Tables, ClaimRow, ClaimState, Open, Withdrawn, Released, IsNumbered, meets, plain_program, HasTables, claims_table, store_schema, claim_values, maybe, number, cast_int, cast_null, cast_maybe, equal_numbers, maybe_typed, numbers_keep, AnswersJust}
+use Rattle.sqlite_tied.specs.Compute.{everything}
+use Rattle.clear_values.specs.Tables.{claim_key}
+use Rattle.clear_values.proofs.KeyedLemmas.{is_key-true}
+use Rattle.clear_schema.proofs.Changes.{claims_changed}
+use Rattle.clear_columns.proofs.NumberedTable.{NumberedTable, by_number, few, finds, lists}
+use Rattle.clear_columns.proofs.Says.{Says, SaysQuery}
+use Rattle.clear_ledger.specs.Shown.{claim_shown, columns_of}
+use Rattle.clear_ledger.specs.declared.states.StateColumns.{StateColumns}
+
+-- a claim's row, whose state these columns tell
+abbrev pub row_with : ClaimRow → StateColumns → Row
+row_with x s =
+    number x.claim ∷ Null ∷ number x.employer ∷ number x.worker ∷ number x.cents ∷ number s.code ∷ number x.made ∷ maybe s.released ∷ number s.settlement.to_contributions ∷ number s.settlement.to_interest ∷ number s.settlement.paid ∷ maybe s.list ∷ []
+
+abbrev pub claim_row : ClaimRow → Row
+claim_row x = row_with x (columns_of x.state)
+
+pub values_are : (x : ClaimRow) → claim_values x ≡ claim_row x
+values_are x = of x.state
+  where
+    of : (s : ClaimState) → claim_values (record x { state = s }) ≡ row_with x (columns_of s)
+    of Open = refl
+    of Withdrawn = refl
+    of (Released r) = refl
+
+pub stored : (x : ClaimRow) → cast_row claims_table (claim_row x) ≡ claim_row x
+stored x =
+    let s = columns_of x.state in
+    rw (
+      cast_int (pos x.claim),
+      cast_null,
+      cast_int (pos x.employer),
+      cast_int (pos x.worker),
+      cast_int (pos x.cents),
+      cast_int (pos s.code),
+      cast_int (pos x.made),
+      cast_maybe s.released,
+      cast_int (pos s.settlement.to_contributions),
+      cast_int (pos s.settlement.to_interest),
+      cast_int (pos s.settlement.paid),
+      cast_maybe s.list,
+    )
+
+pub typed : (db : Trees) (x : ClaimRow) → passes Datatype store_schema db claims_table (claim_row x) ≡ true
+typed db x = rw (maybe_typed (columns_of x.state).released, maybe_typed (columns_of x.state).list)
+
+abbrev pub claims : NumberedTable ClaimRow
+claims = record {
+  at = 7;
+  table = claims_table;
+  rows = λ t. t.claims;
+  with_those = λ t xs. record t { claims = xs };
+  fits = λ xs. Unit {0};
+  number = λ x. x.claim;
+  as_int = λ n. pos n;
+  in_order = numbers_keep;
+  given = claim_shown;
+  to_row = claim_row;
+  placed = refl;
+  listed = inr (inr (inr (inr (inr (inr (inr (inl refl)))))));
+  uncounted = refl;
+  unguarded = refl;
+  numbered = λ _. refl;
+  stored = stored;
+  typed = typed;
+  present = λ _ _. refl;
+  checked = λ _ _. refl;
+  has = λ t db has. subst (λ (v : ClaimRow → Row). IsNumbered (λ x. pos x.claim) v t.claims (db.trees 12)) (λ i x. values_are x i) has.claims;
+  changed = λ t old new has schema sound xs fits same it. claims_changed t old new has schema sound xs same (subst (λ (v : ClaimRow → Row). IsNumbered (λ x. pos x.claim) v xs (new.trees 12)) (λ i x. sym (values_are x) i) it);
+}
+
+-- ---- the texts
+
+abbrev pub insert_terms : List Term
+insert_terms = col 0 0 ∷ lit Null ∷ col 0 1 ∷ col 0 2 ∷ col 0 3 ∷ col 0 4 ∷ col 0 5 ∷ col 0 6 ∷ col 0 7 ∷ col 0 8 ∷ col 0 9 ∷ col 0 10 ∷ []
+
+pub insert_says : Says (codes "INSERT INTO claims (no, employer, worker, cents, state, made, released, to_contributions, to_interest, paid, list) VALUES (?1, ?2, ?3, ?4, ?5, ?6, ?7, ?8, ?9, ?10, ?11)") (Insert 7 (Values insert_terms 12))
+unfolding everything
+insert_says = record { said = (refl, refl, refl) }
+
+abbrev pub by_no : List Term
+by_no = op2 (Compare Eq Binary) (col 1 0) (col 0 0) ∷ []
+
+abbrev pub update_terms : List Term
+update_terms = col 1 0 ∷ col 1 0 ∷ lit Null ∷ col 0 1 ∷ col 0 2 ∷ col 0 3 ∷ col 0 4 ∷ col 0 5 ∷ col 0 6 ∷ col 0 7 ∷ col 0 8 ∷ col 0 9 ∷ col 0 10 ∷ []
+
+pub update_says : Says (codes "UPDATE claims SET employer = ?2, worker = ?3, cents = ?4, state = ?5, made = ?6, released = ?7, to_contributions = ?8, to_interest = ?9, paid = ?10, list = ?11 WHERE no = ?1") (Update 7 (plain_program 12 by_no update_terms []))
+unfolding everything
+update_says = record { said = (refl, refl, refl) }
+
+abbrev columns : List Term
+columns = col 1 0 ∷ col 1 2 ∷ col 1 3 ∷ col 1 4 ∷ col 1 5 ∷ col 1 6 ∷ col 1 7 ∷ col 1 8 ∷ col 1 9 ∷ col 1 10 ∷ col 1 11 ∷ []
+
+abbrev pub get : List ℕ
+get = codes "SELECT no, employer, worker, cents, state, made, released, to_contributions, to_interest, paid, list FROM claims WHERE no = ?1"
+
+get_says : SaysQuery get (plain_program 12 by_no columns [])
+unfolding everything
+get_says = record { names = _; said = (refl, refl, refl) }
+
+abbrev by_worker : List Term
+by_worker = op2 (Compare Eq Binary) (col 1 3) (col 0 0) ∷ []
+
+abbrev pub of_worker : List ℕ
+of_worker = codes "SELECT no, employer, worker, cents, state, made, released, to_contributions, to_interest, paid, list FROM claims WHERE worker = ?1 ORDER BY no"
+
+of_worker_says : SaysQuery of_worker (plain_program 12 by_worker columns by_number)
+unfolding everything
+of_worker_says = record { names = _; said = (refl, refl, refl) }
+
+-- ---- what they do
+
+-- the claim has a number
+abbrev pub is_no : ℕ → ClaimRow → Bool
+is_no n x = is_key (claim_key x) (n ∷ [])
+
+pub of_no : (n : ℕ) (rest : Row) (x : ClaimRow) → meets by_no (number n ∷ rest) (claim_row x) ≡ is_no n x
+of_no n rest x = rw (equal_numbers x.claim n) refl
+
+-- a claim with the number of another
+abbrev pub numbered_as : ClaimRow → ClaimRow → ClaimRow
+numbered_as row x = record row { claim = x.claim }
+
+-- is the claim of this number, where it has it
+pub is_that : (row x : ClaimRow) → is_key (claim_key x) (claim_key row) ≡ true → numbered_as row x ≡ row
+is_that row x e =
+    let same : claim_key x ≡ claim_key row = is_key-true (claim_key x) (claim_key row) e in
+    let claim_is : x.claim ≡ row.claim = cc in
+    (λ i. record row { claim = claim_is i })
+
+-- the claim is for a worker
+abbrev pub is_for : ℕ → ClaimRow → Bool
+is_for w x = x.worker == w
+
+for_worker : (w : ℕ) (x : ClaimRow) → meets by_worker (number w ∷ []) (claim_row x) ≡ is_for w x
+for_worker w x = rw (equal_numbers x.worker w) (last (x.worker == w))
+  where
+    last : (b : Bool) → (b && true) ≡ b
+    last true = refl
+    last false = refl
+
+module _ {S : Type 0} (g : Ghosts S) (t : Tables) (db : Database) (has : HasTables t db) where
+  pub answers : (n : ℕ) → AnswersJust g get (number n ∷ []) db (map claim_shown (filter (is_no n) t.claims))
+  answers n = finds claims g t db has (number n ∷ []) claim_shown (is_no n) (of_no n []) get_says (λ _. refl) (few claims t db has n)
+
+  pub answers_for : (w : ℕ) → AnswersJust g of_worker (number w ∷ []) db (map claim_shown (filter (is_for w) t.claims))
+  answers_for w = lists claims g t db has (number w ∷ []) claim_shown (is_for w) (for_worker w) of_worker_says (λ _. refl)

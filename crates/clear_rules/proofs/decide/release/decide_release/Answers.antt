@@ -1,0 +1,11 @@
+use Rattle.std.proofs.Common.{ℕ, ◌+◌, refl, sym, ap, ◌∙◌}
+use Rattle.std.specs.Option.{option_map}
+use Rattle.clear_rules.specs.declared.decide.release.OwingClaim.{OwingClaim}
+use Rattle.clear_book.proofs.ClaimTablesLemmas.{Stands-released}
+use Rattle.clear_rules.proofs.decide.release.decide_release.Goals as goal
+
+pub returns-clause-change : goal.returns-clause-change
+returns-clause-change c b claim is = λ t caller number lawful stands judged.
+    Stands-released b t stands caller number c.args.day claim _ judged c.in-Some.found.claim
+    (sym is.claim_is ∙ ap (option_map (λ (found : OwingClaim). found.claim)) c.in-Some.is)
+    c.in-Ok.settlement refl _ (ap (λ (n : ℕ). n + 1) (c.count.ensures.value ∙ is.serials_is))

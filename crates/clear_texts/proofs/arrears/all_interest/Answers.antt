@@ -1,0 +1,20 @@
+use Rattle.std.proofs.Common.{◌≡◌, ℕ, ◌+◌, ◌<◌, Some, length, ap, ◌∙◌, arith}
+use Rattle.std.specs.List.{slice_get}
+use Rattle.clear_texts.proofs.ChargeLemmas.{length-all_settled_on, interest_more}
+use Rattle.clear_texts.specs.Told.{interest_of}
+use Rattle.clear_texts.proofs.arrears.all_interest.Goals as goal
+
+pub index-requires : goal.index-requires
+index-requires c =
+    let count = ap length c.in_ok-settled.ensures.settled ∙ length-all_settled_on c.args.records.now.account.charges c.args.records.now.account.credits c.args.day in
+    omega (arith, count, c.loop-index-test.true, c.charge_count-index-end.ensures.count)
+
+pub loop-index-preserved : goal.loop-index-preserved
+loop-index-preserved c =
+    let r = c.args.records.now in
+    let index = c.loop-index.index in
+    let within : c.loop-index.index < length c.args.records.now.account.charges = omega (arith, c.loop-index-test.true, c.charge_count-index-end.ensures.count) in
+    let found : slice_get c.args.records.now.account.charges c.loop-index.index ≡ Some c.in-Some.charge = cc in (
+      interest_more r c.args.day index c.in-Some.charge c.in_ok-settled.settled.items c.index.result.now _ within found c.in_ok-settled.ensures.settled c.index.ensures _ _ c.loop-index.invariant.0 (ap (λ (n : ℕ). c.loop-index.total + n) (c.interest-total.ensures.value ∙ ap (interest_of r c.in-Some.charge.month) c.weight.ensures.value)),
+      omega (arith, c.loop-index.invariant.1, c.interest-total.ensures.range),
+    )

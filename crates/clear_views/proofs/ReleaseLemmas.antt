@@ -1,0 +1,54 @@
+-- What the records of a firm say of what it owes is what the book says.
+use Rattle.std.proofs.Common.{◌≡◌, ℕ, true, List, [], ◌∷◌, length, Some, is_some, refl, sym, ap, subst, ◌∙◌}
+use Rattle.std.proofs.lemmas.List.Sums.{length-filter}
+use Rattle.std.specs.List.{AllByRecursion, slice_get}
+use Rattle.clear_account.specs.Arrears.{arrears_on}
+use Rattle.clear_bank.specs.declared.lines.Purpose.{Purpose}
+use Rattle.clear_bank.specs.declared.lines.Purpose.TheVariants.{Contribution, Interest}
+use Rattle.clear_book.specs.declared.rows.ClaimRow.{ClaimRow}
+use Rattle.clear_book.specs.Accounts.{credit_key, credit_rows_of, credits_standing, missing}
+use Rattle.clear_book.specs.Book.{Book, member_of}
+use Rattle.clear_book.specs.Keyed.{find_row}
+use Rattle.clear_book.specs.Lines.{credit_count, credits_made, is_credit_of}
+use Rattle.clear_book.specs.Machine.{IsLawful}
+use Rattle.clear_book.specs.Own.Release.{debts_of}
+use Rattle.clear_book.specs.Tables.{Tables, Stands, claim_key}
+use Rattle.clear_book.proofs.ClaimsLemmas.{claims-registered}
+use Rattle.clear_book.proofs.CreditsMadeLemmas.{credits_once}
+use Rattle.clear_book.proofs.KeyedChangesLemmas.{found_holds}
+use Rattle.clear_book.proofs.KeyedRowsLemmas.{AreInOrder-in_key_order, count_by-ordered, find_row-in_key_order}
+use Rattle.clear_rules.specs.declared.decide.release.FirmDebts.{FirmDebts}
+use Rattle.clear_rules.specs.Views.Release.{AreDebts, first}
+use Rattle.clear_texts.proofs.RecordLemmas.{interest_of_book}
+use Rattle.clear_texts.specs.Records.{AreRecords}
+use Rattle.clear_texts.specs.Told.{interest_arrears_in}
+use Rattle.clear_texts.specs.declared.records.FirmRecords.{FirmRecords}
+
+-- a firm has as many standing credits for a purpose as were made for it
+rows_counted : (b : Book) (e : ℕ) (p : Purpose) → length (credit_rows_of b e p) ≡ credit_count (credits_made b.entries) e p
+rows_counted b e p =
+    length-filter (is_credit_of e p) (credits_standing b.entries)
+    ∙ count_by-ordered credit_key (is_credit_of e p) (credits_standing b.entries) (credits_made b.entries) (AreInOrder-in_key_order credit_key (credits_made b.entries) (credits_once b.entries))
+    (credits_once b.entries) (λ k. find_row-in_key_order credit_key (credits_made b.entries) k (credits_once b.entries))
+
+first_of : (ms : List ℕ) → slice_get ms 0 ≡ first ms
+first_of [] = refl
+first_of (m ∷ ms) = refl
+
+pub debts_are : (b : Book) (e : ℕ) (r : FirmRecords) → AreRecords b e r → (day : ℕ) (d : FirmDebts) (months : List ℕ) → d.missing ≡ slice_get months 0 → months ≡ missing b e day
+    → d.arrears ≡ arrears_on r.account.charges r.account.credits day → d.interest_arrears ≡ interest_arrears_in r day
+    → d.contribution_count ≡ length r.credits.items → d.interest_count ≡ length r.interest_credits.items → AreDebts (debts_of b day e) d
+debts_are b e r are day d months missing_first months_are owed interest paid interest_paid =
+    record {
+      missing_is = missing_first ∙ first_of months ∙ ap first months_are;
+      arrears_is = owed ∙ (λ i. arrears_on (are.charges i) (are.paid i) day);
+      interest_is = interest ∙ interest_of_book b e r are day;
+      contributions_are = paid ∙ ap length are.credits ∙ rows_counted b e Contribution;
+      interest_count_is = interest_paid ∙ ap length are.interest_credits ∙ rows_counted b e Interest;
+    }
+
+-- the firm of a claim is registered
+pub firm_there : (b : Book) (t : Tables) → IsLawful b → Stands b t → (n : ℕ) (claim : ClaimRow) → find_row claim_key t.claims (n ∷ []) ≡ Some claim → is_some (member_of b.entries claim.employer) ≡ true
+firm_there b t lawful stands n claim found =
+    let is_there : ClaimRow → Type 0 = λ row. is_some (member_of b.entries row.employer) ≡ true in
+    found_holds claim_key is_there t.claims (n ∷ []) claim (subst (AllByRecursion is_there) (sym stands.claims) (claims-registered b.opening b.entries lawful)) found
