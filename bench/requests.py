@@ -9,14 +9,15 @@ each size in a temporary file: it registers 250 firms, and fills the book throug
 have no lines. Then it takes 1,000 requests of each kind on a fresh copy of either store, one size after the other:
 reports of one line, each a firm's first of its month; the same again, which are answered as before; bank files of
 one new line; what a firm owes; claims of 10.00 each for a firm's worker; their releases, each set off to interest;
-and the withdrawals of as many other claims. Each is a transaction of the office, its commit included. The whole is done
-three times if no other number is given. PAGES is how many pages of 4,096 bytes the store keeps in memory, 2,000
-if not given, which is the kit's own number.
+and the withdrawals of as many other claims. Then come 10 payout lists of 100 claims each, on days of their own, on
+which these claims are made and released before; only the lists are measured. Each request is a transaction of the
+office, its commit included. The whole is done three times if no other number is given. PAGES is how many pages of
+4,096 bytes the store keeps in memory, 2,000 if not given, which is the kit's own number.
 
 The files lie on /dev/shm where there is one, so that the figures are the program's and not the disk's: a commit
 on a disk waits for it, at any size of the book. Starting the program and opening the file don't count. Of
 each time the least is taken, both by processor time and by the clock. The table has the microseconds of one
-request at either size and their ratio, and the same for one request of each kind together.
+request at either size and their ratio, and the same for one request of each kind together, but for payout lists.
 
 Of the tables only that of the kept requests is larger in the large store, and each new request goes to its end. No
 bank lines come in while the book is filled, so the table doesn't show what an import costs once 100,000 lines came
@@ -41,9 +42,11 @@ PROGRAM = os.path.join(CRATE, "out", "bench_requests")
 LIBRARIES = "bench_requests: clear_office clear_schema clear_book clear_money sqlite sqlite_std_file\n"
 MEMORY = "/dev/shm"
 SIZES = (1_000, 100_000)
-# How many requests the program takes of each kind, and the kinds in its order.
+# The kinds of requests in the program's order, and how many it takes of each.
 REQUESTS = 1_000
-KINDS = ("report", "repeat", "import", "owed", "claim", "release", "withdraw")
+KINDS = dict.fromkeys(("report", "repeat", "import", "owed", "claim", "release", "withdraw"), REQUESTS)
+LIST = "payout list of 100 claims"
+COUNTS = KINDS | {LIST: 10}
 
 
 def copy_crates():
@@ -94,7 +97,8 @@ def measure(store, size, pages):
     for name in (copy, copy + "-wal"):
         if os.path.exists(name):
             os.remove(name)
-    return [tuple(int(spent) / REQUESTS / 1_000 for spent in line.split()) for line in lines]
+    return [tuple(int(spent) / count / 1_000 for spent in line.split())
+            for line, count in zip(lines, COUNTS.values(), strict=True)]
 
 
 def least(old, new):
@@ -116,7 +120,7 @@ def main():
         for turn in range(given.repeats):
             print(f"measuring, {turn + 1} of {given.repeats}", file=sys.stderr)
             for size, store in stores.items():
-                for kind, spent in zip(KINDS, measure(store, size, given.pages), strict=True):
+                for kind, spent in zip(COUNTS, measure(store, size, given.pages), strict=True):
                     found[kind, size] = least(found.get((kind, size)), spent)
     show(found)
 
@@ -125,7 +129,7 @@ def show(found):
     small, large = SIZES
     print("| Request | Processor at 1,000 | At 100,000 | Ratio | Clock at 1,000 | At 100,000 | Ratio |")
     print("|---|---|---|---|---|---|---|")
-    for name, kinds in [*((kind, (kind,)) for kind in KINDS), ("all together", KINDS)]:
+    for name, kinds in [*((kind, (kind,)) for kind in COUNTS), ("all together", KINDS)]:
         cells = []
         for part in range(2):
             few, many = (sum(found[kind, size][part] for kind in kinds) for size in (small, large))

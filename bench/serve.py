@@ -12,10 +12,11 @@ The book grows by firms with eleven reports of 20 lines each, and a bank file of
 firms' numbers are drawn at random, so what is written lies all over the tables. At each size the servers
 are stopped, and copies of their stores are opened and measured, so that the book has so many accepted
 requests when that begins. The servers take turns of ten requests of a kind: what firms owe, statements of
-firms drawn from the whole book (11 charges, 10 payments), reports of further months, registrations; then
-the mix, which is growth as above with a query after two of five commands; then claims of ten new firms that
-have reported every month (23 charges, 10 or 30 payments), releases of half of them and withdrawals of the
-others; then bank files of 100 lines for 100 firms. Where nearly 100,000 bank lines came in, more come until they are past that, and bank files again.
+firms drawn from the whole book (11 charges, 10 payments), the documents of such firms' workers (11 lines
+of earnings), reports of further months, registrations; then the mix, which is growth as above with a query
+after two of five commands; then claims of ten new firms that have reported every month (23 charges, 10 or
+30 payments), releases of half of them and withdrawals of the others; then bank files of 100 lines for 100
+firms. Where nearly 100,000 bank lines came in, more come until they are past that, and bank files again.
 
 A first table has requests a second, in one after another, the client's own time included; a second one
 the median milliseconds of a request by the clock; a third the processor time of the server's process,
@@ -57,7 +58,7 @@ SLICE = 10
 # Beyond so many bank lines ever the limit on lines in suspense isn't told from the serials.
 MANY_LINES = 100_000
 # In the order in which they are measured: bank files come last, since they make statements longer.
-KINDS = ("owed", "statement", "report", "register", "mix", "claim", "release", "withdraw", "import")
+KINDS = ("owed", "statement", "worker", "report", "register", "mix", "claim", "release", "withdraw", "import")
 PAST = "import past 100,000 lines"
 
 
@@ -107,6 +108,10 @@ class Requests:
         no = self.random.choice(self.grown)
         return "statement", request("GET", f"/employers/{no}/statement", "desk")
 
+    def worker(self):
+        no = self.random.choice(self.grown) + self.random.randrange(LINES)
+        return "worker", request("GET", f"/workers/{no}", "desk")
+
     def commands(self):
         """Commands without end, in blocks of ten firms."""
         while True:
@@ -149,6 +154,8 @@ class Requests:
             return [self.owed() for _ in range(count)]
         if kind == "statement":
             return [self.statement() for _ in range(count)]
+        if kind == "worker":
+            return [self.worker() for _ in range(count)]
         if kind == "register":
             return [self.register(self.new.pop()) for _ in range(count)]
         if kind == "mix":
@@ -282,6 +289,25 @@ def odd_claims():
         ("POST", claims, "desk", 29, claim(50_000)), ("POST", "/claims/3/release", "desk", 30, ""),
         ("GET", "/employers/1003/owed", "desk", None, ""),
         ("GET", "/employers/1003/statement", "desk", None, ""),
+        *odd_payouts(),
+    ]
+
+
+def odd_payouts():
+    """Payout lists behind those, and the documents of lists and workers."""
+    return [
+        ("GET", "/payouts/1", "desk", None, ""), ("POST", "/payouts", "k1", 3, ""),
+        ("POST", "/payouts", "desk", 40, " "), ("POST", "/payouts", "desk", 0, ""),
+        ("POST", "/payouts", "desk", 40, ""), ("POST", "/payouts", "desk", 40, ""),
+        ("POST", "/payouts", "desk", 41, ""), ("POST", "/payouts", "desk", 29, ""),
+        ("GET", "/payouts/1", "desk", None, ""), ("GET", "/payouts/1", "k1", None, ""),
+        ("GET", "/payouts/0", "desk", None, ""), ("GET", "/payouts/2", "desk", None, ""),
+        ("POST", "/payouts/1", "desk", 41, ""), ("GET", "/payouts", "desk", None, ""),
+        ("GET", "/payouts/50000000", "desk", None, ""), ("GET", "/payouts/50000001", "desk", None, ""),
+        ("GET", "/workers/7", "desk", None, ""), ("GET", "/workers/8", "desk", None, ""),
+        ("GET", "/workers/9", "desk", None, ""), ("GET", "/workers/7", "k1", None, ""),
+        ("GET", "/workers/07", "desk", None, ""), ("GET", "/workers/999999999", "desk", None, ""),
+        ("GET", "/workers/1000000000", "desk", None, ""), ("POST", "/workers/7", "desk", 41, ""),
     ]
 
 

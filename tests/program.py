@@ -125,7 +125,9 @@ class Init(Program):
             indexes = store.execute(
                 "SELECT m.name, m.tbl_name, group_concat(i.name) FROM sqlite_schema m, pragma_index_info(m.name) i "
                 "WHERE m.type = 'index' AND m.sql IS NOT NULL GROUP BY m.name").fetchall()
-            self.assertEqual(indexes, [("claims_by_worker", "claims", "worker,no"),
+            self.assertEqual(indexes, [("claims_by_list", "claims", "list"),
+                                       ("claims_by_release", "claims", "released"),
+                                       ("claims_by_worker", "claims", "worker,no"),
                                        ("wages_by_worker", "wages", "worker,employer,month")])
         store.close()
 
@@ -152,6 +154,8 @@ class Init(Program):
             "CREATE INDEX wages_by_gross ON wages (gross)",
             "DROP INDEX wages_by_worker",
             "DROP INDEX claims_by_worker",
+            "DROP INDEX claims_by_release",
+            "DROP INDEX claims_by_list",
             "CREATE VIEW firms AS SELECT no FROM employers",
             "ALTER TABLE runs ADD COLUMN level INTEGER",
             "ALTER TABLE lists RENAME COLUMN total TO sum",

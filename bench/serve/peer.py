@@ -4,12 +4,10 @@
     python3 bench/serve/peer.py init STORE RATES
     python3 bench/serve/peer.py serve STORE CALLERS DAY PORT COUNT
 
-It takes the program's words, and of its requests registrations, reports and corrections, claims, their
-withdrawals and releases, bank files, what is owed and statements. It judges them by the same rules and
-gives the same answers. Its store is a database of its own with SQLite's write-ahead log and a sync at
-each commit, and each request is one transaction. A report's contribution is kept beside it; a
-statement's pieces and interest, and a worker's balance, are worked out anew. Answers to HEAD aren't
-told apart.
+It takes the program's words, and its requests. It judges them by the same rules and gives the same
+answers. Its store is a database of its own with SQLite's write-ahead log and a sync at each commit, and
+each request is one transaction. A report's contribution is kept beside it; a statement's pieces and
+interest, and a worker's balance, are worked out anew. Answers to HEAD aren't told apart.
 """
 import json
 import re
@@ -23,7 +21,9 @@ from records import Office  # noqa: E402
 from rules import Refusal, has_control, month_number  # noqa: E402
 
 EMPLOYER, MONTH = "[1-9][0-9]{0,7}", "2[01][0-9]{2}-(?:0[1-9]|1[0-2])"
-CLAIM = "[1-9][0-9]{0,6}|[1-4][0-9]{7}|50000000"
+# The number of a claim or of a payout list, and of a worker.
+COUNTED = "[1-9][0-9]{0,6}|[1-4][0-9]{7}|50000000"
+WORKER = "[1-9][0-9]{0,8}"
 is_month = re.compile(MONTH).fullmatch
 is_request_number = re.compile("[1-9][0-9]{0,17}").fullmatch
 is_length = re.compile("[0-9]+").fullmatch
@@ -120,6 +120,11 @@ def release(body, claim):
     return f"release {claim}".encode(), None, lambda office: office.release(int(claim))
 
 
+def payout_list(body):
+    without_body(body)
+    return b"payout", None, lambda office: office.pay_out()
+
+
 def bank_file(body):
     return b"bank " + body, None, lambda office: office.take_file(body)
 
@@ -132,15 +137,26 @@ def statement(_, no):
     return None, int(no), lambda office: office.statement(int(no))
 
 
+def worker_text(_, no):
+    return None, None, lambda office: office.worker(int(no))
+
+
+def payout(_, no):
+    return None, None, lambda office: office.payout(int(no))
+
+
 ROUTES = [(re.compile(path).fullmatch, ways) for path, ways in (
     (f"/employers/({EMPLOYER})/reports/({MONTH})", {"POST": report, "PUT": correction}),
     (f"/employers/({EMPLOYER})/claims", {"POST": holiday_claim}),
-    (f"/employers/({EMPLOYER})/claims/({CLAIM})/withdraw", {"POST": withdrawal}),
-    (f"/claims/({CLAIM})/release", {"POST": release}),
+    (f"/employers/({EMPLOYER})/claims/({COUNTED})/withdraw", {"POST": withdrawal}),
+    (f"/claims/({COUNTED})/release", {"POST": release}),
     (f"/employers/({EMPLOYER})/owed", {"GET": owed}),
     (f"/employers/({EMPLOYER})/statement", {"GET": statement}),
     ("/employers", {"POST": registration}),
     ("/bank", {"POST": bank_file}),
+    ("/payouts", {"POST": payout_list}),
+    (f"/workers/({WORKER})", {"GET": worker_text}),
+    (f"/payouts/({COUNTED})", {"GET": payout}),
 )]
 
 

@@ -18,8 +18,12 @@ CREATE TABLE bank (serial INTEGER PRIMARY KEY, reference TEXT UNIQUE, value TEXT
   cents INT, purpose TEXT, note TEXT, employer INT) STRICT;
 CREATE TABLE credits (employer INT, purpose TEXT, day TEXT, serial INT, cents INT, reference TEXT,
   PRIMARY KEY (employer, purpose, day, serial)) STRICT, WITHOUT ROWID;
-CREATE TABLE claims (no INTEGER PRIMARY KEY, employer INT, worker INT, cents INT, state TEXT) STRICT;
+CREATE TABLE claims (no INTEGER PRIMARY KEY, employer INT, worker INT, cents INT, state TEXT, paid INT,
+  list INT) STRICT;
 CREATE INDEX claims_by_worker ON claims (worker, state, cents);
+CREATE INDEX claims_to_pay ON claims (no) WHERE paid > 0 AND list IS NULL;
+CREATE INDEX claims_by_list ON claims (list) WHERE list IS NOT NULL;
+CREATE TABLE lists (no INTEGER PRIMARY KEY, day TEXT, items INT, total INT) STRICT;
 CREATE TABLE requests (caller INT, number INT, day TEXT, command BLOB, reply TEXT,
   PRIMARY KEY (caller, number)) STRICT, WITHOUT ROWID;
 INSERT INTO meta VALUES (1, NULL, 0, 0, 0);
@@ -184,9 +188,9 @@ class Office:
         self.set_off(no, "C", serial, to_contributions, claim)
         self.set_off(no, "I", serial, to_interest, claim)
         self.run("UPDATE meta SET serial = ?", (serial,))
-        self.run("UPDATE claims SET state = 'released' WHERE no = ?", (claim,))
-        return {"paid": cents - to_contributions - to_interest,
-                "to_contributions": to_contributions, "to_interest": to_interest}
+        paid = cents - to_contributions - to_interest
+        self.run("UPDATE claims SET state = 'released', paid = ? WHERE no = ?", (paid, claim))
+        return {"paid": paid, "to_contributions": to_contributions, "to_interest": to_interest}
 
     def set_off(self, no, purpose, serial, cents, claim):
         """Makes a credit of what a release sets off, if that is something."""
@@ -197,6 +201,37 @@ class Office:
             raise Refusal(18, "credits")
         self.run("INSERT INTO credits VALUES (?, ?, ?, ?, ?, ?)",
                  (no, purpose, self.day, serial, cents, f"set-off {claim}"))
+
+    def pay_out(self):
+        """Puts each claim that is still to be paid out on a list."""
+        items, total = self.one("SELECT count(*), ifnull(sum(paid), 0) FROM claims "
+                                "WHERE paid > 0 AND list IS NULL")
+        if not items:
+            raise Refusal(29)
+        made = self.run("INSERT INTO lists (day, items, total) VALUES (?, ?, ?)", (self.day, items, total))
+        self.run("UPDATE claims SET list = ? WHERE paid > 0 AND list IS NULL", (made.lastrowid,))
+        return {"items": items, "list": made.lastrowid, "total": total}
+
+    def payout(self, no):
+        stands = self.one("SELECT day, items, total FROM lists WHERE no = ?", no)
+        if not stands:
+            raise Refusal(33)
+        day, items, total = stands
+        lines = [f"claim {claim} employer {employer} worker {worker} {euros(paid)}"
+                 for claim, employer, worker, paid in self.run(
+                     "SELECT no, employer, worker, paid FROM claims WHERE list = ? ORDER BY no", (no,))]
+        return "\n".join([f"payout {no} {day}", *lines, f"items {items}", f"total {euros(total)}", ""])
+
+    def worker(self, worker):
+        earned = self.run("SELECT employer, month, gross FROM wages WHERE worker = ? "
+                          "ORDER BY employer, month", (worker,))
+        claims = self.run("SELECT no, employer, state, cents FROM claims "
+                          "WHERE worker = ? AND state <> 'withdrawn' ORDER BY no", (worker,))
+        lines = [f"worker {worker} {self.day}"]
+        lines += [f"earned {no} {month_text(month)} {euros(gross * self.rate(month)[5] // 10000)}"
+                  for no, month, gross in earned]
+        lines += [f"claim {claim} employer {no} {state} {euros(cents)}" for claim, no, state, cents in claims]
+        return "\n".join([*lines, f"balance {euros(self.balance(worker))}", ""])
 
     def take_file(self, body):
         lines = read_file(body)

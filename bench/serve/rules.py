@@ -13,7 +13,8 @@ RULES = {
     15: ("ReportExists", 409), 16: ("StaleVersion", 409), 17: ("WorkerTwice", 409),
     18: ("OverLimit", 409), 20: ("BadCsv", 409), 21: ("RefConflict", 409), 22: ("ValueAhead", 409),
     24: ("NotEmployed", 409), 25: ("OverBalance", 409), 26: ("UnknownClaim", 409),
-    27: ("ClaimNotOpen", 409), 28: ("MissingReport", 409), 32: ("NoRate", 409),
+    27: ("ClaimNotOpen", 409), 28: ("MissingReport", 409), 29: ("NothingToPay", 409),
+    32: ("NoRate", 409), 33: ("UnknownDocument", 409),
 }
 HEADER = ("reference", "value_date", "employer", "cents", "purpose", "note")
 is_reference = re.compile("[!-~]{1,35}").fullmatch

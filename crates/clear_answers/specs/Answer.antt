@@ -9,7 +9,7 @@ use Rattle.clear_book.specs.Rules.{number_of, name_of, carried_by}
 use Rattle.clear_book.specs.Rules.{word_of, table_word}
 use Rattle.clear_book.specs.declared.outcomes.Reply.{Reply}
 use Rattle.clear_book.specs.declared.outcomes.Reply.TheVariants.{Done, Reported, Imported}
-use Rattle.clear_book.specs.declared.outcomes.Reply.TheVariants.{Claimed, Released}
+use Rattle.clear_book.specs.declared.outcomes.Reply.TheVariants.{Claimed, Released, Listed}
 use Rattle.clear_book.specs.declared.outcomes.Answer.{Answer}
 use Rattle.clear_book.specs.declared.outcomes.Answer.TheVariants.{Owed, Text}
 use Rattle.clear_book.specs.declared.rules.Carried.{Carried}
@@ -107,6 +107,11 @@ reply_body (Released settlement) =
     codes "{\"paid\":" ++ decimal settlement.paid
     ++ codes ",\"to_contributions\":" ++ decimal settlement.to_contributions
     ++ codes ",\"to_interest\":" ++ decimal settlement.to_interest
+    ++ codes "}"
+reply_body (Listed list items total) =
+    codes "{\"items\":" ++ decimal items
+    ++ codes ",\"list\":" ++ decimal list
+    ++ codes ",\"total\":" ++ decimal total
     ++ codes "}"
 
 -- the body of the answer to a query

@@ -12,6 +12,7 @@ use Rattle.clear_book.specs.declared.calls.Command.{Command}
 use Rattle.clear_book.specs.declared.calls.Command.TheVariants.{Register, Report, Correct}
 use Rattle.clear_book.specs.declared.calls.Command.TheVariants.{ImportBank}
 use Rattle.clear_book.specs.declared.calls.Command.TheVariants.{Claim, Withdraw, Release}
+use Rattle.clear_book.specs.declared.calls.Command.TheVariants.{PayoutList}
 use Rattle.clear_book.specs.declared.calls.Registration.{Registration}
 use Rattle.clear_book.specs.declared.calls.WageReport.{WageReport}
 use Rattle.clear_values.specs.declared.replies.Reply.{Reply}
@@ -69,6 +70,7 @@ rates_added (ImportBank file) = []
 rates_added (Claim c) = []
 rates_added (Withdraw w) = []
 rates_added (Release claim) = []
+rates_added PayoutList = []
 
 -- the rows of a table, and behind them those that entries add
 abbrev pub rates_behind : RateTable → List Entry → List Rate

@@ -11,15 +11,16 @@ use Rattle.clear_money.specs.Numbers.{IsAmount, IsEmployerNo, IsWorkerNo}
 use Rattle.clear_values.specs.declared.callers.Caller.{Caller}
 use Rattle.clear_values.specs.declared.callers.Caller.TheVariants.{Firm, Clerk}
 use Rattle.clear_values.specs.declared.texts.WageLine.{WageLine}
-use Rattle.clear_values.specs.Numbers.{IsClaimNo, IsRequestNo}
+use Rattle.clear_values.specs.Numbers.{IsClaimNo, IsListNo, IsRequestNo}
 use Rattle.clear_values.specs.Ranges.{IsCaller}
 use Rattle.clear_values.specs.Texts.{IsName}
 use Rattle.clear_book.specs.declared.calls.Command.{Command}
 use Rattle.clear_book.specs.declared.calls.Command.TheVariants.{Register, Report, Correct}
 use Rattle.clear_book.specs.declared.calls.Command.TheVariants.{ImportBank}
 use Rattle.clear_book.specs.declared.calls.Command.TheVariants.{Claim, Withdraw, Release}
+use Rattle.clear_book.specs.declared.calls.Command.TheVariants.{PayoutList}
 use Rattle.clear_book.specs.declared.calls.Query.{Query}
-use Rattle.clear_book.specs.declared.calls.Query.TheVariants.{Owed, Statement}
+use Rattle.clear_book.specs.declared.calls.Query.TheVariants.{Owed, Statement, Worker, Payout}
 use Rattle.clear_book.specs.declared.calls.Correction.{Correction}
 use Rattle.clear_book.specs.declared.calls.HolidayClaim.{HolidayClaim}
 use Rattle.clear_book.specs.declared.calls.Registration.{Registration}
@@ -41,12 +42,15 @@ may_do (Firm e) (ImportBank file) = false
 may_do (Firm e) (Claim c) = e == c.employer
 may_do (Firm e) (Withdraw w) = e == w.employer
 may_do (Firm e) (Release claim) = false
+may_do (Firm e) PayoutList = false
 
--- a firm may ask what it owes itself
+-- a firm may ask what it owes itself, and nothing of workers and lists
 abbrev pub may_query : Caller → Query → Bool
 may_query Clerk query = true
 may_query (Firm e) (Owed employer) = e == employer
 may_query (Firm e) (Statement employer) = e == employer
+may_query (Firm e) (Worker worker) = false
+may_query (Firm e) (Payout list) = false
 
 -- ---- the same as values
 
@@ -96,6 +100,11 @@ abbrev pub releases_the_same : ℕ → Command → Bool
 releases_the_same claim (Release other) = claim == other
 releases_the_same claim command = false
 
+-- a payout list
+abbrev pub is_payout_list : Command → Bool
+is_payout_list PayoutList = true
+is_payout_list command = false
+
 -- the same kind of command, and each of its values the same
 abbrev pub same_command : Command → Command → Bool
 same_command (Register r) command = is_registration_of r command
@@ -105,6 +114,7 @@ same_command (ImportBank f) command = imports_the_same f command
 same_command (Claim c) command = claims_the_same c command
 same_command (Withdraw w) command = withdraws_the_same w command
 same_command (Release claim) command = releases_the_same claim command
+same_command PayoutList command = is_payout_list command
 
 -- ---- the kept bytes
 
@@ -134,6 +144,7 @@ command_bytes (Claim c) =
 command_bytes (Withdraw w) =
     codes "withdraw " ++ decimal w.employer ++ codes " " ++ decimal w.claim
 command_bytes (Release claim) = codes "release " ++ decimal claim
+command_bytes PayoutList = codes "payout"
 
 -- ---- values
 
@@ -155,11 +166,14 @@ IsCommand (ImportBank file) = Unit {0}
 IsCommand (Claim c) = IsEmployerNo c.employer × IsWorkerNo c.worker × IsAmount c.cents
 IsCommand (Withdraw w) = IsEmployerNo w.employer × IsClaimNo w.claim
 IsCommand (Release claim) = IsClaimNo claim
+IsCommand PayoutList = Unit {0}
 
 -- the values of a query
 abbrev pub IsQuery : Query → Type 0
 IsQuery (Owed employer) = IsEmployerNo employer
 IsQuery (Statement employer) = IsEmployerNo employer
+IsQuery (Worker worker) = IsWorkerNo worker
+IsQuery (Payout list) = IsListNo list
 
 -- the values of a call
 abbrev pub IsCall : Call → Type 0

@@ -1,4 +1,6 @@
 -- The documents that queries are answered with.
 pub mod Amounts
 pub mod Lines
+pub mod Payout
 pub mod Statement
+pub mod Worker

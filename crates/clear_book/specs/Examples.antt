@@ -5,6 +5,9 @@ use Rattle.clear_account.specs.declared.entries.Credit.{Credit}
 use Rattle.clear_account.specs.declared.entries.Piece.{Piece}
 use Rattle.clear_values.specs.declared.lines.Purpose.TheVariants.{Contribution}
 use Rattle.clear_values.specs.declared.rows.BankRow.{BankRow}
+use Rattle.clear_values.specs.declared.rows.ClaimRow.{ClaimRow}
+use Rattle.clear_values.specs.declared.rows.ClaimState.{ClaimState}
+use Rattle.clear_values.specs.declared.rows.ClaimState.TheVariants.{Open, Released}
 
 -- January 2024, as a number
 abbrev pub january : ℕ
@@ -45,3 +48,28 @@ line firm serial cents =
 -- two lines, one of firm 1001 and one in suspense
 abbrev pub two_lines : List BankRow
 two_lines = line (Some 1001) 1 250000 ∷ line None 2 50000 ∷ []
+
+-- a claim of firm 1001 for worker 7, with a number and its cents; its day is left open
+abbrev pub claim : ℕ → ℕ → ClaimState → ClaimRow
+claim number cents state =
+    record { claim = number; employer = 1001; worker = 7; cents = cents; made = 0; state = state }
+
+-- a claim is released: so many cents are set off to contributions, so many are paid out, and it is
+-- on a list or on none; its day is left open
+abbrev pub released : ℕ → ℕ → Option ℕ → ClaimState
+released set_off paid list =
+    Released (record {
+      day = 0;
+      settlement = record { to_contributions = set_off; to_interest = 0; paid = paid };
+      list = list;
+    })
+
+-- four claims: one that is paid out, one that is set off whole, one of which a part is paid out,
+-- and an open one; the first and the third on a list or on none
+abbrev pub four_claims : Option ℕ → List ClaimRow
+four_claims list =
+    claim 1 40000 (released 0 40000 list)
+    ∷ claim 2 5000 (released 5000 0 None)
+    ∷ claim 3 12000 (released 2500 9500 list)
+    ∷ claim 4 1425 Open
+    ∷ []

@@ -10,8 +10,9 @@ use Rattle.clear_book.specs.declared.calls.Command.{Command}
 use Rattle.clear_book.specs.declared.calls.Command.TheVariants.{Register, Report, Correct}
 use Rattle.clear_book.specs.declared.calls.Command.TheVariants.{ImportBank}
 use Rattle.clear_book.specs.declared.calls.Command.TheVariants.{Claim, Withdraw, Release}
+use Rattle.clear_book.specs.declared.calls.Command.TheVariants.{PayoutList}
 use Rattle.clear_book.specs.declared.calls.Query.{Query}
-use Rattle.clear_book.specs.declared.calls.Query.TheVariants.{Owed, Statement}
+use Rattle.clear_book.specs.declared.calls.Query.TheVariants.{Owed, Statement, Worker, Payout}
 use Rattle.clear_book.specs.declared.outcomes.Answer.{Answer}
 use Rattle.clear_book.specs.declared.outcomes.Answer.TheVariants.{Text}
 use Rattle.clear_book.specs.declared.outcomes.Outcome.{Outcome}
@@ -25,7 +26,9 @@ use Rattle.clear_book.specs.Calls.{may_do, may_query}
 use Rattle.clear_book.specs.Book.{Book, Entry, entry_under, rates_of, ledger_day, member_of}
 use Rattle.clear_book.specs.Book.{employer_count, reported_version}
 use Rattle.clear_book.specs.Checks.{when, first_of}
+use Rattle.clear_book.specs.Documents.Payout.{payout_text}
 use Rattle.clear_book.specs.Documents.Statement.{statement_text}
+use Rattle.clear_book.specs.Documents.Worker.{worker_text}
 use Rattle.clear_book.specs.Calls.{same_command}
 use Rattle.clear_values.specs.Limits.{most_entries}
 use Rattle.clear_book.specs.Lines.{credit_count, credits_after, lines_after, lines_of_rows}
@@ -34,12 +37,16 @@ use Rattle.clear_book.specs.Own.Claim.{own_claim, claim_reply}
 use Rattle.clear_book.specs.Own.Correct.{own_correct, correct_reply}
 use Rattle.clear_book.specs.Own.ImportBank.{own_import, import_reply}
 use Rattle.clear_book.specs.Own.Owed.{own_owed, owed_by}
+use Rattle.clear_book.specs.Own.Payout.{own_payout}
+use Rattle.clear_book.specs.Own.PayoutList.{own_payout_list, payout_list_reply}
 use Rattle.clear_book.specs.Own.Register.{own_register, register_reply}
 use Rattle.clear_book.specs.Own.Release.{debts_of, own_release, release_reply}
 use Rattle.clear_book.specs.Own.Report.{own_report, report_reply}
 use Rattle.clear_book.specs.Own.Statement.{own_statement, firm_on, statement_of}
 use Rattle.clear_book.specs.Own.Withdraw.{own_withdraw, withdraw_reply}
-use Rattle.clear_book.specs.Workers.{balance_of, claim_of, claims_of, is_employed}
+use Rattle.clear_book.specs.Own.Worker.{worker_on}
+use Rattle.clear_book.specs.Workers.{balance_of, claim_of, claims_of, claims_on, is_employed}
+use Rattle.clear_book.specs.Workers.{list_of, lists_of, payable_claims}
 
 -- what is said of a call: a reply to a new request, the reply that stands for one already, the
 -- answer to a query, or the rule that refuses it
@@ -88,6 +95,7 @@ own_rule b t (Withdraw w) =
     (claim_of b.entries w.claim)
 own_rule b t (Release claim) =
     own_release (claim_of b.entries claim) (λ row. debts_of b t row.employer)
+own_rule b t PayoutList = own_payout_list (payable_claims b.entries)
 
 -- the reply, on a day, to a command that no rule refuses
 abbrev pub reply_to : Book → ℕ → Command → Reply
@@ -100,11 +108,15 @@ reply_to b t (Claim c) = claim_reply (length (claims_of b.entries))
 reply_to b t (Withdraw w) = withdraw_reply
 reply_to b t (Release claim) =
     release_reply (claim_of b.entries claim) (λ row. debts_of b t row.employer)
+reply_to b t PayoutList =
+    payout_list_reply (length (lists_of b.entries)) (payable_claims b.entries)
 
 -- the first of a query's own rules that applies
 abbrev pub own_query : Book → Query → Option Rule
 own_query b (Owed employer) = own_owed (is_some (member_of b.entries employer))
 own_query b (Statement employer) = own_statement (is_some (member_of b.entries employer))
+own_query b (Worker worker) = None
+own_query b (Payout list) = own_payout (is_some (list_of b.entries list))
 
 -- the statement of an employer on a day, and nothing of one that isn't registered
 abbrev pub statement_on : Book → ℕ → ℕ → List ℕ
@@ -112,10 +124,18 @@ statement_on b t e =
     option_map_or (λ member. statement_text (statement_of (firm_on b e t member)))
     (member_of b.entries e) []
 
+-- a payout list with its own day, and nothing of one that isn't there
+abbrev pub payout_of : Book → ℕ → List ℕ
+payout_of b number =
+    option_map_or (λ list. payout_text list (claims_on b.entries number))
+    (list_of b.entries number) []
+
 -- the answer to a query that no rule refuses
 abbrev pub answer_to : Book → ℕ → Query → Answer
 answer_to b t (Owed employer) = owed_by b employer t
 answer_to b t (Statement employer) = Text (statement_on b t employer)
+answer_to b t (Worker worker) = Text (worker_text (worker_on b t worker))
+answer_to b t (Payout list) = Text (payout_of b list)
 
 -- the rule in place of what is said, if one applies
 abbrev pub refused_or : Option Rule → Verdict → Verdict

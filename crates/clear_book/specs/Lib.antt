@@ -8,6 +8,7 @@ pub mod Examples
 pub mod Judge
 pub mod Laws
 pub mod Lines
+pub mod Listed
 pub mod Machine
 pub mod Own
 pub mod Pieces
@@ -19,6 +20,7 @@ pub mod Workers
 pub use Rattle.clear_values.specs.Keyed
 pub use Rattle.clear_values.specs.Limits
 pub use Rattle.clear_values.specs.Numbers
+pub use Rattle.clear_values.specs.Payouts
 pub use Rattle.clear_values.specs.Ranges
 pub use Rattle.clear_values.specs.RowRanges
 pub use Rattle.clear_values.specs.Texts

@@ -4,8 +4,11 @@ pub mod Correct
 pub mod ImportBank
 pub mod Lines
 pub mod Owed
+pub mod Payout
+pub mod PayoutList
 pub mod Register
 pub mod Release
 pub mod Report
 pub mod Statement
 pub mod Withdraw
+pub mod Worker

@@ -16,7 +16,7 @@ use Rattle.clear_book.specs.Book.{member_of, employer_count, latest_lines, repor
 use Rattle.clear_book.specs.Calls.{command_bytes}
 use Rattle.clear_values.specs.Keyed.{find_row, with_row, AreInOrder}
 use Rattle.clear_book.specs.Lines.{lines_standing, credits_made, serial_count}
-use Rattle.clear_book.specs.Workers.{claims_of, entitlement_for}
+use Rattle.clear_book.specs.Workers.{claims_of, entitlement_for, lists_of}
 pub use Rattle.clear_values.specs.Tables.{RequestRow, Tables, AreUnfilled, employer_key, report_key}
 pub use Rattle.clear_values.specs.Tables.{wage_key, bank_key, claim_key, list_key, run_key}
 pub use Rattle.clear_values.specs.Tables.{reminder_key, request_key, member_in, wage_row, wage_rows}
@@ -86,6 +86,8 @@ pub record Stands (b : Book) (t : Tables) : Type 0 where
   pub requests_in_order : AreInOrder request_key t.requests
   pub claims : t.claims ≡ claims_of b.entries
   pub last_claim : t.last_claim ≡ length (claims_of b.entries)
+  pub lists : t.lists ≡ lists_of b.entries
+  pub last_list : t.last_list ≡ length (lists_of b.entries)
   pub serial : t.serial ≡ serial_count b.entries
   pub unfilled : AreUnfilled t
 

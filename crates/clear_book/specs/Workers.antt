@@ -1,7 +1,7 @@
 -- Employers and workers: who is registered, what a worker has earned and claimed, and what of it is
 -- still to be claimed.
 use Rattle.std.specs.Prelude.{ℕ, ◌-◌, ◌*◌, ◌/◌, List, [], ◌∷◌, ◌++◌, Option, Some, None, Bool, true}
-use Rattle.std.specs.Prelude.{false, ◌&&◌, ◌==◌, if◌then◌else◌, not, filter, length, map}
+use Rattle.std.specs.Prelude.{false, ◌&&◌, ◌==◌, if◌then◌else◌, is_none, not, filter, length, map}
 use Rattle.std.specs.Prelude.{◌+◌, nat_lt, sum_by}
 use Rattle.std.specs.List.{filter_map, flat_map}
 use Rattle.std.specs.Option.{option_map, option_map_or}
@@ -9,17 +9,22 @@ use Rattle.clear_money.specs.Calendar.{months}
 use Rattle.clear_money.specs.Rates.{Rate, rate_in_force}
 use Rattle.clear_book.specs.declared.calls.Command.{Command}
 use Rattle.clear_book.specs.declared.calls.Command.TheVariants.{Claim, Withdraw, Release}
+use Rattle.clear_book.specs.declared.calls.Command.TheVariants.{PayoutList}
 use Rattle.clear_book.specs.declared.calls.HolidayClaim.{HolidayClaim}
+use Rattle.clear_book.specs.declared.documents.EarnedLine.{EarnedLine}
 use Rattle.clear_values.specs.declared.replies.Reply.{Reply}
-use Rattle.clear_values.specs.declared.replies.Reply.TheVariants.{Released as release_reply}
+use Rattle.clear_values.specs.declared.replies.Reply.TheVariants.{Released as release_reply, Listed}
 use Rattle.clear_values.specs.declared.replies.Settlement.{Settlement}
 use Rattle.clear_values.specs.declared.rows.ClaimRow.{ClaimRow}
+use Rattle.clear_values.specs.declared.rows.ListRow.{ListRow}
+use Rattle.clear_values.specs.declared.rows.ReleasedClaim.{ReleasedClaim}
 use Rattle.clear_values.specs.declared.rows.ClaimState.{ClaimState}
 use Rattle.clear_values.specs.declared.rows.ClaimState.TheVariants.{Open, Withdrawn, Released}
 use Rattle.clear_values.specs.declared.texts.WageLine.{WageLine}
 use Rattle.clear_book.specs.Book.{Book, Entry, rates_of, registration_in, latest_lines}
 use Rattle.clear_values.specs.Keyed.{find_row, in_key_order}
-use Rattle.clear_values.specs.Tables.{claim_key}
+pub use Rattle.clear_values.specs.Payouts.{is_on, is_released_since}
+use Rattle.clear_values.specs.Tables.{claim_key, list_key}
 
 -- ---- employers
 
@@ -36,12 +41,6 @@ abbrev pub employers_of : List Entry → List ℕ
 employers_of xs = in_key_order number_key (registered_in xs)
 
 -- ---- what a worker has earned
-
--- what a worker has earned with one line of a firm's month, in cents
-pub record EarnedLine : Type 0 where
-  pub employer : ℕ
-  pub month : ℕ
-  pub cents : ℕ
 
 -- the entitlement for a gross amount at a rate row, rounded down, and 0 where none is in force
 abbrev pub entitlement_for : Option Rate → ℕ → ℕ
@@ -118,12 +117,45 @@ released_by t reply claim = claim
 abbrev pub is_claim : ℕ → ClaimRow → Bool
 is_claim number claim = claim.claim == number
 
+-- a claim of which something is to be paid out: it is released, and on no list yet
+abbrev pub is_payable_release : ReleasedClaim → Bool
+is_payable_release release = nat_lt 0 release.settlement.paid && is_none release.list
+
+abbrev pub is_payable : ClaimState → Bool
+is_payable Open = false
+is_payable Withdrawn = false
+is_payable (Released release) = is_payable_release release
+
+-- what is paid out of a claim, in cents: nothing before it is released
+abbrev pub paid_out : ClaimState → ℕ
+paid_out Open = 0
+paid_out Withdrawn = 0
+paid_out (Released release) = release.settlement.paid
+
+-- a state, on a list where something is to be paid out
+abbrev pub state_on : ℕ → ClaimState → ClaimState
+state_on list Open = Open
+state_on list Withdrawn = Withdrawn
+state_on list (Released release) =
+    if is_payable_release release then Released (record release { list = Some list })
+    else Released release
+
+-- a claim, on a list where something of it is to be paid out
+abbrev pub on_list : ℕ → ClaimRow → ClaimRow
+on_list list claim = record claim { state = state_on list claim.state }
+
+-- a claim after a payout list, with the reply to it
+abbrev pub listed_by : Reply → ClaimRow → ClaimRow
+listed_by (Listed list items total) claim = on_list list claim
+listed_by reply claim = claim
+
 -- a claim that stands, after a command, on its day and with the reply to it
 abbrev pub claim_after : ℕ → Reply → Command → ClaimRow → ClaimRow
 claim_after t reply (Withdraw w) claim =
     if is_claim w.claim claim then withdrawn claim else claim
 claim_after t reply (Release number) claim =
     if is_claim number claim then released_by t reply claim else claim
+claim_after t reply PayoutList claim = listed_by reply claim
 claim_after t reply command claim = claim
 
 -- the claims of all workers by their numbers, as they stand
@@ -161,3 +193,38 @@ claimed b w = sum_by (λ claim. claim.cents) (claims_of_worker b.entries w)
 -- the balance of a worker: what was earned, less what is claimed, and 0 where that is more
 abbrev pub balance_of : Book → ℕ → ℕ
 balance_of b w = entitlement_of b w - claimed b w
+
+-- ---- payout lists
+
+-- the claims of which something is to be paid out, by their numbers
+abbrev pub payable_claims : List Entry → List ClaimRow
+payable_claims xs = filter (λ claim. is_payable claim.state) (claims_of xs)
+
+-- the list that a reply on a day tells of
+abbrev pub lists_in : ℕ → Reply → List ListRow
+lists_in t (Listed list items total) =
+    record { list = list; day = t; items = items; total = total } ∷ []
+lists_in t reply = []
+
+-- the list that a command makes, on its day and with the reply to it
+abbrev pub lists_by : ℕ → Reply → Command → List ListRow
+lists_by t reply PayoutList = lists_in t reply
+lists_by t reply command = []
+
+-- the payout lists, in the order in which they were made
+abbrev pub lists_of : List Entry → List ListRow
+lists_of [] = []
+lists_of (x ∷ xs) = lists_of xs ++ lists_by x.day x.reply x.command
+
+-- the list of a number, if there is one
+abbrev pub list_of : List Entry → ℕ → Option ListRow
+list_of xs number = find_row list_key (lists_of xs) (number ∷ [])
+
+-- the claims on a list, by their numbers
+abbrev pub claims_on : List Entry → ℕ → List ClaimRow
+claims_on xs list = filter (λ claim. is_on list claim.state) (claims_of xs)
+
+-- the day of the last list, and the first of all days before there is one
+abbrev pub last_list_day : List Entry → ℕ
+last_list_day xs =
+    option_map_or (λ list. list.day) (list_of xs (length (lists_of xs))) 0

@@ -9,7 +9,7 @@ ghost use Rattle.clear_book.specs.Calls.{command_bytes as kept_bytes, line_text,
 ghost use Rattle.clear_book.specs.Calls.{IsCommand, IsReport, IsWageLine, may_do, may_query};
 
 use crate::files::BankFile;
-use crate::numbers::{ClaimNo, RequestNo};
+use crate::numbers::{ClaimNo, ListNo, RequestNo};
 use crate::texts::{Name, WageLine, WageLines};
 use clear_money::days::Day;
 use clear_money::months::Month;
@@ -67,6 +67,8 @@ pub enum Command {
     Withdraw(Withdrawal),
     /// The clerk settles a claim.
     Release(ClaimNo),
+    /// The clerk puts all that is to be paid out on a list.
+    PayoutList,
 }
 
 /// What is only asked.
@@ -76,6 +78,10 @@ pub enum Query {
     Owed { employer: EmployerNo },
     /// The statement of a firm's account.
     Statement { employer: EmployerNo },
+    /// What a worker has earned, what is claimed for it, and its balance.
+    Worker { worker: WorkerNo },
+    /// A payout list.
+    Payout { list: ListNo },
 }
 
 /// A command or a query on a day.
@@ -108,6 +114,7 @@ pub fn may(caller: Caller, command: &Command) -> bool
             Command::Claim(claim) => firm == claim.employer,
             Command::Withdraw(withdrawal) => firm == withdrawal.employer,
             Command::Release(_) => false,
+            Command::PayoutList => false,
         },
     }
 }
@@ -121,6 +128,8 @@ pub fn may_ask(caller: Caller, query: &Query) -> bool
         Caller::Firm(firm) => match query {
             Query::Owed { employer } => firm == *employer,
             Query::Statement { employer } => firm == *employer,
+            Query::Worker { .. } => false,
+            Query::Payout { .. } => false,
         },
     }
 }
@@ -160,6 +169,7 @@ pub fn command_bytes(alloc: Global, command: &Command) -> Result<Vec<u8>, AllocE
         Command::Release(claim) => {
             append_number(&mut out, b"release ", u64::from(claim.number()))?;
         }
+        Command::PayoutList => out.extend_from_slice(b"payout")?,
     }
     Ok(out)
 }
@@ -247,6 +257,7 @@ pub fn command_in_range(command: &Command)
         Command::Release(claim) => {
             let _claim = claim.number();
         }
+        Command::PayoutList => {}
     }
 }
 

@@ -81,3 +81,11 @@ pub struct Payment {
     pub cents: u64,
     pub reference: CreditReference,
 }
+
+/// What a worker has earned with one line of a firm's month. Amounts are in cents.
+#[derive(Clone, Copy)]
+pub struct EarnedLine {
+    pub employer: EmployerNo,
+    pub month: Month,
+    pub cents: u64,
+}

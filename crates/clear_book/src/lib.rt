@@ -2,16 +2,13 @@
 //!
 //! `specs/` says what a reader must believe: the book of accepted requests, what is read off it,
 //! the judge with its one order of checks, the machine that goes from call to call, and the tables
-//! that stand for a book. The laws in `laws` follow from these definitions alone: runs keep a book
-//! lawful, and no sum over a lawful book leaves its type. `rules` is the one table of all rules,
-//! and `limits` that of all limits.
+//! that stand for a book. What follows from these definitions alone stands in `clear_laws`. `rules`
+//! is the one table of all rules, and `limits` that of all limits.
 #![tactic(auto)]
 
 pub mod calls;
 pub mod documents;
-pub mod examples;
 pub mod files;
-pub mod laws;
 pub mod outcomes;
 pub mod rules;
 

@@ -253,4 +253,5 @@ fn commands_on_claims_are_kept_as_texts(rt: HostRuntime) {
     assert!(rt; is_kept_as(alloc, claims(), "claim 1001 7 10000"));
     assert!(rt; is_kept_as(alloc, withdraws(), "withdraw 1001 1"));
     assert!(rt; is_kept_as(alloc, releases(), "release 1"));
+    assert!(rt; is_kept_as(alloc, Some(Command::PayoutList), "payout"));
 }

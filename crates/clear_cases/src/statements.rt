@@ -5,7 +5,7 @@ use clear_book::texts::{CreditReference, Name};
 use clear_money::days::Day;
 use clear_money::months::Month;
 use clear_money::numbers::EmployerNo;
-use clear_texts::rows::{ChargeRow, ChargeRows, RowFault};
+use clear_texts::rows::{ChargeRow, RowFault, RowSource};
 use clear_texts::statement::statement;
 use std::alloc::Global;
 
@@ -60,8 +60,10 @@ struct Rows {
     refuses: bool,
 }
 
-impl ChargeRows for Rows {
+impl RowSource for Rows {
     ghost use Rattle.std.specs.Prelude.{⊤};
+
+    type Row = ChargeRow;
 
     ghost next_gives = { λ _ _ _. ⊤ };
 

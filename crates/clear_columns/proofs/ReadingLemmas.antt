@@ -1,9 +1,10 @@
 -- Readers: what is still to come after each row.
-use Rattle.std.proofs.Common.{◌≡◌, ℕ, false, List, [], ◌∷◌, ◌++◌, Result, Ok, Err, OnErr, map, refl, sym, ap, subst, ◌∙◌, append_assoc, inl}
+use Rattle.std.proofs.Common.{◌≡◌, ℕ, false, List, [], ◌∷◌, ◌++◌, Option, Some, None, Result, Ok, Err, OnErr, IsTrue, map, refl, sym, ap, subst, ◌∙◌, append_assoc, inl, inr, arith}
 use Rattle.std.proofs.lemmas.List.{map-append}
 use Rattle.std.specs.Prelude.{IfOk}
 use Rattle.sqlite.proofs.Callers.{IsPlain, begins_as, begun_plain, command_of, given_begin, never_commits, reads_as}
 use Rattle.sqlite.proofs.StateLemmas.{survives_weaker}
+use Rattle.sqlite.specs.Clock.{timed}
 use Rattle.sqlite.specs.Command.TheVariants.{Select}
 use Rattle.sqlite.specs.Effect.{Answers, Database, Reads}
 use Rattle.sqlite.specs.Given.{HasBegun, HasGiven, IsRefused}
@@ -11,10 +12,12 @@ use Rattle.sqlite.specs.Held.{Held, state}
 use Rattle.sqlite.specs.Listing.{understood, reads_listing}
 use Rattle.sqlite.specs.Order.{Row}
 use Rattle.sqlite.specs.Schema.{Schema}
-use Rattle.sqlite.specs.State.{CommitsShowing, FailsToQuery, HasCleanDisk, IsUnchanged, Shown, State, Survives}
+use Rattle.sqlite.specs.State.{CommitsShowing, FailsToQuery, HasCleanDisk, IsUnchanged, Shown, ShowsRows, State, Survives}
 use Rattle.sqlite.specs.Store.{Ghosts}
 use Rattle.sqlite.specs.Term.{Term}
+use Rattle.sqlite.specs.Tree.{Trees}
 use Rattle.sqlite.specs.declared.error.Error.{Error}
+use Rattle.sqlite_schema.specs.declared.command.Returning.{Returning}
 use Rattle.sqlite_value.specs.declared.keys.Key.{Key}
 use Rattle.clear_rows.proofs.Inside.{query_keeps}
 use Rattle.clear_rows.proofs.Refused.{query_never}
@@ -38,12 +41,31 @@ asks_only sql params old new e plain failed told =
 pub commits_nothing : (sql : List ℕ) (params : Row) (old new : State) → IsPlain (understood old.now.schema sql) → Survives old new (CommitsShowing sql params old) → Survives old new (λ _. ⊥)
 commits_nothing sql params old new plain = survives_weaker old new _ _ (λ _ db. never_commits sql params old db plain)
 
+-- the disk was clean before, too
+was_clean : (old new : State) (Commits : Trees → Type 0) → Survives old new Commits → HasCleanDisk new → HasCleanDisk old
+was_clean old new Commits survives clean = omega (arith, survives.clean, clean)
+
+-- what shows rows leaves the connection open
+shown_open : (sql : List ℕ) (params : Row) (old new : State) (rows : List Row) → Shown sql params old new rows → IsTrue new.is_open
+unfolding Shown
+shown_open sql params old new rows (c, it, shows) = told c.returning shows
+  where
+    told : (returning : Option Returning) → ShowsRows old new sql c (timed params c.formats it.now) rows returning → IsTrue new.is_open
+    told None h = h.3.0.is_open
+    told (Some what) h = h.1.shown.is_open
+
+-- so does a query that has begun
+begun_open : {S : Type 0} (g : Ghosts S) (sql : List ℕ) (params : Row) (old new : Held S) → HasBegun g sql params old new → IsTrue (state g new).is_open
+begun_open g sql params old new (inl begun) = begun.1.0.is_open
+begun_open g sql params old new (inr shown) = shown_open sql params (state g old) (state g new) _ shown.1
+
 -- where it does not begin, it leaves all that was committed
 pub left : {S A : Type 0} (g : Ghosts S) (sql : List ℕ) (params : Row) (old new : Held S) (result : Result A Error) → OnErr result (IsRefused g sql params old result new) → OnErr result (IsLeft g old (IsPlain (understood old.schema sql)) result new)
 left g sql params old new (Ok x) refused = tt
 left g sql params old new (Err e) refused = record {
   cause = λ plain clean told. asks_only sql params (state g old) (state g new) e plain (refused.err clean) told;
   kept = λ plain clean. query_keeps sql params (state g old) (state g new) e (inl (refused.err clean));
+  clean = was_clean (state g old) (state g new) _ refused.survives;
   mode = refused.mode;
   survives = λ plain. commits_nothing sql params (state g old) (state g new) plain refused.survives;
 }
@@ -118,6 +140,8 @@ module _ {X : Type 0} (show : X → Row) where
   begins g sql params old into (Ok rows) start mode kept = record {
     begun = λ clean all just. (begun g old (into rows) sql params all just (start clean)).0;
     same = λ clean plain. (begun_plain g sql params old (into rows) plain (start clean)).1;
+    is_open = λ clean. begun_open g sql params old (into rows) (start clean);
+    clean = was_clean (state g old) (state g (into rows)) _ kept;
     mode = mode;
     survives = λ plain. commits_nothing sql params (state g old) (state g (into rows)) plain kept;
   }
@@ -136,6 +160,7 @@ module _ {S : Type 0} (g : Ghosts S) (old : Held S) (sql : List ℕ) (params : R
   left_on new rows just (Err e) left = record {
     cause = λ has. left.cause (asks rows just has);
     kept = λ has. left.kept (asks rows just has);
+    clean = left.clean;
     mode = left.mode;
     survives = λ has. left.survives (asks rows just has);
   }
@@ -146,6 +171,8 @@ module _ {S : Type 0} (g : Ghosts S) (old : Held S) (sql : List ℕ) (params : R
   reads_on into show rows just (Ok x) begun = record {
     begun = λ clean t has. begun.begun clean (rows t) (just t has);
     same = λ clean has. begun.same clean (asks (λ t. map show (rows t)) just has);
+    is_open = begun.is_open;
+    clean = begun.clean;
     mode = begun.mode;
     survives = λ has. begun.survives (asks (λ t. map show (rows t)) just has);
   }

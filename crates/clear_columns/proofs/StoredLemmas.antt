@@ -1,21 +1,22 @@
 -- What columns make of the ledger's values, and how these compare.
-use Rattle.std.proofs.Common.{◌≡◌, ℤ, pos, ℕ, true, ◌==◌, Option, Some, None, codes, refl, arith, ◌∙◌, int_eq, int_cmp, nat_cmp}
+use Rattle.std.proofs.Common.{◌≡◌, ℤ, pos, ℕ, true, false, ◌==◌, nat_le, ap, Option, Some, None, codes, refl, arith, ◌∙◌, int_eq, int_cmp, nat_cmp}
 use Rattle.std.proofs.lemmas.Bool.Decides.{nat_tests}
 use Rattle.std.proofs.lemmas.Int.{ints}
 use Rattle.sqlite.specs.Cast.{cast}
 use Rattle.sqlite.specs.Collation.TheVariants.{Binary}
-use Rattle.sqlite.specs.Ops.{binary, is_true}
+use Rattle.sqlite.specs.Ops.{binary, is_true, test}
+use Rattle.std.specs.Option.{option_map_or}
 use Rattle.sqlite.specs.Order.{value_cmp}
 use Rattle.sqlite.specs.Kind.TheVariants.{Integer, Text as Texts}
 use Rattle.sqlite_schema.specs.Rules.{is_of}
 use Rattle.sqlite_sql.specs.declared.ops.BinaryOp.TheVariants.{Compare}
-use Rattle.sqlite_sql.specs.declared.ops.CompareOp.TheVariants.{Eq}
+use Rattle.sqlite_sql.specs.declared.ops.CompareOp.TheVariants.{Eq, Ge}
 use Rattle.sqlite_value.proofs.OrderLemmas.{value_cmp-Int, value_cmp-Text}
 use Rattle.clear_values.specs.Lines.{same_purpose}
 use Rattle.clear_values.specs.declared.lines.Purpose.{Purpose}
 use Rattle.clear_values.specs.declared.lines.Purpose.TheVariants.{Contribution, Interest}
 use Rattle.clear_values.specs.Credits.{rank_of}
-use Rattle.clear_schema.proofs.ValueLemmas.{cast_null, cast_int, equal_ints, equal_texts}
+use Rattle.clear_schema.proofs.ValueLemmas.{cast_null, cast_int, equal_ints, equal_texts, told}
 use Rattle.clear_schema.specs.Values.{number, maybe, month, month_number, maybe_month, purpose}
 
 pub cast_maybe : (o : Option ℕ) → cast Integer (maybe o) ≡ maybe o
@@ -70,6 +71,21 @@ months_keep = record { same = same_months; order = month_order }
 
 pub equal_numbers : (m n : ℕ) → is_true (binary (Compare Eq Binary) (number m) (number n)) ≡ (m == n)
 equal_numbers m n = equal_ints (pos m) (pos n) ∙ same_numbers m n
+
+-- a column that may be NULL has a number only where it is one, and is at least a number only where it
+-- is one
+pub equal_maybe : (o : Option ℕ) (n : ℕ) → is_true (binary (Compare Eq Binary) (maybe o) (number n)) ≡ option_map_or (λ m. m == n) o false
+unfolding binary
+equal_maybe None n = refl
+equal_maybe (Some m) n = equal_numbers m n
+
+pub maybe_from : (o : Option ℕ) (n : ℕ) → is_true (binary (Compare Ge Binary) (maybe o) (number n)) ≡ option_map_or (λ m. nat_le n m) o false
+unfolding binary
+maybe_from None n = refl
+maybe_from (Some m) n = told _ ∙ ap (test Ge) (value_cmp-Int (pos m) (pos n) ∙ number_order m n) ∙ at_least m n
+  where
+    at_least : (m n : ℕ) → test Ge (nat_cmp m n) ≡ nat_le n m
+    at_least m n = grind (arith, nat_tests)
 
 pub equal_months : (m n : ℕ) → is_true (binary (Compare Eq Binary) (month m) (month n)) ≡ (m == n)
 equal_months m n = equal_ints (month_number m) (month_number n) ∙ same_months m n

@@ -1,6 +1,6 @@
 -- Rows of a type that a connection gives one at a time.
 use Rattle.std.specs.Prelude.{◌≡◌, ◌≢◌, ℕ, false, List, ◌∷◌, ◌++◌, [], map, Option, Some, None}
-use Rattle.std.specs.Prelude.{Result, IfErr, IfOk, IfSome, OnOk}
+use Rattle.std.specs.Prelude.{Result, IfErr, IfOk, IfSome, IsTrue, OnOk}
 use Rattle.sqlite.specs.Effect.{Database}
 use Rattle.sqlite.specs.Given.{HasGiven}
 use Rattle.sqlite.specs.Held.{Held, state}
@@ -37,6 +37,8 @@ pub record Begun {S X I : Type 0} (g : Ghosts S) (old new : Held S) (asks : Type
     (is_one : I → Type 0) (show : X → Row) (rows : I → List X) : Type 0 where
   pub begun : HasCleanDisk (state g new) → (i : I) → is_one i → HasToGive g show new (rows i)
   pub same : HasCleanDisk (state g new) → asks → IsUnchanged (state g old) (state g new)
+  pub is_open : HasCleanDisk (state g new) → IsTrue (state g new).is_open
+  pub clean : HasCleanDisk (state g new) → HasCleanDisk (state g old)
   pub mode : old.in_transaction ≡ false → new.in_transaction ≡ false
   pub survives : asks → Survives (state g old) (state g new) (λ _. ⊥)
 
@@ -57,6 +59,7 @@ pub record IsLeft {S A : Type 0} (g : Ghosts S) (old : Held S) (asks : Type 0)
   pub cause : asks → HasCleanDisk (state g new)
       → IfErr result (λ e. fault_of e ≢ Store Constraint)
   pub kept : asks → HasCleanDisk (state g new) → KeepsCommit (state g old) (state g new)
+  pub clean : HasCleanDisk (state g new) → HasCleanDisk (state g old)
   pub mode : old.in_transaction ≡ false → new.in_transaction ≡ false
   pub survives : asks → Survives (state g old) (state g new) (λ _. ⊥)
 

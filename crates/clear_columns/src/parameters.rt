@@ -11,7 +11,7 @@ use clear_money::numbers::{Amount, EmployerNo, WorkerNo};
 use clear_schema::values::{month, number, text};
 use clear_values::callers::Caller;
 use clear_values::lines::Purpose;
-use clear_values::numbers::{ClaimNo, RequestNo};
+use clear_values::numbers::{ClaimNo, ListNo, RequestNo};
 use sqlite_value::value::ValueRef;
 
 /// The number of a firm.
@@ -101,6 +101,13 @@ pub fn request_no(value: RequestNo) -> ValueRef<'static>
 
 /// The number of a claim.
 pub fn claim_no(value: ClaimNo) -> ValueRef<'static>
+    ensures { bound_value (owned result) ≡ stored.number value }
+{
+    number(u64::from(value.number()))
+}
+
+/// The number of a payout list.
+pub fn list_no(value: ListNo) -> ValueRef<'static>
     ensures { bound_value (owned result) ≡ stored.number value }
 {
     number(u64::from(value.number()))

@@ -1,10 +1,14 @@
 //! Whether plain numbers of a row lie in their ranges.
 ghost use Rattle.std.specs.Prelude.{◌≡◌, ◌≤◌, ◌↔◌, true};
-ghost use Rattle.clear_values.specs.Limits.{most_entries, most_gross, most_serials, most_versions};
+ghost use Rattle.clear_values.specs.Limits.{most_claimed, most_entries, most_gross};
+ghost use Rattle.clear_values.specs.Limits.{most_serials, most_versions};
 ghost use Rattle.clear_values.specs.Numbers.{IsListNo};
 ghost use Rattle.clear_values.specs.RowRanges.{IsSerial};
 
 use clear_values::limits::{MAX_ENTRIES, MAX_GROSS, MAX_SERIALS, MAX_VERSIONS};
+
+// All claims, in cents: 50,000,000 claims of 100,000,000,000 cents.
+const MAX_CLAIMED: u64 = 5_000_000_000_000_000_000;
 
 /// Whether a report can have this version, 1 to 10,000.
 pub fn is_version(number: u32) -> bool
@@ -39,6 +43,13 @@ pub fn is_entry_count(number: u64) -> bool
     ensures { (result ≡ true) ↔ (number ≤ most_entries) }
 {
     number <= MAX_ENTRIES
+}
+
+/// Whether claims can come to this together, at most 5,000,000,000,000,000,000 cents.
+pub fn is_claimed(cents: u64) -> bool
+    ensures { (result ≡ true) ↔ (cents ≤ most_claimed) }
+{
+    cents <= MAX_CLAIMED
 }
 
 /// Whether so many serials may have been given, at most 500,000,000,000.

@@ -1,11 +1,14 @@
 -- The claims: under their numbers.
-use Rattle.clear_columns.proofs.Words.{◌≡◌, ◌==◌, pos, ℕ, Bool, true, false, ◌&&◌, List, [], ◌∷◌, map, filter, refl, sym, subst, inl, inr, codes, cast_row, Binary, Insert, Update, Database, Row, Values, Ghosts, Term, lit, col, op2, Trees, Null, passes, Datatype, Compare, Eq, is_key, Tables, ClaimRow, ClaimState, Open, Withdrawn, Released, IsNumbered, meets, plain_program, HasTables, claims_table, store_schema, claim_values, maybe, number, cast_int, cast_null, cast_maybe, equal_numbers, maybe_typed, numbers_keep, AnswersJust}
+use Rattle.clear_columns.proofs.Words.{◌≡◌, ◌==◌, pos, ℕ, Bool, true, false, ◌&&◌, List, [], ◌∷◌, map, filter, refl, sym, subst, inl, inr, codes, cast_row, Binary, Insert, Update, Database, Row, Values, Ghosts, Term, lit, col, op2, Trees, Null, passes, Datatype, Compare, Eq, Ge, is_key, Tables, ClaimRow, ClaimState, Open, Withdrawn, Released, IsNumbered, meets, plain_program, HasTables, claims_table, store_schema, claim_values, maybe, number, cast_int, cast_null, cast_maybe, equal_maybe, equal_numbers, maybe_from, maybe_typed, numbers_keep, AnswersJust}
+use Rattle.std.proofs.Common.{◌∙◌, nat_le}
+use Rattle.std.specs.Option.{option_map_or}
 use Rattle.sqlite_tied.specs.Compute.{everything}
 use Rattle.clear_values.specs.Tables.{claim_key}
 use Rattle.clear_values.proofs.KeyedLemmas.{is_key-true}
 use Rattle.clear_schema.proofs.Changes.{claims_changed}
 use Rattle.clear_columns.proofs.NumberedTable.{NumberedTable, by_number, few, finds, lists}
 use Rattle.clear_columns.proofs.Says.{Says, SaysQuery}
+use Rattle.clear_values.specs.Payouts.{is_on, is_released_since}
 use Rattle.clear_ledger.specs.Shown.{claim_shown, columns_of}
 use Rattle.clear_ledger.specs.declared.states.StateColumns.{StateColumns}
 
@@ -110,6 +113,26 @@ of_worker_says : SaysQuery of_worker (plain_program 12 by_worker columns by_numb
 unfolding everything
 of_worker_says = record { names = _; said = (refl, refl, refl) }
 
+abbrev by_release : List Term
+by_release = op2 (Compare Ge Binary) (col 1 7) (col 0 0) ∷ []
+
+abbrev pub released_since : List ℕ
+released_since = codes "SELECT no, employer, worker, cents, state, made, released, to_contributions, to_interest, paid, list FROM claims WHERE released >= ?1 ORDER BY no"
+
+released_since_says : SaysQuery released_since (plain_program 12 by_release columns by_number)
+unfolding everything
+released_since_says = record { names = _; said = (refl, refl, refl) }
+
+abbrev by_list : List Term
+by_list = op2 (Compare Eq Binary) (col 1 11) (col 0 0) ∷ []
+
+abbrev pub on_list : List ℕ
+on_list = codes "SELECT no, employer, worker, cents, state, made, released, to_contributions, to_interest, paid, list FROM claims WHERE list = ?1 ORDER BY no"
+
+on_list_says : SaysQuery on_list (plain_program 12 by_list columns by_number)
+unfolding everything
+on_list_says = record { names = _; said = (refl, refl, refl) }
+
 -- ---- what they do
 
 -- the claim has a number
@@ -134,12 +157,30 @@ is_that row x e =
 abbrev pub is_for : ℕ → ClaimRow → Bool
 is_for w x = x.worker == w
 
+last : (b : Bool) → (b && true) ≡ b
+last true = refl
+last false = refl
+
 for_worker : (w : ℕ) (x : ClaimRow) → meets by_worker (number w ∷ []) (claim_row x) ≡ is_for w x
 for_worker w x = rw (equal_numbers x.worker w) (last (x.worker == w))
+
+-- a day of release stands just where there is a release
+from_day : (d : ℕ) (x : ClaimRow) → meets by_release (number d ∷ []) (claim_row x) ≡ is_released_since d x.state
+from_day d x = rw (maybe_from (columns_of x.state).released d) (last _ ∙ of x.state)
   where
-    last : (b : Bool) → (b && true) ≡ b
-    last true = refl
-    last false = refl
+    of : (s : ClaimState) → option_map_or (λ m. nat_le d m) (columns_of s).released false ≡ is_released_since d s
+    of Open = refl
+    of Withdrawn = refl
+    of (Released r) = refl
+
+-- and so does a list
+meets_list : (l : ℕ) (x : ClaimRow) → meets by_list (number l ∷ []) (claim_row x) ≡ is_on l x.state
+meets_list l x = rw (equal_maybe (columns_of x.state).list l) (last _ ∙ of x.state)
+  where
+    of : (s : ClaimState) → option_map_or (λ m. m == l) (columns_of s).list false ≡ is_on l s
+    of Open = refl
+    of Withdrawn = refl
+    of (Released r) = refl
 
 module _ {S : Type 0} (g : Ghosts S) (t : Tables) (db : Database) (has : HasTables t db) where
   pub answers : (n : ℕ) → AnswersJust g get (number n ∷ []) db (map claim_shown (filter (is_no n) t.claims))
@@ -147,3 +188,9 @@ module _ {S : Type 0} (g : Ghosts S) (t : Tables) (db : Database) (has : HasTabl
 
   pub answers_for : (w : ℕ) → AnswersJust g of_worker (number w ∷ []) db (map claim_shown (filter (is_for w) t.claims))
   answers_for w = lists claims g t db has (number w ∷ []) claim_shown (is_for w) (for_worker w) of_worker_says (λ _. refl)
+
+  pub answers_since : (d : ℕ) → AnswersJust g released_since (number d ∷ []) db (map claim_shown (filter (λ row. is_released_since d row.state) t.claims))
+  answers_since d = lists claims g t db has (number d ∷ []) claim_shown (λ row. is_released_since d row.state) (from_day d) released_since_says (λ _. refl)
+
+  pub answers_on : (l : ℕ) → AnswersJust g on_list (number l ∷ []) db (map claim_shown (filter (λ row. is_on l row.state) t.claims))
+  answers_on l = lists claims g t db has (number l ∷ []) claim_shown (λ row. is_on l row.state) (meets_list l) on_list_says (λ _. refl)

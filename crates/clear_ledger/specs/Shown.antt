@@ -8,9 +8,10 @@ use Rattle.clear_values.specs.declared.rows.ClaimRow.{ClaimRow}
 use Rattle.clear_values.specs.declared.rows.ClaimState.{ClaimState}
 use Rattle.clear_values.specs.declared.rows.ClaimState.TheVariants.{Open, Withdrawn, Released}
 use Rattle.clear_values.specs.declared.rows.CreditRow.{CreditRow}
+use Rattle.clear_values.specs.declared.rows.ListRow.{ListRow}
 use Rattle.clear_values.specs.declared.replies.Reply.{Reply}
 use Rattle.clear_values.specs.declared.replies.Reply.TheVariants.{Done, Reported, Imported, Claimed}
-use Rattle.clear_values.specs.declared.replies.Reply.TheVariants.{Released as reply_of_release}
+use Rattle.clear_values.specs.declared.replies.Reply.TheVariants.{Released as reply_of_release, Listed}
 use Rattle.clear_schema.specs.Values.{caller_number, number, maybe, purpose}
 use Rattle.clear_columns.specs.Keys.{is_held}
 use Rattle.clear_ledger.specs.declared.replies.ReplyNumbers.{ReplyNumbers}
@@ -71,6 +72,12 @@ shown_with row columns =
 abbrev pub claim_shown : ClaimRow → Row
 claim_shown row = shown_with row (columns_of row.state)
 
+-- ---- payout lists
+
+-- a payout list
+abbrev pub list_shown : ListRow → Row
+list_shown row = number row.list ∷ number row.day ∷ number row.items ∷ number row.total ∷ []
+
 -- ---- requests
 
 -- the kind of a reply, and its numbers
@@ -85,6 +92,7 @@ numbers_of (reply_of_release settlement) = record {
   b = settlement.to_interest;
   c = settlement.paid;
 }
+numbers_of (Listed list items total) = record { kind = 6; a = list; b = items; c = total }
 
 -- 63 bits hold each of them
 abbrev pub AreSmall : ReplyNumbers → Type 0

@@ -1,11 +1,16 @@
 //! The claims, by their numbers.
+ghost use Rattle.std.specs.Borrow.{sem, RestsIfErr};
 ghost use Rattle.std.specs.Prelude.{◌≡◌, ◌≢◌, ◌==◌, ◌∷◌, [], false, ℕ, filter, IfErr, IfOk};
+ghost use Rattle.sqlite.specs.Held.{state};
 ghost use Rattle.sqlite.specs.Values.{bound};
+ghost use Rattle.sqlite.specs.contracts.connection.Connection.{the_row};
 ghost use Rattle.clear_values.specs.Keyed.{find_row, with_row};
 ghost use Rattle.clear_values.specs.RowRanges.{IsClaimRow, IsClaimState};
 ghost use Rattle.clear_values.specs.Tables.{claim_key};
 ghost use Rattle.clear_values.specs.declared.rows.ClaimRow.{ClaimRow as Claim};
 ghost use Rattle.clear_columns.specs.Keys.{is_held, replaced};
+ghost use Rattle.clear_columns.specs.Reading.{HasSomeTables, IsLeft, ReadsOn};
+ghost use Rattle.clear_values.specs.Payouts.{is_on, is_released_since};
 ghost use Rattle.clear_ledger.specs.Shown.{claim_shown, columns_of};
 ghost use Rattle.clear_schema.specs.Frame.{Finds, Lists, Writes};
 
@@ -14,19 +19,20 @@ use clear_columns::columns::{
     amount_at, claim_at, day_at, employer_at, maybe_day_at, maybe_list_at, number_at, worker_at,
 };
 use clear_columns::parameters::{
-    amount, claim_no, day, employer, maybe_day, maybe_list, worker as person,
+    amount, claim_no, day, employer, list_no, maybe_day, maybe_list, worker as person,
 };
 use clear_columns::queries::{find, list};
-use clear_columns::rows::StoredTable;
+use clear_columns::rows::{StoredTable, begin_rows};
+use clear_money::days::Day;
 use clear_money::numbers::{Amount, WorkerNo};
 use clear_schema::fault::Fault;
 use clear_schema::statement::put;
 use clear_schema::values::number;
 use clear_values::causes::StoreCause;
-use clear_values::numbers::ClaimNo;
+use clear_values::numbers::{ClaimNo, ListNo};
 use clear_values::replies::Settlement;
 use clear_values::rows::{ClaimRow, ClaimState};
-use sqlite::{Alter, Row, Transaction};
+use sqlite::{Alter, Connection, Error, Row, Rows, Transaction};
 use sqlite_value::value::ValueRef;
 
 /// Adds a claim whose number is free. A number out of 1 to 50,000,000, and a release whose amounts
@@ -100,6 +106,40 @@ pub fn worker_claims<S: Alter>(
         "SELECT no, employer, worker, cents, state, made, released, to_contributions, \
          to_interest, paid, list FROM claims WHERE worker = ?1 ORDER BY no",
         &[person(worker)],
+    )
+}
+
+/// The claims that were released on a day or later, in the order of their numbers.
+pub fn claims_released_since<S: Alter>(
+    tx: &mut Transaction<'_, S>,
+    since: Day,
+) -> Result<Vec<ClaimRow>, Fault>
+    ensures same_reference { tx.new.conn.ghost_name ≡ tx.old.conn.ghost_name }
+    ensures looks { Lists S.Store tx.old.conn.now tx.new.conn.now result IsClaimRow
+        (λ t. filter (λ row. is_released_since since row.state) t.claims) }
+{
+    list::<S, Claims>(
+        tx,
+        "SELECT no, employer, worker, cents, state, made, released, to_contributions, \
+         to_interest, paid, list FROM claims WHERE released >= ?1 ORDER BY no",
+        &[day(since)],
+    )
+}
+
+/// The claims on a payout list, in the order of their numbers: `next_row` reads one at a time.
+pub fn read_listed<S: Alter>(conn: &mut Connection<S>, on: ListNo) -> Result<Rows<'_, S>, Error>
+    ensures* refused { sem 𝓛 (RestsIfErr (the_row S.row S.Store) conn.entry
+        (λ rows. rows.conn.ghost_name) result
+        (IsLeft S.Store conn.old (HasSomeTables (state S.Store conn.old).now) result)) }
+    ensures same_reference { IfOk result (λ rows. rows.conn.ghost_name ≡ conn.entry.ghost_name) }
+    ensures begun { IfOk result (λ rows. ReadsOn S.Store conn.old rows.conn.now claim_shown
+        (λ t. filter (λ row. is_on on row.state) t.claims)) }
+{
+    begin_rows::<Claims, S>(
+        conn,
+        "SELECT no, employer, worker, cents, state, made, released, to_contributions, \
+         to_interest, paid, list FROM claims WHERE list = ?1 ORDER BY no",
+        &[list_no(on)],
     )
 }
 

@@ -1,11 +1,15 @@
-//! The ledger's tables in the store, each statement one function: bank lines, credits, claims and
-//! the accepted requests. Under its caller and number a request is kept as its day, the bytes of its
-//! command and its reply, so that the same request can be answered again.
+//! The ledger's tables in the store, each statement one function: bank lines, credits, claims,
+//! payout lists and the accepted requests. Under its caller and number a request is kept as its day,
+//! the bytes of its command and its reply, so that the same request can be answered again.
+//!
+//! Any call may be refused for want of memory or for a fault of the store, whatever the tables hold:
+//! so a body that only refuses meets the contract of each, and tests show that calls succeed.
 #![tactic(auto)]
 
 pub mod bank;
 pub mod claims;
 pub mod credits;
+pub mod lists;
 mod replies;
 pub mod requests;
 mod states;

@@ -4,6 +4,7 @@ ghost use Rattle.clear_values.specs.declared.replies.Reply.{Reply};
 ghost use Rattle.clear_values.specs.RowRanges.{IsReply};
 ghost use Rattle.clear_ledger.specs.Shown.{AreSmall, numbers_of};
 
+use crate::lists::is_listed;
 use crate::states::settled_cents;
 use clear_money::numbers::Amount;
 use clear_values::limits::{MAX_BASE, MAX_RECORDS, MAX_VERSIONS};
@@ -19,8 +20,8 @@ pub struct ReplyNumbers {
     pub c: u64,
 }
 
-/// The numbers of a reply. Kind 1 is done, 2 is reported, 3 is imported, 4 is claimed, and 5 is
-/// released.
+/// The numbers of a reply. Kind 1 is done, 2 is reported, 3 is imported, 4 is claimed, 5 is released,
+/// and 6 is listed.
 pub fn reply_numbers(reply: Reply) -> ReplyNumbers
     ensures value { result ≡ numbers_of reply }
     ensures small { IsReply reply → AreSmall result }
@@ -31,6 +32,12 @@ pub fn reply_numbers(reply: Reply) -> ReplyNumbers
         Reply::Imported { new, repeats } => numbers(3, new, repeats),
         Reply::Claimed { claim } => numbers(4, u64::from(claim), 0),
         Reply::Released(settlement) => settlement_numbers(settlement),
+        Reply::Listed { list, items, total } => ReplyNumbers {
+            kind: 6,
+            a: u64::from(list),
+            b: items,
+            c: total,
+        },
     }
 }
 
@@ -96,6 +103,14 @@ fn reply_of_kind(numbers: ReplyNumbers) -> Option<Reply>
             to_interest: numbers.b,
             paid: numbers.c,
         })),
+        6 => match u32::try_from(numbers.a) {
+            Ok(list) => Some(Reply::Listed {
+                list,
+                items: numbers.b,
+                total: numbers.c,
+            }),
+            Err(_) => None,
+        },
         _ => None,
     }
 }
@@ -117,5 +132,6 @@ pub fn is_reply(reply: Reply) -> bool
             Some(cents) => Amount::new(cents).is_some(),
             None => false,
         },
+        Reply::Listed { list, items, total } => is_listed(list, items, total),
     }
 }

@@ -2,7 +2,7 @@
 use Rattle.std.proofs.Common.{◌≡◌, ℕ, ◌+◌, ◌≤◌, List, [], ◌∷◌, None, refl, sym, ap, subst, arith}
 use Rattle.std.specs.List.{AllByRecursion}
 use Rattle.clear_values.specs.declared.rows.Change.{Change}
-use Rattle.clear_values.specs.declared.rows.Change.TheVariants.{AddEmployer, AddReport, ReplaceReport, AddBankLines, AddClaim, WithdrawClaim, ReleaseClaim}
+use Rattle.clear_values.specs.declared.rows.Change.TheVariants.{AddEmployer, AddReport, ReplaceReport, AddBankLines, AddClaim, WithdrawClaim, ReleaseClaim, AddList}
 use Rattle.clear_values.specs.declared.texts.WageLine.{WageLine}
 use Rattle.clear_values.specs.Credits.{credit_key}
 use Rattle.clear_values.specs.Tables.{request_number}
@@ -11,19 +11,21 @@ use Rattle.clear_values.specs.Keyed.{is_key, find_row, without_rows, AreInOrder,
 use Rattle.clear_values.specs.Credits.{credits_of_lines, set_offs_of}
 use Rattle.clear_book.specs.Lines.{lines_standing}
 use Rattle.clear_book.specs.Machine.{IsLawful}
-use Rattle.clear_values.specs.RowRanges.{AreInRange, IsBankRow, IsClaimRow, IsCreditRow, IsReply, IsReportRow, IsRequestRow, IsSerial, IsWageRow}
-use Rattle.clear_values.specs.Tables.{Tables, bank_key, changed, claim_key, employer_key, is_wage_key_of, report_key, request_key, wage_key, wage_rows}
+use Rattle.clear_values.specs.RowRanges.{AreInRange, IsBankRow, IsClaimRow, IsCreditRow, IsListRow, IsReply, IsReportRow, IsRequestRow, IsSerial, IsWageRow}
+use Rattle.clear_values.specs.Tables.{Tables, bank_key, changed, claim_key, employer_key, is_wage_key_of, list_key, report_key, request_key, wage_key, wage_rows}
 use Rattle.clear_book.specs.Tables.{Stands, noted, request_row}
 use Rattle.clear_values.proofs.KeyedRowsLemmas.{count_by-ordered}
-use Rattle.clear_book.proofs.ClaimsLemmas.{claims_numbered}
-use Rattle.clear_book.proofs.LinesLemmas.{references_standing, serials_once, standing_seen}
-use Rattle.clear_book.proofs.RowRangeLemmas.{rows_in_range}
+use Rattle.clear_laws.proofs.ClaimsLemmas.{claims_numbered}
+use Rattle.clear_laws.proofs.ListNumbersLemmas.{lists_in_order}
+use Rattle.clear_values.proofs.PutRowsLemmas.{all_put}
+use Rattle.clear_laws.proofs.LinesLemmas.{references_standing, serials_once, standing_seen}
+use Rattle.clear_laws.proofs.RowRangeLemmas.{rows_in_range}
 use Rattle.sqlite_keyed.proofs.ListLemmas.{all_weaker}
 use Rattle.clear_schema.specs.Values.{Counts as Stored, counts_of}
 use Rattle.clear_firms.specs.declared.counts.Counts.{Counts}
 use Rattle.clear_firms.specs.Counts.{as_stored}
 use Rattle.clear_ledger.specs.Shown.{serial_key}
-use Rattle.clear_store.specs.Changes.{AreGross, HasRoom, IsFree, IsInRange, IsPuttable, claims_taken, serials_taken}
+use Rattle.clear_store.specs.Changes.{AreGross, HasRoom, IsFree, IsInRange, IsPuttable, IsThere, claims_taken, lists_taken, serials_taken}
 use Rattle.clear_store.proofs.OnceLemmas.{all_new, all_with, in_order_free, key_count, once_counted, once_free}
 
 -- ---- keys
@@ -36,25 +38,27 @@ serials_counted b t stands k =
     omega (arith, same, once_counted serial_key k (lines_standing b.entries) once)
 
 -- each key that the change adds was free
-pub change_free : (next : Book) (t : Tables) (x : Entry) (change : Change) → Stands next (noted x (changed change t)) → IsFree change t
-change_free next t x (AddEmployer row) stands =
+pub change_free : (next : Book) (t : Tables) (x : Entry) (change : Change) → IsLawful next → Stands next (noted x (changed change t)) → IsFree change t
+change_free next t x (AddEmployer row) lawful stands =
     (in_order_free employer_key t.employers (row ∷ []) stands.employers_in_order).0
-change_free next t x (AddReport row lines) stands = (
+change_free next t x (AddReport row lines) lawful stands = (
   (in_order_free report_key t.reports (row ∷ []) stands.reports_in_order).0,
   in_order_free wage_key t.wages (wage_rows row.employer row.month lines) stands.wages_in_order,
 )
-change_free next t x (ReplaceReport row lines) stands =
+change_free next t x (ReplaceReport row lines) lawful stands =
     in_order_free wage_key (without_rows wage_key (is_wage_key_of row.employer row.month) t.wages)
     (wage_rows row.employer row.month lines) stands.wages_in_order
-change_free next t x (AddBankLines rows) stands = (
+change_free next t x (AddBankLines rows) lawful stands = (
   in_order_free bank_key t.bank rows stands.bank_in_order,
   once_free serial_key bank_key t.bank rows (serials_counted next (noted x (changed (AddBankLines rows) t)) stands),
   in_order_free credit_key t.credits (credits_of_lines rows) stands.credits_in_order,
 )
-change_free next t x (AddClaim row) stands =
+change_free next t x (AddClaim row) lawful stands =
     (in_order_free claim_key t.claims (row ∷ []) (subst (AreInOrder claim_key) (sym stands.claims) (claims_numbered next.entries).order)).0
-change_free next t x (WithdrawClaim row) stands = tt
-change_free next t x (ReleaseClaim row serial) stands = in_order_free credit_key t.credits (set_offs_of row serial) stands.credits_in_order
+change_free next t x (WithdrawClaim row) lawful stands = tt
+change_free next t x (ReleaseClaim row serial) lawful stands = in_order_free credit_key t.credits (set_offs_of row serial) stands.credits_in_order
+change_free next t x (AddList row claims) lawful stands =
+    (in_order_free list_key t.lists (row ∷ []) (subst (AreInOrder list_key) (sym stands.lists) (lists_in_order next.opening next.entries lawful))).0
 
 -- and the number of the request
 pub number_free : (next : Book) (t : Tables) (x : Entry) (change : Change) → Stands next (noted x (changed change t)) → find_row request_key t.requests (request_number x.caller x.number) ≡ None
@@ -65,6 +69,7 @@ number_free next t x (AddBankLines rows) stands = (in_order_free request_key t.r
 number_free next t x (AddClaim row) stands = (in_order_free request_key t.requests (request_row x ∷ []) stands.requests_in_order).0
 number_free next t x (WithdrawClaim row) stands = (in_order_free request_key t.requests (request_row x ∷ []) stands.requests_in_order).0
 number_free next t x (ReleaseClaim row serial) stands = (in_order_free request_key t.requests (request_row x ∷ []) stands.requests_in_order).0
+number_free next t x (AddList row claims) stands = (in_order_free request_key t.requests (request_row x ∷ []) stands.requests_in_order).0
 
 -- ---- ranges
 
@@ -78,25 +83,29 @@ all_gross e m [] all = tt
 all_gross e m (line ∷ lines) all = (all.0.gross, all_gross e m lines all.1)
 
 -- the numbers in the rows are those of rows in their ranges
-rows_puttable : (t : Tables) (x : Entry) (change : Change) → AreInRange (noted x (changed change t)) → IsInRange change
-rows_puttable t x (AddEmployer row) within = tt
-rows_puttable t x (AddReport row lines) within =
+rows_puttable : (t : Tables) (x : Entry) (change : Change) → IsThere change t → AreInRange (noted x (changed change t)) → IsInRange change
+rows_puttable t x (AddEmployer row) there within = tt
+rows_puttable t x (AddReport row lines) there within =
     let report = (all_with report_key IsReportRow t.reports row within.reports).1 in
     let wages = all_new wage_key IsWageRow t.wages (wage_rows row.employer row.month lines) within.wages in
     ((report.some, report.few), all_gross row.employer row.month lines wages.1)
-rows_puttable t x (ReplaceReport row lines) within =
+rows_puttable t x (ReplaceReport row lines) there within =
     let report = (all_with report_key IsReportRow (without_rows report_key (λ k. is_key k (report_key row)) t.reports) row within.reports).1 in
     let wages = all_new wage_key IsWageRow (without_rows wage_key (is_wage_key_of row.employer row.month) t.wages) (wage_rows row.employer row.month lines) within.wages in
     ((report.some, report.few), all_gross row.employer row.month lines wages.1)
-rows_puttable t x (AddBankLines rows) within =
+rows_puttable t x (AddBankLines rows) there within =
     all_weaker IsBankRow (λ row. IsSerial row.serial) (λ row good. good.serial) rows (all_new bank_key IsBankRow t.bank rows within.bank).1
-rows_puttable t x (AddClaim row) within = (all_with claim_key IsClaimRow t.claims row within.claims).1
-rows_puttable t x (WithdrawClaim row) within =
+rows_puttable t x (AddClaim row) there within = (all_with claim_key IsClaimRow t.claims row within.claims).1
+rows_puttable t x (WithdrawClaim row) there within =
     (all_with claim_key IsClaimRow (without_rows claim_key (λ k. is_key k (claim_key row)) t.claims) row within.claims).1
-rows_puttable t x (ReleaseClaim row serial) within = (
+rows_puttable t x (ReleaseClaim row serial) there within = (
   (all_with claim_key IsClaimRow (without_rows claim_key (λ k. is_key k (claim_key row)) t.claims) row within.claims).1,
   all_weaker IsCreditRow (λ credit. IsSerial credit.serial) (λ credit good. good.serial) (set_offs_of row serial)
       (all_new credit_key IsCreditRow t.credits (set_offs_of row serial) within.credits).1,
+)
+rows_puttable t x (AddList row claims) there within = (
+  (all_with list_key IsListRow t.lists row within.lists).1,
+  all_put claim_key IsClaimRow t.claims claims there.1 within.claims,
 )
 
 -- the last serial after a change is as many more as it takes
@@ -108,6 +117,7 @@ serial_after (AddBankLines rows) t = omega arith
 serial_after (AddClaim row) t = omega arith
 serial_after (WithdrawClaim row) t = omega arith
 serial_after (ReleaseClaim row serial) t = omega arith
+serial_after (AddList row claims) t = omega arith
 
 -- and so is the last number of a claim
 claims_after : (change : Change) (t : Tables) → t.last_claim + claims_taken change ≡ (changed change t).last_claim
@@ -118,12 +128,24 @@ claims_after (AddBankLines rows) t = omega arith
 claims_after (AddClaim row) t = omega arith
 claims_after (WithdrawClaim row) t = omega arith
 claims_after (ReleaseClaim row serial) t = omega arith
+claims_after (AddList row claims) t = omega arith
+
+-- and the last number of a list
+lists_after : (change : Change) (t : Tables) → t.last_list + lists_taken change ≡ (changed change t).last_list
+lists_after (AddEmployer row) t = omega arith
+lists_after (AddReport row lines) t = omega arith
+lists_after (ReplaceReport row lines) t = omega arith
+lists_after (AddBankLines rows) t = omega arith
+lists_after (AddClaim row) t = omega arith
+lists_after (WithdrawClaim row) t = omega arith
+lists_after (ReleaseClaim row serial) t = omega arith
+lists_after (AddList row claims) t = omega arith
 
 -- so the change can be put
-pub change_puttable : (next : Book) (t : Tables) (x : Entry) (change : Change) (counts : Counts) → IsLawful next → Stands next (noted x (changed change t)) → as_stored counts ≡ counts_of t → IsPuttable counts change
-change_puttable next t x change counts lawful stands same =
+pub change_puttable : (next : Book) (t : Tables) (x : Entry) (change : Change) (counts : Counts) → IsLawful next → Stands next (noted x (changed change t)) → as_stored counts ≡ counts_of t → IsThere change t → IsPuttable counts change
+change_puttable next t x change counts lawful stands same there =
     let within = rows_in_range next (noted x (changed change t)) lawful stands in
-    (rows_puttable t x change within, room change within)
+    (rows_puttable t x change there within, room change within)
   where
     entries : counts.entries ≡ t.entries
     entries = ap (λ (c : Stored). c.entries) same
@@ -134,6 +156,9 @@ change_puttable next t x change counts lawful stands same =
     claims : counts.claims ≡ t.last_claim
     claims = ap (λ (c : Stored). c.claims) same
 
+    lists : counts.lists ≡ t.last_list
+    lists = ap (λ (c : Stored). c.lists) same
+
     entries_after : (change : Change) → t.entries + 1 ≡ (noted x (changed change t)).entries
     entries_after (AddEmployer row) = refl
     entries_after (AddReport row lines) = refl
@@ -142,10 +167,12 @@ change_puttable next t x change counts lawful stands same =
     entries_after (AddClaim row) = refl
     entries_after (WithdrawClaim row) = refl
     entries_after (ReleaseClaim row serial) = refl
+    entries_after (AddList row claims) = refl
 
-    room : (change : Change) → AreInRange (noted x (changed change t)) → HasRoom counts (serials_taken change) (claims_taken change)
+    room : (change : Change) → AreInRange (noted x (changed change t)) → HasRoom counts (serials_taken change) (claims_taken change) (lists_taken change)
     room change within = (
       omega (arith, entries, entries_after change, within.entries),
       omega (arith, serial, serial_after change t, within.serial),
       omega (arith, claims, claims_after change t, within.last_claim),
+      omega (arith, lists, lists_after change t, within.last_list),
     )

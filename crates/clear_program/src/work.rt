@@ -168,9 +168,11 @@ fn import<S: Alter>(
         Reply::Imported { new, repeats } => {
             Ok(format!(in alloc; "new {new} repeats {repeats}\n")?)
         }
-        Reply::Done | Reply::Reported { .. } | Reply::Claimed { .. } | Reply::Released(_) => Err(
-            stop_at_records(),
-        ),
+        Reply::Done
+        | Reply::Reported { .. }
+        | Reply::Claimed { .. }
+        | Reply::Released(_)
+        | Reply::Listed { .. } => Err(stop_at_records()),
     }
 }
 

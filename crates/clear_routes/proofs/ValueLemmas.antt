@@ -15,7 +15,7 @@ use Rattle.clear_routes.specs.Raw.{texts_in}
 use Rattle.clear_routes.specs.Raw.{AllAscii}
 use Rattle.clear_routes.specs.Fitting.{NoSlash, IsParameter}
 use Rattle.clear_routes.specs.declared.kinds.Kind.{Kind}
-use Rattle.clear_routes.specs.declared.kinds.Kind.TheVariants.{Employer, Month, Claim}
+use Rattle.clear_routes.specs.declared.kinds.Kind.TheVariants as kind
 use Rattle.clear_routes.specs.declared.kinds.Kinds.{Kinds}
 use Rattle.clear_routes.specs.declared.kinds.Kinds.TheVariants.{One, Two}
 use Rattle.clear_routes.specs.declared.parameters.Parameters.{Parameters}
@@ -90,19 +90,25 @@ month_same m n hm hn e =
 -- ---- each kind
 
 spelling_part : (kind : Kind) (n : ℕ) → IsOfKind kind n → IsParameter (spelling kind n)
-spelling_part Employer n h = number_part n (omega (arith, h.1))
-spelling_part Month n h = month_part n h
-spelling_part Claim n h = number_part n (omega (arith, h.1))
+spelling_part kind.Employer n h = number_part n (omega (arith, h.1))
+spelling_part kind.Month n h = month_part n h
+spelling_part kind.Claim n h = number_part n (omega (arith, h.1))
+spelling_part kind.Worker n h = number_part n (omega (arith, h.1))
+spelling_part kind.List n h = number_part n (omega (arith, h.1))
 
 spelling_ascii : (kind : Kind) (n : ℕ) → IsOfKind kind n → IsAscii (spelling kind n)
-spelling_ascii Employer n h = IsAscii-decimal n (omega (arith, h.1))
-spelling_ascii Month n h = month_ascii n h
-spelling_ascii Claim n h = IsAscii-decimal n (omega (arith, h.1))
+spelling_ascii kind.Employer n h = IsAscii-decimal n (omega (arith, h.1))
+spelling_ascii kind.Month n h = month_ascii n h
+spelling_ascii kind.Claim n h = IsAscii-decimal n (omega (arith, h.1))
+spelling_ascii kind.Worker n h = IsAscii-decimal n (omega (arith, h.1))
+spelling_ascii kind.List n h = IsAscii-decimal n (omega (arith, h.1))
 
 spelling_one : (kind : Kind) (n m : ℕ) → IsOfKind kind n → IsOfKind kind m → spelling kind n ≡ spelling kind m → n ≡ m
-spelling_one Employer n m h k e = decimal_injective n m (omega (arith, h.1)) (omega (arith, k.1)) e
-spelling_one Month n m h k e = month_same n m h.1 k.1 e
-spelling_one Claim n m h k e = decimal_injective n m (omega (arith, h.1)) (omega (arith, k.1)) e
+spelling_one kind.Employer n m h k e = decimal_injective n m (omega (arith, h.1)) (omega (arith, k.1)) e
+spelling_one kind.Month n m h k e = month_same n m h.1 k.1 e
+spelling_one kind.Claim n m h k e = decimal_injective n m (omega (arith, h.1)) (omega (arith, k.1)) e
+spelling_one kind.Worker n m h k e = decimal_injective n m (omega (arith, h.1)) (omega (arith, k.1)) e
+spelling_one kind.List n m h k e = decimal_injective n m (omega (arith, h.1)) (omega (arith, k.1)) e
 
 -- ---- lists of values
 

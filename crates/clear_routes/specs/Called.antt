@@ -59,12 +59,17 @@ command_for kind.Withdraw at body = do
 command_for kind.Release at body = do
   _ ← nothing_of body
   Ok (command.Release at.claim)
+command_for kind.PayoutList at body = do
+  _ ← nothing_of body
+  Ok command.PayoutList
 command_for kind.ImportBank at body = Ok (command.ImportBank body)
 
 -- the query of this kind about the path's parameters
 abbrev pub query_for : QueryKind → Parameters → Query
 query_for asked.Owed at = query.Owed at.employer
 query_for asked.Statement at = query.Statement at.employer
+query_for asked.Worker at = query.Worker at.worker
+query_for asked.Payout at = query.Payout at.list
 
 -- what a request of this route and this caller calls for on a day. Of a command the number in the
 -- head is judged before the body; a query needs no number, and its body isn't looked at

@@ -2,36 +2,42 @@
 use Rattle.std.specs.Prelude.{ℕ, List, [], ◌∷◌, ⊤}
 use Rattle.std.specs.Fmt.{decimal}
 use Rattle.clear_money.specs.Calendar.{IsMonth}
-use Rattle.clear_money.specs.Numbers.{IsEmployerNo}
+use Rattle.clear_money.specs.Numbers.{IsEmployerNo, IsWorkerNo}
 use Rattle.clear_money.specs.Texts.{month_text}
-use Rattle.clear_book.specs.Numbers.{IsClaimNo}
+use Rattle.clear_book.specs.Numbers.{IsClaimNo, IsListNo}
 use Rattle.clear_routes.specs.declared.kinds.Kind.{Kind}
-use Rattle.clear_routes.specs.declared.kinds.Kind.TheVariants.{Employer, Month, Claim}
+use Rattle.clear_routes.specs.declared.kinds.Kind.TheVariants as kind
 use Rattle.clear_routes.specs.declared.kinds.Kinds.{Kinds}
 use Rattle.clear_routes.specs.declared.kinds.Kinds.TheVariants.{Zero, One, Two}
 use Rattle.clear_routes.specs.declared.parameters.Parameters.{Parameters}
 
 -- the number is a value of the kind
 abbrev pub IsOfKind : Kind → ℕ → Type 0
-IsOfKind Employer n = IsEmployerNo n
-IsOfKind Month n = IsMonth n
-IsOfKind Claim n = IsClaimNo n
+IsOfKind kind.Employer n = IsEmployerNo n
+IsOfKind kind.Month n = IsMonth n
+IsOfKind kind.Claim n = IsClaimNo n
+IsOfKind kind.Worker n = IsWorkerNo n
+IsOfKind kind.List n = IsListNo n
 
 -- how a value of the kind is written
 abbrev pub spelling : Kind → ℕ → List ℕ
-spelling Employer n = decimal n
-spelling Month n = month_text n
-spelling Claim n = decimal n
+spelling kind.Employer n = decimal n
+spelling kind.Month n = month_text n
+spelling kind.Claim n = decimal n
+spelling kind.Worker n = decimal n
+spelling kind.List n = decimal n
 
 -- the parameters with this value in the place of its kind
 abbrev pub with_value : Kind → ℕ → Parameters → Parameters
-with_value Employer n p = record p { employer = n }
-with_value Month n p = record p { month = n }
-with_value Claim n p = record p { claim = n }
+with_value kind.Employer n p = record p { employer = n }
+with_value kind.Month n p = record p { month = n }
+with_value kind.Claim n p = record p { claim = n }
+with_value kind.Worker n p = record p { worker = n }
+with_value kind.List n p = record p { list = n }
 
 -- the least value of each kind
 abbrev pub least : Parameters
-least = record { employer = 1; month = 24000; claim = 1 }
+least = record { employer = 1; month = 24000; claim = 1; worker = 1; list = 1 }
 
 -- the kinds in their order
 abbrev pub kinds_in : Kinds → List Kind

@@ -127,6 +127,10 @@ fn command_for(
             read_nothing(body)?;
             Ok(Command::Release(at.claim))
         }
+        CommandKind::PayoutList => {
+            read_nothing(body)?;
+            Ok(Command::PayoutList)
+        }
         CommandKind::ImportBank => {
             let bytes = Vec::from_slice(alloc, body)?;
             Ok(Command::ImportBank(BankFile::new(bytes)))
@@ -142,6 +146,8 @@ fn query_for(kind: QueryKind, at: Parameters) -> Query
     match kind {
         QueryKind::Owed => Query::Owed { employer },
         QueryKind::Statement => Query::Statement { employer },
+        QueryKind::Worker => Query::Worker { worker: at.worker },
+        QueryKind::Payout => Query::Payout { list: at.list },
     }
 }
 

@@ -9,6 +9,10 @@ pub enum Kind {
     Month,
     /// A claim's number.
     Claim,
+    /// A worker's number.
+    Worker,
+    /// A payout list's number.
+    List,
 }
 
 /// The kinds of a path's parameters, in their order.

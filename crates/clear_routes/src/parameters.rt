@@ -1,17 +1,17 @@
 //! The parameters that stand in a target.
 ghost use Rattle.std.specs.Prelude.{◌≡◌, ◌≢◌, ℕ, List, IfSome, IfNone};
 ghost use Rattle.std.specs.Fmt.{decimal};
-ghost use Rattle.clear_money.specs.Numbers.{IsEmployerNo};
-ghost use Rattle.clear_book.specs.Numbers.{IsClaimNo};
+ghost use Rattle.clear_money.specs.Numbers.{IsEmployerNo, IsWorkerNo};
+ghost use Rattle.clear_book.specs.Numbers.{IsClaimNo, IsListNo};
 ghost use Rattle.clear_routes.specs.Kinds.{IsOfKind, AreOfKinds, kinds_in, spelling, spellings};
 ghost use Rattle.clear_routes.specs.Kinds.{with_value, parameters, least};
 ghost use Rattle.clear_routes.specs.Raw.{texts_in};
 
 use crate::kinds::{Kind, Kinds};
 use crate::paths::Texts;
-use clear_book::numbers::ClaimNo;
+use clear_book::numbers::{ClaimNo, ListNo};
 use clear_money::months::Month;
-use clear_money::numbers::{EmployerNo, read_number};
+use clear_money::numbers::{EmployerNo, WorkerNo, read_number};
 
 /// What stands in a target for the parameters of its path, by kinds. Of a kind that the path
 /// doesn't have, it is the least value.
@@ -20,6 +20,8 @@ pub struct Parameters {
     pub employer: EmployerNo,
     pub month: Month,
     pub claim: ClaimNo,
+    pub worker: WorkerNo,
+    pub list: ListNo,
 }
 
 impl Parameters {
@@ -27,10 +29,13 @@ impl Parameters {
     fn none() -> Parameters
         ensures { result ≡ least }
     {
-        let (Some(employer), Some(month), Some(claim)) = (
-            EmployerNo::new(1),
-            Month::new(2000, 1),
+        let (Some(employer), Some(month)) = (EmployerNo::new(1), Month::new(2000, 1)) else {
+            unreachable!()
+        };
+        let (Some(claim), Some(worker), Some(list)) = (
             ClaimNo::new(1),
+            WorkerNo::new(1),
+            ListNo::new(1),
         ) else {
             unreachable!()
         };
@@ -38,6 +43,8 @@ impl Parameters {
             employer,
             month,
             claim,
+            worker,
+            list,
         }
     }
 
@@ -65,6 +72,18 @@ impl Parameters {
                     return None;
                 };
                 Some(Parameters { claim, ..self })
+            }
+            Kind::Worker => {
+                let Some(worker) = worker_in(text) else {
+                    return None;
+                };
+                Some(Parameters { worker, ..self })
+            }
+            Kind::List => {
+                let Some(list) = list_in(text) else {
+                    return None;
+                };
+                Some(Parameters { list, ..self })
             }
         }
     }
@@ -130,4 +149,26 @@ fn claim_in(text: &str) -> Option<ClaimNo>
         return None;
     };
     ClaimNo::new(number)
+}
+
+/// The worker with this number.
+fn worker_in(text: &str) -> Option<WorkerNo>
+    ensures found { IfSome result (λ n. IsWorkerNo n × (decimal n ≡ text.now)) }
+    ensures only { IfNone result ((n : ℕ) → IsWorkerNo n → decimal n ≢ text.now) }
+{
+    let Some(number) = read_number(text.as_bytes()) else {
+        return None;
+    };
+    WorkerNo::new(number)
+}
+
+/// The payout list with this number.
+fn list_in(text: &str) -> Option<ListNo>
+    ensures found { IfSome result (λ n. IsListNo n × (decimal n ≡ text.now)) }
+    ensures only { IfNone result ((n : ℕ) → IsListNo n → decimal n ≢ text.now) }
+{
+    let Some(number) = read_number(text.as_bytes()) else {
+        return None;
+    };
+    ListNo::new(number)
 }

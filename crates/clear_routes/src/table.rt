@@ -1,5 +1,5 @@
 //! What may be asked of the office, and the table of its paths.
-use crate::kinds::Kind::{Claim, Employer, Month};
+use crate::kinds::Kind::{Claim, Employer, List, Month, Worker};
 use crate::kinds::Kinds::{self, One, Two, Zero};
 use crate::methods::Methods::{self, Get, Post, PostPut};
 
@@ -12,6 +12,7 @@ pub enum CommandKind {
     Claim,
     Withdraw,
     Release,
+    PayoutList,
     ImportBank,
 }
 
@@ -20,6 +21,8 @@ pub enum CommandKind {
 pub enum QueryKind {
     Owed,
     Statement,
+    Worker,
+    Payout,
 }
 
 /// What the router keeps of a path.
@@ -54,10 +57,13 @@ pub const PATHS: &'static [(&'static str, Kinds, Methods)] = &[
         Post(CommandKind::Release),
     ),
     ("/bank", Zero, Post(CommandKind::ImportBank)),
+    ("/payouts", Zero, Post(CommandKind::PayoutList)),
     ("/employers/{e}/owed", One(Employer), Get(QueryKind::Owed)),
     (
         "/employers/{e}/statement",
         One(Employer),
         Get(QueryKind::Statement),
     ),
+    ("/workers/{w}", One(Worker), Get(QueryKind::Worker)),
+    ("/payouts/{l}", One(List), Get(QueryKind::Payout)),
 ];

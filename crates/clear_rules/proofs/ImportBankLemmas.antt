@@ -35,7 +35,7 @@ use Rattle.clear_book.specs.Own.ImportBank.{is_ahead, is_over, fault_rule, ahead
 use Rattle.clear_book.specs.Limits.{most_credits, most_suspense, most_records}
 use Rattle.clear_book.specs.Checks.{first_of, when}
 use Rattle.clear_book.specs.Lines.{lines_in, lines_or_none, new_lines, employer_of_line, rows_from, lines_of_rows, lines_seen, lines_after, credit_of_line, credits_after, credits_of_lines, credit_count, serial_count, suspense_count}
-use Rattle.clear_book.proofs.LinesLemmas.{length-rows_from}
+use Rattle.clear_laws.proofs.LinesLemmas.{length-rows_from}
 
 -- ---- what holds of each line of a file
 

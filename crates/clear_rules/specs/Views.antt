@@ -1,6 +1,7 @@
 -- What each decision is handed of the records: each part is the value of its definition.
 pub mod Claim
 pub mod ImportBank
+pub mod PayoutList
 pub mod Register
 pub mod Release
 pub mod Report

@@ -4,6 +4,7 @@ pub mod claim;
 pub mod correct;
 pub mod import;
 pub mod lines;
+pub mod payout;
 pub mod register;
 pub mod release;
 pub mod report;

@@ -11,4 +11,5 @@
 pub mod decide;
 pub mod gate;
 
-pub use clear_book::{calls, laws, outcomes, rows, rules};
+pub use clear_book::{calls, outcomes, rows, rules};
+pub use clear_laws::laws;

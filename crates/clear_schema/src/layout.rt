@@ -167,7 +167,7 @@ const TABLES: &'static [TableLayout] = &[
     },
 ];
 
-// The indexes that keep the keys, and those that find the rows of a worker.
+// The indexes that keep the keys, and those that find wages and claims.
 const INDEXES: &'static [IndexLayout] = &[
     IndexLayout {
         name: "sqlite_autoindex_reports_1",
@@ -230,6 +230,20 @@ const INDEXES: &'static [IndexLayout] = &[
         tree: 20,
         table: 12,
         columns: &[3, 0],
+        is_unique: false,
+    },
+    IndexLayout {
+        name: "claims_by_release",
+        tree: 21,
+        table: 12,
+        columns: &[7],
+        is_unique: false,
+    },
+    IndexLayout {
+        name: "claims_by_list",
+        tree: 22,
+        table: 12,
+        columns: &[11],
         is_unique: false,
     },
 ];

@@ -1,14 +1,18 @@
 -- The rows of a change lie beside the counts.
-use Rattle.std.proofs.Common.{◌≡◌, ℕ, ◌+◌, refl, sym, ap, ap₂, subst, arith}
+use Rattle.std.proofs.Common.{◌≡◌, ℕ, ◌+◌, length, Result, Ok, sym, ap, subst, arith}
+use Rattle.sqlite.specs.Held.{Held}
+use Rattle.sqlite.specs.Store.{Ghosts}
 use Rattle.clear_values.specs.declared.rows.Change.{Change}
-use Rattle.clear_values.specs.declared.rows.Change.TheVariants.{AddEmployer, AddReport, ReplaceReport, AddBankLines, AddClaim, WithdrawClaim, ReleaseClaim}
+use Rattle.clear_values.specs.declared.rows.Change.TheVariants.{AddEmployer, AddReport, ReplaceReport, AddBankLines, AddClaim, WithdrawClaim, ReleaseClaim, AddList}
 use Rattle.clear_values.specs.Tables.{Tables, changed, dated}
 use Rattle.clear_schema.specs.Values.{Counts, counts_of, with_counts}
+use Rattle.clear_schema.specs.declared.fault.Fault.{Fault}
 use Rattle.clear_firms.specs.Counts.{AreCountable, as_stored}
 use Rattle.clear_firms.specs.declared.counts.Counts.{Counts as Told}
-use Rattle.clear_store.specs.Changes.{HasRoom, IsThere, IsFree, serials_taken, claims_taken, counts_after}
+use Rattle.clear_store.specs.Changes.{HasRoom, IsFree, IsInRange, IsPuttable, IsThere, Puts, serials_taken, claims_taken, lists_taken, counts_after}
+use Rattle.clear_store.proofs.JoinLemmas.{Always, put_then}
 
-pub there_with : (change : Change) (c : Counts) (t : Tables) → IsThere change t → IsThere change (with_counts c t)
+there_with : (change : Change) (c : Counts) (t : Tables) → IsThere change t → IsThere change (with_counts c t)
 there_with (AddEmployer row) c t there = there
 there_with (AddReport row lines) c t there = there
 there_with (ReplaceReport row lines) c t there = there
@@ -16,8 +20,9 @@ there_with (AddBankLines rows) c t there = there
 there_with (AddClaim row) c t there = there
 there_with (WithdrawClaim row) c t there = there
 there_with (ReleaseClaim row serial) c t there = there
+there_with (AddList row claims) c t there = there
 
-pub free_with : (change : Change) (c : Counts) (t : Tables) → IsFree change t → IsFree change (with_counts c t)
+free_with : (change : Change) (c : Counts) (t : Tables) → IsFree change t → IsFree change (with_counts c t)
 free_with (AddEmployer row) c t free = free
 free_with (AddReport row lines) c t free = free
 free_with (ReplaceReport row lines) c t free = free
@@ -25,34 +30,53 @@ free_with (AddBankLines rows) c t free = free
 free_with (AddClaim row) c t free = free
 free_with (WithdrawClaim row) c t free = free
 free_with (ReleaseClaim row serial) c t free = free
+free_with (AddList row claims) c t free = free
 
 -- the tables after the counts and then the rows of a change are written
-abbrev pub rows_put : Change → Tables → Tables
-rows_put change t = record (changed change t) { serial = t.serial; last_claim = t.last_claim }
+abbrev rows_put : Change → Tables → Tables
+rows_put change t = record (changed change t) { serial = t.serial; last_claim = t.last_claim; last_list = t.last_list }
 
 no_more : (n : ℕ) → n + 0 ≡ n
 no_more n = omega arith
 
--- the tables after a change, but with these numbers of serials and claims
-abbrev numbered : ℕ → Change → Tables → ℕ → ℕ → Tables
-numbered day change t serials claims = record (dated day (changed change t)) { serial = serials; last_claim = claims }
+-- the tables after a change, but with these numbers of serials, claims and lists
+abbrev numbered : ℕ → Change → Tables → ℕ → ℕ → ℕ → Tables
+numbered day change t serials claims lists = record (dated day (changed change t)) { serial = serials; last_claim = claims; last_list = lists }
 
-counted : (day : ℕ) (change : Change) (t : Tables) → rows_put change (with_counts (counts_after day (serials_taken change) (claims_taken change) (counts_of t)) t) ≡ dated day (changed change t)
-counted day (AddEmployer row) t = ap₂ (numbered day (AddEmployer row) t) (no_more t.serial) (no_more t.last_claim)
-counted day (AddReport row lines) t = ap₂ (numbered day (AddReport row lines) t) (no_more t.serial) (no_more t.last_claim)
-counted day (ReplaceReport row lines) t = ap₂ (numbered day (ReplaceReport row lines) t) (no_more t.serial) (no_more t.last_claim)
-counted day (AddBankLines rows) t = ap₂ (numbered day (AddBankLines rows) t) refl (no_more t.last_claim)
-counted day (AddClaim row) t = ap₂ (numbered day (AddClaim row) t) (no_more t.serial) refl
-counted day (WithdrawClaim row) t = ap₂ (numbered day (WithdrawClaim row) t) (no_more t.serial) (no_more t.last_claim)
-counted day (ReleaseClaim row serial) t = ap₂ (numbered day (ReleaseClaim row serial) t) refl (no_more t.last_claim)
+-- the counts after a change
+abbrev counts_with : ℕ → Change → Counts → Counts
+counts_with day change c = counts_after day (serials_taken change) (claims_taken change) (lists_taken change) c
 
-pub dated_is : (day : ℕ) (change : Change) (c : Counts) (t : Tables) → c ≡ counts_of t → rows_put change (with_counts (counts_after day (serials_taken change) (claims_taken change) c) t) ≡ dated day (changed change t)
+counted : (day : ℕ) (change : Change) (t : Tables) → rows_put change (with_counts (counts_with day change (counts_of t)) t) ≡ dated day (changed change t)
+counted day (AddEmployer row) t = λ i. numbered day (AddEmployer row) t (no_more t.serial i) (no_more t.last_claim i) (no_more t.last_list i)
+counted day (AddReport row lines) t = λ i. numbered day (AddReport row lines) t (no_more t.serial i) (no_more t.last_claim i) (no_more t.last_list i)
+counted day (ReplaceReport row lines) t = λ i. numbered day (ReplaceReport row lines) t (no_more t.serial i) (no_more t.last_claim i) (no_more t.last_list i)
+counted day (AddBankLines rows) t = λ i. numbered day (AddBankLines rows) t (t.serial + length rows) (no_more t.last_claim i) (no_more t.last_list i)
+counted day (AddClaim row) t = λ i. numbered day (AddClaim row) t (no_more t.serial i) (t.last_claim + 1) (no_more t.last_list i)
+counted day (WithdrawClaim row) t = λ i. numbered day (WithdrawClaim row) t (no_more t.serial i) (no_more t.last_claim i) (no_more t.last_list i)
+counted day (ReleaseClaim row serial) t = λ i. numbered day (ReleaseClaim row serial) t (t.serial + 1) (no_more t.last_claim i) (no_more t.last_list i)
+counted day (AddList row claims) t = λ i. numbered day (AddList row claims) t (no_more t.serial i) (no_more t.last_claim i) (t.last_list + 1)
+
+dated_is : (day : ℕ) (change : Change) (c : Counts) (t : Tables) → c ≡ counts_of t → rows_put change (with_counts (counts_with day change c) t) ≡ dated day (changed change t)
 dated_is day change c t same =
-    subst (λ (d : Counts). rows_put change (with_counts (counts_after day (serials_taken change) (claims_taken change) d) t) ≡ dated day (changed change t)) (sym same) (counted day change t)
+    subst (λ (d : Counts). rows_put change (with_counts (counts_with day change d) t) ≡ dated day (changed change t)) (sym same) (counted day change t)
+
+-- the counts, and then the rows of a change
+pub put_changed : {S A B : Type 0} (g : Ghosts S) (old mid new : Held S) (x : A) (r : Result B Fault) (counts : Told) (day : ℕ) (change : Change)
+    → Puts g old mid (Ok x) Always Always (HasRoom counts (serials_taken change) (claims_taken change) (lists_taken change)) (with_counts (counts_with day change (as_stored counts)))
+    → Puts g mid new r (IsThere change) (IsFree change) (IsInRange change) (rows_put change)
+    → Puts g old new r (λ t. (as_stored counts ≡ counts_of t) × IsThere change t) (IsFree change) (IsPuttable counts change) (λ t. dated day (changed change t))
+put_changed g old mid new x r counts day change noted rows =
+    let after = counts_with day change (as_stored counts) in
+    put_then g old mid new x r Always (IsThere change) (IsFree change) (λ t. (as_stored counts ≡ counts_of t) × IsThere change t) (IsFree change)
+    (HasRoom counts (serials_taken change) (claims_taken change) (lists_taken change)) (IsInRange change) (IsPuttable counts change)
+    (with_counts after) (rows_put change) (λ t. dated day (changed change t))
+    (λ t there. there_with change after t there.1) (λ t there. dated_is day change (as_stored counts) t there.0) (λ t free. free_with change after t free) (λ good. good.0)
+    noted rows
 
 -- counts for which there was room can be written
-pub countable_after : (next before : Told) (day serials claims : ℕ) → as_stored next ≡ counts_after day serials claims (as_stored before) → HasRoom before serials claims → AreCountable next
-countable_after next before day serials claims is room =
+pub countable_after : (next before : Told) (day serials claims lists : ℕ) → as_stored next ≡ counts_after day serials claims lists (as_stored before) → HasRoom before serials claims lists → AreCountable next
+countable_after next before day serials claims lists is room =
     let entries_are : next.entries ≡ before.entries + 1 = ap (λ (c : Counts). c.entries) is in
     let serial_is : next.serial ≡ before.serial + serials = ap (λ (c : Counts). c.serial) is in
     let claims_are : next.claims ≡ before.claims + claims = ap (λ (c : Counts). c.claims) is in

@@ -2,4 +2,5 @@ pub mod ChangeLemmas
 pub mod CreditLemmas
 pub mod JoinLemmas
 pub mod OnceLemmas
+pub mod PutLemmas
 pub mod RowLemmas

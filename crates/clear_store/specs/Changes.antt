@@ -11,14 +11,15 @@ use Rattle.clear_values.specs.declared.rows.Change.{Change}
 use Rattle.clear_values.specs.declared.rows.Change.TheVariants.{AddEmployer, AddReport}
 use Rattle.clear_values.specs.declared.rows.Change.TheVariants.{ReplaceReport, AddBankLines}
 use Rattle.clear_values.specs.declared.rows.Change.TheVariants.{AddClaim, WithdrawClaim, ReleaseClaim}
+use Rattle.clear_values.specs.declared.rows.Change.TheVariants.{AddList}
 use Rattle.clear_values.specs.declared.rows.ClaimRow.{ClaimRow}
 use Rattle.clear_values.specs.declared.rows.CreditRow.{CreditRow}
 use Rattle.clear_values.specs.declared.texts.WageLine.{WageLine}
-use Rattle.clear_values.specs.Keyed.{find_row, with_row, without_rows}
+use Rattle.clear_values.specs.Keyed.{find_row, with_row, without_rows, AreOnce}
 use Rattle.clear_values.specs.Limits.{most_entries, most_gross, most_serials, most_versions}
-use Rattle.clear_values.specs.RowRanges.{IsClaimRow, IsSerial}
+use Rattle.clear_values.specs.RowRanges.{IsClaimRow, IsListRow, IsSerial}
 use Rattle.clear_values.specs.Tables.{Tables, bank_key, claim_key, employer_key, report_key}
-use Rattle.clear_values.specs.Tables.{wage_key}
+use Rattle.clear_values.specs.Tables.{wage_key, list_key}
 use Rattle.clear_values.specs.Tables.{is_wage_key_of, wage_rows}
 use Rattle.clear_values.specs.declared.causes.StoreCause.TheVariants.{Constraint, Row as OutOfRange}
 use Rattle.clear_schema.specs.Held.{HasTables}
@@ -53,7 +54,13 @@ AreFree key rows (new ∷ news) =
 abbrev pub IsClaimThere : ClaimRow → Tables → Type 0
 IsClaimThere row t = IsSome (find_row claim_key t.claims (claim_key row))
 
--- the month of a correction has a report, and a claim that is withdrawn or released is there
+-- there is a claim of the number of each, and no number stands twice
+abbrev pub AreClaimsThere : List ClaimRow → Tables → Type 0
+AreClaimsThere claims t =
+    AllByRecursion (λ claim. IsClaimThere claim t) claims × AreOnce claim_key claims
+
+-- the month of a correction has a report, and a claim that is withdrawn, released or put on a list is
+-- there
 abbrev pub IsThere : Change → Tables → Type 0
 IsThere (AddEmployer row) t = Unit {0}
 IsThere (AddReport row lines) t = Unit {0}
@@ -62,6 +69,7 @@ IsThere (AddBankLines rows) t = Unit {0}
 IsThere (AddClaim row) t = Unit {0}
 IsThere (WithdrawClaim row) t = IsClaimThere row t
 IsThere (ReleaseClaim row serial) t = IsClaimThere row t
+IsThere (AddList row claims) t = AreClaimsThere claims t
 
 -- each gross amount can be that of a line
 abbrev pub AreGross : List WageLine → Type 0
@@ -94,6 +102,7 @@ IsFree (AddBankLines rows) t =
 IsFree (AddClaim row) t = find_row claim_key t.claims (claim_key row) ≡ None
 IsFree (WithdrawClaim row) t = Unit {0}
 IsFree (ReleaseClaim row serial) t = AreFree credit_key t.credits (set_offs_of row serial)
+IsFree (AddList row claims) t = find_row list_key t.lists (list_key row) ≡ None
 
 -- the numbers in the rows lie in their ranges
 abbrev pub IsInRange : Change → Type 0
@@ -104,6 +113,7 @@ IsInRange (AddBankLines rows) = AreSerials rows
 IsInRange (AddClaim row) = IsClaimRow row
 IsInRange (WithdrawClaim row) = IsClaimRow row
 IsInRange (ReleaseClaim row serial) = IsClaimRow row × HaveSerials (set_offs_of row serial)
+IsInRange (AddList row claims) = IsListRow row × AllByRecursion IsClaimRow claims
 
 -- how many serials the change takes: one for each new line, and one for a release
 abbrev pub serials_taken : Change → ℕ
@@ -114,6 +124,7 @@ serials_taken (AddBankLines rows) = length rows
 serials_taken (AddClaim row) = 0
 serials_taken (WithdrawClaim row) = 0
 serials_taken (ReleaseClaim row serial) = 1
+serials_taken (AddList row claims) = 0
 
 -- how many numbers of claims the change takes
 abbrev pub claims_taken : Change → ℕ
@@ -124,23 +135,38 @@ claims_taken (AddBankLines rows) = 0
 claims_taken (AddClaim row) = 1
 claims_taken (WithdrawClaim row) = 0
 claims_taken (ReleaseClaim row serial) = 0
+claims_taken (AddList row claims) = 0
 
--- one entry more, and so many serials and claims more, can be counted
-abbrev pub HasRoom : Counts → ℕ → ℕ → Type 0
-HasRoom c serials claims =
+-- how many numbers of payout lists the change takes
+abbrev pub lists_taken : Change → ℕ
+lists_taken (AddEmployer row) = 0
+lists_taken (AddReport row lines) = 0
+lists_taken (ReplaceReport row lines) = 0
+lists_taken (AddBankLines rows) = 0
+lists_taken (AddClaim row) = 0
+lists_taken (WithdrawClaim row) = 0
+lists_taken (ReleaseClaim row serial) = 0
+lists_taken (AddList row claims) = 1
+
+-- one entry more, and so many serials, claims and lists more, can be counted
+abbrev pub HasRoom : Counts → ℕ → ℕ → ℕ → Type 0
+HasRoom c serials claims lists =
     (c.entries + 1 ≤ most_entries) × (c.serial + serials ≤ most_serials)
-    × (c.claims + claims ≤ most_entries)
+    × (c.claims + claims ≤ most_entries) × (c.lists + lists ≤ most_entries)
 
 -- the numbers in the rows lie in their ranges, and so do the counts after the change
 abbrev pub IsPuttable : Counts → Change → Type 0
-IsPuttable c change = IsInRange change × HasRoom c (serials_taken change) (claims_taken change)
+IsPuttable c change =
+    IsInRange change
+    × HasRoom c (serials_taken change) (claims_taken change) (lists_taken change)
 
--- the counts after one entry more, of this day, that took so many serials and claims
-abbrev pub counts_after : ℕ → ℕ → ℕ → Stored → Stored
-counts_after day serials claims c =
+-- the counts after one entry more, of this day, that took so many serials, claims and lists
+abbrev pub counts_after : ℕ → ℕ → ℕ → ℕ → Stored → Stored
+counts_after day serials claims lists c =
     record c {
       day = Some day;
       entries = c.entries + 1;
       serial = c.serial + serials;
       claims = c.claims + claims;
+      lists = c.lists + lists;
     }

@@ -4,10 +4,11 @@ ghost use Rattle.clear_values.specs.Tables.{changed, dated};
 ghost use Rattle.clear_schema.specs.Values.{counts_of, with_counts};
 ghost use Rattle.clear_firms.specs.Counts.{as_stored};
 ghost use Rattle.clear_store.specs.Changes.{HasRoom, IsFree, IsInRange, IsPuttable, IsThere, Puts};
-ghost use Rattle.clear_store.specs.Changes.{claims_taken, counts_after, serials_taken};
+ghost use Rattle.clear_store.specs.Changes.{claims_taken, counts_after, lists_taken, serials_taken};
 
 use crate::bank_file::add_lines;
 use crate::claims::{add_claim, put_claim, put_release};
+use crate::lists::add_list;
 use crate::month_report::{add_report, put_report};
 use clear_firms::counts::{Counts, put_counts};
 use clear_firms::employers::insert_employer;
@@ -22,9 +23,9 @@ use std::alloc::Global;
 /// those that stand.
 ///
 /// A key that is not free is refused with `Fault::Store(StoreCause::Constraint)`; a number of a row
-/// that is out of its range, more than 50,000,000 entries or claims and more than 500,000,000,000
-/// serials are refused with `Fault::Store(StoreCause::Row)`. After an error a part of the change may be done:
-/// the transaction is to be rolled back.
+/// that is out of its range, more than 50,000,000 entries, claims or lists, and more than
+/// 500,000,000,000 serials are refused with `Fault::Store(StoreCause::Row)`. After an error a part of
+/// the change may be done: the transaction is to be rolled back.
 pub fn put_change<S: Alter>(
     alloc: Global,
     tx: &mut Transaction<'_, S>,
@@ -39,13 +40,14 @@ pub fn put_change<S: Alter>(
 {
     let serials = serials_taken(change);
     let claims = claims_taken(change);
-    match note(tx, counts, day, serials, claims) {
+    let lists = lists_taken(change);
+    match note(tx, counts, day, serials, claims, lists) {
         Ok(()) => put_rows(alloc, tx, change),
         Err(fault) => Err(fault),
     }
 }
 
-// Puts the rows of a change. The counts of serials and claims are left.
+// Puts the rows of a change. The counts of serials, claims and lists are left.
 fn put_rows<S: Alter>(
     alloc: Global,
     tx: &mut Transaction<'_, S>,
@@ -54,7 +56,11 @@ fn put_rows<S: Alter>(
     ensures same_reference { tx.new.conn.ghost_name ≡ tx.old.conn.ghost_name }
     ensures puts { Puts S.Store tx.old.conn.now tx.new.conn.now result (IsThere change.now)
         (IsFree change.now) (IsInRange change.now)
-        (λ t. record (changed change.now t) { serial = t.serial; last_claim = t.last_claim }) }
+        (λ t. record (changed change.now t) {
+          serial = t.serial;
+          last_claim = t.last_claim;
+          last_list = t.last_list;
+        }) }
 {
     match change {
         Change::AddEmployer(row) => add_employer(tx, row),
@@ -64,6 +70,7 @@ fn put_rows<S: Alter>(
         Change::AddClaim(row) => add_claim(tx, row),
         Change::WithdrawClaim(row) => put_claim(tx, row),
         Change::ReleaseClaim { claim, serial } => put_release(alloc, tx, claim, *serial),
+        Change::AddList(row, claims) => add_list(tx, row, claims.as_slice()),
     }
 }
 
@@ -88,6 +95,7 @@ fn serials_taken(change: &Change) -> u64
         Change::AddClaim(_) => 0,
         Change::WithdrawClaim(_) => 0,
         Change::ReleaseClaim { .. } => 1,
+        Change::AddList(_, _) => 0,
     }
 }
 
@@ -103,43 +111,62 @@ fn claims_taken(change: &Change) -> u32
         Change::AddClaim(_) => 1,
         Change::WithdrawClaim(_) => 0,
         Change::ReleaseClaim { .. } => 0,
+        Change::AddList(_, _) => 0,
     }
 }
 
-// Notes one entry more: its day, and the serials and claims that it took.
+// How many numbers of payout lists a change takes.
+fn lists_taken(change: &Change) -> u32
+    ensures { result ≡ lists_taken change.now }
+{
+    match change {
+        Change::AddEmployer(_) => 0,
+        Change::AddReport(_, _) => 0,
+        Change::ReplaceReport(_, _) => 0,
+        Change::AddBankLines(_) => 0,
+        Change::AddClaim(_) => 0,
+        Change::WithdrawClaim(_) => 0,
+        Change::ReleaseClaim { .. } => 0,
+        Change::AddList(_, _) => 1,
+    }
+}
+
+// Notes one entry more: its day, and the serials, claims and lists that it took.
 fn note<S: Alter>(
     tx: &mut Transaction<'_, S>,
     counts: &Counts,
     day: Day,
     serials: u64,
     claims: u32,
+    lists: u32,
 ) -> Result<(), Fault>
     ensures same_reference { tx.new.conn.ghost_name ≡ tx.old.conn.ghost_name }
     ensures puts { Puts S.Store tx.old.conn.now tx.new.conn.now result (λ _. Unit {0})
-        (λ _. Unit {0}) (HasRoom counts.now serials claims)
-        (with_counts (counts_after day serials claims (as_stored counts.now))) }
+        (λ _. Unit {0}) (HasRoom counts.now serials claims lists)
+        (with_counts (counts_after day serials claims lists (as_stored counts.now))) }
 {
-    match next_counts(counts, day, serials, claims) {
+    match next_counts(counts, day, serials, claims, lists) {
         Some(next) => put_counts(tx, &next),
         None => Err(Fault::Store(StoreCause::Row)),
     }
 }
 
 // The counts after one entry more. None where a count would pass its bits.
-fn next_counts(counts: &Counts, day: Day, serials: u64, claims: u32) -> Option<Counts>
+fn next_counts(counts: &Counts, day: Day, serials: u64, claims: u32, lists: u32) -> Option<Counts>
     ensures next { IfSome result (λ next.
-        as_stored next ≡ counts_after day serials claims (as_stored counts.now)) }
-    ensures none { result ≡ None → ¬ HasRoom counts.now serials claims }
+        as_stored next ≡ counts_after day serials claims lists (as_stored counts.now)) }
+    ensures none { result ≡ None → ¬ HasRoom counts.now serials claims lists }
 {
     let entries = counts.entries.checked_add(1)?;
     let serial = counts.serial.checked_add(serials)?;
     let claims = counts.claims.checked_add(claims)?;
+    let lists = counts.lists.checked_add(lists)?;
     Some(Counts {
         day: Some(day),
         entries,
         serial,
         claims,
-        lists: counts.lists,
+        lists,
         runs: counts.runs,
     })
 }

@@ -5,6 +5,7 @@
 mod bank_file;
 pub mod changes;
 mod claims;
+mod lists;
 mod month_report;
 
 pub use clear_firms::{counts, employers, rates, reports, wages};

@@ -8,7 +8,7 @@ use Rattle.clear_book.specs.Documents.Lines.{charge_line}
 use Rattle.clear_texts.specs.Charges.{piece_line, MonthRows, with_row, by_month, month_lines, charge_lines}
 use Rattle.clear_texts.specs.RowSteps.{row_lines, IsNotTheEnd}
 use Rattle.clear_texts.specs.Rows.{most_rows, IsRefused}
-use Rattle.clear_book.specs.declared.rules.StoreCause.TheVariants.{Row}
+use Rattle.clear_book.specs.declared.rules.StoreCause.TheVariants.{Row as row_cause}
 use Rattle.clear_texts.specs.declared.rows.RowFault.{RowFault}
 use Rattle.clear_texts.specs.declared.rows.RowFault.TheVariants.{Memory, Store}
 use Rattle.clear_texts.specs.declared.rows.ChargeRow.{ChargeRow}
@@ -94,7 +94,7 @@ pub record HasGiven {S : Type 0} (gives : S → Option ChargeRow → S → Type 
   pub last : month_after None given ≡ month
   pub lines : text ≡ start ++ lines_after None given
 
-pub Yields-append : {S : Type 0} (gives : S → Option ChargeRow → S → Type 0) (old : S) (given : List ChargeRow) (mid : S) (row : ChargeRow) (new : S) → Yields gives old given mid → gives mid (Some row) new → Yields gives old (given ++ row ∷ []) new
+pub Yields-append : {S Row : Type 0} (gives : S → Option Row → S → Type 0) (old : S) (given : List Row) (mid : S) (row : Row) (new : S) → Yields gives old given mid → gives mid (Some row) new → Yields gives old (given ++ row ∷ []) new
 Yields-append gives old [] mid row new start step = (new, subst (λ s. gives s (Some row) new) (sym start) step, refl)
 Yields-append gives old (x ∷ given) mid row new (j, step, run) more = (j, step, Yields-append gives j given mid row new run more)
 
@@ -125,6 +125,6 @@ module _ {S : Type 0} (gives : S → Option ChargeRow → S → Type 0) (old mid
 
   pub is_not_the_end : (refuses : S → RowFault → S → Type 0) (fault : RowFault) → HasGiven gives old mid count month start text → count ≡ most_rows → IsNotTheEnd gives refuses mid fault new → IsRefused gives refuses old fault new
   is_not_the_end refuses fault so_far full why = ⊎_elim
-      (λ (further : (fault ≡ Store Row) × (row : ChargeRow) × gives mid (Some row) new). inr (inl (further.0, (so_far.given ++ further.1 ∷ [], Yields-append gives old so_far.given mid further.1 new so_far.run further.2, length-append so_far.given (further.1 ∷ []) ∙ ap (λ n. n + 1) (so_far.few ∙ full)))))
+      (λ (further : (fault ≡ Store row_cause) × (row : ChargeRow) × gives mid (Some row) new). inr (inl (further.0, (so_far.given ++ further.1 ∷ [], Yields-append gives old so_far.given mid further.1 new so_far.run further.2, length-append so_far.given (further.1 ∷ []) ∙ ap (λ n. n + 1) (so_far.few ∙ full)))))
       (λ (step : refuses mid fault new). refused_one refuses fault so_far step)
       why

@@ -1,4 +1,5 @@
 pub mod Charges
+pub mod Earned
 pub mod Laws
 pub mod Records
 pub mod RowSteps

@@ -1,7 +1,7 @@
 -- What a source of rows gives, call by call, and why a document over its rows is refused.
 use Rattle.std.specs.Prelude.{◌≡◌, ◌⊎◌, ◌+◌, ℕ, List, [], ◌∷◌, length, Option, None, Some}
 use Rattle.std.specs.Iterator.{Yields, YieldsThen}
-use Rattle.clear_book.specs.declared.rules.StoreCause.TheVariants.{Row}
+use Rattle.clear_book.specs.declared.rules.StoreCause.TheVariants.{Row as row_cause}
 use Rattle.clear_texts.specs.declared.rows.ChargeRow.{ChargeRow}
 use Rattle.clear_texts.specs.declared.rows.RowFault.{RowFault}
 use Rattle.clear_texts.specs.declared.rows.RowFault.TheVariants.{Memory, Store}
@@ -15,25 +15,30 @@ abbrev pub GivesFirst : List ChargeRow → Option ChargeRow → List ChargeRow �
 GivesFirst [] found rest = (found ≡ None) × (rest ≡ [])
 GivesFirst (row ∷ rows) found rest = (found ≡ Some row) × (rest ≡ rows)
 
-module _ {S : Type 0} (gives : S → Option ChargeRow → S → Type 0) where
+module _ {S Row : Type 0} (gives : S → Option Row → S → Type 0) where
   -- the calls from the first source to the second gave rows, and perhaps told their end
   abbrev pub Reads : S → S → Type 0
-  Reads old new = (given : List ChargeRow)
+  Reads old new = (given : List Row)
       × (Yields gives old given new ⊎ YieldsThen gives old given None new)
 
   -- the calls gave one row more than an account has
   abbrev pub GivesTooMany : S → S → Type 0
-  GivesTooMany old new = (given : List ChargeRow) × Yields gives old given new
+  GivesTooMany old new = (given : List Row) × Yields gives old given new
       × (length given ≡ most_rows + 1)
 
   module _ (refuses : S → RowFault → S → Type 0) where
     -- the calls gave rows, and the last one was refused for this
     abbrev pub RefusesARow : S → RowFault → S → Type 0
-    RefusesARow old fault new = (given : List ChargeRow) × (last : S)
+    RefusesARow old fault new = (given : List Row) × (last : S)
         × Yields gives old given last × refuses last fault new
 
-    -- why a document over rows is refused: there was no memory, the source gave too many rows, or
-    -- it refused one for this
+    -- why a document over rows without limit is refused: there was no memory, or the source refused
+    -- one for this
+    abbrev pub IsCutOff : S → RowFault → S → Type 0
+    IsCutOff old fault new = ((fault ≡ Memory) × Reads old new) ⊎ RefusesARow old fault new
+
+    -- why a document over the rows of an account is refused: there was no memory, the source gave
+    -- too many rows, or it refused one for this
     abbrev pub IsRefused : S → RowFault → S → Type 0
     IsRefused old fault new = ((fault ≡ Memory) × Reads old new)
-        ⊎ (((fault ≡ Store Row) × GivesTooMany old new) ⊎ RefusesARow old fault new)
+        ⊎ (((fault ≡ Store row_cause) × GivesTooMany old new) ⊎ RefusesARow old fault new)

@@ -1,22 +1,27 @@
-//! Documents, made from records: a firm's statement on a day.
+//! Documents, made from records: a firm's statement on a day, and a worker's.
 ghost use Rattle.std.specs.Prelude.{◌≡◌, ◌≤◌, ℕ, None, IfErr, IfOk, length};
 ghost use Rattle.clear_book.specs.Book.{Book, ledger_day};
+ghost use Rattle.clear_book.specs.Documents.Worker.{worker_text};
 ghost use Rattle.clear_book.specs.Judge.{day_back, statement_on};
 ghost use Rattle.clear_book.specs.Machine.{IsLawful};
+ghost use Rattle.clear_book.specs.Own.Worker.{worker_on};
 ghost use Rattle.clear_texts.specs.Rows.{most_rows};
 ghost use Rattle.clear_texts.specs.Text.{text_of_rows};
-ghost use Rattle.clear_texts.specs.Records.{AreRecords};
+ghost use Rattle.clear_texts.specs.Records.{AreRecords, AreWorkerRecords};
 
+use crate::account::worker_account;
 use crate::arrears::interest_arrears;
 use crate::charges::tell_charges;
 use crate::firm::{firm_account, whole_payments};
 use crate::missing::missing_months;
-use crate::records::FirmRecords;
+use crate::records::{FirmRecords, WorkerRecords};
 use crate::rows::{ChargeRow, ListedRows, RowFault};
 use crate::statement::append_statement;
+use crate::worker::append_worker;
 use clear_book::documents::{Document, FirmAccount, Payment};
 use clear_money::days::Day;
 use clear_money::months::Month;
+use clear_money::numbers::WorkerNo;
 use std::alloc::Global;
 
 /// The statement of a firm on a day, by its records. Records that no book has are refused with
@@ -67,4 +72,27 @@ fn make_document(
         Ok(()) => Ok(Document::new(text)),
         Err(fault) => Err(fault),
     }
+}
+
+/// What the records of a worker say of it on a day: what it has earned, by firm, then month, the
+/// claims for it that aren't withdrawn, and its balance. Records that no book has are refused with
+/// `StoreCause::Row`: amounts whose sum is not below 2^64 cents, a gross amount that no line has.
+pub fn worker_document(
+    alloc: Global,
+    worker: WorkerNo,
+    day: Day,
+    records: &WorkerRecords,
+) -> Result<Document, RowFault>
+    ensures text { (b : Book) → IsLawful b → AreWorkerRecords b worker records.now
+        → IfOk result (λ document. document ≡ worker_text (worker_on b day worker)) }
+    ensures fault { (b : Book) → IsLawful b → AreWorkerRecords b worker records.now
+        → IfErr result (λ fault. fault ≡ RowFault.Memory) }
+{
+    let account = match worker_account(alloc, worker, day, records) {
+        Ok(account) => account,
+        Err(fault) => return Err(fault),
+    };
+    let mut text = String::new(alloc);
+    append_worker(&mut text, &account)?;
+    Ok(Document::new(text))
 }

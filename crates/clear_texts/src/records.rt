@@ -1,7 +1,7 @@
-//! The records that a statement is made from.
+//! The records that documents are made from.
 
 use clear_account::plain::Plain;
-use clear_book::rows::{CreditRow, EmployerRow, ReportRow};
+use clear_book::rows::{ClaimRow, CreditRow, EmployerRow, ReportRow, WageRow};
 use clear_money::rates::RateTable;
 
 /// The records of a firm.
@@ -18,4 +18,15 @@ pub struct FirmRecords {
     pub credits: Vec<CreditRow>,
     /// Its credits for interest, by day and serial.
     pub interest_credits: Vec<CreditRow>,
+}
+
+/// The records of a worker.
+#[derive(Drop)]
+pub struct WorkerRecords {
+    /// The rates of all months.
+    pub rates: RateTable,
+    /// Its lines in the latest reports, by firm and month.
+    pub wages: Vec<WageRow>,
+    /// All claims for it, also those that are withdrawn, by their numbers.
+    pub claims: Vec<ClaimRow>,
 }

@@ -1,4 +1,4 @@
-//! The rows of a firm's charges, one at a time.
+//! The rows of documents, one at a time.
 ghost use Rattle.std.specs.Prelude.{◌≡◌, List, IfErr, IfOk, Option};
 ghost use Rattle.clear_texts.specs.Rows.{GivesFirst};
 
@@ -38,20 +38,22 @@ impl From<AllocError> for RowFault {
     }
 }
 
-/// A source of the rows of a firm's charges.
-pub trait ChargeRows {
+/// A source of the rows of a document.
+pub trait RowSource {
     ghost use Rattle.std.specs.Prelude.{Option};
-    ghost use Rattle.clear_texts.specs.declared.rows.ChargeRow.{ChargeRow};
     ghost use Rattle.clear_texts.specs.declared.rows.RowFault.{RowFault};
 
+    /// What the document tells one after another.
+    type Row: Drop;
+
     /// A call at the first source gives this, and leaves the second.
-    ghost next_gives: { Self → Option ChargeRow → Self → Type 0 };
+    ghost next_gives: { Self → Option Self.Row → Self → Type 0 };
 
     /// A call at the first source is refused for this, and leaves the second.
     ghost next_refuses: { Self → RowFault → Self → Type 0 };
 
     /// The next row, and none past the last.
-    fn next(&mut self) -> Result<Option<ChargeRow>, RowFault>
+    fn next(&mut self) -> Result<Option<Self::Row>, RowFault>
         ensures gives { IfOk result (λ found. next_gives self.old found self.new) }
         ensures refuses { IfErr result (λ fault. next_refuses self.old fault self.new) };
 }
@@ -83,8 +85,10 @@ impl ListedRows {
     }
 }
 
-impl ChargeRows for ListedRows {
+impl RowSource for ListedRows {
     ghost use Rattle.clear_texts.specs.Rows.{GivesFirst};
+
+    type Row = ChargeRow;
 
     ghost next_gives = { GivesFirst };
 

@@ -15,7 +15,7 @@ use crate::amounts::append_amount;
 use crate::lines::{
     append_day, append_interest_credit, append_missing, append_month, append_number, append_row,
 };
-use crate::rows::{ChargeRows, MAX_ROWS, RowFault};
+use crate::rows::{ChargeRow, MAX_ROWS, RowFault, RowSource};
 use clear_book::documents::{FirmAccount, Payment};
 use clear_book::rules::StoreCause;
 use clear_money::months::Month;
@@ -25,7 +25,7 @@ use std::alloc::{AllocError, Global};
 /// whose charges are the rows that the source gives up to its end.
 /// A refusal leaves the text as it was: there was no memory, the source refused a row, or it gave
 /// more than `MAX_ROWS`, which is `StoreCause::Row`.
-pub fn statement<R: ChargeRows>(
+pub fn statement<R: RowSource<Row = ChargeRow>>(
     alloc: Global,
     firm: &FirmAccount,
     interest_credits: &[Payment],
@@ -50,7 +50,7 @@ pub fn statement<R: ChargeRows>(
 
 /// Appends the statement of a firm, as `statement` does, but for a refusal: it may leave a part.
 #[tactic(auto, unfolding(crate::specs::Text::text_of_rows))]
-pub(crate) fn append_statement<R: ChargeRows>(
+pub(crate) fn append_statement<R: RowSource<Row = ChargeRow>>(
     text: &mut String,
     firm: &FirmAccount,
     interest_credits: &[Payment],
@@ -101,7 +101,10 @@ fn append_last(text: &mut String, last: Option<Month>) -> Result<(), AllocError>
 }
 
 // The lines of all charges that the source gives up to its end.
-fn append_charges<R: ChargeRows>(text: &mut String, rows: &mut R) -> Result<(), RowFault>
+fn append_charges<R: RowSource<Row = ChargeRow>>(
+    text: &mut String,
+    rows: &mut R,
+) -> Result<(), RowFault>
     ensures written { IfOk result (λ _. (given : List ChargeRow)
         × YieldsThen R.next_gives rows.old given None rows.new
         × (length given ≤ most_rows)
@@ -124,7 +127,7 @@ fn append_charges<R: ChargeRows>(text: &mut String, rows: &mut R) -> Result<(), 
 }
 
 // The source gives no further row.
-fn end_rows<R: ChargeRows>(rows: &mut R) -> Result<(), RowFault>
+fn end_rows<R: RowSource<Row = ChargeRow>>(rows: &mut R) -> Result<(), RowFault>
     ensures ends { IfOk result (λ _. R.next_gives rows.old None rows.new) }
     ensures refused { IfErr result (λ fault.
         IsNotTheEnd R.next_gives R.next_refuses rows.old fault rows.new) }

@@ -6,3 +6,4 @@ pub mod KeyedRowsLemmas
 pub mod ListLemmas
 pub mod SetOffLemmas
 pub mod TextLemmas
+pub mod PutRowsLemmas

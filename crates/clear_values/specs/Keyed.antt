@@ -60,6 +60,11 @@ module _ {Row : Type 0} (key : Row → List ℕ) where
   abbrev pub put_row : List Row → Row → List Row
   put_row rows new = with_row (without_rows (λ k. is_key k (key new)) rows) new
 
+  -- the rows and several new ones, each in place of the row with its key, one after another
+  abbrev pub put_rows : List Row → List Row → List Row
+  put_rows rows [] = rows
+  put_rows rows (new ∷ news) = put_rows (put_row rows new) news
+
   -- no key is that of a later row too
   abbrev pub AreOnce : List Row → Type 0
   AreOnce [] = Unit {0}

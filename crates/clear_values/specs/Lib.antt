@@ -6,6 +6,7 @@ pub mod Limits
 pub mod Lines
 pub mod Members
 pub mod Numbers
+pub mod Payouts
 pub mod Ranges
 pub mod RowRanges
 pub mod Tables

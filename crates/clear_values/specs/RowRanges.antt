@@ -6,6 +6,7 @@ use Rattle.clear_money.specs.Numbers.{IsEmployerNo, IsWorkerNo, IsAmount}
 use Rattle.clear_values.specs.Ranges.{AreRates, IsBankLine, IsCaller}
 use Rattle.clear_values.specs.declared.replies.Reply.{Reply}
 use Rattle.clear_values.specs.declared.replies.Reply.TheVariants.{Done, Reported, Imported, Claimed}
+use Rattle.clear_values.specs.declared.replies.Reply.TheVariants.{Listed}
 use Rattle.clear_values.specs.declared.replies.Reply.TheVariants.{Released as reply_of_release}
 use Rattle.clear_values.specs.declared.replies.Settlement.{Settlement}
 use Rattle.clear_values.specs.declared.rows.BankRow.{BankRow}
@@ -108,7 +109,7 @@ pub record IsReminderRow (row : ReminderRow) : Type 0 where
   pub interest : row.interest ≤ most_interest
 
 -- the numbers of a reply: a contribution is at most its base, a bank file has so many records at
--- most, and what is settled is the amount of a claim
+-- most, what is settled is the amount of a claim, and a list has a claim at least
 abbrev pub IsReply : Reply → Type 0
 IsReply Done = Unit {0}
 IsReply (Reported version charge) =
@@ -116,6 +117,8 @@ IsReply (Reported version charge) =
 IsReply (Imported new repeats) = (new ≤ most_records) × (repeats ≤ most_records)
 IsReply (Claimed claim) = IsClaimNo claim
 IsReply (reply_of_release settlement) = IsAmount (settled settlement)
+IsReply (Listed list items total) =
+    IsListNo list × (1 ≤ items) × (items ≤ most_entries) × (total ≤ most_claimed)
 
 pub record IsRequestRow (row : RequestRow) : Type 0 where
   pub caller : IsCaller row.caller

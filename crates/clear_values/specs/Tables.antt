@@ -12,6 +12,7 @@ use Rattle.clear_values.specs.declared.rows.Change.{Change}
 use Rattle.clear_values.specs.declared.rows.Change.TheVariants.{AddEmployer, AddReport}
 use Rattle.clear_values.specs.declared.rows.Change.TheVariants.{ReplaceReport, AddBankLines}
 use Rattle.clear_values.specs.declared.rows.Change.TheVariants.{AddClaim, WithdrawClaim, ReleaseClaim}
+use Rattle.clear_values.specs.declared.rows.Change.TheVariants.{AddList}
 use Rattle.clear_values.specs.declared.rows.ClaimRow.{ClaimRow}
 use Rattle.clear_values.specs.declared.rows.CreditRow.{CreditRow}
 use Rattle.clear_values.specs.declared.rows.EmployerRow.{EmployerRow}
@@ -22,7 +23,7 @@ use Rattle.clear_values.specs.declared.rows.RunRow.{RunRow}
 use Rattle.clear_values.specs.declared.rows.WageRow.{WageRow}
 use Rattle.clear_values.specs.declared.texts.WageLine.{WageLine}
 use Rattle.clear_values.specs.Credits.{credit_key, credits_of_lines, set_offs_of}
-use Rattle.clear_values.specs.Keyed.{with_row, with_rows, put_row, without_rows}
+use Rattle.clear_values.specs.Keyed.{with_row, with_rows, put_row, put_rows, without_rows}
 use Rattle.clear_values.specs.Members.{Member}
 
 -- an accepted request, as it is kept: under its caller and number its day, the bytes of its command
@@ -109,10 +110,8 @@ member_in row = record { name = row.name; start = row.start; last = row.last }
 
 -- the tables that no command fills yet are empty, and none of their numbers was given
 pub record AreUnfilled (t : Tables) : Type 0 where
-  pub lists : t.lists ≡ []
   pub runs : t.runs ≡ []
   pub reminders : t.reminders ≡ []
-  pub last_list : t.last_list ≡ 0
   pub last_run : t.last_run ≡ 0
 
 -- ---- changes
@@ -162,6 +161,12 @@ changed (ReleaseClaim row serial) t =
       claims = put_row claim_key t.claims row;
       credits = with_rows credit_key t.credits (set_offs_of row serial);
       serial = t.serial + 1;
+    }
+changed (AddList row claims) t =
+    record t {
+      lists = with_row list_key t.lists row;
+      claims = put_rows claim_key t.claims claims;
+      last_list = t.last_list + 1;
     }
 
 -- the day of an accepted request, and that it is one more

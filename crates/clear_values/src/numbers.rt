@@ -1,6 +1,6 @@
-//! The numbers of requests and claims, and how many serials were given.
+//! The numbers of requests, claims and payout lists, and how many serials were given.
 ghost use Rattle.std.specs.Prelude.{◌≡◌, ◌↔◌, IsSome, IfSome};
-ghost use Rattle.clear_values.specs.Numbers.{IsClaimNo, IsRequestNo, IsSerialCount};
+ghost use Rattle.clear_values.specs.Numbers.{IsClaimNo, IsListNo, IsRequestNo, IsSerialCount};
 
 use crate::limits::{MAX_ENTRIES, MAX_REQUEST_NO, MAX_SERIALS};
 use std::marker::Model;
@@ -82,6 +82,48 @@ impl ClaimNo {
     pub fn number(self) -> u32
         ensures value { result ≡ self }
         ensures range { IsClaimNo result }
+    {
+        self.number
+    }
+}
+
+/// The number of a payout list, 1 to 50,000,000.
+#[derive(Clone, Copy, PartialEq, Eq, PartialOrd, Ord)]
+pub struct ListNo {
+    number: u32,
+}
+
+impl Model for ListNo {
+    ghost use Rattle.std.specs.Prelude.{ℕ};
+    ghost use Rattle.clear_values.specs.Numbers.{IsListNo};
+
+    ghost Value = { ℕ };
+
+    ghost view = { λ a. a.number };
+
+    ghost invariant = { λ a. IsListNo a.number };
+
+    ghost inverse = { λ n. record { number = n } };
+}
+
+impl ListNo {
+    /// None outside 1 to 50,000,000.
+    pub fn new(number: u64) -> Option<ListNo>
+        ensures some { IsSome result ↔ IsListNo number }
+        ensures value { IfSome result (λ list. list ≡ number) }
+    {
+        if number < 1 || number > MAX_ENTRIES {
+            return None;
+        }
+        Some(ListNo {
+            number: number as u32,
+        })
+    }
+
+    /// The number, 1 to 50,000,000.
+    pub fn number(self) -> u32
+        ensures value { result ≡ self }
+        ensures range { IsListNo result }
     {
         self.number
     }

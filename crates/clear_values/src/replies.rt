@@ -12,6 +12,9 @@ pub enum Reply {
     Claimed { claim: u32 },
     /// How the claim was settled.
     Released(Settlement),
+    /// The number of the payout list, how many claims are on it, and what they pay out together, in
+    /// cents.
+    Listed { list: u32, items: u64, total: u64 },
 }
 
 /// How the cents of a claim are settled: first what the firm owes of contributions, then what it

@@ -135,6 +135,37 @@ pub struct ClaimRow {
     pub state: ClaimState,
 }
 
+/// Rows of claims, whatever they are. A contract sees a list.
+#[derive(Drop)]
+pub struct ClaimRows {
+    rows: Vec<ClaimRow>,
+}
+
+impl Model for ClaimRows {
+    ghost use Rattle.std.specs.Prelude.{List};
+    ghost use Rattle.clear_values.specs.declared.rows.ClaimRow.{ClaimRow};
+
+    ghost Value = { List ClaimRow };
+
+    ghost view = { λ a. a.rows.items };
+}
+
+impl ClaimRows {
+    /// These rows.
+    pub fn new(rows: Vec<ClaimRow>) -> ClaimRows
+        ensures { result ≡ rows.items }
+    {
+        ClaimRows { rows }
+    }
+
+    /// The rows in their order.
+    pub fn as_slice(&self) -> &[ClaimRow]
+        ensures { result.now ≡ self.now }
+    {
+        self.rows.as_slice()
+    }
+}
+
 /// How a claim stands.
 #[derive(Clone, Copy)]
 pub enum ClaimState {
@@ -206,6 +237,9 @@ pub enum Change {
     AddClaim(ClaimRow),
     /// A claim that is withdrawn; its row stands in the place of that of its number.
     WithdrawClaim(ClaimRow),
+    /// A payout list that was not there, and the claims that go on it: the row of each stands in
+    /// the place of that of its number.
+    AddList(ListRow, ClaimRows),
     /// A claim that is released: its row stands in the place of that of its number, and each of
     /// its set-offs above 0 is a credit of its firm with the serial of the release.
     ReleaseClaim { claim: ClaimRow, serial: u64 },

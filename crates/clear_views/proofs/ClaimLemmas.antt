@@ -11,8 +11,8 @@ use Rattle.clear_book.specs.Book.{Book}
 use Rattle.clear_book.specs.Machine.{IsLawful}
 use Rattle.clear_book.specs.Tables.{Tables, Stands, member_at, member_in, table_entitlement, wages_of_worker}
 use Rattle.clear_book.specs.Workers.{claimed, is_withdrawn}
-use Rattle.clear_book.proofs.EntitlementLemmas.{has_wages-is_employed, table_entitlement-entitlement_of}
-use Rattle.clear_book.proofs.LawsLemmas.{lawful_small}
+use Rattle.clear_laws.proofs.EntitlementLemmas.{has_wages-is_employed, table_entitlement-entitlement_of}
+use Rattle.clear_laws.proofs.LawsLemmas.{lawful_small}
 use Rattle.clear_rules.specs.declared.decide.claim.ClaimView.{ClaimView}
 use Rattle.clear_rules.specs.Views.Claim.{IsClaimView}
 use Rattle.clear_views.specs.Claimed.{claimed_in}

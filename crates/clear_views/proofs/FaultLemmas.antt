@@ -3,7 +3,7 @@ use Rattle.std.proofs.Common.{◌≡◌, ◌≢◌, ℕ, List, Some}
 use Rattle.std.specs.List.{AllByRecursion}
 use Rattle.clear_book.specs.declared.rules.StoreCause.TheVariants.{Constraint, Row as OutOfRange}
 use Rattle.clear_book.specs.Keyed.{find_row}
-use Rattle.clear_book.proofs.KeyedChangesLemmas.{found_holds}
+use Rattle.clear_laws.proofs.KeyedChangesLemmas.{found_holds}
 use Rattle.clear_schema.specs.declared.fault.Fault.{Fault}
 use Rattle.clear_schema.specs.declared.fault.Fault.TheVariants.{Store}
 use Rattle.clear_schema.specs.Faults.{IsOfDisk}

@@ -7,8 +7,8 @@ use Rattle.std.specs.Option.{option_map, option_map_or}
 use Rattle.std.specs.Ordering.{nat_cmp, is_eq}
 use Rattle.std.specs.Prelude.{IfSome}
 use Rattle.clear_bank.specs.declared.lines.BankLine.{BankLine}
-use Rattle.clear_book.proofs.DistinctLemmas.{itself, same_worker}
-use Rattle.clear_book.proofs.KeyedRowsLemmas.{AreOnce-append}
+use Rattle.clear_laws.proofs.DistinctLemmas.{itself, same_worker}
+use Rattle.clear_laws.proofs.KeyedRowsLemmas.{AreOnce-append}
 use Rattle.clear_book.specs.Keyed.{AreOnce, find_row}
 use Rattle.clear_book.specs.Tables.{Tables, employer_key}
 use Rattle.clear_book.specs.declared.rows.EmployerRow.{EmployerRow}

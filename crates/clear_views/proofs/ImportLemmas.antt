@@ -17,11 +17,11 @@ use Rattle.clear_bank.specs.Newness.{is_new, line_under}
 use Rattle.clear_bank.specs.declared.lines.BankLine.{BankLine}
 use Rattle.clear_bank.specs.declared.lines.Purpose.{Purpose}
 use Rattle.clear_bank.specs.declared.lines.Purpose.TheVariants.{Contribution, Interest}
-use Rattle.clear_book.proofs.KeyedRowsLemmas.{count_by-ordered}
-use Rattle.clear_book.proofs.LawsLemmas.{lawful_small}
-use Rattle.clear_book.proofs.CreditsMadeLemmas.{credits-few, credits_after-count, credits_once, lines-few}
-use Rattle.clear_book.proofs.LinesLemmas.{found_line, is_key-bytes_eq, length-rows_from, references_standing, standing_seen, suspense_count-append}
-use Rattle.clear_book.proofs.KeyedLemmas.{is_key-refl, is_key-true}
+use Rattle.clear_laws.proofs.KeyedRowsLemmas.{count_by-ordered}
+use Rattle.clear_laws.proofs.LawsLemmas.{lawful_small}
+use Rattle.clear_laws.proofs.CreditsMadeLemmas.{credits-few, credits_after-count, credits_once, lines-few}
+use Rattle.clear_laws.proofs.LinesLemmas.{found_line, is_key-bytes_eq, length-rows_from, references_standing, standing_seen, suspense_count-append}
+use Rattle.clear_laws.proofs.KeyedLemmas.{is_key-refl, is_key-true}
 use Rattle.clear_book.specs.Accounts.{credit_key}
 use Rattle.clear_book.specs.Book.{Book, member_of}
 use Rattle.clear_book.specs.Keyed.{find_row, is_key}

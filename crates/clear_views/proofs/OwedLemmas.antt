@@ -18,15 +18,15 @@ use Rattle.clear_book.specs.Keyed.{find_row, is_key, is_before, with_row, with_r
 use Rattle.clear_book.specs.Lines.{credits_made, is_credit_of}
 use Rattle.clear_book.specs.Machine.{IsLawful}
 use Rattle.clear_book.specs.Tables.{Tables, Stands, is_wage_key_of, table_base, table_charges, table_credits, wage_key}
-use Rattle.clear_book.proofs.AccountLimitLemmas.{lawful_credit_count}
-use Rattle.clear_book.proofs.ChargesLemmas.{is_found, found_behind, found_first, reported, base_same, table_charges-charges_of}
-use Rattle.clear_book.proofs.CreditsLemmas.{credits-standing, table_credits-credits_of}
-use Rattle.clear_book.proofs.CreditsMadeLemmas.{made_once, paid_key}
-use Rattle.clear_book.proofs.KeyedLemmas.{is_key-sym, other_row}
-use Rattle.clear_book.proofs.KeyedRowsLemmas.{AreNew}
-use Rattle.clear_book.proofs.LimitsLemmas.{few_base, lawful_few}
-use Rattle.clear_book.proofs.RatesLemmas.{lawful_rated}
-use Rattle.clear_book.proofs.RowRangeLemmas.{rows_in_range}
+use Rattle.clear_laws.proofs.AccountLimitLemmas.{lawful_credit_count}
+use Rattle.clear_laws.proofs.ChargesLemmas.{is_found, found_behind, found_first, reported, base_same, table_charges-charges_of}
+use Rattle.clear_laws.proofs.CreditsLemmas.{credits-standing, table_credits-credits_of}
+use Rattle.clear_laws.proofs.CreditsMadeLemmas.{made_once, paid_key}
+use Rattle.clear_laws.proofs.KeyedLemmas.{is_key-sym, other_row}
+use Rattle.clear_laws.proofs.KeyedRowsLemmas.{AreNew}
+use Rattle.clear_laws.proofs.LimitsLemmas.{few_base, lawful_few}
+use Rattle.clear_laws.proofs.RatesLemmas.{lawful_rated}
+use Rattle.clear_laws.proofs.RowRangeLemmas.{rows_in_range}
 use Rattle.clear_views.specs.Owed.{IsChargeable, HasAccount, credit_serial, gross_sum, with_charges, with_credits}
 use Rattle.clear_views.proofs.FillLemmas.{charges_filled, credits_filled}
 

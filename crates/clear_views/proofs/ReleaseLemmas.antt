@@ -13,10 +13,10 @@ use Rattle.clear_book.specs.Lines.{credit_count, credits_made, is_credit_of}
 use Rattle.clear_book.specs.Machine.{IsLawful}
 use Rattle.clear_book.specs.Own.Release.{debts_of}
 use Rattle.clear_book.specs.Tables.{Tables, Stands, claim_key}
-use Rattle.clear_book.proofs.ClaimsLemmas.{claims-registered}
-use Rattle.clear_book.proofs.CreditsMadeLemmas.{credits_once}
-use Rattle.clear_book.proofs.KeyedChangesLemmas.{found_holds}
-use Rattle.clear_book.proofs.KeyedRowsLemmas.{AreInOrder-in_key_order, count_by-ordered, find_row-in_key_order}
+use Rattle.clear_laws.proofs.ClaimsLemmas.{claims-registered}
+use Rattle.clear_laws.proofs.CreditsMadeLemmas.{credits_once}
+use Rattle.clear_laws.proofs.KeyedChangesLemmas.{found_holds}
+use Rattle.clear_laws.proofs.KeyedRowsLemmas.{AreInOrder-in_key_order, count_by-ordered, find_row-in_key_order}
 use Rattle.clear_rules.specs.declared.decide.release.FirmDebts.{FirmDebts}
 use Rattle.clear_rules.specs.Views.Release.{AreDebts, first}
 use Rattle.clear_texts.proofs.RecordLemmas.{interest_of_book}

@@ -10,7 +10,7 @@ use Rattle.clear_account.specs.Account.{comes_before, with_credit}
 use Rattle.clear_book.specs.declared.rows.CreditRow.{CreditRow}
 use Rattle.clear_book.specs.Accounts.{row_credit}
 use Rattle.clear_book.specs.Keyed.{is_key, find_row, AreOnce}
-use Rattle.clear_book.proofs.KeyedLemmas.{is_key-sym, other_row}
+use Rattle.clear_laws.proofs.KeyedLemmas.{is_key-sym, other_row}
 use Rattle.clear_views.specs.Owed.{credit_serial, with_credits}
 
 -- ---- rows without a key that stands twice

@@ -15,8 +15,8 @@ use Rattle.clear_book.specs.Keyed.{find_row, AllBehind, AreInOrder}
 use Rattle.clear_book.specs.Lines.{is_credit_of}
 use Rattle.clear_book.specs.Machine.{IsLawful}
 use Rattle.clear_book.specs.Tables.{Tables, Stands, employer_key, report_key, table_charges, table_credits}
-use Rattle.clear_book.proofs.CreditsLemmas.{credits-standing}
-use Rattle.clear_book.proofs.KeyedLemmas.{found_key}
+use Rattle.clear_laws.proofs.CreditsLemmas.{credits-standing}
+use Rattle.clear_laws.proofs.KeyedLemmas.{found_key}
 use Rattle.clear_texts.specs.Records.{AreRecords, MonthsRise, member_in, version_in}
 use Rattle.clear_texts.specs.declared.records.FirmRecords.{FirmRecords}
 use Rattle.clear_views.specs.Owed.{with_charges, with_credits}

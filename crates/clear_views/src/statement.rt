@@ -68,6 +68,8 @@ pub fn firm_records<S: Alter>(
 /// The fault that kept a document, or a part of it, from being made.
 pub fn fault_of(fault: RowFault) -> Fault
     ensures memory { fault ≡ RowFault.Memory → result ≡ Fault.Memory }
+    ensures store { (cause : _) → fault ≡ RowFault.Store cause
+        → result ≡ Fault.Store cause }
 {
     match fault {
         RowFault::Memory => Fault::Memory,

@@ -1,21 +1,19 @@
 //! What is claimed for a worker.
-ghost use Rattle.std.specs.Prelude.{◌≡◌, ◌<◌, ◌^◌, if◌then◌else◌, IfErr, IfOk, IfSome, IsSome};
-ghost use Rattle.std.specs.Prelude.{sum_by};
+ghost use Rattle.std.specs.Prelude.{◌≡◌, ◌<◌, ◌^◌, IfErr, IfOk};
 ghost use Rattle.sqlite.specs.Held.{state};
 ghost use Rattle.sqlite.specs.State.{HasCleanDisk};
 ghost use Rattle.clear_book.specs.RowRanges.{AreInRange};
 ghost use Rattle.clear_book.specs.Tables.{Tables};
-ghost use Rattle.clear_book.specs.Workers.{is_withdrawn};
 ghost use Rattle.clear_schema.specs.Frame.{Leaves};
 ghost use Rattle.clear_schema.specs.Faults.{IsOfDisk};
 ghost use Rattle.clear_schema.specs.Held.{HasTables};
 ghost use Rattle.clear_views.specs.Claimed.{claimed_in};
 
-use clear_book::rows::{ClaimRow, ClaimState};
 use clear_book::rules::StoreCause;
 use clear_ledger::claims::worker_claims;
 use clear_money::numbers::WorkerNo;
 use clear_schema::fault::Fault;
+use clear_texts::balance::claimed_cents;
 use sqlite::{Alter, Transaction};
 
 /// The claims for a worker that aren't withdrawn, in cents.
@@ -33,35 +31,10 @@ pub(super) fn read_claimed<S: Alter>(
     ensures leaves { Leaves S.Store tx.old.conn.now tx.new.conn.now result }
 {
     match worker_claims(tx, worker) {
-        Ok(rows) => match add_claims(rows.as_slice()) {
+        Ok(rows) => match claimed_cents(rows.as_slice()) {
             Some(cents) => Ok(cents),
             None => Err(Fault::Store(StoreCause::Row)),
         },
         Err(fault) => Err(fault),
-    }
-}
-
-// The claims that aren't withdrawn, in cents. None of a sum from 2^64 on.
-fn add_claims(rows: &[ClaimRow]) -> Option<u64>
-    ensures value { IfSome result (λ sum. sum
-        ≡ sum_by (λ row. if is_withdrawn row.state then 0 else row.cents) rows.now) }
-    ensures some { sum_by (λ row. if is_withdrawn row.state then 0 else row.cents) rows.now
-        < 2 ^ 64 → IsSome result }
-{
-    let mut sum: u64 = 0;
-    for row in rows {
-        sum = sum.checked_add(claimed_cents(row))?;
-    }
-    Some(sum)
-}
-
-// What a claim counts, in cents: 0 once it is withdrawn.
-fn claimed_cents(row: &ClaimRow) -> u64
-    ensures { result ≡ if is_withdrawn row.now.state then 0 else row.now.cents }
-{
-    match row.state {
-        ClaimState::Withdrawn => 0,
-        ClaimState::Open => row.cents.cents(),
-        ClaimState::Released(_) => row.cents.cents(),
     }
 }

@@ -1,11 +1,10 @@
 //! What a worker has earned.
-ghost use Rattle.std.specs.Prelude.{◌≡◌, ◌==◌, ◌≤◌, ◌<◌, ◌^◌, IfErr, IfOk, IfSome, IsSome, sum_by};
+ghost use Rattle.std.specs.Prelude.{◌≡◌, ◌==◌, ◌<◌, ◌^◌, IfErr, IfOk, sum_by};
 ghost use Rattle.std.specs.List.{AllByRecursion, list_any};
 ghost use Rattle.sqlite.specs.Held.{state};
 ghost use Rattle.sqlite.specs.State.{HasCleanDisk};
 ghost use Rattle.clear_money.specs.Rates.{rate_in_force};
 ghost use Rattle.clear_book.specs.RowRanges.{AreInRange, IsWageRow};
-ghost use Rattle.clear_book.specs.Limits.{most_gross};
 ghost use Rattle.clear_book.specs.Tables.{Tables, table_entitlement, wages_of_worker};
 ghost use Rattle.clear_book.specs.Workers.{entitlement_for};
 ghost use Rattle.clear_schema.specs.Frame.{Leaves};
@@ -19,6 +18,7 @@ use clear_firms::wages::worker_wages;
 use clear_money::numbers::{EmployerNo, WorkerNo};
 use clear_money::rates::RateTable;
 use clear_schema::fault::Fault;
+use clear_texts::balance::earned_cents;
 use sqlite::{Alter, Transaction};
 
 /// What a worker has earned.
@@ -70,7 +70,7 @@ fn earned_with(rates: &RateTable, rows: &[WageRow], employer: EmployerNo) -> Res
         → sum_by (λ row. entitlement_for (rate_in_force rates.now row.month) row.gross) rows.now
         < 2 ^ 64 → IfErr result IsOfDisk }
 {
-    match add_entitlements(rates, rows) {
+    match earned_cents(rates, rows) {
         Some(entitlement) => Ok(Earned {
             employed: has_line(rows, employer),
             entitlement,
@@ -84,33 +84,4 @@ fn has_line(rows: &[WageRow], employer: EmployerNo) -> bool
     ensures { result ≡ list_any (λ row. row.employer == employer) rows.now }
 {
     rows.iter().any(|row| row.employer == employer)
-}
-
-// What is earned with these lines, in cents. None of a sum from 2^64 on, and of a gross amount that
-// no line has.
-fn add_entitlements(rates: &RateTable, rows: &[WageRow]) -> Option<u64>
-    ensures value { IfSome result (λ sum. sum
-        ≡ sum_by (λ row. entitlement_for (rate_in_force rates.now row.month) row.gross) rows.now) }
-    ensures some { AllByRecursion IsWageRow rows.now
-        → sum_by (λ row. entitlement_for (rate_in_force rates.now row.month) row.gross) rows.now
-        < 2 ^ 64 → IsSome result }
-{
-    let mut sum: u64 = 0;
-    for row in rows {
-        sum = sum.checked_add(entitlement(rates, row)?)?;
-    }
-    Some(sum)
-}
-
-// What is earned with a line, in cents. None of a gross amount that no line has.
-fn entitlement(rates: &RateTable, row: &WageRow) -> Option<u64>
-    ensures value { IfSome result (λ cents. cents
-        ≡ entitlement_for (rate_in_force rates.now row.now.month) row.now.gross) }
-    ensures some { row.now.gross ≤ most_gross → IsSome result }
-{
-    let Some(rate) = rates.in_force(row.month) else {
-        return Some(0);
-    };
-    let scaled = row.gross.checked_mul(u64::from(rate.entitlement_rate()))?;
-    Some(scaled / 10_000)
 }

@@ -1,6 +1,6 @@
 use Rattle.std.proofs.Common.{Ok, sym, ap, ◌∙◌, subst}
 use Rattle.clear_book.specs.declared.calls.Command.TheVariants.{ImportBank}
-use Rattle.clear_book.proofs.RowRangeLemmas.{rows_in_range}
+use Rattle.clear_laws.proofs.RowRangeLemmas.{rows_in_range}
 use Rattle.clear_office.specs.Bodies.{Decides}
 use Rattle.clear_office.proofs.DecisionLemmas.{decides, lines_there}
 use Rattle.clear_rules.proofs.ImportBankLemmas.{lines_read}

@@ -2,7 +2,7 @@ use Rattle.std.proofs.Common.{sym, subst}
 use Rattle.std.specs.Option.{option_map}
 use Rattle.clear_book.specs.declared.calls.Command.TheVariants.{Correct}
 use Rattle.clear_book.specs.Tables.{member_in}
-use Rattle.clear_book.proofs.RowRangeLemmas.{rows_in_range}
+use Rattle.clear_laws.proofs.RowRangeLemmas.{rows_in_range}
 use Rattle.clear_views.proofs.ViewLemmas.{report_viewed}
 use Rattle.clear_office.specs.Bodies.{Decides}
 use Rattle.clear_office.proofs.DecisionLemmas.{decides, correction_there}

@@ -1,6 +1,6 @@
 use Rattle.std.proofs.Common.{sym, subst}
 use Rattle.clear_book.specs.declared.calls.Command.TheVariants.{Report}
-use Rattle.clear_book.proofs.RowRangeLemmas.{rows_in_range}
+use Rattle.clear_laws.proofs.RowRangeLemmas.{rows_in_range}
 use Rattle.clear_views.proofs.ViewLemmas.{report_viewed}
 use Rattle.clear_office.specs.Bodies.{Decides}
 use Rattle.clear_office.proofs.DecisionLemmas.{decides, report_there}

@@ -1,4 +1,4 @@
-use Rattle.clear_book.proofs.FirstLemmas.{first_stands}
+use Rattle.clear_laws.proofs.FirstLemmas.{first_stands}
 use Rattle.clear_book.specs.Book.{first_book}
 use Rattle.clear_schema.specs.First.{first_tables}
 use Rattle.clear_office.proofs.OpenedLemmas.{holds_still, honest_store, keeps_book}

@@ -1,5 +1,5 @@
 use Rattle.std.proofs.Common.{◌≡◌, ◌≤◌, true, false, length, sym, ap, ◌∙◌, arith}
-use Rattle.clear_book.proofs.LawsLemmas.{lawful_small}
+use Rattle.clear_laws.proofs.LawsLemmas.{lawful_small}
 use Rattle.clear_account.specs.Account.{last_day}
 use Rattle.clear_texts.proofs.RecordLemmas.{not_before, not_late, few_interest}
 use Rattle.clear_texts.proofs.arrears.interest_arrears.Goals as goal

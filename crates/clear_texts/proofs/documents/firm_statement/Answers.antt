@@ -1,6 +1,6 @@
 use Rattle.std.proofs.Common.{map, refl, ap, ◌∙◌}
 use Rattle.std.proofs.lemmas.Result.{IfOk-weaker}
-use Rattle.clear_book.proofs.LawsLemmas.{lawful_small}
+use Rattle.clear_laws.proofs.LawsLemmas.{lawful_small}
 use Rattle.clear_book.specs.Own.Statement.{whole_payment}
 use Rattle.clear_texts.proofs.RecordLemmas.{few_told, told, few_paid, same_count}
 use Rattle.clear_texts.proofs.documents.firm_statement.Goals as goal

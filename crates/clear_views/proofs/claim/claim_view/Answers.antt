@@ -1,6 +1,6 @@
 use Rattle.std.proofs.Common.{ap, arith}
 use Rattle.sqlite.specs.Held.{state}
-use Rattle.clear_book.proofs.RowRangeLemmas.{rows_in_range}
+use Rattle.clear_laws.proofs.RowRangeLemmas.{rows_in_range}
 use Rattle.clear_schema.specs.Values.{Counts}
 use Rattle.clear_views.proofs.ClaimLemmas.{claim_viewed, claimed_below, earned_below}
 use Rattle.clear_views.proofs.ReadLemmas.{was_clean, still}

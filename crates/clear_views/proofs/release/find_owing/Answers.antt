@@ -1,6 +1,6 @@
 use Rattle.std.proofs.Common.{◌∙◌, sym}
 use Rattle.sqlite.specs.Held.{state}
-use Rattle.clear_book.proofs.RowRangeLemmas.{rows_in_range}
+use Rattle.clear_laws.proofs.RowRangeLemmas.{rows_in_range}
 use Rattle.clear_views.proofs.ReadLemmas.{was_clean, still}
 use Rattle.clear_views.proofs.ReleaseLemmas.{firm_there}
 use Rattle.clear_views.proofs.release.find_owing.Goals as goal

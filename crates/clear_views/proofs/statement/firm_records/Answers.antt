@@ -2,7 +2,7 @@ use Rattle.std.proofs.Common.{[], ◌∷◌, ◌∙◌, sym}
 use Rattle.sqlite.specs.Held.{state}
 use Rattle.sqlite_trees.proofs.ListLemmas.{all-filter}
 use Rattle.clear_bank.specs.declared.lines.Purpose.TheVariants.{Interest}
-use Rattle.clear_book.proofs.RowRangeLemmas.{rows_in_range}
+use Rattle.clear_laws.proofs.RowRangeLemmas.{rows_in_range}
 use Rattle.clear_book.specs.Lines.{is_credit_of}
 use Rattle.clear_book.specs.RowRanges.{IsCreditRow, IsEmployerRow}
 use Rattle.clear_book.specs.Tables.{employer_key}

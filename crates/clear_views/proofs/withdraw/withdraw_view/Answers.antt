@@ -1,5 +1,5 @@
 use Rattle.sqlite.specs.Held.{state}
-use Rattle.clear_book.proofs.RowRangeLemmas.{rows_in_range}
+use Rattle.clear_laws.proofs.RowRangeLemmas.{rows_in_range}
 use Rattle.clear_views.proofs.ReadLemmas.{was_clean, still}
 use Rattle.clear_views.proofs.ViewLemmas.{withdraw_viewed}
 use Rattle.clear_views.proofs.withdraw.withdraw_view.Goals as goal

@@ -1,14 +1,13 @@
-use Rattle.std.proofs.Common.{◌≡◌, inl, inr, false, ap, refl, rules, IsTrue}
-use Rattle.sqlite.specs.Held.{state}
+use Rattle.std.proofs.Common.{◌≡◌, inl, inr, false, ap, refl, rules}
 use Rattle.clear_book.specs.declared.calls.Call.TheVariants.{Do}
 use Rattle.clear_book.specs.declared.outcomes.Outcome.TheVariants.{Replied, Refused}
 use Rattle.clear_book.specs.Machine.{after, step}
 use Rattle.clear_book.specs.Judge.{judge, outcome_of}
-use Rattle.clear_book.proofs.LimitsLemmas.{takes_lawful}
+use Rattle.clear_laws.proofs.LimitsLemmas.{takes_lawful}
 use Rattle.clear_schema.specs.declared.fault.Fault.TheVariants as fault
 use Rattle.clear_office.specs.Bodies.{IsAdmitted}
 use Rattle.clear_office.specs.Office.{HasSame, LeavesNoMore, MayLeave, Steps}
-use Rattle.clear_office.proofs.StepLemmas.{accepted, accepted_leaves, ended, ended_leaves, ended_rests, ended_same, from_working, still_working}
+use Rattle.clear_office.proofs.StepLemmas.{accepted, accepted_leaves, ended, ended_leaves, ended_rests, ended_same, from_working, rolled_back_stays, still_working}
 use Rattle.clear_office.proofs.office.Office.submit.Goals as goal
 
 pub returns-in-Ok-clause-step : goal.returns-in-Ok-clause-step
@@ -42,7 +41,7 @@ returns-in-Err-clause-step g c =
     c.end.ensures.clean
     (λ clean t has why is. let said = c.in-Err.ensures.refused clean t has why is in (said.0 admitted, said.1))
     (λ clean t has cause is. elim (c.in-Err.ensures.failed clean t has (fault.Store cause) is) [ inl fails ↦ inl (fails admitted) | inr disk ↦ inr disk ])
-    (λ clean t has on. c.in-Err.ensures.stays clean t has on)
+    (λ clean t has on. rolled_back_stays g.S.Store inside.store.conn c.within.new.conn t (c.in-Err.ensures.stays clean t has) (c.in-Err.ensures.was_open clean t has) (c.is_autocommit-outside.ensures.settled (search rules)) has on)
     (λ clean b lawful t stands has trees may. elim ((c.within.ensures.crash t has).crash clean trees may) [ inl before ↦ inl before | inr it ↦ inr (it.1.0, (it.1.2 admitted b lawful stands).1, (it.0, it.1.3, it.2)) ])
     c.end.ensures.told c.end.ensures.failed c.end.ensures.open c.end.ensures.still c.end.ensures.survives
     (λ trees on may. g.met.S.Store.settled c.end.new.self.conn.store trees on may))
@@ -60,7 +59,7 @@ returns-in-Err-clause-crash g c =
     c.end.ensures.clean
     (λ clean t has why is. let said = c.in-Err.ensures.refused clean t has why is in (said.0 admitted, said.1))
     (λ clean t has cause is. elim (c.in-Err.ensures.failed clean t has (fault.Store cause) is) [ inl fails ↦ inl (fails admitted) | inr disk ↦ inr disk ])
-    (λ clean t has on. c.in-Err.ensures.stays clean t has on)
+    (λ clean t has on. rolled_back_stays g.S.Store inside.store.conn c.within.new.conn t (c.in-Err.ensures.stays clean t has) (c.in-Err.ensures.was_open clean t has) (c.is_autocommit-outside.ensures.settled (search rules)) has on)
     (λ clean b lawful t stands has trees may. elim ((c.within.ensures.crash t has).crash clean trees may) [ inl before ↦ inl before | inr it ↦ inr (it.1.0, (it.1.2 admitted b lawful stands).1, (it.0, it.1.3, it.2)) ])
     c.end.ensures.told c.end.ensures.failed c.end.ensures.open c.end.ensures.still c.end.ensures.survives)
 
@@ -80,7 +79,6 @@ returns-in-Err-clause-unchanged g c stays =
     let inside = c.self.inside in
     let working : inside.failed ≡ false = search rules in
     let admitted : IsAdmitted call = search rules in
-    let settled : IsTrue (state g.S.Store inside.store.conn).is_open → (state g.S.Store inside.store.conn).now ≡ (state g.S.Store inside.store.conn).committed = c.is_autocommit-outside.ensures.settled (search rules) in
     from_working inside.store.conn inside.failed c.args.self.now c.self.view_is working (λ a. HasSame g.S.Store a c.end.new.self)
     (ended_same g.S.Store call inside.store.conn c.within.new.conn c.in-Err.stop c.end.new.self c.end.result c.end.ensures.clean
-    (λ clean t has on. c.in-Err.ensures.stays clean t has on) (λ clean t has on. c.in-Err.ensures.was_open clean t has on) c.end.ensures.still settled stays)
+    (λ clean t has on. rolled_back_stays g.S.Store inside.store.conn c.within.new.conn t (c.in-Err.ensures.stays clean t has) (c.in-Err.ensures.was_open clean t has) (c.is_autocommit-outside.ensures.settled (search rules)) has on) c.end.ensures.still stays)

@@ -2,7 +2,7 @@ use Rattle.sqlite.specs.Held.{state}
 use Rattle.clear_book.specs.Book.{request_number}
 use Rattle.clear_book.specs.Keyed.{find_row}
 use Rattle.clear_book.specs.Tables.{request_key}
-use Rattle.clear_book.proofs.RowRangeLemmas.{rows_in_range}
+use Rattle.clear_laws.proofs.RowRangeLemmas.{rows_in_range}
 use Rattle.clear_ledger.specs.Kept.{as_kept}
 use Rattle.clear_views.proofs.ReadLemmas.{still, was_clean}
 use Rattle.clear_office.specs.Bodies.{call_of}

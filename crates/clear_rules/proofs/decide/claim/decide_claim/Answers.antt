@@ -1,4 +1,4 @@
-use Rattle.clear_book.proofs.ClaimTablesLemmas.{Stands-claimed}
+use Rattle.clear_laws.proofs.ClaimTablesLemmas.{Stands-claimed}
 use Rattle.clear_rules.proofs.decide.claim.decide_claim.Goals as goal
 
 pub returns-clause-change : goal.returns-clause-change

@@ -1,4 +1,4 @@
-use Rattle.clear_book.proofs.ReportTablesLemmas.{Stands-corrected}
+use Rattle.clear_laws.proofs.ReportTablesLemmas.{Stands-corrected}
 use Rattle.clear_rules.proofs.decide.correct.decide_correct.Goals as goal
 
 pub returns-clause-change : goal.returns-clause-change

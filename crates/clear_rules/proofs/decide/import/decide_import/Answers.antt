@@ -4,7 +4,7 @@ use Rattle.clear_book.specs.declared.rows.BankRow.{BankRow}
 use Rattle.clear_book.specs.declared.rows.Change.TheVariants.{AddBankLines}
 use Rattle.clear_book.specs.Lines.{lines_in}
 use Rattle.clear_rules.proofs.ImportBankLemmas.{judged_refused, judged_replied, viewed_rows}
-use Rattle.clear_book.proofs.ImportTablesLemmas.{Stands-imported}
+use Rattle.clear_laws.proofs.ImportTablesLemmas.{Stands-imported}
 use Rattle.clear_rules.proofs.decide.import.decide_import.Goals as goal
 
 pub returns-in-Err-clause-judged : goal.returns-in-Err-clause-judged

@@ -1,4 +1,4 @@
-use Rattle.clear_book.proofs.TablesLemmas.{Stands-registered}
+use Rattle.clear_laws.proofs.TablesLemmas.{Stands-registered}
 use Rattle.clear_rules.proofs.decide.register.decide_register.Goals as goal
 
 pub returns-clause-change : goal.returns-clause-change

@@ -1,7 +1,7 @@
 use Rattle.std.proofs.Common.{ℕ, ◌+◌, refl, sym, ap, ◌∙◌}
 use Rattle.std.specs.Option.{option_map}
 use Rattle.clear_rules.specs.declared.decide.release.OwingClaim.{OwingClaim}
-use Rattle.clear_book.proofs.ClaimTablesLemmas.{Stands-released}
+use Rattle.clear_laws.proofs.ClaimTablesLemmas.{Stands-released}
 use Rattle.clear_rules.proofs.decide.release.decide_release.Goals as goal
 
 pub returns-clause-change : goal.returns-clause-change

@@ -1,4 +1,4 @@
-use Rattle.clear_book.proofs.ReportTablesLemmas.{Stands-reported}
+use Rattle.clear_laws.proofs.ReportTablesLemmas.{Stands-reported}
 use Rattle.clear_rules.proofs.decide.report.decide_report.Goals as goal
 
 pub returns-clause-change : goal.returns-clause-change

@@ -1,5 +1,5 @@
 use Rattle.std.proofs.Common.{sym, ◌∙◌}
-use Rattle.clear_book.proofs.ClaimTablesLemmas.{Stands-withdrawn}
+use Rattle.clear_laws.proofs.ClaimTablesLemmas.{Stands-withdrawn}
 use Rattle.clear_rules.proofs.decide.withdraw.decide_withdraw.Goals as goal
 
 pub returns-clause-change : goal.returns-clause-change

@@ -1,7 +1,0 @@
-use Rattle.std.proofs.Common.{refl}
-use Rattle.clear_account.specs.Allocation.{right_pieces}
-use Rattle.clear_book.proofs.examples.law_pieces_of_nothing.Goals as goal
-
-pub returns : goal.returns
-unfolding right_pieces
-returns c = refl

@@ -1,7 +1,0 @@
-use Rattle.std.proofs.Common.{refl}
-use Rattle.clear_account.specs.Allocation.{right_pieces}
-use Rattle.clear_book.proofs.examples.law_pieces_of_two_payments.Goals as goal
-
-pub returns-clause-pieces : goal.returns-clause-pieces
-unfolding right_pieces
-returns-clause-pieces c = refl

@@ -1,5 +1,0 @@
-use Rattle.clear_book.proofs.RepeatLemmas.{again}
-use Rattle.clear_book.proofs.laws.law_2.Goals as goal
-
-pub returns : goal.returns
-returns c b caller number day command reply = again caller number command reply b day

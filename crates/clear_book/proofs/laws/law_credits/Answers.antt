@@ -1,5 +1,0 @@
-use Rattle.clear_book.proofs.CreditsLemmas.{table_credits-credits_of}
-use Rattle.clear_book.proofs.laws.law_credits.Goals as goal
-
-pub returns : goal.returns
-returns c = λ b t e stands. table_credits-credits_of b t stands e

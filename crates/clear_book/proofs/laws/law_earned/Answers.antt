@@ -1,5 +1,0 @@
-use Rattle.clear_book.proofs.EntitlementLemmas.{table_entitlement-entitlement_of}
-use Rattle.clear_book.proofs.laws.law_earned.Goals as goal
-
-pub returns : goal.returns
-returns c = λ b t w lawful stands. table_entitlement-entitlement_of b lawful w t stands

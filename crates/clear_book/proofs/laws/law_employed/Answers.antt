@@ -1,5 +1,0 @@
-use Rattle.clear_book.proofs.EntitlementLemmas.{has_wages-is_employed}
-use Rattle.clear_book.proofs.laws.law_employed.Goals as goal
-
-pub returns : goal.returns
-returns c = λ b t e w lawful stands. has_wages-is_employed b lawful w t stands e

@@ -1,5 +1,0 @@
-use Rattle.clear_book.proofs.WorkersLemmas.{employers_right}
-use Rattle.clear_book.proofs.laws.law_employers.Goals as goal
-
-pub returns : goal.returns
-returns c = employers_right

@@ -1,5 +1,0 @@
-use Rattle.clear_book.proofs.FirstLemmas.{first_stands}
-use Rattle.clear_book.proofs.laws.law_first_tables.Goals as goal
-
-pub returns : goal.returns
-returns c = first_stands

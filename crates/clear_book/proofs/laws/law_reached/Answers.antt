@@ -1,5 +1,0 @@
-use Rattle.clear_book.proofs.ReachedLemmas.{reached}
-use Rattle.clear_book.proofs.laws.law_reached.Goals as goal
-
-pub returns : goal.returns
-returns c = λ b lawful. reached b.opening b.entries lawful

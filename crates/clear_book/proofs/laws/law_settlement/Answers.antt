@@ -1,5 +1,0 @@
-use Rattle.clear_book.proofs.ReleasedLemmas.{settlement_right}
-use Rattle.clear_book.proofs.laws.law_settlement.Goals as goal
-
-pub returns : goal.returns
-returns c = settlement_right

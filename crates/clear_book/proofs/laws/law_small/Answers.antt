@@ -1,5 +1,0 @@
-use Rattle.clear_book.proofs.LawsLemmas.{lawful_small}
-use Rattle.clear_book.proofs.laws.law_small.Goals as goal
-
-pub returns : goal.returns
-returns c = lawful_small

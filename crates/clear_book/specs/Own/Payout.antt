@@ -1,0 +1,9 @@
+-- Payout: a payout list, as a document.
+use Rattle.std.specs.Prelude.{Option, Bool, not}
+use Rattle.clear_book.specs.declared.rules.Rule.{Rule}
+use Rattle.clear_book.specs.declared.rules.Rule.TheVariants.{UnknownDocument}
+use Rattle.clear_book.specs.Checks.{when}
+
+-- the own rule, from whether there is a list of the number
+abbrev pub own_payout : Bool → Option Rule
+own_payout is_there = when (not is_there) UnknownDocument

@@ -1,0 +1,127 @@
+-- The tables that stand for a book are one.
+use Rattle.std.proofs.Common.{◌≡◌, ℕ, List, Option, Some, None, refl, sym, ap, ◌∙◌}
+use Rattle.std.specs.Option.{option_map}
+use Rattle.clear_values.specs.declared.rows.EmployerRow.{EmployerRow}
+use Rattle.clear_values.specs.declared.rows.ReportRow.{ReportRow}
+use Rattle.clear_values.specs.declared.rows.WageRow.{WageRow}
+use Rattle.clear_book.specs.Accounts.{credit_key}
+use Rattle.clear_book.specs.Book.{Book}
+use Rattle.clear_values.specs.Keyed.{find_row, AreInOrder}
+use Rattle.clear_book.specs.Tables.{Tables, Stands, employer_key, report_key, wage_key, bank_key, request_key, member_in}
+use Rattle.clear_values.proofs.KeyedLemmas.{found_key}
+use Rattle.clear_values.proofs.KeyedRowsLemmas.{same_rows}
+use Rattle.clear_values.proofs.KeyedChangesLemmas.{same_rows_by_key}
+
+-- ---- rows told by their keys and values
+
+module _ {Row Value : Type 0} (key : Row → List ℕ) (value : Row → Value) (whole : (x y : Row) → key x ≡ key y → value x ≡ value y → x ≡ y) where
+  -- rows found under one key with one value are one
+  same_found : (xs ys : List Row) (k : List ℕ) → option_map value (find_row key xs k) ≡ option_map value (find_row key ys k) → find_row key xs k ≡ find_row key ys k
+  same_found xs ys k same = told (find_row key xs k) (find_row key ys k) refl refl same
+    where
+      told : (o p : Option Row) → find_row key xs k ≡ o → find_row key ys k ≡ p → option_map value o ≡ option_map value p → o ≡ p
+      told None None e f h = refl
+      told None (Some y) e f h = absurd (cc)
+      told (Some x) None e f h = absurd (cc)
+      told (Some x) (Some y) e f h =
+          let one : value x ≡ value y = cc in
+          ap Some (whole x y (found_key key xs k x e ∙ sym (found_key key ys k y f)) one)
+
+  -- two lists in order are one where the values under the keys of rows agree
+  same_rows_by_value : (xs ys : List Row) → AreInOrder key xs → AreInOrder key ys → ((x : Row) → option_map value (find_row key xs (key x)) ≡ option_map value (find_row key ys (key x))) → xs ≡ ys
+  same_rows_by_value xs ys left right same =
+      same_rows_by_key key xs ys left right (λ x. same_found xs ys (key x) (same x))
+
+-- ---- a key and a value make up the row
+
+-- the number and the rest make up the row
+whole_employer : (x y : EmployerRow) → employer_key x ≡ employer_key y → member_in x ≡ member_in y → x ≡ y
+whole_employer x y keys members =
+    let employers : x.employer ≡ y.employer = cc in
+    (λ i. record { employer = employers i; name = (members i).name; start = (members i).start; last = (members i).last })
+
+-- employer, month and version make up the row
+whole_report : (x y : ReportRow) → report_key x ≡ report_key y → x.version ≡ y.version → x ≡ y
+whole_report x y keys versions =
+    let employers : x.employer ≡ y.employer = cc in
+    let months : x.month ≡ y.month = cc in
+    (λ i. record { employer = employers i; month = months i; version = versions i })
+
+-- employer, month, worker and gross amount make up the row
+whole_wage : (x y : WageRow) → wage_key x ≡ wage_key y → x.gross ≡ y.gross → x ≡ y
+whole_wage x y keys amounts =
+    let employers : x.employer ≡ y.employer = cc in
+    let months : x.month ≡ y.month = cc in
+    let workers : x.worker ≡ y.worker = cc in
+    (λ i. record { employer = employers i; month = months i; worker = workers i; gross = amounts i })
+
+-- ---- each table, then all
+
+module _ (b : Book) (t u : Tables) (left : Stands b t) (right : Stands b u) where
+  -- the employers agree
+  same_employers : t.employers ≡ u.employers
+  same_employers =
+      same_rows_by_value employer_key member_in whole_employer t.employers u.employers left.employers_in_order right.employers_in_order
+      (λ row. left.employers row.employer ∙ sym (right.employers row.employer))
+
+  -- the reports agree
+  same_reports : t.reports ≡ u.reports
+  same_reports =
+      same_rows_by_value report_key (λ row. row.version) whole_report t.reports u.reports left.reports_in_order right.reports_in_order
+      (λ row. left.reports row.employer row.month ∙ sym (right.reports row.employer row.month))
+
+  -- the wages agree
+  same_wages : t.wages ≡ u.wages
+  same_wages =
+      same_rows_by_value wage_key (λ row. row.gross) whole_wage t.wages u.wages left.wages_in_order right.wages_in_order
+      (λ row. left.wages row.employer row.month row.worker ∙ sym (right.wages row.employer row.month row.worker))
+
+  -- the bank lines agree
+  same_bank : t.bank ≡ u.bank
+  same_bank =
+      same_rows bank_key t.bank u.bank left.bank_in_order right.bank_in_order (λ k. left.bank k ∙ sym (right.bank k))
+
+  -- the payments agree
+  same_credits : t.credits ≡ u.credits
+  same_credits =
+      same_rows credit_key t.credits u.credits left.credits_in_order right.credits_in_order (λ k. left.credits k ∙ sym (right.credits k))
+
+  -- the accepted requests agree
+  same_requests : t.requests ≡ u.requests
+  same_requests =
+      same_rows request_key t.requests u.requests left.requests_in_order right.requests_in_order (λ k. left.requests k ∙ sym (right.requests k))
+
+  -- and so do the numbers, and the tables that no command fills yet
+  pub same_tables : t ≡ u
+  same_tables =
+      let day : t.day ≡ u.day = left.day ∙ sym right.day in
+      let rates : t.rates ≡ u.rates = left.rates ∙ sym right.rates in
+      let entries : t.entries ≡ u.entries = left.entries ∙ sym right.entries in
+      let serial : t.serial ≡ u.serial = left.serial ∙ sym right.serial in
+      let claims : t.claims ≡ u.claims = left.claims ∙ sym right.claims in
+      let lists : t.lists ≡ u.lists = left.lists ∙ sym right.lists in
+      let runs : t.runs ≡ u.runs = left.unfilled.runs ∙ sym right.unfilled.runs in
+      let reminders : t.reminders ≡ u.reminders = left.unfilled.reminders ∙ sym right.unfilled.reminders in
+      let last_claim : t.last_claim ≡ u.last_claim = left.last_claim ∙ sym right.last_claim in
+      let last_list : t.last_list ≡ u.last_list = left.last_list ∙ sym right.last_list in
+      let last_run : t.last_run ≡ u.last_run = left.unfilled.last_run ∙ sym right.unfilled.last_run in
+      (λ i.
+      record {
+        rates = rates i;
+        employers = same_employers i;
+        reports = same_reports i;
+        wages = same_wages i;
+        bank = same_bank i;
+        credits = same_credits i;
+        claims = claims i;
+        lists = lists i;
+        runs = runs i;
+        reminders = reminders i;
+        requests = same_requests i;
+        day = day i;
+        entries = entries i;
+        serial = serial i;
+        last_claim = last_claim i;
+        last_list = last_list i;
+        last_run = last_run i;
+      })

@@ -1,0 +1,171 @@
+-- The tables of a book, after a report or a correction more.
+use Rattle.std.proofs.Common.{◌≡◌, ℕ, ◌+◌, List, [], ◌∷◌, ◌++◌, length, Option, Some, None, Bool, true, false, cond, ◌&&◌, ◌==◌, refl, sym, ap, ◌∙◌, subst, arith}
+use Rattle.std.proofs.lemmas.List.{append-nil}
+use Rattle.std.proofs.lemmas.List.Sums.{sum_by-cons}
+use Rattle.std.specs.Option.{option_map}
+use Rattle.clear_book.specs.declared.calls.Call.TheVariants.{Do}
+use Rattle.clear_values.specs.declared.callers.Caller.{Caller}
+use Rattle.clear_book.specs.declared.calls.Command.TheVariants.{Report, Correct}
+use Rattle.clear_book.specs.declared.calls.Correction.{Correction}
+use Rattle.clear_book.specs.declared.calls.WageReport.{WageReport}
+use Rattle.clear_values.specs.declared.replies.Reply.{Reply}
+use Rattle.clear_values.specs.declared.rows.Change.TheVariants.{AddReport, ReplaceReport}
+use Rattle.clear_values.specs.declared.rows.BankRow.{BankRow}
+use Rattle.clear_values.specs.declared.rows.ClaimRow.{ClaimRow}
+use Rattle.clear_values.specs.declared.rows.CreditRow.{CreditRow}
+use Rattle.clear_values.specs.declared.rows.ListRow.{ListRow}
+use Rattle.clear_values.specs.declared.rows.ReportRow.{ReportRow}
+use Rattle.clear_values.specs.declared.rows.WageRow.{WageRow}
+use Rattle.clear_values.specs.declared.texts.WageLine.{WageLine}
+use Rattle.clear_book.specs.Accounts.{credit_key}
+use Rattle.clear_book.specs.Book.{Book, Entry, Member, entry, entry_under, is_for, newer, registered_by, member_of, is_registration, reported_by, latest_lines, is_report_of, version_of, reported_version, rates_added, rates_of}
+use Rattle.clear_book.specs.Judge.{Verdict, new_reply, judge}
+use Rattle.clear_values.specs.Keyed.{find_row, put_row}
+use Rattle.clear_book.specs.Lines.{is_release, lines_seen, rows_by}
+use Rattle.clear_book.specs.Machine.{step, after, appended}
+use Rattle.clear_book.specs.Own.Correct.{own_correct, correct_rules}
+use Rattle.clear_book.specs.Own.Lines.{twice_rule, worker_twice}
+use Rattle.clear_book.specs.Own.Report.{own_report, report_rules}
+use Rattle.clear_book.specs.Tables.{Tables, Stands, report_key, bank_key, version_at, gross_at, gross_of, reported_gross, with_wages, changed, noted}
+use Rattle.clear_book.specs.Workers.{lists_by}
+use Rattle.clear_laws.proofs.ChecksLemmas.{none_applies}
+use Rattle.clear_laws.proofs.DistinctLemmas.{AreDistinct, distinct}
+use Rattle.clear_laws.proofs.ClaimsLemmas.{LeavesClaims, claims_left}
+use Rattle.clear_laws.proofs.JudgeLemmas.{unrefused}
+use Rattle.clear_values.proofs.KeyedChangesLemmas.{find_row-put_row, AreInOrder-put_row, put_row-new}
+use Rattle.clear_laws.proofs.LinesLemmas.{none_moved, none_taken}
+use Rattle.clear_laws.proofs.ListNumbersLemmas.{lists_left}
+use Rattle.clear_laws.proofs.CreditsMadeLemmas.{none_made}
+use Rattle.clear_laws.proofs.RequestLemmas.{requests_found, requests_still_in_order}
+use Rattle.clear_laws.proofs.TablesLemmas.{no_map}
+use Rattle.clear_laws.proofs.VersionLemmas.{is_some-cond, version_of-other, version_of-more, version_of-none, unreported, corrected, reported_some, reported_none, key_is}
+use Rattle.clear_laws.proofs.WagesLemmas.{gross_at-with_wages, with_wages-in_order, with_wages-first}
+
+-- ---- the lines of an accepted report
+
+not_twice : (o : Option ℕ) → twice_rule o ≡ None → o ≡ None
+not_twice None h = refl
+not_twice (Some w) h = absurd (cc)
+
+pub report_distinct : (member : Option Member) (version : Option ℕ) (t m : ℕ) (lines : List WageLine) → own_report member version t m lines ≡ None → AreDistinct lines
+report_distinct member version t m lines h =
+    distinct lines (not_twice (worker_twice lines) (none_applies (report_rules member version t m lines) h).1.1.1.1.0)
+
+pub correction_distinct : (member : Option Member) (version : Option ℕ) (t : ℕ) (c : Correction) → own_correct member version t c ≡ None → AreDistinct c.report.lines
+correction_distinct member version t c h =
+    distinct c.report.lines (not_twice (worker_twice c.report.lines) (none_applies (correct_rules member version t c) h).1.1.1.1.0)
+
+-- ---- a command that reports
+
+-- an entry whose command reports a month, and nothing else
+pub record Reports (xs : List Entry) (x : Entry) (r : WageReport) : Type 0 where
+  pub lines : (e m : ℕ) → reported_by x.command e m ≡ cond (is_for e m r) (Some r.lines) None
+  pub counted : (e m : ℕ) → is_report_of e m x.command ≡ is_for e m r
+  pub nobody : (e : ℕ) → registered_by x.command e ≡ None
+  pub no_registration : is_registration x.command ≡ false
+  pub no_rows : rows_by xs (lines_seen xs) x.command ≡ []
+  pub no_release : is_release x.command ≡ false
+  pub no_claims : LeavesClaims x.day x.reply x.command
+  pub no_list : lists_by x.day x.reply x.command ≡ []
+  pub no_rates : rates_added x.command ≡ []
+
+abbrev version_in : ReportRow → ℕ
+version_in row = row.version
+
+module _ (b : Book) (t : Tables) (stands : Stands b t) (x : Entry) (r : WageReport) (reports : Reports b.entries x r) (version : ℕ) (next : version_of b.entries r.employer r.month + 1 ≡ version) (apart : AreDistinct r.lines) (free : entry_under b.entries x.caller x.number ≡ None) where
+  abbrev row : ReportRow
+  row = record { employer = r.employer; month = r.month; version = version }
+
+  found : (p q : Bool) (o : Option ReportRow) (latest : Option (List WageLine)) (before now : ℕ) → option_map version_in o ≡ option_map (λ lines. before) latest → (p && q ≡ true → now ≡ version) → (p && q ≡ false → now ≡ before) → option_map version_in (cond (p && (q && true)) (Some row) o) ≡ option_map (λ lines. now) (newer (cond (p && q) (Some r.lines) None) latest)
+  found true true o latest before now old one same = ap Some (sym (one refl))
+  found true false o latest before now old one same = old ∙ ap (λ (n : ℕ). option_map (λ lines. n) latest) (sym (same refl))
+  found false q o latest before now old one same = old ∙ ap (λ (n : ℕ). option_map (λ lines. n) latest) (sym (same refl))
+
+  now_version : (e m : ℕ) → is_for e m r ≡ true → version_of (x ∷ b.entries) e m ≡ version
+  now_version e m is =
+      let same = key_is r.employer e r.month m is in
+      let before : version_of b.entries e m + 1 ≡ version = subst (λ (p : ℕ × ℕ). version_of b.entries p.0 p.1 + 1 ≡ version) (λ i. (same.0 i, same.1 i)) next in
+      version_of-more b.entries x e m (reports.counted e m ∙ is) ∙ before
+
+  versions : (e m : ℕ) → version_at (put_row report_key t.reports row) e m ≡ reported_version (x ∷ b.entries) e m
+  versions e m =
+      ap (option_map version_in) (find_row-put_row report_key t.reports row (e ∷ m ∷ []))
+      ∙ found (r.employer == e) (r.month == m) (find_row report_key t.reports (e ∷ m ∷ [])) (latest_lines b.entries e m) (version_of b.entries e m) (version_of (x ∷ b.entries) e m) (stands.reports e m) (now_version e m) (λ no. version_of-other b.entries x e m (reports.counted e m ∙ no))
+      ∙ ap (λ (o : Option (List WageLine)). option_map (λ lines. version_of (x ∷ b.entries) e m) (newer o (latest_lines b.entries e m))) (sym (reports.lines e m))
+
+  gross_found : (p : Bool) (g : Option ℕ) (latest : Option (List WageLine)) (w : ℕ) → g ≡ reported_gross latest w → cond p (gross_of r.lines w) g ≡ reported_gross (newer (cond p (Some r.lines) None) latest) w
+  gross_found true g latest w is = refl
+  gross_found false g latest w is = is
+
+  gross : (e m w : ℕ) → gross_at (with_wages r.employer r.month r.lines t.wages) e m w ≡ reported_gross (latest_lines (x ∷ b.entries) e m) w
+  gross e m w =
+      gross_at-with_wages r.employer r.month r.lines t.wages apart e m w
+      ∙ gross_found (is_for e m r) (gross_at t.wages e m w) (latest_lines b.entries e m) w (stands.wages e m w)
+      ∙ ap (λ (o : Option (List WageLine)). reported_gross (newer o (latest_lines b.entries e m)) w) (sym (reports.lines e m))
+
+  -- the month's row and wages in the place of what stood
+  pub replaced_tables : Stands (appended b x) (noted x (changed (ReplaceReport row r.lines) t))
+  replaced_tables = record {
+    rates = stands.rates ∙ sym (ap (λ more. rates_of b ++ more) reports.no_rates ∙ append-nil (rates_of b));
+    day = refl;
+    entries = omega (arith, stands.entries);
+    employers = λ e. stands.employers e ∙ ap (λ o. newer o (member_of b.entries e)) (sym (reports.nobody e));
+    employer_rows =
+        let none : cond {A = ℕ} (is_registration x.command) 1 0 ≡ 0 = ap (λ b. cond {A = ℕ} b 1 0) reports.no_registration in
+        omega (arith, stands.employer_rows, none, sum_by-cons (λ (y : Entry). cond {A = ℕ} (is_registration y.command) 1 0) x b.entries);
+    employers_in_order = stands.employers_in_order;
+    reports = versions;
+    reports_in_order = AreInOrder-put_row report_key t.reports row stands.reports_in_order;
+    wages = gross;
+    wages_in_order = with_wages-in_order r.employer r.month r.lines t.wages apart stands.wages_in_order;
+    bank = λ reference. stands.bank reference ∙ ap (λ (rows : List BankRow). find_row bank_key rows reference) (sym (none_moved b.entries x reports.no_rows));
+    bank_in_order = stands.bank_in_order;
+    credits = λ k. stands.credits k ∙ ap (λ (rows : List CreditRow). find_row credit_key rows k) (sym (none_made b.entries x reports.no_rows reports.no_release));
+    credits_in_order = stands.credits_in_order;
+    requests = requests_found b t stands x free;
+    requests_in_order = requests_still_in_order b t stands x free;
+    claims = stands.claims ∙ sym (claims_left b.entries x reports.no_claims);
+    last_claim = stands.last_claim ∙ sym (ap (λ (claims : List ClaimRow). length claims) (claims_left b.entries x reports.no_claims));
+    lists = stands.lists ∙ sym (lists_left b.entries x reports.no_list);
+    last_list = stands.last_list ∙ sym (ap (λ (lists : List ListRow). length lists) (lists_left b.entries x reports.no_list));
+    serial = stands.serial ∙ sym (none_taken b.entries x reports.no_rows reports.no_release);
+    unfilled = let unfilled = stands.unfilled in record { runs = unfilled.runs; reminders = unfilled.reminders; last_run = unfilled.last_run };
+  }
+
+  -- for a month that has none, they are one more
+  pub first_tables : find_row report_key t.reports (r.employer ∷ r.month ∷ []) ≡ None → ((w : ℕ) → gross_at t.wages r.employer r.month w ≡ None) → Stands (appended b x) (noted x (changed (AddReport row r.lines) t))
+  first_tables no_row no_wages =
+      subst (λ (p : List ReportRow × List WageRow). Stands (appended b x) (noted x (record t { reports = p.0; wages = p.1 })))
+      (λ i. (put_row-new report_key t.reports row no_row i, with_wages-first r.employer r.month r.lines t.wages no_wages i))
+      replaced_tables
+
+-- ---- the two commands
+
+module _ (b : Book) (t : Tables) (stands : Stands b t) (caller : Caller) (number day : ℕ) where
+  pub Stands-reported : (r : WageReport) (reply : Reply) → judge b (Do caller number day (Report r)) ≡ new_reply reply → (lines : List WageLine) → lines ≡ r.lines
+      → Stands (step b (Do caller number day (Report r))) (noted (entry caller number day (Report r) reply) (changed (AddReport (record { employer = r.employer; month = r.month; version = 1 }) lines) t))
+  Stands-reported r reply judged lines same =
+      let said = unrefused b caller number day (Report r) reply judged in
+      let own = said.unruled in
+      let none = unreported (member_of b.entries r.employer) (reported_version b.entries r.employer r.month) day r.month r.lines own in
+      let no_lines = reported_none b.entries r.employer r.month none in
+      let zero : version_of b.entries r.employer r.month ≡ 0 = version_of-none b.entries r.employer r.month no_lines in
+      let x = entry caller number day (Report r) reply in
+      let there = first_tables b t stands x r (record { lines = λ e m. refl; counted = λ e m. is_some-cond (is_for e m r) r.lines; nobody = λ e. refl; no_registration = refl; no_rows = refl; no_release = refl; no_claims = record { kept = λ claim. refl; none = λ last. refl }; no_list = refl; no_rates = refl }) 1 (omega (arith, zero))
+      (report_distinct (member_of b.entries r.employer) (reported_version b.entries r.employer r.month) day r.month r.lines own) said.free
+      (no_map version_in (find_row report_key t.reports (r.employer ∷ r.month ∷ [])) (stands.reports r.employer r.month ∙ none))
+      (λ w. stands.wages r.employer r.month w ∙ ap (λ (o : Option (List WageLine)). reported_gross o w) no_lines) in
+      subst (λ (p : Verdict × List WageLine). Stands (after b (Do caller number day (Report r)) p.0) (noted x (changed (AddReport (record { employer = r.employer; month = r.month; version = 1 }) p.1) t))) (λ i. (sym judged i, sym same i)) there
+
+  pub Stands-corrected : (c : Correction) (reply : Reply) → judge b (Do caller number day (Correct c)) ≡ new_reply reply → (version : ℕ) → version ≡ c.version + 1 → (lines : List WageLine) → lines ≡ c.report.lines
+      → Stands (step b (Do caller number day (Correct c))) (noted (entry caller number day (Correct c) reply) (changed (ReplaceReport (record { employer = c.report.employer; month = c.report.month; version = version }) lines) t))
+  Stands-corrected c reply judged version more lines same =
+      let said = unrefused b caller number day (Correct c) reply judged in
+      let own = said.unruled in
+      let member = member_of b.entries c.report.employer in
+      let latest = corrected member (reported_version b.entries c.report.employer c.report.month) day c own in
+      let now : version_of b.entries c.report.employer c.report.month ≡ c.version = reported_some b.entries c.report.employer c.report.month c.version latest.0 in
+      let x = entry caller number day (Correct c) reply in
+      let there = replaced_tables b t stands x c.report (record { lines = λ e m. refl; counted = λ e m. is_some-cond (is_for e m c.report) c.report.lines; nobody = λ e. refl; no_registration = refl; no_rows = refl; no_release = refl; no_claims = record { kept = λ claim. refl; none = λ last. refl }; no_list = refl; no_rates = refl }) version (omega (arith, now, more))
+      (correction_distinct member (reported_version b.entries c.report.employer c.report.month) day c own) said.free in
+      subst (λ (p : Verdict × List WageLine). Stands (after b (Do caller number day (Correct c)) p.0) (noted x (changed (ReplaceReport (record { employer = c.report.employer; month = c.report.month; version = version }) p.1) t))) (λ i. (sym judged i, sym same i)) there

@@ -1,0 +1,12 @@
+use Rattle.clear_values.specs.declared.lines.Purpose.TheVariants.{Interest}
+use Rattle.clear_laws.proofs.ConservedLemmas.{contributions_conserved, lines_conserved, paid_conserved}
+use Rattle.clear_laws.proofs.laws.law_conserved.Goals as goal
+
+pub returns-clause-contributions : goal.returns-clause-contributions
+returns-clause-contributions c = λ b lawful. contributions_conserved b lawful
+
+pub returns-clause-interest : goal.returns-clause-interest
+returns-clause-interest c = λ b lawful. paid_conserved b lawful Interest
+
+pub returns-clause-interest_lines : goal.returns-clause-interest_lines
+returns-clause-interest_lines c = λ b lawful. lines_conserved b lawful Interest

@@ -1,0 +1,146 @@
+//! Examples: what definitions come to in small cases. Each is a law without parameters.
+ghost use Rattle.std.specs.Prelude.{◌≡◌, ℕ, ◌+◌, [], ◌∷◌, ◌++◌, codes, filter, map, None};
+ghost use Rattle.std.specs.Prelude.{Some};
+ghost use Rattle.clear_account.specs.Allocation.{prepaid, right_pieces};
+ghost use Rattle.clear_money.specs.Texts.{day_text};
+ghost use Rattle.clear_book.specs.declared.calls.Command.TheVariants.{Register, Report, Correct};
+ghost use Rattle.clear_book.specs.declared.calls.Command.TheVariants.{ImportBank};
+ghost use Rattle.clear_book.specs.declared.calls.Command.TheVariants.{Claim, Withdraw, Release};
+ghost use Rattle.clear_book.specs.declared.calls.Command.TheVariants.{PayoutList};
+ghost use Rattle.clear_values.specs.declared.lines.Purpose.TheVariants.{Contribution};
+ghost use Rattle.clear_values.specs.declared.replies.Reply.TheVariants.{Listed};
+ghost use Rattle.clear_values.specs.declared.rows.ClaimState.TheVariants.{Open};
+ghost use Rattle.clear_book.specs.Accounts.{credits_under};
+ghost use Rattle.clear_book.specs.Conserved.{is_line_of, line_cents};
+ghost use Rattle.clear_book.specs.Documents.Amounts.{amount_text};
+ghost use Rattle.clear_book.specs.Documents.Lines.{missing_line};
+ghost use Rattle.clear_book.specs.Documents.Payout.{payout_text};
+ghost use Rattle.clear_book.specs.Documents.Worker.{worker_text};
+ghost use Rattle.clear_book.specs.Examples.{charge, claim, credit, february, four_claims};
+ghost use Rattle.clear_book.specs.Examples.{january, piece, released, two_lines};
+ghost use Rattle.clear_book.specs.Lines.{credits_of_lines, is_in_suspense};
+ghost use Rattle.clear_book.specs.Own.PayoutList.{payout_list_reply};
+ghost use Rattle.clear_book.specs.Workers.{is_on, is_payable, on_list};
+ghost use Rattle.clear_book.specs.Calls.{command_bytes};
+
+/// Two payments, of which the first reaches a part of January, and the second the rest of it and
+/// February: three pieces, and what is left over is prepaid.
+pub fn law_pieces_of_two_payments()
+    ensures pieces { right_pieces
+        (charge january 200000 ∷ charge february 100010 ∷ [])
+        (credit 1 150000 ∷ credit 2 200000 ∷ [])
+        ≡ piece january 1 150000 ∷ piece january 2 50000 ∷ piece february 2 100010 ∷ [] }
+    ensures prepaid { prepaid
+        (charge january 200000 ∷ charge february 100010 ∷ [])
+        (credit 1 150000 ∷ credit 2 200000 ∷ []) ≡ 49990 }
+{}
+
+/// A third payment that is dated before them comes first, and moves them on.
+pub fn law_pieces_of_an_earlier_payment()
+    ensures { right_pieces
+        (charge january 200000 ∷ charge february 100010 ∷ [])
+        (credit 3 60000 ∷ credit 1 150000 ∷ credit 2 200000 ∷ [])
+        ≡ piece january 3 60000 ∷ piece january 1 140000 ∷ piece february 1 10000
+        ∷ piece february 2 90010 ∷ [] }
+{}
+
+/// A contribution of 0 has no piece.
+pub fn law_pieces_of_nothing()
+    ensures { right_pieces
+        (charge january 0 ∷ charge february 100010 ∷ [])
+        (credit 1 100010 ∷ []) ≡ piece february 1 100010 ∷ [] }
+{}
+
+/// Of two lines for contributions, that of a firm pays January and a part of February, and the one
+/// in suspense pays nothing: what came in is in the pieces and in suspense.
+pub fn law_cents_of_two_lines()
+    ensures all { line_cents Contribution two_lines ≡ 300000 }
+    ensures suspense { line_cents Contribution (filter is_in_suspense two_lines) ≡ 50000 }
+    ensures firm { line_cents Contribution (filter (is_line_of 1001) two_lines) ≡ 250000 }
+    ensures payments { credits_under (credits_of_lines two_lines) 1001 Contribution
+        ≡ credit 1 250000 ∷ [] }
+    ensures pieces { right_pieces
+        (charge january 200000 ∷ charge february 100010 ∷ []) (credit 1 250000 ∷ [])
+        ≡ piece january 1 200000 ∷ piece february 1 50000 ∷ [] }
+{}
+
+/// The bytes under which commands are kept.
+pub fn law_kept_bytes()
+    ensures register { command_bytes
+        (Register (record { employer = 1001; name = codes "Bau Nord"; start = january }))
+        ≡ codes "employer 1001 2024-01 Bau Nord" }
+    ensures report { command_bytes (Report (record {
+      employer = 1001;
+      month = january;
+      lines = record { worker = 7; gross = 1000000 } ∷ record { worker = 8; gross = 50000 } ∷ [];
+    })) ≡ codes "report 1001 2024-01 7:1000000 8:50000" }
+    ensures no_lines { command_bytes
+        (Report (record { employer = 1001; month = january; lines = [] }))
+        ≡ codes "report 1001 2024-01" }
+    ensures correct { command_bytes (Correct (record {
+      report = record {
+        employer = 1001;
+        month = january;
+        lines = record { worker = 7; gross = 500000 } ∷ [];
+      };
+      version = 1;
+    })) ≡ codes "correct 1001 2024-01 1 7:500000" }
+    ensures bank { command_bytes (ImportBank (codes "reference")) ≡ codes "bank reference" }
+    ensures claim { command_bytes
+        (Claim (record { employer = 1001; worker = 7; cents = 10000 }))
+        ≡ codes "claim 1001 7 10000" }
+    ensures withdraw { command_bytes (Withdraw (record { employer = 1001; claim = 1 }))
+        ≡ codes "withdraw 1001 1" }
+    ensures release { command_bytes (Release 1) ≡ codes "release 1" }
+    ensures payout { command_bytes PayoutList ≡ codes "payout" }
+{}
+
+/// A payout list takes the claims of which something is paid out, and leaves one that is set off
+/// whole and an open one; no further list takes any of them again.
+pub fn law_four_claims()
+    ensures reply { payout_list_reply 0 (filter (λ claim. is_payable claim.state)
+        (four_claims None)) ≡ Listed 1 2 49500 }
+    ensures listed { map (on_list 1) (four_claims None) ≡ four_claims (Some 1) }
+    ensures again { filter (λ claim. is_payable claim.state) (four_claims (Some 1)) ≡ [] }
+{}
+
+/// A payout list with its claims.
+pub fn law_payout_text()
+    ensures { (day : ℕ) → payout_text
+        (record { list = 1; day = day; items = 2; total = 49500 })
+        (filter (λ claim. is_on 1 claim.state) (four_claims (Some 1)))
+        ≡ (codes "payout 1 " ++ day_text day ++ codes "\n")
+        ++ codes "claim 1 employer 1001 worker 7         400.00\n"
+        ++ codes "claim 3 employer 1001 worker 7          95.00\n"
+        ++ codes "items 2\ntotal         495.00\n" }
+{}
+
+/// A worker who has a line of 0.00 for a gross of 0, and two claims.
+pub fn law_worker_text()
+    ensures { (day : ℕ) → worker_text (record {
+      worker = 7;
+      day = day;
+      earned = record { employer = 1001; month = january; cents = 14250 }
+          ∷ record { employer = 1002; month = february; cents = 0 } ∷ [];
+      claims = claim 4 1425 Open ∷ claim 5 2500 (released 0 2500 None) ∷ [];
+      balance = 10325;
+    }) ≡ (codes "worker 7 " ++ day_text day ++ codes "\n")
+        ++ codes "earned 1001 2024-01         142.50\n"
+        ++ codes "earned 1002 2024-02           0.00\n"
+        ++ codes "claim 4 employer 1001 open          14.25\n"
+        ++ codes "claim 5 employer 1001 released          25.00\n"
+        ++ codes "balance         103.25\n" }
+{}
+
+/// An amount stands right in 14 places; a wider one takes what it needs.
+pub fn law_amounts()
+    ensures nothing { amount_text 0 ≡ codes "          0.00" }
+    ensures euros { amount_text 49990 ≡ codes "        499.90" }
+    ensures wide { amount_text 1000000000005 ≡ codes "10000000000.05" }
+    ensures wider { amount_text 10000000000050 ≡ codes "100000000000.50" }
+{}
+
+/// A line of a statement.
+pub fn law_missing_line()
+    ensures { missing_line (january + 2) ≡ codes "missing 2024-03\n" }
+{}

@@ -1,0 +1,280 @@
+//! Laws: what follows from the definitions alone. A law has no parameters and no effect; its
+//! contract is the law.
+ghost use Rattle.std.specs.Prelude.{◌≡◌, ◌↔◌, ℕ, ◌+◌, List, ◌∷◌, Bool, true, ◌&&◌, ◌==◌, not};
+ghost use Rattle.std.specs.Prelude.{IsSome, IsTrue, filter, length, map, sum_by, Option, Some};
+ghost use Rattle.std.specs.List.{AllByRecursion, list_any, range_with_len, Contains};
+ghost use Rattle.clear_money.specs.Rates.{Rate, rate_in_force};
+ghost use Rattle.clear_account.specs.Allocation.{right_pieces};
+ghost use Rattle.clear_bank.specs.Laws.{HasNoReferenceTwice};
+ghost use Rattle.clear_values.specs.First.{first_tables};
+ghost use Rattle.clear_values.specs.Keyed.{AreInOrder};
+ghost use Rattle.clear_book.specs.declared.calls.Call.{Call};
+ghost use Rattle.clear_book.specs.declared.calls.Call.TheVariants.{Do};
+ghost use Rattle.clear_values.specs.declared.callers.Caller.{Caller};
+ghost use Rattle.clear_values.specs.declared.lines.Purpose.TheVariants.{Contribution, Interest};
+ghost use Rattle.clear_book.specs.declared.calls.Command.{Command};
+ghost use Rattle.clear_book.specs.declared.calls.Command.TheVariants.{ImportBank};
+ghost use Rattle.clear_book.specs.declared.outcomes.Outcome.{Outcome};
+ghost use Rattle.clear_book.specs.declared.outcomes.Outcome.TheVariants.{Refused};
+ghost use Rattle.clear_values.specs.declared.replies.Reply.{Reply};
+ghost use Rattle.clear_book.specs.declared.rules.Rule.TheVariants.{Failed, Store};
+ghost use Rattle.clear_values.specs.declared.causes.StoreCause.{StoreCause};
+ghost use Rattle.clear_values.specs.declared.causes.StoreCause.TheVariants.{Other};
+ghost use Rattle.clear_book.specs.Accounts.{charges_of, credit_key, credits_of, credits_standing};
+ghost use Rattle.clear_book.specs.Book.{Book, Entry, entry, first_book, latest_lines, rates_of};
+ghost use Rattle.clear_book.specs.Conserved.{firm_cents, interest_cents, pieces_cents};
+ghost use Rattle.clear_book.specs.Conserved.{prepaid_cents, set_off_cents, standing_cents};
+ghost use Rattle.clear_book.specs.Conserved.{suspense_cents};
+ghost use Rattle.clear_book.specs.Judge.{judge, kept_reply, new_reply};
+ghost use Rattle.clear_book.specs.Calls.{command_bytes, same_command};
+ghost use Rattle.clear_book.specs.Laws.{AreCounted, AreEmployers, AreNumbered, AreSorted, IsSmall};
+ghost use Rattle.clear_book.specs.Lines.{credits_after, credits_made, lines_after};
+ghost use Rattle.clear_book.specs.Lines.{lines_of_rows, lines_seen, lines_standing};
+ghost use Rattle.clear_book.specs.Machine.{Goes, IsLawful, Runs, appended, step};
+ghost use Rattle.clear_book.specs.Own.Release.{settlement_of};
+ghost use Rattle.clear_book.specs.Pieces.{piece_rows_of, row_piece};
+ghost use Rattle.clear_book.specs.Calls.{IsCall, IsCommand};
+ghost use Rattle.clear_values.specs.Ranges.{AreRates};
+ghost use Rattle.clear_values.specs.RowRanges.{AreInRange, settled};
+ghost use Rattle.clear_values.specs.declared.rows.ClaimRow.{ClaimRow};
+ghost use Rattle.clear_values.specs.declared.rows.ClaimState.TheVariants.{Released};
+ghost use Rattle.clear_values.specs.declared.rows.ReleasedClaim.{ReleasedClaim};
+ghost use Rattle.clear_book.specs.Tables.{Tables, Stands, table_charges, table_credits};
+ghost use Rattle.clear_book.specs.Tables.{list_key, table_entitlement, wages_of_worker};
+ghost use Rattle.clear_book.specs.Workers.{claimed, claims_of, entitlement_of, is_employed};
+ghost use Rattle.clear_book.specs.Workers.{is_on, is_payable, is_released_since, is_withdrawn};
+ghost use Rattle.clear_book.specs.Workers.{claim_of, last_list_day, list_of, lists_of};
+ghost use Rattle.clear_book.specs.Listed.{IsListOf};
+ghost use Rattle.clear_book.specs.Reached.{IsReached};
+ghost use Rattle.clear_book.specs.Released.{IsReleaseOf, IsSettlement, KeepsList, with_list};
+
+/// A book without entries over a table of rates is lawful.
+pub fn law_first_book()
+    ensures { (rates : List Rate) → AreRates rates
+        → IsLawful (first_book rates) }
+{}
+
+/// The tables of an office without requests are those of the book without entries.
+pub fn law_first_tables()
+    ensures { (rates : List Rate) → Stands (first_book rates) (first_tables rates) }
+{}
+
+/// The rates of a lawful book are ones that a `RateTable` allows: there is a row, the first months
+/// rise strictly, and each row is in its ranges.
+pub fn law_rates()
+    ensures { (b : Book) → IsLawful b → AreRates (rates_of b) }
+{}
+
+/// A rate row is in force for each month of which a lawful book has a report, so a definition that
+/// says something of a month without one is never asked for it.
+pub fn law_rated()
+    ensures { (b : Book) (e m : ℕ) → IsLawful b → IsSome (latest_lines b.entries e m)
+        → IsSome (rate_in_force (rates_of b) m) }
+{}
+
+/// A run over calls whose values lie in their ranges leads from a lawful book to a lawful one.
+pub fn law_lawful()
+    ensures { (failed end : Bool) (b : Book) (calls : List Call) (outcomes : List Outcome)
+        (last : Book) → Runs failed end b calls outcomes last → AllByRecursion IsCall calls
+        → IsLawful b → IsLawful last }
+{}
+
+/// And each lawful book is one that such a run leads to, from the book without entries.
+pub fn law_reached()
+    ensures { (b : Book) → IsLawful b → IsReached b }
+{}
+
+/// Once the store has failed, every outcome is that the office has failed, and the book stays.
+pub fn law_failed()
+    ensures outcomes { (end : Bool) (b : Book) (calls : List Call) (outcomes : List Outcome)
+        (last : Book) → Runs true end b calls outcomes last
+        → AllByRecursion (λ outcome. outcome ≡ Refused Failed) outcomes }
+    ensures book { (end : Bool) (b : Book) (calls : List Call) (outcomes : List Outcome)
+        (last : Book) → Runs true end b calls outcomes last → last ≡ b }
+{}
+
+/// A call that is answered with a fault of the store is so because the store failed: no key that
+/// stands already and no value out of its range is ever to blame.
+pub fn law_store_fault()
+    ensures { (failed then : Bool) (b : Book) (call : Call) (cause : StoreCause) (next : Book)
+        → Goes failed then b call (Refused (Store cause)) next → cause ≡ Other }
+{}
+
+/// A lawful book has at most 50,000,000 entries, its reports at most 10,000 versions of at most 500
+/// lines of at most 10,000,000 cents, a base of at most 5,000,000,000 cents; the charges of a firm
+/// come to at most 12,000,000,000,000 cents; a firm has at most 100,000 payments for each purpose,
+/// together at most 10,000,000,000,000,000 cents; at most 100,000 lines are in suspense, at most
+/// 500,000,000,000 came in, and no more serials than that were given; a worker has earned at most
+/// 240,000,000,000,000 cents, and at most 5,000,000,000,000,000,000 are claimed for it: no sum
+/// leaves its type. No payment has a day after that of the last request.
+pub fn law_small()
+    ensures { (b : Book) → IsLawful b → IsSmall b }
+{}
+
+/// Two tables that stand for one book are equal.
+pub fn law_one_table()
+    ensures { (b : Book) (t u : Tables) → Stands b t → Stands b u → t ≡ u }
+{}
+
+/// Each row of the tables of a lawful book lies in its ranges.
+pub fn law_rows_in_range()
+    ensures { (b : Book) (t : Tables) → IsLawful b → Stands b t → AreInRange t }
+{}
+
+/// The contributions that the tables of a lawful book hold for an employer are those of the book,
+/// the months rising.
+pub fn law_charges()
+    ensures { (b : Book) (t : Tables) (e : ℕ)
+        → IsLawful b → Stands b t → table_charges t e ≡ charges_of b e }
+{}
+
+/// The employers of a lawful book rise strictly, are those that it has registered, and are as many.
+pub fn law_employers()
+    ensures { (b : Book) → IsLawful b → AreEmployers b }
+{}
+
+/// The claims of a book have the numbers 1, 2, 3, .. in the order in which they were made.
+pub fn law_claims()
+    ensures { (b : Book) → AreNumbered (claims_of b.entries) }
+{}
+
+/// What the tables hold of a worker's claims that aren't withdrawn comes to what is claimed in the
+/// book.
+pub fn law_claimed()
+    ensures { (b : Book) (t : Tables) (w : ℕ) → Stands b t
+        → sum_by (λ claim. claim.cents)
+        (filter (λ claim. (claim.worker == w) && not (is_withdrawn claim.state)) t.claims)
+        ≡ claimed b w }
+{}
+
+/// A claim that is released in a lawful book is settled whole: its cents are those of the three
+/// parts. It comes of an entry that is its release, on that entry's day and with that entry's
+/// reply, and no later entry changes its day and its settlement: all that can come is that it goes
+/// on a payout list, and once it is on one, that stays.
+pub fn law_released()
+    ensures whole { (b : Book) (number : ℕ) (claim : ClaimRow) (release : ReleasedClaim)
+        → IsLawful b → claim_of b.entries number ≡ Some claim → claim.state ≡ Released release
+        → settled release.settlement ≡ claim.cents }
+    ensures entry { (b : Book) (number : ℕ) (claim : ClaimRow) (release : ReleasedClaim)
+        → IsLawful b → claim_of b.entries number ≡ Some claim → claim.state ≡ Released release
+        → (x : Entry) × Contains b.entries x × IsReleaseOf number release x }
+    ensures stays { (x : Entry) (b : Book) (number : ℕ) (claim : ClaimRow)
+        (release : ReleasedClaim) → IsLawful (appended b x)
+        → claim_of b.entries number ≡ Some claim → claim.state ≡ Released release
+        → (list : Option ℕ) × KeepsList release.list list
+        × (claim_of (x ∷ b.entries) number ≡ Some (with_list release list claim)) }
+{}
+
+/// The payout lists of a lawful book have the numbers 1, 2, 3, .. in the order in which they were
+/// made. Each has just the claims that are on it, one at least, of each of which something is paid
+/// out, and it comes to their sum. A claim is on no other list than one of them, and one that is on
+/// a list is the same after any further entry, so it is on one list at most. A claim of which
+/// something is to be paid out, on no list yet, was released on the day of the last list or later.
+pub fn law_listed()
+    ensures lists { (b : Book) → IsLawful b
+        → AllByRecursion (IsListOf b.entries) (lists_of b.entries) }
+    ensures numbers { (b : Book) → IsLawful b → map (λ list. list.list) (lists_of b.entries)
+        ≡ range_with_len 1 (length (lists_of b.entries)) }
+    ensures order { (b : Book) → IsLawful b → AreInOrder list_key (lists_of b.entries) }
+    ensures there { (b : Book) → IsLawful b → (number list : ℕ) (claim : ClaimRow)
+        → claim_of b.entries number ≡ Some claim → is_on list claim.state ≡ true
+        → IsSome (list_of b.entries list) }
+    ensures stays { (x : Entry) (b : Book) (number list : ℕ) (claim : ClaimRow)
+        → IsLawful (appended b x) → claim_of b.entries number ≡ Some claim
+        → is_on list claim.state ≡ true → claim_of (x ∷ b.entries) number ≡ Some claim }
+    ensures payable { (b : Book) → IsLawful b → (number : ℕ) (claim : ClaimRow)
+        → claim_of b.entries number ≡ Some claim → is_payable claim.state ≡ true
+        → is_released_since (last_list_day b.entries) claim.state ≡ true }
+{}
+
+/// A settlement is whole: its three parts come to the cents of the claim. No more is set off than
+/// is owed, to interest only where all contributions that are owed are set off, and something is
+/// paid out only where all that is owed is.
+pub fn law_settlement()
+    ensures { (cents owed interest : ℕ)
+        → IsSettlement cents owed interest (settlement_of cents owed interest) }
+{}
+
+/// The pieces of a firm, told with the days and the references of its payments, are those of its
+/// account.
+pub fn law_pieces()
+    ensures { (b : Book) (e : ℕ) → map row_piece (piece_rows_of b e)
+        ≡ right_pieces (charges_of b e) (credits_of b e) }
+{}
+
+/// No cent of a lawful book is lost. What came in for contributions, by standing lines and by
+/// set-offs, is in the pieces of the firms, is prepaid, or is in suspense; the firms' payments of
+/// interest are their standing lines of interest and the set-offs to interest; and each standing
+/// line of interest is a firm's or is in suspense.
+pub fn law_conserved()
+    ensures contributions { (b : Book) → IsLawful b
+        → standing_cents b Contribution + set_off_cents b Contribution
+        ≡ pieces_cents b + prepaid_cents b + suspense_cents b Contribution }
+    ensures interest { (b : Book) → IsLawful b
+        → interest_cents b ≡ firm_cents b Interest + set_off_cents b Interest }
+    ensures interest_lines { (b : Book) → IsLawful b
+        → standing_cents b Interest ≡ firm_cents b Interest + suspense_cents b Interest }
+{}
+
+/// The bank lines and the releases of a book together have the serials 1, 2, 3, .. in the order in
+/// which they came, those of the lines rise, and no reference stands twice.
+pub fn law_bank_lines()
+    ensures counted { (b : Book) → AreCounted b.entries }
+    ensures references { (b : Book) → HasNoReferenceTwice (lines_of_rows (lines_seen b.entries)) }
+{}
+
+/// What stands after a file is what stands in the book with it: the lines, and the payments.
+pub fn law_after_import()
+    ensures lines { (xs : List Entry) (caller : Caller) (number day : ℕ) (file : List ℕ)
+        (reply : Reply) → lines_standing (entry caller number day (ImportBank file) reply ∷ xs)
+        ≡ lines_after xs file }
+    ensures credits { (xs : List Entry) (caller : Caller) (number day : ℕ) (file : List ℕ)
+        (reply : Reply) → credits_made (entry caller number day (ImportBank file) reply ∷ xs)
+        ≡ credits_after xs file }
+{}
+
+/// The payments of a book are those of its standing lines and the set-offs of its releases, in the
+/// strict order of firm, purpose, day and serial.
+pub fn law_credits_standing()
+    ensures { (b : Book) → AreSorted credit_key (credits_standing b.entries)
+        (credits_made b.entries) }
+{}
+
+/// The payments of contributions that the tables hold for an employer are those of the book, by
+/// day, then serial.
+pub fn law_credits()
+    ensures { (b : Book) (t : Tables) (e : ℕ) → Stands b t → table_credits t e ≡ credits_of b e }
+{}
+
+/// What a worker has earned, in cents, by the wage rows that the tables of a lawful book hold is
+/// what it has earned by the book's latest reports.
+pub fn law_earned()
+    ensures { (b : Book) (t : Tables) (w : ℕ)
+        → IsLawful b → Stands b t → table_entitlement t w ≡ entitlement_of b w }
+{}
+
+/// The latest reports of a firm in a lawful book have a line of a worker exactly where the tables
+/// hold a wage row of the two.
+pub fn law_employed()
+    ensures { (b : Book) (t : Tables) (e w : ℕ) → IsLawful b → Stands b t
+        → list_any (λ row. row.employer == e) (wages_of_worker t w) ≡ is_employed b e w }
+{}
+
+/// A command that was accepted and comes again under its number, on any day and after any further
+/// calls, has the reply that it had, and leaves the book.
+pub fn law_2()
+    ensures { (b : Book) (caller : Caller) (number day : ℕ) (command : Command) (reply : Reply)
+        → judge b (Do caller number day command) ≡ new_reply reply
+        → (failed end : Bool) (calls : List Call) (outcomes : List Outcome) (last : Book)
+        → Runs failed end (step b (Do caller number day command)) calls outcomes last
+        → (later : ℕ) → (judge last (Do caller number later command) ≡ kept_reply reply)
+        × (step last (Do caller number later command) ≡ last) }
+{}
+
+/// Two commands are the same exactly where their kinds and each of their values are, and different
+/// commands whose values lie in their ranges have different bytes.
+pub fn law_4()
+    ensures same { (c d : Command) → IsTrue (same_command c d) ↔ (c ≡ d) }
+    ensures bytes { (c d : Command) → IsCommand c → IsCommand d
+        → command_bytes c ≡ command_bytes d → c ≡ d }
+{}

@@ -1,0 +1,116 @@
+//! The payout lists, by their numbers.
+ghost use Rattle.std.specs.Prelude.{◌≡◌, ◌↔◌, ◌≤◌, [], ◌∷◌, true, IsTrue};
+ghost use Rattle.sqlite.specs.Values.{bound};
+ghost use Rattle.clear_values.specs.Keyed.{find_row, with_row};
+ghost use Rattle.clear_values.specs.RowRanges.{IsListRow, IsReply};
+ghost use Rattle.clear_values.specs.Tables.{list_key};
+ghost use Rattle.clear_columns.specs.Keys.{is_held};
+ghost use Rattle.clear_ledger.specs.Shown.{list_shown};
+ghost use Rattle.clear_schema.specs.Frame.{Finds, Writes};
+
+use clear_columns::columns::{count_at, day_at, number_at};
+use clear_columns::parameters::{day, list_no};
+use clear_columns::queries::find;
+use clear_columns::ranges::{is_claimed, is_entry_count, is_list_no};
+use clear_columns::rows::StoredTable;
+use clear_schema::fault::Fault;
+use clear_schema::statement::put;
+use clear_schema::values::number;
+use clear_values::causes::StoreCause;
+use clear_values::numbers::ListNo;
+use clear_values::replies::Reply;
+use clear_values::rows::ListRow;
+use sqlite::{Alter, Row, Transaction};
+use sqlite_value::value::ValueRef;
+
+/// Adds a payout list whose number is free. A number out of 1 to 50,000,000, and counts of claims and
+/// cents that no list can have, are refused with `Fault::Store(StoreCause::Row)`, and nothing is
+/// done.
+pub fn insert_list<S: Alter>(tx: &mut Transaction<'_, S>, row: &ListRow) -> Result<(), Fault>
+    ensures same_reference { tx.new.conn.ghost_name ≡ tx.old.conn.ghost_name }
+    ensures writes { Writes S.Store tx.old.conn.now tx.new.conn.now result (¬ IsListRow row.now)
+        (λ t. is_held list_key row.now t.lists)
+        (λ t. record t { lists = with_row list_key t.lists row.now }) }
+{
+    if !is_list_row(row) {
+        return Err(Fault::Store(StoreCause::Row));
+    }
+    put(
+        tx,
+        "INSERT INTO lists (no, day, items, total) VALUES (?1, ?2, ?3, ?4)",
+        &list_values(row),
+    )
+}
+
+/// The payout list of a number.
+pub fn find_list<S: Alter>(
+    tx: &mut Transaction<'_, S>,
+    list: ListNo,
+) -> Result<Option<ListRow>, Fault>
+    ensures same_reference { tx.new.conn.ghost_name ≡ tx.old.conn.ghost_name }
+    ensures looks { Finds S.Store tx.old.conn.now tx.new.conn.now result IsListRow
+        (λ t. find_row list_key t.lists (list ∷ [])) }
+{
+    find::<S, Lists>(
+        tx,
+        "SELECT no, day, items, total FROM lists WHERE no = ?1",
+        &[list_no(list)],
+    )
+}
+
+/// The table of payout lists.
+pub struct Lists;
+
+impl StoredTable for Lists {
+    ghost use Rattle.clear_ledger.specs.Shown.{list_shown};
+    ghost use Rattle.clear_values.specs.RowRanges.{IsListRow};
+
+    type Row = ListRow;
+
+    ghost shown = { list_shown };
+
+    ghost is_in_range = { IsListRow };
+
+    fn read(row: &Row) -> Result<ListRow, Fault> {
+        let list = ListRow {
+            list: count_at(row, 0)?,
+            day: day_at(row, 1)?,
+            items: number_at(row, 2)?,
+            total: number_at(row, 3)?,
+        };
+        if !is_list_row(&list) {
+            return Err(Fault::Store(StoreCause::Row));
+        }
+        Ok(list)
+    }
+}
+
+// Whether the numbers of a list are in their ranges.
+fn is_list_row(row: &ListRow) -> bool
+    ensures { (result ≡ true) ↔ IsListRow row.now }
+{
+    // A proof reads the range of the day from its type.
+    let _day = row.day.number();
+    is_listed(row.list, row.items, row.total)
+}
+
+/// Whether a payout list can have this number, so many claims and so many cents: 1 to 50,000,000 of
+/// each but the cents, which are at most 5,000,000,000,000,000,000.
+pub fn is_listed(list: u32, items: u64, total: u64) -> bool
+    ensures { IsTrue result ↔ IsReply (Reply.Listed list items total) }
+{
+    is_list_no(list) && items >= 1 && is_entry_count(items) && is_claimed(total)
+}
+
+// The parameters of a statement that writes a row.
+fn list_values(row: &ListRow) -> [ValueRef<'static>; 4]
+    requires { IsListRow row.now }
+    ensures { bound result ≡ list_shown row.now }
+{
+    [
+        number(u64::from(row.list)),
+        day(row.day),
+        number(row.items),
+        number(row.total),
+    ]
+}

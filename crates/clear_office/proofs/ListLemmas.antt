@@ -1,0 +1,42 @@
+-- A payout list that is found is answered by its document.
+use Rattle.std.proofs.Common.{◌≡◌, ℕ, List, [], ◌∷◌, Option, Some, None, filter, is_some, sym, ap, ◌∙◌}
+use Rattle.std.specs.Option.{option_map_or}
+use Rattle.clear_book.specs.declared.calls.Query.TheVariants.{Payout}
+use Rattle.clear_book.specs.declared.outcomes.Answer.TheVariants.{Text}
+use Rattle.clear_book.specs.declared.rows.ClaimRow.{ClaimRow}
+use Rattle.clear_book.specs.declared.rows.ListRow.{ListRow}
+use Rattle.clear_book.specs.declared.rules.Rule.TheVariants.{UnknownDocument}
+use Rattle.clear_book.specs.Book.{Book}
+use Rattle.clear_book.specs.Documents.Payout.{payout_text}
+use Rattle.clear_book.specs.Judge.{answer_to, own_query}
+use Rattle.clear_book.specs.Keyed.{find_row}
+use Rattle.clear_book.specs.Own.Payout.{own_payout}
+use Rattle.clear_book.specs.Tables.{Tables, Stands, list_key}
+use Rattle.clear_book.specs.Workers.{claims_on, is_on, list_of}
+use Rattle.clear_values.proofs.KeyedLemmas.{found_key}
+use Rattle.clear_office.specs.Bodies.{answer_of}
+use Rattle.clear_office.specs.declared.inquiry.Finding.TheVariants as finding
+
+module _ (b : Book) (t : Tables) (n : ℕ) (stands : Stands b t) where
+  -- the list of the tables is that of the book
+  list_is : list_of b.entries n ≡ find_row list_key t.lists (n ∷ [])
+  list_is = ap (λ (rows : List ListRow). find_row list_key rows (n ∷ [])) (sym stands.lists)
+
+  claims_are : (row : ListRow) → row.list ≡ n → filter (λ (claim : ClaimRow). is_on row.list claim.state) t.claims ≡ claims_on b.entries n
+  claims_are row same =
+      ap (λ (k : ℕ). filter (λ (claim : ClaimRow). is_on k claim.state) t.claims) same
+      ∙ ap (λ (claims : List ClaimRow). filter (λ (claim : ClaimRow). is_on n claim.state) claims) stands.claims
+
+  pub found : (day : ℕ) (row : ListRow) → find_row list_key t.lists (n ∷ []) ≡ Some row
+      → (own_query b (Payout n) ≡ None) × (answer_of t (finding.List row) ≡ answer_to b day (Payout n))
+  found day row is =
+      let there : list_of b.entries n ≡ Some row = list_is ∙ is in
+      let number : list_key row ≡ n ∷ [] = found_key list_key t.lists (n ∷ []) row is in
+      let same : row.list ≡ n = cc in (
+        ap (λ (o : Option ListRow). own_payout (is_some o)) there,
+        ap (λ (claims : List ClaimRow). Text (payout_text row claims)) (claims_are row same)
+            ∙ sym (ap (λ (o : Option ListRow). Text (option_map_or (λ list. payout_text list (claims_on b.entries n)) o [])) there),
+      )
+
+  pub unknown : find_row list_key t.lists (n ∷ []) ≡ None → own_query b (Payout n) ≡ Some UnknownDocument
+  unknown is = ap (λ (o : Option ListRow). own_payout (is_some o)) (list_is ∙ is)

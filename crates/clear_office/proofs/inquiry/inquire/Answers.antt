@@ -1,0 +1,43 @@
+use Rattle.std.proofs.Common.{◌≡◌, inl, inr, true, subst}
+use Rattle.sqlite.specs.Held.{state}
+use Rattle.sqlite.specs.Tree.{Trees}
+use Rattle.clear_book.specs.declared.calls.Call.TheVariants.{Ask}
+use Rattle.clear_book.specs.declared.calls.Caller.{Caller}
+use Rattle.clear_book.specs.declared.outcomes.Answer.{Answer}
+use Rattle.clear_book.specs.Calls.{may_query}
+use Rattle.clear_book.specs.Tables.{Tables}
+use Rattle.clear_schema.specs.Held.{HasTables, StandsFor}
+use Rattle.clear_office.specs.Bodies.{IsTold, Tells, answer_of}
+use Rattle.clear_office.specs.declared.inquiry.Finding.{Finding}
+use Rattle.clear_office.specs.declared.inquiry.Finding.TheVariants as finding
+use Rattle.clear_office.proofs.BehindLemmas.{leaves_tables, told_behind}
+use Rattle.clear_office.proofs.inquiry.inquire.Goals as goal
+
+pub returns-in-Ok-List-clause-told : goal.returns-in-Ok-List-clause-told
+returns-in-Ok-List-clause-told g c clean t has =
+    let mid = c.within.new.conn in
+    let new = c.tell_document.new.conn in
+    let query = c.args.query.now in
+    let done = c.in-Ok-List.ensures.done (c.tell_document.ensures.clean clean) t has in
+    let same : done.0 ≡ t = done.1.0 in
+    let now : HasTables t (state g.S.Store mid).now = subst (λ (u : Tables). HasTables u (state g.S.Store mid).now) same done.2 in
+    let committed : HasTables t (state g.S.Store mid).committed = subst (λ (u : Tables). HasTables u (state g.S.Store mid).committed) same done.3 in
+    told_behind g.S.Store mid new t now committed (c.tell_document.ensures.still clean t now)
+    (subst (λ (u : Tables). (trees : Trees) → (state g.S.Store mid).may_leave trees → StandsFor u trees) same done.4) clean (c.tell_document.ensures.survives t now)
+    (λ (answer : Answer). (caller : Caller) → may_query caller query ≡ true → Tells (Ask caller c.args.day query) t answer)
+    (answer_of t (finding.List c.in-Ok-List.list))
+    (subst (λ (found : Finding). (caller : Caller) → may_query caller query ≡ true → Tells (Ask caller c.args.day query) t (answer_of t found)) c.in-Ok-List.field-0-is done.1.2)
+    c.tell_document.result (c.tell_document.ensures.told clean t now) (c.tell_document.ensures.open clean)
+
+pub returns-in-Ok-List-clause-crash : goal.returns-in-Ok-List-clause-crash
+returns-in-Ok-List-clause-crash g c clean t has trees may =
+    let mid = c.within.new.conn in
+    let before = c.tell_document.ensures.clean clean in
+    let done = c.in-Ok-List.ensures.done before t has in
+    let now : HasTables t (state g.S.Store mid).now = subst (λ (u : Tables). HasTables u (state g.S.Store mid).now) done.1.0 done.2 in
+    elim ((c.tell_document.ensures.survives t now).crash clean trees may) [
+      | inl then ↦ leaves_tables g.S.Store c.args.conn.now mid t
+          (λ (u : Tables) (found : Finding). (u ≡ t) × IsTold found × ((caller : Caller) → may_query caller c.args.query.now ≡ true → Tells (Ask caller c.args.day c.args.query.now) t (answer_of t found)))
+          (λ u found does. does.0) (c.within.ensures.crash t has) before trees then
+      | inr none ↦ absurd none
+    ]

@@ -1,0 +1,3 @@
+pub mod PayoutLemmas
+pub mod ReadLemmas
+pub mod ReaderLemmas

@@ -1,0 +1,4 @@
+pub mod Faults
+pub mod Payout
+pub mod Reader
+pub mod Source

@@ -1,0 +1,14 @@
+//! What payout lists and workers' documents are made from, read from the store.
+//!
+//! Inside of a transaction `payout_view` reads what a payout list is judged by, `worker_records` what
+//! a worker's document is made from, and `list_under` a list by its number. They read by keys and by
+//! indexes, so they cost what they find, whatever else the book holds. Outside of one `tell_list`
+//! writes the document of a list, whose claims it reads one at a time: a list may have every claim of
+//! the book. None of them changes anything, and none fails for a key or a row of a lawful book.
+#![tactic(auto)]
+
+pub mod listed;
+pub mod lists;
+pub mod payout;
+pub mod telling;
+pub mod worker;

@@ -1,0 +1,174 @@
+//! What a payout list is judged by.
+ghost use Rattle.std.specs.Prelude.{◌≡◌, ◌≤◌, ◌<◌, ◌^◌, filter, length, sum_by};
+ghost use Rattle.std.specs.Prelude.{IfErr, IfOk, IfSome, IsSome};
+ghost use Rattle.sqlite.specs.Held.{state};
+ghost use Rattle.sqlite.specs.State.{HasCleanDisk};
+ghost use Rattle.clear_values.specs.Limits.{most_entries};
+ghost use Rattle.clear_values.specs.RowRanges.{AreInRange};
+ghost use Rattle.clear_book.specs.Book.{Book};
+ghost use Rattle.clear_book.specs.Machine.{IsLawful};
+ghost use Rattle.clear_book.specs.Tables.{Stands, Tables};
+ghost use Rattle.clear_book.specs.Workers.{is_payable, paid_out};
+ghost use Rattle.clear_firms.specs.Counts.{as_stored};
+ghost use Rattle.clear_rules.specs.Views.PayoutList.{IsPayoutView};
+ghost use Rattle.clear_schema.specs.Frame.{Leaves};
+ghost use Rattle.clear_schema.specs.Faults.{IsOfDisk};
+ghost use Rattle.clear_schema.specs.Held.{HasTables};
+ghost use Rattle.clear_schema.specs.Values.{counts_of};
+ghost use Rattle.clear_reading.specs.Payout.{AreAmong, AreSince, IsViewOf, day_of_list};
+
+use crate::lists::list_under;
+use clear_firms::counts::Counts;
+use clear_ledger::claims::claims_released_since;
+use clear_money::days::Day;
+use clear_rules::decide::payout::PayoutView;
+use clear_schema::fault::Fault;
+use clear_texts::payout::paid_cents;
+use clear_values::causes::StoreCause;
+use clear_values::numbers::ListNo;
+use clear_values::rows::{ClaimRow, ClaimState};
+use sqlite::{Alter, Transaction};
+
+/// What a payout list is judged by, where these counts stand: the claims of which something is to be
+/// paid out, by their numbers, what that comes to, and the number that the list is to have.
+///
+/// It takes one search for the last list, and reads each claim that was released on its day or later
+/// once: what was to be paid out before is on a list. What no book holds is refused with
+/// `Fault::Store(StoreCause::Row)`: besides a value out of its range, more lists than can be counted,
+/// and amounts whose sum is not below 2^64 cents.
+pub fn payout_view<S: Alter>(
+    tx: &mut Transaction<'_, S>,
+    counts: &Counts,
+) -> Result<PayoutView, Fault>
+    ensures same_reference { tx.new.conn.ghost_name ≡ tx.old.conn.ghost_name }
+    // Each is a claim of the table, and none stands twice.
+    ensures claims { HasCleanDisk (state S.Store tx.new.conn.now)
+        → (t : Tables) → HasTables t (state S.Store tx.old.conn.now).now
+        → IfOk result (λ view. AreAmong view.payable.items t.claims) }
+    ensures view { HasCleanDisk (state S.Store tx.new.conn.now)
+        → (t : Tables) → HasTables t (state S.Store tx.old.conn.now).now
+        → as_stored counts.now ≡ counts_of t → (b : Book) → IsLawful b → Stands b t
+        → IfOk result (IsPayoutView b) }
+    ensures fault { HasCleanDisk (state S.Store tx.new.conn.now)
+        → (t : Tables) → HasTables t (state S.Store tx.old.conn.now).now
+        → as_stored counts.now ≡ counts_of t → (b : Book) → IsLawful b → Stands b t
+        → IfErr result IsOfDisk }
+    ensures leaves { Leaves S.Store tx.old.conn.now tx.new.conn.now result }
+{
+    let Some(next) = counts.lists.checked_add(1) else {
+        return Err(Fault::Store(StoreCause::Row));
+    };
+    match ListNo::new(u64::from(counts.lists)) {
+        Some(last) => payable_after(tx, last, next),
+        None => payable_since(tx, first_day(), next),
+    }
+}
+
+// What is to be paid out, where this is the number of the last list: no claim of which something is
+// to be paid out was released before its day.
+fn payable_after<S: Alter>(
+    tx: &mut Transaction<'_, S>,
+    last: ListNo,
+    next: u32,
+) -> Result<PayoutView, Fault>
+    ensures same_reference { tx.new.conn.ghost_name ≡ tx.old.conn.ghost_name }
+    ensures claims { HasCleanDisk (state S.Store tx.new.conn.now)
+        → (t : Tables) → HasTables t (state S.Store tx.old.conn.now).now
+        → IfOk result (λ view. AreAmong view.payable.items t.claims) }
+    ensures view { HasCleanDisk (state S.Store tx.new.conn.now)
+        → (t : Tables) → HasTables t (state S.Store tx.old.conn.now).now
+        → AreSince (day_of_list t.lists last) t.claims → IfOk result (IsViewOf t.claims next) }
+    ensures fault { HasCleanDisk (state S.Store tx.new.conn.now)
+        → (t : Tables) → HasTables t (state S.Store tx.old.conn.now).now
+        → AreInRange t → length t.claims ≤ most_entries → IfErr result IsOfDisk }
+    ensures leaves { Leaves S.Store tx.old.conn.now tx.new.conn.now result }
+{
+    match list_under(tx, last) {
+        Ok(Some(list)) => payable_since(tx, list.day, next),
+        Ok(None) => payable_since(tx, first_day(), next),
+        Err(fault) => Err(fault),
+    }
+}
+
+// What is to be paid out, where no claim of which something is to be paid out was released before
+// this day.
+fn payable_since<S: Alter>(
+    tx: &mut Transaction<'_, S>,
+    since: Day,
+    next: u32,
+) -> Result<PayoutView, Fault>
+    ensures same_reference { tx.new.conn.ghost_name ≡ tx.old.conn.ghost_name }
+    ensures claims { HasCleanDisk (state S.Store tx.new.conn.now)
+        → (t : Tables) → HasTables t (state S.Store tx.old.conn.now).now
+        → IfOk result (λ view. AreAmong view.payable.items t.claims) }
+    ensures view { HasCleanDisk (state S.Store tx.new.conn.now)
+        → (t : Tables) → HasTables t (state S.Store tx.old.conn.now).now
+        → AreSince since t.claims → IfOk result (IsViewOf t.claims next) }
+    ensures fault { HasCleanDisk (state S.Store tx.new.conn.now)
+        → (t : Tables) → HasTables t (state S.Store tx.old.conn.now).now
+        → AreInRange t → length t.claims ≤ most_entries → IfErr result IsOfDisk }
+    ensures leaves { Leaves S.Store tx.old.conn.now tx.new.conn.now result }
+{
+    match claims_released_since(tx, since) {
+        Ok(rows) => view_of(rows, next),
+        Err(fault) => Err(fault),
+    }
+}
+
+// The view of the claims among these of which something is to be paid out.
+fn view_of(rows: Vec<ClaimRow>, next: u32) -> Result<PayoutView, Fault>
+    ensures view { IfOk result (IsViewOf rows.items next) }
+    ensures fault { sum_by (λ row. paid_out row.state)
+        (filter (λ row. is_payable row.state) rows.items) < 2 ^ 64 → IfErr result IsOfDisk }
+{
+    let mut payable = rows;
+    keep_payable(&mut payable);
+    match add_paid(payable.as_slice()) {
+        Some(total) => Ok(PayoutView {
+            payable,
+            total,
+            next,
+        }),
+        None => Err(Fault::Store(StoreCause::Row)),
+    }
+}
+
+// Keeps the claims of which something is to be paid out.
+fn keep_payable(rows: &mut Vec<ClaimRow>)
+    ensures { rows.new.items ≡ filter (λ row. is_payable row.state) rows.old.items }
+{
+    rows.retain(|row| is_payable(row));
+}
+
+// What is paid out of claims together, in cents. None of a sum from 2^64 on.
+fn add_paid(rows: &[ClaimRow]) -> Option<u64>
+    ensures value { IfSome result (λ sum. sum ≡ sum_by (λ row. paid_out row.state) rows.now) }
+    ensures some { sum_by (λ row. paid_out row.state) rows.now < 2 ^ 64 → IsSome result }
+{
+    let mut sum: u64 = 0;
+    for row in rows {
+        sum = sum.checked_add(paid_cents(row))?;
+    }
+    Some(sum)
+}
+
+// Whether something of a claim is to be paid out: it is released, and on no list yet.
+fn is_payable(row: &ClaimRow) -> bool
+    ensures { result ≡ is_payable row.now.state }
+{
+    match row.state {
+        ClaimState::Open => false,
+        ClaimState::Withdrawn => false,
+        ClaimState::Released(release) => { release.settlement.paid > 0 && release.list.is_none() }
+    }
+}
+
+// 2000-01-01.
+fn first_day() -> Day
+    ensures { result ≡ 10957 }
+{
+    match Day::new(10_957) {
+        Some(day) => day,
+        None => unreachable!(),
+    }
+}

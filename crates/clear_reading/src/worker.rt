@@ -1,0 +1,55 @@
+//! The records of a worker's document.
+ghost use Rattle.std.specs.Prelude.{◌≡◌, IfErr, IfOk};
+ghost use Rattle.sqlite.specs.Held.{state};
+ghost use Rattle.sqlite.specs.State.{HasCleanDisk};
+ghost use Rattle.clear_book.specs.Book.{Book};
+ghost use Rattle.clear_book.specs.Machine.{IsLawful};
+ghost use Rattle.clear_book.specs.Tables.{Stands, Tables};
+ghost use Rattle.clear_schema.specs.Frame.{Leaves};
+ghost use Rattle.clear_schema.specs.Faults.{IsOfDisk};
+ghost use Rattle.clear_schema.specs.Held.{HasTables};
+ghost use Rattle.clear_texts.specs.Records.{AreWorkerRecords};
+
+use clear_firms::rates::rate_table;
+use clear_firms::wages::worker_wages;
+use clear_ledger::claims::worker_claims;
+use clear_money::numbers::WorkerNo;
+use clear_schema::fault::Fault;
+use clear_texts::records::WorkerRecords;
+use sqlite::{Alter, Transaction};
+
+/// The records of a worker's document: the rates, its lines in the latest reports of all firms, by
+/// firm and month, and all claims for it by their numbers, withdrawn ones too.
+///
+/// It reads the rates, and each of these lines and claims once, whatever else the book holds.
+pub fn worker_records<S: Alter>(
+    tx: &mut Transaction<'_, S>,
+    worker: WorkerNo,
+) -> Result<WorkerRecords, Fault>
+    ensures same_reference { tx.new.conn.ghost_name ≡ tx.old.conn.ghost_name }
+    ensures records { HasCleanDisk (state S.Store tx.new.conn.now)
+        → (t : Tables) → HasTables t (state S.Store tx.old.conn.now).now
+        → (b : Book) → IsLawful b → Stands b t
+        → IfOk result (AreWorkerRecords b worker) }
+    ensures fault { HasCleanDisk (state S.Store tx.new.conn.now)
+        → (t : Tables) → HasTables t (state S.Store tx.old.conn.now).now
+        → (b : Book) → IsLawful b → Stands b t → IfErr result IsOfDisk }
+    ensures leaves { Leaves S.Store tx.old.conn.now tx.new.conn.now result }
+{
+    let rates = match rate_table(tx) {
+        Ok(rates) => rates,
+        Err(fault) => return Err(fault),
+    };
+    let wages = match worker_wages(tx, worker) {
+        Ok(rows) => rows,
+        Err(fault) => return Err(fault),
+    };
+    match worker_claims(tx, worker) {
+        Ok(claims) => Ok(WorkerRecords {
+            rates,
+            wages,
+            claims,
+        }),
+        Err(fault) => Err(fault),
+    }
+}

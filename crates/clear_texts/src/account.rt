@@ -1,0 +1,113 @@
+//! What the records of a worker say of it.
+ghost use Rattle.std.specs.Prelude.{◌≡◌, ◌≤◌, ◌<◌, ◌^◌, IfErr, IfOk, IfSome, IsSome, filter};
+ghost use Rattle.std.specs.Prelude.{map, not};
+ghost use Rattle.std.specs.List.{AllByRecursion};
+ghost use Rattle.clear_book.specs.Limits.{most_gross};
+ghost use Rattle.clear_book.specs.RowRanges.{IsWageRow};
+ghost use Rattle.clear_book.specs.Workers.{is_withdrawn};
+ghost use Rattle.clear_texts.specs.Earned.{account_told, claimed_total, earned_total, earned_told};
+
+use crate::balance::{claimed_cents, earned_cents, entitlement, is_withdrawn};
+use crate::records::WorkerRecords;
+use crate::rows::RowFault;
+use crate::worker::WorkerAccount;
+use clear_book::documents::EarnedLine;
+use clear_book::rows::{ClaimRow, WageRow};
+use clear_book::rules::StoreCause;
+use clear_money::days::Day;
+use clear_money::numbers::WorkerNo;
+use clear_money::rates::RateTable;
+use std::alloc::Global;
+
+/// What is told of a worker on a day. Amounts whose sum is not below 2^64 cents are refused with
+/// `StoreCause::Row`, and so is a gross amount that no line has.
+pub(crate) fn worker_account(
+    alloc: Global,
+    worker: WorkerNo,
+    day: Day,
+    records: &WorkerRecords,
+) -> Result<WorkerAccount, RowFault>
+    ensures account { IfOk result (λ account. account ≡ account_told worker day records.now) }
+    ensures fault { AllByRecursion IsWageRow records.now.wages.items
+        → earned_total records.now < 2 ^ 64 → claimed_total records.now < 2 ^ 64
+        → IfErr result (λ fault. fault ≡ RowFault.Memory) }
+{
+    let Some(earned) = earned_cents(&records.rates, records.wages.as_slice()) else {
+        return Err(RowFault::Store(StoreCause::Row));
+    };
+    let Some(claimed) = claimed_cents(records.claims.as_slice()) else {
+        return Err(RowFault::Store(StoreCause::Row));
+    };
+    let lines = match earned_lines(alloc, &records.rates, records.wages.as_slice()) {
+        Ok(lines) => lines,
+        Err(fault) => return Err(fault),
+    };
+    let claims = match standing_claims(alloc, records.claims.as_slice()) {
+        Ok(claims) => claims,
+        Err(fault) => return Err(fault),
+    };
+    Ok(WorkerAccount {
+        worker,
+        day,
+        earned: lines,
+        claims,
+        balance: earned.saturating_sub(claimed),
+    })
+}
+
+// The lines of what is earned.
+fn earned_lines(
+    alloc: Global,
+    rates: &RateTable,
+    rows: &[WageRow],
+) -> Result<Vec<EarnedLine>, RowFault>
+    ensures lines { IfOk result (λ lines. lines.items ≡ map (earned_told rates.now) rows.now) }
+    ensures fault { AllByRecursion IsWageRow rows.now
+        → IfErr result (λ fault. fault ≡ RowFault.Memory) }
+{
+    let mut lines = Vec::new(alloc);
+    for row in rows {
+        let line = match earned_line(rates, row) {
+            Some(line) => line,
+            None => return Err(RowFault::Store(StoreCause::Row)),
+        };
+        match lines.push(line) {
+            Ok(()) => {}
+            Err(_) => return Err(RowFault::Memory),
+        }
+    }
+    Ok(lines)
+}
+
+// What a wage row earns. None of a gross amount that no line has.
+fn earned_line(rates: &RateTable, row: &WageRow) -> Option<EarnedLine>
+    ensures value { IfSome result (λ line. line ≡ earned_told rates.now row.now) }
+    ensures some { row.now.gross ≤ most_gross → IsSome result }
+{
+    match entitlement(rates, row) {
+        Some(cents) => Some(EarnedLine {
+            employer: row.employer,
+            month: row.month,
+            cents,
+        }),
+        None => None,
+    }
+}
+
+// The claims that aren't withdrawn.
+fn standing_claims(alloc: Global, rows: &[ClaimRow]) -> Result<Vec<ClaimRow>, RowFault>
+    ensures claims { IfOk result (λ claims. claims.items
+        ≡ filter (λ claim. not (is_withdrawn claim.state)) rows.now) }
+    ensures fault { IfErr result (λ fault. fault ≡ RowFault.Memory) }
+{
+    let mut claims = Vec::new(alloc);
+    for row in rows {
+        if !is_withdrawn(&row.state) {
+            match claims.push(*row) {
+                Ok(()) => {}
+                Err(_) => return Err(RowFault::Memory),
+            }
+        }
+    }
+    Ok(claims)
+}
