@@ -1,7 +1,9 @@
 -- The book: the opening rates and the accepted requests, and what is read off it.
 use Rattle.std.specs.Prelude.{ℕ, List, [], ◌∷◌, ◌++◌, Option, Some, None, Bool}
 use Rattle.std.specs.Prelude.{◌&&◌, ◌==◌, if◌then◌else◌, count_by, is_some}
-use Rattle.std.specs.Prelude.{option_and_then}
+use Rattle.std.specs.Prelude.{filter, option_and_then}
+use Rattle.std.specs.List.{last_or}
+use Rattle.clear_money.specs.Calendar.{months}
 use Rattle.std.specs.Option.{option_map}
 use Rattle.clear_money.specs.Rates.{Rate}
 use Rattle.clear_values.specs.declared.texts.WageLine.{WageLine}
@@ -10,7 +12,8 @@ use Rattle.clear_book.specs.declared.calls.Call.TheVariants.{Do}
 use Rattle.clear_values.specs.declared.callers.Caller.{Caller}
 use Rattle.clear_book.specs.declared.calls.Command.{Command}
 use Rattle.clear_book.specs.declared.calls.Command.TheVariants.{Register, Report, Correct}
-use Rattle.clear_book.specs.declared.calls.Command.TheVariants.{ImportBank}
+use Rattle.clear_book.specs.declared.calls.Command.TheVariants.{AddRate, EndMembership}
+use Rattle.clear_book.specs.declared.calls.Command.TheVariants.{ImportBank, Assign}
 use Rattle.clear_book.specs.declared.calls.Command.TheVariants.{Claim, Withdraw, Release}
 use Rattle.clear_book.specs.declared.calls.Command.TheVariants.{PayoutList}
 use Rattle.clear_book.specs.declared.calls.Registration.{Registration}
@@ -63,10 +66,13 @@ entry_under xs caller number =
 
 -- the rate rows that a command adds
 abbrev pub rates_added : Command → List Rate
+rates_added (AddRate row) = row ∷ []
 rates_added (Register r) = []
+rates_added (EndMembership end) = []
 rates_added (Report r) = []
 rates_added (Correct c) = []
 rates_added (ImportBank file) = []
+rates_added (Assign a) = []
 rates_added (Claim c) = []
 rates_added (Withdraw w) = []
 rates_added (Release claim) = []
@@ -91,14 +97,22 @@ abbrev pub member_by : ℕ → Registration → Option Member
 member_by e r =
     if r.employer == e then Some (record { name = r.name; start = r.start; last = None }) else None
 
--- what a command registers for an employer
-abbrev pub registered_by : Command → ℕ → Option Member
-registered_by command e = option_and_then (member_by e) (registration_in command)
+-- a member whose last month is this one
+abbrev pub ended : ℕ → Member → Member
+ended last member = record member { last = Some last }
+
+-- what a command makes of an employer, from what it was before: a registration and an end concern
+-- their own, and no other command does any
+abbrev pub member_after : Option Member → Command → ℕ → Option Member
+member_after old (Register r) e = newer (member_by e r) old
+member_after old (EndMembership end) e =
+    if end.employer == e then option_map (ended end.last) old else old
+member_after old command e = old
 
 -- an employer, if it is registered
 abbrev pub member_of : List Entry → ℕ → Option Member
 member_of [] e = None
-member_of (x ∷ xs) e = newer (registered_by x.command e) (member_of xs e)
+member_of (x ∷ xs) e = member_after (member_of xs e) x.command e
 
 -- a command that registers an employer
 abbrev pub is_registration : Command → Bool
@@ -134,6 +148,14 @@ latest_lines (x ∷ xs) e m = newer (reported_by x.command e m) (latest_lines xs
 -- a command that reports for the employer and the month
 abbrev pub is_report_of : ℕ → ℕ → Command → Bool
 is_report_of e m command = is_some (reported_by command e m)
+
+-- the months of an employer that have a report, rising
+abbrev pub reported_months : List Entry → ℕ → List ℕ
+reported_months xs e = filter (λ m. is_some (latest_lines xs e m)) months
+
+-- the greatest of them, if there is one
+abbrev pub last_reported : List Entry → ℕ → Option ℕ
+last_reported xs e = last_or None (reported_months xs e)
 
 -- how many reports of a month there were
 abbrev pub version_of : List Entry → ℕ → ℕ → ℕ

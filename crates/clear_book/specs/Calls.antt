@@ -1,28 +1,33 @@
 -- What calls are, one by one: who may make each, when two commands are the same and under which
 -- bytes one is kept, and the values that a call has. A further request is a case in each.
-use Rattle.std.specs.Prelude.{ℕ, ◌<◌, ◌^◌, List, ◌++◌, Bool, true, false, ◌&&◌, ◌==◌}
-use Rattle.std.specs.Prelude.{bytes_eq, codes}
+use Rattle.std.specs.Prelude.{ℕ, ◌<◌, ◌^◌, List, [], ◌∷◌, ◌++◌, Bool, true, false, ◌&&◌, ◌==◌}
+use Rattle.std.specs.Prelude.{◌≡◌, bytes_eq, codes}
 use Rattle.std.specs.Cmp.Lexicographic.{pointwise}
 use Rattle.std.specs.List.{flat_map, AllByRecursion}
 use Rattle.std.specs.Fmt.{decimal}
 use Rattle.clear_money.specs.Texts.{month_text}
 use Rattle.clear_money.specs.Calendar.{IsMonth, IsDay}
 use Rattle.clear_money.specs.Numbers.{IsAmount, IsEmployerNo, IsWorkerNo}
+use Rattle.clear_money.specs.Rates.{Rate, IsRate}
 use Rattle.clear_values.specs.declared.callers.Caller.{Caller}
 use Rattle.clear_values.specs.declared.callers.Caller.TheVariants.{Firm, Clerk}
 use Rattle.clear_values.specs.declared.texts.WageLine.{WageLine}
 use Rattle.clear_values.specs.Numbers.{IsClaimNo, IsListNo, IsRequestNo}
 use Rattle.clear_values.specs.Ranges.{IsCaller}
-use Rattle.clear_values.specs.Texts.{IsName}
+use Rattle.clear_values.specs.Texts.{IsName, is_reference}
 use Rattle.clear_book.specs.declared.calls.Command.{Command}
 use Rattle.clear_book.specs.declared.calls.Command.TheVariants.{Register, Report, Correct}
-use Rattle.clear_book.specs.declared.calls.Command.TheVariants.{ImportBank}
+use Rattle.clear_book.specs.declared.calls.Command.TheVariants.{AddRate, EndMembership}
+use Rattle.clear_book.specs.declared.calls.Command.TheVariants.{ImportBank, Assign}
 use Rattle.clear_book.specs.declared.calls.Command.TheVariants.{Claim, Withdraw, Release}
 use Rattle.clear_book.specs.declared.calls.Command.TheVariants.{PayoutList}
 use Rattle.clear_book.specs.declared.calls.Query.{Query}
 use Rattle.clear_book.specs.declared.calls.Query.TheVariants.{Owed, Statement, Worker, Payout}
+use Rattle.clear_book.specs.declared.calls.Query.TheVariants.{Suspense}
+use Rattle.clear_book.specs.declared.calls.Assignment.{Assignment}
 use Rattle.clear_book.specs.declared.calls.Correction.{Correction}
 use Rattle.clear_book.specs.declared.calls.HolidayClaim.{HolidayClaim}
+use Rattle.clear_book.specs.declared.calls.MembershipEnd.{MembershipEnd}
 use Rattle.clear_book.specs.declared.calls.Registration.{Registration}
 use Rattle.clear_book.specs.declared.calls.WageReport.{WageReport}
 use Rattle.clear_book.specs.declared.calls.Withdrawal.{Withdrawal}
@@ -35,21 +40,25 @@ use Rattle.clear_book.specs.declared.calls.Call.TheVariants.{Do, Ask}
 -- claims, and give no other command
 abbrev pub may_do : Caller → Command → Bool
 may_do Clerk command = true
+may_do (Firm e) (AddRate row) = false
 may_do (Firm e) (Register r) = false
+may_do (Firm e) (EndMembership end) = false
 may_do (Firm e) (Report r) = e == r.employer
 may_do (Firm e) (Correct c) = e == c.report.employer
 may_do (Firm e) (ImportBank file) = false
+may_do (Firm e) (Assign a) = false
 may_do (Firm e) (Claim c) = e == c.employer
 may_do (Firm e) (Withdraw w) = e == w.employer
 may_do (Firm e) (Release claim) = false
 may_do (Firm e) PayoutList = false
 
--- a firm may ask what it owes itself, and nothing of workers and lists
+-- a firm may ask what it owes itself, and nothing of workers, lines in suspense and lists
 abbrev pub may_query : Caller → Query → Bool
 may_query Clerk query = true
 may_query (Firm e) (Owed employer) = e == employer
 may_query (Firm e) (Statement employer) = e == employer
 may_query (Firm e) (Worker worker) = false
+may_query (Firm e) Suspense = false
 may_query (Firm e) (Payout list) = false
 
 -- ---- the same as values
@@ -63,11 +72,29 @@ abbrev pub same_report : WageReport → WageReport → Bool
 same_report r s =
     (r.employer == s.employer) && (r.month == s.month) && pointwise same_line r.lines s.lines
 
+-- the same first month, rates and days
+abbrev pub same_rate : Rate → Rate → Bool
+same_rate r s =
+    (r.first == s.first) && (r.contribution_rate == s.contribution_rate)
+    && (r.report_day == s.report_day) && (r.due_day == s.due_day)
+    && (r.interest_rate == s.interest_rate) && (r.entitlement_rate == s.entitlement_rate)
+
+-- the same row of rates
+abbrev pub adds_the_same : Rate → Command → Bool
+adds_the_same r (AddRate s) = same_rate r s
+adds_the_same r command = false
+
 -- the registration of the same employer, name and first month
 abbrev pub is_registration_of : Registration → Command → Bool
 is_registration_of r (Register s) =
     (r.employer == s.employer) && bytes_eq r.name s.name && (r.start == s.start)
 is_registration_of r command = false
+
+-- the end of the same membership with the same month
+abbrev pub ends_the_same : MembershipEnd → Command → Bool
+ends_the_same end (EndMembership other) =
+    (end.employer == other.employer) && (end.last == other.last)
+ends_the_same end command = false
 
 -- the same report
 abbrev pub reports_the_same : WageReport → Command → Bool
@@ -83,6 +110,12 @@ corrects_the_same c command = false
 abbrev pub imports_the_same : List ℕ → Command → Bool
 imports_the_same f (ImportBank g) = bytes_eq f g
 imports_the_same f command = false
+
+-- the same line for the same employer
+abbrev pub assigns_the_same : Assignment → Command → Bool
+assigns_the_same a (Assign b) =
+    bytes_eq a.reference b.reference && (a.employer == b.employer)
+assigns_the_same a command = false
 
 -- the claim of the same employer for the same worker and the same cents
 abbrev pub claims_the_same : HolidayClaim → Command → Bool
@@ -107,10 +140,13 @@ is_payout_list command = false
 
 -- the same kind of command, and each of its values the same
 abbrev pub same_command : Command → Command → Bool
+same_command (AddRate r) command = adds_the_same r command
 same_command (Register r) command = is_registration_of r command
+same_command (EndMembership end) command = ends_the_same end command
 same_command (Report r) command = reports_the_same r command
 same_command (Correct c) command = corrects_the_same c command
 same_command (ImportBank f) command = imports_the_same f command
+same_command (Assign a) command = assigns_the_same a command
 same_command (Claim c) command = claims_the_same c command
 same_command (Withdraw w) command = withdraws_the_same w command
 same_command (Release claim) command = releases_the_same claim command
@@ -126,18 +162,34 @@ line_text line = codes " " ++ decimal line.worker ++ codes ":" ++ decimal line.g
 abbrev pub lines_text : List WageLine → List ℕ
 lines_text lines = flat_map line_text lines
 
+-- numbers, each behind a space
+abbrev pub numbers_text : List ℕ → List ℕ
+numbers_text numbers = flat_map (λ n. codes " " ++ decimal n) numbers
+
+-- the numbers of a row of rates: its contribution rate, report day, due day, interest rate and
+-- entitlement rate
+abbrev pub rate_numbers : Rate → List ℕ
+rate_numbers r =
+    r.contribution_rate ∷ r.report_day ∷ r.due_day ∷ r.interest_rate ∷ r.entitlement_rate ∷ []
+
 -- the word of a command and its values, with a space between them; a name stands last, and so do
 -- the bytes of a bank file
 abbrev pub command_bytes : Command → List ℕ
+command_bytes (AddRate r) =
+    codes "rate " ++ month_text r.first ++ numbers_text (rate_numbers r)
 command_bytes (Register r) =
     codes "employer " ++ decimal r.employer ++ codes " " ++ month_text r.start
     ++ codes " " ++ r.name
+command_bytes (EndMembership end) =
+    codes "end " ++ decimal end.employer ++ codes " " ++ month_text end.last
 command_bytes (Report r) =
     codes "report " ++ decimal r.employer ++ codes " " ++ month_text r.month ++ lines_text r.lines
 command_bytes (Correct c) =
     codes "correct " ++ decimal c.report.employer ++ codes " " ++ month_text c.report.month
     ++ codes " " ++ decimal c.version ++ lines_text c.report.lines
 command_bytes (ImportBank file) = codes "bank " ++ file
+command_bytes (Assign a) =
+    codes "assign " ++ a.reference ++ codes " " ++ decimal a.employer
 command_bytes (Claim c) =
     codes "claim " ++ decimal c.employer ++ codes " " ++ decimal c.worker
     ++ codes " " ++ decimal c.cents
@@ -159,10 +211,13 @@ IsReport r = IsEmployerNo r.employer × IsMonth r.month × AllByRecursion IsWage
 -- the values of a command; a correction may name any version of 32 bits, and any bytes may be a
 -- bank file
 abbrev pub IsCommand : Command → Type 0
+IsCommand (AddRate r) = IsRate r
 IsCommand (Register r) = IsEmployerNo r.employer × IsName r.name × IsMonth r.start
+IsCommand (EndMembership end) = IsEmployerNo end.employer × IsMonth end.last
 IsCommand (Report r) = IsReport r
 IsCommand (Correct c) = (c.version < 2 ^ 32) × IsReport c.report
 IsCommand (ImportBank file) = Unit {0}
+IsCommand (Assign a) = (is_reference a.reference ≡ true) × IsEmployerNo a.employer
 IsCommand (Claim c) = IsEmployerNo c.employer × IsWorkerNo c.worker × IsAmount c.cents
 IsCommand (Withdraw w) = IsEmployerNo w.employer × IsClaimNo w.claim
 IsCommand (Release claim) = IsClaimNo claim
@@ -173,6 +228,7 @@ abbrev pub IsQuery : Query → Type 0
 IsQuery (Owed employer) = IsEmployerNo employer
 IsQuery (Statement employer) = IsEmployerNo employer
 IsQuery (Worker worker) = IsWorkerNo worker
+IsQuery Suspense = Unit {0}
 IsQuery (Payout list) = IsListNo list
 
 -- the values of a call

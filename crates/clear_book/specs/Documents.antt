@@ -3,4 +3,5 @@ pub mod Amounts
 pub mod Lines
 pub mod Payout
 pub mod Statement
+pub mod Suspense
 pub mod Worker

@@ -8,11 +8,13 @@ use Rattle.clear_book.specs.declared.calls.Call.{Call}
 use Rattle.clear_book.specs.declared.calls.Call.TheVariants.{Do, Ask}
 use Rattle.clear_book.specs.declared.calls.Command.{Command}
 use Rattle.clear_book.specs.declared.calls.Command.TheVariants.{Register, Report, Correct}
-use Rattle.clear_book.specs.declared.calls.Command.TheVariants.{ImportBank}
+use Rattle.clear_book.specs.declared.calls.Command.TheVariants.{AddRate, EndMembership}
+use Rattle.clear_book.specs.declared.calls.Command.TheVariants.{ImportBank, Assign}
 use Rattle.clear_book.specs.declared.calls.Command.TheVariants.{Claim, Withdraw, Release}
 use Rattle.clear_book.specs.declared.calls.Command.TheVariants.{PayoutList}
 use Rattle.clear_book.specs.declared.calls.Query.{Query}
 use Rattle.clear_book.specs.declared.calls.Query.TheVariants.{Owed, Statement, Worker, Payout}
+use Rattle.clear_book.specs.declared.calls.Query.TheVariants.{Suspense}
 use Rattle.clear_book.specs.declared.outcomes.Answer.{Answer}
 use Rattle.clear_book.specs.declared.outcomes.Answer.TheVariants.{Text}
 use Rattle.clear_book.specs.declared.outcomes.Outcome.{Outcome}
@@ -24,17 +26,22 @@ use Rattle.clear_book.specs.declared.rules.Rule.TheVariants.{NotYours, NumberReu
 use Rattle.clear_book.specs.declared.rules.Rule.TheVariants.{OverLimit}
 use Rattle.clear_book.specs.Calls.{may_do, may_query}
 use Rattle.clear_book.specs.Book.{Book, Entry, entry_under, rates_of, ledger_day, member_of}
-use Rattle.clear_book.specs.Book.{employer_count, reported_version}
+use Rattle.clear_book.specs.Book.{employer_count, last_reported, reported_version}
 use Rattle.clear_book.specs.Checks.{when, first_of}
 use Rattle.clear_book.specs.Documents.Payout.{payout_text}
 use Rattle.clear_book.specs.Documents.Statement.{statement_text}
+use Rattle.clear_book.specs.Documents.Suspense.{suspense_text}
 use Rattle.clear_book.specs.Documents.Worker.{worker_text}
 use Rattle.clear_book.specs.Calls.{same_command}
 use Rattle.clear_values.specs.Limits.{most_entries}
-use Rattle.clear_book.specs.Lines.{credit_count, credits_after, lines_after, lines_of_rows}
-use Rattle.clear_book.specs.Lines.{lines_seen, rows_brought, suspense_count}
+use Rattle.clear_book.specs.Lines.{credit_count, credits_after, credits_made, line_of}
+use Rattle.clear_book.specs.Lines.{lines_after, lines_in_suspense, lines_of_rows, lines_seen}
+use Rattle.clear_book.specs.Lines.{rows_brought, suspense_count}
+use Rattle.clear_book.specs.Own.AddRate.{own_add_rate, add_rate_reply}
+use Rattle.clear_book.specs.Own.Assign.{own_assign, assign_reply}
 use Rattle.clear_book.specs.Own.Claim.{own_claim, claim_reply}
 use Rattle.clear_book.specs.Own.Correct.{own_correct, correct_reply}
+use Rattle.clear_book.specs.Own.EndMembership.{own_end, end_reply}
 use Rattle.clear_book.specs.Own.ImportBank.{own_import, import_reply}
 use Rattle.clear_book.specs.Own.Owed.{own_owed, owed_by}
 use Rattle.clear_book.specs.Own.Payout.{own_payout}
@@ -73,9 +80,12 @@ is_full entry_count = nat_le most_entries entry_count
 
 -- the first of a command's own rules that applies
 abbrev pub own_rule : Book → ℕ → Command → Option Rule
+own_rule b t (AddRate row) = own_add_rate (rates_of b) t row.first
 own_rule b t (Register r) =
     own_register (is_some (member_of b.entries r.employer)) (employer_count b.entries)
     (is_some (rate_in_force (rates_of b) r.start))
+own_rule b t (EndMembership end) =
+    own_end (member_of b.entries end.employer) (last_reported b.entries end.employer) end.last
 own_rule b t (Report r) =
     own_report (member_of b.entries r.employer)
     (reported_version b.entries r.employer r.month) t r.month r.lines
@@ -87,6 +97,9 @@ own_rule b t (ImportBank file) =
     (rows_brought b.entries (lines_seen b.entries) file)
     (suspense_count (lines_after b.entries file)) (credit_count (credits_after b.entries file))
     t file
+own_rule b t (Assign a) =
+    own_assign (is_some (member_of b.entries a.employer)) (line_of b.entries a.reference)
+    (credit_count (credits_made b.entries) a.employer)
 own_rule b t (Claim c) =
     own_claim (is_some (member_of b.entries c.employer)) (is_employed b c.employer c.worker)
     (balance_of b c.worker) c.cents
@@ -99,11 +112,14 @@ own_rule b t PayoutList = own_payout_list (payable_claims b.entries)
 
 -- the reply, on a day, to a command that no rule refuses
 abbrev pub reply_to : Book → ℕ → Command → Reply
+reply_to b t (AddRate row) = add_rate_reply
 reply_to b t (Register r) = register_reply
+reply_to b t (EndMembership end) = end_reply
 reply_to b t (Report r) = report_reply (rate_in_force (rates_of b) r.month) r.lines
 reply_to b t (Correct c) = correct_reply c (rate_in_force (rates_of b) c.report.month)
 reply_to b t (ImportBank file) =
     import_reply (rows_brought b.entries (lines_seen b.entries) file) file
+reply_to b t (Assign a) = assign_reply
 reply_to b t (Claim c) = claim_reply (length (claims_of b.entries))
 reply_to b t (Withdraw w) = withdraw_reply
 reply_to b t (Release claim) =
@@ -116,6 +132,7 @@ abbrev pub own_query : Book → Query → Option Rule
 own_query b (Owed employer) = own_owed (is_some (member_of b.entries employer))
 own_query b (Statement employer) = own_statement (is_some (member_of b.entries employer))
 own_query b (Worker worker) = None
+own_query b Suspense = None
 own_query b (Payout list) = own_payout (is_some (list_of b.entries list))
 
 -- the statement of an employer on a day, and nothing of one that isn't registered
@@ -135,6 +152,7 @@ abbrev pub answer_to : Book → ℕ → Query → Answer
 answer_to b t (Owed employer) = owed_by b employer t
 answer_to b t (Statement employer) = Text (statement_on b t employer)
 answer_to b t (Worker worker) = Text (worker_text (worker_on b t worker))
+answer_to b t Suspense = Text (suspense_text t (lines_in_suspense b.entries))
 answer_to b t (Payout list) = Text (payout_of b list)
 
 -- the rule in place of what is said, if one applies

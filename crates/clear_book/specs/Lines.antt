@@ -11,13 +11,16 @@ use Rattle.clear_values.specs.declared.lines.Purpose.{Purpose}
 use Rattle.clear_bank.specs.Files.{file_lines}
 use Rattle.clear_bank.specs.Newness.{Placed, is_new}
 use Rattle.clear_book.specs.declared.calls.Command.{Command}
-use Rattle.clear_book.specs.declared.calls.Command.TheVariants.{ImportBank, Release}
+use Rattle.clear_book.specs.declared.calls.Assignment.{Assignment}
+use Rattle.clear_book.specs.declared.calls.Command.TheVariants.{ImportBank, Assign, Release}
 use Rattle.clear_values.specs.declared.replies.Reply.{Reply}
 use Rattle.clear_values.specs.declared.rows.BankRow.{BankRow}
 use Rattle.clear_values.specs.declared.rows.CreditRow.{CreditRow}
 use Rattle.clear_book.specs.Book.{Entry, member_of}
 use Rattle.clear_book.specs.Workers.{claim_of, released_by}
+use Rattle.clear_values.specs.Keyed.{find_row, is_key}
 use Rattle.clear_values.specs.Limits.{most_records}
+use Rattle.clear_values.specs.Tables.{bank_key}
 pub use Rattle.clear_values.specs.Credits.{is_in_suspense, line_credit, credit_of_line}
 pub use Rattle.clear_values.specs.Credits.{credits_of_lines, is_credit_of, set_offs_of}
 
@@ -110,19 +113,32 @@ abbrev pub serials_given : List Entry → List ℕ
 serials_given [] = []
 serials_given (x ∷ xs) = serials_given xs ++ serials_by xs (lines_seen xs) x.command
 
--- the firm of a line that was seen: the one that was found for it when it came in
-abbrev pub firm_of_line : List Entry → BankRow → Option ℕ
-firm_of_line xs row = row.employer
+-- a line after an assignment: the one of its reference is its firm's, and keeps its serial
+abbrev pub assigned : Assignment → BankRow → BankRow
+assigned a row =
+    if is_key (bank_key row) a.reference then record row { employer = Some a.employer } else row
 
--- a line that was seen, as it stands: under its firm or in suspense
-abbrev pub standing : List Entry → BankRow → BankRow
-standing xs row = record row { employer = firm_of_line xs row }
+-- lines that stand, after a command
+abbrev pub moved_by : Command → List BankRow → List BankRow
+moved_by (Assign a) rows = map (assigned a) rows
+moved_by command rows = rows
 
--- each line that was seen stands
+-- the lines that were seen, as they stand: each under the firm that was found for it when it came
+-- in or that it was assigned to, and else in suspense
 abbrev pub lines_standing : List Entry → List BankRow
-lines_standing xs = map (standing xs) (lines_seen xs)
+lines_standing [] = []
+lines_standing (x ∷ xs) =
+    moved_by x.command (lines_standing xs) ++ rows_by xs (lines_seen xs) x.command
+
+-- the line of a reference, if there is one
+abbrev pub line_of : List Entry → List ℕ → Option BankRow
+line_of xs reference = find_row bank_key (lines_standing xs) reference
 
 -- ---- suspense and credits
+
+-- the lines in suspense, by their serials
+abbrev pub lines_in_suspense : List Entry → List BankRow
+lines_in_suspense xs = filter is_in_suspense (lines_standing xs)
 
 -- how many lines are in suspense
 abbrev pub suspense_count : List BankRow → ℕ

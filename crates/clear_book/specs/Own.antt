@@ -1,6 +1,9 @@
 -- The own rules and the reply of each request.
+pub mod AddRate
+pub mod Assign
 pub mod Claim
 pub mod Correct
+pub mod EndMembership
 pub mod ImportBank
 pub mod Lines
 pub mod Owed

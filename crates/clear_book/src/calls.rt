@@ -3,17 +3,21 @@
 ghost use Rattle.std.specs.Prelude.{◌≡◌, ◌++◌, IfOk};
 ghost use Rattle.std.specs.Fmt.{decimal};
 ghost use Rattle.std.specs.List.{AllByRecursion};
+ghost use Rattle.clear_money.specs.Rates.{IsRate};
 ghost use Rattle.clear_money.specs.Texts.{month_text};
-ghost use Rattle.clear_book.specs.declared.calls.Command.TheVariants.{Claim, Withdraw};
+ghost use Rattle.clear_book.specs.declared.calls.Command.TheVariants.{AddRate, Assign, Claim};
+ghost use Rattle.clear_book.specs.declared.calls.Command.TheVariants.{EndMembership, Withdraw};
 ghost use Rattle.clear_book.specs.Calls.{command_bytes as kept_bytes, line_text, lines_text};
+ghost use Rattle.clear_book.specs.Calls.{numbers_text};
 ghost use Rattle.clear_book.specs.Calls.{IsCommand, IsReport, IsWageLine, may_do, may_query};
 
 use crate::files::BankFile;
 use crate::numbers::{ClaimNo, ListNo, RequestNo};
-use crate::texts::{Name, WageLine, WageLines};
+use crate::texts::{Name, Reference, WageLine, WageLines};
 use clear_money::days::Day;
 use clear_money::months::Month;
 use clear_money::numbers::{Amount, EmployerNo, WorkerNo};
+use clear_money::rates::RateRow;
 pub use clear_values::callers::Caller;
 use std::alloc::{AllocError, Global};
 
@@ -23,6 +27,13 @@ pub struct Registration {
     pub employer: EmployerNo,
     pub name: Name,
     pub start: Month,
+}
+
+/// A firm leaves: `last` is its last member month, once for good.
+#[derive(Clone, Copy)]
+pub struct MembershipEnd {
+    pub employer: EmployerNo,
+    pub last: Month,
 }
 
 /// What a firm's workers earned in a month.
@@ -39,6 +50,13 @@ pub struct Correction {
     pub report: WageReport,
     /// The version that it is to replace.
     pub version: u32,
+}
+
+/// A bank line in suspense is given to a firm.
+#[derive(Drop)]
+pub struct Assignment {
+    pub reference: Reference,
+    pub employer: EmployerNo,
 }
 
 /// A firm claims the holiday pay back that it has advanced to a worker.
@@ -59,10 +77,14 @@ pub struct Withdrawal {
 /// What changes the book, if it is accepted.
 #[derive(Drop)]
 pub enum Command {
+    /// The rates from a month on, behind those that stand.
+    AddRate(RateRow),
     Register(Registration),
+    EndMembership(MembershipEnd),
     Report(WageReport),
     Correct(Correction),
     ImportBank(BankFile),
+    Assign(Assignment),
     Claim(HolidayClaim),
     Withdraw(Withdrawal),
     /// The clerk settles a claim.
@@ -80,6 +102,8 @@ pub enum Query {
     Statement { employer: EmployerNo },
     /// What a worker has earned, what is claimed for it, and its balance.
     Worker { worker: WorkerNo },
+    /// The bank lines in suspense.
+    Suspense,
     /// A payout list.
     Payout { list: ListNo },
 }
@@ -107,10 +131,13 @@ pub fn may(caller: Caller, command: &Command) -> bool
     match caller {
         Caller::Clerk => true,
         Caller::Firm(firm) => match command {
+            Command::AddRate(_) => false,
             Command::Register(_) => false,
+            Command::EndMembership(_) => false,
             Command::Report(report) => firm == report.employer,
             Command::Correct(correction) => firm == correction.report.employer,
             Command::ImportBank(_) => false,
+            Command::Assign(_) => false,
             Command::Claim(claim) => firm == claim.employer,
             Command::Withdraw(withdrawal) => firm == withdrawal.employer,
             Command::Release(_) => false,
@@ -129,6 +156,7 @@ pub fn may_ask(caller: Caller, query: &Query) -> bool
             Query::Owed { employer } => firm == *employer,
             Query::Statement { employer } => firm == *employer,
             Query::Worker { .. } => false,
+            Query::Suspense => false,
             Query::Payout { .. } => false,
         },
     }
@@ -141,6 +169,7 @@ pub fn command_bytes(alloc: Global, command: &Command) -> Result<Vec<u8>, AllocE
 {
     let mut out = Vec::new(alloc);
     match command {
+        Command::AddRate(row) => append_rate(&mut out, row)?,
         Command::Register(registration) => {
             let employer = u64::from(registration.employer.number());
             append_number(&mut out, b"employer ", employer)?;
@@ -148,6 +177,7 @@ pub fn command_bytes(alloc: Global, command: &Command) -> Result<Vec<u8>, AllocE
             out.extend_from_slice(b" ")?;
             out.extend_from_slice(registration.name.as_str().as_bytes())?;
         }
+        Command::EndMembership(end) => append_end(&mut out, end)?,
         Command::Report(report) => {
             append_number(&mut out, b"report ", u64::from(report.employer.number()))?;
             append_month(&mut out, b" ", report.month)?;
@@ -164,6 +194,7 @@ pub fn command_bytes(alloc: Global, command: &Command) -> Result<Vec<u8>, AllocE
             out.extend_from_slice(b"bank ")?;
             out.extend_from_slice(file.as_slice())?;
         }
+        Command::Assign(assignment) => append_assignment(&mut out, assignment)?,
         Command::Claim(claim) => append_claim(&mut out, claim)?,
         Command::Withdraw(withdrawal) => append_withdrawal(&mut out, withdrawal)?,
         Command::Release(claim) => {
@@ -172,6 +203,50 @@ pub fn command_bytes(alloc: Global, command: &Command) -> Result<Vec<u8>, AllocE
         Command::PayoutList => out.extend_from_slice(b"payout")?,
     }
     Ok(out)
+}
+
+// Appends the word and the values of a row of rates.
+fn append_rate(out: &mut Vec<u8>, row: &RateRow) -> Result<(), AllocError>
+    ensures { IfOk result (λ _. out.new.items ≡ out.old.items ++ kept_bytes (AddRate row.now)) }
+{
+    append_month(out, b"rate ", row.first())?;
+    let numbers = [
+        u64::from(row.contribution_rate()),
+        u64::from(row.report_day()),
+        u64::from(row.due_day()),
+        u64::from(row.interest_rate()),
+        u64::from(row.entitlement_rate()),
+    ];
+    append_numbers(out, &numbers)
+}
+
+// Appends numbers in decimal, each behind a space.
+fn append_numbers(out: &mut Vec<u8>, numbers: &[u64]) -> Result<(), AllocError>
+    ensures { IfOk result (λ _. out.new.items ≡ out.old.items ++ numbers_text numbers.now) }
+{
+    for number in numbers {
+        append_number(out, b" ", *number)?;
+    }
+    Ok(())
+}
+
+// Appends the word and the values of an end.
+fn append_end(out: &mut Vec<u8>, end: &MembershipEnd) -> Result<(), AllocError>
+    ensures { IfOk result
+        (λ _. out.new.items ≡ out.old.items ++ kept_bytes (EndMembership end.now)) }
+{
+    append_number(out, b"end ", u64::from(end.employer.number()))?;
+    append_month(out, b" ", end.last)
+}
+
+// Appends the word and the values of an assignment.
+fn append_assignment(out: &mut Vec<u8>, assignment: &Assignment) -> Result<(), AllocError>
+    ensures { IfOk result
+        (λ _. out.new.items ≡ out.old.items ++ kept_bytes (Assign assignment.now)) }
+{
+    let reference = assignment.reference.as_str().as_bytes();
+    append_part(out, b"assign ", reference)?;
+    append_number(out, b" ", u64::from(assignment.employer.number()))
 }
 
 // Appends the word and the values of a claim.
@@ -190,6 +265,14 @@ fn append_withdrawal(out: &mut Vec<u8>, withdrawal: &Withdrawal) -> Result<(), A
 {
     append_number(out, b"withdraw ", u64::from(withdrawal.employer.number()))?;
     append_number(out, b" ", u64::from(withdrawal.claim.number()))
+}
+
+// Appends two texts.
+fn append_part(out: &mut Vec<u8>, before: &[u8], part: &[u8]) -> Result<(), AllocError>
+    ensures { IfOk result (λ _. out.new.items ≡ out.old.items ++ before.now ++ part.now) }
+{
+    out.extend_from_slice(before)?;
+    out.extend_from_slice(part)
 }
 
 // Appends a text, and a number in decimal.
@@ -234,10 +317,15 @@ pub fn command_in_range(command: &Command)
     ensures { IsCommand command.now }
 {
     match command {
+        Command::AddRate(row) => rate_in_range(row),
         Command::Register(registration) => {
             let _employer = registration.employer.number();
             let _name = registration.name.as_str();
             let _start = registration.start.number();
+        }
+        Command::EndMembership(end) => {
+            let _employer = end.employer.number();
+            let _last = end.last.number();
         }
         Command::Report(report) => report_in_range(report),
         Command::Correct(correction) => {
@@ -245,6 +333,10 @@ pub fn command_in_range(command: &Command)
             report_in_range(&correction.report);
         }
         Command::ImportBank(_) => {}
+        Command::Assign(assignment) => {
+            let _reference = assignment.reference.as_str();
+            let _employer = assignment.employer.number();
+        }
         Command::Claim(claim) => {
             let _employer = claim.employer.number();
             let _worker = claim.worker.number();
@@ -259,6 +351,18 @@ pub fn command_in_range(command: &Command)
         }
         Command::PayoutList => {}
     }
+}
+
+// The values of a row of rates lie in their ranges.
+fn rate_in_range(row: &RateRow)
+    ensures { IsRate row.now }
+{
+    let _first = row.first().number();
+    let _contribution = row.contribution_rate();
+    let _report = row.report_day();
+    let _due = row.due_day();
+    let _interest = row.interest_rate();
+    let _entitlement = row.entitlement_rate();
 }
 
 // The values of a report lie in their ranges.

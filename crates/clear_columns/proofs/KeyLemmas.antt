@@ -1,20 +1,22 @@
 -- Rows by their keys: the order of the database is that of the tables.
-use Rattle.std.proofs.Common.{◌≡◌, ℕ, ℤ, Bool, true, false, not, ◌&&◌, ◌||◌, ◌==◌, nat_lt, cond, List, [], ◌∷◌, Option, None, Some, IsSome, is_some, filter, length, ◌≤◌, refl, sym, ap, ap₂, subst, ◌∙◌, arith, Ordering, Less, Equal, Greater, is_eq, is_lt, is_gt, int_cmp, int_eq, nat_cmp, slice_get, true≢false}
+use Rattle.std.proofs.Common.{◌≡◌, ℕ, ℤ, Bool, true, false, not, ◌&&◌, ◌||◌, ◌==◌, nat_lt, cond, List, [], ◌∷◌, Option, None, Some, IsSome, is_some, filter, map, length, ◌≤◌, refl, sym, ap, ap₂, subst, ◌∙◌, arith, Ordering, Less, Equal, Greater, is_eq, is_lt, is_gt, int_cmp, int_eq, nat_cmp, slice_get, true≢false}
 use Rattle.std.proofs.lemmas.Bool.Decides.{nat_tests}
 use Rattle.std.specs.Cmp.{IsTotalOrder}
 use Rattle.std.specs.Cmp.Lexicographic.{slice_cmp, on_texts, nat_list_cmp_total}
 use Rattle.std.specs.List.{list_any, AllByRecursion}
+use Rattle.std.specs.Option.{option_map_or}
 use Rattle.std.specs.Ordering.{match_ordering, ordering_then, ordering_reverse}
 use Rattle.std.proofs.lemmas.Map.Text.{is_eq-slice_cmp}
 use Rattle.sqlite.specs.Tree.{IsAscending}
 use Rattle.sqlite_keyed.specs.Keyed.{get_by, has_key, insert_by}
 use Rattle.sqlite_keyed.specs.Lists.{insert_sorted, update_where}
-use Rattle.sqlite_keyed.proofs.ListLemmas.{filter_all, all_weaker}
-use Rattle.clear_values.specs.Keyed.{is_key, is_before, find_row, with_row, without_rows, put_row}
-use Rattle.clear_values.proofs.KeyedLemmas.{is_key-refl, is_key-true}
+use Rattle.sqlite_keyed.proofs.ListLemmas.{filter_all, filter_none, all_weaker}
+use Rattle.clear_values.specs.Keyed.{is_key, is_before, find_row, AllBehind, AreInOrder, AreOnce, with_row, without_rows, put_row}
+use Rattle.clear_values.proofs.KeyedLemmas.{is_key-refl, is_key-true, found_key}
+use Rattle.clear_values.proofs.KeyedMapLemmas.{put_row-map}
 use Rattle.clear_values.proofs.CreditRowsLemmas.{is_key-bytes_eq}
 use Rattle.clear_schema.specs.Held.{by_key}
-use Rattle.clear_columns.specs.Keys.{replaced}
+use Rattle.clear_columns.specs.Keys.{changed_at, replaced}
 use Rattle.clear_columns.proofs.ListLemmas.{none_replaced}
 use Rattle.clear_columns.proofs.StoredLemmas.{KeepsOrder}
 
@@ -38,6 +40,12 @@ before_is (a ∷ k) (b ∷ l) = go (nat_lt a b) (a == b) (before_is k l)
     go true same more = refl
     go false true more = more
     go false false more = refl
+
+-- ---- rows that may be there
+
+pub none_if : {X : Type 0} (o : Option X) → is_some o ≡ false → o ≡ None
+none_if None h = refl
+none_if (Some x) h = absurd (true≢false h)
 
 module _ {X : Type 0} (key : X → List ℕ) where
   pub by_key_total : IsTotalOrder (by_key key)
@@ -80,28 +88,6 @@ module _ {X : Type 0} (key : X → List ℕ) where
       go : (b : Bool) → slice_get (filter (λ x. is_key (key x) k) xs) 0 ≡ find_row key xs k → slice_get (cond b (x ∷ filter (λ x. is_key (key x) k) xs) (filter (λ x. is_key (key x) k) xs)) 0 ≡ cond b (Some x) (find_row key xs k)
       go true more = refl
       go false more = more
-
-  -- keys that rise hold none twice
-  pub one_found : (xs : List X) (k : List ℕ) → IsAscending (λ a b. by_key key a b ≡ Less) xs → length (filter (λ x. is_key (key x) k) xs) ≤ 1
-  one_found [] k rises = omega arith
-  one_found (x ∷ xs) k rises = go (is_key (key x) k) refl (one_found xs k rises.1)
-    where
-      none_behind : (ys : List X) → is_key (key x) k ≡ true → AllByRecursion (λ y. by_key key x y ≡ Less) ys → filter (λ y. is_key (key y) k) ys ≡ []
-      none_behind [] on less = refl
-      none_behind (y ∷ ys) on less =
-          let same : key x ≡ k = is_key-true (key x) k on in
-          let other : is_key (key y) k ≡ false = subst (λ l. is_key (key y) l ≡ false) same (key_is x y ∙ ap is_eq less.0) in
-          rw other (none_behind ys on less.1)
-
-      go : (b : Bool) → is_key (key x) k ≡ b → length (filter (λ y. is_key (key y) k) xs) ≤ 1 → length (cond b (x ∷ filter (λ y. is_key (key y) k) xs) (filter (λ y. is_key (key y) k) xs)) ≤ 1
-      go true on few = let none = ap length (none_behind xs on rises.0) in omega (arith, none)
-      go false on few = few
-
--- ---- rows that may be there
-
-pub none_if : {X : Type 0} (o : Option X) → is_some o ≡ false → o ≡ None
-none_if None h = refl
-none_if (Some x) h = absurd (true≢false h)
 
 -- ---- keys
 
@@ -153,6 +139,48 @@ module _ {X : Type 0} (key : X → List ℕ) where
       told : (b : Bool) → is_key (key x) k ≡ b → cond b (Some x) (find_row key xs k) ≡ None → (find_row key xs k ≡ None → AllByRecursion (λ y. is_key (key y) k ≡ false) xs) → AllByRecursion (λ y. is_key (key y) k ≡ false) (x ∷ xs)
       told true e h more = absurd cc
       told false e h more = (e, more h)
+
+  -- of keys that stand once there is one row each
+  pub few_once : (xs : List X) (k : List ℕ) → AreOnce key xs → length (filter (λ x. is_key (key x) k) xs) ≤ 1
+  few_once [] k once = omega arith
+  few_once (x ∷ xs) k once = told (is_key (key x) k) refl (few_once xs k once.1)
+    where
+      told : (b : Bool) → is_key (key x) k ≡ b → length (filter (λ y. is_key (key y) k) xs) ≤ 1 → length (cond b (x ∷ filter (λ y. is_key (key y) k) xs) (filter (λ y. is_key (key y) k) xs)) ≤ 1
+      told true on few =
+          let none = ap length (filter_none (λ y. is_key (key y) k) xs (none_of_key xs k (subst (λ l. find_row key xs l ≡ None) (is_key-true (key x) k on) once.0))) in
+          omega (arith, none)
+      told false on few = few
+
+  -- keys that rise stand once
+  rising_once : (xs : List X) → IsAscending (λ a b. by_key key a b ≡ Less) xs → AreOnce key xs
+  rising_once [] up = tt
+  rising_once (x ∷ xs) up = (none_if _ (none_found key x xs (all_weaker (λ y. by_key key x y ≡ Less) (λ y. is_eq (by_key key x y) ≡ false) (λ y less. ap is_eq less) xs up.0)), rising_once xs up.1)
+
+  -- so none has two rows
+  pub one_found : (xs : List X) (k : List ℕ) → IsAscending (λ a b. by_key key a b ≡ Less) xs → length (filter (λ x. is_key (key x) k) xs) ≤ 1
+  one_found xs k up = few_once xs k (rising_once xs up)
+
+  -- rows rise in the database as in the tables
+  in_order_if_rising : (xs : List X) → IsAscending (λ a b. by_key key a b ≡ Less) xs → AreInOrder key xs
+  in_order_if_rising [] up = tt
+  in_order_if_rising (x ∷ xs) up = (behind xs up.0, in_order_if_rising xs up.1)
+    where
+      behind : (ys : List X) → AllByRecursion (λ y. by_key key x y ≡ Less) ys → AllBehind key (key x) ys
+      behind [] all = tt
+      behind (y ∷ ys) all = (before_is (key x) (key y) ∙ ap is_lt all.0, behind ys all.1)
+
+  pub rising_if_in_order : (xs : List X) → AreInOrder key xs → IsAscending (λ a b. by_key key a b ≡ Less) xs
+  rising_if_in_order [] order = tt
+  rising_if_in_order (x ∷ xs) order = (ahead xs order.0, rising_if_in_order xs order.1)
+    where
+      less : (o : Ordering) → is_lt o ≡ true → o ≡ Less
+      less Less h = refl
+      less Equal h = absurd (true≢false (sym h))
+      less Greater h = absurd (true≢false (sym h))
+
+      ahead : (ys : List X) → AllBehind key (key x) ys → AllByRecursion (λ y. by_key key x y ≡ Less) ys
+      ahead [] all = tt
+      ahead (y ∷ ys) all = (less (by_key key x y) (sym (before_is (key x) (key y)) ∙ all.0), ahead ys all.1)
 
   -- no later row has the key of one
   later_keys : (x : X) (xs : List X) (k : List ℕ) → is_key (key x) k ≡ true → AllByRecursion (λ y. by_key key x y ≡ Less) xs → AllByRecursion (λ y. is_key (key y) k ≡ false) xs
@@ -219,3 +247,21 @@ module _ {X : Type 0} (key : X → List ℕ) where
       told : (o : Option X) → find_row key xs (key new) ≡ o → update_where (λ x. is_key (key x) (key new)) (λ x. new) xs ≡ cond (is_some (find_row key xs (key new))) (put_row key xs new) xs
       told (Some x) e = replaced_is xs new up (subst IsSome (sym e) refl) ∙ sym (ap (λ o. cond (is_some o) (put_row key xs new) xs) e)
       told None e = none_replaced (λ x. is_key (key x) (key new)) (λ x. new) xs (none_of_key xs (key new) e) ∙ sym (ap (λ o. cond (is_some o) (put_row key xs new) xs) e)
+
+  -- an update of the row of a key to another row that has it
+  pub changes : (xs : List X) (k : List ℕ) (f : X → X) → ((x : X) → key (f x) ≡ key x) → IsAscending (λ a b. by_key key a b ≡ Less) xs → update_where (λ x. is_key (key x) k) f xs ≡ changed_at key k f xs
+  changes xs k f keeps up = told (find_row key xs k) refl
+    where
+      -- what a row becomes
+      after : X → X
+      after x = cond (is_key (key x) k) (f x) x
+
+      kept : (x : X) → key (after x) ≡ key x
+      kept x = elim (is_key (key x) k) as (λ b. key (cond b (f x) x) ≡ key x) [ true ↦ keeps x | false ↦ refl ]
+
+      told : (o : Option X) → find_row key xs k ≡ o → map after xs ≡ option_map_or (λ x. put_row key xs (f x)) o xs
+      told None none = none_replaced (λ x. is_key (key x) k) f xs (none_of_key xs k none)
+      told (Some x) found =
+          let is : key x ≡ k = found_key key xs k x found in
+          let here : is_key (key x) k ≡ true = subst (λ (l : List ℕ). is_key l k ≡ true) (sym is) (is_key-refl k) in
+          sym (put_row-map key after kept xs k x (f x) (in_order_if_rising xs up) found (keeps x ∙ is) (ap (λ b. cond b (f x) x) here) (λ y other. ap (λ b. cond b (f y) y) other))

@@ -9,7 +9,7 @@ use Rattle.sqlite_keyed.specs.Lists.{delete_where}
 use Rattle.sqlite_keyed.proofs.KeyedLemmas.{next_key_is_free}
 use Rattle.sqlite_rules.proofs.ListLemmas.{all_has, all_from, has_filtered, has_kept, some_has, test_has}
 use Rattle.sqlite_rules.specs.declared.error.Refusal.TheVariants as why
-use Rattle.sqlite_schema.specs.Rules.{clashes, differ}
+use Rattle.sqlite_schema.specs.Rules.{Keeps, clashes, differ}
 use Rattle.sqlite_schema.specs.declared.schema.Constraint.TheVariants.{Unique}
 use Rattle.sqlite_value.specs.Keys.{plain as plain_order}
 use Rattle.clear_rows.proofs.Edits.{appended_is, appended_row, deleted_is}
@@ -98,6 +98,18 @@ module _ {X : Type 0} (it : KeyedTable X) where
   which : (i : Index) → Has all_indexes i → guards i it.table ≡ true → (k : UniqueKey X) × Has it.keys k × (i ≡ k.index)
   which i listed on = has_mapped (λ (k : UniqueKey X). k.index) it.keys i (subst (λ l. Has l i) it.guarded (has_kept (λ (i : Index). guards i it.table) all_indexes i listed on))
 
+  -- no two rows of a tree that keeps the indexes clash in one of the keys
+  pub no_clash : (trees : Trees) → Keeps Unique store_schema trees → (k : UniqueKey X) → Has it.keys k
+      → AllByRecursion (λ row. list_any (λ other. agree plain_order k.index.columns other k.index.columns row && differ (rowid other) (rowid row)) (trees it.table.tree) ≡ false) (trees it.table.tree)
+  no_clash trees keeps k listed =
+      let tree = trees it.table.tree in
+      let index = has_filtered (λ (i : Index). guards i it.table) all_indexes k.index (subst (λ l. Has l k.index) (sym it.guarded) (maps_has (λ (k : UniqueKey X). k.index) it.keys k listed)) in
+      let by = all_has (IsKeptBy it.to_row) it.keys k it.kept_by listed in
+      all_from (λ row. list_any (λ other. agree plain_order k.index.columns other k.index.columns row && differ (rowid other) (rowid row)) tree ≡ false) tree (λ row known.
+      subst (λ o. clashes o k.index.columns tree row ≡ false) by.order (off (guards k.index it.table) (clashes k.index.order k.index.columns tree row) index.1
+      (test_has (λ i. not (guards i it.table && clashes i.order i.columns tree row)) all_indexes k.index
+      (all_has (λ row. passes Unique store_schema trees it.table row ≡ true) tree row (all_has (λ (u : Table). AllByRecursion (λ row. passes Unique store_schema trees u row ≡ true) (trees u.tree)) all_tables it.table keeps it.listed) known) index.0)))
+
   module _ (t : Tables) (old new : State) (has : HasTables t old.now) {sql : List ℕ} {terms : List Term} {width : ℕ} (says : Says sql (Insert it.at (Values terms width))) (params : Row) (x : X)
       (given : value_rows (stamped it.table params) width (length terms / width) terms ≡ (Null ∷ it.given x) ∷ []) where
     abbrev db : Trees
@@ -122,14 +134,8 @@ module _ {X : Type 0} (it : KeyedTable X) where
       -- no other row has a key of the new one
       apart : (k : UniqueKey X) → Has it.keys k → AllByRecursion (λ y. is_eq (by_key k.of x y) ≡ false) (it.rows t)
       apart k listed =
-          let index = has_filtered (λ (i : Index). guards i it.table) all_indexes k.index (subst (λ l. Has l k.index) (sym it.guarded) (maps_has (λ (k : UniqueKey X). k.index) it.keys k listed)) in
           let by = all_has (IsKeptBy it.to_row) it.keys k it.kept_by listed in
-          let tree = new.now.trees it.table.tree in
-          let each : AllByRecursion (λ row. list_any (λ other. agree plain_order k.index.columns other k.index.columns row && differ (rowid other) (rowid row)) tree ≡ false) tree =
-          all_from (λ row. list_any (λ other. agree plain_order k.index.columns other k.index.columns row && differ (rowid other) (rowid row)) tree ≡ false) tree (λ row known.
-          subst (λ o. clashes o k.index.columns tree row ≡ false) by.order (off (guards k.index it.table) (clashes k.index.order k.index.columns tree row) index.1
-          (test_has (λ i. not (guards i it.table && clashes i.order i.columns tree row)) all_indexes k.index
-          (all_has (λ row. passes Unique store_schema new.now.trees it.table row ≡ true) tree row (all_has (λ (u : Table). AllByRecursion (λ row. passes Unique store_schema new.now.trees u row ≡ true) (new.now.trees u.tree)) all_tables it.table (made.applied.fits.rules Unique (λ e. cc)) it.listed) known) index.0))) in
+          let each = no_clash new.now.trees (made.applied.fits.rules Unique (λ e. cc)) k listed in
           key_was_free (by_key k.of) it.to_row it.numbered k.index.columns by.agrees (by_key_total k.of) (it.rows t) kept.numbered (n, x) free kept.same
           (subst (λ rows. AllByRecursion (λ row. list_any (λ other. agree plain_order k.index.columns other k.index.columns row && differ (rowid other) (rowid row)) rows ≡ false) rows) rows_are each)
 

@@ -6,6 +6,7 @@ pub mod KeyLemmas
 pub mod KeyedTable
 pub mod ListLemmas
 pub mod NumberedTable
+pub mod OrderLemmas
 pub mod ReadingLemmas
 pub mod Says
 pub mod StoredLemmas

@@ -26,13 +26,13 @@ pub all_pass : {X : Type 0} (xs : List X) → filter (λ _. true) xs ≡ xs
 all_pass [] = refl
 all_pass (x ∷ xs) = ap (λ l. x ∷ l) (all_pass xs)
 
+pub more_apart : (a b : ℤ) → a <ℤ b → int_eq b a ≡ false
+more_apart a b h = grind (arith, ints)
+
 -- where one row passes, it is the row of its number
 module _ {X : Type 0} (key : X → ℤ) (p : X → Bool) (f : X → X) where
   less_apart : (a b : ℤ) → a <ℤ b → int_eq a b ≡ false
   less_apart a b h = grind (arith, ints)
-
-  more_apart : (a b : ℤ) → a <ℤ b → int_eq b a ≡ false
-  more_apart a b h = grind (arith, ints)
 
   same_apart : (a : ℤ) → int_eq a a ≡ true
   same_apart a = grind (arith, ints)

@@ -1,12 +1,12 @@
 -- The rates: under their first months.
 use Rattle.std.proofs.Common.{zero, suc, ◌+◌, ◌<◌, ◌≤◌, length, take, get_or, add-one}
-use Rattle.clear_columns.proofs.Words.{◌≡◌, arith, pos, ℕ, List, [], ◌∷◌, map, refl, sym, subst, inl, inr, codes, cast_row, Database, Ghosts, Term, col, Tables, plain_program, HasTables, rates_table, rate_values, month_number, cast_int, cast_null, months_keep, AnswersJust}
+use Rattle.clear_columns.proofs.Words.{◌≡◌, arith, pos, ℕ, List, [], ◌∷◌, map, refl, sym, subst, inl, inr, codes, cast_row, Insert, Database, Values, Ghosts, Term, lit, col, Null, Tables, plain_program, HasTables, rates_table, rate_values, month_number, cast_int, cast_null, months_keep, AnswersJust}
 use Rattle.sqlite_tied.specs.Compute.{everything}
 use Rattle.clear_money.specs.Rates.{Rate, IsRising, last_first}
 use Rattle.clear_values.specs.Ranges.{AreRates}
 use Rattle.clear_schema.proofs.Changes.{rates_changed}
 use Rattle.clear_columns.proofs.NumberedTable.{NumberedTable, by_number, lists_all}
-use Rattle.clear_columns.proofs.Says.{SaysQuery}
+use Rattle.clear_columns.proofs.Says.{Says, SaysQuery}
 use Rattle.clear_firms.specs.Shown.{rate_shown}
 
 pub stored : (r : Rate) → cast_row rates_table (rate_values r) ≡ rate_values r
@@ -36,6 +36,15 @@ rates = record {
   has = λ t db has. has.rates;
   changed = λ t old new has schema sound xs fits. rates_changed t old new has schema sound xs;
 }
+
+-- ---- the texts
+
+abbrev pub insert_terms : List Term
+insert_terms = col 0 0 ∷ lit Null ∷ col 0 1 ∷ col 0 2 ∷ col 0 3 ∷ col 0 4 ∷ col 0 5 ∷ []
+
+pub insert_says : Says (codes "INSERT INTO rates (first, contribution, report_day, due_day, interest, entitlement) VALUES (?1, ?2, ?3, ?4, ?5, ?6)") (Insert 1 (Values insert_terms 7))
+unfolding everything
+insert_says = record { said = (refl, refl, refl) }
 
 abbrev pub get : List ℕ
 get = codes "SELECT first, contribution, report_day, due_day, interest, entitlement FROM rates ORDER BY first"

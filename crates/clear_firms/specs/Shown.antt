@@ -1,6 +1,6 @@
 -- What a statement is given of a row, and what a query shows of it: the row's values, without the
 -- number beside them.
-use Rattle.std.specs.Prelude.{ℕ, [], ◌∷◌}
+use Rattle.std.specs.Prelude.{ℕ, List, [], ◌∷◌}
 use Rattle.sqlite.specs.declared.types.Value.TheVariants.{Text}
 use Rattle.sqlite.specs.Order.{Row}
 use Rattle.clear_money.specs.Rates.{Rate}
@@ -8,6 +8,10 @@ use Rattle.clear_values.specs.declared.rows.EmployerRow.{EmployerRow}
 use Rattle.clear_values.specs.declared.rows.ReportRow.{ReportRow}
 use Rattle.clear_values.specs.declared.rows.WageRow.{WageRow}
 use Rattle.clear_schema.specs.Values.{number, month, maybe_month}
+
+-- the first month of a row of rates, as a key
+abbrev pub rate_key : Rate → List ℕ
+rate_key r = r.first ∷ []
 
 abbrev pub rate_shown : Rate → Row
 rate_shown r =

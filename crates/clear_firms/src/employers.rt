@@ -1,11 +1,11 @@
 //! The table of employers.
-ghost use Rattle.std.specs.Prelude.{◌≡◌, [], ◌∷◌};
+ghost use Rattle.std.specs.Prelude.{◌≡◌, [], ◌∷◌, false};
 ghost use Rattle.sqlite.specs.Values.{bound};
 ghost use Rattle.clear_values.specs.Keyed.{find_row, with_row};
 ghost use Rattle.clear_values.specs.RowRanges.{IsEmployerRow};
 ghost use Rattle.clear_values.specs.Tables.{employer_key};
 ghost use Rattle.clear_schema.specs.Frame.{Finds, Lists, Writes};
-ghost use Rattle.clear_columns.specs.Keys.{is_held};
+ghost use Rattle.clear_columns.specs.Keys.{is_held, replaced};
 ghost use Rattle.clear_firms.specs.Shown.{employer_shown};
 
 use clear_columns::columns::{employer_at, maybe_month_at, month_at, name_at};
@@ -33,6 +33,22 @@ pub fn insert_employer<S: Alter>(
     put(
         tx,
         "INSERT INTO employers (no, name, start, last) VALUES (?1, ?2, ?3, ?4)",
+        &employer_values(row),
+    )
+}
+
+/// Writes a firm in the place of the one of its number. Where there is none, nothing is written.
+pub fn replace_employer<S: Alter>(
+    tx: &mut Transaction<'_, S>,
+    row: &EmployerRow,
+) -> Result<(), Fault>
+    ensures same_reference { tx.new.conn.ghost_name ≡ tx.old.conn.ghost_name }
+    ensures writes { Writes S.Store tx.old.conn.now tx.new.conn.now result ⊥ (λ _. false)
+        (λ t. record t { employers = replaced employer_key row.now t.employers }) }
+{
+    put(
+        tx,
+        "UPDATE employers SET name = ?2, start = ?3, last = ?4 WHERE no = ?1",
         &employer_values(row),
     )
 }

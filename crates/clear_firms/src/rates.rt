@@ -1,17 +1,39 @@
 //! The table of rates.
 ghost use Rattle.std.specs.Prelude.{◌≡◌, ◌≢◌, IfErr, IfOk};
+ghost use Rattle.sqlite.specs.Values.{bound};
 ghost use Rattle.clear_money.specs.Rates.{IsRate};
+ghost use Rattle.clear_values.specs.Keyed.{with_row};
 ghost use Rattle.clear_values.specs.Ranges.{AreRates};
-ghost use Rattle.clear_schema.specs.Frame.{Lists, LooksUp};
+ghost use Rattle.clear_schema.specs.Frame.{Lists, LooksUp, Writes};
+ghost use Rattle.clear_columns.specs.Keys.{is_held};
+ghost use Rattle.clear_firms.specs.Shown.{rate_key, rate_shown};
 
 use clear_columns::columns::{month_at, month_day_at, rate_at};
 use clear_columns::queries::list;
 use clear_columns::rows::StoredTable;
 use clear_money::rates::{PushFault, RateRow, RateTable};
 use clear_schema::fault::Fault;
+use clear_schema::statement::put;
+use clear_schema::values::{month, number};
 use clear_values::causes::StoreCause;
 use sqlite::{Alter, Row, Transaction};
+use sqlite_value::value::ValueRef;
 use std::alloc::Global;
+
+/// Adds a row of rates whose first month is that of no other. It stands at its place among them.
+pub fn insert_rate<S: Alter>(tx: &mut Transaction<'_, S>, row: &RateRow) -> Result<(), Fault>
+    ensures same_reference { tx.new.conn.ghost_name ≡ tx.old.conn.ghost_name }
+    ensures writes { Writes S.Store tx.old.conn.now tx.new.conn.now result ⊥
+        (λ t. is_held rate_key row.now t.rates)
+        (λ t. record t { rates = with_row rate_key t.rates row.now }) }
+{
+    put(
+        tx,
+        "INSERT INTO rates (first, contribution, report_day, due_day, interest, entitlement) \
+         VALUES (?1, ?2, ?3, ?4, ?5, ?6)",
+        &rate_values(row),
+    )
+}
 
 /// All rates, the first months rising.
 pub fn all_rates<S: Alter>(tx: &mut Transaction<'_, S>) -> Result<Vec<RateRow>, Fault>
@@ -98,4 +120,18 @@ impl StoredTable for Rates {
             None => Err(Fault::Store(StoreCause::Row)),
         }
     }
+}
+
+// What a statement is given of a row.
+fn rate_values(row: &RateRow) -> [ValueRef<'static>; 6]
+    ensures { bound result ≡ rate_shown row.now }
+{
+    [
+        month(row.first()),
+        number(u64::from(row.contribution_rate())),
+        number(u64::from(row.report_day())),
+        number(u64::from(row.due_day())),
+        number(u64::from(row.interest_rate())),
+        number(u64::from(row.entitlement_rate())),
+    ]
 }

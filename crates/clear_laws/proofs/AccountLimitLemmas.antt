@@ -11,8 +11,9 @@ use Rattle.clear_values.specs.declared.lines.Purpose.TheVariants.{Contribution, 
 use Rattle.clear_values.specs.Lines.{same_purpose}
 use Rattle.clear_account.specs.Account.{credited}
 use Rattle.clear_account.specs.declared.entries.Credit.{Credit}
+use Rattle.clear_book.specs.declared.calls.Assignment.{Assignment}
 use Rattle.clear_book.specs.declared.calls.Command.{Command}
-use Rattle.clear_book.specs.declared.calls.Command.TheVariants.{ImportBank, Release}
+use Rattle.clear_book.specs.declared.calls.Command.TheVariants.{ImportBank, Assign, Release}
 use Rattle.clear_values.specs.declared.replies.Reply.{Reply}
 use Rattle.clear_book.specs.declared.rules.Limit.TheVariants.{Suspense, Credits}
 use Rattle.clear_book.specs.declared.rules.Rule.TheVariants.{OverLimit}
@@ -27,15 +28,17 @@ use Rattle.clear_book.specs.Judge.{own_rule, reply_to}
 use Rattle.clear_book.specs.Own.ImportBank.{import_rules, is_over}
 use Rattle.clear_book.specs.Own.Release.{Debts, debts_of, has_too_many, is_too_many, own_release, release_reply, release_rules, settles}
 use Rattle.clear_book.specs.Workers.{claim_of, released, released_by}
+use Rattle.clear_values.specs.Ranges.{IsBankLine}
 use Rattle.clear_values.specs.RowRanges.{IsCreditRow}
 use Rattle.clear_values.specs.Limits.{most_credits, most_suspense}
-use Rattle.clear_book.specs.Lines.{credit_of_line, credits_after, credits_made, lines_after, lines_of_rows, rows_by, rows_brought, lines_seen, lines_standing, serial_count, set_offs, set_offs_by, set_offs_of, suspense_count, credits_of_lines, is_credit_of, credit_count}
+use Rattle.clear_book.specs.Lines.{credit_of_line, credits_after, credits_made, lines_after, lines_of_rows, assigned, moved_by, rows_by, rows_brought, lines_seen, lines_standing, serial_count, set_offs, set_offs_by, set_offs_of, suspense_count, credits_of_lines, is_credit_of, credit_count}
 use Rattle.clear_book.specs.Machine.{AreJudged}
+use Rattle.clear_laws.proofs.AssignLemmas.{accepted_assignment, counted, few_credits, new_credit, standing_among, waiting}
 use Rattle.clear_laws.proofs.CreditsMadeLemmas.{credit_count-append, credits_after-count, part_for, release-count}
 use Rattle.clear_laws.proofs.JudgeLemmas.{unrefused}
-use Rattle.clear_laws.proofs.LinesLemmas.{standing_seen}
+use Rattle.clear_laws.proofs.LinesLemmas.{of_standing}
 use Rattle.clear_values.proofs.ListLemmas.{both, each}
-use Rattle.clear_laws.proofs.SeenLemmas.{HasRanges, of_standing, seen-in-range, set_offs-in-range}
+use Rattle.clear_laws.proofs.SeenLemmas.{HasRanges, seen-in-range, set_offs-in-range}
 use Rattle.clear_laws.proofs.ChecksLemmas.{none_applies, when-none}
 use Rattle.clear_values.proofs.KeyedRowsLemmas.{sum_by-with_rows}
 
@@ -187,10 +190,33 @@ release_within b t reply number own replied old = told (claim_of b.entries numbe
         (then (set_offs_of (released t settlement claim) (serial_count b.entries + 1))
         (settled_within (credit_count (credits_made b.entries)) (released t settlement claim) (serial_count b.entries + 1) (record { day = t; settlement = settlement; list = None }) old.1 fits))
 
+-- ---- what the rules on an assignment leave
+
+-- one line that is assigned: there is one less in suspense, and its firm has one credit more for its purpose
+assign_within : (b : Book) (t : ℕ) (a : Assignment) → own_rule b t (Assign a) ≡ None → IsWithin (lines_standing b.entries) (credits_made b.entries)
+    → IsWithinThen (map (assigned a) (lines_standing b.entries)) (set_offs b.entries) [] []
+assign_within b t a own old =
+    let rows = lines_standing b.entries in
+    let offs = set_offs b.entries in
+    let ok = accepted_assignment b t a own in
+    let line = ok.line in
+    let part = standing_among b a ok in
+    let less = waiting a rows line ok.waits part in
+    let low = old.0 in
+    let few : (e : ℕ) (p : Purpose) → credit_count (offs ++ credits_of_lines (map (assigned a) rows)) e p ≤ 100000 =
+    λ e p.
+    let before = credit_count-append offs (credits_of_lines rows) e p in
+    let then = credit_count-append offs (credits_of_lines (map (assigned a) rows)) e p in
+    let more = counted a rows line ok.waits part e p in
+    let sum = few_credits (credit_count (credits_made b.entries)) (new_credit a line) e p ok.room (old.1 e p) in
+    omega (arith, before, then, more, sum) in
+    none_more (map (assigned a) rows) offs (omega (arith, less, low), few)
+
 -- ---- over a lawful book
 
 entry_within : (b : Book) (t : ℕ) (reply : Reply) (command : Command) → own_rule b t command ≡ None → reply_to b t command ≡ reply → IsWithin (lines_standing b.entries) (credits_made b.entries)
-    → IsWithinThen (lines_standing b.entries) (set_offs b.entries) (rows_by b.entries (lines_seen b.entries) command) (set_offs_by b.entries t reply command)
+    → IsWithinThen (moved_by command (lines_standing b.entries)) (set_offs b.entries) (rows_by b.entries (lines_seen b.entries) command) (set_offs_by b.entries t reply command)
+entry_within b t reply (Assign a) own replied old = assign_within b t a own old
 entry_within b t reply (ImportBank file) own replied old = import_within b t file own old
 entry_within b t reply (Release number) own replied old = release_within b t reply number own replied old
 entry_within b t reply command own replied old = none_more (lines_standing b.entries) (set_offs b.entries) old
@@ -200,10 +226,7 @@ standing_within rates [] h = (omega arith, λ e p. omega arith)
 standing_within rates (x ∷ xs) h =
     let b : Book = record { opening = rates; entries = xs } in
     let said = unrefused b x.caller x.number x.day x.command x.reply h.2 in
-    let rows = rows_by xs (lines_seen xs) x.command in
-    let stand : lines_standing (x ∷ xs) ≡ lines_standing xs ++ rows = standing_seen (x ∷ xs) ∙ ap (λ (seen : List BankRow). seen ++ rows) (sym (standing_seen xs)) in
-    subst (λ (lines : List BankRow). IsWithin lines (set_offs (x ∷ xs) ++ credits_of_lines lines)) (sym stand)
-    (entry_within b x.day x.reply x.command said.unruled said.replied (standing_within rates xs h.0))
+    entry_within b x.day x.reply x.command said.unruled said.replied (standing_within rates xs h.0)
 
 length-among : (rows : List CreditRow) (e : ℕ) (p : Purpose) → length (credits_under rows e p) ≡ count_by (is_credit_of e p) rows
 length-among [] e p = refl
@@ -237,7 +260,7 @@ credits-small : (rates : RateTable) (xs : List Entry) → AreJudged rates xs →
 credits-small rates xs h =
     both IsSmall (set_offs xs) (credits_of_lines (lines_standing xs))
     (each IsCreditRow IsSmall (λ row good. good.cents.1) (set_offs xs) (set_offs-in-range rates xs h))
-    (lines-small (lines_standing xs) (of_standing HasRanges xs (seen-in-range xs)))
+    (lines-small (lines_standing xs) (of_standing (λ p. IsBankLine p.0) xs (seen-in-range xs)))
 
 module _ (e : ℕ) (p : Purpose) where
   abbrev cents_in : CreditRow → ℕ

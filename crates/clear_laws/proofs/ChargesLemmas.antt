@@ -4,9 +4,8 @@ use Rattle.std.proofs.lemmas.Bool.{cases_order}
 use Rattle.std.proofs.lemmas.Bool.Decides.{nat_tests}
 use Rattle.std.proofs.lemmas.List.Sums.{sum_by-cons}
 use Rattle.std.specs.Option.{option_map}
-use Rattle.std.specs.List.{range_with_len, filter_map, cons_option}
-use Rattle.clear_account.specs.declared.entries.Charge.{Charge}
-use Rattle.clear_money.specs.Calendar.{IsMonth}
+use Rattle.std.specs.List.{range_with_len, filter_map, cons_option, last_or}
+use Rattle.clear_money.specs.Calendar.{IsMonth, months}
 use Rattle.clear_values.specs.declared.texts.WageLine.{WageLine}
 use Rattle.clear_book.specs.declared.calls.Command.{Command}
 use Rattle.clear_book.specs.declared.calls.WageReport.{WageReport}
@@ -14,7 +13,7 @@ use Rattle.clear_book.specs.declared.calls.Command.TheVariants.{Report, Correct}
 use Rattle.clear_values.specs.declared.rows.ReportRow.{ReportRow}
 use Rattle.clear_values.specs.declared.rows.WageRow.{WageRow}
 use Rattle.clear_book.specs.Accounts.{base_of, month_charge, reported_charge, book_charge, charges_of}
-use Rattle.clear_book.specs.Book.{Book, Entry, is_for, rates_of, member_of, reported_by, latest_lines, version_of, reported_version, RateTable}
+use Rattle.clear_book.specs.Book.{Book, Entry, is_for, rates_of, member_of, reported_by, latest_lines, last_reported, reported_months, version_of, reported_version, RateTable}
 use Rattle.clear_book.specs.Judge.{own_rule}
 use Rattle.clear_book.specs.Calls.{IsCommand}
 use Rattle.clear_values.specs.Keyed.{is_before, find_row, AllBehind, AreInOrder}
@@ -159,23 +158,23 @@ abbrev AreBelow : ℕ → List ReportRow → Type 0
 AreBelow end [] = Unit {0}
 AreBelow end (row ∷ rows) = (row.month < end) × AreBelow end rows
 
-module _ (charge : ReportRow → Charge) where
+module _ {A : Type 0} (value : ReportRow → A) where
   -- what the rows have for a month
-  abbrev given : List ReportRow → ℕ → Option Charge
+  abbrev given : List ReportRow → ℕ → Option A
   given [] m = None
-  given (row ∷ rows) m = cond (row.month == m) (Some (charge row)) (given rows m)
+  given (row ∷ rows) m = cond (row.month == m) (Some (value row)) (given rows m)
 
   not_yet : (a m : ℕ) (rows : List ReportRow) → m < a → AreFrom a rows → given rows m ≡ None
   not_yet a m [] h from = refl
   not_yet a m (row ∷ rows) h from =
-      ap (λ b. cond b (Some (charge row)) (given rows m)) (other row.month (omega (arith, from.0)))
+      ap (λ b. cond b (Some (value row)) (given rows m)) (other row.month (omega (arith, from.0)))
       ∙ not_yet (row.month + 1) m rows (omega (arith, from.0)) from.1
     where
       other : (k : ℕ) → m < k → k == m ≡ false
       other k lt = grind (arith, nat_tests)
 
-  -- the months of a range have what the rows have, so they give the rows' charges in order
-  by_months : (h : ℕ → Option Charge) (a n : ℕ) (rows : List ReportRow) → AreFrom a rows → AreBelow (a + n) rows → ((m : ℕ) → a ≤ m → m < a + n → h m ≡ given rows m) → filter_map h (range_with_len a n) ≡ map charge rows
+  -- the months of a range have what the rows have, so they give the rows' values in order
+  by_months : (h : ℕ → Option A) (a n : ℕ) (rows : List ReportRow) → AreFrom a rows → AreBelow (a + n) rows → ((m : ℕ) → a ≤ m → m < a + n → h m ≡ given rows m) → filter_map h (range_with_len a n) ≡ map value rows
   by_months h a zero [] from below gives = refl
   by_months h a zero (row ∷ rows) from below gives = absurd (omega (arith, from.0, below.0))
   by_months h a (suc n) [] from below gives =
@@ -184,8 +183,8 @@ module _ (charge : ReportRow → Charge) where
       ⊎_elim
       (λ (e : a ≡ row.month).
       let rest = by_months h (a + 1) n rows (later_from (a + 1) (row.month + 1) rows (omega arith) from.1) (ends (a + suc n) (a + 1 + n) rows (omega arith) below.1)
-      (λ m low high. gives m (omega arith) (omega arith) ∙ ap (λ b. cond b (Some (charge row)) (given rows m)) (apart row.month m (omega arith))) in
-      let here : h a ≡ Some (charge row) = gives a (omega arith) (omega arith) ∙ ap (λ b. cond b (Some (charge row)) (given rows a)) (same row.month a (sym e)) in
+      (λ m low high. gives m (omega arith) (omega arith) ∙ ap (λ b. cond b (Some (value row)) (given rows m)) (apart row.month m (omega arith))) in
+      let here : h a ≡ Some (value row) = gives a (omega arith) (omega arith) ∙ ap (λ b. cond b (Some (value row)) (given rows a)) (same row.month a (sym e)) in
       (λ i. cons_option (here i) (rest i)))
       (λ (o : (a < row.month) ⊎ (row.month < a)).
       let later : a < row.month = ⊎_elim (λ (lt : a < row.month). lt) (λ (gt : row.month < a). absurd (omega (arith, from.0))) o in
@@ -261,13 +260,13 @@ module _ (e : ℕ) where
       told true h rest = (within row.month (found_first row rows h), rest)
       told false h rest = rest
 
-  given-found : (charge : ReportRow → Charge) (rows : List ReportRow) (m : ℕ) → given charge (filter is_of rows) m ≡ option_map charge (find_row report_key rows (e ∷ m ∷ []))
-  given-found charge [] m = refl
-  given-found charge (row ∷ rows) m = told (is_of row) (row.month == m) refl (given-found charge rows m)
+  given-found : {A : Type 0} (value : ReportRow → A) (rows : List ReportRow) (m : ℕ) → given value (filter is_of rows) m ≡ option_map value (find_row report_key rows (e ∷ m ∷ []))
+  given-found value [] m = refl
+  given-found value (row ∷ rows) m = told (is_of row) (row.month == m) refl (given-found value rows m)
     where
-      told : (p q : Bool) → row.month == m ≡ q → given charge (filter is_of rows) m ≡ option_map charge (find_row report_key rows (e ∷ m ∷ [])) → given charge (cond p (row ∷ filter is_of rows) (filter is_of rows)) m ≡ option_map charge (cond (p && (q && true)) (Some row) (find_row report_key rows (e ∷ m ∷ [])))
-      told true true is rest = ap (λ b. cond b (Some (charge row)) (given charge (filter is_of rows) m)) is
-      told true false is rest = ap (λ b. cond b (Some (charge row)) (given charge (filter is_of rows) m)) is ∙ rest
+      told : (p q : Bool) → row.month == m ≡ q → given value (filter is_of rows) m ≡ option_map value (find_row report_key rows (e ∷ m ∷ [])) → given value (cond p (row ∷ filter is_of rows) (filter is_of rows)) m ≡ option_map value (cond (p && (q && true)) (Some row) (find_row report_key rows (e ∷ m ∷ [])))
+      told true true is rest = ap (λ b. cond b (Some (value row)) (given value (filter is_of rows) m)) is
+      told true false is rest = ap (λ b. cond b (Some (value row)) (given value (filter is_of rows) m)) is ∙ rest
       told false q is rest = rest
 
 -- ---- a lawful book's reports have distinct lines, and months of the calendar
@@ -300,6 +299,19 @@ lawful_right rates (x ∷ xs) h e m lines is =
     (latest_means (reported_by x.command e m) (latest_lines xs e m) lines is)
 
 -- ---- the charges of an employer
+
+filtered : {A : Type 0} (test : A → Bool) (xs : List A) → filter test xs ≡ filter_map (λ x. cond (test x) (Some x) None) xs
+filtered test [] = refl
+filtered test (x ∷ xs) = told (test x) (filtered test xs)
+  where
+    told : (b : Bool) → filter test xs ≡ filter_map (λ y. cond (test y) (Some y) None) xs
+        → cond b (x ∷ filter test xs) (filter test xs) ≡ cons_option (cond b (Some x) None) (filter_map (λ y. cond (test y) (Some y) None) xs)
+    told true rest = ap (λ ys. x ∷ ys) rest
+    told false rest = rest
+
+last_of : {A B : Type 0} (f : A → B) (o : Option A) (xs : List A) → option_map f (last_or o xs) ≡ last_or (option_map f o) (map f xs)
+last_of f o [] = refl
+last_of f o (x ∷ xs) = last_of f (Some x) xs
 
 module _ (b : Book) (t : Tables) (lawful : IsLawful b) (stands : Stands b t) (e : ℕ) where
   -- a found row tells of a report
@@ -337,13 +349,46 @@ module _ (b : Book) (t : Tables) (lawful : IsLawful b) (stands : Stands b t) (e 
       told (Some row) None found is same = absurd (cc)
       told (Some row) (Some lines) found is same = ap Some (sym (charge_same m row lines (found_key report_key t.reports (e ∷ m ∷ []) row found) is))
 
-  over_range : (n : ℕ) → n ≡ 2400 → table_charges t e ≡ filter_map (book_charge b e) (range_with_len 24000 n)
-  over_range n is =
-      sym (by_months (row_charge t) (book_charge b e) 24000 n (filter (is_of e) t.reports)
-      (starts e 24000 t.reports stands.reports_in_order (λ m h. (month_in_range m h).0))
-      (stays_below e (24000 + n) t.reports (λ m h. let last = (month_in_range m h).1 in omega arith))
-      (λ m low high. book_charge-given m))
+  -- what a book has of the months is what the rows have, in their order
+  over_months : {A : Type 0} (value : ReportRow → A) (h : ℕ → Option A) → ((m : ℕ) → h m ≡ given value (filter (is_of e) t.reports) m) → (n : ℕ) → n ≡ 2400 → map value (filter (is_of e) t.reports) ≡ filter_map h months
+  over_months value h gives n is =
+      sym (by_months value h 24000 n (filter (is_of e) t.reports)
+      (starts e 24000 t.reports stands.reports_in_order (λ m found. (month_in_range m found).0))
+      (stays_below e (24000 + n) t.reports (λ m found. let last = (month_in_range m found).1 in omega arith))
+      (λ m low high. gives m))
+      ∙ ap (filter_map h) (sym (months_are n is))
 
   -- the contributions of the tables are those of the book
   pub table_charges-charges_of : table_charges t e ≡ charges_of b e
-  table_charges-charges_of = over_range 2400 refl ∙ ap (filter_map (book_charge b e)) (sym (months_are 2400 refl))
+  table_charges-charges_of = over_months (row_charge t) (book_charge b e) book_charge-given 2400 refl
+
+  -- ---- the months that have a report
+
+  abbrev month_if_reported : ℕ → Option ℕ
+  month_if_reported m = cond (is_some (latest_lines b.entries e m)) (Some m) None
+
+  month-given : (m : ℕ) → month_if_reported m ≡ given (λ row. row.month) (filter (is_of e) t.reports) m
+  month-given m =
+      told (find_row report_key t.reports (e ∷ m ∷ [])) (latest_lines b.entries e m) refl (stands.reports e m)
+      ∙ sym (given-found e (λ row. row.month) t.reports m)
+    where
+      told : (o : Option ReportRow) (latest : Option (List WageLine)) → find_row report_key t.reports (e ∷ m ∷ []) ≡ o
+          → option_map (λ (row : ReportRow). row.version) o ≡ option_map (λ (lines : List WageLine). version_of b.entries e m) latest
+          → cond (is_some latest) (Some m) None ≡ option_map (λ (row : ReportRow). row.month) o
+      told None None found same = refl
+      told None (Some lines) found same = absurd (cc)
+      told (Some row) None found same = absurd (cc)
+      told (Some row) (Some lines) found same =
+          let key : report_key row ≡ e ∷ m ∷ [] = found_key report_key t.reports (e ∷ m ∷ []) row found in
+          let month : row.month ≡ m = cc key in
+          ap Some (sym month)
+
+  -- the report rows of an employer are of the months that have a report
+  pub row_months : map (λ row. row.month) (filter (is_of e) t.reports) ≡ reported_months b.entries e
+  row_months =
+      over_months (λ row. row.month) month_if_reported month-given 2400 refl
+      ∙ sym (filtered (λ m. is_some (latest_lines b.entries e m)) months)
+
+  -- so the last one is of the greatest of them
+  pub last_report_row : option_map (λ row. row.month) (last_or None (filter (is_of e) t.reports)) ≡ last_reported b.entries e
+  last_report_row = last_of (λ row. row.month) None (filter (is_of e) t.reports) ∙ ap (last_or None) row_months

@@ -1,9 +1,7 @@
 -- The tables of a book, after a claim, a withdrawal or a release more.
 use Rattle.std.proofs.Common.{◌≡◌, ℕ, ◌+◌, ◌<◌, ◌≤◌, List, [], ◌∷◌, ◌++◌, length, map, Option, Some, None, Bool, true, false, cond, ◌&&◌, ◌==◌, refl, sym, ap, ◌∙◌, subst, arith}
 use Rattle.std.proofs.lemmas.List.{append-nil, length-map, map-id}
-use Rattle.std.proofs.lemmas.List.Sums.{sum_by-cons}
-use Rattle.std.specs.Option.{option_map, option_map_or}
-use Rattle.std.specs.Prelude.{option_and_then, is_some}
+use Rattle.std.specs.Option.{option_map_or}
 use Rattle.clear_values.specs.declared.callers.Caller.{Caller}
 use Rattle.clear_values.specs.declared.replies.Reply.{Reply}
 use Rattle.clear_values.specs.declared.replies.Reply.TheVariants.{Released}
@@ -13,69 +11,61 @@ use Rattle.clear_values.specs.declared.rows.Change.TheVariants.{AddClaim, Withdr
 use Rattle.clear_values.specs.declared.rows.ClaimRow.{ClaimRow}
 use Rattle.clear_values.specs.declared.rows.CreditRow.{CreditRow}
 use Rattle.clear_values.specs.declared.rows.ListRow.{ListRow}
-use Rattle.clear_values.specs.declared.texts.WageLine.{WageLine}
 use Rattle.clear_values.specs.Keyed.{is_key, is_before, find_row, with_row, with_rows, put_row, AreInOrder, AreOnce}
 use Rattle.clear_book.specs.declared.calls.Call.TheVariants.{Do}
 use Rattle.clear_book.specs.declared.calls.Command.TheVariants.{Claim, Withdraw, Release}
 use Rattle.clear_book.specs.declared.calls.HolidayClaim.{HolidayClaim}
-use Rattle.clear_book.specs.declared.calls.Registration.{Registration}
-use Rattle.clear_book.specs.declared.calls.WageReport.{WageReport}
 use Rattle.clear_book.specs.declared.calls.Withdrawal.{Withdrawal}
 use Rattle.clear_book.specs.Accounts.{credit_key}
-use Rattle.clear_book.specs.Book.{Book, Entry, entry, entry_under, newer, member_by, member_of, registration_in, is_registration, report_in, lines_for, reported_by, latest_lines, version_of, rates_added, rates_of}
+use Rattle.clear_book.specs.Book.{Book, Entry, Member, entry, entry_under, member_after, is_registration, report_in, rates_added}
 use Rattle.clear_book.specs.Judge.{Verdict, new_reply, judge}
-use Rattle.clear_book.specs.Lines.{is_release, lines_seen, lines_standing, rows_by, serial_count, set_offs, set_offs_by, set_offs_of, credits_made, credits_of_lines}
+use Rattle.clear_book.specs.Lines.{lines_seen, lines_standing, moved_by, rows_by, serial_count, set_offs, set_offs_by, set_offs_of, credits_made, credits_of_lines}
 use Rattle.clear_book.specs.Machine.{step, after, appended}
-use Rattle.clear_book.specs.Tables.{Tables, Stands, bank_key, claim_key, reported_gross, changed, noted}
+use Rattle.clear_book.specs.Tables.{Tables, Stands, claim_key, changed, noted}
 use Rattle.clear_book.specs.Workers.{new_claim, withdrawn, released, is_claim, claims_of, claim_of, lists_by, lists_of}
 use Rattle.clear_values.proofs.KeyedLemmas.{first_less, found_key, is_key-refl, length-with_row}
 use Rattle.clear_values.proofs.KeyedMapLemmas.{with_row-last, find_row-between, put_row-map}
 use Rattle.clear_values.proofs.KeyedRowsLemmas.{AreNew, AreInOrder-with_rows}
 use Rattle.clear_values.proofs.ListLemmas.{each}
-use Rattle.clear_laws.proofs.CreditsMadeLemmas.{none_made, set_offs_new}
+use Rattle.clear_laws.proofs.CreditsMadeLemmas.{set_offs_new}
 use Rattle.clear_laws.proofs.ImportTablesLemmas.{grown, still_new}
 use Rattle.clear_laws.proofs.JudgeLemmas.{unrefused}
 use Rattle.clear_laws.proofs.LinesLemmas.{none_moved, none_taken, serial_count-next}
 use Rattle.clear_laws.proofs.ListNumbersLemmas.{lists_left}
 use Rattle.clear_laws.proofs.RequestLemmas.{requests_found, requests_still_in_order}
 use Rattle.clear_laws.proofs.SerialLemmas.{follow-between}
-use Rattle.clear_laws.proofs.VersionLemmas.{version_of-other}
+use Rattle.clear_laws.proofs.TablesLemmas.{bank_left, credits_left, employer_rows_left, employers_left, rates_left, reports_left, wages_left}
 use Rattle.clear_laws.proofs.ClaimsLemmas.{claims_numbered}
 
 -- ---- a command that changes claims alone
 
--- an entry whose command registers and reports nothing, and brings neither lines nor rates
+-- an entry whose command changes no employer, reports nothing, brings and moves no lines, and adds no rates
 pub record IsOfClaims (xs : List Entry) (x : Entry) : Type 0 where
-  pub nobody : registration_in x.command ≡ None
+  pub no_member : (e : ℕ) (old : Option Member) → member_after old x.command e ≡ old
+  pub no_registration : is_registration x.command ≡ false
   pub no_report : report_in x.command ≡ None
+  pub no_move : (rows : List BankRow) → moved_by x.command rows ≡ rows
   pub no_rows : rows_by xs (lines_seen xs) x.command ≡ []
   pub no_rates : rates_added x.command ≡ []
 
 module _ (b : Book) (t : Tables) (stands : Stands b t) (x : Entry) (of_claims : IsOfClaims b.entries x) (free : entry_under b.entries x.caller x.number ≡ None) where
-  no_lines : (e m : ℕ) → reported_by x.command e m ≡ None
-  no_lines e m = ap (λ (o : Option WageReport). option_and_then (lines_for e m) o) of_claims.no_report
-
   -- tables with the claims, the lists and the credits of the next book, and else as they were
   pub with_claims : (claims : List ClaimRow) (last : ℕ) (lists : List ListRow) (last_list : ℕ) (credits : List CreditRow) (serial : ℕ) → claims ≡ claims_of (x ∷ b.entries) → last ≡ length (claims_of (x ∷ b.entries))
       → lists ≡ lists_of (x ∷ b.entries) → last_list ≡ length (lists_of (x ∷ b.entries))
       → ((k : List ℕ) → find_row credit_key credits k ≡ find_row credit_key (credits_made (x ∷ b.entries)) k) → AreInOrder credit_key credits → serial ≡ serial_count (x ∷ b.entries)
       → Stands (appended b x) (noted x (record t { claims = claims; last_claim = last; lists = lists; last_list = last_list; credits = credits; serial = serial }))
   with_claims claims last lists last_list credits serial claims_are last_is lists_are last_list_is credits_are in_order serial_is = record {
-    rates = stands.rates ∙ sym (ap (λ more. rates_of b ++ more) of_claims.no_rates ∙ append-nil (rates_of b));
+    rates = rates_left b t stands x of_claims.no_rates;
     day = refl;
     entries = omega (arith, stands.entries);
-    employers = λ e. stands.employers e ∙ ap (λ (o : Option Registration). newer (option_and_then (member_by e) o) (member_of b.entries e)) (sym of_claims.nobody);
-    employer_rows =
-        let none : cond {A = ℕ} (is_registration x.command) 1 0 ≡ 0 = ap (λ (o : Option Registration). cond {A = ℕ} (is_some o) 1 0) of_claims.nobody in
-        omega (arith, stands.employer_rows, none, sum_by-cons (λ (y : Entry). cond {A = ℕ} (is_registration y.command) 1 0) x b.entries);
+    employers = employers_left b t stands x of_claims.no_member;
+    employer_rows = employer_rows_left b t stands x of_claims.no_registration;
     employers_in_order = stands.employers_in_order;
-    reports = λ e m.
-        let same : version_of (x ∷ b.entries) e m ≡ version_of b.entries e m = version_of-other b.entries x e m (ap is_some (no_lines e m)) in
-        stands.reports e m ∙ (λ i. option_map (λ (lines : List WageLine). sym same i) (newer (sym (no_lines e m) i) (latest_lines b.entries e m)));
+    reports = reports_left b t stands x of_claims.no_report;
     reports_in_order = stands.reports_in_order;
-    wages = λ e m w. stands.wages e m w ∙ ap (λ (o : Option (List WageLine)). reported_gross (newer o (latest_lines b.entries e m)) w) (sym (no_lines e m));
+    wages = wages_left b t stands x of_claims.no_report;
     wages_in_order = stands.wages_in_order;
-    bank = λ reference. stands.bank reference ∙ ap (λ (rows : List BankRow). find_row bank_key rows reference) (sym (none_moved b.entries x of_claims.no_rows));
+    bank = bank_left b t stands x of_claims.no_move of_claims.no_rows;
     bank_in_order = stands.bank_in_order;
     credits = credits_are;
     credits_in_order = in_order;
@@ -147,10 +137,6 @@ module _ (xs : List Entry) (number : ℕ) (row : ClaimRow) (found : claim_of xs 
 -- ---- the three commands
 
 module _ (b : Book) (t : Tables) (stands : Stands b t) (caller : Caller) (number day : ℕ) where
-  -- a command that brings no lines and is no release leaves the credits
-  pub same_credits : (x : Entry) → rows_by b.entries (lines_seen b.entries) x.command ≡ [] → is_release x.command ≡ false → (k : List ℕ) → find_row credit_key t.credits k ≡ find_row credit_key (credits_made (x ∷ b.entries)) k
-  same_credits x none other k = stands.credits k ∙ ap (λ (rows : List CreditRow). find_row credit_key rows k) (sym (none_made b.entries x none other))
-
   pub Stands-claimed : (c : HolidayClaim) (reply : Reply) → judge b (Do caller number day (Claim c)) ≡ new_reply reply → (next : ℕ) → next ≡ length (claims_of b.entries) + 1
       → Stands (step b (Do caller number day (Claim c))) (noted (entry caller number day (Claim c) reply) (changed (AddClaim (new_claim next day c)) t))
   Stands-claimed c reply judged next is =
@@ -163,8 +149,8 @@ module _ (b : Book) (t : Tables) (stands : Stands b t) (caller : Caller) (number
       let many : t.last_claim + 1 ≡ length (claims_of (x ∷ b.entries)) =
       (let old : length t.claims ≡ length (claims_of b.entries) = ap (λ (rows : List ClaimRow). length rows) stands.claims in omega (arith, stands.last_claim, old, length-with_row claim_key t.claims new))
       ∙ ap (λ (rows : List ClaimRow). length rows) claims in
-      let there = with_lists_left b t stands x (record { nobody = refl; no_report = refl; no_rows = refl; no_rates = refl }) (unrefused b caller number day (Claim c) reply judged).free refl
-      (with_row claim_key t.claims new) (t.last_claim + 1) t.credits t.serial claims many (same_credits x refl refl) stands.credits_in_order (stands.serial ∙ sym (none_taken b.entries x refl refl)) in
+      let there = with_lists_left b t stands x (record { no_member = λ e old. refl; no_registration = refl; no_report = refl; no_move = λ rows. refl; no_rows = refl; no_rates = refl }) (unrefused b caller number day (Claim c) reply judged).free refl
+      (with_row claim_key t.claims new) (t.last_claim + 1) t.credits t.serial claims many (credits_left b t stands x (λ rows. refl) refl refl) stands.credits_in_order (stands.serial ∙ sym (none_taken b.entries x refl refl)) in
       subst (λ (p : Verdict × ℕ). Stands (after b (Do caller number day (Claim c)) p.0) (noted x (changed (AddClaim (new_claim p.1 day c)) t))) (λ i. (sym judged i, sym is i)) there
 
   pub Stands-withdrawn : (w : Withdrawal) (reply : Reply) → judge b (Do caller number day (Withdraw w)) ≡ new_reply reply → (row : ClaimRow) → claim_of b.entries w.claim ≡ Some row
@@ -174,8 +160,8 @@ module _ (b : Book) (t : Tables) (stands : Stands b t) (caller : Caller) (number
       let claims : put_row claim_key t.claims (withdrawn row) ≡ claims_of (x ∷ b.entries) =
       ap (λ (rows : List ClaimRow). put_row claim_key rows (withdrawn row)) stands.claims
       ∙ one_turned b.entries w.claim row found withdrawn (λ claim. refl) in
-      let there = with_lists_left b t stands x (record { nobody = refl; no_report = refl; no_rows = refl; no_rates = refl }) (unrefused b caller number day (Withdraw w) reply judged).free refl
-      (put_row claim_key t.claims (withdrawn row)) t.last_claim t.credits t.serial claims (stands.last_claim ∙ as_many b.entries w.claim row found withdrawn (λ claim. refl)) (same_credits x refl refl) stands.credits_in_order
+      let there = with_lists_left b t stands x (record { no_member = λ e old. refl; no_registration = refl; no_report = refl; no_move = λ rows. refl; no_rows = refl; no_rates = refl }) (unrefused b caller number day (Withdraw w) reply judged).free refl
+      (put_row claim_key t.claims (withdrawn row)) t.last_claim t.credits t.serial claims (stands.last_claim ∙ as_many b.entries w.claim row found withdrawn (λ claim. refl)) (credits_left b t stands x (λ rows. refl) refl refl) stands.credits_in_order
       (stands.serial ∙ sym (none_taken b.entries x refl refl)) in
       subst (λ (p : Verdict). Stands (after b (Do caller number day (Withdraw w)) p) (noted x (changed (WithdrawClaim (withdrawn row)) t))) (sym judged) there
 
@@ -198,7 +184,7 @@ module _ (b : Book) (t : Tables) (stands : Stands b t) (caller : Caller) (number
         let lines = credits_of_lines (lines_standing b.entries) in
         grown credit_key t.credits (credits_made b.entries) offs stands.credits offs_new.1 offs_new.0 k
         ∙ sym (find_row-between credit_key (set_offs b.entries) lines offs k offs_new.1)
-        ∙ (λ i. find_row credit_key ((set_offs b.entries ++ sym offs_are i) ++ credits_of_lines (sym (none_moved b.entries release refl) i)) k)
+        ∙ (λ i. find_row credit_key ((set_offs b.entries ++ sym offs_are i) ++ credits_of_lines (sym (none_moved b.entries release (λ rows. refl) refl) i)) k)
 
     claims_then : put_row claim_key t.claims (released day settlement row) ≡ claims_of (release ∷ b.entries)
     claims_then =
@@ -207,7 +193,7 @@ module _ (b : Book) (t : Tables) (stands : Stands b t) (caller : Caller) (number
 
     released_tables : entry_under b.entries caller number ≡ None → Stands (appended b release) (noted release (changed (ReleaseClaim (released day settlement row) (serial_count b.entries + 1)) t))
     released_tables free =
-        with_lists_left b t stands release (record { nobody = refl; no_report = refl; no_rows = refl; no_rates = refl }) free refl
+        with_lists_left b t stands release (record { no_member = λ e old. refl; no_registration = refl; no_report = refl; no_move = λ rows. refl; no_rows = refl; no_rates = refl }) free refl
         (put_row claim_key t.claims (released day settlement row)) t.last_claim (with_rows credit_key t.credits offs) (t.serial + 1) claims_then
         (stands.last_claim ∙ as_many b.entries claim row found (released day settlement) (λ c. refl)) credits_then
         (AreInOrder-with_rows credit_key t.credits offs stands.credits_in_order (still_new credit_key t.credits (credits_made b.entries) offs stands.credits offs_new.1) offs_new.0)

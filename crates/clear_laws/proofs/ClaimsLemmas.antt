@@ -18,7 +18,7 @@ use Rattle.clear_values.specs.declared.rows.ReleasedClaim.{ReleasedClaim}
 use Rattle.clear_values.specs.Limits.{most_entries}
 use Rattle.clear_values.specs.Numbers.{IsListNo}
 use Rattle.clear_values.specs.RowRanges.{IsClaimRow, IsClaimState, IsReleased, settled}
-use Rattle.clear_book.specs.Book.{RateTable, Book, Entry, Member, newer, registered_by, member_of}
+use Rattle.clear_book.specs.Book.{RateTable, Book, Entry, member_of}
 use Rattle.clear_book.specs.Calls.{IsCommand}
 use Rattle.clear_book.specs.Judge.{own_rule, reply_to}
 use Rattle.clear_book.specs.Laws.{AreNumbered}
@@ -32,6 +32,7 @@ use Rattle.clear_laws.proofs.JudgeLemmas.{unrefused}
 use Rattle.clear_laws.proofs.LimitsLemmas.{accepted}
 use Rattle.clear_laws.proofs.LinesLemmas.{range_with_len-append}
 use Rattle.clear_laws.proofs.ListNumbersLemmas.{lists_few}
+use Rattle.clear_laws.proofs.MembersLemmas.{still_registered}
 use Rattle.clear_laws.proofs.SerialLemmas.{follow-in_order}
 use Rattle.clear_values.proofs.KeyedChangesLemmas.{all_found}
 use Rattle.clear_values.proofs.ListLemmas.{both}
@@ -243,11 +244,7 @@ HasMember xs claim = is_some (member_of xs claim.employer) ≡ true
 
 -- who is registered stays so
 pub still_member : (xs : List Entry) (x : Entry) (e : ℕ) → is_some (member_of xs e) ≡ true → is_some (member_of (x ∷ xs) e) ≡ true
-still_member xs x e h = told (registered_by x.command e)
-  where
-    told : (o : Option Member) → is_some (newer o (member_of xs e)) ≡ true
-    told None = h
-    told (Some member) = refl
+still_member xs x e h = still_registered x.command e (member_of xs e) h
 
 new-registered : (b : Book) (last t : ℕ) (command : Command) → own_rule b t command ≡ None → AllByRecursion (HasMember b.entries) (claims_by last t command)
 new-registered b last t (Claim c) own =

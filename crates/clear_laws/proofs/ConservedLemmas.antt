@@ -1,5 +1,5 @@
 -- No cent of a lawful book is lost.
-use Rattle.std.proofs.Common.{◌≡◌, ℕ, ◌+◌, List, [], ◌∷◌, filter, Option, Some, None, IfSome, is_some, option_and_then, Bool, true, false, cond, ◌&&◌, ◌==◌, sum_by, refl, sym, ap, ◌∙◌, subst, arith}
+use Rattle.std.proofs.Common.{◌≡◌, ℕ, ◌+◌, List, [], ◌∷◌, filter, map, Option, Some, None, IfSome, is_some, option_and_then, Bool, true, false, cond, ◌&&◌, ◌==◌, sum_by, refl, sym, ap, ◌∙◌, subst, arith}
 use Rattle.std.specs.Prelude.{is_none}
 use Rattle.std.proofs.lemmas.Bool.Decides.{nat_tests}
 use Rattle.std.proofs.lemmas.List.Sums.{sum_by-append, sum_by-cons}
@@ -25,19 +25,22 @@ use Rattle.clear_values.proofs.KeyedChangesLemmas.{found_holds}
 use Rattle.clear_values.proofs.KeyedLemmas.{other_row}
 use Rattle.clear_values.proofs.KeyedRowsLemmas.{sum_by-with_rows}
 use Rattle.clear_values.proofs.ListLemmas.{both, each}
+use Rattle.clear_book.specs.declared.calls.Assignment.{Assignment}
 use Rattle.clear_book.specs.declared.calls.Command.{Command}
-use Rattle.clear_book.specs.declared.calls.Command.TheVariants.{ImportBank, Release}
+use Rattle.clear_book.specs.declared.calls.Command.TheVariants.{ImportBank, Assign, Release}
 use Rattle.clear_book.specs.Accounts.{charges_of, credit_key, credits_of, credits_standing, credits_under}
 use Rattle.clear_book.specs.Book.{RateTable, Book, Entry, member_of}
 use Rattle.clear_book.specs.Conserved.{firm_cents, is_line_of, line_cents, over_firms, pieces_cents, prepaid_cents, set_off_cents, standing_cents, suspense_cents}
-use Rattle.clear_book.specs.Lines.{credit_of_line, credits_made, credits_of_lines, employer_of_line, is_credit_of, is_in_suspense, line_credit, lines_in, lines_of_rows, lines_seen, lines_standing, new_lines, rows_by, rows_from, serial_count, serials_of, set_offs, set_offs_by, set_offs_of}
+use Rattle.clear_book.specs.Judge.{own_rule}
+use Rattle.clear_book.specs.Lines.{assigned, moved_by, credit_of_line, credits_made, credits_of_lines, employer_of_line, is_credit_of, is_in_suspense, line_credit, lines_in, lines_of_rows, lines_seen, lines_standing, new_lines, rows_by, rows_from, serial_count, serials_of, set_offs, set_offs_by, set_offs_of}
 use Rattle.clear_book.specs.Machine.{AreJudged, IsLawful}
-use Rattle.clear_book.specs.Tables.{claim_key}
+use Rattle.clear_laws.proofs.AssignLemmas.{accepted_assignment}
+use Rattle.clear_laws.proofs.LimitsLemmas.{accepted}
+use Rattle.clear_book.specs.Tables.{bank_key, claim_key}
 use Rattle.clear_book.specs.Workers.{claim_of, claims_of, employers_of, number_key, released_by}
 use Rattle.clear_laws.proofs.AccountLimitLemmas.{among-cents}
 use Rattle.clear_laws.proofs.ClaimsLemmas.{claims-registered, still_member}
 use Rattle.clear_laws.proofs.DistinctLemmas.{itself, same_worker}
-use Rattle.clear_laws.proofs.SeenLemmas.{of_standing}
 use Rattle.clear_laws.proofs.SerialLemmas.{in_order-once}
 use Rattle.clear_laws.proofs.WorkersLemmas.{employers_right}
 
@@ -211,12 +214,28 @@ still_firm xs x row h = told row.employer h
     told None h = tt
     told (Some e) h = still_member xs x e h
 
-seen-registered : (xs : List Entry) → AllByRecursion (HasFirm xs) (lines_seen xs)
-seen-registered [] = tt
-seen-registered (x ∷ xs) =
+-- a line is assigned to a firm that is registered
+assigned-registered : (xs : List Entry) (a : Assignment) (rows : List BankRow) → is_some (member_of xs a.employer) ≡ true → AllByRecursion (HasFirm xs) rows → AllByRecursion (HasFirm xs) (map (assigned a) rows)
+assigned-registered xs a [] member h = tt
+assigned-registered xs a (row ∷ rows) member h = (told (is_key (bank_key row) a.reference), assigned-registered xs a rows member h.1)
+  where
+    told : (b : Bool) → HasFirm xs (cond b (record row { employer = Some a.employer }) row)
+    told true = member
+    told false = h.0
+
+moved-registered : (b : Book) (t : ℕ) (command : Command) (rows : List BankRow) → own_rule b t command ≡ None → AllByRecursion (HasFirm b.entries) rows → AllByRecursion (HasFirm b.entries) (moved_by command rows)
+moved-registered b t (Assign a) rows own h =
+    assigned-registered b.entries a rows (accepted_assignment b t a own).member h
+moved-registered b t command rows own h = h
+
+standing-registered : (rates : RateTable) (xs : List Entry) → AreJudged rates xs → AllByRecursion (HasFirm xs) (lines_standing xs)
+standing-registered rates [] h = tt
+standing-registered rates (x ∷ xs) h =
     let rows = rows_by xs (lines_seen xs) x.command in
-    both (HasFirm (x ∷ xs)) (lines_seen xs) rows
-    (each (HasFirm xs) (HasFirm (x ∷ xs)) (still_firm xs x) (lines_seen xs) (seen-registered xs))
+    let lines = moved_by x.command (lines_standing xs) in
+    both (HasFirm (x ∷ xs)) lines rows
+    (each (HasFirm xs) (HasFirm (x ∷ xs)) (still_firm xs x) lines
+    (moved-registered (record { opening = rates; entries = xs }) x.day x.command (lines_standing xs) (accepted rates x xs h).1 (standing-registered rates xs h.0)))
     (each (HasFirm xs) (HasFirm (x ∷ xs)) (still_firm xs x) rows (by-registered xs (lines_seen xs) x.command))
 
 same_firm : (t : ℕ) (reply : Reply) (claim : ClaimRow) → (released_by t reply claim).employer ≡ claim.employer
@@ -255,7 +274,7 @@ module _ (b : Book) (lawful : IsLawful b) where
   lines-there : AllByRecursion (λ row. IfSome row.employer (IsIn (employers_of b.entries))) (lines_standing b.entries)
   lines-there =
       each (HasFirm b.entries) (λ row. IfSome row.employer (IsIn (employers_of b.entries))) (λ row h. told row.employer h) (lines_standing b.entries)
-      (of_standing (HasFirm b.entries) b.entries (seen-registered b.entries))
+      (standing-registered b.opening b.entries lawful)
     where
       told : (o : Option ℕ) → IfSome o (λ e. is_some (member_of b.entries e) ≡ true) → IfSome o (IsIn (employers_of b.entries))
       told None h = tt

@@ -20,15 +20,15 @@ use Rattle.clear_values.specs.declared.rows.CreditRow.{CreditRow}
 use Rattle.clear_values.specs.declared.rows.ReleasedClaim.{ReleasedClaim}
 use Rattle.clear_book.specs.Accounts.{credit_key, rank_of}
 use Rattle.clear_book.specs.Book.{Entry}
-use Rattle.clear_values.specs.Keyed.{is_key, find_row, AreOnce}
-use Rattle.clear_book.specs.Lines.{credit_count, credit_of_line, credits_after, credits_made, credits_of_lines, is_credit_of, is_release, line_credit, lines_after, lines_seen, lines_standing, release_count, rows_brought, rows_by, serial_count, serial_key, set_offs, set_offs_by, set_offs_of}
+use Rattle.clear_values.specs.Keyed.{is_key, find_row, newer, AreOnce}
+use Rattle.clear_book.specs.Lines.{credit_count, credit_of_line, credits_after, credits_made, credits_of_lines, is_credit_of, is_release, line_credit, lines_after, lines_seen, lines_standing, moved_by, release_count, rows_brought, rows_by, serial_count, serial_key, set_offs, set_offs_by, set_offs_of}
 use Rattle.clear_book.specs.Workers.{claim_of, released_by}
 use Rattle.clear_values.proofs.CreditRowsLemmas.{set_off_row, set_offs-serial}
 use Rattle.clear_values.proofs.KeyedLemmas.{other_row}
-use Rattle.clear_values.proofs.KeyedRowsLemmas.{AreNew, AreOnce-append, all_new}
-use Rattle.clear_laws.proofs.LinesLemmas.{credits_of_lines-append, lines_or_release, none_moved, own_count, release_count-next, serial_count-next, serials_above, serials_brought, serials_once, serials_small, standing_seen}
+use Rattle.clear_values.proofs.KeyedRowsLemmas.{AreNew, AreOnce-append, find_row-append}
+use Rattle.clear_laws.proofs.LinesLemmas.{credits_of_lines-append, length-standing, lines_or_release, none_moved, of_standing, own_count, release_count-next, serial_count-next, serials_above, serials_brought, serials_small, standing_once}
 use Rattle.clear_values.proofs.ListLemmas.{both, each}
-use Rattle.clear_laws.proofs.SerialLemmas.{above-new, both_new, new-finer, new_to_both, once-finer, up_to-new}
+use Rattle.clear_laws.proofs.SerialLemmas.{above-new, new-finer, none-above, none-up_to, of_both, once-finer}
 
 -- ---- what a command sets off
 
@@ -181,7 +181,7 @@ made_with xs x rows other stand =
 -- so it is with a file
 pub lines_with : (xs : List Entry) (x : Entry) (file : List ℕ) → x.command ≡ ImportBank file → lines_standing (x ∷ xs) ≡ lines_after xs file
 lines_with xs x file is =
-    standing_seen (x ∷ xs) ∙ (λ i. sym (standing_seen xs) i ++ rows_by xs (lines_seen xs) (is i))
+    (λ i. moved_by (is i) (lines_standing xs) ++ rows_by xs (lines_seen xs) (is i))
 
 after_made : (xs : List Entry) (rows : List BankRow) → set_offs xs ++ credits_of_lines (lines_standing xs ++ rows) ≡ credits_made xs ++ credits_of_lines rows
 after_made xs rows =
@@ -191,10 +191,10 @@ pub credits_with : (xs : List Entry) (x : Entry) (file : List ℕ) → x.command
 credits_with xs x file is =
     made_with xs x (rows_brought xs (lines_seen xs) file) (ap is_release is) (lines_with xs x file is) ∙ sym (after_made xs (rows_brought xs (lines_seen xs) file))
 
--- a command that brings no lines and is no release makes no credits
-pub none_made : (xs : List Entry) (x : Entry) → rows_by xs (lines_seen xs) x.command ≡ [] → is_release x.command ≡ false → credits_made (x ∷ xs) ≡ credits_made xs
-none_made xs x none other =
-    (λ i. (set_offs xs ++ no_set_offs xs x.day x.reply x.command other i) ++ credits_of_lines (none_moved xs x none i))
+-- a command that brings no lines, moves none and is no release makes no credits
+pub none_made : (xs : List Entry) (x : Entry) → ((rows : List BankRow) → moved_by x.command rows ≡ rows) → rows_by xs (lines_seen xs) x.command ≡ [] → is_release x.command ≡ false → credits_made (x ∷ xs) ≡ credits_made xs
+none_made xs x still none other =
+    (λ i. (set_offs xs ++ no_set_offs xs x.day x.reply x.command other i) ++ credits_of_lines (none_moved xs x still none i))
     ∙ ap (λ offs. offs ++ credits_of_lines (lines_standing xs)) (append-nil (set_offs xs))
 
 -- ---- the credits of lines have the serials of these
@@ -226,17 +226,22 @@ paid_serials P (row ∷ rows) h = told row.employer (paid_serials P rows h.1)
     told None rest = rest
     told (Some e) rest = (h.0, rest)
 
--- those of the lines that came in are at most the last that was given, and those of a command are above
-lines-given : (xs : List Entry) → AllByRecursion (λ credit. credit.serial ≤ serial_count xs) (credits_of_lines (lines_seen xs))
+-- those of the lines are at most the last that was given, and those of a command are above
+seen-given : (xs : List Entry) → AllByRecursion (λ row. row.serial ≤ serial_count xs) (lines_seen xs)
+seen-given xs =
+    each (λ (row : BankRow). (1 ≤ row.serial) × (row.serial ≤ serial_count xs)) (λ row. row.serial ≤ serial_count xs) (λ row h. h.1) (lines_seen xs) (serials_small xs)
+
+lines-given : (xs : List Entry) → AllByRecursion (λ credit. credit.serial ≤ serial_count xs) (credits_of_lines (lines_standing xs))
 lines-given xs =
-    paid_serials (λ s. s ≤ serial_count xs) (lines_seen xs)
-    (each (λ (row : BankRow). (1 ≤ row.serial) × (row.serial ≤ serial_count xs)) (λ row. row.serial ≤ serial_count xs) (λ row h. h.1) (lines_seen xs) (serials_small xs))
+    paid_serials (λ s. s ≤ serial_count xs) (lines_standing xs) (of_standing (λ p. p.1 ≤ serial_count xs) xs (seen-given xs))
+
+seen-above : (xs : List Entry) (command : Command) → AllByRecursion (λ row. serial_count xs < row.serial) (rows_by xs (lines_seen xs) command)
+seen-above xs command =
+    let rows = rows_by xs (lines_seen xs) command in
+    each (λ (row : BankRow). (serial_count xs < row.serial) × (row.serial ≤ serial_count xs + length rows)) (λ row. serial_count xs < row.serial) (λ row h. h.0) rows (serials_above xs command)
 
 lines-above : (xs : List Entry) (command : Command) → AllByRecursion (λ credit. serial_count xs < credit.serial) (credits_of_lines (rows_by xs (lines_seen xs) command))
-lines-above xs command =
-    let rows = rows_by xs (lines_seen xs) command in
-    paid_serials (λ s. serial_count xs < s) rows
-    (each (λ (row : BankRow). (serial_count xs < row.serial) × (row.serial ≤ serial_count xs + length rows)) (λ row. serial_count xs < row.serial) (λ row h. h.0) rows (serials_above xs command))
+lines-above xs command = paid_serials (λ s. serial_count xs < s) (rows_by xs (lines_seen xs) command) (seen-above xs command)
 
 -- ---- set-offs and lines have serials apart
 
@@ -255,27 +260,45 @@ set_offs-given (x ∷ xs) =
     (each (λ (credit : CreditRow). credit.serial ≤ serial_count xs) (λ credit. credit.serial ≤ serial_count (x ∷ xs)) (λ credit h. omega (arith, h, next)) (set_offs xs) (set_offs-given xs))
     (each (IsOwn xs x.command) (λ credit. credit.serial ≤ serial_count (x ∷ xs)) (λ credit h. let high = h.1 in omega (arith, high, next)) (set_offs_by xs x.day x.reply x.command) (set_offs-serials xs x.day x.reply x.command))
 
+-- no set-off has the serial
+abbrev IsFree : List CreditRow → ℕ → Type 0
+IsFree offs serial = find_row credit_serial offs (serial ∷ []) ≡ None
+
+both_free : (offs more : List CreditRow) (s : ℕ) → IsFree offs s → IsFree more s → IsFree (offs ++ more) s
+both_free offs more s one other =
+    find_row-append credit_serial offs more (s ∷ []) ∙ (λ i. newer (one i) (other i))
+
 -- a command has either set-offs or lines
 either : (xs : List Entry) (x : Entry) → (rows_by xs (lines_seen xs) x.command ≡ []) ⊎ (is_release x.command ≡ false)
-    → AreNew credit_serial (set_offs_by xs x.day x.reply x.command) (credits_of_lines (rows_by xs (lines_seen xs) x.command))
-either xs x (inl none) = subst (λ (rows : List BankRow). AreNew credit_serial (set_offs_by xs x.day x.reply x.command) (credits_of_lines rows)) (sym none) tt
+    → AllByRecursion (λ row. IsFree (set_offs_by xs x.day x.reply x.command) row.serial) (rows_by xs (lines_seen xs) x.command)
+either xs x (inl none) = subst (λ (rows : List BankRow). AllByRecursion (λ row. IsFree (set_offs_by xs x.day x.reply x.command) row.serial) rows) (sym none) tt
 either xs x (inr other) =
-    subst (λ (offs : List CreditRow). AreNew credit_serial offs (credits_of_lines (rows_by xs (lines_seen xs) x.command))) (sym (no_set_offs xs x.day x.reply x.command other))
-    (all_new credit_serial (credits_of_lines (rows_by xs (lines_seen xs) x.command)))
+    subst (λ (offs : List CreditRow). AllByRecursion (λ row. IsFree offs row.serial) (rows_by xs (lines_seen xs) x.command)) (sym (no_set_offs xs x.day x.reply x.command other))
+    (each (λ (row : BankRow). serial_count xs < row.serial) (λ row. IsFree [] row.serial) (λ row h. refl) (rows_by xs (lines_seen xs) x.command) (seen-above xs x.command))
 
-lines-new : (xs : List Entry) → AreNew credit_serial (set_offs xs) (credits_of_lines (lines_seen xs))
-lines-new [] = tt
-lines-new (x ∷ xs) =
+-- no set-off has the serial of a line
+seen-free : (xs : List Entry) → AllByRecursion (λ row. IsFree (set_offs xs) row.serial) (lines_seen xs)
+seen-free [] = tt
+seen-free (x ∷ xs) =
     let n = serial_count xs in
     let offs = set_offs xs in
     let more = set_offs_by xs x.day x.reply x.command in
     let rows = rows_by xs (lines_seen xs) x.command in
-    let old = credits_of_lines (lines_seen xs) in
-    let new = credits_of_lines rows in
-    subst (AreNew credit_serial (offs ++ more)) (sym (credits_of_lines-append (lines_seen xs) rows))
-    (new_to_both credit_serial offs more (old ++ new)
-    (both_new credit_serial offs old new (lines-new xs) (above-new serial_of n offs new (set_offs-given xs) (lines-above xs x.command)))
-    (both_new credit_serial more old new (up_to-new serial_of n more old (set_offs-above xs x) (lines-given xs)) (either xs x (lines_or_release xs (lines_seen xs) x.command))))
+    both (λ row. IsFree (offs ++ more) row.serial) (lines_seen xs) rows
+    (of_both (λ row. IsFree offs row.serial) (λ row. row.serial ≤ n) (λ row. IsFree (offs ++ more) row.serial)
+    (λ row free low. both_free offs more row.serial free (none-above serial_of row.serial n more low (set_offs-above xs x))) (lines_seen xs) (seen-free xs) (seen-given xs))
+    (of_both (λ row. n < row.serial) (λ row. IsFree more row.serial) (λ row. IsFree (offs ++ more) row.serial)
+    (λ row above free. both_free offs more row.serial (none-up_to serial_of row.serial n offs above (set_offs-given xs)) free) rows (seen-above xs x.command)
+    (either xs x (lines_or_release xs (lines_seen xs) x.command)))
+
+free-new : (offs credits : List CreditRow) → AllByRecursion (λ credit. IsFree offs credit.serial) credits → AreNew credit_serial offs credits
+free-new offs [] h = tt
+free-new offs (credit ∷ credits) h = (h.0, free-new offs credits h.1)
+
+lines-new : (xs : List Entry) → AreNew credit_serial (set_offs xs) (credits_of_lines (lines_standing xs))
+lines-new xs =
+    free-new (set_offs xs) (credits_of_lines (lines_standing xs))
+    (paid_serials (IsFree (set_offs xs)) (lines_standing xs) (of_standing (λ p. IsFree (set_offs xs) p.1) xs (seen-free xs)))
 
 -- ---- so each credit has a key of its own
 
@@ -305,18 +328,17 @@ set_offs-once (x ∷ xs) =
 -- no serial stands twice for a purpose
 pub made_once : (xs : List Entry) → AreOnce paid_key (credits_made xs)
 made_once xs =
-    subst (λ (rows : List BankRow). AreOnce paid_key (set_offs xs ++ credits_of_lines rows)) (sym (standing_seen xs))
-    (AreOnce-append paid_key (set_offs xs) (credits_of_lines (lines_seen xs)) (set_offs-once xs)
-    (once-finer credit_serial paid_key by_purpose (credits_of_lines (lines_seen xs)) (paid_once (lines_seen xs) (serials_once xs)))
-    (new-finer credit_serial paid_key by_purpose (set_offs xs) (credits_of_lines (lines_seen xs)) (lines-new xs)))
+    let credits = credits_of_lines (lines_standing xs) in
+    AreOnce-append paid_key (set_offs xs) credits (set_offs-once xs)
+    (once-finer credit_serial paid_key by_purpose credits (paid_once (lines_standing xs) (standing_once xs)))
+    (new-finer credit_serial paid_key by_purpose (set_offs xs) credits (lines-new xs))
 
 pub credits_once : (xs : List Entry) → AreOnce credit_key (credits_made xs)
 credits_once xs = once-finer paid_key credit_key by_key (credits_made xs) (made_once xs)
 
 made-given : (xs : List Entry) → AllByRecursion (λ credit. credit.serial ≤ serial_count xs) (credits_made xs)
 made-given xs =
-    subst (λ (rows : List BankRow). AllByRecursion (λ credit. credit.serial ≤ serial_count xs) (set_offs xs ++ credits_of_lines rows)) (sym (standing_seen xs))
-    (both (λ credit. credit.serial ≤ serial_count xs) (set_offs xs) (credits_of_lines (lines_seen xs)) (set_offs-given xs) (lines-given xs))
+    both (λ credit. credit.serial ≤ serial_count xs) (set_offs xs) (credits_of_lines (lines_standing xs)) (set_offs-given xs) (lines-given xs)
 
 -- the set-offs of a command are new
 pub set_offs_new : (xs : List Entry) (x : Entry) → AreOnce credit_key (set_offs_by xs x.day x.reply x.command) × AreNew credit_key (credits_made xs) (set_offs_by xs x.day x.reply x.command)
@@ -368,5 +390,5 @@ all_set_offs-few (x ∷ xs) e p =
 -- a firm has for a purpose at most as many credits as serials were given
 pub credits-few : (xs : List Entry) (e : ℕ) (p : Purpose) → credit_count (credits_made xs) e p ≤ serial_count xs
 credits-few xs e p =
-    let lines : length (lines_standing xs) ≡ length (lines_seen xs) = ap (λ (rows : List BankRow). length rows) (standing_seen xs) in
+    let lines = length-standing xs in
     omega (arith, lines, all_set_offs-few xs e p, lines-few (lines_standing xs) e p, credit_count-append (set_offs xs) (credits_of_lines (lines_standing xs)) e p)

@@ -9,7 +9,7 @@ use Rattle.std.specs.Option.{option_map}
 use Rattle.clear_money.specs.Calendar.{IsMonth, months}
 use Rattle.clear_money.specs.Rates.{Rate, rate_in_force}
 use Rattle.clear_book.specs.declared.calls.Command.{Command}
-use Rattle.clear_book.specs.declared.calls.Command.TheVariants.{Register, Report, Correct, ImportBank, Claim, Withdraw, Release, PayoutList}
+use Rattle.clear_book.specs.declared.calls.Command.TheVariants.{Register}
 use Rattle.clear_book.specs.declared.rules.Limit.TheVariants.{Employers}
 use Rattle.clear_book.specs.declared.rules.Rule.TheVariants.{OverLimit}
 use Rattle.clear_values.specs.declared.rows.ClaimRow.{ClaimRow}
@@ -353,13 +353,7 @@ registers_room b t (Register r) own is =
   where
     room : (n : ℕ) → nat_le 10000 n ≡ false → n < 10000
     room n h = grind (arith, nat_tests)
-registers_room b t (Report r) own is = absurd (cc is)
-registers_room b t (Correct c) own is = absurd (cc is)
-registers_room b t (ImportBank file) own is = absurd (cc is)
-registers_room b t (Claim c) own is = absurd (cc is)
-registers_room b t (Withdraw c) own is = absurd (cc is)
-registers_room b t (Release number) own is = absurd (cc is)
-registers_room b t PayoutList own is = absurd (cc is)
+registers_room b t command own is = absurd (cc is)
 
 -- so there are at most 10,000 employers
 lawful_employers : (rates : RateTable) (xs : List Entry) → AreJudged rates xs → employer_count xs ≤ 10000

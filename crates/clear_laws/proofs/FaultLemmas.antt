@@ -9,9 +9,9 @@ use Rattle.clear_bank.specs.Newness.{Placed}
 use Rattle.clear_book.specs.declared.calls.Call.{Call}
 use Rattle.clear_book.specs.declared.calls.Call.TheVariants.{Do, Ask}
 use Rattle.clear_book.specs.declared.calls.Command.{Command}
-use Rattle.clear_book.specs.declared.calls.Command.TheVariants.{Register, Report, Correct, ImportBank, Claim, Withdraw, Release, PayoutList}
+use Rattle.clear_book.specs.declared.calls.Command.TheVariants.{AddRate, Register, EndMembership, Report, Correct, ImportBank, Assign, Claim, Withdraw, Release, PayoutList}
 use Rattle.clear_book.specs.declared.calls.Query.{Query}
-use Rattle.clear_book.specs.declared.calls.Query.TheVariants.{Owed, Statement, Worker, Payout}
+use Rattle.clear_book.specs.declared.calls.Query.TheVariants.{Owed, Statement, Worker, Suspense, Payout}
 use Rattle.clear_book.specs.declared.outcomes.Answer.{Answer}
 use Rattle.clear_book.specs.declared.outcomes.Outcome.TheVariants.{Refused}
 use Rattle.clear_values.specs.declared.replies.Reply.{Reply}
@@ -22,19 +22,21 @@ use Rattle.clear_book.specs.declared.rules.Rule.TheVariants.{Store, NumberReused
 use Rattle.clear_values.specs.declared.causes.StoreCause.{StoreCause}
 use Rattle.clear_values.specs.declared.causes.StoreCause.TheVariants.{Other}
 use Rattle.clear_money.specs.Rates.{rate_in_force}
-use Rattle.clear_book.specs.Book.{Book, Entry, rates_of, member_of, employer_count, reported_version}
+use Rattle.clear_book.specs.Book.{Book, Entry, rates_of, member_of, employer_count, last_reported, reported_version}
 use Rattle.clear_book.specs.Checks.{when, first_of}
 use Rattle.clear_book.specs.Judge.{Verdict, new_reply, kept_reply, an_answer, a_refusal, outcome_of, day_back, judge, judged_do, judged_ask, said_before, own_rule, own_query}
 use Rattle.clear_book.specs.Machine.{Goes}
+use Rattle.clear_book.specs.Own.Assign.{assign_rules}
 use Rattle.clear_book.specs.Own.Claim.{claim_rules}
 use Rattle.clear_book.specs.Own.Correct.{correct_rules, stale_rule}
+use Rattle.clear_book.specs.Own.EndMembership.{end_rules, reported_rule}
 use Rattle.clear_book.specs.Own.ImportBank.{ahead_rule, fault_rule, import_rules, rule_of}
 use Rattle.clear_book.specs.Own.Lines.{twice_rule}
 use Rattle.clear_book.specs.Own.Register.{register_rules}
 use Rattle.clear_book.specs.Own.Release.{Debts, debts_of, has_too_many, missing_rule, own_release, release_rules, settles}
 use Rattle.clear_book.specs.Own.Report.{exists_rule, report_rules}
 use Rattle.clear_book.specs.Own.Withdraw.{withdraw_rules}
-use Rattle.clear_book.specs.Lines.{credit_count, credits_after, lines_after, lines_of_rows, lines_seen, rows_brought, suspense_count}
+use Rattle.clear_book.specs.Lines.{credit_count, credits_after, credits_made, line_of, lines_after, lines_of_rows, lines_seen, rows_brought, suspense_count}
 use Rattle.clear_book.specs.Workers.{balance_of, claim_of, is_employed}
 
 -- the rule says that the store failed
@@ -100,10 +102,18 @@ release_other claim debts =
     many_other None = tt
     many_other (Some row) = when_other _ _ refl
 
+reported_other : (month : Option ℕ) (last : ℕ) → IsOther (reported_rule month last)
+reported_other None last = tt
+reported_other (Some month) last = when_other _ _ refl
+
 own_other : (b : Book) (t : ℕ) (command : Command) → IsOther (own_rule b t command)
+own_other b t (AddRate row) = when_other _ _ refl
 own_other b t (Register r) =
     first_other (register_rules (is_some (member_of b.entries r.employer)) (employer_count b.entries) (is_some (rate_in_force (rates_of b) r.start)))
     (when_other _ _ refl, (when_other _ _ refl, (when_other _ _ refl, tt)))
+own_other b t (EndMembership end) =
+    first_other (end_rules (member_of b.entries end.employer) (last_reported b.entries end.employer) end.last)
+    (when_other _ _ refl, (when_other _ _ refl, (reported_other _ end.last, tt)))
 own_other b t (Report r) =
     first_other (report_rules (member_of b.entries r.employer) (reported_version b.entries r.employer r.month) t r.month r.lines)
     (when_other _ _ refl, (when_other _ _ refl, (when_other _ _ refl, (exists_other _, (twice_other _, (when_other _ _ refl, (when_other _ _ refl, tt)))))))
@@ -113,6 +123,9 @@ own_other b t (Correct c) =
 own_other b t (ImportBank file) =
     first_other (import_rules (lines_of_rows (lines_seen b.entries)) (rows_brought b.entries (lines_seen b.entries) file) (suspense_count (lines_after b.entries file)) (credit_count (credits_after b.entries file)) t file)
     (fault_other _, (fault_other _, (ahead_other _, (when_other _ _ refl, (when_other _ _ refl, tt)))))
+own_other b t (Assign a) =
+    first_other (assign_rules (is_some (member_of b.entries a.employer)) (line_of b.entries a.reference) (credit_count (credits_made b.entries) a.employer))
+    (when_other _ _ refl, (when_other _ _ refl, (when_other _ _ refl, tt)))
 own_other b t (Claim c) =
     first_other (claim_rules (is_some (member_of b.entries c.employer)) (is_employed b c.employer c.worker) (balance_of b c.worker) c.cents)
     (when_other _ _ refl, (when_other _ _ refl, (when_other _ _ refl, tt)))
@@ -126,6 +139,7 @@ query_other : (b : Book) (query : Query) → IsOther (own_query b query)
 query_other b (Owed employer) = when_other _ _ refl
 query_other b (Statement employer) = when_other _ _ refl
 query_other b (Worker worker) = tt
+query_other b Suspense = tt
 query_other b (Payout list) = when_other _ _ refl
 
 back_other : (ledger : Option ℕ) (t : ℕ) → IsOther (day_back ledger t)

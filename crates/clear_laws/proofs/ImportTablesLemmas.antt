@@ -23,7 +23,7 @@ use Rattle.clear_laws.proofs.ClaimsLemmas.{claims_left}
 use Rattle.clear_laws.proofs.JudgeLemmas.{unrefused}
 use Rattle.clear_laws.proofs.RequestLemmas.{requests_found, requests_still_in_order}
 use Rattle.clear_laws.proofs.CreditsMadeLemmas.{credits_new, made_with}
-use Rattle.clear_laws.proofs.LinesLemmas.{references_new, serial_count-next, standing_seen}
+use Rattle.clear_laws.proofs.LinesLemmas.{references_new, references_new_there, serial_count-next}
 use Rattle.clear_laws.proofs.ListNumbersLemmas.{lists_left}
 use Rattle.clear_values.proofs.KeyedRowsLemmas.{AreNew, find_row-append, find_row-with_rows, AreInOrder-with_rows}
 use Rattle.clear_laws.proofs.VersionLemmas.{version_of-other}
@@ -58,10 +58,10 @@ module _ (b : Book) (t : Tables) (stands : Stands b t) (caller : Caller) (number
 
   -- what stands then
   stand_now : lines_standing (import ∷ b.entries) ≡ standing ++ rows
-  stand_now = standing_seen (import ∷ b.entries) ∙ ap (λ (old : List BankRow). old ++ rows) (sym (standing_seen b.entries))
+  stand_now = refl
 
   new_lines_there : AreNew bank_key standing rows
-  new_lines_there = subst (λ (old : List BankRow). AreNew bank_key old rows) (sym (standing_seen b.entries)) (references_new b.entries file).1
+  new_lines_there = references_new_there b.entries file
 
   abbrev credits : List CreditRow
   credits = credits_made b.entries

@@ -1,4 +1,7 @@
 pub mod AccountLimitLemmas
+pub mod AlikeLemmas
+pub mod AssignLemmas
+pub mod AssignTablesLemmas
 pub mod ChargesLemmas
 pub mod ChecksLemmas
 pub mod ClaimTablesLemmas
@@ -7,6 +10,7 @@ pub mod ConservedLemmas
 pub mod CreditsLemmas
 pub mod CreditsMadeLemmas
 pub mod DistinctLemmas
+pub mod EndTablesLemmas
 pub mod EntitlementLemmas
 pub mod FaultLemmas
 pub mod FirstLemmas
@@ -17,14 +21,19 @@ pub mod KeptLemmas
 pub mod LawsLemmas
 pub mod LimitsLemmas
 pub mod LinesLemmas
+pub mod LinesStayLemmas
 pub mod ListNumbersLemmas
 pub mod ListRangeLemmas
 pub mod ListTablesLemmas
 pub mod ListedLemmas
 pub mod ListsLemmas
+pub mod MembersLemmas
 pub mod OneTableLemmas
+pub mod OtherKeyLemmas
 pub mod PiecesLemmas
+pub mod RateTablesLemmas
 pub mod RatesLemmas
+pub mod RatesStayLemmas
 pub mod ReachedLemmas
 pub mod ReferenceLemmas
 pub mod ReleasedLemmas
@@ -34,6 +43,7 @@ pub mod RequestLemmas
 pub mod RowRangeLemmas
 pub mod SeenLemmas
 pub mod SerialLemmas
+pub mod SuspenseLemmas
 pub mod TablesLemmas
 pub mod VersionLemmas
 pub mod WagesLemmas

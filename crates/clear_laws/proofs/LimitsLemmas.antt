@@ -1,35 +1,38 @@
 -- The limits of a lawful book, and that runs keep a book lawful.
-use Rattle.std.proofs.Common.{◌≡◌, ℕ, zero, suc, ◌+◌, ◌*◌, ◌≤◌, ◌⊎◌, List, [], ◌∷◌, ◌++◌, length, Option, Some, None, Bool, true, false, cond, ◌||◌, nat_le, nat_lt, sum_by, refl, sym, ap, ◌∙◌, subst, arith, inl, inr, ⊎_elim}
+use Rattle.std.proofs.Common.{◌≡◌, ℕ, zero, suc, ◌+◌, ◌*◌, ◌<◌, ◌≤◌, ◌⊎◌, List, [], ◌∷◌, ◌++◌, length, Option, Some, None, Bool, true, false, cond, ◌||◌, nat_le, nat_lt, sum_by, refl, sym, ap, ◌∙◌, subst, arith, inl, inr, ⊎_elim}
 use Rattle.std.proofs.lemmas.Bool.Decides.{nat_tests}
-use Rattle.std.proofs.lemmas.List.{append-nil}
+use Rattle.std.proofs.lemmas.List.{append-nil, length-append}
 use Rattle.std.proofs.lemmas.List.Sums.{sum_by-cons}
 use Rattle.std.specs.Option.{option_map_or}
 use Rattle.std.specs.List.{AllByRecursion, list_any, range_with_len, filter_map, cons_option}
 use Rattle.clear_account.specs.Account.{charged}
 use Rattle.clear_account.specs.declared.entries.Charge.{Charge}
-use Rattle.clear_money.specs.Calendar.{months}
-use Rattle.clear_money.specs.Rates.{Rate, IsRate, rate_in_force, later_row, contribution_of}
+use Rattle.clear_money.specs.Calendar.{month_of, months}
+use Rattle.clear_money.specs.Rates.{Rate, IsRate, rate_in_force, last_first, later_row, contribution_of}
 use Rattle.clear_values.specs.declared.texts.WageLine.{WageLine}
 use Rattle.clear_book.specs.declared.calls.Command.{Command}
-use Rattle.clear_book.specs.declared.calls.Command.TheVariants.{Register, Report, Correct, ImportBank, Claim, Withdraw, Release, PayoutList}
+use Rattle.clear_book.specs.declared.calls.Command.TheVariants.{AddRate, Report, Correct}
 use Rattle.clear_book.specs.declared.calls.Call.{Call}
 use Rattle.clear_book.specs.declared.calls.Call.TheVariants.{Do, Ask}
 use Rattle.clear_book.specs.declared.calls.Correction.{Correction}
 use Rattle.clear_book.specs.declared.rules.Limit.TheVariants.{Lines, Gross}
-use Rattle.clear_book.specs.declared.rules.Rule.TheVariants.{Memory, OverLimit, Failed}
+use Rattle.clear_book.specs.declared.rules.Rule.TheVariants.{Memory, OverLimit, Failed, RateOrder}
 use Rattle.clear_book.specs.declared.outcomes.Outcome.{Outcome}
 use Rattle.clear_book.specs.declared.outcomes.Outcome.TheVariants.{Refused}
 use Rattle.clear_book.specs.Accounts.{base_of, contribution_of_lines, month_charge, reported_charge, book_charge, charges_of, months}
 use Rattle.clear_book.specs.Book.{Book, Entry, Member, is_for, rates_of, newer, reported_by, latest_lines, member_of, reported_version, RateTable, rates_added, rates_behind}
 use Rattle.clear_book.specs.Judge.{Verdict, new_reply, kept_reply, an_answer, a_refusal, outcome_of, judge, own_rule}
 use Rattle.clear_values.specs.Limits.{most_entries, most_lines, most_gross}
+use Rattle.clear_book.specs.Own.AddRate.{is_early, own_add_rate}
 use Rattle.clear_book.specs.Own.Lines.{has_large_gross}
 use Rattle.clear_book.specs.Own.Correct.{own_correct, correct_rules}
 use Rattle.clear_book.specs.Own.Report.{own_report, report_rules}
 use Rattle.clear_book.specs.Laws.{AreFew}
 use Rattle.clear_book.specs.Machine.{AreJudged, IsLawful, after, step, is_allowed, Takes, Goes, Runs}
-use Rattle.clear_book.specs.Calls.{IsCall}
+use Rattle.clear_book.specs.Calls.{IsCall, IsCommand}
 use Rattle.clear_values.specs.Ranges.{AreRates}
+use Rattle.clear_money.proofs.RateFacts.{rising_push}
+use Rattle.clear_values.proofs.ListLemmas.{all_push}
 use Rattle.clear_laws.proofs.ChecksLemmas.{none_applies, when-none}
 use Rattle.clear_laws.proofs.JudgeLemmas.{unrefused}
 
@@ -143,20 +146,27 @@ chosen_small (Some r) base h k = product_small base r.contribution_rate h (k r r
 pub few_charge : (rates : List Rate) (m : ℕ) (lines : List WageLine) → AllByRecursion IsRate rates → AreFew lines → contribution_of_lines (rate_in_force rates m) lines ≤ 5000000000
 few_charge rates m lines h few = chosen_small (rate_in_force rates m) (base_of lines) (few_base lines few) (λ r e. (rate_right rates m r h e).contribution_rate)
 
+-- a row that isn't early begins behind the last row, and behind the month of the day
+pub not_early : (rates : List Rate) (t m : ℕ) → own_add_rate rates t m ≡ None → (last_first rates < m) × (month_of t < m)
+not_early rates t m h =
+    let late = neither (nat_le m (last_first rates)) (nat_le m (month_of t)) (when-none (is_early rates t m) RateOrder h) in
+    (behind m (last_first rates) late.0, behind m (month_of t) late.1)
+  where
+    behind : (m n : ℕ) → nat_le m n ≡ false → n < m
+    behind m n k = grind (arith, nat_tests)
+
 -- the rates are right with those that a command adds, which no rule refuses
-rates_right : (b : Book) (t : ℕ) (command : Command) → own_rule b t command ≡ None → AreRates (rates_of b) → AreRates (rates_of b ++ rates_added command)
-rates_right b t (Register r) own h = subst AreRates (sym (append-nil (rates_of b))) h
-rates_right b t (Report r) own h = subst AreRates (sym (append-nil (rates_of b))) h
-rates_right b t (Correct c) own h = subst AreRates (sym (append-nil (rates_of b))) h
-rates_right b t (ImportBank file) own h = subst AreRates (sym (append-nil (rates_of b))) h
-rates_right b t (Claim c) own h = subst AreRates (sym (append-nil (rates_of b))) h
-rates_right b t (Withdraw w) own h = subst AreRates (sym (append-nil (rates_of b))) h
-rates_right b t (Release claim) own h = subst AreRates (sym (append-nil (rates_of b))) h
-rates_right b t PayoutList own h = subst AreRates (sym (append-nil (rates_of b))) h
+rates_right : (b : Book) (t : ℕ) (command : Command) → IsCommand command → own_rule b t command ≡ None → AreRates (rates_of b) → AreRates (rates_of b ++ rates_added command)
+rates_right b t (AddRate row) in_range own h = record {
+  some = omega (arith, length-append (rates_of b) (row ∷ []));
+  rising = rising_push (rates_of b) row h.rising (not_early (rates_of b) t row.first own).0;
+  ranges = all_push IsRate (rates_of b) row h.ranges in_range;
+}
+rates_right b t command in_range own h = subst AreRates (sym (append-nil (rates_of b))) h
 
 pub lawful_rates : (rates : RateTable) (xs : List Entry) → AreJudged rates xs → AreRates (rates_behind rates xs)
 lawful_rates rates [] h = h
-lawful_rates rates (x ∷ xs) h = rates_right (record { opening = rates; entries = xs }) x.day x.command (accepted rates x xs h).1 (lawful_rates rates xs h.0)
+lawful_rates rates (x ∷ xs) h = rates_right (record { opening = rates; entries = xs }) x.day x.command h.1.3 (accepted rates x xs h).1 (lawful_rates rates xs h.0)
 
 -- the charges of n months
 chosen_sum : (g : ℕ → Option Charge) (k a n : ℕ) → ((m : ℕ) (c : Charge) → g m ≡ Some c → c.cents ≤ k) → sum_by (λ c. c.cents) (filter_map g (range_with_len a n)) ≤ n * k

@@ -1,6 +1,6 @@
 -- Bank lines: those that a book has seen, the rows that they are, and their serials.
-use Rattle.std.proofs.Common.{◌≡◌, ℕ, zero, suc, ◌+◌, ◌<◌, ◌≤◌, ◌⊎◌, inl, inr, List, [], ◌∷◌, ◌++◌, length, take, drop, map, filter, Option, Some, None, is_some, Bool, true, false, cond, refl, sym, ap, ◌∙◌, subst, arith, append_assoc, add-one, length-append}
-use Rattle.std.proofs.lemmas.List.{append-nil}
+use Rattle.std.proofs.Common.{◌≡◌, ℕ, zero, suc, ◌+◌, ◌<◌, ◌≤◌, ◌⊎◌, inl, inr, List, [], ◌∷◌, ◌++◌, length, take, drop, map, filter, Option, Some, None, is_some, Bool, true, false, cond, refl, sym, ap, ◌∙◌, arith, append_assoc, add-one, length-append}
+use Rattle.std.proofs.lemmas.List.{append-nil, map-append}
 use Rattle.std.proofs.lemmas.List.Folds.{find-append}
 use Rattle.std.proofs.lemmas.List.Sums.{sum_by-append, sum_by-cons}
 use Rattle.std.specs.List.{enumerate_from, range_with_len, AllByRecursion}
@@ -9,32 +9,71 @@ use Rattle.std.specs.Prelude.{is_none}
 use Rattle.std.specs.Str.{bytes_eq}
 use Rattle.clear_bank.specs.Newness.{Placed, line_under, lines_before, earlier_line, is_new}
 use Rattle.clear_values.specs.declared.lines.BankLine.{BankLine}
+use Rattle.clear_book.specs.declared.calls.Assignment.{Assignment}
 use Rattle.clear_book.specs.declared.calls.Command.{Command}
-use Rattle.clear_book.specs.declared.calls.Command.TheVariants.{ImportBank, Release}
+use Rattle.clear_book.specs.declared.calls.Command.TheVariants.{ImportBank, Assign, Release}
 use Rattle.clear_values.specs.declared.rows.BankRow.{BankRow}
 use Rattle.clear_book.specs.Book.{Entry, newer, member_of}
 use Rattle.clear_values.specs.Keyed.{is_key, find_row, AreInOrder, AreOnce}
-use Rattle.clear_book.specs.Lines.{lines_in, new_lines, employer_of_line, rows_from, lines_of_rows, serial_key, is_release, release_count, rows_brought, rows_by, lines_seen, serial_count, serials_given, standing, lines_standing, is_in_suspense, suspense_count}
+use Rattle.clear_book.specs.Lines.{lines_in, new_lines, employer_of_line, rows_from, lines_of_rows, serial_key, is_release, release_count, rows_brought, rows_by, lines_seen, serial_count, serials_given, assigned, moved_by, lines_standing, is_in_suspense, suspense_count}
 use Rattle.clear_book.specs.Tables.{bank_key}
 use Rattle.clear_values.proofs.KeyedLemmas.{is_key-sym}
 use Rattle.clear_values.proofs.KeyedRowsLemmas.{AreNew, AreOnce-append}
 use Rattle.clear_values.proofs.ListLemmas.{both, each}
+use Rattle.clear_laws.proofs.AlikeLemmas.{alike-all, alike-in_order, alike-length, alike-map, alike-new, alike-once}
 use Rattle.clear_laws.proofs.SerialLemmas.{follow-between, follow-in_order, in_order-append, in_order-once}
 pub use Rattle.clear_values.proofs.CreditRowsLemmas.{credits_of_lines-append, is_key-bytes_eq}
 
--- ---- each line that was seen stands
+-- ---- the lines that stand are those that were seen, but for their firms
 
-all_stand : (xs : List Entry) (rows : List BankRow) → map (standing xs) rows ≡ rows
-all_stand xs [] = refl
-all_stand xs (row ∷ rows) = ap (λ (rest : List BankRow). row ∷ rest) (all_stand xs rows)
+-- a line and its serial
+abbrev pub Placement : Type 0
+Placement = BankLine × ℕ
 
-pub standing_seen : (xs : List Entry) → lines_standing xs ≡ lines_seen xs
-standing_seen xs = all_stand xs (lines_seen xs)
+abbrev pub placement : BankRow → Placement
+placement row = (row.line, row.serial)
 
--- a command that brings no lines moves none
-pub none_moved : (xs : List Entry) (x : Entry) → rows_by xs (lines_seen xs) x.command ≡ [] → lines_standing (x ∷ xs) ≡ lines_standing xs
-none_moved xs x none =
-    standing_seen (x ∷ xs) ∙ ap (λ (rows : List BankRow). lines_seen xs ++ rows) none ∙ append-nil (lines_seen xs) ∙ sym (standing_seen xs)
+assigned-placement : (a : Assignment) (row : BankRow) → placement (assigned a row) ≡ placement row
+assigned-placement a row = told (is_key (bank_key row) a.reference)
+  where
+    told : (b : Bool) → placement (cond b (record row { employer = Some a.employer }) row) ≡ placement row
+    told true = refl
+    told false = refl
+
+all_assigned : (a : Assignment) (rows : List BankRow) → map placement (map (assigned a) rows) ≡ map placement rows
+all_assigned a [] = refl
+all_assigned a (row ∷ rows) = (λ i. assigned-placement a row i ∷ all_assigned a rows i)
+
+-- a command leaves each line and its serial
+moved-alike : (command : Command) (rows : List BankRow) → map placement (moved_by command rows) ≡ map placement rows
+moved-alike (Assign a) rows = all_assigned a rows
+moved-alike command rows = refl
+
+pub standing-alike : (xs : List Entry) → map placement (lines_standing xs) ≡ map placement (lines_seen xs)
+standing-alike [] = refl
+standing-alike (x ∷ xs) =
+    let rows = rows_by xs (lines_seen xs) x.command in
+    map-append placement (moved_by x.command (lines_standing xs)) rows
+    ∙ ap (λ (l : List Placement). l ++ map placement rows) (moved-alike x.command (lines_standing xs) ∙ standing-alike xs)
+    ∙ sym (map-append placement (lines_seen xs) rows)
+
+seen-alike : (xs : List Entry) → map placement (lines_seen xs) ≡ map placement (lines_standing xs)
+seen-alike xs = sym (standing-alike xs)
+
+pub length-standing : (xs : List Entry) → length (lines_standing xs) ≡ length (lines_seen xs)
+length-standing xs = alike-length placement (lines_standing xs) (lines_seen xs) (standing-alike xs)
+
+-- what holds of each line and its serial holds of each that stands
+pub of_standing : (P : Placement → Type 0) (xs : List Entry) → AllByRecursion (λ row. P (placement row)) (lines_seen xs) → AllByRecursion (λ row. P (placement row)) (lines_standing xs)
+of_standing P xs h = alike-all placement P (lines_seen xs) (lines_standing xs) (seen-alike xs) h
+
+-- the lines that stand are the lines that were seen
+pub lines-standing : (xs : List Entry) → lines_of_rows (lines_standing xs) ≡ lines_of_rows (lines_seen xs)
+lines-standing xs = alike-map placement (λ p. p.0) (lines_standing xs) (lines_seen xs) (standing-alike xs)
+
+-- a command that brings no lines and moves none leaves them
+pub none_moved : (xs : List Entry) (x : Entry) → ((rows : List BankRow) → moved_by x.command rows ≡ rows) → rows_by xs (lines_seen xs) x.command ≡ [] → lines_standing (x ∷ xs) ≡ lines_standing xs
+none_moved xs x still none = (λ i. still (lines_standing xs) i ++ none i) ∙ append-nil (lines_standing xs)
 
 -- ---- lines under their references
 
@@ -200,7 +239,7 @@ references_once (x ∷ xs) = AreOnce-append bank_key (lines_seen xs) (rows_by xs
     apart command = tt
 
 pub references_standing : (xs : List Entry) → AreOnce bank_key (lines_standing xs)
-references_standing xs = subst (AreOnce bank_key) (sym (standing_seen xs)) (references_once xs)
+references_standing xs = alike-once placement (λ p. p.0.reference) (lines_seen xs) (lines_standing xs) (seen-alike xs) (references_once xs)
 
 -- and those that a file brings are new
 pub references_new : (xs : List Entry) (file : List ℕ) → AreOnce bank_key (rows_brought xs (lines_seen xs) file) × AreNew bank_key (lines_seen xs) (rows_brought xs (lines_seen xs) file)
@@ -208,6 +247,11 @@ references_new xs file = (
   new_once (member_in xs) (serial_count xs) (lines_of_rows (lines_seen xs)) (lines_in file),
   new_apart (member_in xs) (serial_count xs) (lines_seen xs) (lines_of_rows (lines_seen xs)) (lines_in file) refl,
 )
+
+-- also to the lines that stand
+pub references_new_there : (xs : List Entry) (file : List ℕ) → AreNew bank_key (lines_standing xs) (rows_brought xs (lines_seen xs) file)
+references_new_there xs file =
+    alike-new placement (λ p. p.0.reference) (lines_seen xs) (lines_standing xs) (rows_brought xs (lines_seen xs) file) (seen-alike xs) (references_new xs file).1
 
 -- ---- the serials of a book are the numbers from 1 on
 
@@ -297,6 +341,13 @@ serials_rise (x ∷ xs) =
 
 pub serials_once : (xs : List Entry) → AreOnce serial_key (lines_seen xs)
 serials_once xs = in_order-once serial_key (lines_seen xs) (serials_rise xs)
+
+-- so it is with the lines that stand
+pub standing_rise : (xs : List Entry) → AreInOrder serial_key (lines_standing xs)
+standing_rise xs = alike-in_order placement (λ p. p.1 ∷ []) (lines_seen xs) (lines_standing xs) (seen-alike xs) (serials_rise xs)
+
+pub standing_once : (xs : List Entry) → AreOnce serial_key (lines_standing xs)
+standing_once xs = in_order-once serial_key (lines_standing xs) (standing_rise xs)
 
 -- those of the lines that a file brings stand once
 pub serials_brought : (xs : List Entry) (file : List ℕ) → AreOnce serial_key (rows_brought xs (lines_seen xs) file)

@@ -20,10 +20,11 @@ use Rattle.clear_book.specs.Workers.{claims_of, is_payable, lists_of, on_list, p
 use Rattle.clear_values.proofs.KeyedLemmas.{first_less}
 use Rattle.clear_values.proofs.KeyedMapLemmas.{put_rows-map, with_row-last}
 use Rattle.clear_values.proofs.ListLemmas.{each}
-use Rattle.clear_laws.proofs.ClaimTablesLemmas.{with_claims, same_credits}
+use Rattle.clear_laws.proofs.ClaimTablesLemmas.{with_claims}
 use Rattle.clear_laws.proofs.ClaimsLemmas.{claims_numbered}
 use Rattle.clear_laws.proofs.JudgeLemmas.{unrefused}
 use Rattle.clear_laws.proofs.LinesLemmas.{none_taken}
+use Rattle.clear_laws.proofs.TablesLemmas.{credits_left}
 use Rattle.clear_laws.proofs.ListNumbersLemmas.{lists_between}
 
 -- ---- the claims
@@ -82,9 +83,9 @@ module _ (b : Book) (t : Tables) (stands : Stands b t) (caller : Caller) (number
       ∙ (λ i. lists_of b.entries ++ record { list = row.list; day = today i; items = row.items; total = row.total } ∷ []) in
       let more : t.last_list + 1 ≡ length (lists_of (x ∷ b.entries)) =
       omega (arith, stands.last_list, length-append (lists_of b.entries) (record { list = row.list; day = day; items = row.items; total = row.total } ∷ [])) in
-      with_claims b t stands x (record { nobody = refl; no_report = refl; no_rows = refl; no_rates = refl }) free
+      with_claims b t stands x (record { no_member = λ e old. refl; no_registration = refl; no_report = refl; no_move = λ rows. refl; no_rows = refl; no_rates = refl }) free
       (put_rows claim_key t.claims listed) t.last_claim (with_row list_key t.lists row) (t.last_list + 1) t.credits t.serial claims many lists more
-      (same_credits b t stands caller number day x refl refl) stands.credits_in_order (stands.serial ∙ sym (none_taken b.entries x refl refl))
+      (credits_left b t stands x (λ rows. refl) refl refl) stands.credits_in_order (stands.serial ∙ sym (none_taken b.entries x refl refl))
 
   pub list_takes : IsLawful b → (reply : Reply) → judge b (Do caller number day PayoutList) ≡ new_reply reply → (n total : ℕ) (payable : List ClaimRow)
       → n ≡ length (lists_of b.entries) + 1 → payable ≡ payable_claims b.entries → total ≡ sum_by (λ claim. paid_out claim.state) (payable_claims b.entries)

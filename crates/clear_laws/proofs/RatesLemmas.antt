@@ -1,16 +1,16 @@
 -- In a lawful book a rate is in force for each month that has a report: the membership begins with a rate, and the month
 -- doesn't lie before it.
-use Rattle.std.proofs.Common.{◌≡◌, ℕ, ◌≤◌, ◌⊎◌, ⊎_elim, inl, inr, List, [], ◌∷◌, Option, Some, None, Bool, true, false, not, cond, ◌&&◌, ◌==◌, nat_le, nat_lt, is_some, IsSome, refl, sym, subst, arith, ◌++◌}
+use Rattle.std.proofs.Common.{◌≡◌, ℕ, ◌≤◌, ⊎_elim, List, [], ◌∷◌, Option, Some, None, Bool, true, false, not, cond, ◌&&◌, ◌==◌, nat_le, nat_lt, is_some, IsSome, refl, subst, arith, ◌++◌}
 use Rattle.std.proofs.lemmas.Bool.Decides.{nat_tests}
-use Rattle.std.specs.Option.{option_map_or}
+use Rattle.std.specs.Option.{option_map, option_map_or}
 use Rattle.clear_money.specs.Rates.{Rate, rate_in_force, later_row}
 use Rattle.clear_values.specs.declared.texts.WageLine.{WageLine}
 use Rattle.clear_book.specs.declared.calls.Command.{Command}
 use Rattle.clear_book.specs.declared.calls.Correction.{Correction}
 use Rattle.clear_book.specs.declared.calls.WageReport.{WageReport}
-use Rattle.clear_book.specs.declared.calls.Command.TheVariants.{Register, Report, Correct}
+use Rattle.clear_book.specs.declared.calls.Command.TheVariants.{Register, EndMembership, Report, Correct}
 use Rattle.clear_book.specs.declared.rules.Rule.TheVariants.{EmployerExists, NoRate, UnknownEmployer, MonthOutside}
-use Rattle.clear_book.specs.Book.{Book, Entry, Member, is_for, is_member_in, is_member_month, newer, registered_by, member_of, reported_by, latest_lines, reported_version, employer_count, RateTable, rates_added, rates_behind}
+use Rattle.clear_book.specs.Book.{Book, Entry, Member, ended, is_for, is_member_in, is_member_month, newer, member_after, member_of, reported_by, latest_lines, reported_version, employer_count, RateTable, rates_added, rates_behind}
 use Rattle.clear_book.specs.Checks.{when}
 use Rattle.clear_book.specs.Judge.{own_rule}
 use Rattle.clear_book.specs.Own.Register.{own_register, register_rules}
@@ -108,46 +108,49 @@ module _ (rates : RateTable) where
   rated_on x xs None h = tt
   rated_on x xs (Some member) h = rate-more (rates_behind rates xs) (rates_added x.command) member.start h
 
-  registers_rated : (xs : List Entry) (t : ℕ) (command : Command) (e : ℕ) → own_rule (book xs) t command ≡ None → IsRated xs (registered_by command e)
-  registers_rated xs t (Register r) e own = told (r.employer == e) (new_and_rated (is_some (member_of xs r.employer)) (employer_count xs) (is_some (rate_in_force (rates_behind rates xs) r.start)) own).1
+  -- a registration makes a member with a rate, and an end leaves the first month
+  still_rated : (xs : List Entry) (t : ℕ) (command : Command) (e : ℕ) → own_rule (book xs) t command ≡ None → IsRated xs (member_of xs e) → IsRated xs (member_after (member_of xs e) command e)
+  still_rated xs t (Register r) e own old =
+      told (r.employer == e) (new_and_rated (is_some (member_of xs r.employer)) (employer_count xs) (is_some (rate_in_force (rates_behind rates xs) r.start)) own).1
     where
-      told : (b : Bool) → is_some (rate_in_force (rates_behind rates xs) r.start) ≡ true → IsRated xs (cond {A = Option Member} b (Some (record { name = r.name; start = r.start; last = None })) None)
+      told : (b : Bool) → is_some (rate_in_force (rates_behind rates xs) r.start) ≡ true → IsRated xs (newer (cond b (Some (record { name = r.name; start = r.start; last = None })) None) (member_of xs e))
       told true h = h
-      told false h = tt
-  registers_rated xs t command e own = tt
+      told false h = old
+  still_rated xs t (EndMembership end) e own old = told (end.employer == e) (member_of xs e) old
+    where
+      told : (b : Bool) (o : Option Member) → IsRated xs o → IsRated xs (cond b (option_map (ended end.last) o) o)
+      told true None h = h
+      told true (Some member) h = h
+      told false o h = h
+  still_rated xs t command e own old = old
 
   member_rated : (xs : List Entry) → AreJudged rates xs → (e : ℕ) → IsRated xs (member_of xs e)
   member_rated [] h e = tt
   member_rated (x ∷ xs) h e =
-      rated_on x xs (member_of (x ∷ xs) e) (told (registered_by x.command e) (registers_rated xs x.day x.command e (accepted rates x xs h).1) (member_rated xs h.0 e))
-    where
-      told : (o : Option Member) → IsRated xs o → IsRated xs (member_of xs e) → IsRated xs (newer o (member_of xs e))
-      told None new old = old
-      told (Some member) new old = new
+      rated_on x xs (member_of (x ∷ xs) e) (still_rated xs x.day x.command e (accepted rates x xs h).1 (member_rated xs h.0 e))
 
-  -- a registration finds no member
-  once : (xs : List Entry) (t : ℕ) (command : Command) (e : ℕ) → own_rule (book xs) t command ≡ None → (registered_by command e ≡ None) ⊎ (is_some (member_of xs e) ≡ false)
-  once xs t (Register r) e own = told (r.employer == e) refl (new_and_rated (is_some (member_of xs r.employer)) (employer_count xs) (is_some (rate_in_force (rates_behind rates xs) r.start)) own).0
+  -- a member stays one since the same month: a registration finds none, and an end leaves the first month
+  stays : (xs : List Entry) (t : ℕ) (command : Command) (e m : ℕ) → own_rule (book xs) t command ≡ None → IsSince m (member_of xs e) → IsSince m (member_after (member_of xs e) command e)
+  stays xs t (Register r) e m own is =
+      told (r.employer == e) refl (new_and_rated (is_some (member_of xs r.employer)) (employer_count xs) (is_some (rate_in_force (rates_behind rates xs) r.start)) own).0
     where
       same : r.employer == e ≡ true → r.employer ≡ e
       same h = grind (arith, nat_tests)
 
-      told : (b : Bool) → r.employer == e ≡ b → is_some (member_of xs r.employer) ≡ false → (cond {A = Option Member} b (Some (record { name = r.name; start = r.start; last = None })) None ≡ None) ⊎ (is_some (member_of xs e) ≡ false)
-      told true is none = inr (subst (λ (f : ℕ). is_some (member_of xs f) ≡ false) (same is) none)
-      told false is none = inl refl
-  once xs t command e own = inl refl
-
-  -- a member stays one since the same month
-  stays : (xs : List Entry) (t : ℕ) (command : Command) (e m : ℕ) → own_rule (book xs) t command ≡ None → IsSince m (member_of xs e) → IsSince m (newer (registered_by command e) (member_of xs e))
-  stays xs t command e m own is =
-      ⊎_elim
-      (λ (none : registered_by command e ≡ None). subst (λ (o : Option Member). IsSince m (newer o (member_of xs e))) (sym none) is)
-      (λ (none : is_some (member_of xs e) ≡ false). absurd (nobody (member_of xs e) none is))
-      (once xs t command e own)
-    where
       nobody : (o : Option Member) → is_some o ≡ false → IsSince m o → ⊥
       nobody None h k = k
       nobody (Some member) h k = cc
+
+      told : (b : Bool) → r.employer == e ≡ b → is_some (member_of xs r.employer) ≡ false → IsSince m (newer (cond b (Some (record { name = r.name; start = r.start; last = None })) None) (member_of xs e))
+      told true here none = absurd (nobody (member_of xs e) (subst (λ (f : ℕ). is_some (member_of xs f) ≡ false) (same here) none) is)
+      told false here none = is
+  stays xs t (EndMembership end) e m own is = told (end.employer == e) (member_of xs e) is
+    where
+      told : (b : Bool) (o : Option Member) → IsSince m o → IsSince m (cond b (option_map (ended end.last) o) o)
+      told true None h = h
+      told true (Some member) h = h
+      told false o h = h
+  stays xs t command e m own is = is
 
   chosen_since : (xs : List Entry) (e m : ℕ) (r : WageReport) (lines : List WageLine) → cond (is_for e m r) (Some r.lines) None ≡ Some lines → IsSince r.month (member_of xs r.employer) → IsSince m (member_of xs e)
   chosen_since xs e m r lines h there = told (is_for e m r) refl h

@@ -1,7 +1,5 @@
 -- The tables of a book, after a report or a correction more.
-use Rattle.std.proofs.Common.{◌≡◌, ℕ, ◌+◌, List, [], ◌∷◌, ◌++◌, length, Option, Some, None, Bool, true, false, cond, ◌&&◌, ◌==◌, refl, sym, ap, ◌∙◌, subst, arith}
-use Rattle.std.proofs.lemmas.List.{append-nil}
-use Rattle.std.proofs.lemmas.List.Sums.{sum_by-cons}
+use Rattle.std.proofs.Common.{◌≡◌, ℕ, ◌+◌, List, [], ◌∷◌, length, Option, Some, None, Bool, true, false, cond, ◌&&◌, ◌==◌, refl, sym, ap, ◌∙◌, subst, arith}
 use Rattle.std.specs.Option.{option_map}
 use Rattle.clear_book.specs.declared.calls.Call.TheVariants.{Do}
 use Rattle.clear_values.specs.declared.callers.Caller.{Caller}
@@ -12,32 +10,29 @@ use Rattle.clear_values.specs.declared.replies.Reply.{Reply}
 use Rattle.clear_values.specs.declared.rows.Change.TheVariants.{AddReport, ReplaceReport}
 use Rattle.clear_values.specs.declared.rows.BankRow.{BankRow}
 use Rattle.clear_values.specs.declared.rows.ClaimRow.{ClaimRow}
-use Rattle.clear_values.specs.declared.rows.CreditRow.{CreditRow}
 use Rattle.clear_values.specs.declared.rows.ListRow.{ListRow}
 use Rattle.clear_values.specs.declared.rows.ReportRow.{ReportRow}
 use Rattle.clear_values.specs.declared.rows.WageRow.{WageRow}
 use Rattle.clear_values.specs.declared.texts.WageLine.{WageLine}
-use Rattle.clear_book.specs.Accounts.{credit_key}
-use Rattle.clear_book.specs.Book.{Book, Entry, Member, entry, entry_under, is_for, newer, registered_by, member_of, is_registration, reported_by, latest_lines, is_report_of, version_of, reported_version, rates_added, rates_of}
+use Rattle.clear_book.specs.Book.{Book, Entry, Member, entry, entry_under, is_for, newer, member_after, member_of, is_registration, reported_by, latest_lines, is_report_of, version_of, reported_version, rates_added}
 use Rattle.clear_book.specs.Judge.{Verdict, new_reply, judge}
 use Rattle.clear_values.specs.Keyed.{find_row, put_row}
-use Rattle.clear_book.specs.Lines.{is_release, lines_seen, rows_by}
+use Rattle.clear_book.specs.Lines.{is_release, lines_seen, moved_by, rows_by}
 use Rattle.clear_book.specs.Machine.{step, after, appended}
 use Rattle.clear_book.specs.Own.Correct.{own_correct, correct_rules}
 use Rattle.clear_book.specs.Own.Lines.{twice_rule, worker_twice}
 use Rattle.clear_book.specs.Own.Report.{own_report, report_rules}
-use Rattle.clear_book.specs.Tables.{Tables, Stands, report_key, bank_key, version_at, gross_at, gross_of, reported_gross, with_wages, changed, noted}
+use Rattle.clear_book.specs.Tables.{Tables, Stands, report_key, version_at, gross_at, gross_of, reported_gross, with_wages, changed, noted}
 use Rattle.clear_book.specs.Workers.{lists_by}
 use Rattle.clear_laws.proofs.ChecksLemmas.{none_applies}
 use Rattle.clear_laws.proofs.DistinctLemmas.{AreDistinct, distinct}
 use Rattle.clear_laws.proofs.ClaimsLemmas.{LeavesClaims, claims_left}
 use Rattle.clear_laws.proofs.JudgeLemmas.{unrefused}
 use Rattle.clear_values.proofs.KeyedChangesLemmas.{find_row-put_row, AreInOrder-put_row, put_row-new}
-use Rattle.clear_laws.proofs.LinesLemmas.{none_moved, none_taken}
+use Rattle.clear_laws.proofs.LinesLemmas.{none_taken}
 use Rattle.clear_laws.proofs.ListNumbersLemmas.{lists_left}
-use Rattle.clear_laws.proofs.CreditsMadeLemmas.{none_made}
 use Rattle.clear_laws.proofs.RequestLemmas.{requests_found, requests_still_in_order}
-use Rattle.clear_laws.proofs.TablesLemmas.{no_map}
+use Rattle.clear_laws.proofs.TablesLemmas.{bank_left, credits_left, employer_rows_left, employers_left, no_map, rates_left}
 use Rattle.clear_laws.proofs.VersionLemmas.{is_some-cond, version_of-other, version_of-more, version_of-none, unreported, corrected, reported_some, reported_none, key_is}
 use Rattle.clear_laws.proofs.WagesLemmas.{gross_at-with_wages, with_wages-in_order, with_wages-first}
 
@@ -61,8 +56,9 @@ correction_distinct member version t c h =
 pub record Reports (xs : List Entry) (x : Entry) (r : WageReport) : Type 0 where
   pub lines : (e m : ℕ) → reported_by x.command e m ≡ cond (is_for e m r) (Some r.lines) None
   pub counted : (e m : ℕ) → is_report_of e m x.command ≡ is_for e m r
-  pub nobody : (e : ℕ) → registered_by x.command e ≡ None
+  pub no_member : (e : ℕ) (old : Option Member) → member_after old x.command e ≡ old
   pub no_registration : is_registration x.command ≡ false
+  pub no_move : (rows : List BankRow) → moved_by x.command rows ≡ rows
   pub no_rows : rows_by xs (lines_seen xs) x.command ≡ []
   pub no_release : is_release x.command ≡ false
   pub no_claims : LeavesClaims x.day x.reply x.command
@@ -106,21 +102,19 @@ module _ (b : Book) (t : Tables) (stands : Stands b t) (x : Entry) (r : WageRepo
   -- the month's row and wages in the place of what stood
   pub replaced_tables : Stands (appended b x) (noted x (changed (ReplaceReport row r.lines) t))
   replaced_tables = record {
-    rates = stands.rates ∙ sym (ap (λ more. rates_of b ++ more) reports.no_rates ∙ append-nil (rates_of b));
+    rates = rates_left b t stands x reports.no_rates;
     day = refl;
     entries = omega (arith, stands.entries);
-    employers = λ e. stands.employers e ∙ ap (λ o. newer o (member_of b.entries e)) (sym (reports.nobody e));
-    employer_rows =
-        let none : cond {A = ℕ} (is_registration x.command) 1 0 ≡ 0 = ap (λ b. cond {A = ℕ} b 1 0) reports.no_registration in
-        omega (arith, stands.employer_rows, none, sum_by-cons (λ (y : Entry). cond {A = ℕ} (is_registration y.command) 1 0) x b.entries);
+    employers = employers_left b t stands x reports.no_member;
+    employer_rows = employer_rows_left b t stands x reports.no_registration;
     employers_in_order = stands.employers_in_order;
     reports = versions;
     reports_in_order = AreInOrder-put_row report_key t.reports row stands.reports_in_order;
     wages = gross;
     wages_in_order = with_wages-in_order r.employer r.month r.lines t.wages apart stands.wages_in_order;
-    bank = λ reference. stands.bank reference ∙ ap (λ (rows : List BankRow). find_row bank_key rows reference) (sym (none_moved b.entries x reports.no_rows));
+    bank = bank_left b t stands x reports.no_move reports.no_rows;
     bank_in_order = stands.bank_in_order;
-    credits = λ k. stands.credits k ∙ ap (λ (rows : List CreditRow). find_row credit_key rows k) (sym (none_made b.entries x reports.no_rows reports.no_release));
+    credits = credits_left b t stands x reports.no_move reports.no_rows reports.no_release;
     credits_in_order = stands.credits_in_order;
     requests = requests_found b t stands x free;
     requests_in_order = requests_still_in_order b t stands x free;
@@ -151,7 +145,7 @@ module _ (b : Book) (t : Tables) (stands : Stands b t) (caller : Caller) (number
       let no_lines = reported_none b.entries r.employer r.month none in
       let zero : version_of b.entries r.employer r.month ≡ 0 = version_of-none b.entries r.employer r.month no_lines in
       let x = entry caller number day (Report r) reply in
-      let there = first_tables b t stands x r (record { lines = λ e m. refl; counted = λ e m. is_some-cond (is_for e m r) r.lines; nobody = λ e. refl; no_registration = refl; no_rows = refl; no_release = refl; no_claims = record { kept = λ claim. refl; none = λ last. refl }; no_list = refl; no_rates = refl }) 1 (omega (arith, zero))
+      let there = first_tables b t stands x r (record { lines = λ e m. refl; counted = λ e m. is_some-cond (is_for e m r) r.lines; no_member = λ e old. refl; no_registration = refl; no_move = λ rows. refl; no_rows = refl; no_release = refl; no_claims = record { kept = λ claim. refl; none = λ last. refl }; no_list = refl; no_rates = refl }) 1 (omega (arith, zero))
       (report_distinct (member_of b.entries r.employer) (reported_version b.entries r.employer r.month) day r.month r.lines own) said.free
       (no_map version_in (find_row report_key t.reports (r.employer ∷ r.month ∷ [])) (stands.reports r.employer r.month ∙ none))
       (λ w. stands.wages r.employer r.month w ∙ ap (λ (o : Option (List WageLine)). reported_gross o w) no_lines) in
@@ -166,6 +160,6 @@ module _ (b : Book) (t : Tables) (stands : Stands b t) (caller : Caller) (number
       let latest = corrected member (reported_version b.entries c.report.employer c.report.month) day c own in
       let now : version_of b.entries c.report.employer c.report.month ≡ c.version = reported_some b.entries c.report.employer c.report.month c.version latest.0 in
       let x = entry caller number day (Correct c) reply in
-      let there = replaced_tables b t stands x c.report (record { lines = λ e m. refl; counted = λ e m. is_some-cond (is_for e m c.report) c.report.lines; nobody = λ e. refl; no_registration = refl; no_rows = refl; no_release = refl; no_claims = record { kept = λ claim. refl; none = λ last. refl }; no_list = refl; no_rates = refl }) version (omega (arith, now, more))
+      let there = replaced_tables b t stands x c.report (record { lines = λ e m. refl; counted = λ e m. is_some-cond (is_for e m c.report) c.report.lines; no_member = λ e old. refl; no_registration = refl; no_move = λ rows. refl; no_rows = refl; no_release = refl; no_claims = record { kept = λ claim. refl; none = λ last. refl }; no_list = refl; no_rates = refl }) version (omega (arith, now, more))
       (correction_distinct member (reported_version b.entries c.report.employer c.report.month) day c own) said.free in
       subst (λ (p : Verdict × List WageLine). Stands (after b (Do caller number day (Correct c)) p.0) (noted x (changed (ReplaceReport (record { employer = c.report.employer; month = c.report.month; version = version }) p.1) t))) (λ i. (sym judged i, sym same i)) there

@@ -1,5 +1,5 @@
 -- Each row of the tables of a lawful book lies in its ranges.
-use Rattle.std.proofs.Common.{◌≡◌, ℕ, ◌+◌, ◌≤◌, ◌⊎◌, ⊎_elim, inl, inr, List, [], ◌∷◌, Option, Some, None, IfSome, is_some, option_and_then, Bool, true, false, cond, ◌==◌, length, nat_le, refl, sym, ap, ◌∙◌, subst, arith}
+use Rattle.std.proofs.Common.{◌≡◌, ℕ, ◌+◌, ◌≤◌, ◌⊎◌, ⊎_elim, inl, inr, List, [], ◌∷◌, map, Option, Some, None, IfSome, is_some, option_and_then, Bool, true, false, cond, ◌==◌, length, nat_le, refl, sym, ap, ◌∙◌, subst, arith}
 use Rattle.std.proofs.lemmas.Option.{cond_some}
 use Rattle.std.specs.Option.{option_map}
 use Rattle.std.specs.List.{AllByRecursion}
@@ -10,7 +10,8 @@ use Rattle.clear_money.specs.Calendar.{IsMonth, IsDay}
 use Rattle.clear_money.specs.Numbers.{IsAmount, IsEmployerNo, IsWorkerNo}
 use Rattle.clear_values.specs.declared.texts.WageLine.{WageLine}
 use Rattle.clear_book.specs.declared.calls.Command.{Command}
-use Rattle.clear_book.specs.declared.calls.Command.TheVariants.{Register, Report, Correct, ImportBank, Claim, Withdraw, Release, PayoutList}
+use Rattle.clear_book.specs.declared.calls.Command.TheVariants.{Register, EndMembership, Report, Correct, ImportBank, Assign, Claim, Release, PayoutList}
+use Rattle.clear_book.specs.declared.calls.Assignment.{Assignment}
 use Rattle.clear_book.specs.declared.calls.WageReport.{WageReport}
 use Rattle.clear_values.specs.declared.rows.BankRow.{BankRow}
 use Rattle.clear_values.specs.declared.rows.ClaimRow.{ClaimRow}
@@ -19,10 +20,10 @@ use Rattle.clear_values.specs.declared.rows.EmployerRow.{EmployerRow}
 use Rattle.clear_values.specs.declared.rows.ReportRow.{ReportRow}
 use Rattle.clear_values.specs.declared.rows.WageRow.{WageRow}
 use Rattle.clear_book.specs.Accounts.{credit_key}
-use Rattle.clear_book.specs.Book.{Book, Entry, Member, ledger_day, newer, registered_by, member_of, is_for, reported_by, latest_lines, is_report_of, version_of, reported_version, RateTable, rates_of}
+use Rattle.clear_book.specs.Book.{Book, Entry, Member, ended, ledger_day, newer, member_after, member_of, is_for, reported_by, latest_lines, is_report_of, version_of, reported_version, RateTable, rates_of}
 use Rattle.clear_book.specs.Judge.{own_rule, reply_to}
-use Rattle.clear_values.specs.Keyed.{is_key, find_row, AreOnce, in_key_order}
-use Rattle.clear_book.specs.Lines.{lines_in, new_lines, employer_of_line, rows_from, lines_of_rows, rows_by, lines_seen, lines_standing, credit_of_line, line_credit, credits_made, credits_of_lines, serial_count, serials_of, set_offs}
+use Rattle.clear_values.specs.Keyed.{is_key, find_row, in_key_order}
+use Rattle.clear_book.specs.Lines.{assigned, moved_by, lines_in, new_lines, employer_of_line, rows_from, lines_of_rows, rows_by, lines_seen, lines_standing, credit_of_line, line_credit, credits_made, credits_of_lines, serial_count, serials_of, set_offs}
 use Rattle.clear_book.specs.Machine.{AreJudged, IsLawful}
 use Rattle.clear_book.specs.Own.Release.{Debts, debts_of, release_reply}
 use Rattle.clear_book.specs.Workers.{claim_of, claims_of}
@@ -39,10 +40,11 @@ use Rattle.clear_laws.proofs.JudgeLemmas.{unrefused}
 use Rattle.clear_values.proofs.KeyedChangesLemmas.{all_from_found, AllByRecursion-in_key_order, found_holds}
 use Rattle.clear_values.proofs.KeyedRowsLemmas.{ordered}
 use Rattle.clear_laws.proofs.LimitsLemmas.{lawful_rates, lawful_few, lawful_entries, few_lines, few_corrected, few_charge}
-use Rattle.clear_laws.proofs.LinesLemmas.{standing_seen, references_once, serials_small}
+use Rattle.clear_laws.proofs.LinesLemmas.{of_standing, references_standing, serials_small}
 use Rattle.clear_laws.proofs.ListRangeLemmas.{last_list-in-range, lists-in-range, list-reply-in-range}
 use Rattle.clear_values.proofs.ListLemmas.{both}
-use Rattle.clear_laws.proofs.SeenLemmas.{by-few, chosen, file-few, HasRanges, lines-in-range, seen-in-range, set_offs-in-range, lawful_serials, of_credits, of_standing}
+use Rattle.clear_laws.proofs.SeenLemmas.{by-few, chosen, file-few, HasRanges, lines-in-range, seen-in-range, set_offs-in-range, lawful_serials, of_credits}
+use Rattle.clear_laws.proofs.SerialLemmas.{of_both}
 use Rattle.clear_laws.proofs.VersionLemmas.{corrected, key_is, no_report, version_of-more, version_of-other, lawful_versions, reported_some}
 
 -- the newer of two is one of them
@@ -50,43 +52,35 @@ newer_means : {A : Type 0} (o old : Option A) (x : A) → newer o old ≡ Some x
 newer_means None old x h = inr h
 newer_means (Some y) old x h = inl h
 
--- two things that hold of each element give a third
-of_both : {A : Type 0} (P Q R : A → Type 0) → ((x : A) → P x → Q x → R x) → (xs : List A) → AllByRecursion P xs → AllByRecursion Q xs → AllByRecursion R xs
-of_both P Q R f [] h k = tt
-of_both P Q R f (x ∷ xs) h k = (f x h.0 k.0, of_both P Q R f xs h.1 k.1)
-
 -- ---- employers
 
--- the number, the name and the first month of a registered employer are in range, and no end is set
+-- the number, the name, the first month and the last month, if an end is set, of a registered employer are in range
 abbrev IsMember : ℕ → Member → Type 0
-IsMember e member = IsEmployerNo e × IsName member.name × IsMonth member.start × (member.last ≡ None)
+IsMember e member = IsEmployerNo e × IsName member.name × IsMonth member.start × IfSome member.last IsMonth
 
--- so it is with what a command registers
-registered-in-range : (command : Command) (e : ℕ) (member : Member) → IsCommand command → registered_by command e ≡ Some member → IsMember e member
-registered-in-range (Register r) e member in_range h =
-    let made : Member = record { name = r.name; start = r.start; last = None } in
-    let parts = cond_some (r.employer == e) made member h in
-    let number = subst IsEmployerNo (same_worker r.employer e parts.0) in_range.0 in
-    subst (IsMember e) parts.1 (number, in_range.1, in_range.2, refl)
-registered-in-range command e member in_range h = absurd (cc)
+-- so it is with what a command makes of an employer
+after-in-range : (command : Command) (e : ℕ) (old : Option Member) → IsCommand command → IfSome old (IsMember e) → IfSome (member_after old command e) (IsMember e)
+after-in-range (Register r) e old in_range h = told (r.employer == e) refl
+  where
+    told : (b : Bool) → r.employer == e ≡ b → IfSome (newer (cond b (Some (record { name = r.name; start = r.start; last = None })) None) old) (IsMember e)
+    told true is = (subst IsEmployerNo (same_worker r.employer e is) in_range.0, in_range.1, in_range.2, tt)
+    told false is = h
+after-in-range (EndMembership end) e old in_range h = told (end.employer == e) old h
+  where
+    told : (b : Bool) (o : Option Member) → IfSome o (IsMember e) → IfSome (cond b (option_map (ended end.last) o) o) (IsMember e)
+    told true None k = tt
+    told true (Some member) k = (k.0, k.1, k.2, in_range.1)
+    told false o k = k
+after-in-range command e old in_range h = h
 
 -- and with each registered employer of a lawful book
-member-in-range : (rates : RateTable) (xs : List Entry) → AreJudged rates xs → (e : ℕ) (member : Member) → member_of xs e ≡ Some member → IsMember e member
-member-in-range rates [] h e member is = absurd (cc)
-member-in-range rates (x ∷ xs) h e member is =
-    ⊎_elim
-    (λ (new : registered_by x.command e ≡ Some member). registered-in-range x.command e member h.1.3 new)
-    (λ (old : member_of xs e ≡ Some member). member-in-range rates xs h.0 e member old)
-    (newer_means (registered_by x.command e) (member_of xs e) member is)
+member-in-range : (rates : RateTable) (xs : List Entry) → AreJudged rates xs → (e : ℕ) → IfSome (member_of xs e) (IsMember e)
+member-in-range rates [] h e = tt
+member-in-range rates (x ∷ xs) h e = after-in-range x.command e (member_of xs e) h.1.3 (member-in-range rates xs h.0 e)
 
 -- so the row of a registered employer is in range
 employer_row : (row : EmployerRow) → IsMember row.employer (member_in row) → IsEmployerRow row
-employer_row row h = record {
-  employer = h.0;
-  name = h.1;
-  start = h.2;
-  last = subst (λ (o : Option ℕ). IfSome o IsMonth) (sym h.3) tt;
-}
+employer_row row h = record { employer = h.0; name = h.1; start = h.2; last = h.3 }
 
 -- ---- reports
 
@@ -202,17 +196,33 @@ firms-by xs seen (ImportBank file) =
     (chosen IsBankLine (is_new (lines_of_rows seen) (lines_in file)) 0 (lines_in file) (lines-in-range file))
 firms-by xs seen command = tt
 
--- the firm of each line that a book has seen is in range
-seen-firms : (xs : List Entry) → AllByRecursion HasFirm (lines_seen xs)
-seen-firms [] = tt
-seen-firms (x ∷ xs) = both HasFirm (lines_seen xs) (rows_by xs (lines_seen xs) x.command) (seen-firms xs) (firms-by xs (lines_seen xs) x.command)
+-- a line that is assigned has a firm in range
+assigned-firms : (a : Assignment) (rows : List BankRow) → IsEmployerNo a.employer → AllByRecursion HasFirm rows → AllByRecursion HasFirm (map (assigned a) rows)
+assigned-firms a [] firm h = tt
+assigned-firms a (row ∷ rows) firm h = (told (is_key (bank_key row) a.reference), assigned-firms a rows firm h.1)
+  where
+    told : (b : Bool) → HasFirm (cond b (record row { employer = Some a.employer }) row)
+    told true = firm
+    told false = h.0
 
--- each line that a lawful book has seen is in range, its serial and its firm too
-seen-rows : (rates : RateTable) (xs : List Entry) → AreJudged rates xs → AllByRecursion IsBankRow (lines_seen xs)
-seen-rows rates xs h =
-    of_both HasPlace HasFirm IsBankRow (λ row place firm. record { line = place.0; serial = place.1; employer = firm }) (lines_seen xs)
-    (of_both HasRanges IsGiven HasPlace (λ row line serial. (line, (serial.0, given row.serial serial.1))) (lines_seen xs) (seen-in-range xs) (serials_small xs))
-    (seen-firms xs)
+moved-firms : (command : Command) (rows : List BankRow) → IsCommand command → AllByRecursion HasFirm rows → AllByRecursion HasFirm (moved_by command rows)
+moved-firms (Assign a) rows in_range h = assigned-firms a rows in_range.1 h
+moved-firms command rows in_range h = h
+
+-- the firm of each line that stands is in range
+standing-firms : (rates : RateTable) (xs : List Entry) → AreJudged rates xs → AllByRecursion HasFirm (lines_standing xs)
+standing-firms rates [] h = tt
+standing-firms rates (x ∷ xs) h =
+    both HasFirm (moved_by x.command (lines_standing xs)) (rows_by xs (lines_seen xs) x.command)
+    (moved-firms x.command (lines_standing xs) h.1.3 (standing-firms rates xs h.0)) (firms-by xs (lines_seen xs) x.command)
+
+-- each line that stands is in range, its serial and its firm too
+standing-rows : (rates : RateTable) (xs : List Entry) → AreJudged rates xs → AllByRecursion IsBankRow (lines_standing xs)
+standing-rows rates xs h =
+    of_both HasPlace HasFirm IsBankRow (λ row place firm. record { line = place.0; serial = place.1; employer = firm }) (lines_standing xs)
+    (of_standing (λ p. IsBankLine p.0 × IsSerial p.1) xs
+    (of_both HasRanges IsGiven HasPlace (λ row line serial. (line, (serial.0, given row.serial serial.1))) (lines_seen xs) (seen-in-range xs) (serials_small xs)))
+    (standing-firms rates xs h)
   where
     IsGiven : BankRow → Type 0
     IsGiven row = (1 ≤ row.serial) × (row.serial ≤ serial_count xs)
@@ -222,10 +232,6 @@ seen-rows rates xs h =
 
     given : (n : ℕ) → n ≤ serial_count xs → n ≤ 500000000000
     given n low = omega (arith, low, lawful_serials rates xs h)
-
--- and so is each line that stands
-standing-rows : (rates : RateTable) (xs : List Entry) → AreJudged rates xs → AllByRecursion IsBankRow (lines_standing xs)
-standing-rows rates xs h = of_standing IsBankRow xs (seen-rows rates xs h)
 
 -- ---- credits
 
@@ -247,7 +253,6 @@ credit_row row e is h credit made =
 
 -- the numbers of the reply to a command that no rule refuses are in range
 reply-in-range : (b : Book) (t : ℕ) (command : Command) → IsLawful b → nat_le most_entries (length b.entries) ≡ false → own_rule b t command ≡ None → IsReply (reply_to b t command)
-reply-in-range b t (Register r) lawful room own = tt
 reply-in-range b t (Report r) lawful room own =
     let few = few_lines (member_of b.entries r.employer) (reported_version b.entries r.employer r.month) t r.month r.lines own in
     (omega arith, omega arith, few_charge (rates_of b) r.month r.lines (lawful_rates b.opening b.entries lawful).ranges few)
@@ -261,7 +266,6 @@ reply-in-range b t (ImportBank file) lawful room own =
     let rows = by-few b.entries (lines_seen b.entries) (ImportBank file) in
     (omega (arith, rows), omega (arith, file-few file))
 reply-in-range b t (Claim c) lawful room own = (omega arith, room_for (length (claims_of b.entries)) (length b.entries) (claims_few b.entries) room)
-reply-in-range b t (Withdraw w) lawful room own = tt
 reply-in-range b t (Release number) lawful room own = told (claim_of b.entries number) refl
   where
     debts : ClaimRow → Debts
@@ -273,6 +277,7 @@ reply-in-range b t (Release number) lawful room own = told (claim_of b.entries n
         let good = found_holds claim_key IsClaimRow (claims_of b.entries) (number ∷ []) claim (claims-in-range b.opening b.entries lawful) is in
         subst IsAmount (sym (settled_whole claim.cents (debts claim).owed (debts claim).interest)) good.cents
 reply-in-range b t PayoutList lawful room own = list-reply-in-range b lawful room own
+reply-in-range b t command lawful room own = tt
 
 -- so the row of each accepted request is in range
 entry-in-range : (rates : RateTable) (x : Entry) (xs : List Entry) → AreJudged rates (x ∷ xs) → IsRequestRow (request_row x)
@@ -308,7 +313,9 @@ module _ (b : Book) (t : Tables) (lawful : IsLawful b) (stands : Stands b t) whe
   employers-in-range : AllByRecursion IsEmployerRow t.employers
   employers-in-range =
       all_from_found employer_key IsEmployerRow t.employers stands.employers_in_order
-      (λ row found. employer_row row (member-in-range b.opening b.entries lawful row.employer (member_in row) (sym (stands.employers row.employer) ∙ ap (option_map member_in) found)))
+      (λ row found.
+      employer_row row
+      (subst (λ (o : Option Member). IfSome o (IsMember row.employer)) (sym (stands.employers row.employer) ∙ ap (option_map member_in) found) (member-in-range b.opening b.entries lawful row.employer)))
 
   -- the reports
   reports-in-range : AllByRecursion IsReportRow t.reports
@@ -325,8 +332,7 @@ module _ (b : Book) (t : Tables) (lawful : IsLawful b) (stands : Stands b t) whe
   -- the bank lines
   bank-in-range : AllByRecursion IsBankRow t.bank
   bank-in-range =
-      let once : AreOnce bank_key (lines_standing b.entries) = subst (AreOnce bank_key) (sym (standing_seen b.entries)) (references_once b.entries) in
-      let same : t.bank ≡ in_key_order bank_key (lines_standing b.entries) = ordered bank_key t.bank (lines_standing b.entries) stands.bank_in_order once stands.bank in
+      let same : t.bank ≡ in_key_order bank_key (lines_standing b.entries) = ordered bank_key t.bank (lines_standing b.entries) stands.bank_in_order (references_standing b.entries) stands.bank in
       subst (AllByRecursion IsBankRow) (sym same)
       (AllByRecursion-in_key_order bank_key IsBankRow (lines_standing b.entries) (standing-rows b.opening b.entries lawful))
 

@@ -1,5 +1,5 @@
 -- What holds of each bank line that a book has seen, and of the credits that lines are.
-use Rattle.std.proofs.Common.{◌≡◌, ℕ, ◌+◌, ◌*◌, ◌≤◌, List, [], ◌∷◌, length, filter, Option, Some, None, Result, Ok, Err, is_some, Bool, true, false, cond, nat_lt, refl, sym, subst, arith}
+use Rattle.std.proofs.Common.{◌≡◌, ℕ, ◌+◌, ◌*◌, ◌≤◌, List, [], ◌∷◌, length, filter, Option, Some, None, Result, Ok, Err, is_some, Bool, true, false, cond, nat_lt, refl, subst, arith}
 use Rattle.std.proofs.lemmas.Bool.Decides.{nat_tests}
 use Rattle.std.specs.List.{AllByRecursion, cons_option, enumerate_from, find}
 use Rattle.std.specs.Option.{option_map_or}
@@ -38,7 +38,7 @@ use Rattle.clear_laws.proofs.JudgeLemmas.{unrefused}
 use Rattle.clear_values.proofs.CreditRowsLemmas.{claim_set_offs-in-range, set_offs-all}
 use Rattle.clear_values.proofs.KeyedChangesLemmas.{AllByRecursion-in_key_order, found_holds}
 use Rattle.clear_laws.proofs.LimitsLemmas.{accepted, lawful_entries}
-use Rattle.clear_laws.proofs.LinesLemmas.{length-rows_from, own_count, serial_count-next, standing_seen}
+use Rattle.clear_laws.proofs.LinesLemmas.{length-rows_from, of_standing, own_count, serial_count-next}
 use Rattle.clear_values.proofs.ListLemmas.{both, each}
 
 -- ---- from a file's lines to rows and credits
@@ -172,10 +172,6 @@ module _ (P : BankRow → Type 0) (Q : CreditRow → Type 0) (credited : (row : 
       told None is rest = rest
       told (Some e) is rest = (credited row e is h.0 _ refl, rest)
 
--- what holds of each line that was seen holds of each that stands
-pub of_standing : (P : BankRow → Type 0) (xs : List Entry) → AllByRecursion P (lines_seen xs) → AllByRecursion P (lines_standing xs)
-of_standing P xs h = subst (AllByRecursion P) (sym (standing_seen xs)) h
-
 -- ---- set-offs
 
 -- what holds of the set-offs of a claim that is released with a reply, whichever claim has the number
@@ -235,7 +231,7 @@ credits-come rates xs h =
     (both (λ row. IsBy (ledger_day xs) row.day) (set_offs xs) (credits_of_lines (lines_standing xs)) (set_offs-come rates xs h)
     (of_credits (λ row. IsBy (ledger_day xs) row.line.value) (λ row. IsBy (ledger_day xs) row.day)
     (λ row e is by credit made. subst (λ (o : Option CreditRow). DayBy o) made by) (lines_standing xs)
-    (of_standing (λ row. IsBy (ledger_day xs) row.line.value) xs (seen-come rates xs h))))
+    (of_standing (λ p. IsBy (ledger_day xs) p.0.value) xs (seen-come rates xs h))))
   where
     DayBy : Option CreditRow → Type 0
     DayBy None = ⊥

@@ -48,13 +48,13 @@ module _ {Row : Type 0} (number : Row → ℕ) where
 
   -- ---- numbers up to one, and numbers above it
 
-  none-up_to : (s n : ℕ) (rows : List Row) → n < s → AllByRecursion (λ row. number row ≤ n) rows → find_row by_number rows (s ∷ []) ≡ None
+  pub none-up_to : (s n : ℕ) (rows : List Row) → n < s → AllByRecursion (λ row. number row ≤ n) rows → find_row by_number rows (s ∷ []) ≡ None
   none-up_to s n [] h all = refl
   none-up_to s n (row ∷ rows) h all =
       let low = all.0 in
       ap (λ b. cond b (Some row) (find_row by_number rows (s ∷ []))) (other_number (number row) s (omega (arith, low))) ∙ none-up_to s n rows h all.1
 
-  none-above : (s n : ℕ) (rows : List Row) → s ≤ n → AllByRecursion (λ row. n < number row) rows → find_row by_number rows (s ∷ []) ≡ None
+  pub none-above : (s n : ℕ) (rows : List Row) → s ≤ n → AllByRecursion (λ row. n < number row) rows → find_row by_number rows (s ∷ []) ≡ None
   none-above s n [] h all = refl
   none-above s n (row ∷ rows) h all =
       let high = all.0 in
@@ -119,3 +119,10 @@ module _ {Row : Type 0} (key finer : Row → List ℕ) (apart : (x y : Row) → 
   pub new-finer : (rows news : List Row) → AreNew key rows news → AreNew finer rows news
   new-finer rows [] new = tt
   new-finer rows (first ∷ news) new = (none-finer rows first new.0, new-finer rows news new.1)
+
+-- ---- whatever the element
+
+-- what follows from two things holds of each where both do
+pub of_both : {A : Type 0} (P Q R : A → Type 0) → ((x : A) → P x → Q x → R x) → (xs : List A) → AllByRecursion P xs → AllByRecursion Q xs → AllByRecursion R xs
+of_both P Q R f [] h k = tt
+of_both P Q R f (x ∷ xs) h k = (f x h.0 k.0, of_both P Q R f xs h.1 k.1)

@@ -17,6 +17,7 @@ use Rattle.clear_book.specs.Workers.{registered_in, number_key}
 use Rattle.clear_values.proofs.KeyedLemmas.{length-with_row}
 use Rattle.clear_values.proofs.KeyedRowsLemmas.{AreInOrder-in_key_order, find_row-in_key_order}
 use Rattle.clear_laws.proofs.LimitsLemmas.{accepted}
+use Rattle.clear_laws.proofs.MembersLemmas.{registered_after}
 use Rattle.clear_laws.proofs.RatesLemmas.{new_and_rated}
 use Rattle.clear_laws.proofs.VersionLemmas.{no_some}
 
@@ -33,7 +34,7 @@ named_or_there r e false there before same = same
 -- who is registered is found among those that entries register
 found_employer : (xs : List Entry) (e : ℕ) → is_some (find_row number_key (registered_in xs) (number_key e)) ≡ is_some (member_of xs e)
 found_employer [] e = refl
-found_employer (x ∷ xs) e = told (registration_in x.command) (found_employer xs e)
+found_employer (x ∷ xs) e = told (registration_in x.command) (found_employer xs e) ∙ sym (registered_after x.command e (member_of xs e))
   where
     told : (o : Option Registration) → is_some (find_row number_key (registered_in xs) (number_key e)) ≡ is_some (member_of xs e) → is_some (find_row number_key (cons_option (option_map employer_in o) (registered_in xs)) (number_key e)) ≡ is_some (newer (option_and_then (member_by e) o) (member_of xs e))
     told None rest = rest

@@ -4,7 +4,8 @@ ghost use Rattle.std.specs.Prelude.{Some};
 ghost use Rattle.clear_account.specs.Allocation.{prepaid, right_pieces};
 ghost use Rattle.clear_money.specs.Texts.{day_text};
 ghost use Rattle.clear_book.specs.declared.calls.Command.TheVariants.{Register, Report, Correct};
-ghost use Rattle.clear_book.specs.declared.calls.Command.TheVariants.{ImportBank};
+ghost use Rattle.clear_book.specs.declared.calls.Command.TheVariants.{AddRate, EndMembership};
+ghost use Rattle.clear_book.specs.declared.calls.Command.TheVariants.{ImportBank, Assign};
 ghost use Rattle.clear_book.specs.declared.calls.Command.TheVariants.{Claim, Withdraw, Release};
 ghost use Rattle.clear_book.specs.declared.calls.Command.TheVariants.{PayoutList};
 ghost use Rattle.clear_values.specs.declared.lines.Purpose.TheVariants.{Contribution};
@@ -66,9 +67,19 @@ pub fn law_cents_of_two_lines()
 
 /// The bytes under which commands are kept.
 pub fn law_kept_bytes()
+    ensures rate { command_bytes (AddRate (record {
+      first = february;
+      contribution_rate = 1900;
+      report_day = 15;
+      due_day = 20;
+      interest_rate = 90;
+      entitlement_rate = 1425;
+    })) ≡ codes "rate 2024-02 1900 15 20 90 1425" }
     ensures register { command_bytes
         (Register (record { employer = 1001; name = codes "Bau Nord"; start = january }))
         ≡ codes "employer 1001 2024-01 Bau Nord" }
+    ensures end { command_bytes (EndMembership (record { employer = 1001; last = january }))
+        ≡ codes "end 1001 2024-01" }
     ensures report { command_bytes (Report (record {
       employer = 1001;
       month = january;
@@ -86,6 +97,9 @@ pub fn law_kept_bytes()
       version = 1;
     })) ≡ codes "correct 1001 2024-01 1 7:500000" }
     ensures bank { command_bytes (ImportBank (codes "reference")) ≡ codes "bank reference" }
+    ensures assign { command_bytes
+        (Assign (record { reference = codes "line-1"; employer = 1001 }))
+        ≡ codes "assign line-1 1001" }
     ensures claim { command_bytes
         (Claim (record { employer = 1001; worker = 7; cents = 10000 }))
         ≡ codes "claim 1001 7 10000" }

@@ -1,6 +1,7 @@
 //! Laws: what follows from the definitions alone. A law has no parameters and no effect; its
 //! contract is the law.
-ghost use Rattle.std.specs.Prelude.{◌≡◌, ◌↔◌, ℕ, ◌+◌, List, ◌∷◌, Bool, true, ◌&&◌, ◌==◌, not};
+ghost use Rattle.std.specs.Prelude.{◌≡◌, ◌↔◌, ℕ, ◌+◌, List, ◌∷◌, ◌++◌, Bool, true, ◌&&◌};
+ghost use Rattle.std.specs.Prelude.{◌==◌, not};
 ghost use Rattle.std.specs.Prelude.{IsSome, IsTrue, filter, length, map, sum_by, Option, Some};
 ghost use Rattle.std.specs.List.{AllByRecursion, list_any, range_with_len, Contains};
 ghost use Rattle.clear_money.specs.Rates.{Rate, rate_in_force};
@@ -28,7 +29,8 @@ ghost use Rattle.clear_book.specs.Conserved.{suspense_cents};
 ghost use Rattle.clear_book.specs.Judge.{judge, kept_reply, new_reply};
 ghost use Rattle.clear_book.specs.Calls.{command_bytes, same_command};
 ghost use Rattle.clear_book.specs.Laws.{AreCounted, AreEmployers, AreNumbered, AreSorted, IsSmall};
-ghost use Rattle.clear_book.specs.Lines.{credits_after, credits_made, lines_after};
+ghost use Rattle.clear_values.specs.declared.rows.BankRow.{BankRow};
+ghost use Rattle.clear_book.specs.Lines.{credits_after, credits_made, line_of, lines_after};
 ghost use Rattle.clear_book.specs.Lines.{lines_of_rows, lines_seen, lines_standing};
 ghost use Rattle.clear_book.specs.Machine.{Goes, IsLawful, Runs, appended, step};
 ghost use Rattle.clear_book.specs.Own.Release.{settlement_of};
@@ -70,6 +72,15 @@ pub fn law_rates()
 pub fn law_rated()
     ensures { (b : Book) (e m : ℕ) → IsLawful b → IsSome (latest_lines b.entries e m)
         → IsSome (rate_in_force (rates_of b) m) }
+{}
+
+/// No later entry changes the rates of a month of which a lawful book has a report: new rates begin
+/// behind the month of the day on which they are added, and a month is reported when it has begun.
+pub fn law_rates_stay()
+    ensures { (b : Book) (more : List Entry) (e m : ℕ)
+        → let later = record b { entries = more ++ b.entries } in IsLawful later
+        → IsSome (latest_lines b.entries e m)
+        → rate_in_force (rates_of later) m ≡ rate_in_force (rates_of b) m }
 {}
 
 /// A run over calls whose values lie in their ranges leads from a lawful book to a lawful one.
@@ -221,6 +232,15 @@ pub fn law_conserved()
 pub fn law_bank_lines()
     ensures counted { (b : Book) → AreCounted b.entries }
     ensures references { (b : Book) → HasNoReferenceTwice (lines_of_rows (lines_seen b.entries)) }
+{}
+
+/// A line of a lawful book that has a firm stands under it, unchanged, in each later one: no
+/// assignment takes it from there.
+pub fn law_lines_stay()
+    ensures { (b : Book) (more : List Entry) (reference : List ℕ) (line : BankRow)
+        → let later = record b { entries = more ++ b.entries } in IsLawful later
+        → line_of b.entries reference ≡ Some line → IsSome line.employer
+        → line_of later.entries reference ≡ Some line }
 {}
 
 /// What stands after a file is what stands in the book with it: the lines, and the payments.

@@ -1,12 +1,14 @@
 -- The bank lines: under their references, and with their serials unique too.
-use Rattle.clear_columns.proofs.Words.{◌≡◌, ℤ, pos, Bool, true, false, ◌&&◌, ◌||◌, List, [], ◌∷◌, Less, Option, Some, None, Row, is_none, ℕ, map, filter, refl, sym, ap, ◌∙◌, inl, inr, is_eq, Equal, codes, ordering_then, cast_row, Binary, Insert, Database, Values, Ghosts, Term, lit, col, op2, Trees, Null, Text, automatic, agree, passes, Datatype, NotNull, Compare, Is, Eq, Key, value_cmp-Text, Purpose, Contribution, Interest, is_key, is_in_suspense, Tables, bank_key, BankRow, meets, plain_program, content, HasTables, by_key, bank_table, store_schema, bank_values, cast_int, cast_null, equal_ints, equal_texts, AnswersJust, turned, is_key_is, by_key_total, key_is, cast_maybe, cast_purpose, maybe_typed, purpose_typed, same_numbers}
+use Rattle.clear_columns.proofs.Words.{◌≡◌, ℤ, pos, Bool, true, false, ◌&&◌, ◌||◌, List, [], ◌∷◌, Less, Option, Some, None, Row, is_none, ℕ, map, filter, refl, sym, ap, ◌∙◌, inl, inr, is_eq, Equal, codes, ordering_then, cast_row, Binary, Insert, Update, Database, Values, Ghosts, Term, lit, col, op2, Trees, Null, Text, automatic, agree, passes, Datatype, NotNull, Compare, Is, Eq, Key, value_cmp-Text, Purpose, Contribution, Interest, is_key, is_in_suspense, number, numbers_compare, output_cmp, plain_query, Tables, bank_key, BankRow, meets, plain_program, content, HasTables, by_key, bank_table, store_schema, bank_values, cast_int, cast_null, equal_ints, equal_texts, AnswersJust, turned, is_key_is, by_key_total, key_is, cast_maybe, cast_purpose, maybe_typed, purpose_typed, same_numbers}
 use Rattle.clear_ledger.specs.Shown.{bank_shown, is_line_held, serial_key}
 use Rattle.std.specs.Float.Ieee
 use Rattle.sqlite.specs.Ops.{binary}
 use Rattle.sqlite_tied.specs.Compute.{everything}
 use Rattle.sqlite_value.specs.Keys.{ascending, first_key, plain}
 use Rattle.sqlite_value.specs.Order.{value_cmp}
+use Rattle.clear_values.specs.Keyed.{in_key_order}
 use Rattle.clear_columns.proofs.KeyedTable.{KeyedTable, finds, few, lists, lists_all}
+use Rattle.clear_columns.proofs.OrderLemmas.{lists_by}
 use Rattle.clear_columns.proofs.Says.{Says, SaysQuery}
 use Rattle.clear_schema.proofs.Changes.{bank_changed}
 
@@ -68,6 +70,9 @@ bank = record {
   changed = λ t old new has schema sound. bank_changed t old new has schema sound;
 }
 
+pub stored_beside : (y : ℤ × BankRow) → cast_row bank_table (bank_values y) ≡ bank_values y
+stored_beside y = rw (cast_int y.0, cast_int (pos y.1.serial), cast_int (pos y.1.line.value), cast_maybe y.1.line.employer, cast_maybe y.1.employer, cast_int (pos y.1.line.cents), cast_purpose y.1.line.purpose)
+
 -- ---- the texts
 
 abbrev pub insert_terms : List Term
@@ -77,11 +82,18 @@ pub insert_says : Says (codes "INSERT INTO bank (reference, serial, value, named
 unfolding everything
 insert_says = record { said = (refl, refl, refl) }
 
+abbrev pub by_reference : List Term
+by_reference = op2 (Compare Eq Binary) (col 1 1) (col 0 0) ∷ []
+
+abbrev pub update_terms : List Term
+update_terms = col 1 0 ∷ col 1 0 ∷ col 1 1 ∷ col 1 2 ∷ col 1 3 ∷ col 1 4 ∷ col 0 1 ∷ col 1 6 ∷ col 1 7 ∷ col 1 8 ∷ []
+
+pub update_says : Says (codes "UPDATE bank SET employer = ?2 WHERE reference = ?1") (Update 5 (plain_program 7 by_reference update_terms []))
+unfolding everything
+update_says = record { said = (refl, refl, refl) }
+
 abbrev columns : List Term
 columns = col 1 1 ∷ col 1 2 ∷ col 1 3 ∷ col 1 4 ∷ col 1 5 ∷ col 1 6 ∷ col 1 7 ∷ col 1 8 ∷ []
-
-abbrev by_reference : List Term
-by_reference = op2 (Compare Eq Binary) (col 1 1) (col 0 0) ∷ []
 
 abbrev pub get : List ℕ
 get = codes "SELECT reference, serial, value, named, employer, cents, purpose, note FROM bank WHERE reference = ?1"
@@ -103,6 +115,16 @@ suspense_says : SaysQuery suspense (plain_program 7 without_firm columns order)
 unfolding everything
 suspense_says = record { names = _; said = (refl, refl, refl) }
 
+abbrev serial_order : List (Term × Key)
+serial_order = (col 1 2, ascending Binary) ∷ []
+
+abbrev pub suspense_by_serial : List ℕ
+suspense_by_serial = codes "SELECT reference, serial, value, named, employer, cents, purpose, note FROM bank WHERE employer IS NULL ORDER BY serial"
+
+by_serial_says : SaysQuery suspense_by_serial (plain_program 7 without_firm columns serial_order)
+unfolding everything
+by_serial_says = record { names = _; said = (refl, refl, refl) }
+
 abbrev pub all : List ℕ
 all = codes "SELECT reference, serial, value, named, employer, cents, purpose, note FROM bank ORDER BY reference"
 
@@ -110,10 +132,14 @@ all_says : SaysQuery all (plain_program 7 [] columns order)
 unfolding everything
 all_says = record { names = _; said = (refl, refl, refl) }
 
--- ---- what they answer
+-- ---- what they do
 
-of_reference : (k : List ℕ) (y : ℤ × BankRow) → meets by_reference (Text k ∷ []) (bank_values y) ≡ is_key (bank_key (content y)) k
-of_reference k y = rw (equal_texts (content y).line.reference k) (last _ ∙ sym (is_key_is (content y).line.reference k))
+-- the line has a reference
+abbrev pub is_of : List ℕ → BankRow → Bool
+is_of k row = is_key (bank_key row) k
+
+pub of_reference : (k : List ℕ) (rest : Row) (y : ℤ × BankRow) → meets by_reference (Text k ∷ rest) (bank_values y) ≡ is_of k (content y)
+of_reference k rest y = rw (equal_texts (content y).line.reference k) (last _ ∙ sym (is_key_is (content y).line.reference k))
 
 no_firm : (y : ℤ × BankRow) → meets without_firm [] (bank_values y) ≡ is_in_suspense (content y)
 unfolding binary value_cmp Ieee.lt Ieee.is_nan
@@ -130,12 +156,21 @@ by row = Text row.line.reference ∷ []
 rises : (a b : BankRow) → by_key bank_key a b ≡ Less → ordering_then (value_cmp (Text a.line.reference) (Text b.line.reference)) Equal ≡ Less
 rises a b h = ap (λ o. ordering_then o Equal) (value_cmp-Text a.line.reference b.line.reference ∙ h)
 
+abbrev serial_of : BankRow → Row
+serial_of row = number row.serial ∷ []
+
+serials_rise : (a b : BankRow) → by_key serial_key a b ≡ Less → output_cmp (plain_query 7 without_firm columns serial_order) (serial_of a, bank_shown a) (serial_of b, bank_shown b) ≡ Less
+serials_rise a b h = rw (numbers_compare a.serial b.serial) h
+
 module _ {S : Type 0} (g : Ghosts S) (t : Tables) (db : Database) (has : HasTables t db) where
-  pub answers : (k : List ℕ) → AnswersJust g get (Text k ∷ []) db (map bank_shown (filter (λ row. is_key (bank_key row) k) t.bank))
-  answers k = finds bank g t db has (Text k ∷ []) bank_shown (λ row. is_key (bank_key row) k) (of_reference k) get_says (λ _. refl) (few bank t db has k)
+  pub answers : (k : List ℕ) → AnswersJust g get (Text k ∷ []) db (map bank_shown (filter (is_of k) t.bank))
+  answers k = finds bank g t db has (Text k ∷ []) bank_shown (is_of k) (of_reference k []) get_says (λ _. refl) (few bank t db has k)
 
   pub answers_suspense : AnswersJust g suspense [] db (map bank_shown (filter is_in_suspense t.bank))
   answers_suspense = lists bank g t db has [] bank_shown is_in_suspense no_firm suspense_says by (λ _. refl) rises
 
   pub answers_all : AnswersJust g all [] db (map bank_shown t.bank)
   answers_all = lists_all bank g t db has [] bank_shown (λ _. refl) all_says by (λ _. refl) rises
+
+  pub answers_by_serial : AnswersJust g suspense_by_serial [] db (map bank_shown (in_key_order serial_key (filter is_in_suspense t.bank)))
+  answers_by_serial = lists_by bank (record { of = serial_key; index = automatic bank_table 1 (2 ∷ []) 9 }) (inr (inl refl)) g t db has [] bank_shown is_in_suspense no_firm by_serial_says serial_of (λ _. refl) serials_rise

@@ -1,5 +1,6 @@
--- What a query shows of a row, and when a row that is to be added finds its key held.
-use Rattle.std.specs.Prelude.{ℕ, ◌<◌, ◌^◌, Bool, ◌||◌, List, [], ◌∷◌, Some, None}
+-- What a statement is given of a row and a query shows of it, and when a row that is to be added
+-- finds its key held.
+use Rattle.std.specs.Prelude.{ℕ, ◌<◌, ◌^◌, Bool, ◌||◌, List, [], ◌∷◌, Option, Some, None}
 use Rattle.sqlite.specs.declared.types.Value.TheVariants.{Blob, Text}
 use Rattle.sqlite.specs.Order.{Row}
 use Rattle.clear_values.specs.Tables.{RequestRow, bank_key}
@@ -33,6 +34,14 @@ credit_shown row =
 -- the serial of a bank line, as a key
 abbrev pub serial_key : BankRow → List ℕ
 serial_key row = row.serial ∷ []
+
+-- the reference and the firm of a line
+abbrev pub assignment_given : BankRow → Row
+assignment_given row = Text row.line.reference ∷ maybe row.employer ∷ []
+
+-- the line, for this firm or for none
+abbrev pub for_firm : Option ℕ → BankRow → BankRow
+for_firm employer row = record row { employer = employer }
 
 -- a row has the reference or the serial of this one
 abbrev pub is_line_held : BankRow → List BankRow → Bool

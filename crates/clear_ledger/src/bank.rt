@@ -1,14 +1,16 @@
 //! The bank lines, by their references.
 ghost use Rattle.std.specs.Borrow.{sem, RestsIfErr};
-ghost use Rattle.std.specs.Prelude.{◌≡◌, filter, IfOk};
+ghost use Rattle.std.specs.Prelude.{◌≡◌, false, filter, IfOk};
 ghost use Rattle.sqlite.specs.Held.{state};
 ghost use Rattle.sqlite.specs.Values.{bound};
 ghost use Rattle.sqlite.specs.contracts.connection.Connection.{the_row};
-ghost use Rattle.clear_values.specs.Keyed.{find_row, with_row};
+ghost use Rattle.clear_values.specs.Keyed.{find_row, in_key_order, with_row};
 ghost use Rattle.clear_values.specs.Credits.{is_in_suspense};
 ghost use Rattle.clear_values.specs.RowRanges.{IsBankRow, IsSerial};
 ghost use Rattle.clear_values.specs.Tables.{bank_key};
-ghost use Rattle.clear_ledger.specs.Shown.{bank_shown, is_line_held};
+ghost use Rattle.clear_ledger.specs.Shown.{assignment_given, bank_shown, for_firm, is_line_held};
+ghost use Rattle.clear_ledger.specs.Shown.{serial_key};
+ghost use Rattle.clear_columns.specs.Keys.{changed_at};
 ghost use Rattle.clear_columns.specs.Reading.{HasSomeTables, IsLeft, ReadsOn};
 ghost use Rattle.clear_schema.specs.Frame.{Finds, Lists, Writes};
 
@@ -45,6 +47,22 @@ pub fn insert_line<S: Alter>(tx: &mut Transaction<'_, S>, row: &BankRow) -> Resu
         "INSERT INTO bank (reference, serial, value, named, employer, cents, purpose, note) \
          VALUES (?1, ?2, ?3, ?4, ?5, ?6, ?7, ?8)",
         &line_values(row),
+    )
+}
+
+/// Writes the firm of this row to the line of its reference, whose other values stay as they are.
+/// Where there is no such line, nothing is written.
+pub fn assign_line<S: Alter>(tx: &mut Transaction<'_, S>, row: &BankRow) -> Result<(), Fault>
+    ensures same_reference { tx.new.conn.ghost_name ≡ tx.old.conn.ghost_name }
+    ensures writes { Writes S.Store tx.old.conn.now tx.new.conn.now result ⊥ (λ _. false)
+        (λ t. record t {
+          bank = changed_at bank_key (bank_key row.now) (for_firm row.now.employer) t.bank;
+        }) }
+{
+    put(
+        tx,
+        "UPDATE bank SET employer = ?2 WHERE reference = ?1",
+        &assignment_values(row),
     )
 }
 
@@ -96,6 +114,24 @@ pub fn lines<S: Alter>(conn: &mut Connection<S>) -> Result<Rows<'_, S>, Error>
     )
 }
 
+/// The lines without a firm, in the order of their serials: `next_row` reads one at a time. This is
+/// one pass over all lines by the index on their serials, with a search for the row of each.
+pub fn read_suspense<S: Alter>(conn: &mut Connection<S>) -> Result<Rows<'_, S>, Error>
+    ensures* refused { sem 𝓛 (RestsIfErr (the_row S.row S.Store) conn.entry
+        (λ rows. rows.conn.ghost_name) result
+        (IsLeft S.Store conn.old (HasSomeTables (state S.Store conn.old).now) result)) }
+    ensures same_reference { IfOk result (λ rows. rows.conn.ghost_name ≡ conn.entry.ghost_name) }
+    ensures begun { IfOk result (λ rows. ReadsOn S.Store conn.old rows.conn.now bank_shown
+        (λ t. in_key_order serial_key (filter is_in_suspense t.bank))) }
+{
+    begin_rows::<Bank, S>(
+        conn,
+        "SELECT reference, serial, value, named, employer, cents, purpose, note \
+         FROM bank WHERE employer IS NULL ORDER BY serial",
+        &[],
+    )
+}
+
 /// The table of bank lines.
 pub struct Bank;
 
@@ -140,5 +176,15 @@ fn line_values(row: &BankRow) -> [ValueRef<'_>; 8]
         amount(row.line.cents),
         purpose(row.line.purpose),
         text(row.line.note.as_str()),
+    ]
+}
+
+// The parameters of a statement that writes the firm of a line.
+fn assignment_values(row: &BankRow) -> [ValueRef<'_>; 2]
+    ensures { bound result ≡ assignment_given row.now }
+{
+    [
+        text(row.line.reference.as_str()),
+        maybe_employer(row.employer),
     ]
 }

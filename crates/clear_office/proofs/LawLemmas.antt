@@ -2,23 +2,25 @@
 use Rattle.std.proofs.Common.{◌≡◌, ℕ, ◌+◌, ◌≤◌, List, [], ◌∷◌, None, refl, sym, ap, subst, arith}
 use Rattle.std.specs.List.{AllByRecursion}
 use Rattle.clear_values.specs.declared.rows.Change.{Change}
-use Rattle.clear_values.specs.declared.rows.Change.TheVariants.{AddEmployer, AddReport, ReplaceReport, AddBankLines, AddClaim, WithdrawClaim, ReleaseClaim, AddList}
+use Rattle.clear_values.specs.declared.rows.Change.TheVariants.{AddRate, AddEmployer, EndMembership, AddReport, ReplaceReport, AddBankLines, AssignLine, AddClaim, WithdrawClaim, ReleaseClaim, AddList}
 use Rattle.clear_values.specs.declared.texts.WageLine.{WageLine}
 use Rattle.clear_values.specs.Credits.{credit_key}
 use Rattle.clear_values.specs.Tables.{request_number}
 use Rattle.clear_book.specs.Book.{Book, Entry}
 use Rattle.clear_values.specs.Keyed.{is_key, find_row, without_rows, AreInOrder, AreOnce}
 use Rattle.clear_values.specs.Credits.{credits_of_lines, set_offs_of}
-use Rattle.clear_book.specs.Lines.{lines_standing}
+use Rattle.clear_book.specs.Lines.{is_in_suspense, lines_standing, suspense_count}
+use Rattle.clear_values.specs.Limits.{most_suspense}
 use Rattle.clear_book.specs.Machine.{IsLawful}
 use Rattle.clear_values.specs.RowRanges.{AreInRange, IsBankRow, IsClaimRow, IsCreditRow, IsListRow, IsReply, IsReportRow, IsRequestRow, IsSerial, IsWageRow}
 use Rattle.clear_values.specs.Tables.{Tables, bank_key, changed, claim_key, employer_key, is_wage_key_of, list_key, report_key, request_key, wage_key, wage_rows}
 use Rattle.clear_book.specs.Tables.{Stands, noted, request_row}
 use Rattle.clear_values.proofs.KeyedRowsLemmas.{count_by-ordered}
+use Rattle.clear_laws.proofs.AccountLimitLemmas.{standing_within}
 use Rattle.clear_laws.proofs.ClaimsLemmas.{claims_numbered}
 use Rattle.clear_laws.proofs.ListNumbersLemmas.{lists_in_order}
 use Rattle.clear_values.proofs.PutRowsLemmas.{all_put}
-use Rattle.clear_laws.proofs.LinesLemmas.{references_standing, serials_once, standing_seen}
+use Rattle.clear_laws.proofs.LinesLemmas.{references_standing, standing_once}
 use Rattle.clear_laws.proofs.RowRangeLemmas.{rows_in_range}
 use Rattle.sqlite_keyed.proofs.ListLemmas.{all_weaker}
 use Rattle.clear_schema.specs.Values.{Counts as Stored, counts_of}
@@ -26,6 +28,7 @@ use Rattle.clear_firms.specs.declared.counts.Counts.{Counts}
 use Rattle.clear_firms.specs.Counts.{as_stored}
 use Rattle.clear_ledger.specs.Shown.{serial_key}
 use Rattle.clear_store.specs.Changes.{AreGross, HasRoom, IsFree, IsInRange, IsPuttable, IsThere, claims_taken, lists_taken, serials_taken}
+use Rattle.clear_store.proofs.RateLemmas.{rising_free}
 use Rattle.clear_store.proofs.OnceLemmas.{all_new, all_with, in_order_free, key_count, once_counted, once_free}
 
 -- ---- keys
@@ -33,12 +36,22 @@ use Rattle.clear_store.proofs.OnceLemmas.{all_new, all_with, in_order_free, key_
 -- no serial stands twice in the tables of a book
 serials_counted : (b : Book) (t : Tables) → Stands b t → (k : List ℕ) → key_count serial_key k t.bank ≤ 1
 serials_counted b t stands k =
-    let once : AreOnce serial_key (lines_standing b.entries) = rw (standing_seen b.entries) (serials_once b.entries) in
+    let once : AreOnce serial_key (lines_standing b.entries) = standing_once b.entries in
     let same = count_by-ordered bank_key (λ row. is_key (serial_key row) k) t.bank (lines_standing b.entries) stands.bank_in_order (references_standing b.entries) stands.bank in
     omega (arith, same, once_counted serial_key k (lines_standing b.entries) once)
 
+-- at most as many lines are in suspense as may be
+pub suspense_few : (b : Book) (t : Tables) → IsLawful b → Stands b t → suspense_count t.bank ≤ most_suspense
+suspense_few b t lawful stands =
+    let same = count_by-ordered bank_key is_in_suspense t.bank (lines_standing b.entries) stands.bank_in_order (references_standing b.entries) stands.bank in
+    let few = (standing_within b.opening b.entries lawful).0 in
+    omega (arith, same, few)
+
 -- each key that the change adds was free
 pub change_free : (next : Book) (t : Tables) (x : Entry) (change : Change) → IsLawful next → Stands next (noted x (changed change t)) → IsFree change t
+change_free next t x (AddRate row) lawful stands =
+    rising_free t.rates row (rows_in_range next (noted x (changed (AddRate row) t)) lawful stands).rates.rising
+change_free next t x (EndMembership row) lawful stands = tt
 change_free next t x (AddEmployer row) lawful stands =
     (in_order_free employer_key t.employers (row ∷ []) stands.employers_in_order).0
 change_free next t x (AddReport row lines) lawful stands = (
@@ -48,6 +61,7 @@ change_free next t x (AddReport row lines) lawful stands = (
 change_free next t x (ReplaceReport row lines) lawful stands =
     in_order_free wage_key (without_rows wage_key (is_wage_key_of row.employer row.month) t.wages)
     (wage_rows row.employer row.month lines) stands.wages_in_order
+change_free next t x (AssignLine row) lawful stands = in_order_free credit_key t.credits (credits_of_lines (row ∷ [])) stands.credits_in_order
 change_free next t x (AddBankLines rows) lawful stands = (
   in_order_free bank_key t.bank rows stands.bank_in_order,
   once_free serial_key bank_key t.bank rows (serials_counted next (noted x (changed (AddBankLines rows) t)) stands),
@@ -62,6 +76,9 @@ change_free next t x (AddList row claims) lawful stands =
 
 -- and the number of the request
 pub number_free : (next : Book) (t : Tables) (x : Entry) (change : Change) → Stands next (noted x (changed change t)) → find_row request_key t.requests (request_number x.caller x.number) ≡ None
+number_free next t x (AddRate row) stands = (in_order_free request_key t.requests (request_row x ∷ []) stands.requests_in_order).0
+number_free next t x (EndMembership row) stands = (in_order_free request_key t.requests (request_row x ∷ []) stands.requests_in_order).0
+number_free next t x (AssignLine row) stands = (in_order_free request_key t.requests (request_row x ∷ []) stands.requests_in_order).0
 number_free next t x (AddEmployer row) stands = (in_order_free request_key t.requests (request_row x ∷ []) stands.requests_in_order).0
 number_free next t x (AddReport row lines) stands = (in_order_free request_key t.requests (request_row x ∷ []) stands.requests_in_order).0
 number_free next t x (ReplaceReport row lines) stands = (in_order_free request_key t.requests (request_row x ∷ []) stands.requests_in_order).0
@@ -84,6 +101,8 @@ all_gross e m (line ∷ lines) all = (all.0.gross, all_gross e m lines all.1)
 
 -- the numbers in the rows are those of rows in their ranges
 rows_puttable : (t : Tables) (x : Entry) (change : Change) → IsThere change t → AreInRange (noted x (changed change t)) → IsInRange change
+rows_puttable t x (AddRate row) there within = tt
+rows_puttable t x (EndMembership row) there within = tt
 rows_puttable t x (AddEmployer row) there within = tt
 rows_puttable t x (AddReport row lines) there within =
     let report = (all_with report_key IsReportRow t.reports row within.reports).1 in
@@ -93,6 +112,8 @@ rows_puttable t x (ReplaceReport row lines) there within =
     let report = (all_with report_key IsReportRow (without_rows report_key (λ k. is_key k (report_key row)) t.reports) row within.reports).1 in
     let wages = all_new wage_key IsWageRow (without_rows wage_key (is_wage_key_of row.employer row.month) t.wages) (wage_rows row.employer row.month lines) within.wages in
     ((report.some, report.few), all_gross row.employer row.month lines wages.1)
+rows_puttable t x (AssignLine row) there within =
+    (all_with bank_key IsBankRow (without_rows bank_key (λ k. is_key k (bank_key row)) t.bank) row within.bank).1.serial
 rows_puttable t x (AddBankLines rows) there within =
     all_weaker IsBankRow (λ row. IsSerial row.serial) (λ row good. good.serial) rows (all_new bank_key IsBankRow t.bank rows within.bank).1
 rows_puttable t x (AddClaim row) there within = (all_with claim_key IsClaimRow t.claims row within.claims).1
@@ -110,6 +131,9 @@ rows_puttable t x (AddList row claims) there within = (
 
 -- the last serial after a change is as many more as it takes
 serial_after : (change : Change) (t : Tables) → t.serial + serials_taken change ≡ (changed change t).serial
+serial_after (AddRate row) t = omega arith
+serial_after (EndMembership row) t = omega arith
+serial_after (AssignLine row) t = omega arith
 serial_after (AddEmployer row) t = omega arith
 serial_after (AddReport row lines) t = omega arith
 serial_after (ReplaceReport row lines) t = omega arith
@@ -121,6 +145,9 @@ serial_after (AddList row claims) t = omega arith
 
 -- and so is the last number of a claim
 claims_after : (change : Change) (t : Tables) → t.last_claim + claims_taken change ≡ (changed change t).last_claim
+claims_after (AddRate row) t = omega arith
+claims_after (EndMembership row) t = omega arith
+claims_after (AssignLine row) t = omega arith
 claims_after (AddEmployer row) t = omega arith
 claims_after (AddReport row lines) t = omega arith
 claims_after (ReplaceReport row lines) t = omega arith
@@ -132,6 +159,9 @@ claims_after (AddList row claims) t = omega arith
 
 -- and the last number of a list
 lists_after : (change : Change) (t : Tables) → t.last_list + lists_taken change ≡ (changed change t).last_list
+lists_after (AddRate row) t = omega arith
+lists_after (EndMembership row) t = omega arith
+lists_after (AssignLine row) t = omega arith
 lists_after (AddEmployer row) t = omega arith
 lists_after (AddReport row lines) t = omega arith
 lists_after (ReplaceReport row lines) t = omega arith
@@ -160,6 +190,9 @@ change_puttable next t x change counts lawful stands same there =
     lists = ap (λ (c : Stored). c.lists) same
 
     entries_after : (change : Change) → t.entries + 1 ≡ (noted x (changed change t)).entries
+    entries_after (AddRate row) = refl
+    entries_after (EndMembership row) = refl
+    entries_after (AssignLine row) = refl
     entries_after (AddEmployer row) = refl
     entries_after (AddReport row lines) = refl
     entries_after (ReplaceReport row lines) = refl

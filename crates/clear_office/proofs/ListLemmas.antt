@@ -1,21 +1,25 @@
--- A payout list that is found is answered by its document.
+-- A payout list that is found and the lines in suspense are answered by their documents.
 use Rattle.std.proofs.Common.{◌≡◌, ℕ, List, [], ◌∷◌, Option, Some, None, filter, is_some, sym, ap, ◌∙◌}
 use Rattle.std.specs.Option.{option_map_or}
-use Rattle.clear_book.specs.declared.calls.Query.TheVariants.{Payout}
+use Rattle.clear_book.specs.declared.calls.Query.TheVariants.{Payout, Suspense}
 use Rattle.clear_book.specs.declared.outcomes.Answer.TheVariants.{Text}
+use Rattle.clear_book.specs.declared.rows.BankRow.{BankRow}
 use Rattle.clear_book.specs.declared.rows.ClaimRow.{ClaimRow}
 use Rattle.clear_book.specs.declared.rows.ListRow.{ListRow}
 use Rattle.clear_book.specs.declared.rules.Rule.TheVariants.{UnknownDocument}
 use Rattle.clear_book.specs.Book.{Book}
 use Rattle.clear_book.specs.Documents.Payout.{payout_text}
+use Rattle.clear_book.specs.Documents.Suspense.{suspense_text}
 use Rattle.clear_book.specs.Judge.{answer_to, own_query}
 use Rattle.clear_book.specs.Keyed.{find_row}
 use Rattle.clear_book.specs.Own.Payout.{own_payout}
 use Rattle.clear_book.specs.Tables.{Tables, Stands, list_key}
 use Rattle.clear_book.specs.Workers.{claims_on, is_on, list_of}
+use Rattle.clear_laws.proofs.SuspenseLemmas.{suspense_rows}
 use Rattle.clear_values.proofs.KeyedLemmas.{found_key}
 use Rattle.clear_office.specs.Bodies.{answer_of}
 use Rattle.clear_office.specs.declared.inquiry.Finding.TheVariants as finding
+use Rattle.clear_office.specs.declared.inquiry.RowDocument.TheVariants as rows
 
 module _ (b : Book) (t : Tables) (n : ℕ) (stands : Stands b t) where
   -- the list of the tables is that of the book
@@ -28,7 +32,7 @@ module _ (b : Book) (t : Tables) (n : ℕ) (stands : Stands b t) where
       ∙ ap (λ (claims : List ClaimRow). filter (λ (claim : ClaimRow). is_on n claim.state) claims) stands.claims
 
   pub found : (day : ℕ) (row : ListRow) → find_row list_key t.lists (n ∷ []) ≡ Some row
-      → (own_query b (Payout n) ≡ None) × (answer_of t (finding.List row) ≡ answer_to b day (Payout n))
+      → (own_query b (Payout n) ≡ None) × (answer_of t (finding.Document (rows.List row)) ≡ answer_to b day (Payout n))
   found day row is =
       let there : list_of b.entries n ≡ Some row = list_is ∙ is in
       let number : list_key row ≡ n ∷ [] = found_key list_key t.lists (n ∷ []) row is in
@@ -40,3 +44,7 @@ module _ (b : Book) (t : Tables) (n : ℕ) (stands : Stands b t) where
 
   pub unknown : find_row list_key t.lists (n ∷ []) ≡ None → own_query b (Payout n) ≡ Some UnknownDocument
   unknown is = ap (λ (o : Option ListRow). own_payout (is_some o)) (list_is ∙ is)
+
+-- the document of the lines in suspense is that over the lines of the book
+pub suspense_told : (b : Book) (t : Tables) → Stands b t → (day : ℕ) → answer_of t (finding.Document (rows.Suspense day)) ≡ answer_to b day Suspense
+suspense_told b t stands day = ap (λ (lines : List BankRow). Text (suspense_text day lines)) (suspense_rows b t stands)

@@ -1,3 +1,4 @@
 pub mod PayoutLemmas
 pub mod ReadLemmas
 pub mod ReaderLemmas
+pub mod SuspenseLemmas

@@ -1,19 +1,21 @@
 //! The document of a payout list, told outside of a transaction.
 ghost use Rattle.std.specs.Prelude.{◌≡◌, false, filter, string_bytes, IfErr, IfOk, IsTrue, OnOk};
+ghost use Rattle.std.specs.List.{AllByRecursion};
 ghost use Rattle.sqlite.specs.Held.{state};
 ghost use Rattle.sqlite.specs.State.{HasCleanDisk, IsUnchanged, KeepsCommit, Survives};
 ghost use Rattle.clear_values.specs.Numbers.{IsListNo};
-ghost use Rattle.clear_values.specs.RowRanges.{AreInRange};
+ghost use Rattle.clear_values.specs.RowRanges.{AreInRange, IsClaimRow};
 ghost use Rattle.clear_values.specs.Tables.{Tables};
 ghost use Rattle.clear_book.specs.Documents.Payout.{payout_text};
 ghost use Rattle.clear_book.specs.Workers.{is_on};
 ghost use Rattle.clear_schema.specs.Faults.{IsOfDisk};
 ghost use Rattle.clear_schema.specs.Held.{HasTables};
+ghost use Rattle.clear_ledger.specs.Shown.{claim_shown};
 ghost use Rattle.clear_reading.specs.Reader.{Tells};
 
-use crate::listed::{ListedClaims, fault_told};
+use crate::stored::{StoredRows, fault_told};
 use clear_book::documents::Document;
-use clear_ledger::claims::read_listed;
+use clear_ledger::claims::{Claims, read_listed};
 use clear_schema::fault::{Fault, fault_of};
 use clear_texts::payout::payout_text;
 use clear_values::causes::StoreCause;
@@ -21,6 +23,7 @@ use clear_values::numbers::ListNo;
 use clear_values::rows::ListRow;
 use sqlite::{Alter, Connection, Rows};
 use std::alloc::Global;
+use std::marker::PhantomData;
 
 /// The document of a payout list over the claims that the table holds, which are read one at a time.
 /// Nothing is changed. It takes as many steps as the list has claims. A list whose number none can
@@ -74,26 +77,30 @@ fn write_rows<S: Alter>(
     text: &mut String,
 ) -> Result<(), Fault>
     ensures same_reference { rows.new.conn.ghost_name ≡ rows.old.conn.ghost_name }
-    ensures tells { Tells S.Store rows.old.conn.now rows.new.conn.now list.now
+    ensures tells { Tells S.Store claim_shown rows.old.conn.now rows.new.conn.now
+        (payout_text list.now) (AllByRecursion IsClaimRow)
         (string_bytes text.old) (string_bytes text.new) result }
 {
-    let mut source = ListedClaims { rows };
-    let told = give_rows(alloc, list, &mut source, text);
-    let ListedClaims { rows: _rows } = source;
-    told
+    let mut source = StoredRows {
+        rows,
+        table: PhantomData,
+    };
+    give_rows(alloc, list, &mut source, text)
 }
 
 // Appends the document over what the reader still has to give.
 fn give_rows<S: Alter>(
     alloc: Global,
     list: &ListRow,
-    source: &mut ListedClaims<'_, '_, S>,
+    source: &mut StoredRows<'_, '_, S, Claims>,
     text: &mut String,
 ) -> Result<(), Fault>
     ensures same_reference { source.new.rows.ghost_name ≡ source.old.rows.ghost_name }
     ensures same_connection { source.new.rows.now.conn.ghost_name
         ≡ source.old.rows.now.conn.ghost_name }
-    ensures tells { Tells S.Store source.old.rows.now.conn.now source.new.rows.now.conn.now list.now
+    ensures tells { Tells S.Store claim_shown
+        source.old.rows.now.conn.now source.new.rows.now.conn.now
+        (payout_text list.now) (AllByRecursion IsClaimRow)
         (string_bytes text.old) (string_bytes text.new) result }
 {
     match payout_text(alloc, list, source, text) {

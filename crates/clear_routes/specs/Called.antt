@@ -10,7 +10,7 @@ use Rattle.clear_book.specs.declared.calls.Command.TheVariants as command
 use Rattle.clear_book.specs.declared.calls.Query.{Query}
 use Rattle.clear_book.specs.declared.calls.Query.TheVariants as query
 use Rattle.clear_routes.specs.Bodies.{registration_of, report_of, correction_of, claim_of}
-use Rattle.clear_routes.specs.Bodies.{nothing_of}
+use Rattle.clear_routes.specs.Bodies.{rate_of, end_of, assignment_of, nothing_of}
 use Rattle.clear_money.specs.Results.{◌>>=◌, or_fault}
 use Rattle.clear_routes.specs.Faults.{Part, request_number}
 use Rattle.clear_book.specs.Limits.{most_request_no}
@@ -41,9 +41,15 @@ number_of heading =
 
 -- the command of this kind that the path's parameters and the body make
 abbrev pub command_for : CommandKind → Parameters → List ℕ → Result Command Part
+command_for kind.AddRate at body = do
+  rate ← rate_of body
+  Ok (command.AddRate rate)
 command_for kind.Register at body = do
   registration ← registration_of body
   Ok (command.Register registration)
+command_for kind.EndMembership at body = do
+  end ← end_of at.employer body
+  Ok (command.EndMembership end)
 command_for kind.Report at body = do
   report ← report_of at.employer at.month body
   Ok (command.Report report)
@@ -63,12 +69,16 @@ command_for kind.PayoutList at body = do
   _ ← nothing_of body
   Ok command.PayoutList
 command_for kind.ImportBank at body = Ok (command.ImportBank body)
+command_for kind.Assign at body = do
+  assignment ← assignment_of body
+  Ok (command.Assign assignment)
 
 -- the query of this kind about the path's parameters
 abbrev pub query_for : QueryKind → Parameters → Query
 query_for asked.Owed at = query.Owed at.employer
 query_for asked.Statement at = query.Statement at.employer
 query_for asked.Worker at = query.Worker at.worker
+query_for asked.Suspense at = query.Suspense
 query_for asked.Payout at = query.Payout at.list
 
 -- what a request of this route and this caller calls for on a day. Of a command the number in the

@@ -9,6 +9,7 @@ use Rattle.clear_money.specs.Bytes.{is_printable}
 use Rattle.clear_money.specs.Options.{◌>>=◌}
 use Rattle.clear_money.specs.WrittenRate.{month_spelled}
 use Rattle.clear_book.specs.Limits.{most_name_bytes}
+use Rattle.clear_book.specs.Texts.{is_reference}
 use Rattle.clear_book.specs.declared.texts.WageLine.{WageLine}
 use Rattle.clear_routes.specs.Further.{least_further}
 
@@ -61,6 +62,14 @@ name_in text = where_so (is_name text) text
 -- the name that the member is
 abbrev pub name_at : List ℕ → Data → Option (List ℕ)
 name_at name d = text_at name d >>= name_in
+
+-- the text, if it is the reference of a bank line
+abbrev pub reference_in : List ℕ → Option (List ℕ)
+reference_in text = where_so (is_reference text) text
+
+-- the reference of a bank line that the member is
+abbrev pub reference_at : List ℕ → Data → Option (List ℕ)
+reference_at name d = text_at name d >>= reference_in
 
 -- the month from 2000-01 to 2199-12 that the member is, written YYYY-MM
 abbrev pub month_at : List ℕ → Data → Option ℕ

@@ -6,7 +6,10 @@ ghost use Rattle.clear_routes.specs.Called.{number_spelled, number_of, called_fo
 ghost use Rattle.clear_routes.specs.Called.{command_for, query_for};
 ghost use Rattle.clear_routes.specs.Reading.{caller_at, Reads};
 
-use crate::bodies::{read_claim, read_correction, read_nothing, read_registration, read_report};
+use crate::bodies::{
+    read_assignment, read_claim, read_correction, read_end, read_nothing, read_rate,
+    read_registration, read_report,
+};
 use crate::faults::{BodyFault, Member};
 use crate::methods::Action;
 use crate::parameters::Parameters;
@@ -105,27 +108,24 @@ fn command_for(
 ) -> Result<Command, BodyFault>
     ensures { Gives result (command_for kind at body.now) }
 {
+    let (employer, month, claim) = (at.employer, at.month, at.claim);
     match kind {
+        CommandKind::AddRate => Ok(Command::AddRate(read_rate(alloc, body)?)),
         CommandKind::Register => Ok(Command::Register(read_registration(alloc, body)?)),
-        CommandKind::Report => {
-            let report = read_report(alloc, at.employer, at.month, body)?;
-            Ok(Command::Report(report))
-        }
+        CommandKind::EndMembership => Ok(Command::EndMembership(read_end(alloc, employer, body)?)),
+        CommandKind::Report => Ok(Command::Report(read_report(alloc, employer, month, body)?)),
         CommandKind::Correct => {
-            let correction = read_correction(alloc, at.employer, at.month, body)?;
+            let correction = read_correction(alloc, employer, month, body)?;
             Ok(Command::Correct(correction))
         }
-        CommandKind::Claim => Ok(Command::Claim(read_claim(alloc, at.employer, body)?)),
+        CommandKind::Claim => Ok(Command::Claim(read_claim(alloc, employer, body)?)),
         CommandKind::Withdraw => {
             read_nothing(body)?;
-            Ok(Command::Withdraw(Withdrawal {
-                employer: at.employer,
-                claim: at.claim,
-            }))
+            Ok(Command::Withdraw(Withdrawal { employer, claim }))
         }
         CommandKind::Release => {
             read_nothing(body)?;
-            Ok(Command::Release(at.claim))
+            Ok(Command::Release(claim))
         }
         CommandKind::PayoutList => {
             read_nothing(body)?;
@@ -135,6 +135,7 @@ fn command_for(
             let bytes = Vec::from_slice(alloc, body)?;
             Ok(Command::ImportBank(BankFile::new(bytes)))
         }
+        CommandKind::Assign => Ok(Command::Assign(read_assignment(alloc, body)?)),
     }
 }
 
@@ -147,6 +148,7 @@ fn query_for(kind: QueryKind, at: Parameters) -> Query
         QueryKind::Owed => Query::Owed { employer },
         QueryKind::Statement => Query::Statement { employer },
         QueryKind::Worker => Query::Worker { worker: at.worker },
+        QueryKind::Suspense => Query::Suspense,
         QueryKind::Payout => Query::Payout { list: at.list },
     }
 }

@@ -3,12 +3,12 @@ ghost use Rattle.std.specs.Prelude.{◌≡◌, option_map, IfOk};
 ghost use Rattle.clear_money.specs.WrittenRate.{month_spelled};
 ghost use Rattle.serde_json.specs.View.{view, items_view};
 ghost use Rattle.clear_routes.specs.Members.{number_at, text_at, array_at, worker_at, name_in};
-ghost use Rattle.clear_routes.specs.Members.{line_in, lines_in};
+ghost use Rattle.clear_routes.specs.Members.{reference_in, line_in, lines_in};
 
 use crate::further::least_further;
 use crate::object::FromMember;
 use crate::within::Within;
-use clear_book::texts::{Name, WageLine, WageLines};
+use clear_book::texts::{Name, Reference, WageLine, WageLines};
 use clear_money::months::Month;
 use clear_money::numbers::{Amount, EmployerNo, WorkerNo};
 use serde_json::Value;
@@ -105,6 +105,23 @@ impl FromMember for Name {
     }
 }
 
+impl FromMember for Reference {
+    ghost use Rattle.clear_routes.specs.Members.{reference_at};
+
+    ghost value_at = { reference_at };
+
+    fn from_member(
+        alloc: Global,
+        value: &Value,
+        name: &str,
+    ) -> Result<Option<Reference>, AllocError> {
+        let Some(text) = text_at(value, name) else {
+            return Ok(None);
+        };
+        reference_in(alloc, text)
+    }
+}
+
 impl FromMember for WageLines {
     ghost use Rattle.clear_routes.specs.Members.{lines_at};
 
@@ -173,6 +190,12 @@ fn name_in(alloc: Global, text: &str) -> Result<Option<Name>, AllocError>
     ensures { IfOk result (λ found. found ≡ name_in text.now) }
 {
     Ok(Name::new(String::from_str(alloc, text)?))
+}
+
+fn reference_in(alloc: Global, text: &str) -> Result<Option<Reference>, AllocError>
+    ensures { IfOk result (λ found. found ≡ reference_in text.now) }
+{
+    Reference::new(alloc, text.as_bytes())
 }
 
 // The whole number of 64 bits that a member is.

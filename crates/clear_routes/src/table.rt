@@ -6,7 +6,9 @@ use crate::methods::Methods::{self, Get, Post, PostPut};
 /// What is commanded.
 #[derive(Clone, Copy)]
 pub enum CommandKind {
+    AddRate,
     Register,
+    EndMembership,
     Report,
     Correct,
     Claim,
@@ -14,6 +16,7 @@ pub enum CommandKind {
     Release,
     PayoutList,
     ImportBank,
+    Assign,
 }
 
 /// What is asked.
@@ -22,6 +25,7 @@ pub enum QueryKind {
     Owed,
     Statement,
     Worker,
+    Suspense,
     Payout,
 }
 
@@ -35,7 +39,13 @@ pub struct Row {
 /// Each path of the office: its text, with a name in braces for each parameter, the kinds of the
 /// parameters in their order, and what its methods ask for. Contracts read this very table.
 pub const PATHS: &'static [(&'static str, Kinds, Methods)] = &[
+    ("/rates", Zero, Post(CommandKind::AddRate)),
     ("/employers", Zero, Post(CommandKind::Register)),
+    (
+        "/employers/{e}/end",
+        One(Employer),
+        Post(CommandKind::EndMembership),
+    ),
     (
         "/employers/{e}/reports/{m}",
         Two(Employer, Month),
@@ -57,6 +67,7 @@ pub const PATHS: &'static [(&'static str, Kinds, Methods)] = &[
         Post(CommandKind::Release),
     ),
     ("/bank", Zero, Post(CommandKind::ImportBank)),
+    ("/assign", Zero, Post(CommandKind::Assign)),
     ("/payouts", Zero, Post(CommandKind::PayoutList)),
     ("/employers/{e}/owed", One(Employer), Get(QueryKind::Owed)),
     (
@@ -65,5 +76,6 @@ pub const PATHS: &'static [(&'static str, Kinds, Methods)] = &[
         Get(QueryKind::Statement),
     ),
     ("/workers/{w}", One(Worker), Get(QueryKind::Worker)),
+    ("/suspense", Zero, Get(QueryKind::Suspense)),
     ("/payouts/{l}", One(List), Get(QueryKind::Payout)),
 ];

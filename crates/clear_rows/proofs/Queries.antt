@@ -73,13 +73,18 @@ module _ (t : ℕ) (conditions columns : List Term) (order : List (Term × Key))
           subst (IsPermutation (map (λ x. (out x).1) (filter p (map get ys)))) (sym found.shown)
           (subst (λ l. IsPermutation l (map (λ (o : Output). o.1) found.ordered)) (map-map (λ (o : Output). o.1) out _) (IsPermutation-map (λ (o : Output). o.1) _ _ some_order))
 
-      -- ORDER BY leaves no tie, so the answer is in the order of the list
+      -- ORDER BY leaves no tie, so the answer is in the order of the rows that rise by it
+      pub in_this_order : (cmp : X → X → Ordering) → ((a b : X) → cmp a b ≡ Less → output_cmp q (out a) (out b) ≡ Less) → (zs : List X) → IsPermutation (filter p (map get ys)) zs → IsAscending (λ a b. cmp a b ≡ Less) zs
+          → rows ≡ map (λ x. (out x).1) zs
+      in_this_order cmp orders zs same rises =
+          let all = IsPermutation-trans _ _ _ (IsPermutation-sym _ _ (IsPermutation-map out _ _ same)) some_order in
+          let up = ascending-map (λ x y. output_cmp q x y ≡ Less) out _ (ascending_weaker _ (λ a b. output_cmp q (out a) (out b) ≡ Less) orders zs rises) in
+          found.shown ∙ ap (map (λ (o : Output). o.1)) (sorted_unique (output_cmp q) (output_cmp_total q) _ found.ordered up all found.sorted) ∙ map-map (λ (o : Output). o.1) out _
+
+      -- so it is in the order of the list, where this rises
       pub in_order : (cmp : X → X → Ordering) → ((a b : X) → cmp a b ≡ Less → output_cmp q (out a) (out b) ≡ Less) → (xs : List X) → IsPermutation (map get ys) xs → IsAscending (λ a b. cmp a b ≡ Less) xs
           → rows ≡ map (λ x. (out x).1) (filter p xs)
-      in_order cmp orders xs same rises =
-          let all = IsPermutation-trans _ _ _ (IsPermutation-sym _ _ (IsPermutation-map out _ _ (IsPermutation-filter p _ _ same))) some_order in
-          let up = ascending-map (λ x y. output_cmp q x y ≡ Less) out _ (ascending-filter _ p xs (ascending_weaker _ (λ a b. output_cmp q (out a) (out b) ≡ Less) orders xs rises)) in
-          found.shown ∙ ap (map (λ (o : Output). o.1)) (sorted_unique (output_cmp q) (output_cmp_total q) _ found.ordered up all found.sorted) ∙ map-map (λ (o : Output). o.1) out _
+      in_order cmp orders xs same rises = in_this_order cmp orders (filter p xs) (IsPermutation-filter p _ _ same) (ascending-filter _ p xs rises)
 
 -- of at most one row there is one order
 pub one_row : {A : Type 0} (found rows : List A) → length found ≤ 1 → IsPermutation found rows → rows ≡ found

@@ -1,7 +1,10 @@
 //! One module a command: its view, and the decision on it.
 
+pub mod add_rate;
+pub mod assign;
 pub mod claim;
 pub mod correct;
+pub mod end;
 pub mod import;
 pub mod lines;
 pub mod payout;

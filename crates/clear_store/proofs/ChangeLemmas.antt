@@ -3,7 +3,7 @@ use Rattle.std.proofs.Common.{◌≡◌, ℕ, ◌+◌, length, Result, Ok, sym, 
 use Rattle.sqlite.specs.Held.{Held}
 use Rattle.sqlite.specs.Store.{Ghosts}
 use Rattle.clear_values.specs.declared.rows.Change.{Change}
-use Rattle.clear_values.specs.declared.rows.Change.TheVariants.{AddEmployer, AddReport, ReplaceReport, AddBankLines, AddClaim, WithdrawClaim, ReleaseClaim, AddList}
+use Rattle.clear_values.specs.declared.rows.Change.TheVariants.{AddRate, AddEmployer, EndMembership, AddReport, ReplaceReport, AddBankLines, AssignLine, AddClaim, WithdrawClaim, ReleaseClaim, AddList}
 use Rattle.clear_values.specs.Tables.{Tables, changed, dated}
 use Rattle.clear_schema.specs.Values.{Counts, counts_of, with_counts}
 use Rattle.clear_schema.specs.declared.fault.Fault.{Fault}
@@ -13,20 +13,26 @@ use Rattle.clear_store.specs.Changes.{HasRoom, IsFree, IsInRange, IsPuttable, Is
 use Rattle.clear_store.proofs.JoinLemmas.{Always, put_then}
 
 there_with : (change : Change) (c : Counts) (t : Tables) → IsThere change t → IsThere change (with_counts c t)
+there_with (AddRate row) c t there = there
 there_with (AddEmployer row) c t there = there
+there_with (EndMembership row) c t there = there
 there_with (AddReport row lines) c t there = there
 there_with (ReplaceReport row lines) c t there = there
 there_with (AddBankLines rows) c t there = there
+there_with (AssignLine row) c t there = there
 there_with (AddClaim row) c t there = there
 there_with (WithdrawClaim row) c t there = there
 there_with (ReleaseClaim row serial) c t there = there
 there_with (AddList row claims) c t there = there
 
 free_with : (change : Change) (c : Counts) (t : Tables) → IsFree change t → IsFree change (with_counts c t)
+free_with (AddRate row) c t free = free
 free_with (AddEmployer row) c t free = free
+free_with (EndMembership row) c t free = free
 free_with (AddReport row lines) c t free = free
 free_with (ReplaceReport row lines) c t free = free
 free_with (AddBankLines rows) c t free = free
+free_with (AssignLine row) c t free = free
 free_with (AddClaim row) c t free = free
 free_with (WithdrawClaim row) c t free = free
 free_with (ReleaseClaim row serial) c t free = free
@@ -48,10 +54,13 @@ abbrev counts_with : ℕ → Change → Counts → Counts
 counts_with day change c = counts_after day (serials_taken change) (claims_taken change) (lists_taken change) c
 
 counted : (day : ℕ) (change : Change) (t : Tables) → rows_put change (with_counts (counts_with day change (counts_of t)) t) ≡ dated day (changed change t)
+counted day (AddRate row) t = λ i. numbered day (AddRate row) t (no_more t.serial i) (no_more t.last_claim i) (no_more t.last_list i)
 counted day (AddEmployer row) t = λ i. numbered day (AddEmployer row) t (no_more t.serial i) (no_more t.last_claim i) (no_more t.last_list i)
+counted day (EndMembership row) t = λ i. numbered day (EndMembership row) t (no_more t.serial i) (no_more t.last_claim i) (no_more t.last_list i)
 counted day (AddReport row lines) t = λ i. numbered day (AddReport row lines) t (no_more t.serial i) (no_more t.last_claim i) (no_more t.last_list i)
 counted day (ReplaceReport row lines) t = λ i. numbered day (ReplaceReport row lines) t (no_more t.serial i) (no_more t.last_claim i) (no_more t.last_list i)
 counted day (AddBankLines rows) t = λ i. numbered day (AddBankLines rows) t (t.serial + length rows) (no_more t.last_claim i) (no_more t.last_list i)
+counted day (AssignLine row) t = λ i. numbered day (AssignLine row) t (no_more t.serial i) (no_more t.last_claim i) (no_more t.last_list i)
 counted day (AddClaim row) t = λ i. numbered day (AddClaim row) t (no_more t.serial i) (t.last_claim + 1) (no_more t.last_list i)
 counted day (WithdrawClaim row) t = λ i. numbered day (WithdrawClaim row) t (no_more t.serial i) (no_more t.last_claim i) (no_more t.last_list i)
 counted day (ReleaseClaim row serial) t = λ i. numbered day (ReleaseClaim row serial) t (t.serial + 1) (no_more t.last_claim i) (no_more t.last_list i)

@@ -35,6 +35,18 @@ module _ {S : Type 0} (g : Ghosts S) where
     survives = writes.survives;
   }
 
+  -- a change that is another one, where what has to be there is there
+  pub put_as : {A : Type 0} (old new : Held S) (r : Result A Fault) (there free : Tables → Type 0) (good : Type 0) (changed1 changed : Tables → Tables) → ((t : Tables) → HasTables t (state g old).now → there t → changed1 t ≡ changed t)
+      → Puts g old new r Always free good changed1 → Puts g old new r there free good changed
+  put_as old new r there free good changed1 changed same one = record {
+    put = λ clean t has is. on_ok_weaker r (subst (λ (u : Tables). HasTables u (state g new).now) (same t has is)) (one.put clean t has tt);
+    cause = one.cause;
+    range = one.range;
+    kept = one.kept;
+    goes_on = one.goes_on;
+    survives = one.survives;
+  }
+
   -- nothing yet
   pub put_none : {A : Type 0} (h : Held S) (x : A) (free : Tables → Type 0) (good : Type 0) → Puts {A = A} g h h (Ok x) Always free good (λ t. t)
   put_none h x free good = record {

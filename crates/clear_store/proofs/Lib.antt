@@ -3,4 +3,5 @@ pub mod CreditLemmas
 pub mod JoinLemmas
 pub mod OnceLemmas
 pub mod PutLemmas
+pub mod RateLemmas
 pub mod RowLemmas

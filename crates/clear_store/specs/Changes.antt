@@ -1,19 +1,23 @@
 -- When a change can be put into the tables.
-use Rattle.std.specs.Prelude.{◌≡◌, ℕ, ◌+◌, ◌≤◌, List, [], ◌∷◌, None, Some, IsSome, length}
-use Rattle.std.specs.Prelude.{Result, IfErr, IsTrue, OnOk}
+use Rattle.std.specs.Prelude.{◌≡◌, ℕ, ◌+◌, ◌<◌, ◌≤◌, List, [], ◌∷◌, Option, None, Some, IsSome}
+use Rattle.std.specs.Prelude.{length, Result, IfErr, IsTrue, OnOk}
 use Rattle.std.specs.List.{AllByRecursion}
 use Rattle.sqlite.specs.Held.{Held, state}
 use Rattle.sqlite.specs.State.{HasCleanDisk, KeepsCommit, Survives}
 use Rattle.sqlite.specs.Store.{Ghosts}
+use Rattle.clear_money.specs.Rates.{Rate, last_first}
 use Rattle.clear_values.specs.Credits.{credit_key, credits_of_lines, set_offs_of}
 use Rattle.clear_values.specs.declared.rows.BankRow.{BankRow}
 use Rattle.clear_values.specs.declared.rows.Change.{Change}
-use Rattle.clear_values.specs.declared.rows.Change.TheVariants.{AddEmployer, AddReport}
+use Rattle.clear_values.specs.declared.rows.Change.TheVariants.{AddRate, AddEmployer}
+use Rattle.clear_values.specs.declared.rows.Change.TheVariants.{EndMembership, AddReport}
 use Rattle.clear_values.specs.declared.rows.Change.TheVariants.{ReplaceReport, AddBankLines}
+use Rattle.clear_values.specs.declared.rows.Change.TheVariants.{AssignLine}
 use Rattle.clear_values.specs.declared.rows.Change.TheVariants.{AddClaim, WithdrawClaim, ReleaseClaim}
 use Rattle.clear_values.specs.declared.rows.Change.TheVariants.{AddList}
 use Rattle.clear_values.specs.declared.rows.ClaimRow.{ClaimRow}
 use Rattle.clear_values.specs.declared.rows.CreditRow.{CreditRow}
+use Rattle.clear_values.specs.declared.rows.EmployerRow.{EmployerRow}
 use Rattle.clear_values.specs.declared.texts.WageLine.{WageLine}
 use Rattle.clear_values.specs.Keyed.{find_row, with_row, without_rows, AreOnce}
 use Rattle.clear_values.specs.Limits.{most_entries, most_gross, most_serials, most_versions}
@@ -27,7 +31,8 @@ use Rattle.clear_schema.specs.declared.fault.Fault.{Fault}
 use Rattle.clear_schema.specs.declared.fault.Fault.TheVariants.{Store}
 use Rattle.clear_schema.specs.Values.{Counts as Stored}
 use Rattle.clear_firms.specs.declared.counts.Counts.{Counts}
-use Rattle.clear_ledger.specs.Shown.{serial_key}
+use Rattle.clear_firms.specs.Shown.{rate_key}
+use Rattle.clear_ledger.specs.Shown.{for_firm, serial_key}
 
 -- rows were put into the tables, where what has to be there was there; `Constraint` comes only
 -- where a key was not free, and `Row` only where a number was out of its range
@@ -50,6 +55,20 @@ AreFree key rows [] = Unit {0}
 AreFree key rows (new ∷ news) =
     (find_row key rows (key new) ≡ None) × AreFree key (with_row key rows new) news
 
+-- the first month of each row of rates lies before that of this one
+abbrev pub IsLastRate : Rate → Tables → Type 0
+IsLastRate row t = last_first t.rates < row.first
+
+-- there is a firm of its number
+abbrev pub IsEmployerThere : EmployerRow → Tables → Type 0
+IsEmployerThere row t = IsSome (find_row employer_key t.employers (employer_key row))
+
+-- there is a line that is this one but for its firm
+abbrev pub IsLineThere : BankRow → Tables → Type 0
+IsLineThere row t =
+    (firm : Option ℕ)
+    × (find_row bank_key t.bank (bank_key row) ≡ Some (for_firm firm row))
+
 -- there is a claim of its number
 abbrev pub IsClaimThere : ClaimRow → Tables → Type 0
 IsClaimThere row t = IsSome (find_row claim_key t.claims (claim_key row))
@@ -59,13 +78,16 @@ abbrev pub AreClaimsThere : List ClaimRow → Tables → Type 0
 AreClaimsThere claims t =
     AllByRecursion (λ claim. IsClaimThere claim t) claims × AreOnce claim_key claims
 
--- the month of a correction has a report, and a claim that is withdrawn, released or put on a list is
--- there
+-- a row of rates is the last one, the month of a correction has a report, and a firm, a line or a
+-- claim that is to be changed is there
 abbrev pub IsThere : Change → Tables → Type 0
+IsThere (AddRate row) t = IsLastRate row t
 IsThere (AddEmployer row) t = Unit {0}
+IsThere (EndMembership row) t = IsEmployerThere row t
 IsThere (AddReport row lines) t = Unit {0}
 IsThere (ReplaceReport row lines) t = IsSome (find_row report_key t.reports (report_key row))
 IsThere (AddBankLines rows) t = Unit {0}
+IsThere (AssignLine row) t = IsLineThere row t
 IsThere (AddClaim row) t = Unit {0}
 IsThere (WithdrawClaim row) t = IsClaimThere row t
 IsThere (ReleaseClaim row serial) t = IsClaimThere row t
@@ -89,7 +111,9 @@ IsVersion n = (1 ≤ n) × (n ≤ most_versions)
 
 -- each key that the change adds is free
 abbrev pub IsFree : Change → Tables → Type 0
+IsFree (AddRate row) t = find_row rate_key t.rates (rate_key row) ≡ None
 IsFree (AddEmployer row) t = find_row employer_key t.employers (employer_key row) ≡ None
+IsFree (EndMembership row) t = Unit {0}
 IsFree (AddReport row lines) t =
     (find_row report_key t.reports (report_key row) ≡ None)
     × AreFree wage_key t.wages (wage_rows row.employer row.month lines)
@@ -99,6 +123,7 @@ IsFree (ReplaceReport row lines) t =
 IsFree (AddBankLines rows) t =
     AreFree bank_key t.bank rows × AreFree serial_key t.bank rows
     × AreFree credit_key t.credits (credits_of_lines rows)
+IsFree (AssignLine row) t = AreFree credit_key t.credits (credits_of_lines (row ∷ []))
 IsFree (AddClaim row) t = find_row claim_key t.claims (claim_key row) ≡ None
 IsFree (WithdrawClaim row) t = Unit {0}
 IsFree (ReleaseClaim row serial) t = AreFree credit_key t.credits (set_offs_of row serial)
@@ -106,10 +131,13 @@ IsFree (AddList row claims) t = find_row list_key t.lists (list_key row) ≡ Non
 
 -- the numbers in the rows lie in their ranges
 abbrev pub IsInRange : Change → Type 0
+IsInRange (AddRate row) = Unit {0}
 IsInRange (AddEmployer row) = Unit {0}
+IsInRange (EndMembership row) = Unit {0}
 IsInRange (AddReport row lines) = IsVersion row.version × AreGross lines
 IsInRange (ReplaceReport row lines) = IsVersion row.version × AreGross lines
 IsInRange (AddBankLines rows) = AreSerials rows
+IsInRange (AssignLine row) = IsSerial row.serial
 IsInRange (AddClaim row) = IsClaimRow row
 IsInRange (WithdrawClaim row) = IsClaimRow row
 IsInRange (ReleaseClaim row serial) = IsClaimRow row × HaveSerials (set_offs_of row serial)
@@ -117,10 +145,13 @@ IsInRange (AddList row claims) = IsListRow row × AllByRecursion IsClaimRow clai
 
 -- how many serials the change takes: one for each new line, and one for a release
 abbrev pub serials_taken : Change → ℕ
+serials_taken (AddRate row) = 0
 serials_taken (AddEmployer row) = 0
+serials_taken (EndMembership row) = 0
 serials_taken (AddReport row lines) = 0
 serials_taken (ReplaceReport row lines) = 0
 serials_taken (AddBankLines rows) = length rows
+serials_taken (AssignLine row) = 0
 serials_taken (AddClaim row) = 0
 serials_taken (WithdrawClaim row) = 0
 serials_taken (ReleaseClaim row serial) = 1
@@ -128,10 +159,13 @@ serials_taken (AddList row claims) = 0
 
 -- how many numbers of claims the change takes
 abbrev pub claims_taken : Change → ℕ
+claims_taken (AddRate row) = 0
 claims_taken (AddEmployer row) = 0
+claims_taken (EndMembership row) = 0
 claims_taken (AddReport row lines) = 0
 claims_taken (ReplaceReport row lines) = 0
 claims_taken (AddBankLines rows) = 0
+claims_taken (AssignLine row) = 0
 claims_taken (AddClaim row) = 1
 claims_taken (WithdrawClaim row) = 0
 claims_taken (ReleaseClaim row serial) = 0
@@ -139,10 +173,13 @@ claims_taken (AddList row claims) = 0
 
 -- how many numbers of payout lists the change takes
 abbrev pub lists_taken : Change → ℕ
+lists_taken (AddRate row) = 0
 lists_taken (AddEmployer row) = 0
+lists_taken (EndMembership row) = 0
 lists_taken (AddReport row lines) = 0
 lists_taken (ReplaceReport row lines) = 0
 lists_taken (AddBankLines rows) = 0
+lists_taken (AssignLine row) = 0
 lists_taken (AddClaim row) = 0
 lists_taken (WithdrawClaim row) = 0
 lists_taken (ReleaseClaim row serial) = 0

@@ -52,7 +52,7 @@ pub(crate) fn insert_credits<S: Alter>(
 }
 
 // Adds the credits that bank lines are for their firms.
-fn insert_credits_of<S: Alter>(
+pub(crate) fn insert_credits_of<S: Alter>(
     alloc: Global,
     tx: &mut Transaction<'_, S>,
     rows: &[BankRow],

@@ -8,14 +8,15 @@ ghost use Rattle.clear_store.specs.Changes.{claims_taken, counts_after, lists_ta
 
 use crate::bank_file::add_lines;
 use crate::claims::{add_claim, put_claim, put_release};
+use crate::firms::{add_employer, add_rate, put_employer};
 use crate::lists::add_list;
 use crate::month_report::{add_report, put_report};
+use crate::suspense::put_line;
 use clear_firms::counts::{Counts, put_counts};
-use clear_firms::employers::insert_employer;
 use clear_money::days::Day;
 use clear_schema::fault::Fault;
 use clear_values::causes::StoreCause;
-use clear_values::rows::{Change, EmployerRow};
+use clear_values::rows::Change;
 use sqlite::{Alter, Transaction};
 use std::alloc::Global;
 
@@ -63,10 +64,13 @@ fn put_rows<S: Alter>(
         }) }
 {
     match change {
+        Change::AddRate(row) => add_rate(tx, row),
         Change::AddEmployer(row) => add_employer(tx, row),
+        Change::EndMembership(row) => put_employer(tx, row),
         Change::AddReport(row, lines) => add_report(tx, row, lines.as_slice()),
         Change::ReplaceReport(row, lines) => put_report(tx, row, lines.as_slice()),
         Change::AddBankLines(rows) => add_lines(alloc, tx, rows.as_slice()),
+        Change::AssignLine(row) => put_line(alloc, tx, row),
         Change::AddClaim(row) => add_claim(tx, row),
         Change::WithdrawClaim(row) => put_claim(tx, row),
         Change::ReleaseClaim { claim, serial } => put_release(alloc, tx, claim, *serial),
@@ -74,24 +78,18 @@ fn put_rows<S: Alter>(
     }
 }
 
-// Adds a firm.
-fn add_employer<S: Alter>(tx: &mut Transaction<'_, S>, row: &EmployerRow) -> Result<(), Fault>
-    ensures same_reference { tx.new.conn.ghost_name ≡ tx.old.conn.ghost_name }
-    ensures puts { Puts S.Store tx.old.conn.now tx.new.conn.now result (λ _. Unit {0})
-        (IsFree (Change.AddEmployer row.now)) (Unit {0}) (changed (Change.AddEmployer row.now)) }
-{
-    insert_employer(tx, row)
-}
-
 // How many serials a change takes: one for each new line, and one for a release.
 fn serials_taken(change: &Change) -> u64
     ensures { result ≡ serials_taken change.now }
 {
     match change {
+        Change::AddRate(_) => 0,
         Change::AddEmployer(_) => 0,
+        Change::EndMembership(_) => 0,
         Change::AddReport(_, _) => 0,
         Change::ReplaceReport(_, _) => 0,
         Change::AddBankLines(rows) => rows.as_slice().len() as u64,
+        Change::AssignLine(_) => 0,
         Change::AddClaim(_) => 0,
         Change::WithdrawClaim(_) => 0,
         Change::ReleaseClaim { .. } => 1,
@@ -104,10 +102,13 @@ fn claims_taken(change: &Change) -> u32
     ensures { result ≡ claims_taken change.now }
 {
     match change {
+        Change::AddRate(_) => 0,
         Change::AddEmployer(_) => 0,
+        Change::EndMembership(_) => 0,
         Change::AddReport(_, _) => 0,
         Change::ReplaceReport(_, _) => 0,
         Change::AddBankLines(_) => 0,
+        Change::AssignLine(_) => 0,
         Change::AddClaim(_) => 1,
         Change::WithdrawClaim(_) => 0,
         Change::ReleaseClaim { .. } => 0,
@@ -120,10 +121,13 @@ fn lists_taken(change: &Change) -> u32
     ensures { result ≡ lists_taken change.now }
 {
     match change {
+        Change::AddRate(_) => 0,
         Change::AddEmployer(_) => 0,
+        Change::EndMembership(_) => 0,
         Change::AddReport(_, _) => 0,
         Change::ReplaceReport(_, _) => 0,
         Change::AddBankLines(_) => 0,
+        Change::AssignLine(_) => 0,
         Change::AddClaim(_) => 0,
         Change::WithdrawClaim(_) => 0,
         Change::ReleaseClaim { .. } => 0,

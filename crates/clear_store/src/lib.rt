@@ -5,8 +5,10 @@
 mod bank_file;
 pub mod changes;
 mod claims;
+mod firms;
 mod lists;
 mod month_report;
+mod suspense;
 
 pub use clear_firms::{counts, employers, rates, reports, wages};
 pub use clear_ledger::{bank, credits, requests};

@@ -1,12 +1,13 @@
 pub mod AmountLemmas
 pub mod ChargeLemmas
 pub mod LawLemmas
+pub mod LineLemmas
 pub mod PartLemmas
-pub mod PayoutLemmas
 pub mod RangeLemmas
 pub mod RecordLemmas
 pub mod RowLemmas
 pub mod ShareLemmas
+pub mod SuspenseLemmas
 pub mod TextLemmas
 pub mod VersionLemmas
 pub mod WorkerLemmas

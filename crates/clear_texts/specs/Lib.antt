@@ -1,3 +1,4 @@
+pub mod Adding
 pub mod Charges
 pub mod Earned
 pub mod Laws

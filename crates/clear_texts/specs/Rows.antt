@@ -1,5 +1,6 @@
 -- What a source of rows gives, call by call, and why a document over its rows is refused.
-use Rattle.std.specs.Prelude.{◌≡◌, ◌⊎◌, ◌+◌, ℕ, List, [], ◌∷◌, length, Option, None, Some}
+use Rattle.std.specs.Prelude.{◌≡◌, ◌⊎◌, ◌+◌, ◌^◌, ◌≤◌, ℕ, List, [], ◌∷◌, length, sum_by}
+use Rattle.std.specs.Prelude.{Option, None, Some}
 use Rattle.std.specs.Iterator.{Yields, YieldsThen}
 use Rattle.clear_book.specs.declared.rules.StoreCause.TheVariants.{Row as row_cause}
 use Rattle.clear_texts.specs.declared.rows.ChargeRow.{ChargeRow}
@@ -26,6 +27,11 @@ module _ {S Row : Type 0} (gives : S → Option Row → S → Type 0) where
   GivesTooMany old new = (given : List Row) × Yields gives old given new
       × (length given ≡ most_rows + 1)
 
+  -- the calls gave rows whose amounts come to 2^64 or more
+  abbrev pub GivesTooMuch : (Row → ℕ) → S → S → Type 0
+  GivesTooMuch amount old new = (given : List Row) × Yields gives old given new
+      × (2 ^ 64 ≤ sum_by amount given)
+
   module _ (refuses : S → RowFault → S → Type 0) where
     -- the calls gave rows, and the last one was refused for this
     abbrev pub RefusesARow : S → RowFault → S → Type 0
@@ -42,3 +48,9 @@ module _ {S Row : Type 0} (gives : S → Option Row → S → Type 0) where
     abbrev pub IsRefused : S → RowFault → S → Type 0
     IsRefused old fault new = ((fault ≡ Memory) × Reads old new)
         ⊎ (((fault ≡ Store row_cause) × GivesTooMany old new) ⊎ RefusesARow old fault new)
+
+    -- why a document over rows without limit, whose amounts are added up, is refused: as one
+    -- without limit, or the amounts came to too much
+    abbrev pub IsCutOffAdding : (Row → ℕ) → S → RowFault → S → Type 0
+    IsCutOffAdding amount old fault new = IsCutOff old fault new
+        ⊎ ((fault ≡ Store row_cause) × GivesTooMuch amount old new)

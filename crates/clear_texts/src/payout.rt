@@ -2,7 +2,6 @@
 ghost use Rattle.std.specs.Prelude.{◌≡◌, ◌++◌, List, None, string_bytes};
 ghost use Rattle.std.specs.Prelude.{IfErr, IfOk, OnErr};
 ghost use Rattle.std.specs.Iterator.{YieldsThen};
-ghost use Rattle.std.specs.List.{flat_map};
 ghost use Rattle.clear_book.specs.Documents.Payout.{list_line, payout_line, payout_text};
 ghost use Rattle.clear_book.specs.Documents.Payout.{total_lines};
 ghost use Rattle.clear_book.specs.Workers.{paid_out};
@@ -10,6 +9,7 @@ ghost use Rattle.clear_book.specs.declared.rows.ClaimRow.{ClaimRow};
 ghost use Rattle.clear_texts.specs.Rows.{IsCutOff};
 
 use crate::amounts::append_amount;
+use crate::line_rows::{LineRow, append_lines};
 use crate::lines::{append_day, append_number};
 use crate::rows::{RowFault, RowSource};
 use clear_book::rows::{ClaimRow, ClaimState, ListRow};
@@ -50,7 +50,7 @@ fn append_payout<R: RowSource<Row = ClaimRow>>(
         IsCutOff R.next_gives R.next_refuses rows.old fault rows.new) }
 {
     append_list(text, list)?;
-    append_claims(text, rows)?;
+    append_lines(text, rows)?;
     append_total(text, list)?;
     Ok(())
 }
@@ -67,25 +67,14 @@ fn append_list(text: &mut String, list: &ListRow) -> Result<(), AllocError>
     Ok(())
 }
 
-// The lines of all claims that the source gives up to its end. More than 2^64 - 1 find no memory.
-fn append_claims<R: RowSource<Row = ClaimRow>>(
-    text: &mut String,
-    rows: &mut R,
-) -> Result<(), RowFault>
-    ensures written { IfOk result (λ _. (given : List ClaimRow)
-        × YieldsThen R.next_gives rows.old given None rows.new
-        × (string_bytes text.new ≡ string_bytes text.old ++ flat_map payout_line given)) }
-    ensures refused { IfErr result (λ fault.
-        IsCutOff R.next_gives R.next_refuses rows.old fault rows.new) }
-{
-    for _count in 0..u64::MAX {
-        match rows.next() {
-            Ok(Some(claim)) => append_claim(text, &claim)?,
-            Ok(None) => return Ok(()),
-            Err(fault) => return Err(fault),
-        }
+impl LineRow for ClaimRow {
+    ghost use Rattle.clear_book.specs.Documents.Payout.{payout_line};
+
+    ghost line = { payout_line };
+
+    fn append_line(&self, text: &mut String) -> Result<(), AllocError> {
+        append_claim(text, self)
     }
-    Err(RowFault::Memory)
 }
 
 // The line of a claim.

@@ -2,15 +2,17 @@
 -- open of them and the pieces, is to be no part of these but a record of its own beside them: so a
 -- store can be said to be right but for some cents of pieces.
 use Rattle.std.specs.Prelude.{◌≡◌, ℕ, ◌+◌, List, [], ◌∷◌, Option, Some, Bool, false, ◌&&◌, ◌==◌}
-use Rattle.std.specs.Prelude.{length, map}
+use Rattle.std.specs.Prelude.{◌++◌, length, map}
 use Rattle.clear_money.specs.Rates.{Rate}
 use Rattle.clear_values.specs.declared.callers.Caller.{Caller}
 use Rattle.clear_values.specs.declared.callers.Caller.TheVariants.{Firm, Clerk}
 use Rattle.clear_values.specs.declared.replies.Reply.{Reply}
 use Rattle.clear_values.specs.declared.rows.BankRow.{BankRow}
 use Rattle.clear_values.specs.declared.rows.Change.{Change}
-use Rattle.clear_values.specs.declared.rows.Change.TheVariants.{AddEmployer, AddReport}
+use Rattle.clear_values.specs.declared.rows.Change.TheVariants.{AddRate, AddEmployer}
+use Rattle.clear_values.specs.declared.rows.Change.TheVariants.{EndMembership, AddReport}
 use Rattle.clear_values.specs.declared.rows.Change.TheVariants.{ReplaceReport, AddBankLines}
+use Rattle.clear_values.specs.declared.rows.Change.TheVariants.{AssignLine}
 use Rattle.clear_values.specs.declared.rows.Change.TheVariants.{AddClaim, WithdrawClaim, ReleaseClaim}
 use Rattle.clear_values.specs.declared.rows.Change.TheVariants.{AddList}
 use Rattle.clear_values.specs.declared.rows.ClaimRow.{ClaimRow}
@@ -136,7 +138,9 @@ with_wages e m lines rows =
 
 -- what a decision changes
 abbrev pub changed : Change → Tables → Tables
+changed (AddRate row) t = record t { rates = t.rates ++ row ∷ [] }
 changed (AddEmployer row) t = record t { employers = with_row employer_key t.employers row }
+changed (EndMembership row) t = record t { employers = put_row employer_key t.employers row }
 changed (AddReport row lines) t =
     record t {
       reports = with_row report_key t.reports row;
@@ -152,6 +156,11 @@ changed (AddBankLines rows) t =
       bank = with_rows bank_key t.bank rows;
       credits = with_rows credit_key t.credits (credits_of_lines rows);
       serial = t.serial + length rows;
+    }
+changed (AssignLine row) t =
+    record t {
+      bank = put_row bank_key t.bank row;
+      credits = with_rows credit_key t.credits (credits_of_lines (row ∷ []));
     }
 changed (AddClaim row) t =
     record t { claims = with_row claim_key t.claims row; last_claim = t.last_claim + 1 }

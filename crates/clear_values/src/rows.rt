@@ -7,6 +7,7 @@ use crate::texts::{CreditReference, Name, WageLines};
 use clear_money::days::Day;
 use clear_money::months::Month;
 use clear_money::numbers::{Amount, EmployerNo, WorkerNo};
+use clear_money::rates::RateRow;
 use std::marker::Model;
 
 /// A registered employer.
@@ -225,14 +226,21 @@ pub struct ReminderRow {
 /// What an accepted command changes.
 #[derive(Drop)]
 pub enum Change {
+    /// A row of rates, behind the last one.
+    AddRate(RateRow),
     /// An employer that was not there.
     AddEmployer(EmployerRow),
+    /// An employer whose membership ends: its row stands in the place of that of its number.
+    EndMembership(EmployerRow),
     /// A first report, with a wage row for each of its lines.
     AddReport(ReportRow, WageLines),
     /// A correction: its row and its wage rows stand in the place of the month's.
     ReplaceReport(ReportRow, WageLines),
     /// The new lines of a bank file; each that has a firm is a credit of it.
     AddBankLines(BankRows),
+    /// A line that goes out of suspense: its row stands in the place of that of its reference, and
+    /// it is a credit of its firm.
+    AssignLine(BankRow),
     /// A claim that was not there.
     AddClaim(ClaimRow),
     /// A claim that is withdrawn; its row stands in the place of that of its number.

@@ -19,14 +19,13 @@ use Rattle.clear_bank.specs.declared.lines.Purpose.{Purpose}
 use Rattle.clear_bank.specs.declared.lines.Purpose.TheVariants.{Contribution, Interest}
 use Rattle.clear_laws.proofs.KeyedRowsLemmas.{count_by-ordered}
 use Rattle.clear_laws.proofs.LawsLemmas.{lawful_small}
-use Rattle.clear_laws.proofs.CreditsMadeLemmas.{credits-few, credits_after-count, credits_once, lines-few}
-use Rattle.clear_laws.proofs.LinesLemmas.{found_line, is_key-bytes_eq, length-rows_from, references_standing, standing_seen, suspense_count-append}
+use Rattle.clear_laws.proofs.CreditsMadeLemmas.{credits-few, credits_after-count, lines-few}
+use Rattle.clear_laws.proofs.LinesLemmas.{found_line, is_key-bytes_eq, length-rows_from, length-standing, lines-standing, references_standing, suspense_count-append}
 use Rattle.clear_laws.proofs.KeyedLemmas.{is_key-refl, is_key-true}
-use Rattle.clear_book.specs.Accounts.{credit_key}
 use Rattle.clear_book.specs.Book.{Book, member_of}
 use Rattle.clear_book.specs.Keyed.{find_row, is_key}
 use Rattle.clear_book.specs.Limits.{most_credits, most_suspense}
-use Rattle.clear_book.specs.Lines.{credit_count, credits_after, credits_made, lines_after, credits_of_lines, is_credit_of, serial_count, is_in_suspense, lines_in, lines_of_rows, lines_seen, lines_standing, new_lines, suspense_count}
+use Rattle.clear_book.specs.Lines.{credit_count, credits_after, credits_made, lines_after, credits_of_lines, serial_count, is_in_suspense, lines_in, lines_of_rows, lines_seen, lines_standing, new_lines, suspense_count}
 use Rattle.clear_book.specs.Machine.{IsLawful}
 use Rattle.clear_book.specs.RowRanges.{AreInRange}
 use Rattle.clear_book.specs.Tables.{Stands, Tables, bank_key, employer_key}
@@ -39,6 +38,7 @@ use Rattle.clear_rules.specs.declared.decide.import.EmployerCredits.{EmployerCre
 use Rattle.clear_rules.specs.declared.decide.import.ImportView.{ImportView}
 use Rattle.clear_schema.specs.Values.{counts_of}
 use Rattle.clear_views.proofs.FoundLemmas.{each_found}
+use Rattle.clear_views.proofs.ViewLemmas.{credits_counted}
 use Rattle.clear_views.specs.Imports.{IsImportRead, IsServing, counted_firm, credits_viewed, firm_viewed, line_found}
 
 -- one more is found
@@ -120,19 +120,16 @@ then_serves viewed count more after limit sum (inr within) = let high = within.0
 
 module _ (b : Book) (t : Tables) (lawful : IsLawful b) (stands : Stands b t) (file : List ℕ) (view : ImportView) (read : IsImportRead t t.serial (lines_in file) view) where
   lines_given : length (lines_standing b.entries) ≤ t.serial
-  lines_given = let lines : length (lines_standing b.entries) ≡ length (lines_seen b.entries) = ap length (standing_seen b.entries) in omega (arith, lines, stands.serial)
+  lines_given = omega (arith, length-standing b.entries, stands.serial)
 
   known-at : (reference : List ℕ) → option_map (λ (row : BankRow). row.line) (find_row bank_key t.bank reference) ≡ line_under reference (lines_of_rows (lines_seen b.entries))
   known-at reference =
       ap (option_map (λ (row : BankRow). row.line)) (stands.bank reference)
       ∙ found_line (lines_standing b.entries) reference
-      ∙ ap (λ (rows : List BankRow). line_under reference (lines_of_rows rows)) (standing_seen b.entries)
+      ∙ ap (line_under reference) (lines-standing b.entries)
 
   suspense_counted : count_by is_in_suspense t.bank ≡ suspense_count (lines_standing b.entries)
   suspense_counted = count_by-ordered bank_key is_in_suspense t.bank (lines_standing b.entries) stands.bank_in_order (references_standing b.entries) stands.bank
-
-  credits_counted : (e : ℕ) (p : Purpose) → count_by (is_credit_of e p) t.credits ≡ credit_count (credits_made b.entries) e p
-  credits_counted e p = count_by-ordered credit_key (is_credit_of e p) t.credits (credits_made b.entries) stands.credits_in_order (credits_once b.entries) stands.credits
 
   suspense_serves : (view.suspense ≡ count_by is_in_suspense t.bank) ⊎ IsServing t.serial (length (lines_in file)) most_suspense view.suspense ⊎ ((view.suspense ≡ most_suspense) × (lines_in file ≡ []))
       → Serves view.suspense (suspense_count (lines_standing b.entries)) (suspense_count (rows_of_file b file)) most_suspense
@@ -149,7 +146,7 @@ module _ (b : Book) (t : Tables) (lawful : IsLawful b) (stands : Stands b t) (fi
 
   credits_serve : (e : ℕ) (p : Purpose) (serving : Option ℕ) → IfSome serving (IsServing t.serial (length (lines_in file)) most_credits)
       → Serves (credits_viewed serving t e p) (credit_count (credits_made b.entries) e p) (credit_count (credits_of_lines (rows_of_file b file)) e p) most_credits
-  credits_serve e p None serves = inl (credits_counted e p)
+  credits_serve e p None serves = inl (credits_counted b t stands e p)
   credits_serve e p (Some n) serves =
       serials_serve t.serial (length (lines_in file)) most_credits n _ _ serves
       (omega (arith, credits-few b.entries e p, stands.serial))

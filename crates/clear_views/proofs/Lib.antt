@@ -1,4 +1,5 @@
 pub mod ClaimLemmas
+pub mod EndLemmas
 pub mod FaultLemmas
 pub mod FillLemmas
 pub mod FirmLemmas

@@ -4,11 +4,16 @@ use Rattle.std.specs.Prelude.{IsSome}
 use Rattle.std.specs.List.{AllByRecursion}
 use Rattle.std.proofs.lemmas.Bool.Decides.{nat_tests}
 use Rattle.std.proofs.lemmas.List.Sums.{sum_by-cons}
+use Rattle.clear_account.specs.declared.entries.Charge.{Charge}
 use Rattle.clear_account.specs.declared.entries.Credit.{Credit}
+use Rattle.clear_account.specs.Account.{charged, credited}
+use Rattle.clear_account.specs.Allocation.{prepaid}
+use Rattle.clear_account.specs.Arrears.{arrears_on}
 use Rattle.clear_bank.specs.declared.lines.Purpose.{Purpose}
 use Rattle.clear_bank.specs.declared.lines.Purpose.TheVariants.{Contribution, Interest}
 use Rattle.clear_bank.specs.Lines.{same_purpose}
 use Rattle.clear_money.specs.Rates.{Rate, rate_in_force}
+use Rattle.clear_book.specs.declared.outcomes.Answer.TheVariants.{Owed}
 use Rattle.clear_book.specs.declared.rows.CreditRow.{CreditRow}
 use Rattle.clear_book.specs.declared.rows.ReportRow.{ReportRow}
 use Rattle.clear_book.specs.declared.rows.WageRow.{WageRow}
@@ -17,6 +22,7 @@ use Rattle.clear_book.specs.Book.{Book, rates_of}
 use Rattle.clear_book.specs.Keyed.{find_row, is_key, is_before, with_row, with_rows, AreOnce}
 use Rattle.clear_book.specs.Lines.{credits_made, is_credit_of}
 use Rattle.clear_book.specs.Machine.{IsLawful}
+use Rattle.clear_book.specs.Own.Owed.{owed_by}
 use Rattle.clear_book.specs.Tables.{Tables, Stands, is_wage_key_of, table_base, table_charges, table_credits, wage_key}
 use Rattle.clear_laws.proofs.AccountLimitLemmas.{lawful_credit_count}
 use Rattle.clear_laws.proofs.ChargesLemmas.{is_found, found_behind, found_first, reported, base_same, table_charges-charges_of}
@@ -177,3 +183,12 @@ module _ (b : Book) (t : Tables) (lawful : IsLawful b) (stands : Stands b t) (e 
 
   pub credits_read : with_credits (table_credits t e) [] ≡ credits_of b e
   credits_read = credits_filled t e stands.credits_in_order ∙ table_credits-credits_of b t stands e
+
+-- ---- what an account tells
+
+-- an account that holds the charges and the credits of a firm tells what the firm owes
+pub owed_told : (b : Book) (e day : ℕ) (charges : List Charge) (credits : List Credit) → charges ≡ charges_of b e → credits ≡ credits_of b e
+    → (all paid due over : ℕ) → all ≡ charged charges → paid ≡ credited credits → due ≡ arrears_on charges credits day → over ≡ prepaid charges credits → Owed all paid due over ≡ owed_by b e day
+owed_told b e day charges credits charges_are credits_are all paid due over all_is paid_is due_is over_is =
+    (λ i. Owed (all_is i) (paid_is i) (due_is i) (over_is i))
+    ∙ (λ i. Owed (charged (charges_are i)) (credited (credits_are i)) (arrears_on (charges_are i) (credits_are i) day) (prepaid (charges_are i) (credits_are i)))

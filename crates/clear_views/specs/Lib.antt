@@ -1,4 +1,5 @@
 pub mod Claimed
+pub mod Ends
 pub mod Imports
 pub mod Owed
 pub mod Reads

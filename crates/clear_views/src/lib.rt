@@ -7,7 +7,10 @@
 #![tactic(auto)]
 
 mod account;
+pub mod add_rate;
+pub mod assign;
 pub mod claim;
+pub mod end;
 pub mod import;
 mod lookups;
 pub mod member;

@@ -29,3 +29,15 @@ returns-clause-withdraw c = refl
 pub returns-clause-release : goal.returns-clause-release
 unfolding digits
 returns-clause-release c = refl
+
+pub returns-clause-rate : goal.returns-clause-rate
+unfolding digits
+returns-clause-rate c = refl
+
+pub returns-clause-end : goal.returns-clause-end
+unfolding digits
+returns-clause-end c = refl
+
+pub returns-clause-assign : goal.returns-clause-assign
+unfolding digits
+returns-clause-assign c = refl

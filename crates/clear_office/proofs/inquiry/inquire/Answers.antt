@@ -13,27 +13,27 @@ use Rattle.clear_office.specs.declared.inquiry.Finding.TheVariants as finding
 use Rattle.clear_office.proofs.BehindLemmas.{leaves_tables, told_behind}
 use Rattle.clear_office.proofs.inquiry.inquire.Goals as goal
 
-pub returns-in-Ok-List-clause-told : goal.returns-in-Ok-List-clause-told
-returns-in-Ok-List-clause-told g c clean t has =
+pub returns-in-Ok-Document-clause-told : goal.returns-in-Ok-Document-clause-told
+returns-in-Ok-Document-clause-told g c clean t has =
     let mid = c.within.new.conn in
     let new = c.tell_document.new.conn in
     let query = c.args.query.now in
-    let done = c.in-Ok-List.ensures.done (c.tell_document.ensures.clean clean) t has in
+    let done = c.in-Ok-Document.ensures.done (c.tell_document.ensures.clean clean) t has in
     let same : done.0 ≡ t = done.1.0 in
     let now : HasTables t (state g.S.Store mid).now = subst (λ (u : Tables). HasTables u (state g.S.Store mid).now) same done.2 in
     let committed : HasTables t (state g.S.Store mid).committed = subst (λ (u : Tables). HasTables u (state g.S.Store mid).committed) same done.3 in
     told_behind g.S.Store mid new t now committed (c.tell_document.ensures.still clean t now)
     (subst (λ (u : Tables). (trees : Trees) → (state g.S.Store mid).may_leave trees → StandsFor u trees) same done.4) clean (c.tell_document.ensures.survives t now)
     (λ (answer : Answer). (caller : Caller) → may_query caller query ≡ true → Tells (Ask caller c.args.day query) t answer)
-    (answer_of t (finding.List c.in-Ok-List.list))
-    (subst (λ (found : Finding). (caller : Caller) → may_query caller query ≡ true → Tells (Ask caller c.args.day query) t (answer_of t found)) c.in-Ok-List.field-0-is done.1.2)
+    (answer_of t (finding.Document c.in-Ok-Document.document))
+    (subst (λ (found : Finding). (caller : Caller) → may_query caller query ≡ true → Tells (Ask caller c.args.day query) t (answer_of t found)) c.in-Ok-Document.field-0-is done.1.2)
     c.tell_document.result (c.tell_document.ensures.told clean t now) (c.tell_document.ensures.open clean)
 
-pub returns-in-Ok-List-clause-crash : goal.returns-in-Ok-List-clause-crash
-returns-in-Ok-List-clause-crash g c clean t has trees may =
+pub returns-in-Ok-Document-clause-crash : goal.returns-in-Ok-Document-clause-crash
+returns-in-Ok-Document-clause-crash g c clean t has trees may =
     let mid = c.within.new.conn in
     let before = c.tell_document.ensures.clean clean in
-    let done = c.in-Ok-List.ensures.done before t has in
+    let done = c.in-Ok-Document.ensures.done before t has in
     let now : HasTables t (state g.S.Store mid).now = subst (λ (u : Tables). HasTables u (state g.S.Store mid).now) done.1.0 done.2 in
     elim ((c.tell_document.ensures.survives t now).crash clean trees may) [
       | inl then ↦ leaves_tables g.S.Store c.args.conn.now mid t

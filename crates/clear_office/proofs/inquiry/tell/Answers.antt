@@ -1,8 +1,16 @@
-use Rattle.std.proofs.Common.{sym, subst}
+use Rattle.std.proofs.Common.{Ok, refl, sym, subst}
 use Rattle.clear_book.specs.declared.calls.Query.{Query}
 use Rattle.clear_office.specs.Bodies.{Replies}
+use Rattle.clear_office.specs.declared.inquiry.Finding.TheVariants as finding
+use Rattle.clear_office.specs.declared.inquiry.RowDocument.TheVariants as rows
+use Rattle.clear_office.proofs.ListLemmas.{suspense_told}
 use Rattle.clear_office.proofs.inquiry.tell.Goals as goal
 
 pub returns-in-Payout-clause-told : goal.returns-in-Payout-clause-told
 returns-in-Payout-clause-told g c clean t has back =
     subst (λ (query : Query). Replies c.args.day query t c.find_list.result) (sym c.in-Payout.is) (c.find_list.ensures.told clean t has c.args.day)
+
+pub returns-in-Suspense-clause-told : goal.returns-in-Suspense-clause-told
+returns-in-Suspense-clause-told g c clean t has back =
+    subst (λ (query : Query). Replies c.args.day query t (Ok (finding.Document (rows.Suspense c.args.day)))) (sym c.in-Suspense.is)
+    (tt, λ b lawful stands. (refl, suspense_told b t stands c.args.day))

@@ -1,30 +1,31 @@
-//! The claims on a payout list, one at a time.
+//! The rows of a table that a query shows, one at a time.
 ghost use Rattle.std.specs.Prelude.{◌≡◌, IfErr, IfOk};
 ghost use Rattle.clear_reading.specs.Faults.{fault_told};
 
-use clear_columns::rows::next_row;
-use clear_ledger::claims::Claims;
+use clear_columns::rows::{StoredTable, next_row};
 use clear_schema::fault::Fault;
 use clear_texts::rows::{RowFault, RowSource};
-use clear_values::rows::ClaimRow;
 use sqlite::{Alter, Rows};
+use std::marker::PhantomData;
 
-/// The rows of a query for claims.
-pub struct ListedClaims<'a, 'conn, S: Alter> {
+/// The rows of a query for rows of a table.
+#[derive(Drop)]
+pub struct StoredRows<'a, 'conn, S: Alter, T> {
     pub(crate) rows: &'a mut Rows<'conn, S>,
+    pub(crate) table: PhantomData<T>,
 }
 
-impl<S: Alter> RowSource for ListedClaims<'_, '_, S> {
+impl<S: Alter, T: StoredTable> RowSource for StoredRows<'_, '_, S, T> {
     ghost use Rattle.clear_reading.specs.Source.{Gives, Refuses};
 
-    type Row = ClaimRow;
+    type Row = T::Row;
 
-    ghost next_gives = { Gives S.Store };
+    ghost next_gives = { Gives S.Store T.shown T.is_in_range };
 
-    ghost next_refuses = { Refuses S.Store };
+    ghost next_refuses = { Refuses S.Store T.shown T.is_in_range };
 
-    fn next(&mut self) -> Result<Option<ClaimRow>, RowFault> {
-        match next_row::<Claims, S>(self.rows) {
+    fn next(&mut self) -> Result<Option<T::Row>, RowFault> {
+        match next_row::<T, S>(self.rows) {
             Ok(found) => Ok(found),
             Err(fault) => Err(row_fault(fault)),
         }

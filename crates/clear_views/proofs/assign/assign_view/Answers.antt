@@ -1,0 +1,21 @@
+use Rattle.std.proofs.Common.{ap}
+use Rattle.sqlite.specs.Held.{state}
+use Rattle.clear_schema.specs.Values.{Counts}
+use Rattle.clear_views.proofs.ReadLemmas.{was_clean, still}
+use Rattle.clear_views.proofs.ViewLemmas.{assign_viewed}
+use Rattle.clear_views.proofs.assign.assign_view.Goals as goal
+
+pub returns-clause-view : goal.returns-clause-view
+returns-clause-view g c clean t has same b stands =
+    let old = state g.S.Store c.args.tx.now.conn.now in
+    let one = state g.S.Store c.find_member.new.tx.conn.now in
+    let two = state g.S.Store c.line_under.new.tx.conn.now in
+    let end = state g.S.Store c.is_full.new.tx.conn.now in
+    let clean_two = was_clean two end c.is_full.ensures.survives clean in
+    let clean_one = was_clean one two c.line_under.ensures.leaves.survives clean_two in
+    let has_one = still t old one (c.in-Ok.ensures.leaves.same clean_one t has) has in
+    let has_two = still t one two (c.in-Ok-line_under.ensures.leaves.same clean_two t has_one) has_one in
+    assign_viewed b t stands c.args.assignment.now _ c.args.counts.now.serial (ap (λ (x : Counts). x.serial) same)
+    c.in-Ok.member c.is_some-registered.ensures (c.in-Ok.ensures.member clean_one t has)
+    (c.in-Ok-line_under.ensures.line clean_two t has_one)
+    (c.in-Ok-is_full.ensures.full clean t has_two)

@@ -1,0 +1,135 @@
+//! What an assignment is judged by.
+ghost use Rattle.std.specs.Prelude.{◌≡◌, ◌&&◌, nat_le, IfErr, IfOk, IsTrue, OnOk};
+ghost use Rattle.sqlite.specs.Held.{state};
+ghost use Rattle.sqlite.specs.State.{HasCleanDisk, IsUnchanged, KeepsCommit, Survives};
+ghost use Rattle.clear_book.specs.Book.{Book};
+ghost use Rattle.clear_book.specs.Keyed.{find_row};
+ghost use Rattle.clear_book.specs.Limits.{most_credits};
+ghost use Rattle.clear_book.specs.Lines.{credit_count};
+ghost use Rattle.clear_book.specs.Own.Assign.{is_full, is_suspended};
+ghost use Rattle.clear_book.specs.RowRanges.{AreInRange};
+ghost use Rattle.clear_book.specs.Tables.{Stands, Tables, bank_key};
+ghost use Rattle.clear_firms.specs.Counts.{as_stored};
+ghost use Rattle.clear_rules.specs.Views.Assign.{IsAssignView};
+ghost use Rattle.clear_schema.specs.Frame.{Leaves};
+ghost use Rattle.clear_schema.specs.Faults.{IsOfDisk};
+ghost use Rattle.clear_schema.specs.Held.{HasTables};
+ghost use Rattle.clear_schema.specs.Values.{counts_of};
+
+use crate::lookups::line_under;
+use crate::member::find_member;
+use clear_bank::lines::Purpose;
+use clear_book::calls::Assignment;
+use clear_book::limits::MAX_CREDITS;
+use clear_book::rows::BankRow;
+use clear_firms::counts::Counts;
+use clear_ledger::credits::credits_of;
+use clear_money::numbers::EmployerNo;
+use clear_rules::decide::assign::AssignView;
+use clear_schema::fault::Fault;
+use sqlite::{Alter, Transaction};
+
+/// What an assignment is judged by, where these counts stand: whether the firm is registered, the
+/// line of the reference, if there is one, and whether the firm has as many credits for the line's
+/// purpose as it may have.
+///
+/// It takes one search for the firm and one for the line. Once 100,000 serials were given, it also
+/// reads the firm's credits for the purpose of a line in suspense; while there are fewer, the firm
+/// can't have as many credits. Where the rows lie in their ranges, no fault is one of a key or of a
+/// row.
+pub fn assign_view<S: Alter>(
+    tx: &mut Transaction<'_, S>,
+    counts: &Counts,
+    assignment: &Assignment,
+) -> Result<AssignView, Fault>
+    ensures same_reference { tx.new.conn.ghost_name ≡ tx.old.conn.ghost_name }
+    ensures line { HasCleanDisk (state S.Store tx.new.conn.now)
+        → (t : Tables) → HasTables t (state S.Store tx.old.conn.now).now
+        → IfOk result (λ view. view.line ≡ find_row bank_key t.bank assignment.now.reference) }
+    ensures view { HasCleanDisk (state S.Store tx.new.conn.now)
+        → (t : Tables) → HasTables t (state S.Store tx.old.conn.now).now
+        → as_stored counts.now ≡ counts_of t → (b : Book) → Stands b t
+        → IfOk result (IsAssignView b assignment.now) }
+    ensures fault { HasCleanDisk (state S.Store tx.new.conn.now)
+        → (t : Tables) → HasTables t (state S.Store tx.old.conn.now).now
+        → AreInRange t → IfErr result IsOfDisk }
+    ensures leaves { Leaves S.Store tx.old.conn.now tx.new.conn.now result }
+{
+    let registered = match find_member(tx, assignment.employer) {
+        Ok(member) => member.is_some(),
+        Err(fault) => return Err(fault),
+    };
+    let line = match line_under(tx, &assignment.reference) {
+        Ok(line) => line,
+        Err(fault) => return Err(fault),
+    };
+    let full = match is_full(tx, counts.serial, assignment.employer, &line) {
+        Ok(full) => full,
+        Err(fault) => return Err(fault),
+    };
+    Ok(AssignView {
+        registered,
+        line,
+        full,
+    })
+}
+
+// Whether so many serials were given that a firm could have as many credits as it may have, there
+// is a line in suspense, and the firm has as many for its purpose. Where one of the first two
+// isn't so, nothing is read.
+fn is_full<S: Alter>(
+    tx: &mut Transaction<'_, S>,
+    serials: u64,
+    employer: EmployerNo,
+    line: &Option<BankRow>,
+) -> Result<bool, Fault>
+    ensures same_reference { tx.new.conn.ghost_name ≡ tx.old.conn.ghost_name }
+    ensures full { HasCleanDisk (state S.Store tx.new.conn.now)
+        → (t : Tables) → HasTables t (state S.Store tx.old.conn.now).now
+        → IfOk result (λ full. full ≡ (nat_le most_credits serials && is_suspended line.now
+        && is_full (credit_count t.credits employer) line.now)) }
+    ensures fault { HasCleanDisk (state S.Store tx.new.conn.now)
+        → (t : Tables) → HasTables t (state S.Store tx.old.conn.now).now
+        → AreInRange t → IfErr result IsOfDisk }
+    ensures same { HasCleanDisk (state S.Store tx.new.conn.now)
+        → (t : Tables) → HasTables t (state S.Store tx.old.conn.now).now
+        → IsTrue (state S.Store tx.old.conn.now).is_open
+        → OnOk result (IsUnchanged (state S.Store tx.old.conn.now)
+        (state S.Store tx.new.conn.now)) }
+    ensures kept { HasCleanDisk (state S.Store tx.new.conn.now)
+        → (t : Tables) → HasTables t (state S.Store tx.old.conn.now).now
+        → KeepsCommit (state S.Store tx.old.conn.now) (state S.Store tx.new.conn.now) }
+    ensures survives { Survives (state S.Store tx.old.conn.now) (state S.Store tx.new.conn.now)
+        (λ _. ⊥) }
+{
+    if serials < MAX_CREDITS {
+        return Ok(false);
+    }
+    match line {
+        Some(row) if row.employer.is_none() => has_all_credits(tx, employer, row.line.purpose),
+        Some(_) => Ok(false),
+        None => Ok(false),
+    }
+}
+
+// Whether a firm has as many credits for a purpose as it may have.
+fn has_all_credits<S: Alter>(
+    tx: &mut Transaction<'_, S>,
+    employer: EmployerNo,
+    purpose: Purpose,
+) -> Result<bool, Fault>
+    ensures same_reference { tx.new.conn.ghost_name ≡ tx.old.conn.ghost_name }
+    ensures full { HasCleanDisk (state S.Store tx.new.conn.now)
+        → (t : Tables) → HasTables t (state S.Store tx.old.conn.now).now
+        → IfOk result (λ full.
+        full ≡ nat_le most_credits (credit_count t.credits employer purpose)) }
+    ensures fault { HasCleanDisk (state S.Store tx.new.conn.now)
+        → (t : Tables) → HasTables t (state S.Store tx.old.conn.now).now
+        → AreInRange t → IfErr result IsOfDisk }
+    ensures leaves { Leaves S.Store tx.old.conn.now tx.new.conn.now result }
+{
+    match credits_of(tx, employer, purpose) {
+        Ok(credits) => Ok(credits.len() as u64 >= MAX_CREDITS),
+        Err(fault) => Err(fault),
+    }
+}

@@ -1,0 +1,83 @@
+//! What the end of a membership is judged by.
+ghost use Rattle.std.specs.Prelude.{◌≡◌, None, IfErr, IfOk};
+ghost use Rattle.std.specs.List.{last_or};
+ghost use Rattle.std.specs.Option.{option_map};
+ghost use Rattle.sqlite.specs.Held.{state};
+ghost use Rattle.sqlite.specs.State.{HasCleanDisk};
+ghost use Rattle.clear_book.specs.RowRanges.{AreInRange};
+ghost use Rattle.clear_book.specs.Tables.{Tables, member_at, member_in};
+ghost use Rattle.clear_schema.specs.Frame.{Leaves};
+ghost use Rattle.clear_schema.specs.Faults.{IsOfDisk};
+ghost use Rattle.clear_schema.specs.Held.{HasTables};
+ghost use Rattle.clear_views.specs.Ends.{last_report};
+
+use crate::member::find_member;
+use clear_book::calls::MembershipEnd;
+use clear_book::rows::ReportRow;
+use clear_firms::reports::reports_of;
+use clear_money::months::Month;
+use clear_money::numbers::EmployerNo;
+use clear_rules::decide::end::EndView;
+use clear_schema::fault::Fault;
+use sqlite::{Alter, Transaction};
+
+/// What the end of a firm's membership is judged by: the firm, if it is registered, and the
+/// greatest month of which it has a report, if there is one. It takes one search for the firm, and
+/// reads its latest reports, of which there are at most 2,400. Where the rows lie in their ranges,
+/// no fault is one of a key or of a row.
+pub fn end_view<S: Alter>(
+    tx: &mut Transaction<'_, S>,
+    end: &MembershipEnd,
+) -> Result<EndView, Fault>
+    ensures same_reference { tx.new.conn.ghost_name ≡ tx.old.conn.ghost_name }
+    ensures member { HasCleanDisk (state S.Store tx.new.conn.now)
+        → (t : Tables) → HasTables t (state S.Store tx.old.conn.now).now
+        → IfOk result (λ view. option_map member_in view.member
+        ≡ member_at t.employers end.now.employer) }
+    ensures reported { HasCleanDisk (state S.Store tx.new.conn.now)
+        → (t : Tables) → HasTables t (state S.Store tx.old.conn.now).now
+        → IfOk result (λ view. view.reported ≡ last_report t end.now.employer) }
+    ensures fault { HasCleanDisk (state S.Store tx.new.conn.now)
+        → (t : Tables) → HasTables t (state S.Store tx.old.conn.now).now
+        → AreInRange t → IfErr result IsOfDisk }
+    ensures leaves { Leaves S.Store tx.old.conn.now tx.new.conn.now result }
+{
+    let member = match find_member(tx, end.employer) {
+        Ok(member) => member,
+        Err(fault) => return Err(fault),
+    };
+    match last_report(tx, end.employer) {
+        Ok(reported) => Ok(EndView { member, reported }),
+        Err(fault) => Err(fault),
+    }
+}
+
+// The greatest month of which a firm has a report, if there is one.
+fn last_report<S: Alter>(
+    tx: &mut Transaction<'_, S>,
+    employer: EmployerNo,
+) -> Result<Option<Month>, Fault>
+    ensures same_reference { tx.new.conn.ghost_name ≡ tx.old.conn.ghost_name }
+    ensures reported { HasCleanDisk (state S.Store tx.new.conn.now)
+        → (t : Tables) → HasTables t (state S.Store tx.old.conn.now).now
+        → IfOk result (λ month. month ≡ last_report t employer) }
+    ensures fault { HasCleanDisk (state S.Store tx.new.conn.now)
+        → (t : Tables) → HasTables t (state S.Store tx.old.conn.now).now
+        → AreInRange t → IfErr result IsOfDisk }
+    ensures leaves { Leaves S.Store tx.old.conn.now tx.new.conn.now result }
+{
+    match reports_of(tx, employer) {
+        Ok(rows) => Ok(last_month(rows.as_slice())),
+        Err(fault) => Err(fault),
+    }
+}
+
+// The month of the last of these rows, if there is one.
+fn last_month(rows: &[ReportRow]) -> Option<Month>
+    ensures { result ≡ option_map (λ row. row.month) (last_or None rows.now) }
+{
+    match rows.last() {
+        Some(row) => Some(row.month),
+        None => None,
+    }
+}
