@@ -7,7 +7,7 @@ PROGRAM is the built program where none is named. For each size a new store gets
 10,000 through the office, and the others, for quickness, into its tables by Python's own sqlite3 while it doesn't run, as
 further files would have brought them. 1,000 of them are in suspense, or so many as are asked for by --suspense, the others
 of 100 firms in turns. Then
-each request is sent so many times, one after another: the list of the lines in suspense (a tenth as often); a bank file of
+each request is sent so many times, in batches of 20 that go to the stores in turns, since a machine's speed changes: the list of the lines in suspense (a tenth as often); a bank file of
 one new line; assignments of lines in suspense; ends of the memberships of firms with one report; rows of rates. Of each the
 table has the mean milliseconds of a request by the processor time of the server's process.
 
@@ -31,6 +31,7 @@ MEMORY = "/dev/shm"
 DAY = "2024-04-30"
 HEADER = "reference,value_date,employer,cents,purpose,note\n"
 FILE = 10_000
+BATCH = 20
 FIRMS = 100
 FIRST = 1_001
 KINDS = ("suspense", "import", "assign", "end", "rates")
@@ -58,12 +59,12 @@ class Desk:
     def report(self, no):
         self.post(f"/employers/{no}/reports/2024-01", '{"lines":[{"gross":350000,"worker":7}]}')
 
-    def measured(self, times, send):
-        """The mean milliseconds of a request by the server's processor time."""
+    def measured(self, places, send):
+        """The milliseconds of requests by the server's processor time."""
         begun = self.server.processor_seconds()
-        for place in range(times):
+        for place in places:
             send(place)
-        return (self.server.processor_seconds() - begun) * 1000 / times
+        return (self.server.processor_seconds() - begun) * 1000
 
 
 def records(first, count, firm):
@@ -92,7 +93,8 @@ def fill_tables(store, lines):
         base.execute("UPDATE meta SET serial = max(serial, ?1)", [lines])
 
 
-def measure(options, lines, folder):
+def prepare(options, lines, folder):
+    """A clerk's desk at a store of so many lines, and how each kind of request is sent there."""
     server = Server("program", str(options.program), os.path.join(folder, str(lines)), DAY, "desk = 0\n")
     server.init()
     server.start()
@@ -113,8 +115,18 @@ def measure(options, lines, folder):
             "/rates", '{"contribution":2000,"due_day":20,"entitlement":1425,'
             f'"from":"{months[place]}","interest":100,"report_day":15}}'),
     }
-    took = [desk.measured(max(repeats // 10, 1) if kind == "suspense" else repeats, sends[kind]) for kind in KINDS]
-    server.stop()
+    return desk, sends
+
+
+def measure(desks, repeats):
+    """The mean milliseconds of each kind of request at each desk, the desks in turns."""
+    took = [[0.0] * len(KINDS) for _ in desks]
+    for column, kind in enumerate(KINDS):
+        times = max(repeats // 10, 1) if kind == "suspense" else repeats
+        for first in range(0, times, BATCH):
+            places = range(first, min(first + BATCH, times))
+            for line, (desk, sends) in enumerate(desks):
+                took[line][column] += desk.measured(places, sends[kind]) / times
     return took
 
 
@@ -133,7 +145,10 @@ def read_options():
 def main():
     options = read_options()
     with tempfile.TemporaryDirectory(dir=options.folder) as folder:
-        found = [(lines, measure(options, lines, folder)) for lines in options.lines]
+        desks = [prepare(options, lines, folder) for lines in options.lines]
+        found = zip(options.lines, measure(desks, options.repeats))
+        for desk, _ in desks:
+            desk.server.stop()
     row("Bank lines", *KINDS)
     row(*["---"] * (1 + len(KINDS)))
     for lines, took in found:
