@@ -128,6 +128,7 @@ class Init(Program):
             self.assertEqual(indexes, [("claims_by_list", "claims", "list"),
                                        ("claims_by_release", "claims", "released"),
                                        ("claims_by_worker", "claims", "worker,no"),
+                                       ("reminders_by_employer", "reminders", "employer,run"),
                                        ("wages_by_worker", "wages", "worker,employer,month")])
         store.close()
 
@@ -156,6 +157,7 @@ class Init(Program):
             "DROP INDEX claims_by_worker",
             "DROP INDEX claims_by_release",
             "DROP INDEX claims_by_list",
+            "DROP INDEX reminders_by_employer",
             "CREATE VIEW firms AS SELECT no FROM employers",
             "ALTER TABLE runs ADD COLUMN level INTEGER",
             "ALTER TABLE lists RENAME COLUMN total TO sum",

@@ -10,6 +10,7 @@ use Rattle.clear_book.specs.Rules.{word_of, table_word}
 use Rattle.clear_book.specs.declared.outcomes.Reply.{Reply}
 use Rattle.clear_book.specs.declared.outcomes.Reply.TheVariants.{Done, Reported, Imported}
 use Rattle.clear_book.specs.declared.outcomes.Reply.TheVariants.{Claimed, Released, Listed}
+use Rattle.clear_book.specs.declared.outcomes.Reply.TheVariants.{Reminded}
 use Rattle.clear_book.specs.declared.outcomes.Answer.{Answer}
 use Rattle.clear_book.specs.declared.outcomes.Answer.TheVariants.{Owed, Text}
 use Rattle.clear_book.specs.declared.rules.Carried.{Carried}
@@ -112,6 +113,10 @@ reply_body (Listed list items total) =
     codes "{\"items\":" ++ decimal items
     ++ codes ",\"list\":" ++ decimal list
     ++ codes ",\"total\":" ++ decimal total
+    ++ codes "}"
+reply_body (Reminded run firms) =
+    codes "{\"firms\":" ++ decimal firms
+    ++ codes ",\"run\":" ++ decimal run
     ++ codes "}"
 
 -- the body of the answer to a query

@@ -3,7 +3,7 @@ ghost use Rattle.std.specs.Prelude.{◌≡◌, ◌++◌, codes, IfOk, is_ok, if�
 ghost use Rattle.std.specs.Fmt.{decimal};
 ghost use Rattle.clear_money.specs.Texts.{day_text, month_text};
 ghost use Rattle.clear_book.specs.declared.outcomes.Answer.TheVariants.{Owed};
-ghost use Rattle.clear_book.specs.declared.outcomes.Reply.TheVariants.{Listed, Released};
+ghost use Rattle.clear_book.specs.declared.outcomes.Reply.TheVariants.{Listed, Released, Reminded};
 ghost use Rattle.clear_book.specs.declared.rules.Rule.TheVariants.{Memory, Failed};
 ghost use Rattle.clear_answers.specs.Said.{refused_by};
 ghost use Rattle.clear_answers.specs.Answer.{framing_status, status_by, status_of, carried_text};
@@ -170,6 +170,7 @@ fn reply_body(alloc: Global, reply: &Reply) -> Result<Vec<u8>, AllocError>
         }
         Reply::Released(settlement) => settlement_body(alloc, settlement),
         Reply::Listed { list, items, total } => list_body(alloc, *list, *items, *total),
+        Reply::Reminded { run, firms } => run_body(alloc, *run, *firms),
     }
 }
 
@@ -197,6 +198,17 @@ fn list_body(alloc: Global, list: u32, items: u64, total: u64) -> Result<Vec<u8>
     append_number(&mut body, b"{\"items\":", items)?;
     append_number(&mut body, b",\"list\":", u64::from(list))?;
     append_number(&mut body, b",\"total\":", total)?;
+    body.extend_from_slice(b"}")?;
+    Ok(body)
+}
+
+#[tactic(auto, unfolding(crate::specs::Answer::reply_body))]
+fn run_body(alloc: Global, run: u32, firms: u64) -> Result<Vec<u8>, AllocError>
+    ensures { IfOk result (λ body. body.items ≡ reply_body (Reminded run firms)) }
+{
+    let mut body = Vec::new(alloc);
+    append_number(&mut body, b"{\"firms\":", firms)?;
+    append_number(&mut body, b",\"run\":", u64::from(run))?;
     body.extend_from_slice(b"}")?;
     Ok(body)
 }

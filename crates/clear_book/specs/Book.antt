@@ -15,7 +15,7 @@ use Rattle.clear_book.specs.declared.calls.Command.TheVariants.{Register, Report
 use Rattle.clear_book.specs.declared.calls.Command.TheVariants.{AddRate, EndMembership}
 use Rattle.clear_book.specs.declared.calls.Command.TheVariants.{ImportBank, Assign}
 use Rattle.clear_book.specs.declared.calls.Command.TheVariants.{Claim, Withdraw, Release}
-use Rattle.clear_book.specs.declared.calls.Command.TheVariants.{PayoutList}
+use Rattle.clear_book.specs.declared.calls.Command.TheVariants.{PayoutList, RemindRun}
 use Rattle.clear_book.specs.declared.calls.Registration.{Registration}
 use Rattle.clear_book.specs.declared.calls.WageReport.{WageReport}
 use Rattle.clear_values.specs.declared.replies.Reply.{Reply}
@@ -77,6 +77,7 @@ rates_added (Claim c) = []
 rates_added (Withdraw w) = []
 rates_added (Release claim) = []
 rates_added PayoutList = []
+rates_added RemindRun = []
 
 -- the rows of a table, and behind them those that entries add
 abbrev pub rates_behind : RateTable → List Entry → List Rate

@@ -12,7 +12,7 @@ use Rattle.clear_money.specs.Rates.{Rate, IsRate}
 use Rattle.clear_values.specs.declared.callers.Caller.{Caller}
 use Rattle.clear_values.specs.declared.callers.Caller.TheVariants.{Firm, Clerk}
 use Rattle.clear_values.specs.declared.texts.WageLine.{WageLine}
-use Rattle.clear_values.specs.Numbers.{IsClaimNo, IsListNo, IsRequestNo}
+use Rattle.clear_values.specs.Numbers.{IsClaimNo, IsListNo, IsRequestNo, IsRunNo}
 use Rattle.clear_values.specs.Ranges.{IsCaller}
 use Rattle.clear_values.specs.Texts.{IsName, is_reference}
 use Rattle.clear_book.specs.declared.calls.Command.{Command}
@@ -20,10 +20,10 @@ use Rattle.clear_book.specs.declared.calls.Command.TheVariants.{Register, Report
 use Rattle.clear_book.specs.declared.calls.Command.TheVariants.{AddRate, EndMembership}
 use Rattle.clear_book.specs.declared.calls.Command.TheVariants.{ImportBank, Assign}
 use Rattle.clear_book.specs.declared.calls.Command.TheVariants.{Claim, Withdraw, Release}
-use Rattle.clear_book.specs.declared.calls.Command.TheVariants.{PayoutList}
+use Rattle.clear_book.specs.declared.calls.Command.TheVariants.{PayoutList, RemindRun}
 use Rattle.clear_book.specs.declared.calls.Query.{Query}
 use Rattle.clear_book.specs.declared.calls.Query.TheVariants.{Owed, Statement, Worker, Payout}
-use Rattle.clear_book.specs.declared.calls.Query.TheVariants.{Suspense}
+use Rattle.clear_book.specs.declared.calls.Query.TheVariants.{Suspense, Reminder}
 use Rattle.clear_book.specs.declared.calls.Assignment.{Assignment}
 use Rattle.clear_book.specs.declared.calls.Correction.{Correction}
 use Rattle.clear_book.specs.declared.calls.HolidayClaim.{HolidayClaim}
@@ -51,8 +51,9 @@ may_do (Firm e) (Claim c) = e == c.employer
 may_do (Firm e) (Withdraw w) = e == w.employer
 may_do (Firm e) (Release claim) = false
 may_do (Firm e) PayoutList = false
+may_do (Firm e) RemindRun = false
 
--- a firm may ask what it owes itself, and nothing of workers, lines in suspense and lists
+-- a firm may ask what it owes itself, and nothing of workers, lines in suspense, lists and runs
 abbrev pub may_query : Caller → Query → Bool
 may_query Clerk query = true
 may_query (Firm e) (Owed employer) = e == employer
@@ -60,6 +61,7 @@ may_query (Firm e) (Statement employer) = e == employer
 may_query (Firm e) (Worker worker) = false
 may_query (Firm e) Suspense = false
 may_query (Firm e) (Payout list) = false
+may_query (Firm e) (Reminder run) = false
 
 -- ---- the same as values
 
@@ -138,6 +140,11 @@ abbrev pub is_payout_list : Command → Bool
 is_payout_list PayoutList = true
 is_payout_list command = false
 
+-- a reminder run
+abbrev pub is_remind_run : Command → Bool
+is_remind_run RemindRun = true
+is_remind_run command = false
+
 -- the same kind of command, and each of its values the same
 abbrev pub same_command : Command → Command → Bool
 same_command (AddRate r) command = adds_the_same r command
@@ -151,6 +158,7 @@ same_command (Claim c) command = claims_the_same c command
 same_command (Withdraw w) command = withdraws_the_same w command
 same_command (Release claim) command = releases_the_same claim command
 same_command PayoutList command = is_payout_list command
+same_command RemindRun command = is_remind_run command
 
 -- ---- the kept bytes
 
@@ -197,6 +205,7 @@ command_bytes (Withdraw w) =
     codes "withdraw " ++ decimal w.employer ++ codes " " ++ decimal w.claim
 command_bytes (Release claim) = codes "release " ++ decimal claim
 command_bytes PayoutList = codes "payout"
+command_bytes RemindRun = codes "remind"
 
 -- ---- values
 
@@ -222,6 +231,7 @@ IsCommand (Claim c) = IsEmployerNo c.employer × IsWorkerNo c.worker × IsAmount
 IsCommand (Withdraw w) = IsEmployerNo w.employer × IsClaimNo w.claim
 IsCommand (Release claim) = IsClaimNo claim
 IsCommand PayoutList = Unit {0}
+IsCommand RemindRun = Unit {0}
 
 -- the values of a query
 abbrev pub IsQuery : Query → Type 0
@@ -230,6 +240,7 @@ IsQuery (Statement employer) = IsEmployerNo employer
 IsQuery (Worker worker) = IsWorkerNo worker
 IsQuery Suspense = Unit {0}
 IsQuery (Payout list) = IsListNo list
+IsQuery (Reminder run) = IsRunNo run
 
 -- the values of a call
 abbrev pub IsCall : Call → Type 0

@@ -8,6 +8,8 @@ use Rattle.clear_values.specs.declared.rows.BankRow.{BankRow}
 use Rattle.clear_values.specs.declared.rows.ClaimRow.{ClaimRow}
 use Rattle.clear_values.specs.declared.rows.ClaimState.{ClaimState}
 use Rattle.clear_values.specs.declared.rows.ClaimState.TheVariants.{Open, Released}
+use Rattle.clear_values.specs.declared.rows.ReminderRow.{ReminderRow}
+use Rattle.clear_book.specs.Reminders.{LastReminder, Overdue, reminder}
 
 -- January 2024, as a number
 abbrev pub january : ℕ
@@ -72,4 +74,22 @@ four_claims list =
     ∷ claim 2 5000 (released 5000 0 None)
     ∷ claim 3 12000 (released 2500 9500 list)
     ∷ claim 4 1425 Open
+    ∷ []
+
+-- the last reminder of a firm: its level and its day
+abbrev pub last_of : ℕ → ℕ → LastReminder
+last_of level day = record { level = level; day = day }
+
+-- what is overdue of a firm: its missing months, and what is in arrears of contributions and of
+-- interest
+abbrev pub overdue : List ℕ → ℕ → ℕ → Overdue
+overdue months owed interest =
+    record { months = months; owed = owed; interest = interest }
+
+-- two reminders of a run: a first one to firm 1001, of which two months are missing, and one of the
+-- greatest level to firm 1002, of which none is
+abbrev pub two_reminders : ℕ → List ReminderRow
+two_reminders run =
+    reminder run 1001 (overdue (january ∷ february ∷ []) 49990 0) 1
+    ∷ reminder run 1002 (overdue [] 0 125) 3
     ∷ []

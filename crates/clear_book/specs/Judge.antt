@@ -11,10 +11,10 @@ use Rattle.clear_book.specs.declared.calls.Command.TheVariants.{Register, Report
 use Rattle.clear_book.specs.declared.calls.Command.TheVariants.{AddRate, EndMembership}
 use Rattle.clear_book.specs.declared.calls.Command.TheVariants.{ImportBank, Assign}
 use Rattle.clear_book.specs.declared.calls.Command.TheVariants.{Claim, Withdraw, Release}
-use Rattle.clear_book.specs.declared.calls.Command.TheVariants.{PayoutList}
+use Rattle.clear_book.specs.declared.calls.Command.TheVariants.{PayoutList, RemindRun}
 use Rattle.clear_book.specs.declared.calls.Query.{Query}
 use Rattle.clear_book.specs.declared.calls.Query.TheVariants.{Owed, Statement, Worker, Payout}
-use Rattle.clear_book.specs.declared.calls.Query.TheVariants.{Suspense}
+use Rattle.clear_book.specs.declared.calls.Query.TheVariants.{Suspense, Reminder}
 use Rattle.clear_book.specs.declared.outcomes.Answer.{Answer}
 use Rattle.clear_book.specs.declared.outcomes.Answer.TheVariants.{Text}
 use Rattle.clear_book.specs.declared.outcomes.Outcome.{Outcome}
@@ -29,6 +29,7 @@ use Rattle.clear_book.specs.Book.{Book, Entry, entry_under, rates_of, ledger_day
 use Rattle.clear_book.specs.Book.{employer_count, last_reported, reported_version}
 use Rattle.clear_book.specs.Checks.{when, first_of}
 use Rattle.clear_book.specs.Documents.Payout.{payout_text}
+use Rattle.clear_book.specs.Documents.Reminders.{reminders_text}
 use Rattle.clear_book.specs.Documents.Statement.{statement_text}
 use Rattle.clear_book.specs.Documents.Suspense.{suspense_text}
 use Rattle.clear_book.specs.Documents.Worker.{worker_text}
@@ -48,10 +49,13 @@ use Rattle.clear_book.specs.Own.Payout.{own_payout}
 use Rattle.clear_book.specs.Own.PayoutList.{own_payout_list, payout_list_reply}
 use Rattle.clear_book.specs.Own.Register.{own_register, register_reply}
 use Rattle.clear_book.specs.Own.Release.{debts_of, own_release, release_reply}
+use Rattle.clear_book.specs.Own.RemindRun.{own_remind, remind_reply}
+use Rattle.clear_book.specs.Own.Reminder.{own_reminder}
 use Rattle.clear_book.specs.Own.Report.{own_report, report_reply}
 use Rattle.clear_book.specs.Own.Statement.{own_statement, firm_on, statement_of}
 use Rattle.clear_book.specs.Own.Withdraw.{own_withdraw, withdraw_reply}
 use Rattle.clear_book.specs.Own.Worker.{worker_on}
+use Rattle.clear_book.specs.Reminders.{reminders_due, reminders_in, run_of, runs_of}
 use Rattle.clear_book.specs.Workers.{balance_of, claim_of, claims_of, claims_on, is_employed}
 use Rattle.clear_book.specs.Workers.{list_of, lists_of, payable_claims}
 
@@ -109,6 +113,7 @@ own_rule b t (Withdraw w) =
 own_rule b t (Release claim) =
     own_release (claim_of b.entries claim) (λ row. debts_of b t row.employer)
 own_rule b t PayoutList = own_payout_list (payable_claims b.entries)
+own_rule b t RemindRun = own_remind (reminders_due b t)
 
 -- the reply, on a day, to a command that no rule refuses
 abbrev pub reply_to : Book → ℕ → Command → Reply
@@ -126,6 +131,7 @@ reply_to b t (Release claim) =
     release_reply (claim_of b.entries claim) (λ row. debts_of b t row.employer)
 reply_to b t PayoutList =
     payout_list_reply (length (lists_of b.entries)) (payable_claims b.entries)
+reply_to b t RemindRun = remind_reply (length (runs_of b.entries)) (reminders_due b t)
 
 -- the first of a query's own rules that applies
 abbrev pub own_query : Book → Query → Option Rule
@@ -134,6 +140,7 @@ own_query b (Statement employer) = own_statement (is_some (member_of b.entries e
 own_query b (Worker worker) = None
 own_query b Suspense = None
 own_query b (Payout list) = own_payout (is_some (list_of b.entries list))
+own_query b (Reminder run) = own_reminder (is_some (run_of b.entries run))
 
 -- the statement of an employer on a day, and nothing of one that isn't registered
 abbrev pub statement_on : Book → ℕ → ℕ → List ℕ
@@ -147,6 +154,11 @@ payout_of b number =
     option_map_or (λ list. payout_text list (claims_on b.entries number))
     (list_of b.entries number) []
 
+-- a reminder run with its own day, and nothing of one that isn't there
+abbrev pub run_text : Book → ℕ → List ℕ
+run_text b number =
+    option_map_or (λ run. reminders_text run (reminders_in b number)) (run_of b.entries number) []
+
 -- the answer to a query that no rule refuses
 abbrev pub answer_to : Book → ℕ → Query → Answer
 answer_to b t (Owed employer) = owed_by b employer t
@@ -154,6 +166,7 @@ answer_to b t (Statement employer) = Text (statement_on b t employer)
 answer_to b t (Worker worker) = Text (worker_text (worker_on b t worker))
 answer_to b t Suspense = Text (suspense_text t (lines_in_suspense b.entries))
 answer_to b t (Payout list) = Text (payout_of b list)
+answer_to b t (Reminder run) = Text (run_text b run)
 
 -- the rule in place of what is said, if one applies
 abbrev pub refused_or : Option Rule → Verdict → Verdict

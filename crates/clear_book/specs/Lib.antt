@@ -14,6 +14,8 @@ pub mod Own
 pub mod Pieces
 pub mod Reached
 pub mod Released
+pub mod Reminded
+pub mod Reminders
 pub mod Rules
 pub mod Tables
 pub mod Workers

@@ -11,6 +11,8 @@ pub mod Payout
 pub mod PayoutList
 pub mod Register
 pub mod Release
+pub mod RemindRun
+pub mod Reminder
 pub mod Report
 pub mod Statement
 pub mod Withdraw

@@ -16,8 +16,9 @@ use Rattle.clear_book.specs.Book.{member_of, employer_count, latest_lines, repor
 use Rattle.clear_book.specs.Calls.{command_bytes}
 use Rattle.clear_values.specs.Keyed.{find_row, with_row, AreInOrder}
 use Rattle.clear_book.specs.Lines.{lines_standing, credits_made, serial_count}
+use Rattle.clear_book.specs.Reminders.{reminders_of, runs_of}
 use Rattle.clear_book.specs.Workers.{claims_of, entitlement_for, lists_of}
-pub use Rattle.clear_values.specs.Tables.{RequestRow, Tables, AreUnfilled, employer_key, report_key}
+pub use Rattle.clear_values.specs.Tables.{RequestRow, Tables, employer_key, report_key}
 pub use Rattle.clear_values.specs.Tables.{wage_key, bank_key, claim_key, list_key, run_key}
 pub use Rattle.clear_values.specs.Tables.{reminder_key, request_key, member_in, wage_row, wage_rows}
 pub use Rattle.clear_values.specs.Tables.{is_wage_key_of, with_wages, changed, dated}
@@ -88,8 +89,10 @@ pub record Stands (b : Book) (t : Tables) : Type 0 where
   pub last_claim : t.last_claim ≡ length (claims_of b.entries)
   pub lists : t.lists ≡ lists_of b.entries
   pub last_list : t.last_list ≡ length (lists_of b.entries)
+  pub runs : t.runs ≡ runs_of b.entries
+  pub last_run : t.last_run ≡ length (runs_of b.entries)
+  pub reminders : t.reminders ≡ reminders_of b
   pub serial : t.serial ≡ serial_count b.entries
-  pub unfilled : AreUnfilled t
 
 -- ---- what the tables say of an account
 

@@ -12,7 +12,7 @@ ghost use Rattle.clear_book.specs.Calls.{numbers_text};
 ghost use Rattle.clear_book.specs.Calls.{IsCommand, IsReport, IsWageLine, may_do, may_query};
 
 use crate::files::BankFile;
-use crate::numbers::{ClaimNo, ListNo, RequestNo};
+use crate::numbers::{ClaimNo, ListNo, RequestNo, RunNo};
 use crate::texts::{Name, Reference, WageLine, WageLines};
 use clear_money::days::Day;
 use clear_money::months::Month;
@@ -91,6 +91,8 @@ pub enum Command {
     Release(ClaimNo),
     /// The clerk puts all that is to be paid out on a list.
     PayoutList,
+    /// The clerk reminds each firm to which a reminder is due.
+    RemindRun,
 }
 
 /// What is only asked.
@@ -106,6 +108,8 @@ pub enum Query {
     Suspense,
     /// A payout list.
     Payout { list: ListNo },
+    /// A reminder run.
+    Reminder { run: RunNo },
 }
 
 /// A command or a query on a day.
@@ -142,6 +146,7 @@ pub fn may(caller: Caller, command: &Command) -> bool
             Command::Withdraw(withdrawal) => firm == withdrawal.employer,
             Command::Release(_) => false,
             Command::PayoutList => false,
+            Command::RemindRun => false,
         },
     }
 }
@@ -158,6 +163,7 @@ pub fn may_ask(caller: Caller, query: &Query) -> bool
             Query::Worker { .. } => false,
             Query::Suspense => false,
             Query::Payout { .. } => false,
+            Query::Reminder { .. } => false,
         },
     }
 }
@@ -201,6 +207,7 @@ pub fn command_bytes(alloc: Global, command: &Command) -> Result<Vec<u8>, AllocE
             append_number(&mut out, b"release ", u64::from(claim.number()))?;
         }
         Command::PayoutList => out.extend_from_slice(b"payout")?,
+        Command::RemindRun => out.extend_from_slice(b"remind")?,
     }
     Ok(out)
 }
@@ -350,6 +357,7 @@ pub fn command_in_range(command: &Command)
             let _claim = claim.number();
         }
         Command::PayoutList => {}
+        Command::RemindRun => {}
     }
 }
 

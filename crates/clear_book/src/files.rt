@@ -1,7 +1,6 @@
 //! Bank files, and the rows of their lines.
 ghost use Rattle.std.specs.Prelude.{◌≡◌};
 
-pub use clear_values::rows::BankRows;
 use std::marker::Model;
 
 /// The bytes of a bank file as they came in, whatever they are: they are judged with the request. A

@@ -270,13 +270,13 @@ module _ {X : Type 0} (it : KeyedTable X) where
         → ((a b : X) → by_key it.key a b ≡ Less → output_cmp (plain_query it.table.tree conditions columns order) (sorted a, shown a) (sorted b, shown b) ≡ Less) → AnswersJust g sql params db (map shown (filter p (it.rows t)))
     lists {order} says sorted shows rises =
         let kept = it.has t db has in
-        answers_just g it.table.tree conditions columns order says.names sql params store_schema (is_query says) (plain_query_text says) (unlisted_query says) db has.schema _
+        answers_just g says.names sql params store_schema (is_query says) (plain_query_text says) (unlisted_query says) db has.schema _
         (λ rows answer. in_order it.table.tree conditions columns order params it.to_row content p tests (λ x. (sorted x, shown x)) shows db.schema db.trees kept.numbered kept.stored.is rows answer (by_key it.key) rises (it.rows t) kept.same kept.rises)
 
     -- the row of a key
     pub finds : SaysQuery sql (plain_program it.table.tree conditions columns []) → ((y : ℤ × X) → output (plain_query it.table.tree conditions columns []) (params ∷ it.to_row y ∷ []) ≡ ([], shown (content y))) → length (filter p (it.rows t)) ≤ 1 → AnswersJust g sql params db (map shown (filter p (it.rows t)))
     finds says shows few =
-        answers_just g it.table.tree conditions columns [] says.names sql params store_schema (is_query says) (plain_query_text says) (unlisted_query says) db has.schema _ whole
+        answers_just g says.names sql params store_schema (is_query says) (plain_query_text says) (unlisted_query says) db has.schema _ whole
       where
         whole : (rows : List Row) → Answers db (plain_program it.table.tree conditions columns []) params rows → rows ≡ map shown (filter p (it.rows t))
         whole rows answer =

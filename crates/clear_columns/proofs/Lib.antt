@@ -4,9 +4,11 @@ pub mod FromLemmas
 pub mod HeldLemmas
 pub mod KeyLemmas
 pub mod KeyedTable
+pub mod LastLemmas
 pub mod ListLemmas
 pub mod NumberedTable
 pub mod OrderLemmas
+pub mod RangeLemmas
 pub mod ReadingLemmas
 pub mod Says
 pub mod StoredLemmas

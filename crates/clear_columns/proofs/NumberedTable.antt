@@ -150,7 +150,7 @@ module _ {X : Type 0} (it : NumberedTable X) where
     -- the rows that pass, in the order of their numbers
     pub lists : SaysQuery sql (plain_program it.table.tree conditions columns by_number) → ((x : X) → output (plain_query it.table.tree conditions columns by_number) (params ∷ it.to_row x ∷ []) ≡ (Int (no x) ∷ [], shown x)) → AnswersJust g sql params db (map shown (filter p (it.rows t)))
     lists says shows =
-        answers_just g it.table.tree conditions columns by_number says.names sql params store_schema (is_query says) (plain_query_text says) (unlisted_query says) db has.schema _
+        answers_just g says.names sql params store_schema (is_query says) (plain_query_text says) (unlisted_query says) db has.schema _
         (λ rows answer. in_order it.table.tree conditions columns by_number params it.to_row (λ x. x) p tests (λ x. (Int (no x) ∷ [], shown x)) shows db.schema db.trees (it.rows t) (it.has t db has).is rows answer
         (λ a b. int_cmp (no a) (no b)) (λ a b h. ap (λ o. ordering_then o Equal) (value_cmp-Int (no a) (no b) ∙ h)) (it.rows t) (IsPermutation-same _ _ (map-id (it.rows t)))
         (ascending_weaker _ _ (λ a b. Less-from_lt (no a) (no b)) (it.rows t) (it.has t db has).keyed))
@@ -158,7 +158,7 @@ module _ {X : Type 0} (it : NumberedTable X) where
     -- the one row that passes
     pub finds : SaysQuery sql (plain_program it.table.tree conditions columns []) → ((x : X) → output (plain_query it.table.tree conditions columns []) (params ∷ it.to_row x ∷ []) ≡ ([], shown x)) → length (filter p (it.rows t)) ≤ 1 → AnswersJust g sql params db (map shown (filter p (it.rows t)))
     finds says shows few =
-        answers_just g it.table.tree conditions columns [] says.names sql params store_schema (is_query says) (plain_query_text says) (unlisted_query says) db has.schema _ whole
+        answers_just g says.names sql params store_schema (is_query says) (plain_query_text says) (unlisted_query says) db has.schema _ whole
       where
         whole : (rows : List Row) → Answers db (plain_program it.table.tree conditions columns []) params rows → rows ≡ map shown (filter p (it.rows t))
         whole rows answer =

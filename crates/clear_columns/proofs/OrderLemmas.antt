@@ -121,5 +121,5 @@ module _ {X : Type 0} (it : KeyedTable X) (k : UniqueKey X) (listed : Has it.key
       let once : AreOnce k.of rows = once_left k.of p (it.rows t) (stands_once t db has) in
       let same = IsPermutation-trans _ _ _ (IsPermutation-filter p _ _ kept.same) (put_in_order k.of rows) in
       let up = rising_if_in_order k.of (in_key_order k.of rows) (AreInOrder-in_key_order k.of rows once) in
-      answers_just g it.table.tree conditions columns order says.names sql params store_schema (is_query says) (plain_query_text says) (unlisted_query says) db has.schema _
+      answers_just g says.names sql params store_schema (is_query says) (plain_query_text says) (unlisted_query says) db has.schema _
       (λ rows answer. in_this_order it.table.tree conditions columns order params it.to_row content p tests (λ x. (sorted x, shown x)) shows db.schema db.trees kept.numbered kept.stored.is rows answer (by_key k.of) rises _ same up)

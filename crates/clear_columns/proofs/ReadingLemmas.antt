@@ -11,17 +11,16 @@ use Rattle.sqlite.specs.Given.{HasBegun, HasGiven, IsRefused}
 use Rattle.sqlite.specs.Held.{Held, state}
 use Rattle.sqlite.specs.Listing.{understood, reads_listing}
 use Rattle.sqlite.specs.Order.{Row}
+use Rattle.sqlite.specs.Query.{Query}
 use Rattle.sqlite.specs.Schema.{Schema}
 use Rattle.sqlite.specs.State.{CommitsShowing, FailsToQuery, HasCleanDisk, IsUnchanged, Shown, ShowsRows, State, Survives}
 use Rattle.sqlite.specs.Store.{Ghosts}
-use Rattle.sqlite.specs.Term.{Term}
 use Rattle.sqlite.specs.Tree.{Trees}
 use Rattle.sqlite.specs.declared.error.Error.{Error}
 use Rattle.sqlite_schema.specs.declared.command.Returning.{Returning}
-use Rattle.sqlite_value.specs.declared.keys.Key.{Key}
 use Rattle.clear_rows.proofs.Inside.{query_keeps}
 use Rattle.clear_rows.proofs.Refused.{query_never}
-use Rattle.clear_rows.specs.Plain.{plain_program}
+use Rattle.sqlite_schema.specs.declared.program.Program.{Program}
 use Rattle.clear_values.specs.declared.causes.StoreCause.TheVariants.{Constraint}
 use Rattle.clear_schema.proofs.Causes.{query_broke}
 use Rattle.clear_schema.specs.Faults.{fault_of}
@@ -70,16 +69,19 @@ left g sql params old new (Err e) refused = record {
   survives = λ plain. commits_nothing sql params (state g old) (state g new) plain refused.survives;
 }
 
--- a query over one table answers what its program does
-pub answers_just : {S : Type 0} (g : Ghosts S) (place : ℕ) (conditions columns : List Term) (order : List (Term × Key)) (names : List (List ℕ)) (sql : List ℕ) (params : Row) (schema : Schema)
-    → command_of (understood schema sql) ≡ Select (plain_program place conditions columns order) names → IsPlain (understood schema sql) → reads_listing schema sql ≡ false
-    → (db : Database) → db.schema ≡ schema → (rows : List Row) → ((answer : List Row) → Answers db (plain_program place conditions columns order) params answer → answer ≡ rows) → AnswersJust g sql params db rows
-answers_just g place conditions columns order names sql params schema is plain unlisted db has rows whole = record {
+-- a query, as all that a text says
+abbrev alone : Query → Program
+alone query = record { lets = []; body = query }
+
+-- a query answers what its program does
+pub answers_just : {S : Type 0} (g : Ghosts S) {query : Query} (names : List (List ℕ)) (sql : List ℕ) (params : Row) (schema : Schema) → command_of (understood schema sql) ≡ Select (alone query) names → IsPlain (understood schema sql) → reads_listing schema sql ≡ false
+    → (db : Database) → db.schema ≡ schema → (rows : List Row) → ((answer : List Row) → Answers db (alone query) params answer → answer ≡ rows) → AnswersJust g sql params db rows
+answers_just g {query} names sql params schema is plain unlisted db has rows whole = record {
   plain = subst (λ s. IsPlain (understood s sql)) (sym has) plain;
-  whole = λ old new answer here shown. whole answer (subst (λ (d : Database). Reads (Select (plain_program place conditions columns order) names) d params answer) here (reads_as sql params (state g old) (state g new) schema (ap (λ (d : Database). d.schema) here ∙ has) _ is plain unlisted answer shown));
+  whole = λ old new answer here shown. whole answer (subst (λ (d : Database). Reads (Select (alone query) names) d params answer) here (reads_as sql params (state g old) (state g new) schema (ap (λ (d : Database). d.schema) here ∙ has) _ is plain unlisted answer shown));
   start = λ old first here begun.
       let it = begins_as sql params (state g old) (state g old) schema (ap (λ (d : Database). d.schema) here ∙ has) _ is plain unlisted first begun in
-      (it.1.0, whole (first ++ it.1.0) (subst (λ (d : Database). Answers d (plain_program place conditions columns order) params (first ++ it.1.0)) here (record { typed = it.0; answer = it.1.1 })));
+      (it.1.0, whole (first ++ it.1.0) (subst (λ (d : Database). Answers d (alone query) params (first ++ it.1.0)) here (record { typed = it.0; answer = it.1.1 })));
 }
 
 module _ {X : Type 0} (show : X → Row) where

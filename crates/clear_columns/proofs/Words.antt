@@ -4,7 +4,7 @@ pub use Rattle.clear_values.specs.declared.lines.Purpose.TheVariants.{Contributi
 pub use Rattle.clear_values.specs.Credits.{credit_key}
 pub use Rattle.clear_values.specs.Keyed.{find_row, is_key, with_row}
 pub use Rattle.clear_values.specs.Credits.{is_credit_of, is_in_suspense}
-pub use Rattle.clear_values.specs.Tables.{RequestRow, Tables, bank_key, employer_key, is_wage_key_of, list_key, report_key, wage_key}
+pub use Rattle.clear_values.specs.Tables.{RequestRow, Tables, bank_key, employer_key, is_wage_key_of, list_key, report_key, run_key, wage_key}
 pub use Rattle.clear_values.specs.declared.rows.BankRow.{BankRow}
 pub use Rattle.clear_values.specs.declared.rows.ClaimRow.{ClaimRow}
 pub use Rattle.clear_values.specs.declared.rows.ClaimState.{ClaimState}
@@ -13,7 +13,9 @@ pub use Rattle.clear_values.specs.declared.rows.CreditRow.{CreditRow}
 pub use Rattle.clear_values.specs.declared.rows.EmployerRow.{EmployerRow}
 pub use Rattle.clear_values.specs.declared.rows.ListRow.{ListRow}
 pub use Rattle.clear_values.specs.declared.rows.ReleasedClaim.{ReleasedClaim}
+pub use Rattle.clear_values.specs.declared.rows.ReminderRow.{ReminderRow}
 pub use Rattle.clear_values.specs.declared.rows.ReportRow.{ReportRow}
+pub use Rattle.clear_values.specs.declared.rows.RunRow.{RunRow}
 pub use Rattle.clear_values.specs.declared.rows.WageRow.{WageRow}
 pub use Rattle.clear_columns.proofs.KeyLemmas.{by_key_total, first_found, is_key_is, key_is, turned, turned_nat}
 pub use Rattle.clear_columns.proofs.ListLemmas.{all_pass, each_fails, none_replaced, one_passes}
@@ -28,16 +30,16 @@ pub use Rattle.clear_rows.proofs.Refused.{apart_if, held_if_refused, insert_viol
 pub use Rattle.clear_rows.proofs.Statements.{inserted, updated}
 pub use Rattle.clear_rows.specs.Edited.{IsEdited}
 pub use Rattle.clear_rows.specs.Kept.{IsNumbered}
-pub use Rattle.clear_rows.specs.Plain.{passes as meets, plain_program, plain_query}
+pub use Rattle.clear_rows.specs.Plain.{first_program, passes as meets, plain_program, plain_query}
 pub use Rattle.clear_schema.proofs.Causes.{refer_to_none, sound_by_schema}
 pub use Rattle.clear_schema.proofs.Changes.{Others}
 pub use Rattle.clear_schema.proofs.FrameLemmas.{writes}
 pub use Rattle.clear_schema.proofs.ValueLemmas.{cast_int, cast_null, equal_ints, equal_texts}
 pub use Rattle.clear_schema.specs.Frame.{AnswersJust, Runs, Writes}
-pub use Rattle.clear_schema.specs.Held.{HasTables, by_key, request_key}
+pub use Rattle.clear_schema.specs.Held.{HasTables, by_key, reminder_key, request_key}
 pub use Rattle.clear_schema.specs.Runs.{IsBroken, IsDone}
-pub use Rattle.clear_schema.specs.Schema.{bank_table, claims_table, credits_table, requests_table, store_schema, employers_table, lists_table, meta_table, rates_table, reports_table, wages_table, all_indexes, all_tables}
-pub use Rattle.clear_schema.specs.Values.{bank_values, caller_number, claim_values, credit_values, maybe, number, purpose, request_values, employer_values, list_values, meta_values, month, month_number, rate_values, report_values, wage_values}
+pub use Rattle.clear_schema.specs.Schema.{bank_table, claims_table, credits_table, requests_table, store_schema, employers_table, lists_table, meta_table, rates_table, reminders_table, reports_table, runs_table, wages_table, all_indexes, all_tables}
+pub use Rattle.clear_schema.specs.Values.{bank_values, caller_number, claim_values, credit_values, maybe, maybe_month, number, purpose, request_values, employer_values, list_values, meta_values, month, month_number, rate_values, reminder_values, report_values, run_values, wage_values}
 pub use Rattle.clear_schema.specs.declared.fault.Fault.{Fault}
 pub use Rattle.sqlite.specs.Cast.{cast_row}
 pub use Rattle.sqlite.specs.Collation.TheVariants.{Binary}

@@ -3,7 +3,7 @@ ghost use Rattle.std.specs.Prelude.{◌≡◌, ◌≢◌, ◌<◌, ◌≤◌, �
 ghost use Rattle.std.specs.Prelude.{IsTrue, IfOk, IfErr, IfSome, IsSome};
 ghost use Rattle.sqlite_value.specs.Order.{column};
 ghost use Rattle.sqlite_value.specs.declared.value.Value.TheVariants.{Blob, Text};
-ghost use Rattle.clear_money.specs.Calendar.{IsDay, IsMonth};
+ghost use Rattle.clear_money.specs.Calendar.{IsDay, IsMonth, months};
 ghost use Rattle.clear_money.specs.Numbers.{IsAmount, IsEmployerNo, IsWorkerNo};
 ghost use Rattle.clear_money.specs.Rates.{IsDayOfEachMonth};
 ghost use Rattle.clear_values.specs.Texts.{is_note, is_reference};
@@ -15,7 +15,9 @@ ghost use Rattle.clear_values.specs.Texts.{IsCreditReference, IsName};
 ghost use Rattle.clear_schema.specs.Values as stored;
 ghost use Rattle.clear_columns.specs.Columns.{ReadsColumn};
 
-use crate::ranges::{is_entry_count, is_gross, is_list_no, is_serial, is_serial_count, is_version};
+use crate::ranges::{
+    is_entry_count, is_gross, is_list_no, is_month_count, is_serial, is_serial_count, is_version,
+};
 use clear_money::days::Day;
 use clear_money::months::Month;
 use clear_money::numbers::{Amount, EmployerNo, WorkerNo};
@@ -273,6 +275,31 @@ pub fn maybe_list_at(row: &Row, at: usize) -> Result<Option<u32>, Fault>
         }
         None => Ok(None),
     }
+}
+
+/// The level of a reminder in a column, 1 to 3.
+pub fn level_at(row: &Row, at: usize) -> Result<u8, Fault>
+    ensures reads { ReadsColumn row.now at result stored.number (λ l. (1 ≤ l) × (l ≤ 3)) }
+{
+    let number: u64 = value_at(row, at)?;
+    if number < 1 || number > 3 {
+        return Err(Fault::Store(StoreCause::Row));
+    }
+    Ok(number as u8)
+}
+
+/// How many months, in a column, at most 2,400.
+pub fn month_count_at(row: &Row, at: usize) -> Result<u32, Fault>
+    ensures reads { ReadsColumn row.now at result stored.number (λ n. n ≤ length months) }
+{
+    let count: u32 = match value_at(row, at) {
+        Ok(count) => count,
+        Err(fault) => return Err(fault),
+    };
+    if !is_month_count(count) {
+        return Err(Fault::Store(StoreCause::Row));
+    }
+    Ok(count)
 }
 
 /// A number of 32 bits in a column.

@@ -11,7 +11,7 @@ use clear_money::numbers::{Amount, EmployerNo, WorkerNo};
 use clear_schema::values::{month, number, text};
 use clear_values::callers::Caller;
 use clear_values::lines::Purpose;
-use clear_values::numbers::{ClaimNo, ListNo, RequestNo};
+use clear_values::numbers::{ClaimNo, ListNo, RequestNo, RunNo};
 use sqlite_value::value::ValueRef;
 
 /// The number of a firm.
@@ -121,6 +121,13 @@ pub fn maybe_list(value: Option<u32>) -> ValueRef<'static>
         Some(list) => number(u64::from(list)),
         None => ValueRef::Null,
     }
+}
+
+/// The number of a reminder run.
+pub fn run_no(value: RunNo) -> ValueRef<'static>
+    ensures { bound_value (owned result) ≡ stored.number value }
+{
+    number(u64::from(value.number()))
 }
 
 /// Bytes.

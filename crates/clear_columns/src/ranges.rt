@@ -1,14 +1,25 @@
 //! Whether plain numbers of a row lie in their ranges.
-ghost use Rattle.std.specs.Prelude.{◌≡◌, ◌≤◌, ◌↔◌, true};
-ghost use Rattle.clear_values.specs.Limits.{most_claimed, most_entries, most_gross};
+ghost use Rattle.std.specs.Prelude.{◌≡◌, ◌≤◌, ◌↔◌, length, true};
+ghost use Rattle.clear_money.specs.Calendar.{months};
+ghost use Rattle.clear_values.specs.Limits.{most_charged, most_claimed, most_employers};
+ghost use Rattle.clear_values.specs.Limits.{most_entries, most_gross, most_interest};
 ghost use Rattle.clear_values.specs.Limits.{most_serials, most_versions};
-ghost use Rattle.clear_values.specs.Numbers.{IsListNo};
+ghost use Rattle.clear_values.specs.Numbers.{IsListNo, IsRunNo};
 ghost use Rattle.clear_values.specs.RowRanges.{IsSerial};
 
-use clear_values::limits::{MAX_ENTRIES, MAX_GROSS, MAX_SERIALS, MAX_VERSIONS};
+use clear_values::limits::{MAX_EMPLOYERS, MAX_ENTRIES, MAX_GROSS, MAX_SERIALS, MAX_VERSIONS};
 
 // All claims, in cents: 50,000,000 claims of 100,000,000,000 cents.
 const MAX_CLAIMED: u64 = 5_000_000_000_000_000_000;
+
+// The months from 2000-01 to 2199-12.
+const MAX_MONTHS: u32 = 2_400;
+
+// All contributions of a firm, in cents: those months of the greatest base.
+const MAX_CHARGED: u64 = 12_000_000_000_000;
+
+// All interest of a firm, in cents: 10 percent of these for each of 2,412 begun months.
+const MAX_INTEREST: u64 = 2_894_400_000_000_000;
 
 /// Whether a report can have this version, 1 to 10,000.
 pub fn is_version(number: u32) -> bool
@@ -36,6 +47,41 @@ pub fn is_list_no(number: u32) -> bool
     ensures { (result ≡ true) ↔ IsListNo number }
 {
     number >= 1 && u64::from(number) <= MAX_ENTRIES
+}
+
+/// Whether a reminder run can have this number, 1 to 50,000,000.
+pub fn is_run_no(number: u32) -> bool
+    ensures { (result ≡ true) ↔ IsRunNo number }
+{
+    number >= 1 && u64::from(number) <= MAX_ENTRIES
+}
+
+/// Whether there can be so many firms, at most 10,000.
+pub fn is_firm_count(number: u64) -> bool
+    ensures { (result ≡ true) ↔ (number ≤ most_employers) }
+{
+    number <= MAX_EMPLOYERS
+}
+
+/// Whether there are so many months, at most 2,400.
+pub fn is_month_count(number: u32) -> bool
+    ensures { (result ≡ true) ↔ (number ≤ length months) }
+{
+    number <= MAX_MONTHS
+}
+
+/// Whether the contributions of a firm can come to this, at most 12,000,000,000,000 cents.
+pub fn is_charged(cents: u64) -> bool
+    ensures { (result ≡ true) ↔ (cents ≤ most_charged) }
+{
+    cents <= MAX_CHARGED
+}
+
+/// Whether the interest of a firm can come to this, at most 2,894,400,000,000,000 cents.
+pub fn is_interest(cents: u64) -> bool
+    ensures { (result ≡ true) ↔ (cents ≤ most_interest) }
+{
+    cents <= MAX_INTEREST
 }
 
 /// Whether so many requests may have been accepted, at most 50,000,000.

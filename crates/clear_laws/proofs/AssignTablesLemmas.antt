@@ -10,6 +10,7 @@ use Rattle.clear_values.specs.declared.rows.Change.TheVariants.{AssignLine}
 use Rattle.clear_values.specs.declared.rows.ClaimRow.{ClaimRow}
 use Rattle.clear_values.specs.declared.rows.CreditRow.{CreditRow}
 use Rattle.clear_values.specs.declared.rows.ListRow.{ListRow}
+use Rattle.clear_values.specs.declared.rows.RunRow.{RunRow}
 use Rattle.clear_values.specs.Keyed.{is_key, find_row, put_row, with_rows, AreOnce}
 use Rattle.clear_values.proofs.KeyedChangesLemmas.{find_row-put_row, AreInOrder-put_row}
 use Rattle.clear_values.proofs.KeyedLemmas.{found_key, is_key-refl, is_key-sym, is_key-true}
@@ -31,6 +32,7 @@ use Rattle.clear_laws.proofs.ImportTablesLemmas.{grown, still_new}
 use Rattle.clear_laws.proofs.JudgeLemmas.{unrefused}
 use Rattle.clear_laws.proofs.LinesLemmas.{none_taken}
 use Rattle.clear_laws.proofs.ListNumbersLemmas.{lists_left}
+use Rattle.clear_laws.proofs.RemindersLemmas.{reminders_left, runs_left}
 use Rattle.clear_laws.proofs.RequestLemmas.{requests_found, requests_still_in_order}
 use Rattle.clear_laws.proofs.VersionLemmas.{version_of-other}
 
@@ -138,8 +140,10 @@ module _ (b : Book) (t : Tables) (stands : Stands b t) (caller : Caller) (number
     last_claim = stands.last_claim ∙ sym (ap (λ (claims : List ClaimRow). length claims) (claims_left b.entries assignment (record { kept = λ claim. refl; none = λ last. refl })));
     lists = stands.lists ∙ sym (lists_left b.entries assignment refl);
     last_list = stands.last_list ∙ sym (ap (λ (lists : List ListRow). length lists) (lists_left b.entries assignment refl));
+    runs = stands.runs ∙ sym (runs_left b.entries assignment refl);
+    last_run = stands.last_run ∙ sym (ap (λ (runs : List RunRow). length runs) (runs_left b.entries assignment refl));
+    reminders = stands.reminders ∙ sym (reminders_left b assignment refl);
     serial = stands.serial ∙ sym (none_taken b.entries assignment refl refl);
-    unfilled = let unfilled = stands.unfilled in record { runs = unfilled.runs; reminders = unfilled.reminders; last_run = unfilled.last_run };
   }
 
   pub Stands-assigned : (line : BankRow) → line_of b.entries a.reference ≡ Some line → Stands (step b (Do caller number day (Assign a))) (noted assignment (changed (AssignLine (given a line)) t))

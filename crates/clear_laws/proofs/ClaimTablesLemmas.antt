@@ -1,5 +1,5 @@
 -- The tables of a book, after a claim, a withdrawal or a release more.
-use Rattle.std.proofs.Common.{◌≡◌, ℕ, ◌+◌, ◌<◌, ◌≤◌, List, [], ◌∷◌, ◌++◌, length, map, Option, Some, None, Bool, true, false, cond, ◌&&◌, ◌==◌, refl, sym, ap, ◌∙◌, subst, arith}
+use Rattle.std.proofs.Common.{◌≡◌, ℕ, ◌+◌, List, [], ◌∷◌, ◌++◌, length, map, Option, Some, None, Bool, true, false, cond, ◌&&◌, ◌==◌, refl, sym, ap, ◌∙◌, subst, arith}
 use Rattle.std.proofs.lemmas.List.{append-nil, length-map, map-id}
 use Rattle.std.specs.Option.{option_map_or}
 use Rattle.clear_values.specs.declared.callers.Caller.{Caller}
@@ -11,35 +11,37 @@ use Rattle.clear_values.specs.declared.rows.Change.TheVariants.{AddClaim, Withdr
 use Rattle.clear_values.specs.declared.rows.ClaimRow.{ClaimRow}
 use Rattle.clear_values.specs.declared.rows.CreditRow.{CreditRow}
 use Rattle.clear_values.specs.declared.rows.ListRow.{ListRow}
-use Rattle.clear_values.specs.Keyed.{is_key, is_before, find_row, with_row, with_rows, put_row, AreInOrder, AreOnce}
+use Rattle.clear_values.specs.declared.rows.RunRow.{RunRow}
+use Rattle.clear_values.specs.Keyed.{is_key, find_row, with_row, with_rows, put_row, AreInOrder, AreOnce}
 use Rattle.clear_book.specs.declared.calls.Call.TheVariants.{Do}
 use Rattle.clear_book.specs.declared.calls.Command.TheVariants.{Claim, Withdraw, Release}
 use Rattle.clear_book.specs.declared.calls.HolidayClaim.{HolidayClaim}
 use Rattle.clear_book.specs.declared.calls.Withdrawal.{Withdrawal}
 use Rattle.clear_book.specs.Accounts.{credit_key}
 use Rattle.clear_book.specs.Book.{Book, Entry, Member, entry, entry_under, member_after, is_registration, report_in, rates_added}
+use Rattle.clear_book.specs.Calls.{is_remind_run}
 use Rattle.clear_book.specs.Judge.{Verdict, new_reply, judge}
 use Rattle.clear_book.specs.Lines.{lines_seen, lines_standing, moved_by, rows_by, serial_count, set_offs, set_offs_by, set_offs_of, credits_made, credits_of_lines}
 use Rattle.clear_book.specs.Machine.{step, after, appended}
 use Rattle.clear_book.specs.Tables.{Tables, Stands, claim_key, changed, noted}
 use Rattle.clear_book.specs.Workers.{new_claim, withdrawn, released, is_claim, claims_of, claim_of, lists_by, lists_of}
-use Rattle.clear_values.proofs.KeyedLemmas.{first_less, found_key, is_key-refl, length-with_row}
-use Rattle.clear_values.proofs.KeyedMapLemmas.{with_row-last, find_row-between, put_row-map}
+use Rattle.clear_values.proofs.KeyedLemmas.{found_key, is_key-refl, length-with_row}
+use Rattle.clear_values.proofs.KeyedMapLemmas.{find_row-between, put_row-map}
 use Rattle.clear_values.proofs.KeyedRowsLemmas.{AreNew, AreInOrder-with_rows}
-use Rattle.clear_values.proofs.ListLemmas.{each}
 use Rattle.clear_laws.proofs.CreditsMadeLemmas.{set_offs_new}
 use Rattle.clear_laws.proofs.ImportTablesLemmas.{grown, still_new}
 use Rattle.clear_laws.proofs.JudgeLemmas.{unrefused}
 use Rattle.clear_laws.proofs.LinesLemmas.{none_moved, none_taken, serial_count-next}
 use Rattle.clear_laws.proofs.ListNumbersLemmas.{lists_left}
+use Rattle.clear_laws.proofs.RemindersLemmas.{reminders_left, runs_left}
 use Rattle.clear_laws.proofs.RequestLemmas.{requests_found, requests_still_in_order}
-use Rattle.clear_laws.proofs.SerialLemmas.{follow-between}
+use Rattle.clear_laws.proofs.SerialLemmas.{follow-last}
 use Rattle.clear_laws.proofs.TablesLemmas.{bank_left, credits_left, employer_rows_left, employers_left, rates_left, reports_left, wages_left}
 use Rattle.clear_laws.proofs.ClaimsLemmas.{claims_numbered}
 
 -- ---- a command that changes claims alone
 
--- an entry whose command changes no employer, reports nothing, brings and moves no lines, and adds no rates
+-- an entry whose command changes no employer, reports nothing, brings and moves no lines, adds no rates, and makes no run
 pub record IsOfClaims (xs : List Entry) (x : Entry) : Type 0 where
   pub no_member : (e : ℕ) (old : Option Member) → member_after old x.command e ≡ old
   pub no_registration : is_registration x.command ≡ false
@@ -47,6 +49,7 @@ pub record IsOfClaims (xs : List Entry) (x : Entry) : Type 0 where
   pub no_move : (rows : List BankRow) → moved_by x.command rows ≡ rows
   pub no_rows : rows_by xs (lines_seen xs) x.command ≡ []
   pub no_rates : rates_added x.command ≡ []
+  pub no_run : is_remind_run x.command ≡ false
 
 module _ (b : Book) (t : Tables) (stands : Stands b t) (x : Entry) (of_claims : IsOfClaims b.entries x) (free : entry_under b.entries x.caller x.number ≡ None) where
   -- tables with the claims, the lists and the credits of the next book, and else as they were
@@ -75,8 +78,10 @@ module _ (b : Book) (t : Tables) (stands : Stands b t) (x : Entry) (of_claims : 
     last_claim = last_is;
     lists = lists_are;
     last_list = last_list_is;
+    runs = stands.runs ∙ sym (runs_left b.entries x of_claims.no_run);
+    last_run = stands.last_run ∙ sym (ap (λ (runs : List RunRow). length runs) (runs_left b.entries x of_claims.no_run));
+    reminders = stands.reminders ∙ sym (reminders_left b x of_claims.no_run);
     serial = serial_is;
-    unfilled = let unfilled = stands.unfilled in record { runs = unfilled.runs; reminders = unfilled.reminders; last_run = unfilled.last_run };
   }
 
   -- where the command makes no list, the lists stay
@@ -92,11 +97,7 @@ module _ (b : Book) (t : Tables) (stands : Stands b t) (x : Entry) (of_claims : 
 -- a new claim comes behind those of a book
 claim_last : (xs : List Entry) (claim : ClaimRow) → claim.claim ≡ length (claims_of xs) + 1 → with_row claim_key (claims_of xs) claim ≡ claims_of xs ++ claim ∷ []
 claim_last xs claim is =
-    let n = length (claims_of xs) in
-    with_row-last claim_key (claims_of xs) claim
-    (each (λ (row : ClaimRow). (0 < row.claim) × (row.claim ≤ n)) (λ row. is_before (claim_key row) (claim_key claim) ≡ true)
-    (λ row h. let high = h.1 in first_less row.claim claim.claim [] [] (omega (arith, high, is))) (claims_of xs)
-    (follow-between (λ (row : ClaimRow). row.claim) 0 n 1 n (claims_of xs) (omega arith) (omega arith) (claims_numbered xs).numbers))
+    follow-last (λ (row : ClaimRow). row.claim) (length (claims_of xs)) (claims_of xs) claim (claims_numbered xs).numbers is
 
 -- a claim has a number as its key is that of the number
 pub is_claim-key : (number : ℕ) (row : ClaimRow) → is_claim number row ≡ is_key (claim_key row) (number ∷ [])
@@ -149,7 +150,7 @@ module _ (b : Book) (t : Tables) (stands : Stands b t) (caller : Caller) (number
       let many : t.last_claim + 1 ≡ length (claims_of (x ∷ b.entries)) =
       (let old : length t.claims ≡ length (claims_of b.entries) = ap (λ (rows : List ClaimRow). length rows) stands.claims in omega (arith, stands.last_claim, old, length-with_row claim_key t.claims new))
       ∙ ap (λ (rows : List ClaimRow). length rows) claims in
-      let there = with_lists_left b t stands x (record { no_member = λ e old. refl; no_registration = refl; no_report = refl; no_move = λ rows. refl; no_rows = refl; no_rates = refl }) (unrefused b caller number day (Claim c) reply judged).free refl
+      let there = with_lists_left b t stands x (record { no_member = λ e old. refl; no_registration = refl; no_report = refl; no_move = λ rows. refl; no_rows = refl; no_rates = refl; no_run = refl }) (unrefused b caller number day (Claim c) reply judged).free refl
       (with_row claim_key t.claims new) (t.last_claim + 1) t.credits t.serial claims many (credits_left b t stands x (λ rows. refl) refl refl) stands.credits_in_order (stands.serial ∙ sym (none_taken b.entries x refl refl)) in
       subst (λ (p : Verdict × ℕ). Stands (after b (Do caller number day (Claim c)) p.0) (noted x (changed (AddClaim (new_claim p.1 day c)) t))) (λ i. (sym judged i, sym is i)) there
 
@@ -160,7 +161,7 @@ module _ (b : Book) (t : Tables) (stands : Stands b t) (caller : Caller) (number
       let claims : put_row claim_key t.claims (withdrawn row) ≡ claims_of (x ∷ b.entries) =
       ap (λ (rows : List ClaimRow). put_row claim_key rows (withdrawn row)) stands.claims
       ∙ one_turned b.entries w.claim row found withdrawn (λ claim. refl) in
-      let there = with_lists_left b t stands x (record { no_member = λ e old. refl; no_registration = refl; no_report = refl; no_move = λ rows. refl; no_rows = refl; no_rates = refl }) (unrefused b caller number day (Withdraw w) reply judged).free refl
+      let there = with_lists_left b t stands x (record { no_member = λ e old. refl; no_registration = refl; no_report = refl; no_move = λ rows. refl; no_rows = refl; no_rates = refl; no_run = refl }) (unrefused b caller number day (Withdraw w) reply judged).free refl
       (put_row claim_key t.claims (withdrawn row)) t.last_claim t.credits t.serial claims (stands.last_claim ∙ as_many b.entries w.claim row found withdrawn (λ claim. refl)) (credits_left b t stands x (λ rows. refl) refl refl) stands.credits_in_order
       (stands.serial ∙ sym (none_taken b.entries x refl refl)) in
       subst (λ (p : Verdict). Stands (after b (Do caller number day (Withdraw w)) p) (noted x (changed (WithdrawClaim (withdrawn row)) t))) (sym judged) there
@@ -193,7 +194,7 @@ module _ (b : Book) (t : Tables) (stands : Stands b t) (caller : Caller) (number
 
     released_tables : entry_under b.entries caller number ≡ None → Stands (appended b release) (noted release (changed (ReleaseClaim (released day settlement row) (serial_count b.entries + 1)) t))
     released_tables free =
-        with_lists_left b t stands release (record { no_member = λ e old. refl; no_registration = refl; no_report = refl; no_move = λ rows. refl; no_rows = refl; no_rates = refl }) free refl
+        with_lists_left b t stands release (record { no_member = λ e old. refl; no_registration = refl; no_report = refl; no_move = λ rows. refl; no_rows = refl; no_rates = refl; no_run = refl }) free refl
         (put_row claim_key t.claims (released day settlement row)) t.last_claim (with_rows credit_key t.credits offs) (t.serial + 1) claims_then
         (stands.last_claim ∙ as_many b.entries claim row found (released day settlement) (λ c. refl)) credits_then
         (AreInOrder-with_rows credit_key t.credits offs stands.credits_in_order (still_new credit_key t.credits (credits_made b.entries) offs stands.credits offs_new.1) offs_new.0)

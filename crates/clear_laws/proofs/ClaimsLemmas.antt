@@ -2,7 +2,7 @@
 use Rattle.std.proofs.Common.{◌≡◌, ℕ, ◌+◌, ◌-◌, ◌≤◌, min, List, [], ◌∷◌, ◌++◌, length, map, Option, Some, None, is_some, not, Bool, true, false, cond, ◌==◌, nat_le, refl, sym, ap, ◌∙◌, subst, arith, length-append, ◌*◌, suc, filter, sum_by}
 use Rattle.std.proofs.Math.Nat.{min-le_left}
 use Rattle.std.proofs.lemmas.Bool.Decides.{nat_tests}
-use Rattle.std.proofs.lemmas.List.{append-nil, length-map, map-append}
+use Rattle.std.proofs.lemmas.List.{append-nil, length-map}
 use Rattle.std.proofs.lemmas.List.Sums.{sum_by-cons}
 use Rattle.std.specs.List.{range_with_len, AllByRecursion}
 use Rattle.clear_money.specs.Calendar.{IsDay}
@@ -30,7 +30,7 @@ use Rattle.clear_book.specs.Workers.{balance_of, claim_after, claim_of, claims_b
 use Rattle.clear_laws.proofs.ChecksLemmas.{none_applies, when-none}
 use Rattle.clear_laws.proofs.JudgeLemmas.{unrefused}
 use Rattle.clear_laws.proofs.LimitsLemmas.{accepted}
-use Rattle.clear_laws.proofs.LinesLemmas.{range_with_len-append}
+use Rattle.clear_laws.proofs.LinesLemmas.{follow-append}
 use Rattle.clear_laws.proofs.ListNumbersLemmas.{lists_few}
 use Rattle.clear_laws.proofs.MembersLemmas.{still_registered}
 use Rattle.clear_laws.proofs.SerialLemmas.{follow-in_order}
@@ -99,15 +99,8 @@ next_numbers last t command = refl
 numbers_are : (xs : List Entry) → map claim_no (claims_of xs) ≡ range_with_len 1 (length (claims_of xs))
 numbers_are [] = refl
 numbers_are (x ∷ xs) =
-    joined (map (claim_after x.day x.reply x.command) (claims_of xs)) (claims_by (length (claims_of xs)) x.day x.command) (length (claims_of xs)) (length-map (claims_of xs) (claim_after x.day x.reply x.command))
+    follow-append claim_no (map (claim_after x.day x.reply x.command) (claims_of xs)) (claims_by (length (claims_of xs)) x.day x.command) (length (claims_of xs)) (length-map (claims_of xs) (claim_after x.day x.reply x.command))
     (same_numbers x.day x.reply x.command (claims_of xs) ∙ numbers_are xs) (next_numbers (length (claims_of xs)) x.day x.command)
-  where
-    joined : (old new : List ClaimRow) (n : ℕ) → length old ≡ n → map claim_no old ≡ range_with_len 1 n → map claim_no new ≡ range_with_len (n + 1) (length new) → map claim_no (old ++ new) ≡ range_with_len 1 (length (old ++ new))
-    joined old new n count e k =
-        map-append claim_no old new
-        ∙ (λ i. e i ++ k i)
-        ∙ (let start : n + 1 ≡ 1 + n = omega arith in ap (λ a. range_with_len 1 n ++ range_with_len a (length new)) start)
-        ∙ sym (range_with_len-append 1 n (length new) (length (old ++ new)) (length-append old new ∙ ap (λ m. m + length new) count))
 
 pub claims_numbered : (xs : List Entry) → AreNumbered (claims_of xs)
 claims_numbered xs = record { numbers = numbers_are xs; order = follow-in_order claim_no 1 (length (claims_of xs)) (claims_of xs) (numbers_are xs) }

@@ -53,7 +53,7 @@ module _ (b : Book) (t : Tables) (stands : Stands b t) (caller : Caller) (number
     ended_tables free =
         rest_left b t stands end_entry
         (record { no_report = refl; no_move = λ rows. refl; no_rows = refl; no_release = refl; no_claims = record { kept = λ claim. refl; none = λ last. refl }; no_list = refl })
-        free t.rates employers (rates_left b t stands end_entry refl) members (many ∙ employer_rows_left b t stands end_entry refl)
+        free refl t.rates employers (rates_left b t stands end_entry refl) members (many ∙ employer_rows_left b t stands end_entry refl)
         (AreInOrder-put_row employer_key t.employers ended_row stands.employers_in_order)
 
   pub Stands-ended : judge b (Do caller number day (EndMembership end)) ≡ new_reply reply → (member : Member) → member_of b.entries end.employer ≡ Some member

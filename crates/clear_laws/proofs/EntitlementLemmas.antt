@@ -356,7 +356,7 @@ registers_room b t (Register r) own is =
 registers_room b t command own is = absurd (cc is)
 
 -- so there are at most 10,000 employers
-lawful_employers : (rates : RateTable) (xs : List Entry) → AreJudged rates xs → employer_count xs ≤ 10000
+pub lawful_employers : (rates : RateTable) (xs : List Entry) → AreJudged rates xs → employer_count xs ≤ 10000
 lawful_employers rates [] h = omega arith
 lawful_employers rates (x ∷ xs) h = told (is_registration x.command) refl (lawful_employers rates xs h.0)
   where

@@ -9,9 +9,9 @@ use Rattle.clear_bank.specs.Newness.{Placed}
 use Rattle.clear_book.specs.declared.calls.Call.{Call}
 use Rattle.clear_book.specs.declared.calls.Call.TheVariants.{Do, Ask}
 use Rattle.clear_book.specs.declared.calls.Command.{Command}
-use Rattle.clear_book.specs.declared.calls.Command.TheVariants.{AddRate, Register, EndMembership, Report, Correct, ImportBank, Assign, Claim, Withdraw, Release, PayoutList}
+use Rattle.clear_book.specs.declared.calls.Command.TheVariants.{AddRate, Register, EndMembership, Report, Correct, ImportBank, Assign, Claim, Withdraw, Release, PayoutList, RemindRun}
 use Rattle.clear_book.specs.declared.calls.Query.{Query}
-use Rattle.clear_book.specs.declared.calls.Query.TheVariants.{Owed, Statement, Worker, Suspense, Payout}
+use Rattle.clear_book.specs.declared.calls.Query.TheVariants.{Owed, Statement, Worker, Suspense, Payout, Reminder}
 use Rattle.clear_book.specs.declared.outcomes.Answer.{Answer}
 use Rattle.clear_book.specs.declared.outcomes.Outcome.TheVariants.{Refused}
 use Rattle.clear_values.specs.declared.replies.Reply.{Reply}
@@ -134,6 +134,7 @@ own_other b t (Withdraw w) =
     (when_other _ _ refl, (when_other _ _ refl, (when_other _ _ refl, tt)))
 own_other b t (Release number) = release_other (claim_of b.entries number) (λ row. debts_of b t row.employer)
 own_other b t PayoutList = when_other _ _ refl
+own_other b t RemindRun = when_other _ _ refl
 
 query_other : (b : Book) (query : Query) → IsOther (own_query b query)
 query_other b (Owed employer) = when_other _ _ refl
@@ -141,6 +142,7 @@ query_other b (Statement employer) = when_other _ _ refl
 query_other b (Worker worker) = tt
 query_other b Suspense = tt
 query_other b (Payout list) = when_other _ _ refl
+query_other b (Reminder run) = when_other _ _ refl
 
 back_other : (ledger : Option ℕ) (t : ℕ) → IsOther (day_back ledger t)
 back_other None t = tt

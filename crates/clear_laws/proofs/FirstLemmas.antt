@@ -28,6 +28,8 @@ first_stands rates = record {
   last_claim = refl;
   lists = refl;
   last_list = refl;
+  runs = refl;
+  last_run = refl;
+  reminders = refl;
   serial = refl;
-  unfilled = record { runs = refl; reminders = refl; last_run = refl };
 }

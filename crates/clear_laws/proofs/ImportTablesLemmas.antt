@@ -11,6 +11,7 @@ use Rattle.clear_values.specs.declared.rows.BankRow.{BankRow}
 use Rattle.clear_values.specs.declared.rows.ClaimRow.{ClaimRow}
 use Rattle.clear_values.specs.declared.rows.CreditRow.{CreditRow}
 use Rattle.clear_values.specs.declared.rows.ListRow.{ListRow}
+use Rattle.clear_values.specs.declared.rows.RunRow.{RunRow}
 use Rattle.clear_values.specs.declared.rows.Change.TheVariants.{AddBankLines}
 use Rattle.clear_book.specs.Accounts.{credit_key}
 use Rattle.clear_book.specs.Book.{Book, Entry, rates_of, entry, entry_under, newer, is_registration, latest_lines}
@@ -21,6 +22,7 @@ use Rattle.clear_book.specs.Machine.{step, after, appended}
 use Rattle.clear_book.specs.Tables.{Tables, Stands, bank_key, changed, noted}
 use Rattle.clear_laws.proofs.ClaimsLemmas.{claims_left}
 use Rattle.clear_laws.proofs.JudgeLemmas.{unrefused}
+use Rattle.clear_laws.proofs.RemindersLemmas.{reminders_left, runs_left}
 use Rattle.clear_laws.proofs.RequestLemmas.{requests_found, requests_still_in_order}
 use Rattle.clear_laws.proofs.CreditsMadeLemmas.{credits_new, made_with}
 use Rattle.clear_laws.proofs.LinesLemmas.{references_new, references_new_there, serial_count-next}
@@ -95,8 +97,10 @@ module _ (b : Book) (t : Tables) (stands : Stands b t) (caller : Caller) (number
     last_claim = stands.last_claim ∙ sym (ap (λ (claims : List ClaimRow). length claims) (claims_left b.entries import (record { kept = λ claim. refl; none = λ last. refl })));
     lists = stands.lists ∙ sym (lists_left b.entries import refl);
     last_list = stands.last_list ∙ sym (ap (λ (lists : List ListRow). length lists) (lists_left b.entries import refl));
+    runs = stands.runs ∙ sym (runs_left b.entries import refl);
+    last_run = stands.last_run ∙ sym (ap (λ (runs : List RunRow). length runs) (runs_left b.entries import refl));
+    reminders = stands.reminders ∙ sym (reminders_left b import refl);
     serial = let next = serial_count-next b.entries import in omega (arith, stands.serial, next);
-    unfilled = let unfilled = stands.unfilled in record { runs = unfilled.runs; reminders = unfilled.reminders; last_run = unfilled.last_run };
   }
 
   pub Stands-imported : (new : List BankRow) → new ≡ rows → Stands (step b (Do caller number day (ImportBank file))) (noted import (changed (AddBankLines new) t))

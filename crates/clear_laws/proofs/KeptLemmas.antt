@@ -20,7 +20,7 @@ use Rattle.clear_book.specs.declared.calls.Correction.{Correction}
 use Rattle.clear_book.specs.declared.calls.HolidayClaim.{HolidayClaim}
 use Rattle.clear_book.specs.declared.calls.Withdrawal.{Withdrawal}
 use Rattle.clear_book.specs.declared.calls.Command.{Command}
-use Rattle.clear_book.specs.declared.calls.Command.TheVariants.{AddRate, Register, EndMembership, Report, Correct, ImportBank, Assign, Claim, Withdraw, Release, PayoutList}
+use Rattle.clear_book.specs.declared.calls.Command.TheVariants.{AddRate, Register, EndMembership, Report, Correct, ImportBank, Assign, Claim, Withdraw, Release, PayoutList, RemindRun}
 use Rattle.clear_book.specs.Calls.{same_line, same_rate, same_report, same_command, lines_text, numbers_text, rate_numbers, command_bytes}
 use Rattle.clear_book.specs.Calls.{IsWageLine, IsReport, IsCommand}
 use Rattle.clear_laws.proofs.FrontLemmas.{number_front, month_front, same_front, Begins, Lacks}
@@ -143,6 +143,7 @@ same_command-true (Withdraw w) (Withdraw v) h =
     (λ i. Withdraw (record { employer = employer i; claim = claim i }))
 same_command-true (Release m) (Release n) h = ap Release ((Decides-eqb m n).0 h)
 same_command-true PayoutList PayoutList h = refl
+same_command-true RemindRun RemindRun h = refl
 same_command-true c d h = absurd (cc)
 
 pub same_command-refl : (c : Command) → same_command c c ≡ true
@@ -167,6 +168,7 @@ same_command-refl (Withdraw w) =
     joined (w.employer == w.employer) (w.claim == w.claim) ((Decides-eqb w.employer w.employer).1 refl) ((Decides-eqb w.claim w.claim).1 refl)
 same_command-refl (Release n) = (Decides-eqb n n).1 refl
 same_command-refl PayoutList = refl
+same_command-refl RemindRun = refl
 
 pub same_command-is : (c d : Command) → c ≡ d → same_command c d ≡ true
 same_command-is c d e = subst (λ (x : Command). same_command c x ≡ true) e (same_command-refl c)
@@ -358,6 +360,7 @@ bytes_apart (Claim c) (Claim d) hr hs e = ap Claim (claims_apart c d hr hs e)
 bytes_apart (Withdraw w) (Withdraw v) hr hs e = ap Withdraw (withdrawals_apart w v hr hs e)
 bytes_apart (Release m) (Release n) hr hs e = ap Release (releases_apart m n hr hs e)
 bytes_apart PayoutList PayoutList hr hs e = refl
+bytes_apart RemindRun RemindRun hr hs e = refl
 bytes_apart c d hr hs e =
     let no : bytes_eq (first_word (command_bytes c)) (first_word (command_bytes d)) ≡ true = same_test (first_word (command_bytes c)) (first_word (command_bytes d)) (ap first_word e) in
     cc no

@@ -26,7 +26,6 @@ pub mod ListNumbersLemmas
 pub mod ListRangeLemmas
 pub mod ListTablesLemmas
 pub mod ListedLemmas
-pub mod ListsLemmas
 pub mod MembersLemmas
 pub mod OneTableLemmas
 pub mod OtherKeyLemmas
@@ -37,10 +36,15 @@ pub mod RatesStayLemmas
 pub mod ReachedLemmas
 pub mod ReferenceLemmas
 pub mod ReleasedLemmas
+pub mod RemindTablesLemmas
+pub mod RemindedLemmas
+pub mod ReminderRangeLemmas
+pub mod RemindersLemmas
 pub mod RepeatLemmas
 pub mod ReportTablesLemmas
 pub mod RequestLemmas
 pub mod RowRangeLemmas
+pub mod RunRangeLemmas
 pub mod SeenLemmas
 pub mod SerialLemmas
 pub mod SuspenseLemmas

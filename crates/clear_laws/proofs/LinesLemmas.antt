@@ -262,6 +262,16 @@ range_with_len-append a (suc m) n (suc k) e =
     let start : a + 1 + m ≡ a + suc m = omega arith in
     ap (λ ns. a ∷ ns) (range_with_len-append (a + 1) m n k (omega (arith, e)) ∙ ap (λ b. range_with_len (a + 1) m ++ range_with_len b n) start)
 
+-- rows with the next numbers behind rows with the first ones
+pub follow-append : {Row : Type 0} (number : Row → ℕ) (old new : List Row) (n : ℕ) → length old ≡ n → map number old ≡ range_with_len 1 n → map number new ≡ range_with_len (n + 1) (length new)
+    → map number (old ++ new) ≡ range_with_len 1 (length (old ++ new))
+follow-append number old new n count first next =
+    let start : n + 1 ≡ 1 + n = omega arith in
+    map-append number old new
+    ∙ (λ i. first i ++ next i)
+    ∙ ap (λ a. range_with_len 1 n ++ range_with_len a (length new)) start
+    ∙ sym (range_with_len-append 1 n (length new) (length (old ++ new)) (length-append old new ∙ ap (λ m. m + length new) count))
+
 -- those of the lines that a command brings follow on the last one
 row_serials : (xs : List Entry) (command : Command) → map (λ (row : BankRow). row.serial) (rows_by xs (lines_seen xs) command) ≡ range_with_len (serial_count xs + 1) (length (rows_by xs (lines_seen xs) command))
 row_serials xs (ImportBank file) =

@@ -1,7 +1,7 @@
 -- The payout lists of a book: which commands make none, and the numbers of those of a lawful book.
-use Rattle.std.proofs.Common.{◌≡◌, ℕ, zero, suc, ◌+◌, ◌≤◌, ◌<◌, List, [], ◌∷◌, ◌++◌, length, map, Some, IsSome, Bool, true, false, cond, ap, ◌∙◌, sym, refl, subst, arith, length-append}
+use Rattle.std.proofs.Common.{◌≡◌, ℕ, zero, suc, ◌+◌, ◌≤◌, ◌<◌, List, [], ◌∷◌, ◌++◌, length, map, Some, IsSome, Bool, true, false, cond, ap, ◌∙◌, refl, subst, arith, length-append}
 use Rattle.std.proofs.lemmas.Bool.Decides.{nat_tests}
-use Rattle.std.proofs.lemmas.List.{append-nil, map-append}
+use Rattle.std.proofs.lemmas.List.{append-nil}
 use Rattle.std.specs.List.{range_with_len, AllByRecursion}
 use Rattle.clear_values.specs.declared.replies.Reply.{Reply}
 use Rattle.clear_values.specs.declared.replies.Reply.TheVariants.{Listed}
@@ -16,7 +16,7 @@ use Rattle.clear_book.specs.Tables.{list_key}
 use Rattle.clear_book.specs.Workers.{list_of, lists_by, lists_in, lists_of}
 use Rattle.clear_values.proofs.KeyedChangesLemmas.{all_found}
 use Rattle.clear_laws.proofs.JudgeLemmas.{unrefused}
-use Rattle.clear_laws.proofs.LinesLemmas.{range_with_len-append}
+use Rattle.clear_laws.proofs.LinesLemmas.{follow-append}
 use Rattle.clear_laws.proofs.SerialLemmas.{follow-between, follow-in_order, same_parts}
 
 -- a command that makes no list leaves those that there are
@@ -40,15 +40,7 @@ lists_numbered rates [] h = refl
 lists_numbered rates (x ∷ xs) h =
     let b : Book = record { opening = rates; entries = xs } in
     let said = unrefused b x.caller x.number x.day x.command x.reply h.2 in
-    joined (lists_of xs) (lists_by x.day x.reply x.command) (lists_numbered rates xs h.0) (next_list b x.day x.reply x.command said.replied)
-  where
-    joined : (old new : List ListRow) → map list_no old ≡ range_with_len 1 (length old) → map list_no new ≡ range_with_len (length old + 1) (length new) → map list_no (old ++ new) ≡ range_with_len 1 (length (old ++ new))
-    joined old new e k =
-        let start : length old + 1 ≡ 1 + length old = omega arith in
-        map-append list_no old new
-        ∙ (λ i. e i ++ k i)
-        ∙ ap (λ a. range_with_len 1 (length old) ++ range_with_len a (length new)) start
-        ∙ sym (range_with_len-append 1 (length old) (length new) (length (old ++ new)) (length-append old new))
+    follow-append list_no (lists_of xs) (lists_by x.day x.reply x.command) (length (lists_of xs)) refl (lists_numbered rates xs h.0) (next_list b x.day x.reply x.command said.replied)
 
 -- so they rise
 pub lists_in_order : (rates : RateTable) (xs : List Entry) → AreJudged rates xs → AreInOrder list_key (lists_of xs)

@@ -1,5 +1,5 @@
 -- The tables of a book, after a payout list more.
-use Rattle.std.proofs.Common.{◌≡◌, ℕ, ◌+◌, ◌<◌, ◌≤◌, List, [], ◌∷◌, ◌++◌, length, map, sum_by, Bool, true, false, cond, refl, sym, ap, ◌∙◌, subst, arith, Some, None}
+use Rattle.std.proofs.Common.{◌≡◌, ℕ, ◌+◌, List, [], ◌∷◌, ◌++◌, length, map, sum_by, Bool, true, false, cond, refl, sym, ap, ◌∙◌, subst, arith, Some, None}
 use Rattle.std.proofs.lemmas.List.{append-nil, length-append, length-map}
 use Rattle.clear_values.specs.declared.callers.Caller.{Caller}
 use Rattle.clear_values.specs.declared.replies.Reply.{Reply}
@@ -9,7 +9,7 @@ use Rattle.clear_values.specs.declared.rows.ClaimRow.{ClaimRow}
 use Rattle.clear_values.specs.declared.rows.ClaimState.{ClaimState}
 use Rattle.clear_values.specs.declared.rows.ClaimState.TheVariants.{Open, Withdrawn, Released}
 use Rattle.clear_values.specs.declared.rows.ListRow.{ListRow}
-use Rattle.clear_values.specs.Keyed.{is_before, with_row, put_rows}
+use Rattle.clear_values.specs.Keyed.{with_row, put_rows}
 use Rattle.clear_book.specs.declared.calls.Call.TheVariants.{Do}
 use Rattle.clear_book.specs.declared.calls.Command.TheVariants.{PayoutList}
 use Rattle.clear_book.specs.Book.{Book, Entry, entry, entry_under}
@@ -17,15 +17,14 @@ use Rattle.clear_book.specs.Judge.{Verdict, new_reply, judge}
 use Rattle.clear_book.specs.Machine.{IsLawful, step, after, appended}
 use Rattle.clear_book.specs.Tables.{Tables, Stands, claim_key, list_key, changed, noted}
 use Rattle.clear_book.specs.Workers.{claims_of, is_payable, lists_of, on_list, paid_out, payable_claims, state_on}
-use Rattle.clear_values.proofs.KeyedLemmas.{first_less}
-use Rattle.clear_values.proofs.KeyedMapLemmas.{put_rows-map, with_row-last}
-use Rattle.clear_values.proofs.ListLemmas.{each}
+use Rattle.clear_values.proofs.KeyedMapLemmas.{put_rows-map}
 use Rattle.clear_laws.proofs.ClaimTablesLemmas.{with_claims}
 use Rattle.clear_laws.proofs.ClaimsLemmas.{claims_numbered}
 use Rattle.clear_laws.proofs.JudgeLemmas.{unrefused}
 use Rattle.clear_laws.proofs.LinesLemmas.{none_taken}
 use Rattle.clear_laws.proofs.TablesLemmas.{credits_left}
-use Rattle.clear_laws.proofs.ListNumbersLemmas.{lists_between}
+use Rattle.clear_laws.proofs.ListNumbersLemmas.{lists_numbered}
+use Rattle.clear_laws.proofs.SerialLemmas.{follow-last}
 
 -- ---- the claims
 
@@ -54,11 +53,7 @@ claims_put xs list =
 -- a new list comes behind those of a lawful book
 list_last : (b : Book) → IsLawful b → (list : ListRow) → list.list ≡ length (lists_of b.entries) + 1 → with_row list_key (lists_of b.entries) list ≡ lists_of b.entries ++ list ∷ []
 list_last b lawful list is =
-    let n = length (lists_of b.entries) in
-    with_row-last list_key (lists_of b.entries) list
-    (each (λ (row : ListRow). (0 < row.list) × (row.list ≤ n)) (λ row. is_before (list_key row) (list_key list) ≡ true)
-    (λ row h. let high = h.1 in first_less row.list list.list [] [] (omega (arith, high, is))) (lists_of b.entries)
-    (lists_between b.opening b.entries lawful))
+    follow-last (λ (row : ListRow). row.list) (length (lists_of b.entries)) (lists_of b.entries) list (lists_numbered b.opening b.entries lawful) is
 
 -- ---- the tables
 
@@ -83,7 +78,7 @@ module _ (b : Book) (t : Tables) (stands : Stands b t) (caller : Caller) (number
       ∙ (λ i. lists_of b.entries ++ record { list = row.list; day = today i; items = row.items; total = row.total } ∷ []) in
       let more : t.last_list + 1 ≡ length (lists_of (x ∷ b.entries)) =
       omega (arith, stands.last_list, length-append (lists_of b.entries) (record { list = row.list; day = day; items = row.items; total = row.total } ∷ [])) in
-      with_claims b t stands x (record { no_member = λ e old. refl; no_registration = refl; no_report = refl; no_move = λ rows. refl; no_rows = refl; no_rates = refl }) free
+      with_claims b t stands x (record { no_member = λ e old. refl; no_registration = refl; no_report = refl; no_move = λ rows. refl; no_rows = refl; no_rates = refl; no_run = refl }) free
       (put_rows claim_key t.claims listed) t.last_claim (with_row list_key t.lists row) (t.last_list + 1) t.credits t.serial claims many lists more
       (credits_left b t stands x (λ rows. refl) refl refl) stands.credits_in_order (stands.serial ∙ sym (none_taken b.entries x refl refl))
 

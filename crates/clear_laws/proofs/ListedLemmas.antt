@@ -507,3 +507,14 @@ payable_among rates xs h =
 pub payable_since : (rates : RateTable) (xs : List Entry) → AreJudged rates xs → (number : ℕ) (claim : ClaimRow) → claim_of xs number ≡ Some claim → is_payable claim.state ≡ true → is_released_since (last_list_day xs) claim.state ≡ true
 payable_since rates xs h number claim found payable =
     found_holds claim_key (λ (c : ClaimRow). IsSince (last_list_day xs) c.state) (claims_of xs) (number ∷ []) claim (payable_all rates xs h) found payable
+
+-- ---- a claim is on one list at most
+
+pub one_list : (list other : ℕ) (state : ClaimState) → is_on list state ≡ true → is_on other state ≡ true → list ≡ other
+one_list list other Open on also = absurd (cc on)
+one_list list other Withdrawn on also = absurd (cc on)
+one_list list other (Released release) on also = told release.list on also
+  where
+    told : (o : Option ℕ) → option_map_or (λ own. own == list) o false ≡ true → option_map_or (λ own. own == other) o false ≡ true → list ≡ other
+    told None h k = absurd (cc h)
+    told (Some own) h k = sym (same_worker own list h) ∙ same_worker own other k

@@ -91,7 +91,7 @@ module _ (b : Book) (t u : Tables) (left : Stands b t) (right : Stands b u) wher
   same_requests =
       same_rows request_key t.requests u.requests left.requests_in_order right.requests_in_order (λ k. left.requests k ∙ sym (right.requests k))
 
-  -- and so do the numbers, and the tables that no command fills yet
+  -- and so do the numbers, and the tables that are lists of the book
   pub same_tables : t ≡ u
   same_tables =
       let day : t.day ≡ u.day = left.day ∙ sym right.day in
@@ -100,11 +100,11 @@ module _ (b : Book) (t u : Tables) (left : Stands b t) (right : Stands b u) wher
       let serial : t.serial ≡ u.serial = left.serial ∙ sym right.serial in
       let claims : t.claims ≡ u.claims = left.claims ∙ sym right.claims in
       let lists : t.lists ≡ u.lists = left.lists ∙ sym right.lists in
-      let runs : t.runs ≡ u.runs = left.unfilled.runs ∙ sym right.unfilled.runs in
-      let reminders : t.reminders ≡ u.reminders = left.unfilled.reminders ∙ sym right.unfilled.reminders in
+      let runs : t.runs ≡ u.runs = left.runs ∙ sym right.runs in
+      let reminders : t.reminders ≡ u.reminders = left.reminders ∙ sym right.reminders in
       let last_claim : t.last_claim ≡ u.last_claim = left.last_claim ∙ sym right.last_claim in
       let last_list : t.last_list ≡ u.last_list = left.last_list ∙ sym right.last_list in
-      let last_run : t.last_run ≡ u.last_run = left.unfilled.last_run ∙ sym right.unfilled.last_run in
+      let last_run : t.last_run ≡ u.last_run = left.last_run ∙ sym right.last_run in
       (λ i.
       record {
         rates = rates i;

@@ -19,6 +19,6 @@ Stands-rate_added b t stands caller number day row reply judged =
     let x = entry caller number day (AddRate row) reply in
     let there = rest_left b t stands x
     (record { no_report = refl; no_move = λ rows. refl; no_rows = refl; no_release = refl; no_claims = record { kept = λ claim. refl; none = λ last. refl }; no_list = refl })
-    (unrefused b caller number day (AddRate row) reply judged).free (t.rates ++ row ∷ []) t.employers (ap (λ (rates : List Rate). rates ++ row ∷ []) stands.rates)
+    (unrefused b caller number day (AddRate row) reply judged).free refl (t.rates ++ row ∷ []) t.employers (ap (λ (rates : List Rate). rates ++ row ∷ []) stands.rates)
     (employers_left b t stands x (λ e old. refl)) (employer_rows_left b t stands x refl) stands.employers_in_order in
     subst (λ (p : Verdict). Stands (after b (Do caller number day (AddRate row)) p) (noted x (changed (change.AddRate row) t))) (sym judged) there

@@ -11,10 +11,12 @@ use Rattle.clear_values.specs.declared.rows.Change.TheVariants.{AddReport, Repla
 use Rattle.clear_values.specs.declared.rows.BankRow.{BankRow}
 use Rattle.clear_values.specs.declared.rows.ClaimRow.{ClaimRow}
 use Rattle.clear_values.specs.declared.rows.ListRow.{ListRow}
+use Rattle.clear_values.specs.declared.rows.RunRow.{RunRow}
 use Rattle.clear_values.specs.declared.rows.ReportRow.{ReportRow}
 use Rattle.clear_values.specs.declared.rows.WageRow.{WageRow}
 use Rattle.clear_values.specs.declared.texts.WageLine.{WageLine}
 use Rattle.clear_book.specs.Book.{Book, Entry, Member, entry, entry_under, is_for, newer, member_after, member_of, is_registration, reported_by, latest_lines, is_report_of, version_of, reported_version, rates_added}
+use Rattle.clear_book.specs.Calls.{is_remind_run}
 use Rattle.clear_book.specs.Judge.{Verdict, new_reply, judge}
 use Rattle.clear_values.specs.Keyed.{find_row, put_row}
 use Rattle.clear_book.specs.Lines.{is_release, lines_seen, moved_by, rows_by}
@@ -31,6 +33,7 @@ use Rattle.clear_laws.proofs.JudgeLemmas.{unrefused}
 use Rattle.clear_values.proofs.KeyedChangesLemmas.{find_row-put_row, AreInOrder-put_row, put_row-new}
 use Rattle.clear_laws.proofs.LinesLemmas.{none_taken}
 use Rattle.clear_laws.proofs.ListNumbersLemmas.{lists_left}
+use Rattle.clear_laws.proofs.RemindersLemmas.{reminders_left, runs_left}
 use Rattle.clear_laws.proofs.RequestLemmas.{requests_found, requests_still_in_order}
 use Rattle.clear_laws.proofs.TablesLemmas.{bank_left, credits_left, employer_rows_left, employers_left, no_map, rates_left}
 use Rattle.clear_laws.proofs.VersionLemmas.{is_some-cond, version_of-other, version_of-more, version_of-none, unreported, corrected, reported_some, reported_none, key_is}
@@ -63,6 +66,7 @@ pub record Reports (xs : List Entry) (x : Entry) (r : WageReport) : Type 0 where
   pub no_release : is_release x.command ≡ false
   pub no_claims : LeavesClaims x.day x.reply x.command
   pub no_list : lists_by x.day x.reply x.command ≡ []
+  pub no_run : is_remind_run x.command ≡ false
   pub no_rates : rates_added x.command ≡ []
 
 abbrev version_in : ReportRow → ℕ
@@ -122,8 +126,10 @@ module _ (b : Book) (t : Tables) (stands : Stands b t) (x : Entry) (r : WageRepo
     last_claim = stands.last_claim ∙ sym (ap (λ (claims : List ClaimRow). length claims) (claims_left b.entries x reports.no_claims));
     lists = stands.lists ∙ sym (lists_left b.entries x reports.no_list);
     last_list = stands.last_list ∙ sym (ap (λ (lists : List ListRow). length lists) (lists_left b.entries x reports.no_list));
+    runs = stands.runs ∙ sym (runs_left b.entries x reports.no_run);
+    last_run = stands.last_run ∙ sym (ap (λ (runs : List RunRow). length runs) (runs_left b.entries x reports.no_run));
+    reminders = stands.reminders ∙ sym (reminders_left b x reports.no_run);
     serial = stands.serial ∙ sym (none_taken b.entries x reports.no_rows reports.no_release);
-    unfilled = let unfilled = stands.unfilled in record { runs = unfilled.runs; reminders = unfilled.reminders; last_run = unfilled.last_run };
   }
 
   -- for a month that has none, they are one more
@@ -145,7 +151,7 @@ module _ (b : Book) (t : Tables) (stands : Stands b t) (caller : Caller) (number
       let no_lines = reported_none b.entries r.employer r.month none in
       let zero : version_of b.entries r.employer r.month ≡ 0 = version_of-none b.entries r.employer r.month no_lines in
       let x = entry caller number day (Report r) reply in
-      let there = first_tables b t stands x r (record { lines = λ e m. refl; counted = λ e m. is_some-cond (is_for e m r) r.lines; no_member = λ e old. refl; no_registration = refl; no_move = λ rows. refl; no_rows = refl; no_release = refl; no_claims = record { kept = λ claim. refl; none = λ last. refl }; no_list = refl; no_rates = refl }) 1 (omega (arith, zero))
+      let there = first_tables b t stands x r (record { lines = λ e m. refl; counted = λ e m. is_some-cond (is_for e m r) r.lines; no_member = λ e old. refl; no_registration = refl; no_move = λ rows. refl; no_rows = refl; no_release = refl; no_claims = record { kept = λ claim. refl; none = λ last. refl }; no_list = refl; no_run = refl; no_rates = refl }) 1 (omega (arith, zero))
       (report_distinct (member_of b.entries r.employer) (reported_version b.entries r.employer r.month) day r.month r.lines own) said.free
       (no_map version_in (find_row report_key t.reports (r.employer ∷ r.month ∷ [])) (stands.reports r.employer r.month ∙ none))
       (λ w. stands.wages r.employer r.month w ∙ ap (λ (o : Option (List WageLine)). reported_gross o w) no_lines) in
@@ -160,6 +166,6 @@ module _ (b : Book) (t : Tables) (stands : Stands b t) (caller : Caller) (number
       let latest = corrected member (reported_version b.entries c.report.employer c.report.month) day c own in
       let now : version_of b.entries c.report.employer c.report.month ≡ c.version = reported_some b.entries c.report.employer c.report.month c.version latest.0 in
       let x = entry caller number day (Correct c) reply in
-      let there = replaced_tables b t stands x c.report (record { lines = λ e m. refl; counted = λ e m. is_some-cond (is_for e m c.report) c.report.lines; no_member = λ e old. refl; no_registration = refl; no_move = λ rows. refl; no_rows = refl; no_release = refl; no_claims = record { kept = λ claim. refl; none = λ last. refl }; no_list = refl; no_rates = refl }) version (omega (arith, now, more))
+      let there = replaced_tables b t stands x c.report (record { lines = λ e m. refl; counted = λ e m. is_some-cond (is_for e m c.report) c.report.lines; no_member = λ e old. refl; no_registration = refl; no_move = λ rows. refl; no_rows = refl; no_release = refl; no_claims = record { kept = λ claim. refl; none = λ last. refl }; no_list = refl; no_run = refl; no_rates = refl }) version (omega (arith, now, more))
       (correction_distinct member (reported_version b.entries c.report.employer c.report.month) day c own) said.free in
       subst (λ (p : Verdict × List WageLine). Stands (after b (Do caller number day (Correct c)) p.0) (noted x (changed (ReplaceReport (record { employer = c.report.employer; month = c.report.month; version = version }) p.1) t))) (λ i. (sym judged i, sym same i)) there

@@ -10,7 +10,7 @@ use Rattle.clear_money.specs.Calendar.{IsMonth, IsDay}
 use Rattle.clear_money.specs.Numbers.{IsAmount, IsEmployerNo, IsWorkerNo}
 use Rattle.clear_values.specs.declared.texts.WageLine.{WageLine}
 use Rattle.clear_book.specs.declared.calls.Command.{Command}
-use Rattle.clear_book.specs.declared.calls.Command.TheVariants.{Register, EndMembership, Report, Correct, ImportBank, Assign, Claim, Release, PayoutList}
+use Rattle.clear_book.specs.declared.calls.Command.TheVariants.{Register, EndMembership, Report, Correct, ImportBank, Assign, Claim, Release, PayoutList, RemindRun}
 use Rattle.clear_book.specs.declared.calls.Assignment.{Assignment}
 use Rattle.clear_book.specs.declared.calls.WageReport.{WageReport}
 use Rattle.clear_values.specs.declared.rows.BankRow.{BankRow}
@@ -42,6 +42,8 @@ use Rattle.clear_values.proofs.KeyedRowsLemmas.{ordered}
 use Rattle.clear_laws.proofs.LimitsLemmas.{lawful_rates, lawful_few, lawful_entries, few_lines, few_corrected, few_charge}
 use Rattle.clear_laws.proofs.LinesLemmas.{of_standing, references_standing, serials_small}
 use Rattle.clear_laws.proofs.ListRangeLemmas.{last_list-in-range, lists-in-range, list-reply-in-range}
+use Rattle.clear_laws.proofs.ReminderRangeLemmas.{reminders_in_range}
+use Rattle.clear_laws.proofs.RunRangeLemmas.{last_run-in-range, run-reply-in-range, runs_in_range}
 use Rattle.clear_values.proofs.ListLemmas.{both}
 use Rattle.clear_laws.proofs.SeenLemmas.{by-few, chosen, file-few, HasRanges, lines-in-range, seen-in-range, set_offs-in-range, lawful_serials, of_credits}
 use Rattle.clear_laws.proofs.SerialLemmas.{of_both}
@@ -277,6 +279,7 @@ reply-in-range b t (Release number) lawful room own = told (claim_of b.entries n
         let good = found_holds claim_key IsClaimRow (claims_of b.entries) (number ∷ []) claim (claims-in-range b.opening b.entries lawful) is in
         subst IsAmount (sym (settled_whole claim.cents (debts claim).owed (debts claim).interest)) good.cents
 reply-in-range b t PayoutList lawful room own = list-reply-in-range b lawful room own
+reply-in-range b t RemindRun lawful room own = run-reply-in-range b t lawful room own
 reply-in-range b t command lawful room own = tt
 
 -- so the row of each accepted request is in range
@@ -361,14 +364,13 @@ rows_in_range b t lawful stands = record {
   credits = credits-in-range b t lawful stands;
   claims = subst (AllByRecursion IsClaimRow) (sym stands.claims) (claims-in-range b.opening b.entries lawful);
   lists = subst (AllByRecursion IsListRow) (sym stands.lists) (lists-in-range b.opening b.entries lawful);
-  runs = subst (AllByRecursion IsRunRow) (sym stands.unfilled.runs) tt;
-  reminders = subst (AllByRecursion IsReminderRow) (sym stands.unfilled.reminders) tt;
+  runs = subst (AllByRecursion IsRunRow) (sym stands.runs) (runs_in_range b.opening b.entries lawful);
+  reminders = subst (AllByRecursion IsReminderRow) (sym stands.reminders) (reminders_in_range b lawful);
   requests = requests-in-range b t lawful stands;
   day = subst (λ (o : Option ℕ). IfSome o IsDay) (sym stands.day) (last-day b.opening b.entries lawful);
   entries = subst (λ (n : ℕ). n ≤ 50000000) (sym stands.entries) (lawful_entries b.opening b.entries lawful);
   serial = subst (λ (n : ℕ). n ≤ 500000000000) (sym stands.serial) (lawful_serials b.opening b.entries lawful);
   last_claim = subst (λ (n : ℕ). n ≤ 50000000) (sym stands.last_claim) (omega (arith, claims_few b.entries, lawful_entries b.opening b.entries lawful));
   last_list = subst (λ (n : ℕ). n ≤ 50000000) (sym stands.last_list) (last_list-in-range b lawful);
-  last_run = subst (λ (n : ℕ). n ≤ 50000000) (sym stands.unfilled.last_run) (omega arith);
-  unfilled = stands.unfilled;
+  last_run = subst (λ (n : ℕ). n ≤ 50000000) (sym stands.last_run) (last_run-in-range b lawful);
 }

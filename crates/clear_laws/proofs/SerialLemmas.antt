@@ -1,11 +1,14 @@
 -- Rows with numbers: numbers that follow on each other, and numbers that lie apart.
-use Rattle.std.proofs.Common.{◌≡◌, ℕ, zero, suc, ◌+◌, ◌<◌, ◌≤◌, List, [], ◌∷◌, ◌++◌, map, Some, None, false, cond, refl, ap, ◌∙◌, arith}
+use Rattle.std.proofs.Common.{◌≡◌, ℕ, zero, suc, ◌+◌, ◌<◌, ◌≤◌, List, [], ◌∷◌, ◌++◌, map, Some, None, true, false, cond, refl, sym, ap, ◌∙◌, subst, arith, append_assoc}
 use Rattle.std.proofs.lemmas.Bool.Decides.{nat_tests}
+use Rattle.std.proofs.lemmas.List.{append-nil}
 use Rattle.std.specs.List.{range_with_len, AllByRecursion}
 use Rattle.clear_book.specs.Book.{newer}
-use Rattle.clear_values.specs.Keyed.{is_key, find_row, AllBehind, AreInOrder, AreOnce}
+use Rattle.clear_values.specs.Keyed.{is_before, is_key, find_row, AllBehind, AreInOrder, AreOnce, with_row, with_rows}
 use Rattle.clear_values.proofs.KeyedLemmas.{first_less, none_behind, other_row}
+use Rattle.clear_values.proofs.KeyedMapLemmas.{with_row-last}
 use Rattle.clear_values.proofs.KeyedRowsLemmas.{AreNew, find_row-append}
+use Rattle.clear_values.proofs.ListLemmas.{each}
 
 -- the parts of numbers that follow on each other
 pub same_parts : (a b : ℕ) (xs ys : List ℕ) → a ∷ xs ≡ b ∷ ys → (a ≡ b) × (xs ≡ ys)
@@ -16,6 +19,56 @@ other_number a b h = grind (arith, nat_tests)
 
 other_than : (a b : ℕ) → b < a → is_key (a ∷ []) (b ∷ []) ≡ false
 other_than a b h = grind (arith, nat_tests)
+
+-- ---- whatever the key
+
+module _ {Row : Type 0} (key : Row → List ℕ) where
+  -- keys that rise stand once
+  pub in_order-once : (rows : List Row) → AreInOrder key rows → AreOnce key rows
+  in_order-once [] order = tt
+  in_order-once (row ∷ rows) order = (none_behind key (key row) rows order.0, in_order-once rows order.1)
+
+  -- rows that are new to two lists are so to both
+  pub new_to_both : (xs ys news : List Row) → AreNew key xs news → AreNew key ys news → AreNew key (xs ++ ys) news
+  new_to_both xs ys [] left right = tt
+  new_to_both xs ys (new ∷ news) left right =
+      (find_row-append key xs ys (key new) ∙ (λ i. newer (left.0 i) (right.0 i)), new_to_both xs ys news left.1 right.1)
+
+  -- and two lists that are new to rows are so together
+  pub both_new : (rows xs ys : List Row) → AreNew key rows xs → AreNew key rows ys → AreNew key rows (xs ++ ys)
+  both_new rows [] ys left right = right
+  both_new rows (x ∷ xs) ys left right = (left.0, both_new rows xs ys left.1 right)
+
+  -- a key that comes before two lists comes before both
+  behind-both : (k : List ℕ) (xs ys : List Row) → AllBehind key k xs → AllBehind key k ys → AllBehind key k (xs ++ ys)
+  behind-both k [] ys h g = g
+  behind-both k (x ∷ xs) ys h g = (h.0, behind-both k xs ys h.1 g)
+
+  -- rows in order behind rows in order
+  pub in_order-both : (xs ys : List Row) → AreInOrder key xs → AreInOrder key ys → AllByRecursion (λ x. AllBehind key (key x) ys) xs → AreInOrder key (xs ++ ys)
+  in_order-both [] ys left right before = right
+  in_order-both (x ∷ xs) ys left right before =
+      (behind-both (key x) xs ys left.0 before.0, in_order-both xs ys left.1 right before.1)
+
+  -- the first of two lists in order comes before each row of the second
+  all_before : (rows news : List Row) (new : Row) → AreInOrder key (rows ++ new ∷ news) → AllByRecursion (λ row. is_before (key row) (key new) ≡ true) rows
+  all_before [] news new order = tt
+  all_before (row ∷ rows) news new order = (head rows order.0, all_before rows news new order.1)
+    where
+      head : (others : List Row) → AllBehind key (key row) (others ++ new ∷ news) → is_before (key row) (key new) ≡ true
+      head [] behind = behind.0
+      head (other ∷ others) behind = head others behind.1
+
+  -- new rows that come last go behind all rows
+  pub with_rows-last : (rows news : List Row) → AreInOrder key (rows ++ news) → with_rows key rows news ≡ rows ++ news
+  with_rows-last rows [] order = sym (append-nil rows)
+  with_rows-last rows (new ∷ news) order =
+      let joined : (rows ++ new ∷ []) ++ news ≡ rows ++ new ∷ news = append_assoc rows (new ∷ []) news in
+      ap (λ all. with_rows key all news) (with_row-last key rows new (all_before rows news new order))
+      ∙ with_rows-last (rows ++ new ∷ []) news (subst (AreInOrder key) (sym joined) order)
+      ∙ joined
+
+-- ---- rows with numbers
 
 module _ {Row : Type 0} (number : Row → ℕ) where
   -- a row by its number
@@ -45,6 +98,14 @@ module _ {Row : Type 0} (number : Row → ℕ) where
   follow-between low high a (suc n) (row ∷ rows) h k e =
       let parts = same_parts (number row) a (map number rows) (range_with_len (a + 1) n) e in
       ((omega (arith, parts.0), omega (arith, parts.0)), follow-between low high (a + 1) n rows (omega arith) (omega arith) parts.1)
+
+  -- a row with the next number goes behind all
+  pub follow-last : (n : ℕ) (rows : List Row) (new : Row) → map number rows ≡ range_with_len 1 n → number new ≡ n + 1 → with_row by_number rows new ≡ rows ++ new ∷ []
+  follow-last n rows new numbers next =
+      with_row-last by_number rows new
+      (each (λ row. (0 < number row) × (number row ≤ n)) (λ row. is_before (by_number row) (by_number new) ≡ true)
+      (λ row h. let high = h.1 in first_less (number row) (number new) [] [] (omega (arith, high, next))) rows
+      (follow-between 0 n 1 n rows (omega arith) (omega arith) numbers))
 
   -- ---- numbers up to one, and numbers above it
 
@@ -76,33 +137,10 @@ module _ {Row : Type 0} (number : Row → ℕ) where
       let high = all.0 in
       (first_less s (number row) [] [] (omega (arith, high)), behind-above s n rows h all.1)
 
-  behind-both : (k : List ℕ) (xs ys : List Row) → AllBehind by_number k xs → AllBehind by_number k ys → AllBehind by_number k (xs ++ ys)
-  behind-both k [] ys h g = g
-  behind-both k (x ∷ xs) ys h g = (h.0, behind-both k xs ys h.1 g)
-
   pub in_order-append : (n : ℕ) (xs ys : List Row) → AreInOrder by_number xs → AreInOrder by_number ys → AllByRecursion (λ row. number row ≤ n) xs → AllByRecursion (λ row. n < number row) ys → AreInOrder by_number (xs ++ ys)
-  in_order-append n [] ys left right low high = right
-  in_order-append n (x ∷ xs) ys left right low high =
-      (behind-both (by_number x) xs ys left.0 (behind-above (number x) n ys low.0 high), in_order-append n xs ys left.1 right low.1 high)
-
--- ---- whatever the key
-
-module _ {Row : Type 0} (key : Row → List ℕ) where
-  -- keys that rise stand once
-  pub in_order-once : (rows : List Row) → AreInOrder key rows → AreOnce key rows
-  in_order-once [] order = tt
-  in_order-once (row ∷ rows) order = (none_behind key (key row) rows order.0, in_order-once rows order.1)
-
-  -- rows that are new to two lists are so to both
-  pub new_to_both : (xs ys news : List Row) → AreNew key xs news → AreNew key ys news → AreNew key (xs ++ ys) news
-  new_to_both xs ys [] left right = tt
-  new_to_both xs ys (new ∷ news) left right =
-      (find_row-append key xs ys (key new) ∙ (λ i. newer (left.0 i) (right.0 i)), new_to_both xs ys news left.1 right.1)
-
-  -- and two lists that are new to rows are so together
-  pub both_new : (rows xs ys : List Row) → AreNew key rows xs → AreNew key rows ys → AreNew key rows (xs ++ ys)
-  both_new rows [] ys left right = right
-  both_new rows (x ∷ xs) ys left right = (left.0, both_new rows xs ys left.1 right)
+  in_order-append n xs ys left right low high =
+      in_order-both by_number xs ys left right
+      (each (λ row. number row ≤ n) (λ row. AllBehind by_number (by_number row) ys) (λ row h. behind-above (number row) n ys h high) xs low)
 
 -- a key that tells rows apart that another one does
 module _ {Row : Type 0} (key finer : Row → List ℕ) (apart : (x y : Row) → is_key (key x) (key y) ≡ false → is_key (finer x) (finer y) ≡ false) where

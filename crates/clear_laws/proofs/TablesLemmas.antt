@@ -15,15 +15,19 @@ use Rattle.clear_values.specs.declared.rows.ClaimRow.{ClaimRow}
 use Rattle.clear_values.specs.declared.rows.CreditRow.{CreditRow}
 use Rattle.clear_values.specs.declared.rows.EmployerRow.{EmployerRow}
 use Rattle.clear_values.specs.declared.rows.ListRow.{ListRow}
+use Rattle.clear_values.specs.declared.rows.ReminderRow.{ReminderRow}
+use Rattle.clear_values.specs.declared.rows.RunRow.{RunRow}
 use Rattle.clear_values.specs.declared.rows.Change.TheVariants.{AddEmployer}
 use Rattle.clear_values.specs.declared.texts.WageLine.{WageLine}
 use Rattle.clear_book.specs.Book.{Book, Entry, Member, entry, entry_under, newer, member_by, member_after, member_of, is_registration, employer_count, report_in, lines_for, reported_by, latest_lines, reported_version, version_of, rates_added, rates_of}
 use Rattle.clear_book.specs.Accounts.{credit_key}
+use Rattle.clear_book.specs.Calls.{is_remind_run}
 use Rattle.clear_book.specs.Judge.{Verdict, new_reply, judge}
 use Rattle.clear_book.specs.Own.Register.{own_register}
 use Rattle.clear_values.specs.Keyed.{find_row, with_row, AreInOrder}
 use Rattle.clear_book.specs.Lines.{credits_made, is_release, lines_seen, lines_standing, moved_by, rows_by}
 use Rattle.clear_book.specs.Machine.{step, after, appended}
+use Rattle.clear_book.specs.Reminders.{reminders_of, runs_of}
 use Rattle.clear_book.specs.Tables.{Tables, Stands, employer_key, bank_key, changed, gross_at, member_at, noted, member_in, reported_gross, version_at}
 use Rattle.clear_book.specs.Workers.{lists_by}
 use Rattle.clear_laws.proofs.ClaimsLemmas.{LeavesClaims, claims_left}
@@ -32,6 +36,7 @@ use Rattle.clear_values.proofs.KeyedLemmas.{find_row-with_row, length-with_row, 
 use Rattle.clear_laws.proofs.LinesLemmas.{none_moved, none_taken}
 use Rattle.clear_laws.proofs.ListNumbersLemmas.{lists_left}
 use Rattle.clear_laws.proofs.CreditsMadeLemmas.{none_made}
+use Rattle.clear_laws.proofs.RemindersLemmas.{reminders_left, runs_left}
 use Rattle.clear_laws.proofs.RequestLemmas.{requests_found, requests_still_in_order}
 use Rattle.clear_laws.proofs.VersionLemmas.{no_some, version_of-other}
 
@@ -86,34 +91,46 @@ pub record LeavesRest (xs : List Entry) (x : Entry) : Type 0 where
   pub no_claims : LeavesClaims x.day x.reply x.command
   pub no_list : lists_by x.day x.reply x.command ≡ []
 
--- tables with the rates and the employers of the next book, and else as they were
-pub rest_left : (b : Book) (t : Tables) → Stands b t → (x : Entry) → LeavesRest b.entries x → entry_under b.entries x.caller x.number ≡ None
-    → (rates : List Rate) (employers : List EmployerRow) → rates ≡ rates_of (appended b x) → ((e : ℕ) → member_at employers e ≡ member_of (x ∷ b.entries) e)
-    → length employers ≡ employer_count (x ∷ b.entries) → AreInOrder employer_key employers → Stands (appended b x) (noted x (record t { rates = rates; employers = employers }))
-rest_left b t stands x leaves free rates employers rates_are employers_are many in_order = record {
-  rates = rates_are;
-  day = refl;
-  entries = omega (arith, stands.entries);
-  employers = employers_are;
-  employer_rows = many;
-  employers_in_order = in_order;
-  reports = reports_left b t stands x leaves.no_report;
-  reports_in_order = stands.reports_in_order;
-  wages = wages_left b t stands x leaves.no_report;
-  wages_in_order = stands.wages_in_order;
-  bank = bank_left b t stands x leaves.no_move leaves.no_rows;
-  bank_in_order = stands.bank_in_order;
-  credits = credits_left b t stands x leaves.no_move leaves.no_rows leaves.no_release;
-  credits_in_order = stands.credits_in_order;
-  requests = requests_found b t stands x free;
-  requests_in_order = requests_still_in_order b t stands x free;
-  claims = stands.claims ∙ sym (claims_left b.entries x leaves.no_claims);
-  last_claim = stands.last_claim ∙ sym (ap (λ (claims : List ClaimRow). length claims) (claims_left b.entries x leaves.no_claims));
-  lists = stands.lists ∙ sym (lists_left b.entries x leaves.no_list);
-  last_list = stands.last_list ∙ sym (ap (λ (lists : List ListRow). length lists) (lists_left b.entries x leaves.no_list));
-  serial = stands.serial ∙ sym (none_taken b.entries x leaves.no_rows leaves.no_release);
-  unfilled = let unfilled = stands.unfilled in record { runs = unfilled.runs; reminders = unfilled.reminders; last_run = unfilled.last_run };
-}
+module _ (b : Book) (t : Tables) (stands : Stands b t) (x : Entry) (leaves : LeavesRest b.entries x) (free : entry_under b.entries x.caller x.number ≡ None) where
+  -- tables with the rates, the employers and the runs of the next book, and else as they were
+  pub rest_with_runs : (rates : List Rate) (employers : List EmployerRow) → rates ≡ rates_of (appended b x) → ((e : ℕ) → member_at employers e ≡ member_of (x ∷ b.entries) e)
+      → length employers ≡ employer_count (x ∷ b.entries) → AreInOrder employer_key employers
+      → (runs : List RunRow) (last_run : ℕ) (reminders : List ReminderRow) → runs ≡ runs_of (x ∷ b.entries) → last_run ≡ length (runs_of (x ∷ b.entries)) → reminders ≡ reminders_of (appended b x)
+      → Stands (appended b x) (noted x (record t { rates = rates; employers = employers; runs = runs; last_run = last_run; reminders = reminders }))
+  rest_with_runs rates employers rates_are employers_are many in_order runs last_run reminders runs_are last_run_is reminders_are = record {
+    rates = rates_are;
+    day = refl;
+    entries = omega (arith, stands.entries);
+    employers = employers_are;
+    employer_rows = many;
+    employers_in_order = in_order;
+    reports = reports_left b t stands x leaves.no_report;
+    reports_in_order = stands.reports_in_order;
+    wages = wages_left b t stands x leaves.no_report;
+    wages_in_order = stands.wages_in_order;
+    bank = bank_left b t stands x leaves.no_move leaves.no_rows;
+    bank_in_order = stands.bank_in_order;
+    credits = credits_left b t stands x leaves.no_move leaves.no_rows leaves.no_release;
+    credits_in_order = stands.credits_in_order;
+    requests = requests_found b t stands x free;
+    requests_in_order = requests_still_in_order b t stands x free;
+    claims = stands.claims ∙ sym (claims_left b.entries x leaves.no_claims);
+    last_claim = stands.last_claim ∙ sym (ap (λ (claims : List ClaimRow). length claims) (claims_left b.entries x leaves.no_claims));
+    lists = stands.lists ∙ sym (lists_left b.entries x leaves.no_list);
+    last_list = stands.last_list ∙ sym (ap (λ (lists : List ListRow). length lists) (lists_left b.entries x leaves.no_list));
+    runs = runs_are;
+    last_run = last_run_is;
+    reminders = reminders_are;
+    serial = stands.serial ∙ sym (none_taken b.entries x leaves.no_rows leaves.no_release);
+  }
+
+  -- where the command is no reminder run, the runs stay
+  pub rest_left : is_remind_run x.command ≡ false → (rates : List Rate) (employers : List EmployerRow) → rates ≡ rates_of (appended b x) → ((e : ℕ) → member_at employers e ≡ member_of (x ∷ b.entries) e)
+      → length employers ≡ employer_count (x ∷ b.entries) → AreInOrder employer_key employers → Stands (appended b x) (noted x (record t { rates = rates; employers = employers }))
+  rest_left no_run rates employers rates_are employers_are many in_order =
+      let left = runs_left b.entries x no_run in
+      rest_with_runs rates employers rates_are employers_are many in_order t.runs t.last_run t.reminders (stands.runs ∙ sym left) (stands.last_run ∙ sym (ap (λ (runs : List RunRow). length runs) left))
+      (stands.reminders ∙ sym (reminders_left b x no_run))
 
 -- ---- a registration
 
@@ -146,7 +163,7 @@ module _ (b : Book) (t : Tables) (stands : Stands b t) (caller : Caller) (number
     registered_tables =
         rest_left b t stands registration
         (record { no_report = refl; no_move = λ rows. refl; no_rows = refl; no_release = refl; no_claims = record { kept = λ claim. refl; none = λ last. refl }; no_list = refl })
-        no_number t.rates (with_row employer_key t.employers registration_row) (rates_left b t stands registration refl)
+        no_number refl t.rates (with_row employer_key t.employers registration_row) (rates_left b t stands registration refl)
         (λ e.
         ap (option_map member_in) (find_row-with_row employer_key t.employers registration_row (e ∷ []) no_row)
         ∙ found_member (r.employer == e) registration_row (find_row employer_key t.employers (e ∷ []))

@@ -7,7 +7,7 @@ ghost use Rattle.clear_book.specs.declared.calls.Command.TheVariants.{Register, 
 ghost use Rattle.clear_book.specs.declared.calls.Command.TheVariants.{AddRate, EndMembership};
 ghost use Rattle.clear_book.specs.declared.calls.Command.TheVariants.{ImportBank, Assign};
 ghost use Rattle.clear_book.specs.declared.calls.Command.TheVariants.{Claim, Withdraw, Release};
-ghost use Rattle.clear_book.specs.declared.calls.Command.TheVariants.{PayoutList};
+ghost use Rattle.clear_book.specs.declared.calls.Command.TheVariants.{PayoutList, RemindRun};
 ghost use Rattle.clear_values.specs.declared.lines.Purpose.TheVariants.{Contribution};
 ghost use Rattle.clear_values.specs.declared.replies.Reply.TheVariants.{Listed};
 ghost use Rattle.clear_values.specs.declared.rows.ClaimState.TheVariants.{Open};
@@ -16,11 +16,14 @@ ghost use Rattle.clear_book.specs.Conserved.{is_line_of, line_cents};
 ghost use Rattle.clear_book.specs.Documents.Amounts.{amount_text};
 ghost use Rattle.clear_book.specs.Documents.Lines.{missing_line};
 ghost use Rattle.clear_book.specs.Documents.Payout.{payout_text};
+ghost use Rattle.clear_book.specs.Documents.Reminders.{reminders_text};
 ghost use Rattle.clear_book.specs.Documents.Worker.{worker_text};
 ghost use Rattle.clear_book.specs.Examples.{charge, claim, credit, february, four_claims};
-ghost use Rattle.clear_book.specs.Examples.{january, piece, released, two_lines};
+ghost use Rattle.clear_book.specs.Examples.{january, last_of, piece, released, two_lines};
+ghost use Rattle.clear_book.specs.Examples.{two_reminders};
 ghost use Rattle.clear_book.specs.Lines.{credits_of_lines, is_in_suspense};
 ghost use Rattle.clear_book.specs.Own.PayoutList.{payout_list_reply};
+ghost use Rattle.clear_book.specs.Reminders.{level_due};
 ghost use Rattle.clear_book.specs.Workers.{is_on, is_payable, on_list};
 ghost use Rattle.clear_book.specs.Calls.{command_bytes};
 
@@ -107,6 +110,7 @@ pub fn law_kept_bytes()
         ≡ codes "withdraw 1001 1" }
     ensures release { command_bytes (Release 1) ≡ codes "release 1" }
     ensures payout { command_bytes PayoutList ≡ codes "payout" }
+    ensures remind { command_bytes RemindRun ≡ codes "remind" }
 {}
 
 /// A payout list takes the claims of which something is paid out, and leaves one that is set off
@@ -127,6 +131,27 @@ pub fn law_payout_text()
         ++ codes "claim 1 employer 1001 worker 7         400.00\n"
         ++ codes "claim 3 employer 1001 worker 7          95.00\n"
         ++ codes "items 2\ntotal         495.00\n" }
+{}
+
+/// The level of a reminder is the first one where there was none before. Else none is due before
+/// the fourteenth day, then the next one, 3 at most, and after more than 60 days the first again.
+pub fn law_levels()
+    ensures first { (d : ℕ) → level_due None d ≡ Some 1 }
+    ensures early { (d : ℕ) → level_due (Some (last_of 1 d)) (d + 13) ≡ None }
+    ensures next { (d : ℕ) → level_due (Some (last_of 1 d)) (d + 14) ≡ Some 2 }
+    ensures late { (d : ℕ) → level_due (Some (last_of 1 d)) (d + 60) ≡ Some 2 }
+    ensures again { (d : ℕ) → level_due (Some (last_of 1 d)) (d + 61) ≡ Some 1 }
+    ensures greatest { (d : ℕ) → level_due (Some (last_of 3 d)) (d + 14) ≡ Some 3 }
+{}
+
+/// A reminder run of two firms, of which one has missing months.
+pub fn law_reminders_text()
+    ensures { (day : ℕ) → reminders_text
+        (record { run = 1; day = day; firms = 2 }) (two_reminders 1)
+        ≡ (codes "reminders 1 " ++ day_text day ++ codes "\n")
+        ++ codes "employer 1001 level 1 missing 2 2024-01         499.90           0.00\n"
+        ++ codes "employer 1002 level 3 missing 0 -           0.00           1.25\n"
+        ++ codes "firms 2\n" }
 {}
 
 /// A worker who has a line of 0.00 for a gross of 0, and two claims.

@@ -1,8 +1,9 @@
 //! Laws: what follows from the definitions alone. A law has no parameters and no effect; its
 //! contract is the law.
 ghost use Rattle.std.specs.Prelude.{◌≡◌, ◌↔◌, ℕ, ◌+◌, List, ◌∷◌, ◌++◌, Bool, true, ◌&&◌};
-ghost use Rattle.std.specs.Prelude.{◌==◌, not};
-ghost use Rattle.std.specs.Prelude.{IsSome, IsTrue, filter, length, map, sum_by, Option, Some};
+ghost use Rattle.std.specs.Prelude.{◌==◌, ◌≤◌, not};
+ghost use Rattle.std.specs.Prelude.{IfSome, IsSome, IsTrue, filter, length, map, sum_by};
+ghost use Rattle.std.specs.Prelude.{Option, Some};
 ghost use Rattle.std.specs.List.{AllByRecursion, list_any, range_with_len, Contains};
 ghost use Rattle.clear_money.specs.Rates.{Rate, rate_in_force};
 ghost use Rattle.clear_account.specs.Allocation.{right_pieces};
@@ -22,13 +23,15 @@ ghost use Rattle.clear_book.specs.declared.rules.Rule.TheVariants.{Failed, Store
 ghost use Rattle.clear_values.specs.declared.causes.StoreCause.{StoreCause};
 ghost use Rattle.clear_values.specs.declared.causes.StoreCause.TheVariants.{Other};
 ghost use Rattle.clear_book.specs.Accounts.{charges_of, credit_key, credits_of, credits_standing};
-ghost use Rattle.clear_book.specs.Book.{Book, Entry, entry, first_book, latest_lines, rates_of};
+ghost use Rattle.clear_book.specs.Book.{Book, Entry, entry, first_book, latest_lines};
+ghost use Rattle.clear_book.specs.Book.{ledger_day, rates_of};
 ghost use Rattle.clear_book.specs.Conserved.{firm_cents, interest_cents, pieces_cents};
 ghost use Rattle.clear_book.specs.Conserved.{prepaid_cents, set_off_cents, standing_cents};
 ghost use Rattle.clear_book.specs.Conserved.{suspense_cents};
-ghost use Rattle.clear_book.specs.Judge.{judge, kept_reply, new_reply};
+ghost use Rattle.clear_book.specs.Judge.{judge, kept_reply, new_reply, run_text};
 ghost use Rattle.clear_book.specs.Calls.{command_bytes, same_command};
-ghost use Rattle.clear_book.specs.Laws.{AreCounted, AreEmployers, AreNumbered, AreSorted, IsSmall};
+ghost use Rattle.clear_book.specs.Laws.{AreCounted, AreEmployers, AreNumbered, AreSorted, IsBy};
+ghost use Rattle.clear_book.specs.Laws.{IsSmall};
 ghost use Rattle.clear_values.specs.declared.rows.BankRow.{BankRow};
 ghost use Rattle.clear_book.specs.Lines.{credits_after, credits_made, line_of, lines_after};
 ghost use Rattle.clear_book.specs.Lines.{lines_of_rows, lines_seen, lines_standing};
@@ -42,12 +45,16 @@ ghost use Rattle.clear_values.specs.declared.rows.ClaimRow.{ClaimRow};
 ghost use Rattle.clear_values.specs.declared.rows.ClaimState.TheVariants.{Released};
 ghost use Rattle.clear_values.specs.declared.rows.ReleasedClaim.{ReleasedClaim};
 ghost use Rattle.clear_book.specs.Tables.{Tables, Stands, table_charges, table_credits};
-ghost use Rattle.clear_book.specs.Tables.{list_key, table_entitlement, wages_of_worker};
+ghost use Rattle.clear_book.specs.Tables.{list_key, reminder_key, table_entitlement};
+ghost use Rattle.clear_book.specs.Tables.{wages_of_worker};
 ghost use Rattle.clear_book.specs.Workers.{claimed, claims_of, entitlement_of, is_employed};
 ghost use Rattle.clear_book.specs.Workers.{is_on, is_payable, is_released_since, is_withdrawn};
 ghost use Rattle.clear_book.specs.Workers.{claim_of, last_list_day, list_of, lists_of};
 ghost use Rattle.clear_book.specs.Listed.{IsListOf};
 ghost use Rattle.clear_book.specs.Reached.{IsReached};
+ghost use Rattle.clear_book.specs.Reminded.{IsRunOf};
+ghost use Rattle.clear_book.specs.Reminders.{last_reminder, reminders_due, reminders_of, run_of};
+ghost use Rattle.clear_book.specs.Reminders.{runs_of};
 ghost use Rattle.clear_book.specs.Released.{IsReleaseOf, IsSettlement, KeepsList, with_list};
 
 /// A book without entries over a table of rates is lawful.
@@ -72,15 +79,6 @@ pub fn law_rates()
 pub fn law_rated()
     ensures { (b : Book) (e m : ℕ) → IsLawful b → IsSome (latest_lines b.entries e m)
         → IsSome (rate_in_force (rates_of b) m) }
-{}
-
-/// No later entry changes the rates of a month of which a lawful book has a report: new rates begin
-/// behind the month of the day on which they are added, and a month is reported when it has begun.
-pub fn law_rates_stay()
-    ensures { (b : Book) (more : List Entry) (e m : ℕ)
-        → let later = record b { entries = more ++ b.entries } in IsLawful later
-        → IsSome (latest_lines b.entries e m)
-        → rate_in_force (rates_of later) m ≡ rate_in_force (rates_of b) m }
 {}
 
 /// A run over calls whose values lie in their ranges leads from a lawful book to a lawful one.
@@ -158,14 +156,10 @@ pub fn law_claimed()
         ≡ claimed b w }
 {}
 
-/// A claim that is released in a lawful book is settled whole: its cents are those of the three
-/// parts. It comes of an entry that is its release, on that entry's day and with that entry's
-/// reply, and no later entry changes its day and its settlement: all that can come is that it goes
-/// on a payout list, and once it is on one, that stays.
+/// A claim that is released in a lawful book comes of an entry that is its release, on that entry's
+/// day and with that entry's reply, and no later entry changes its day and its settlement: all that
+/// can come is that it goes on a payout list, and once it is on one, that stays.
 pub fn law_released()
-    ensures whole { (b : Book) (number : ℕ) (claim : ClaimRow) (release : ReleasedClaim)
-        → IsLawful b → claim_of b.entries number ≡ Some claim → claim.state ≡ Released release
-        → settled release.settlement ≡ claim.cents }
     ensures entry { (b : Book) (number : ℕ) (claim : ClaimRow) (release : ReleasedClaim)
         → IsLawful b → claim_of b.entries number ≡ Some claim → claim.state ≡ Released release
         → (x : Entry) × Contains b.entries x × IsReleaseOf number release x }
@@ -198,6 +192,28 @@ pub fn law_listed()
         → is_released_since (last_list_day b.entries) claim.state ≡ true }
 {}
 
+/// The reminder runs of a lawful book have the numbers 1, 2, 3, .. in the order in which they were
+/// made. Each reminds as many firms as there are reminders of it, one at least. The reminders rise
+/// by run, then employer; each is of one of the runs, and of a level from 1 to 3. A firm to which
+/// one is due on a day was last reminded 14 days before or earlier. The document of a run stays,
+/// whatever comes.
+pub fn law_reminders()
+    ensures runs { (b : Book) → IsLawful b → AllByRecursion (IsRunOf b) (runs_of b.entries) }
+    ensures numbers { (b : Book) → IsLawful b → map (λ run. run.run) (runs_of b.entries)
+        ≡ range_with_len 1 (length (runs_of b.entries)) }
+    ensures order { (b : Book) → IsLawful b → AreInOrder reminder_key (reminders_of b) }
+    ensures there { (b : Book) → IsLawful b
+        → AllByRecursion (λ row. IsSome (run_of b.entries row.run)) (reminders_of b) }
+    ensures levels { (b : Book)
+        → AllByRecursion (λ row. (1 ≤ row.level) × (row.level ≤ 3)) (reminders_of b) }
+    ensures apart { (b : Book) (t : ℕ)
+        → AllByRecursion (λ row. IfSome (last_reminder b row.employer)
+        (λ last. last.day + 14 ≤ t)) (reminders_due b t) }
+    ensures stays { (x : Entry) (b : Book) (number : ℕ) → IsLawful (appended b x)
+        → IsSome (run_of b.entries number)
+        → run_text (appended b x) number ≡ run_text b number }
+{}
+
 /// A settlement is whole: its three parts come to the cents of the claim. No more is set off than
 /// is owed, to interest only where all contributions that are owed are set off, and something is
 /// paid out only where all that is owed is.
@@ -211,20 +227,6 @@ pub fn law_settlement()
 pub fn law_pieces()
     ensures { (b : Book) (e : ℕ) → map row_piece (piece_rows_of b e)
         ≡ right_pieces (charges_of b e) (credits_of b e) }
-{}
-
-/// No cent of a lawful book is lost. What came in for contributions, by standing lines and by
-/// set-offs, is in the pieces of the firms, is prepaid, or is in suspense; the firms' payments of
-/// interest are their standing lines of interest and the set-offs to interest; and each standing
-/// line of interest is a firm's or is in suspense.
-pub fn law_conserved()
-    ensures contributions { (b : Book) → IsLawful b
-        → standing_cents b Contribution + set_off_cents b Contribution
-        ≡ pieces_cents b + prepaid_cents b + suspense_cents b Contribution }
-    ensures interest { (b : Book) → IsLawful b
-        → interest_cents b ≡ firm_cents b Interest + set_off_cents b Interest }
-    ensures interest_lines { (b : Book) → IsLawful b
-        → standing_cents b Interest ≡ firm_cents b Interest + suspense_cents b Interest }
 {}
 
 /// The bank lines and the releases of a book together have the serials 1, 2, 3, .. in the order in
@@ -280,6 +282,20 @@ pub fn law_employed()
         → list_any (λ row. row.employer == e) (wages_of_worker t w) ≡ is_employed b e w }
 {}
 
+/// Open parts and weights that are kept of an account are right on every later day, since no
+/// credit of a lawful book comes from a day ahead, and no later entry changes the rates of a month
+/// of which the book has a report: new rates begin behind the month of the day on which they are
+/// added, and a month is reported when it has begun.
+pub fn law_1()
+    ensures days { (b : Book) → IsLawful b
+        → AllByRecursion (λ row. IsBy (ledger_day b.entries) row.day)
+        (credits_standing b.entries) }
+    ensures rates { (b : Book) (more : List Entry) (e m : ℕ)
+        → let later = record b { entries = more ++ b.entries } in IsLawful later
+        → IsSome (latest_lines b.entries e m)
+        → rate_in_force (rates_of later) m ≡ rate_in_force (rates_of b) m }
+{}
+
 /// A command that was accepted and comes again under its number, on any day and after any further
 /// calls, has the reply that it had, and leaves the book.
 pub fn law_2()
@@ -289,6 +305,27 @@ pub fn law_2()
         → Runs failed end (step b (Do caller number day command)) calls outcomes last
         → (later : ℕ) → (judge last (Do caller number later command) ≡ kept_reply reply)
         × (step last (Do caller number later command) ≡ last) }
+{}
+
+/// No cent of a lawful book is lost. What came in for contributions, by standing lines and by
+/// set-offs, is in the pieces of the firms, is prepaid, or is in suspense; the firms' payments of
+/// interest are their standing lines of interest and the set-offs to interest; and each standing
+/// line of interest is a firm's or is in suspense. A claim that is released is settled whole: its
+/// cents are those of the three parts. It is on one payout list at most.
+pub fn law_3()
+    ensures contributions { (b : Book) → IsLawful b
+        → standing_cents b Contribution + set_off_cents b Contribution
+        ≡ pieces_cents b + prepaid_cents b + suspense_cents b Contribution }
+    ensures interest { (b : Book) → IsLawful b
+        → interest_cents b ≡ firm_cents b Interest + set_off_cents b Interest }
+    ensures interest_lines { (b : Book) → IsLawful b
+        → standing_cents b Interest ≡ firm_cents b Interest + suspense_cents b Interest }
+    ensures released { (b : Book) (number : ℕ) (claim : ClaimRow) (release : ReleasedClaim)
+        → IsLawful b → claim_of b.entries number ≡ Some claim → claim.state ≡ Released release
+        → settled release.settlement ≡ claim.cents }
+    ensures one_list { (b : Book) (number list other : ℕ) (claim : ClaimRow) → IsLawful b
+        → claim_of b.entries number ≡ Some claim → is_on list claim.state ≡ true
+        → is_on other claim.state ≡ true → list ≡ other }
 {}
 
 /// Two commands are the same exactly where their kinds and each of their values are, and different

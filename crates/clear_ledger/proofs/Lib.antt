@@ -2,6 +2,8 @@ pub mod BankTable
 pub mod ClaimTable
 pub mod CreditTable
 pub mod ListTable
+pub mod ReminderTable
 pub mod ReplyLemmas
 pub mod RequestTable
+pub mod RunTable
 pub mod StateLemmas

@@ -10,10 +10,13 @@ use Rattle.clear_values.specs.declared.rows.ClaimState.{ClaimState}
 use Rattle.clear_values.specs.declared.rows.ClaimState.TheVariants.{Open, Withdrawn, Released}
 use Rattle.clear_values.specs.declared.rows.CreditRow.{CreditRow}
 use Rattle.clear_values.specs.declared.rows.ListRow.{ListRow}
+use Rattle.clear_values.specs.declared.rows.ReminderRow.{ReminderRow}
+use Rattle.clear_values.specs.declared.rows.RunRow.{RunRow}
 use Rattle.clear_values.specs.declared.replies.Reply.{Reply}
 use Rattle.clear_values.specs.declared.replies.Reply.TheVariants.{Done, Reported, Imported, Claimed}
-use Rattle.clear_values.specs.declared.replies.Reply.TheVariants.{Released as reply_of_release, Listed}
-use Rattle.clear_schema.specs.Values.{caller_number, number, maybe, purpose}
+use Rattle.clear_values.specs.declared.replies.Reply.TheVariants.{Released as reply_of_release}
+use Rattle.clear_values.specs.declared.replies.Reply.TheVariants.{Listed, Reminded}
+use Rattle.clear_schema.specs.Values.{caller_number, number, maybe, maybe_month, purpose}
 use Rattle.clear_columns.specs.Keys.{is_held}
 use Rattle.clear_ledger.specs.declared.replies.ReplyNumbers.{ReplyNumbers}
 use Rattle.clear_ledger.specs.declared.states.StateColumns.{StateColumns}
@@ -87,6 +90,18 @@ claim_shown row = shown_with row (columns_of row.state)
 abbrev pub list_shown : ListRow → Row
 list_shown row = number row.list ∷ number row.day ∷ number row.items ∷ number row.total ∷ []
 
+-- ---- reminder runs
+
+-- a reminder run
+abbrev pub run_shown : RunRow → Row
+run_shown row = number row.run ∷ number row.day ∷ number row.firms ∷ []
+
+-- a reminder
+abbrev pub reminder_shown : ReminderRow → Row
+reminder_shown row =
+    number row.run ∷ number row.employer ∷ number row.level ∷ number row.missing
+    ∷ maybe_month row.first ∷ number row.arrears ∷ number row.interest ∷ []
+
 -- ---- requests
 
 -- the kind of a reply, and its numbers
@@ -102,6 +117,7 @@ numbers_of (reply_of_release settlement) = record {
   c = settlement.paid;
 }
 numbers_of (Listed list items total) = record { kind = 6; a = list; b = items; c = total }
+numbers_of (Reminded run firms) = record { kind = 7; a = run; b = firms; c = 0 }
 
 -- 63 bits hold each of them
 abbrev pub AreSmall : ReplyNumbers → Type 0

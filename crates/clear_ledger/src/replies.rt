@@ -5,6 +5,7 @@ ghost use Rattle.clear_values.specs.RowRanges.{IsReply};
 ghost use Rattle.clear_ledger.specs.Shown.{AreSmall, numbers_of};
 
 use crate::lists::is_listed;
+use crate::runs::is_reminded;
 use crate::states::settled_cents;
 use clear_money::numbers::Amount;
 use clear_values::limits::{MAX_BASE, MAX_RECORDS, MAX_VERSIONS};
@@ -21,7 +22,7 @@ pub struct ReplyNumbers {
 }
 
 /// The numbers of a reply. Kind 1 is done, 2 is reported, 3 is imported, 4 is claimed, 5 is released,
-/// and 6 is listed.
+/// 6 is listed, and 7 is reminded.
 pub fn reply_numbers(reply: Reply) -> ReplyNumbers
     ensures value { result ≡ numbers_of reply }
     ensures small { IsReply reply → AreSmall result }
@@ -38,6 +39,7 @@ pub fn reply_numbers(reply: Reply) -> ReplyNumbers
             b: items,
             c: total,
         },
+        Reply::Reminded { run, firms } => numbers(7, u64::from(run), firms),
     }
 }
 
@@ -111,6 +113,13 @@ fn reply_of_kind(numbers: ReplyNumbers) -> Option<Reply>
             }),
             Err(_) => None,
         },
+        7 => match u32::try_from(numbers.a) {
+            Ok(run) => Some(Reply::Reminded {
+                run,
+                firms: numbers.b,
+            }),
+            Err(_) => None,
+        },
         _ => None,
     }
 }
@@ -133,5 +142,6 @@ pub fn is_reply(reply: Reply) -> bool
             None => false,
         },
         Reply::Listed { list, items, total } => is_listed(list, items, total),
+        Reply::Reminded { run, firms } => is_reminded(run, firms),
     }
 }

@@ -1,8 +1,8 @@
 -- A change that leads to the tables of a book.
-use Rattle.std.proofs.Common.{◌≡◌, ℕ, ◌+◌, ◌≤◌, List, [], ◌∷◌, None, refl, sym, ap, subst, arith}
+use Rattle.std.proofs.Common.{◌≡◌, ℕ, ◌≤◌, List, [], ◌∷◌, None, sym, ap, subst, arith}
 use Rattle.std.specs.List.{AllByRecursion}
 use Rattle.clear_values.specs.declared.rows.Change.{Change}
-use Rattle.clear_values.specs.declared.rows.Change.TheVariants.{AddRate, AddEmployer, EndMembership, AddReport, ReplaceReport, AddBankLines, AssignLine, AddClaim, WithdrawClaim, ReleaseClaim, AddList}
+use Rattle.clear_values.specs.declared.rows.Change.TheVariants.{AddRate, AddEmployer, EndMembership, AddReport, ReplaceReport, AddBankLines, AssignLine, AddClaim, WithdrawClaim, ReleaseClaim, AddList, AddRun}
 use Rattle.clear_values.specs.declared.texts.WageLine.{WageLine}
 use Rattle.clear_values.specs.Credits.{credit_key}
 use Rattle.clear_values.specs.Tables.{request_number}
@@ -12,13 +12,14 @@ use Rattle.clear_values.specs.Credits.{credits_of_lines, set_offs_of}
 use Rattle.clear_book.specs.Lines.{is_in_suspense, lines_standing, suspense_count}
 use Rattle.clear_values.specs.Limits.{most_suspense}
 use Rattle.clear_book.specs.Machine.{IsLawful}
-use Rattle.clear_values.specs.RowRanges.{AreInRange, IsBankRow, IsClaimRow, IsCreditRow, IsListRow, IsReply, IsReportRow, IsRequestRow, IsSerial, IsWageRow}
-use Rattle.clear_values.specs.Tables.{Tables, bank_key, changed, claim_key, employer_key, is_wage_key_of, list_key, report_key, request_key, wage_key, wage_rows}
+use Rattle.clear_values.specs.RowRanges.{AreInRange, IsBankRow, IsClaimRow, IsCreditRow, IsListRow, IsReminderRow, IsReply, IsReportRow, IsRequestRow, IsRunRow, IsSerial, IsWageRow}
+use Rattle.clear_values.specs.Tables.{Tables, bank_key, changed, claim_key, employer_key, is_wage_key_of, list_key, reminder_key, report_key, request_key, run_key, wage_key, wage_rows}
 use Rattle.clear_book.specs.Tables.{Stands, noted, request_row}
 use Rattle.clear_values.proofs.KeyedRowsLemmas.{count_by-ordered}
 use Rattle.clear_laws.proofs.AccountLimitLemmas.{standing_within}
 use Rattle.clear_laws.proofs.ClaimsLemmas.{claims_numbered}
 use Rattle.clear_laws.proofs.ListNumbersLemmas.{lists_in_order}
+use Rattle.clear_laws.proofs.RemindersLemmas.{reminders_in_order, runs_in_order}
 use Rattle.clear_values.proofs.PutRowsLemmas.{all_put}
 use Rattle.clear_laws.proofs.LinesLemmas.{references_standing, standing_once}
 use Rattle.clear_laws.proofs.RowRangeLemmas.{rows_in_range}
@@ -27,7 +28,8 @@ use Rattle.clear_schema.specs.Values.{Counts as Stored, counts_of}
 use Rattle.clear_firms.specs.declared.counts.Counts.{Counts}
 use Rattle.clear_firms.specs.Counts.{as_stored}
 use Rattle.clear_ledger.specs.Shown.{serial_key}
-use Rattle.clear_store.specs.Changes.{AreGross, HasRoom, IsFree, IsInRange, IsPuttable, IsThere, claims_taken, lists_taken, serials_taken}
+use Rattle.clear_store.specs.Changes.{AreGross, HasRoom, IsFree, IsInRange, IsPuttable, IsThere, taken_by}
+use Rattle.clear_store.proofs.ChangeLemmas.{counted}
 use Rattle.clear_store.proofs.RateLemmas.{rising_free}
 use Rattle.clear_store.proofs.OnceLemmas.{all_new, all_with, in_order_free, key_count, once_counted, once_free}
 
@@ -73,6 +75,10 @@ change_free next t x (WithdrawClaim row) lawful stands = tt
 change_free next t x (ReleaseClaim row serial) lawful stands = in_order_free credit_key t.credits (set_offs_of row serial) stands.credits_in_order
 change_free next t x (AddList row claims) lawful stands =
     (in_order_free list_key t.lists (row ∷ []) (subst (AreInOrder list_key) (sym stands.lists) (lists_in_order next.opening next.entries lawful))).0
+change_free next t x (AddRun row reminders) lawful stands = (
+  (in_order_free run_key t.runs (row ∷ []) (subst (AreInOrder run_key) (sym stands.runs) (runs_in_order next.opening next.entries lawful))).0,
+  in_order_free reminder_key t.reminders reminders (subst (AreInOrder reminder_key) (sym stands.reminders) (reminders_in_order next.opening next.entries lawful)),
+)
 
 -- and the number of the request
 pub number_free : (next : Book) (t : Tables) (x : Entry) (change : Change) → Stands next (noted x (changed change t)) → find_row request_key t.requests (request_number x.caller x.number) ≡ None
@@ -87,6 +93,7 @@ number_free next t x (AddClaim row) stands = (in_order_free request_key t.reques
 number_free next t x (WithdrawClaim row) stands = (in_order_free request_key t.requests (request_row x ∷ []) stands.requests_in_order).0
 number_free next t x (ReleaseClaim row serial) stands = (in_order_free request_key t.requests (request_row x ∷ []) stands.requests_in_order).0
 number_free next t x (AddList row claims) stands = (in_order_free request_key t.requests (request_row x ∷ []) stands.requests_in_order).0
+number_free next t x (AddRun row reminders) stands = (in_order_free request_key t.requests (request_row x ∷ []) stands.requests_in_order).0
 
 -- ---- ranges
 
@@ -128,54 +135,16 @@ rows_puttable t x (AddList row claims) there within = (
   (all_with list_key IsListRow t.lists row within.lists).1,
   all_put claim_key IsClaimRow t.claims claims there.1 within.claims,
 )
-
--- the last serial after a change is as many more as it takes
-serial_after : (change : Change) (t : Tables) → t.serial + serials_taken change ≡ (changed change t).serial
-serial_after (AddRate row) t = omega arith
-serial_after (EndMembership row) t = omega arith
-serial_after (AssignLine row) t = omega arith
-serial_after (AddEmployer row) t = omega arith
-serial_after (AddReport row lines) t = omega arith
-serial_after (ReplaceReport row lines) t = omega arith
-serial_after (AddBankLines rows) t = omega arith
-serial_after (AddClaim row) t = omega arith
-serial_after (WithdrawClaim row) t = omega arith
-serial_after (ReleaseClaim row serial) t = omega arith
-serial_after (AddList row claims) t = omega arith
-
--- and so is the last number of a claim
-claims_after : (change : Change) (t : Tables) → t.last_claim + claims_taken change ≡ (changed change t).last_claim
-claims_after (AddRate row) t = omega arith
-claims_after (EndMembership row) t = omega arith
-claims_after (AssignLine row) t = omega arith
-claims_after (AddEmployer row) t = omega arith
-claims_after (AddReport row lines) t = omega arith
-claims_after (ReplaceReport row lines) t = omega arith
-claims_after (AddBankLines rows) t = omega arith
-claims_after (AddClaim row) t = omega arith
-claims_after (WithdrawClaim row) t = omega arith
-claims_after (ReleaseClaim row serial) t = omega arith
-claims_after (AddList row claims) t = omega arith
-
--- and the last number of a list
-lists_after : (change : Change) (t : Tables) → t.last_list + lists_taken change ≡ (changed change t).last_list
-lists_after (AddRate row) t = omega arith
-lists_after (EndMembership row) t = omega arith
-lists_after (AssignLine row) t = omega arith
-lists_after (AddEmployer row) t = omega arith
-lists_after (AddReport row lines) t = omega arith
-lists_after (ReplaceReport row lines) t = omega arith
-lists_after (AddBankLines rows) t = omega arith
-lists_after (AddClaim row) t = omega arith
-lists_after (WithdrawClaim row) t = omega arith
-lists_after (ReleaseClaim row serial) t = omega arith
-lists_after (AddList row claims) t = omega arith
+rows_puttable t x (AddRun row reminders) there within = (
+  (all_with run_key IsRunRow t.runs row within.runs).1,
+  (all_new reminder_key IsReminderRow t.reminders reminders within.reminders).1,
+)
 
 -- so the change can be put
 pub change_puttable : (next : Book) (t : Tables) (x : Entry) (change : Change) (counts : Counts) → IsLawful next → Stands next (noted x (changed change t)) → as_stored counts ≡ counts_of t → IsThere change t → IsPuttable counts change
 change_puttable next t x change counts lawful stands same there =
     let within = rows_in_range next (noted x (changed change t)) lawful stands in
-    (rows_puttable t x change there within, room change within)
+    (rows_puttable t x change there within, room within)
   where
     entries : counts.entries ≡ t.entries
     entries = ap (λ (c : Stored). c.entries) same
@@ -189,23 +158,15 @@ change_puttable next t x change counts lawful stands same there =
     lists : counts.lists ≡ t.last_list
     lists = ap (λ (c : Stored). c.lists) same
 
-    entries_after : (change : Change) → t.entries + 1 ≡ (noted x (changed change t)).entries
-    entries_after (AddRate row) = refl
-    entries_after (EndMembership row) = refl
-    entries_after (AssignLine row) = refl
-    entries_after (AddEmployer row) = refl
-    entries_after (AddReport row lines) = refl
-    entries_after (ReplaceReport row lines) = refl
-    entries_after (AddBankLines rows) = refl
-    entries_after (AddClaim row) = refl
-    entries_after (WithdrawClaim row) = refl
-    entries_after (ReleaseClaim row serial) = refl
-    entries_after (AddList row claims) = refl
+    runs : counts.runs ≡ t.last_run
+    runs = ap (λ (c : Stored). c.runs) same
 
-    room : (change : Change) → AreInRange (noted x (changed change t)) → HasRoom counts (serials_taken change) (claims_taken change) (lists_taken change)
-    room change within = (
-      omega (arith, entries, entries_after change, within.entries),
-      omega (arith, serial, serial_after change t, within.serial),
-      omega (arith, claims, claims_after change t, within.last_claim),
-      omega (arith, lists, lists_after change t, within.last_list),
+    -- the counts that are put are those of the tables after the change
+    room : AreInRange (noted x (changed change t)) → HasRoom counts (taken_by change)
+    room within = (
+      omega (arith, entries, ap (λ (u : Tables). u.entries) (counted x.day change t), within.entries),
+      omega (arith, serial, ap (λ (u : Tables). u.serial) (counted x.day change t), within.serial),
+      omega (arith, claims, ap (λ (u : Tables). u.last_claim) (counted x.day change t), within.last_claim),
+      omega (arith, lists, ap (λ (u : Tables). u.last_list) (counted x.day change t), within.last_list),
+      omega (arith, runs, ap (λ (u : Tables). u.last_run) (counted x.day change t), within.last_run),
     )

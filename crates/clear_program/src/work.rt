@@ -172,7 +172,8 @@ fn import<S: Alter>(
         | Reply::Reported { .. }
         | Reply::Claimed { .. }
         | Reply::Released(_)
-        | Reply::Listed { .. } => Err(stop_at_records()),
+        | Reply::Listed { .. }
+        | Reply::Reminded { .. } => Err(stop_at_records()),
     }
 }
 

@@ -1,3 +1,4 @@
+pub mod DocumentLemmas
 pub mod PayoutLemmas
 pub mod ReadLemmas
 pub mod ReaderLemmas

@@ -112,7 +112,7 @@ module _ {S T X : Type 0} (g : Ghosts S) (show : X → Row) (P : X → Type 0) w
     pub disk : HasCleanDisk (state g (conn_of new)) → (rest : List X) → HasToGive g show (conn_of old) rest → AreRight rest → IsOfDisk (fault_told why)
 
   -- rows in their ranges are right
-  pub stopped : (old new : StoredRows S T g) (why : RowFault) → IsCutOff (Gives g show P) (Refuses g show P) old why new → Stopped (AllByRecursion P) old why new
+  stopped : (old new : StoredRows S T g) (why : RowFault) → IsCutOff (Gives g show P) (Refuses g show P) old why new → Stopped (AllByRecursion P) old why new
   stopped old new why (inl (is, (given, inl run))) =
       let all = ran old new given run in
       record { name = all.name; mode = all.mode; survives = all.survives; kept = all.kept; disk = λ clean rest to_give ranges. memory why is }
@@ -159,12 +159,12 @@ module _ {S T X : Type 0} (g : Ghosts S) (show : X → Row) (P : X → Type 0) w
       }
 
   -- a document over the rows that a reader gave up to its end, and one that was refused
-  module _ {A : Type 0} (old new : StoredRows S T g) (text_of : List X → List ℕ) (AreRight : List X → Type 0) (before after : List ℕ) where
-    pub told : (x : A) (given : List X) → YieldsThen (Gives g show P) old given None new → after ≡ before ++ text_of given → Tells g show (conn_of old) (conn_of new) text_of AreRight before after (Ok x)
-    told x given run text =
+  module _ (old new : StoredRows S T g) (text_of : List X → List ℕ) (AreRight : List X → Type 0) where
+    pub told : (document : List ℕ) (given : List X) → YieldsThen (Gives g show P) old given None new → document ≡ text_of given → Tells g show (conn_of old) (conn_of new) text_of AreRight (Ok document)
+    told document given run text =
         let all = done old new given run in
         record {
-          written = λ clean rest to_give. text ∙ ap (λ rows. before ++ text_of rows) (all.is clean rest to_give);
+          written = λ clean rest to_give. text ∙ ap text_of (all.is clean rest to_give);
           cause = λ clean rest to_give right. tt;
           same = all.same;
           kept = λ clean. unchanged_keeps (state g (conn_of old)) (state g (conn_of new)) (all.same clean);
@@ -172,7 +172,7 @@ module _ {S T X : Type 0} (g : Ghosts S) (show : X → Row) (P : X → Type 0) w
           survives = all.survives;
         }
 
-    pub cut_off : (why : RowFault) (fault : Fault) → fault ≡ fault_told why → Stopped AreRight old why new → Tells {A = A} g show (conn_of old) (conn_of new) text_of AreRight before after (Err fault)
+    pub cut_off : (why : RowFault) (fault : Fault) → fault ≡ fault_told why → Stopped AreRight old why new → Tells g show (conn_of old) (conn_of new) text_of AreRight (Err fault)
     cut_off why fault is all =
         record {
           written = λ clean rest to_give. tt;

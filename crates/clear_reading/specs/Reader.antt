@@ -1,22 +1,26 @@
--- What a document over the rows that a connection still has to give leaves of it.
-use Rattle.std.specs.Prelude.{◌≡◌, ◌<◌, ◌^◌, ℕ, false, List, ◌++◌, sum_by}
-use Rattle.std.specs.Prelude.{Result, IfErr, OnOk}
+-- What a document over the rows that a connection still has to give leaves of it, and one over
+-- rows of the tables.
+use Rattle.std.specs.Prelude.{◌≡◌, ◌<◌, ◌^◌, ℕ, false, List, sum_by}
+use Rattle.std.specs.Prelude.{Result, IfErr, IfOk, IsTrue, OnOk}
 use Rattle.std.specs.List.{AllByRecursion}
 use Rattle.sqlite.specs.Held.{Held, state}
 use Rattle.sqlite.specs.Order.{Row}
 use Rattle.sqlite.specs.State.{HasCleanDisk, IsUnchanged, KeepsCommit, Survives}
 use Rattle.sqlite.specs.Store.{Ghosts}
+use Rattle.clear_values.specs.RowRanges.{AreInRange}
+use Rattle.clear_values.specs.Tables.{Tables}
 use Rattle.clear_columns.specs.Reading.{HasToGive}
 use Rattle.clear_schema.specs.Faults.{IsOfDisk}
+use Rattle.clear_schema.specs.Held.{HasTables}
 use Rattle.clear_schema.specs.declared.fault.Fault.{Fault}
 
--- the text that is told of the rows that were to come was written behind a text, or it was refused:
--- where the rows are right, for no fault of a key or of a row
-pub record Tells {S A X : Type 0} (g : Ghosts S) (show : X → Row) (old new : Held S)
+-- the document is the text that is told of the rows that were to come, or it was refused: where
+-- the rows are right, for no fault of a key or of a row
+pub record Tells {S X : Type 0} (g : Ghosts S) (show : X → Row) (old new : Held S)
     (told : List X → List ℕ) (AreRight : List X → Type 0)
-    (before after : List ℕ) (result : Result A Fault) : Type 0 where
+    (result : Result (List ℕ) Fault) : Type 0 where
   pub written : HasCleanDisk (state g new) → (rest : List X)
-      → HasToGive g show old rest → OnOk result (after ≡ before ++ told rest)
+      → HasToGive g show old rest → IfOk result (λ document. document ≡ told rest)
   pub cause : HasCleanDisk (state g new) → (rest : List X)
       → HasToGive g show old rest → AreRight rest → IfErr result IsOfDisk
   pub same : HasCleanDisk (state g new) → OnOk result (IsUnchanged (state g old) (state g new))
@@ -27,3 +31,21 @@ pub record Tells {S A X : Type 0} (g : Ghosts S) (show : X → Row) (old new : H
 -- rows in their ranges, whose amounts come to less than 2^64
 abbrev pub AreAddable : {X : Type 0} → (X → Type 0) → (X → ℕ) → List X → Type 0
 AreAddable P amount rows = AllByRecursion P rows × (sum_by amount rows < 2 ^ 64)
+
+-- the document is the text of the tables that the connection has, or it was refused: where they
+-- are in their ranges and right, for no fault of a key or of a row. Nothing is changed
+pub record TellsDocument {S : Type 0} (g : Ghosts S) (old new : Held S)
+    (text : Tables → List ℕ) (AreRight : Tables → Type 0)
+    (result : Result (List ℕ) Fault) : Type 0 where
+  pub written : HasCleanDisk (state g new) → (t : Tables) → HasTables t (state g old).now
+      → IfOk result (λ document. document ≡ text t)
+  pub cause : HasCleanDisk (state g new) → (t : Tables) → HasTables t (state g old).now
+      → AreInRange t → AreRight t → IfErr result IsOfDisk
+  pub same : HasCleanDisk (state g new) → (t : Tables) → HasTables t (state g old).now
+      → OnOk result (IsUnchanged (state g old) (state g new))
+  pub kept : HasCleanDisk (state g new) → (t : Tables) → HasTables t (state g old).now
+      → KeepsCommit (state g old) (state g new)
+  pub survives : (t : Tables) → HasTables t (state g old).now
+      → Survives (state g old) (state g new) (λ _. ⊥)
+  pub clean : HasCleanDisk (state g new) → HasCleanDisk (state g old)
+  pub is_open : HasCleanDisk (state g new) → OnOk result (IsTrue (state g new).is_open)

@@ -1,17 +1,18 @@
 //! What payout lists and documents are made from, read from the store.
 //!
-//! Inside of a transaction `payout_view` reads what a payout list is judged by, `worker_records`
-//! what a worker's document is made from, and `list_under` a list by its number. They read by keys
-//! and by indexes, so they cost what they find, whatever else the book holds. Outside of one
-//! `tell_list` writes the document of a list, whose claims it reads one at a time: a list may have
-//! every claim of the book. `tell_suspense` writes that of the lines in suspense so, in one pass
-//! over all bank lines. None of them changes anything, and none fails for a key or a row of a
-//! lawful book.
+//! Inside of a transaction `payout_view` reads what a payout list is judged by, and `worker_records`
+//! what a worker's document is made from. They read by keys and by indexes, so they cost what they
+//! find, whatever else the book holds. Outside of one `tell_list` writes the document of a list,
+//! whose claims it reads one at a time: a list may have every claim of the book. `tell_reminders`
+//! writes that of a reminder run so, and `tell_suspense` that of the lines in suspense, in one pass
+//! over all bank lines. None of them changes anything, and none fails for a key or a row of a lawful
+//! book.
 #![tactic(auto)]
 
 pub mod lists;
 pub mod payout;
+pub mod reminders;
 pub mod stored;
 pub mod suspense;
-pub mod telling;
+mod telling;
 pub mod worker;

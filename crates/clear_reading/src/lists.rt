@@ -1,38 +1,62 @@
-//! A payout list by its number.
-ghost use Rattle.std.specs.Prelude.{◌≡◌, ◌∷◌, [], IfErr, IfOk, IfSome};
-ghost use Rattle.sqlite.specs.Held.{state};
-ghost use Rattle.sqlite.specs.State.{HasCleanDisk};
-ghost use Rattle.clear_values.specs.Keyed.{find_row};
-ghost use Rattle.clear_values.specs.RowRanges.{AreInRange, IsListRow};
-ghost use Rattle.clear_values.specs.Tables.{Tables, list_key};
-ghost use Rattle.clear_schema.specs.Frame.{Leaves};
-ghost use Rattle.clear_schema.specs.Faults.{IsOfDisk};
-ghost use Rattle.clear_schema.specs.Held.{HasTables};
+//! The document of a payout list, told outside of a transaction.
+ghost use Rattle.std.specs.Prelude.{◌≡◌, false, filter};
+ghost use Rattle.clear_values.specs.Numbers.{IsListNo};
+ghost use Rattle.clear_book.specs.Documents.Payout.{payout_text};
+ghost use Rattle.clear_book.specs.Workers.{is_on};
+ghost use Rattle.clear_reading.specs.Reader.{TellsDocument};
 
-use clear_ledger::lists::find_list;
-use clear_schema::fault::Fault;
+use crate::telling::{DocumentHead, tell_rows};
+use clear_book::documents::Document;
+use clear_ledger::claims::{Claims, read_listed};
+use clear_schema::fault::{Fault, fault_of};
+use clear_texts::payout::payout_text;
+use clear_texts::rows::{RowFault, RowSource};
+use clear_values::causes::StoreCause;
 use clear_values::numbers::ListNo;
-use clear_values::rows::ListRow;
-use sqlite::{Alter, Transaction};
+use clear_values::rows::{ClaimRow, ListRow};
+use sqlite::{Alter, Connection};
+use std::alloc::Global;
 
-/// The payout list of a number, if there is one. It takes one search. Where the rows lie in their
-/// ranges, no fault is one of a key or of a row.
-pub fn list_under<S: Alter>(
-    tx: &mut Transaction<'_, S>,
-    list: ListNo,
-) -> Result<Option<ListRow>, Fault>
-    ensures same_reference { tx.new.conn.ghost_name ≡ tx.old.conn.ghost_name }
-    ensures list { HasCleanDisk (state S.Store tx.new.conn.now)
-        → (t : Tables) → HasTables t (state S.Store tx.old.conn.now).now
-        → IfOk result (λ found. found ≡ find_row list_key t.lists (list ∷ [])) }
-    ensures range { IfOk result (λ found. IfSome found IsListRow) }
-    ensures fault { HasCleanDisk (state S.Store tx.new.conn.now)
-        → (t : Tables) → HasTables t (state S.Store tx.old.conn.now).now
-        → AreInRange t → IfErr result IsOfDisk }
-    ensures leaves { Leaves S.Store tx.old.conn.now tx.new.conn.now result }
+/// The document of a payout list over the claims that the table holds, which are read one at a time.
+/// Nothing is changed. It takes as many steps as the list has claims. A list whose number none can
+/// have is refused with `Fault::Store(StoreCause::Row)`.
+pub fn tell_list<S: Alter>(
+    alloc: Global,
+    conn: &mut Connection<S>,
+    list: &ListRow,
+) -> Result<Document, Fault>
+    requires outside { conn.old.in_transaction ≡ false }
+    ensures mode { conn.new.in_transaction ≡ false }
+    ensures tells { TellsDocument S.Store conn.old conn.new
+        (λ t. payout_text list.now (filter (λ claim. is_on list.now.list claim.state) t.claims))
+        (λ t. IsListNo list.now.list) result }
 {
-    match find_list(tx, list) {
-        Ok(found) => Ok(found),
-        Err(fault) => Err(fault),
+    let Some(number) = ListNo::new(u64::from(list.list)) else {
+        return Err(Fault::Store(StoreCause::Row));
+    };
+    let mut rows = match read_listed(conn, number) {
+        Ok(rows) => rows,
+        Err(error) => return Err(fault_of(error)),
+    };
+    tell_rows(alloc, list, &mut rows)
+}
+
+// The claims on the list are told, and nothing of them is added up.
+impl DocumentHead for ListRow {
+    ghost use Rattle.clear_book.specs.Documents.Payout.{payout_text};
+
+    type Table = Claims;
+
+    ghost text_of = { payout_text };
+
+    ghost amount = { λ claim. 0 };
+
+    fn append<R: RowSource<Row = ClaimRow>>(
+        &self,
+        alloc: Global,
+        rows: &mut R,
+        text: &mut String,
+    ) -> Result<(), RowFault> {
+        payout_text(alloc, self, rows, text)
     }
 }

@@ -17,9 +17,9 @@ ghost use Rattle.clear_schema.specs.Held.{HasTables};
 ghost use Rattle.clear_schema.specs.Values.{counts_of};
 ghost use Rattle.clear_reading.specs.Payout.{AreAmong, AreSince, IsViewOf, day_of_list};
 
-use crate::lists::list_under;
 use clear_firms::counts::Counts;
 use clear_ledger::claims::claims_released_since;
+use clear_ledger::lists::find_list;
 use clear_money::days::Day;
 use clear_rules::decide::payout::PayoutView;
 use clear_schema::fault::Fault;
@@ -83,7 +83,7 @@ fn payable_after<S: Alter>(
         → AreInRange t → length t.claims ≤ most_entries → IfErr result IsOfDisk }
     ensures leaves { Leaves S.Store tx.old.conn.now tx.new.conn.now result }
 {
-    match list_under(tx, last) {
+    match find_list(tx, last) {
         Ok(Some(list)) => payable_since(tx, list.day, next),
         Ok(None) => payable_since(tx, first_day(), next),
         Err(fault) => Err(fault),

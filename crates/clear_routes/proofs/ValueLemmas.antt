@@ -95,6 +95,7 @@ spelling_part kind.Month n h = month_part n h
 spelling_part kind.Claim n h = number_part n (omega (arith, h.1))
 spelling_part kind.Worker n h = number_part n (omega (arith, h.1))
 spelling_part kind.List n h = number_part n (omega (arith, h.1))
+spelling_part kind.Run n h = number_part n (omega (arith, h.1))
 
 spelling_ascii : (kind : Kind) (n : ℕ) → IsOfKind kind n → IsAscii (spelling kind n)
 spelling_ascii kind.Employer n h = IsAscii-decimal n (omega (arith, h.1))
@@ -102,6 +103,7 @@ spelling_ascii kind.Month n h = month_ascii n h
 spelling_ascii kind.Claim n h = IsAscii-decimal n (omega (arith, h.1))
 spelling_ascii kind.Worker n h = IsAscii-decimal n (omega (arith, h.1))
 spelling_ascii kind.List n h = IsAscii-decimal n (omega (arith, h.1))
+spelling_ascii kind.Run n h = IsAscii-decimal n (omega (arith, h.1))
 
 spelling_one : (kind : Kind) (n m : ℕ) → IsOfKind kind n → IsOfKind kind m → spelling kind n ≡ spelling kind m → n ≡ m
 spelling_one kind.Employer n m h k e = decimal_injective n m (omega (arith, h.1)) (omega (arith, k.1)) e
@@ -109,6 +111,7 @@ spelling_one kind.Month n m h k e = month_same n m h.1 k.1 e
 spelling_one kind.Claim n m h k e = decimal_injective n m (omega (arith, h.1)) (omega (arith, k.1)) e
 spelling_one kind.Worker n m h k e = decimal_injective n m (omega (arith, h.1)) (omega (arith, k.1)) e
 spelling_one kind.List n m h k e = decimal_injective n m (omega (arith, h.1)) (omega (arith, k.1)) e
+spelling_one kind.Run n m h k e = decimal_injective n m (omega (arith, h.1)) (omega (arith, k.1)) e
 
 -- ---- lists of values
 

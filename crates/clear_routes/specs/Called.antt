@@ -68,6 +68,9 @@ command_for kind.Release at body = do
 command_for kind.PayoutList at body = do
   _ ← nothing_of body
   Ok command.PayoutList
+command_for kind.RemindRun at body = do
+  _ ← nothing_of body
+  Ok command.RemindRun
 command_for kind.ImportBank at body = Ok (command.ImportBank body)
 command_for kind.Assign at body = do
   assignment ← assignment_of body
@@ -80,6 +83,7 @@ query_for asked.Statement at = query.Statement at.employer
 query_for asked.Worker at = query.Worker at.worker
 query_for asked.Suspense at = query.Suspense
 query_for asked.Payout at = query.Payout at.list
+query_for asked.Reminder at = query.Reminder at.run
 
 -- what a request of this route and this caller calls for on a day. Of a command the number in the
 -- head is judged before the body; a query needs no number, and its body isn't looked at

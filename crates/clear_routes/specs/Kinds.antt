@@ -4,7 +4,7 @@ use Rattle.std.specs.Fmt.{decimal}
 use Rattle.clear_money.specs.Calendar.{IsMonth}
 use Rattle.clear_money.specs.Numbers.{IsEmployerNo, IsWorkerNo}
 use Rattle.clear_money.specs.Texts.{month_text}
-use Rattle.clear_book.specs.Numbers.{IsClaimNo, IsListNo}
+use Rattle.clear_book.specs.Numbers.{IsClaimNo, IsListNo, IsRunNo}
 use Rattle.clear_routes.specs.declared.kinds.Kind.{Kind}
 use Rattle.clear_routes.specs.declared.kinds.Kind.TheVariants as kind
 use Rattle.clear_routes.specs.declared.kinds.Kinds.{Kinds}
@@ -18,6 +18,7 @@ IsOfKind kind.Month n = IsMonth n
 IsOfKind kind.Claim n = IsClaimNo n
 IsOfKind kind.Worker n = IsWorkerNo n
 IsOfKind kind.List n = IsListNo n
+IsOfKind kind.Run n = IsRunNo n
 
 -- how a value of the kind is written
 abbrev pub spelling : Kind → ℕ → List ℕ
@@ -26,6 +27,7 @@ spelling kind.Month n = month_text n
 spelling kind.Claim n = decimal n
 spelling kind.Worker n = decimal n
 spelling kind.List n = decimal n
+spelling kind.Run n = decimal n
 
 -- the parameters with this value in the place of its kind
 abbrev pub with_value : Kind → ℕ → Parameters → Parameters
@@ -34,10 +36,11 @@ with_value kind.Month n p = record p { month = n }
 with_value kind.Claim n p = record p { claim = n }
 with_value kind.Worker n p = record p { worker = n }
 with_value kind.List n p = record p { list = n }
+with_value kind.Run n p = record p { run = n }
 
 -- the least value of each kind
 abbrev pub least : Parameters
-least = record { employer = 1; month = 24000; claim = 1; worker = 1; list = 1 }
+least = record { employer = 1; month = 24000; claim = 1; worker = 1; list = 1; run = 1 }
 
 -- the kinds in their order
 abbrev pub kinds_in : Kinds → List Kind

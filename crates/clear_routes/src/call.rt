@@ -131,6 +131,10 @@ fn command_for(
             read_nothing(body)?;
             Ok(Command::PayoutList)
         }
+        CommandKind::RemindRun => {
+            read_nothing(body)?;
+            Ok(Command::RemindRun)
+        }
         CommandKind::ImportBank => {
             let bytes = Vec::from_slice(alloc, body)?;
             Ok(Command::ImportBank(BankFile::new(bytes)))
@@ -150,6 +154,7 @@ fn query_for(kind: QueryKind, at: Parameters) -> Query
         QueryKind::Worker => Query::Worker { worker: at.worker },
         QueryKind::Suspense => Query::Suspense,
         QueryKind::Payout => Query::Payout { list: at.list },
+        QueryKind::Reminder => Query::Reminder { run: at.run },
     }
 }
 

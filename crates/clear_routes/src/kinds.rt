@@ -13,6 +13,8 @@ pub enum Kind {
     Worker,
     /// A payout list's number.
     List,
+    /// A reminder run's number.
+    Run,
 }
 
 /// The kinds of a path's parameters, in their order.

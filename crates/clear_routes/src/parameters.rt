@@ -2,14 +2,14 @@
 ghost use Rattle.std.specs.Prelude.{◌≡◌, ◌≢◌, ℕ, List, IfSome, IfNone};
 ghost use Rattle.std.specs.Fmt.{decimal};
 ghost use Rattle.clear_money.specs.Numbers.{IsEmployerNo, IsWorkerNo};
-ghost use Rattle.clear_book.specs.Numbers.{IsClaimNo, IsListNo};
+ghost use Rattle.clear_book.specs.Numbers.{IsClaimNo, IsListNo, IsRunNo};
 ghost use Rattle.clear_routes.specs.Kinds.{IsOfKind, AreOfKinds, kinds_in, spelling, spellings};
 ghost use Rattle.clear_routes.specs.Kinds.{with_value, parameters, least};
 ghost use Rattle.clear_routes.specs.Raw.{texts_in};
 
 use crate::kinds::{Kind, Kinds};
 use crate::paths::Texts;
-use clear_book::numbers::{ClaimNo, ListNo};
+use clear_book::numbers::{ClaimNo, ListNo, RunNo};
 use clear_money::months::Month;
 use clear_money::numbers::{EmployerNo, WorkerNo, read_number};
 
@@ -22,6 +22,7 @@ pub struct Parameters {
     pub claim: ClaimNo,
     pub worker: WorkerNo,
     pub list: ListNo,
+    pub run: RunNo,
 }
 
 impl Parameters {
@@ -32,11 +33,10 @@ impl Parameters {
         let (Some(employer), Some(month)) = (EmployerNo::new(1), Month::new(2000, 1)) else {
             unreachable!()
         };
-        let (Some(claim), Some(worker), Some(list)) = (
-            ClaimNo::new(1),
-            WorkerNo::new(1),
-            ListNo::new(1),
-        ) else {
+        let (Some(claim), Some(worker)) = (ClaimNo::new(1), WorkerNo::new(1)) else {
+            unreachable!()
+        };
+        let (Some(list), Some(run)) = (ListNo::new(1), RunNo::new(1)) else {
             unreachable!()
         };
         Parameters {
@@ -45,6 +45,7 @@ impl Parameters {
             claim,
             worker,
             list,
+            run,
         }
     }
 
@@ -84,6 +85,12 @@ impl Parameters {
                     return None;
                 };
                 Some(Parameters { list, ..self })
+            }
+            Kind::Run => {
+                let Some(run) = run_in(text) else {
+                    return None;
+                };
+                Some(Parameters { run, ..self })
             }
         }
     }
@@ -171,4 +178,15 @@ fn list_in(text: &str) -> Option<ListNo>
         return None;
     };
     ListNo::new(number)
+}
+
+/// The reminder run with this number.
+fn run_in(text: &str) -> Option<RunNo>
+    ensures found { IfSome result (λ n. IsRunNo n × (decimal n ≡ text.now)) }
+    ensures only { IfNone result ((n : ℕ) → IsRunNo n → decimal n ≢ text.now) }
+{
+    let Some(number) = read_number(text.as_bytes()) else {
+        return None;
+    };
+    RunNo::new(number)
 }

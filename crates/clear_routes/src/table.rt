@@ -1,5 +1,5 @@
 //! What may be asked of the office, and the table of its paths.
-use crate::kinds::Kind::{Claim, Employer, List, Month, Worker};
+use crate::kinds::Kind::{Claim, Employer, List, Month, Run, Worker};
 use crate::kinds::Kinds::{self, One, Two, Zero};
 use crate::methods::Methods::{self, Get, Post, PostPut};
 
@@ -15,6 +15,7 @@ pub enum CommandKind {
     Withdraw,
     Release,
     PayoutList,
+    RemindRun,
     ImportBank,
     Assign,
 }
@@ -27,6 +28,7 @@ pub enum QueryKind {
     Worker,
     Suspense,
     Payout,
+    Reminder,
 }
 
 /// What the router keeps of a path.
@@ -69,6 +71,7 @@ pub const PATHS: &'static [(&'static str, Kinds, Methods)] = &[
     ("/bank", Zero, Post(CommandKind::ImportBank)),
     ("/assign", Zero, Post(CommandKind::Assign)),
     ("/payouts", Zero, Post(CommandKind::PayoutList)),
+    ("/reminders", Zero, Post(CommandKind::RemindRun)),
     ("/employers/{e}/owed", One(Employer), Get(QueryKind::Owed)),
     (
         "/employers/{e}/statement",
@@ -78,4 +81,5 @@ pub const PATHS: &'static [(&'static str, Kinds, Methods)] = &[
     ("/workers/{w}", One(Worker), Get(QueryKind::Worker)),
     ("/suspense", Zero, Get(QueryKind::Suspense)),
     ("/payouts/{l}", One(List), Get(QueryKind::Payout)),
+    ("/reminders/{r}", One(Run), Get(QueryKind::Reminder)),
 ];

@@ -8,9 +8,9 @@ use Rattle.sqlite.specs.Query.{Query, inner, end}
 use Rattle.sqlite_value.specs.declared.keys.Key.{Key}
 use Rattle.sqlite_schema.specs.declared.program.Program.{Program}
 
--- SELECT of these columns FROM the table at this place WHERE these hold ORDER BY these
-abbrev pub plain_query : ℕ → List Term → List Term → List (Term × Key) → Query
-plain_query place conditions columns order = record {
+-- SELECT of these columns FROM the table at this place WHERE these hold ORDER BY these LIMIT this
+abbrev pub limited_query : ℕ → List Term → List Term → List (Term × Key) → Term → Query
+limited_query place conditions columns order limit = record {
   from = inner place end;
   filter = conditions;
   group = None;
@@ -18,16 +18,30 @@ plain_query place conditions columns order = record {
   distinct = false;
   collations = [];
   order = order;
-  limit = lit (Int (negsuc 0));
+  limit = limit;
   offset = lit (Int (pos 0));
 }
 
 -- the same, as all that a text says
-abbrev pub plain_program : ℕ → List Term → List Term → List (Term × Key) → Program
-plain_program place conditions columns order = record {
+abbrev pub limited_program : ℕ → List Term → List Term → List (Term × Key) → Term → Program
+limited_program place conditions columns order limit = record {
   lets = [];
-  body = plain_query place conditions columns order;
+  body = limited_query place conditions columns order limit;
 }
+
+-- the query without a limit
+abbrev pub plain_query : ℕ → List Term → List Term → List (Term × Key) → Query
+plain_query place conditions columns order =
+    limited_query place conditions columns order (lit (Int (negsuc 0)))
+
+abbrev pub plain_program : ℕ → List Term → List Term → List (Term × Key) → Program
+plain_program place conditions columns order =
+    limited_program place conditions columns order (lit (Int (negsuc 0)))
+
+-- the query for the first row alone
+abbrev pub first_program : ℕ → List Term → List Term → List (Term × Key) → Program
+first_program place conditions columns order =
+    limited_program place conditions columns order (lit (Int (pos 1)))
 
 -- the row passes WHERE, under these parameters
 abbrev pub passes : List Term → Row → Row → Bool

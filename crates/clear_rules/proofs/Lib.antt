@@ -1,3 +1,5 @@
 pub mod CountsLemmas
+pub mod FilterMapLemmas
 pub mod ImportBankLemmas
+pub mod RemindLemmas
 pub mod ReportLemmas

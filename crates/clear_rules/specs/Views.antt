@@ -6,6 +6,7 @@ pub mod ImportBank
 pub mod PayoutList
 pub mod Register
 pub mod Release
+pub mod RemindRun
 pub mod Report
 pub mod Serves
 pub mod Withdraw

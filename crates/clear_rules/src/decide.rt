@@ -10,6 +10,7 @@ pub mod lines;
 pub mod payout;
 pub mod register;
 pub mod release;
+pub mod remind;
 pub mod report;
 pub mod settle;
 pub mod withdraw;

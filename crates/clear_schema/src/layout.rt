@@ -167,7 +167,7 @@ const TABLES: &'static [TableLayout] = &[
     },
 ];
 
-// The indexes that keep the keys, and those that find wages and claims.
+// The indexes that keep the keys, and those that find wages, claims and reminders.
 const INDEXES: &'static [IndexLayout] = &[
     IndexLayout {
         name: "sqlite_autoindex_reports_1",
@@ -244,6 +244,13 @@ const INDEXES: &'static [IndexLayout] = &[
         tree: 22,
         table: 12,
         columns: &[11],
+        is_unique: false,
+    },
+    IndexLayout {
+        name: "reminders_by_employer",
+        tree: 23,
+        table: 15,
+        columns: &[2, 1],
         is_unique: false,
     },
 ];

@@ -3,13 +3,14 @@ use Rattle.std.proofs.Common.{◌≡◌, ℕ, ◌+◌, length, Result, Ok, sym, 
 use Rattle.sqlite.specs.Held.{Held}
 use Rattle.sqlite.specs.Store.{Ghosts}
 use Rattle.clear_values.specs.declared.rows.Change.{Change}
-use Rattle.clear_values.specs.declared.rows.Change.TheVariants.{AddRate, AddEmployer, EndMembership, AddReport, ReplaceReport, AddBankLines, AssignLine, AddClaim, WithdrawClaim, ReleaseClaim, AddList}
+use Rattle.clear_values.specs.declared.rows.Change.TheVariants.{AddRate, AddEmployer, EndMembership, AddReport, ReplaceReport, AddBankLines, AssignLine, AddClaim, WithdrawClaim, ReleaseClaim, AddList, AddRun}
 use Rattle.clear_values.specs.Tables.{Tables, changed, dated}
 use Rattle.clear_schema.specs.Values.{Counts, counts_of, with_counts}
 use Rattle.clear_schema.specs.declared.fault.Fault.{Fault}
 use Rattle.clear_firms.specs.Counts.{AreCountable, as_stored}
 use Rattle.clear_firms.specs.declared.counts.Counts.{Counts as Told}
-use Rattle.clear_store.specs.Changes.{HasRoom, IsFree, IsInRange, IsPuttable, IsThere, Puts, serials_taken, claims_taken, lists_taken, counts_after}
+use Rattle.clear_store.specs.Changes.{HasRoom, IsFree, IsInRange, IsPuttable, IsThere, Puts, counts_after, taken_by}
+use Rattle.clear_store.specs.declared.changes.Taken.{Taken}
 use Rattle.clear_store.proofs.JoinLemmas.{Always, put_then}
 
 there_with : (change : Change) (c : Counts) (t : Tables) → IsThere change t → IsThere change (with_counts c t)
@@ -24,6 +25,7 @@ there_with (AddClaim row) c t there = there
 there_with (WithdrawClaim row) c t there = there
 there_with (ReleaseClaim row serial) c t there = there
 there_with (AddList row claims) c t there = there
+there_with (AddRun row reminders) c t there = there
 
 free_with : (change : Change) (c : Counts) (t : Tables) → IsFree change t → IsFree change (with_counts c t)
 free_with (AddRate row) c t free = free
@@ -37,34 +39,41 @@ free_with (AddClaim row) c t free = free
 free_with (WithdrawClaim row) c t free = free
 free_with (ReleaseClaim row serial) c t free = free
 free_with (AddList row claims) c t free = free
+free_with (AddRun row reminders) c t free = free
 
 -- the tables after the counts and then the rows of a change are written
 abbrev rows_put : Change → Tables → Tables
-rows_put change t = record (changed change t) { serial = t.serial; last_claim = t.last_claim; last_list = t.last_list }
+rows_put change t = with_counts (counts_of t) (changed change t)
 
 no_more : (n : ℕ) → n + 0 ≡ n
 no_more n = omega arith
 
--- the tables after a change, but with these numbers of serials, claims and lists
-abbrev numbered : ℕ → Change → Tables → ℕ → ℕ → ℕ → Tables
-numbered day change t serials claims lists = record (dated day (changed change t)) { serial = serials; last_claim = claims; last_list = lists }
+-- the tables after a change, but with these numbers as the last serial and the last ones of a claim, a list and a run
+abbrev numbered : ℕ → Change → Tables → ℕ → ℕ → ℕ → ℕ → Tables
+numbered day change t serial claim list run = record (dated day (changed change t)) { serial = serial; last_claim = claim; last_list = list; last_run = run }
+
+-- nothing is taken
+none_taken : (day : ℕ) (change : Change) (t : Tables) → numbered day change t (t.serial + 0) (t.last_claim + 0) (t.last_list + 0) (t.last_run + 0) ≡ numbered day change t t.serial t.last_claim t.last_list t.last_run
+none_taken day change t = λ i. numbered day change t (no_more t.serial i) (no_more t.last_claim i) (no_more t.last_list i) (no_more t.last_run i)
 
 -- the counts after a change
-abbrev counts_with : ℕ → Change → Counts → Counts
-counts_with day change c = counts_after day (serials_taken change) (claims_taken change) (lists_taken change) c
+abbrev pub counts_with : ℕ → Change → Counts → Counts
+counts_with day change c = counts_after day (taken_by change) c
 
-counted : (day : ℕ) (change : Change) (t : Tables) → rows_put change (with_counts (counts_with day change (counts_of t)) t) ≡ dated day (changed change t)
-counted day (AddRate row) t = λ i. numbered day (AddRate row) t (no_more t.serial i) (no_more t.last_claim i) (no_more t.last_list i)
-counted day (AddEmployer row) t = λ i. numbered day (AddEmployer row) t (no_more t.serial i) (no_more t.last_claim i) (no_more t.last_list i)
-counted day (EndMembership row) t = λ i. numbered day (EndMembership row) t (no_more t.serial i) (no_more t.last_claim i) (no_more t.last_list i)
-counted day (AddReport row lines) t = λ i. numbered day (AddReport row lines) t (no_more t.serial i) (no_more t.last_claim i) (no_more t.last_list i)
-counted day (ReplaceReport row lines) t = λ i. numbered day (ReplaceReport row lines) t (no_more t.serial i) (no_more t.last_claim i) (no_more t.last_list i)
-counted day (AddBankLines rows) t = λ i. numbered day (AddBankLines rows) t (t.serial + length rows) (no_more t.last_claim i) (no_more t.last_list i)
-counted day (AssignLine row) t = λ i. numbered day (AssignLine row) t (no_more t.serial i) (no_more t.last_claim i) (no_more t.last_list i)
-counted day (AddClaim row) t = λ i. numbered day (AddClaim row) t (no_more t.serial i) (t.last_claim + 1) (no_more t.last_list i)
-counted day (WithdrawClaim row) t = λ i. numbered day (WithdrawClaim row) t (no_more t.serial i) (no_more t.last_claim i) (no_more t.last_list i)
-counted day (ReleaseClaim row serial) t = λ i. numbered day (ReleaseClaim row serial) t (t.serial + 1) (no_more t.last_claim i) (no_more t.last_list i)
-counted day (AddList row claims) t = λ i. numbered day (AddList row claims) t (no_more t.serial i) (no_more t.last_claim i) (t.last_list + 1)
+-- the counts and then the rows of a change are the change: so each count of the tables after it is as many more as it takes
+pub counted : (day : ℕ) (change : Change) (t : Tables) → rows_put change (with_counts (counts_with day change (counts_of t)) t) ≡ dated day (changed change t)
+counted day (AddRate row) t = none_taken day (AddRate row) t
+counted day (AddEmployer row) t = none_taken day (AddEmployer row) t
+counted day (EndMembership row) t = none_taken day (EndMembership row) t
+counted day (AddReport row lines) t = none_taken day (AddReport row lines) t
+counted day (ReplaceReport row lines) t = none_taken day (ReplaceReport row lines) t
+counted day (AddBankLines rows) t = λ i. numbered day (AddBankLines rows) t (t.serial + length rows) (no_more t.last_claim i) (no_more t.last_list i) (no_more t.last_run i)
+counted day (AssignLine row) t = none_taken day (AssignLine row) t
+counted day (AddClaim row) t = λ i. numbered day (AddClaim row) t (no_more t.serial i) (t.last_claim + 1) (no_more t.last_list i) (no_more t.last_run i)
+counted day (WithdrawClaim row) t = none_taken day (WithdrawClaim row) t
+counted day (ReleaseClaim row serial) t = λ i. numbered day (ReleaseClaim row serial) t (t.serial + 1) (no_more t.last_claim i) (no_more t.last_list i) (no_more t.last_run i)
+counted day (AddList row claims) t = λ i. numbered day (AddList row claims) t (no_more t.serial i) (no_more t.last_claim i) (t.last_list + 1) (no_more t.last_run i)
+counted day (AddRun row reminders) t = λ i. numbered day (AddRun row reminders) t (no_more t.serial i) (no_more t.last_claim i) (no_more t.last_list i) (t.last_run + 1)
 
 dated_is : (day : ℕ) (change : Change) (c : Counts) (t : Tables) → c ≡ counts_of t → rows_put change (with_counts (counts_with day change c) t) ≡ dated day (changed change t)
 dated_is day change c t same =
@@ -72,21 +81,21 @@ dated_is day change c t same =
 
 -- the counts, and then the rows of a change
 pub put_changed : {S A B : Type 0} (g : Ghosts S) (old mid new : Held S) (x : A) (r : Result B Fault) (counts : Told) (day : ℕ) (change : Change)
-    → Puts g old mid (Ok x) Always Always (HasRoom counts (serials_taken change) (claims_taken change) (lists_taken change)) (with_counts (counts_with day change (as_stored counts)))
+    → Puts g old mid (Ok x) Always Always (HasRoom counts (taken_by change)) (with_counts (counts_with day change (as_stored counts)))
     → Puts g mid new r (IsThere change) (IsFree change) (IsInRange change) (rows_put change)
     → Puts g old new r (λ t. (as_stored counts ≡ counts_of t) × IsThere change t) (IsFree change) (IsPuttable counts change) (λ t. dated day (changed change t))
 put_changed g old mid new x r counts day change noted rows =
     let after = counts_with day change (as_stored counts) in
     put_then g old mid new x r Always (IsThere change) (IsFree change) (λ t. (as_stored counts ≡ counts_of t) × IsThere change t) (IsFree change)
-    (HasRoom counts (serials_taken change) (claims_taken change) (lists_taken change)) (IsInRange change) (IsPuttable counts change)
+    (HasRoom counts (taken_by change)) (IsInRange change) (IsPuttable counts change)
     (with_counts after) (rows_put change) (λ t. dated day (changed change t))
     (λ t there. there_with change after t there.1) (λ t there. dated_is day change (as_stored counts) t there.0) (λ t free. free_with change after t free) (λ good. good.0)
     noted rows
 
 -- counts for which there was room can be written
-pub countable_after : (next before : Told) (day serials claims lists : ℕ) → as_stored next ≡ counts_after day serials claims lists (as_stored before) → HasRoom before serials claims lists → AreCountable next
-countable_after next before day serials claims lists is room =
+pub countable_after : (next before : Told) (day : ℕ) (taken : Taken) → as_stored next ≡ counts_after day taken (as_stored before) → HasRoom before taken → AreCountable next
+countable_after next before day taken is room =
     let entries_are : next.entries ≡ before.entries + 1 = ap (λ (c : Counts). c.entries) is in
-    let serial_is : next.serial ≡ before.serial + serials = ap (λ (c : Counts). c.serial) is in
-    let claims_are : next.claims ≡ before.claims + claims = ap (λ (c : Counts). c.claims) is in
+    let serial_is : next.serial ≡ before.serial + taken.serials = ap (λ (c : Counts). c.serial) is in
+    let claims_are : next.claims ≡ before.claims + taken.claims = ap (λ (c : Counts). c.claims) is in
     (omega (arith, entries_are, room.0), omega (arith, serial_is, room.1), omega (arith, claims_are, room.2))

@@ -14,16 +14,16 @@ use Rattle.clear_values.specs.declared.rows.Change.TheVariants.{EndMembership, A
 use Rattle.clear_values.specs.declared.rows.Change.TheVariants.{ReplaceReport, AddBankLines}
 use Rattle.clear_values.specs.declared.rows.Change.TheVariants.{AssignLine}
 use Rattle.clear_values.specs.declared.rows.Change.TheVariants.{AddClaim, WithdrawClaim, ReleaseClaim}
-use Rattle.clear_values.specs.declared.rows.Change.TheVariants.{AddList}
+use Rattle.clear_values.specs.declared.rows.Change.TheVariants.{AddList, AddRun}
 use Rattle.clear_values.specs.declared.rows.ClaimRow.{ClaimRow}
 use Rattle.clear_values.specs.declared.rows.CreditRow.{CreditRow}
 use Rattle.clear_values.specs.declared.rows.EmployerRow.{EmployerRow}
 use Rattle.clear_values.specs.declared.texts.WageLine.{WageLine}
 use Rattle.clear_values.specs.Keyed.{find_row, with_row, without_rows, AreOnce}
 use Rattle.clear_values.specs.Limits.{most_entries, most_gross, most_serials, most_versions}
-use Rattle.clear_values.specs.RowRanges.{IsClaimRow, IsListRow, IsSerial}
+use Rattle.clear_values.specs.RowRanges.{IsClaimRow, IsListRow, IsReminderRow, IsRunRow, IsSerial}
 use Rattle.clear_values.specs.Tables.{Tables, bank_key, claim_key, employer_key, report_key}
-use Rattle.clear_values.specs.Tables.{wage_key, list_key}
+use Rattle.clear_values.specs.Tables.{wage_key, list_key, run_key, reminder_key}
 use Rattle.clear_values.specs.Tables.{is_wage_key_of, wage_rows}
 use Rattle.clear_values.specs.declared.causes.StoreCause.TheVariants.{Constraint, Row as OutOfRange}
 use Rattle.clear_schema.specs.Held.{HasTables}
@@ -33,6 +33,7 @@ use Rattle.clear_schema.specs.Values.{Counts as Stored}
 use Rattle.clear_firms.specs.declared.counts.Counts.{Counts}
 use Rattle.clear_firms.specs.Shown.{rate_key}
 use Rattle.clear_ledger.specs.Shown.{for_firm, serial_key}
+use Rattle.clear_store.specs.declared.changes.Taken.{Taken}
 
 -- rows were put into the tables, where what has to be there was there; `Constraint` comes only
 -- where a key was not free, and `Row` only where a number was out of its range
@@ -92,6 +93,7 @@ IsThere (AddClaim row) t = Unit {0}
 IsThere (WithdrawClaim row) t = IsClaimThere row t
 IsThere (ReleaseClaim row serial) t = IsClaimThere row t
 IsThere (AddList row claims) t = AreClaimsThere claims t
+IsThere (AddRun row reminders) t = Unit {0}
 
 -- each gross amount can be that of a line
 abbrev pub AreGross : List WageLine → Type 0
@@ -128,6 +130,8 @@ IsFree (AddClaim row) t = find_row claim_key t.claims (claim_key row) ≡ None
 IsFree (WithdrawClaim row) t = Unit {0}
 IsFree (ReleaseClaim row serial) t = AreFree credit_key t.credits (set_offs_of row serial)
 IsFree (AddList row claims) t = find_row list_key t.lists (list_key row) ≡ None
+IsFree (AddRun row reminders) t =
+    (find_row run_key t.runs (run_key row) ≡ None) × AreFree reminder_key t.reminders reminders
 
 -- the numbers in the rows lie in their ranges
 abbrev pub IsInRange : Change → Type 0
@@ -142,68 +146,46 @@ IsInRange (AddClaim row) = IsClaimRow row
 IsInRange (WithdrawClaim row) = IsClaimRow row
 IsInRange (ReleaseClaim row serial) = IsClaimRow row × HaveSerials (set_offs_of row serial)
 IsInRange (AddList row claims) = IsListRow row × AllByRecursion IsClaimRow claims
+IsInRange (AddRun row reminders) = IsRunRow row × AllByRecursion IsReminderRow reminders
 
--- how many serials the change takes: one for each new line, and one for a release
-abbrev pub serials_taken : Change → ℕ
-serials_taken (AddRate row) = 0
-serials_taken (AddEmployer row) = 0
-serials_taken (EndMembership row) = 0
-serials_taken (AddReport row lines) = 0
-serials_taken (ReplaceReport row lines) = 0
-serials_taken (AddBankLines rows) = length rows
-serials_taken (AssignLine row) = 0
-serials_taken (AddClaim row) = 0
-serials_taken (WithdrawClaim row) = 0
-serials_taken (ReleaseClaim row serial) = 1
-serials_taken (AddList row claims) = 0
+-- a change that takes no number
+abbrev pub nothing : Taken
+nothing = record { serials = 0; claims = 0; lists = 0; runs = 0 }
 
--- how many numbers of claims the change takes
-abbrev pub claims_taken : Change → ℕ
-claims_taken (AddRate row) = 0
-claims_taken (AddEmployer row) = 0
-claims_taken (EndMembership row) = 0
-claims_taken (AddReport row lines) = 0
-claims_taken (ReplaceReport row lines) = 0
-claims_taken (AddBankLines rows) = 0
-claims_taken (AssignLine row) = 0
-claims_taken (AddClaim row) = 1
-claims_taken (WithdrawClaim row) = 0
-claims_taken (ReleaseClaim row serial) = 0
-claims_taken (AddList row claims) = 0
+-- how many numbers the change takes: a serial for each new line, and one for a release
+abbrev pub taken_by : Change → Taken
+taken_by (AddRate row) = nothing
+taken_by (AddEmployer row) = nothing
+taken_by (EndMembership row) = nothing
+taken_by (AddReport row lines) = nothing
+taken_by (ReplaceReport row lines) = nothing
+taken_by (AddBankLines rows) = record nothing { serials = length rows }
+taken_by (AssignLine row) = nothing
+taken_by (AddClaim row) = record nothing { claims = 1 }
+taken_by (WithdrawClaim row) = nothing
+taken_by (ReleaseClaim row serial) = record nothing { serials = 1 }
+taken_by (AddList row claims) = record nothing { lists = 1 }
+taken_by (AddRun row reminders) = record nothing { runs = 1 }
 
--- how many numbers of payout lists the change takes
-abbrev pub lists_taken : Change → ℕ
-lists_taken (AddRate row) = 0
-lists_taken (AddEmployer row) = 0
-lists_taken (EndMembership row) = 0
-lists_taken (AddReport row lines) = 0
-lists_taken (ReplaceReport row lines) = 0
-lists_taken (AddBankLines rows) = 0
-lists_taken (AssignLine row) = 0
-lists_taken (AddClaim row) = 0
-lists_taken (WithdrawClaim row) = 0
-lists_taken (ReleaseClaim row serial) = 0
-lists_taken (AddList row claims) = 1
-
--- one entry more, and so many serials, claims and lists more, can be counted
-abbrev pub HasRoom : Counts → ℕ → ℕ → ℕ → Type 0
-HasRoom c serials claims lists =
-    (c.entries + 1 ≤ most_entries) × (c.serial + serials ≤ most_serials)
-    × (c.claims + claims ≤ most_entries) × (c.lists + lists ≤ most_entries)
+-- one entry more, and the numbers that it takes, can be counted
+abbrev pub HasRoom : Counts → Taken → Type 0
+HasRoom c taken =
+    (c.entries + 1 ≤ most_entries) × (c.serial + taken.serials ≤ most_serials)
+    × (c.claims + taken.claims ≤ most_entries) × (c.lists + taken.lists ≤ most_entries)
+    × (c.runs + taken.runs ≤ most_entries)
 
 -- the numbers in the rows lie in their ranges, and so do the counts after the change
 abbrev pub IsPuttable : Counts → Change → Type 0
-IsPuttable c change =
-    IsInRange change
-    × HasRoom c (serials_taken change) (claims_taken change) (lists_taken change)
+IsPuttable c change = IsInRange change × HasRoom c (taken_by change)
 
--- the counts after one entry more, of this day, that took so many serials, claims and lists
-abbrev pub counts_after : ℕ → ℕ → ℕ → ℕ → Stored → Stored
-counts_after day serials claims lists c =
+-- the counts after one entry more, of this day, that took these numbers
+abbrev pub counts_after : ℕ → Taken → Stored → Stored
+counts_after day taken c =
     record c {
       day = Some day;
       entries = c.entries + 1;
-      serial = c.serial + serials;
-      claims = c.claims + claims;
-      lists = c.lists + lists;
+      serial = c.serial + taken.serials;
+      claims = c.claims + taken.claims;
+      lists = c.lists + taken.lists;
+      runs = c.runs + taken.runs;
     }

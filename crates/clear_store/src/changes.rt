@@ -4,13 +4,14 @@ ghost use Rattle.clear_values.specs.Tables.{changed, dated};
 ghost use Rattle.clear_schema.specs.Values.{counts_of, with_counts};
 ghost use Rattle.clear_firms.specs.Counts.{as_stored};
 ghost use Rattle.clear_store.specs.Changes.{HasRoom, IsFree, IsInRange, IsPuttable, IsThere, Puts};
-ghost use Rattle.clear_store.specs.Changes.{claims_taken, counts_after, lists_taken, serials_taken};
+ghost use Rattle.clear_store.specs.Changes.{counts_after, taken_by};
 
 use crate::bank_file::add_lines;
 use crate::claims::{add_claim, put_claim, put_release};
 use crate::firms::{add_employer, add_rate, put_employer};
 use crate::lists::add_list;
 use crate::month_report::{add_report, put_report};
+use crate::runs::add_run;
 use crate::suspense::put_line;
 use clear_firms::counts::{Counts, put_counts};
 use clear_money::days::Day;
@@ -24,9 +25,10 @@ use std::alloc::Global;
 /// those that stand.
 ///
 /// A key that is not free is refused with `Fault::Store(StoreCause::Constraint)`; a number of a row
-/// that is out of its range, more than 50,000,000 entries, claims or lists, and more than
-/// 500,000,000,000 serials are refused with `Fault::Store(StoreCause::Row)`. After an error a part of
-/// the change may be done: the transaction is to be rolled back.
+/// that is out of its range, as that of a list or run above 50,000,000 is, more than 50,000,000
+/// entries or claims, and more than 500,000,000,000 serials are refused with
+/// `Fault::Store(StoreCause::Row)`. After an error a part of the change may be done: the
+/// transaction is to be rolled back.
 pub fn put_change<S: Alter>(
     alloc: Global,
     tx: &mut Transaction<'_, S>,
@@ -39,16 +41,14 @@ pub fn put_change<S: Alter>(
         (λ t. (as_stored counts.now ≡ counts_of t) × IsThere change.now t) (IsFree change.now)
         (IsPuttable counts.now change.now) (λ t. dated day (changed change.now t)) }
 {
-    let serials = serials_taken(change);
-    let claims = claims_taken(change);
-    let lists = lists_taken(change);
-    match note(tx, counts, day, serials, claims, lists) {
+    let taken = taken_by(change);
+    match note(tx, counts, day, &taken) {
         Ok(()) => put_rows(alloc, tx, change),
         Err(fault) => Err(fault),
     }
 }
 
-// Puts the rows of a change. The counts of serials, claims and lists are left.
+// Puts the rows of a change. The counts are left.
 fn put_rows<S: Alter>(
     alloc: Global,
     tx: &mut Transaction<'_, S>,
@@ -57,11 +57,7 @@ fn put_rows<S: Alter>(
     ensures same_reference { tx.new.conn.ghost_name ≡ tx.old.conn.ghost_name }
     ensures puts { Puts S.Store tx.old.conn.now tx.new.conn.now result (IsThere change.now)
         (IsFree change.now) (IsInRange change.now)
-        (λ t. record (changed change.now t) {
-          serial = t.serial;
-          last_claim = t.last_claim;
-          last_list = t.last_list;
-        }) }
+        (λ t. with_counts (counts_of t) (changed change.now t)) }
 {
     match change {
         Change::AddRate(row) => add_rate(tx, row),
@@ -75,102 +71,95 @@ fn put_rows<S: Alter>(
         Change::WithdrawClaim(row) => put_claim(tx, row),
         Change::ReleaseClaim { claim, serial } => put_release(alloc, tx, claim, *serial),
         Change::AddList(row, claims) => add_list(tx, row, claims.as_slice()),
+        Change::AddRun(row, reminders) => add_run(tx, row, reminders.as_slice()),
     }
 }
 
-// How many serials a change takes: one for each new line, and one for a release.
-fn serials_taken(change: &Change) -> u64
-    ensures { result ≡ serials_taken change.now }
+// How many numbers a change takes of each kind.
+#[derive(Clone, Copy)]
+struct Taken {
+    // One for each new bank line, and one for a release.
+    serials: u64,
+    claims: u32,
+    lists: u32,
+    runs: u32,
+}
+
+// A change that takes no number.
+const NOTHING: Taken = Taken {
+    serials: 0,
+    claims: 0,
+    lists: 0,
+    runs: 0,
+};
+
+// How many numbers a change takes.
+fn taken_by(change: &Change) -> Taken
+    ensures { result ≡ taken_by change.now }
 {
     match change {
-        Change::AddRate(_) => 0,
-        Change::AddEmployer(_) => 0,
-        Change::EndMembership(_) => 0,
-        Change::AddReport(_, _) => 0,
-        Change::ReplaceReport(_, _) => 0,
-        Change::AddBankLines(rows) => rows.as_slice().len() as u64,
-        Change::AssignLine(_) => 0,
-        Change::AddClaim(_) => 0,
-        Change::WithdrawClaim(_) => 0,
-        Change::ReleaseClaim { .. } => 1,
-        Change::AddList(_, _) => 0,
+        Change::AddRate(_) => NOTHING,
+        Change::AddEmployer(_) => NOTHING,
+        Change::EndMembership(_) => NOTHING,
+        Change::AddReport(_, _) => NOTHING,
+        Change::ReplaceReport(_, _) => NOTHING,
+        Change::AddBankLines(rows) => Taken {
+            serials: rows.as_slice().len() as u64,
+            ..NOTHING
+        },
+        Change::AssignLine(_) => NOTHING,
+        Change::AddClaim(_) => Taken {
+            claims: 1,
+            ..NOTHING
+        },
+        Change::WithdrawClaim(_) => NOTHING,
+        Change::ReleaseClaim { .. } => Taken {
+            serials: 1,
+            ..NOTHING
+        },
+        Change::AddList(_, _) => Taken {
+            lists: 1,
+            ..NOTHING
+        },
+        Change::AddRun(_, _) => Taken { runs: 1, ..NOTHING },
     }
 }
 
-// How many numbers of claims a change takes.
-fn claims_taken(change: &Change) -> u32
-    ensures { result ≡ claims_taken change.now }
-{
-    match change {
-        Change::AddRate(_) => 0,
-        Change::AddEmployer(_) => 0,
-        Change::EndMembership(_) => 0,
-        Change::AddReport(_, _) => 0,
-        Change::ReplaceReport(_, _) => 0,
-        Change::AddBankLines(_) => 0,
-        Change::AssignLine(_) => 0,
-        Change::AddClaim(_) => 1,
-        Change::WithdrawClaim(_) => 0,
-        Change::ReleaseClaim { .. } => 0,
-        Change::AddList(_, _) => 0,
-    }
-}
-
-// How many numbers of payout lists a change takes.
-fn lists_taken(change: &Change) -> u32
-    ensures { result ≡ lists_taken change.now }
-{
-    match change {
-        Change::AddRate(_) => 0,
-        Change::AddEmployer(_) => 0,
-        Change::EndMembership(_) => 0,
-        Change::AddReport(_, _) => 0,
-        Change::ReplaceReport(_, _) => 0,
-        Change::AddBankLines(_) => 0,
-        Change::AssignLine(_) => 0,
-        Change::AddClaim(_) => 0,
-        Change::WithdrawClaim(_) => 0,
-        Change::ReleaseClaim { .. } => 0,
-        Change::AddList(_, _) => 1,
-    }
-}
-
-// Notes one entry more: its day, and the serials, claims and lists that it took.
+// Notes one entry more: its day, and the numbers that it took.
 fn note<S: Alter>(
     tx: &mut Transaction<'_, S>,
     counts: &Counts,
     day: Day,
-    serials: u64,
-    claims: u32,
-    lists: u32,
+    taken: &Taken,
 ) -> Result<(), Fault>
     ensures same_reference { tx.new.conn.ghost_name ≡ tx.old.conn.ghost_name }
     ensures puts { Puts S.Store tx.old.conn.now tx.new.conn.now result (λ _. Unit {0})
-        (λ _. Unit {0}) (HasRoom counts.now serials claims lists)
-        (with_counts (counts_after day serials claims lists (as_stored counts.now))) }
+        (λ _. Unit {0}) (HasRoom counts.now taken.now)
+        (with_counts (counts_after day taken.now (as_stored counts.now))) }
 {
-    match next_counts(counts, day, serials, claims, lists) {
+    match next_counts(counts, day, taken) {
         Some(next) => put_counts(tx, &next),
         None => Err(Fault::Store(StoreCause::Row)),
     }
 }
 
 // The counts after one entry more. None where a count would pass its bits.
-fn next_counts(counts: &Counts, day: Day, serials: u64, claims: u32, lists: u32) -> Option<Counts>
+fn next_counts(counts: &Counts, day: Day, taken: &Taken) -> Option<Counts>
     ensures next { IfSome result (λ next.
-        as_stored next ≡ counts_after day serials claims lists (as_stored counts.now)) }
-    ensures none { result ≡ None → ¬ HasRoom counts.now serials claims lists }
+        as_stored next ≡ counts_after day taken.now (as_stored counts.now)) }
+    ensures none { result ≡ None → ¬ HasRoom counts.now taken.now }
 {
     let entries = counts.entries.checked_add(1)?;
-    let serial = counts.serial.checked_add(serials)?;
-    let claims = counts.claims.checked_add(claims)?;
-    let lists = counts.lists.checked_add(lists)?;
+    let serial = counts.serial.checked_add(taken.serials)?;
+    let claims = counts.claims.checked_add(taken.claims)?;
+    let lists = counts.lists.checked_add(taken.lists)?;
+    let runs = counts.runs.checked_add(taken.runs)?;
     Some(Counts {
         day: Some(day),
         entries,
         serial,
         claims,
         lists,
-        runs: counts.runs,
+        runs,
     })
 }

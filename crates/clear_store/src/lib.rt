@@ -8,6 +8,7 @@ mod claims;
 mod firms;
 mod lists;
 mod month_report;
+mod runs;
 mod suspense;
 
 pub use clear_firms::{counts, employers, rates, reports, wages};

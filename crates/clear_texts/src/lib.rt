@@ -1,5 +1,5 @@
-//! The documents of the office, byte for byte: of a firm, of a worker, of a payout list, and of the
-//! lines in suspense.
+//! The documents of the office, byte for byte: of a firm, of a worker, of a payout list, of a
+//! reminder run, and of the lines in suspense.
 //!
 //! `firm_statement` tells what the records of a firm say on a day: each charge as it stands and the
 //! pieces of credits that pay it, the months without a report, and what is prepaid, in arrears and
@@ -12,12 +12,13 @@
 //! `claimed_cents` say the same of the balance for a claim. Where the records are those of a lawful
 //! book, both documents are the ones that the judge answers, and only want of memory refuses them.
 //!
-//! `statement`, `payout_text` and `suspense_text` append the text of a document whose rows they
-//! read one at a time from a source: the charges of a firm with what pays each, the claims that a
-//! list pays, or the lines in suspense. The text is exactly its definition over the rows that the
-//! source gave. A refusal leaves the text as it was: for want of memory, for what the source tells,
-//! or, of a statement, for one row more than an account has, and of lines in suspense, for 2^64
-//! cents or more. A list may have any number of claims, and there may be any number of lines.
+//! `statement`, `payout_text`, `remind_text` and `suspense_text` append the text of a document
+//! whose rows they read one at a time from a source: the charges of a firm with what pays each, the
+//! claims that a list pays, the reminders of a run, or the lines in suspense. The text is exactly
+//! its definition over the rows that the source gave. A refusal leaves the text as it was: for want
+//! of memory, for what the source tells, or, of a statement, for one row more than an account has,
+//! and of lines in suspense, for 2^64 cents or more. A list may have any number of claims, a run
+//! any number of reminders, and there may be any number of lines.
 #![tactic(auto)]
 
 mod account;
@@ -33,6 +34,7 @@ mod lines;
 pub mod missing;
 pub mod payout;
 pub mod records;
+pub mod reminders;
 pub mod rows;
 pub mod statement;
 pub mod suspense;

@@ -1,11 +1,12 @@
 //! The lines of documents. Each ends with LF. An `Err` of these functions may leave a part of a
 //! line.
-ghost use Rattle.std.specs.Prelude.{◌≡◌, ◌++◌, IfOk, string_bytes};
+ghost use Rattle.std.specs.Prelude.{◌≡◌, ◌++◌, IfOk, codes, string_bytes};
 ghost use Rattle.std.specs.Fmt.{decimal};
 ghost use Rattle.std.specs.Str.{IsAscii};
 ghost use Rattle.clear_money.specs.Texts.{day_text, month_text};
 ghost use Rattle.clear_book.specs.Documents.Lines.{charge_line, payment_line};
 ghost use Rattle.clear_book.specs.Documents.Lines.{interest_paid_line, missing_line};
+ghost use Rattle.clear_book.specs.Documents.Lines.{month_or_dash};
 ghost use Rattle.clear_texts.specs.RowSteps.{row_lines};
 
 use crate::amounts::append_amount;
@@ -102,6 +103,21 @@ pub(crate) fn append_month(text: &mut String, before: &str, month: Month) -> Res
 {
     let _in_range = month.number();
     append_ascii(text, before, month.text().as_slice())
+}
+
+/// Appends a text, and a month or a dash.
+pub(crate) fn append_month_or_dash(
+    text: &mut String,
+    before: &str,
+    month: Option<Month>,
+) -> Result<(), AllocError>
+    ensures { IfOk result (λ _. string_bytes text.new
+        ≡ string_bytes text.old ++ before.now ++ month_or_dash month) }
+{
+    match month {
+        Some(month) => append_month(text, before, month),
+        None => write!(text, "{before}-"),
+    }
 }
 
 /// Appends a text, and a day.

@@ -1,10 +1,10 @@
 //! The statement of a firm's account.
-ghost use Rattle.std.specs.Prelude.{◌≡◌, ◌++◌, ◌≤◌, List, None, codes, length, string_bytes};
+ghost use Rattle.std.specs.Prelude.{◌≡◌, ◌++◌, ◌≤◌, List, None, length, string_bytes};
 ghost use Rattle.std.specs.Prelude.{IfErr, IfOk, OnErr};
 ghost use Rattle.std.specs.Iterator.{YieldsThen};
 ghost use Rattle.std.specs.List.{flat_map};
 ghost use Rattle.clear_book.specs.Documents.Lines.{interest_paid_line, missing_line};
-ghost use Rattle.clear_book.specs.Documents.Statement.{firm_lines, last_text, sum_lines};
+ghost use Rattle.clear_book.specs.Documents.Statement.{firm_lines, sum_lines};
 ghost use Rattle.clear_texts.specs.Charges.{charge_lines};
 ghost use Rattle.clear_texts.specs.RowSteps.{IsNotTheEnd};
 ghost use Rattle.clear_texts.specs.Rows.{IsRefused, most_rows};
@@ -13,7 +13,8 @@ ghost use Rattle.clear_texts.specs.Text.{text_of_rows};
 
 use crate::amounts::append_amount;
 use crate::lines::{
-    append_day, append_interest_credit, append_missing, append_month, append_number, append_row,
+    append_day, append_interest_credit, append_missing, append_month, append_month_or_dash,
+    append_number, append_row,
 };
 use crate::rows::{ChargeRow, MAX_ROWS, RowFault, RowSource};
 use clear_book::documents::{FirmAccount, Payment};
@@ -84,20 +85,9 @@ fn append_firm(text: &mut String, firm: &FirmAccount) -> Result<(), AllocError>
     text.push_str("\nname ")?;
     text.push_str(firm.name.as_str())?;
     append_month(text, "\nmember ", firm.start)?;
-    append_last(text, firm.last)?;
+    append_month_or_dash(text, " ", firm.last)?;
     text.push_str("\n")?;
     Ok(())
-}
-
-// A space, and the last month or a dash.
-fn append_last(text: &mut String, last: Option<Month>) -> Result<(), AllocError>
-    ensures { IfOk result (λ _. string_bytes text.new
-        ≡ string_bytes text.old ++ codes " " ++ last_text last) }
-{
-    match last {
-        Some(month) => append_month(text, " ", month),
-        None => text.push_str(" -"),
-    }
 }
 
 // The lines of all charges that the source gives up to its end.

@@ -6,7 +6,7 @@ use Rattle.clear_money.specs.Numbers.{IsEmployerNo, IsWorkerNo, IsAmount}
 use Rattle.clear_values.specs.Ranges.{AreRates, IsBankLine, IsCaller}
 use Rattle.clear_values.specs.declared.replies.Reply.{Reply}
 use Rattle.clear_values.specs.declared.replies.Reply.TheVariants.{Done, Reported, Imported, Claimed}
-use Rattle.clear_values.specs.declared.replies.Reply.TheVariants.{Listed}
+use Rattle.clear_values.specs.declared.replies.Reply.TheVariants.{Listed, Reminded}
 use Rattle.clear_values.specs.declared.replies.Reply.TheVariants.{Released as reply_of_release}
 use Rattle.clear_values.specs.declared.replies.Settlement.{Settlement}
 use Rattle.clear_values.specs.declared.rows.BankRow.{BankRow}
@@ -25,7 +25,7 @@ use Rattle.clear_values.specs.Limits.{most_base, most_charged, most_claimed, mos
 use Rattle.clear_values.specs.Limits.{most_entries, most_gross, most_interest, most_records}
 use Rattle.clear_values.specs.Limits.{most_serials, most_versions}
 use Rattle.clear_values.specs.Numbers.{IsClaimNo, IsListNo, IsRequestNo, IsRunNo}
-use Rattle.clear_values.specs.Tables.{RequestRow, Tables, AreUnfilled}
+use Rattle.clear_values.specs.Tables.{RequestRow, Tables}
 use Rattle.clear_values.specs.Texts.{IsName, IsCreditReference}
 
 -- a serial that is given
@@ -109,7 +109,7 @@ pub record IsReminderRow (row : ReminderRow) : Type 0 where
   pub interest : row.interest ≤ most_interest
 
 -- the numbers of a reply: a contribution is at most its base, a bank file has so many records at
--- most, what is settled is the amount of a claim, and a list has a claim at least
+-- most, what is settled is the amount of a claim, a list has a claim at least, and a run a firm
 abbrev pub IsReply : Reply → Type 0
 IsReply Done = Unit {0}
 IsReply (Reported version charge) =
@@ -119,6 +119,7 @@ IsReply (Claimed claim) = IsClaimNo claim
 IsReply (reply_of_release settlement) = IsAmount (settled settlement)
 IsReply (Listed list items total) =
     IsListNo list × (1 ≤ items) × (items ≤ most_entries) × (total ≤ most_claimed)
+IsReply (Reminded run firms) = IsRunNo run × (1 ≤ firms) × (firms ≤ most_employers)
 
 pub record IsRequestRow (row : RequestRow) : Type 0 where
   pub caller : IsCaller row.caller
@@ -145,4 +146,3 @@ pub record AreInRange (t : Tables) : Type 0 where
   pub last_claim : t.last_claim ≤ most_entries
   pub last_list : t.last_list ≤ most_entries
   pub last_run : t.last_run ≤ most_entries
-  pub unfilled : AreUnfilled t

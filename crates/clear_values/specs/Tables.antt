@@ -1,7 +1,7 @@
 -- The tables: rows by their keys. What a store keeps of accounts besides, the charges with what is
 -- open of them and the pieces, is to be no part of these but a record of its own beside them: so a
 -- store can be said to be right but for some cents of pieces.
-use Rattle.std.specs.Prelude.{◌≡◌, ℕ, ◌+◌, List, [], ◌∷◌, Option, Some, Bool, false, ◌&&◌, ◌==◌}
+use Rattle.std.specs.Prelude.{ℕ, ◌+◌, List, [], ◌∷◌, Option, Some, Bool, false, ◌&&◌, ◌==◌}
 use Rattle.std.specs.Prelude.{◌++◌, length, map}
 use Rattle.clear_money.specs.Rates.{Rate}
 use Rattle.clear_values.specs.declared.callers.Caller.{Caller}
@@ -14,7 +14,7 @@ use Rattle.clear_values.specs.declared.rows.Change.TheVariants.{EndMembership, A
 use Rattle.clear_values.specs.declared.rows.Change.TheVariants.{ReplaceReport, AddBankLines}
 use Rattle.clear_values.specs.declared.rows.Change.TheVariants.{AssignLine}
 use Rattle.clear_values.specs.declared.rows.Change.TheVariants.{AddClaim, WithdrawClaim, ReleaseClaim}
-use Rattle.clear_values.specs.declared.rows.Change.TheVariants.{AddList}
+use Rattle.clear_values.specs.declared.rows.Change.TheVariants.{AddList, AddRun}
 use Rattle.clear_values.specs.declared.rows.ClaimRow.{ClaimRow}
 use Rattle.clear_values.specs.declared.rows.CreditRow.{CreditRow}
 use Rattle.clear_values.specs.declared.rows.EmployerRow.{EmployerRow}
@@ -110,12 +110,6 @@ request_key row = request_number row.caller row.number
 abbrev pub member_in : EmployerRow → Member
 member_in row = record { name = row.name; start = row.start; last = row.last }
 
--- the tables that no command fills yet are empty, and none of their numbers was given
-pub record AreUnfilled (t : Tables) : Type 0 where
-  pub runs : t.runs ≡ []
-  pub reminders : t.reminders ≡ []
-  pub last_run : t.last_run ≡ 0
-
 -- ---- changes
 
 -- the row of a line of a month's report
@@ -176,6 +170,12 @@ changed (AddList row claims) t =
       lists = with_row list_key t.lists row;
       claims = put_rows claim_key t.claims claims;
       last_list = t.last_list + 1;
+    }
+changed (AddRun row reminders) t =
+    record t {
+      runs = with_row run_key t.runs row;
+      reminders = with_rows reminder_key t.reminders reminders;
+      last_run = t.last_run + 1;
     }
 
 -- the day of an accepted request, and that it is one more

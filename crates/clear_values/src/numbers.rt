@@ -1,6 +1,7 @@
-//! The numbers of requests, claims and payout lists, and how many serials were given.
+//! The numbers of requests, claims, payout lists and reminder runs, and how many serials were given.
 ghost use Rattle.std.specs.Prelude.{◌≡◌, ◌↔◌, IsSome, IfSome};
-ghost use Rattle.clear_values.specs.Numbers.{IsClaimNo, IsListNo, IsRequestNo, IsSerialCount};
+ghost use Rattle.clear_values.specs.Numbers.{IsClaimNo, IsListNo, IsRequestNo, IsRunNo};
+ghost use Rattle.clear_values.specs.Numbers.{IsSerialCount};
 
 use crate::limits::{MAX_ENTRIES, MAX_REQUEST_NO, MAX_SERIALS};
 use std::marker::Model;
@@ -124,6 +125,48 @@ impl ListNo {
     pub fn number(self) -> u32
         ensures value { result ≡ self }
         ensures range { IsListNo result }
+    {
+        self.number
+    }
+}
+
+/// The number of a reminder run, 1 to 50,000,000.
+#[derive(Clone, Copy, PartialEq, Eq, PartialOrd, Ord)]
+pub struct RunNo {
+    number: u32,
+}
+
+impl Model for RunNo {
+    ghost use Rattle.std.specs.Prelude.{ℕ};
+    ghost use Rattle.clear_values.specs.Numbers.{IsRunNo};
+
+    ghost Value = { ℕ };
+
+    ghost view = { λ a. a.number };
+
+    ghost invariant = { λ a. IsRunNo a.number };
+
+    ghost inverse = { λ n. record { number = n } };
+}
+
+impl RunNo {
+    /// None outside 1 to 50,000,000.
+    pub fn new(number: u64) -> Option<RunNo>
+        ensures some { IsSome result ↔ IsRunNo number }
+        ensures value { IfSome result (λ run. run ≡ number) }
+    {
+        if number < 1 || number > MAX_ENTRIES {
+            return None;
+        }
+        Some(RunNo {
+            number: number as u32,
+        })
+    }
+
+    /// The number, 1 to 50,000,000.
+    pub fn number(self) -> u32
+        ensures value { result ≡ self }
+        ensures range { IsRunNo result }
     {
         self.number
     }

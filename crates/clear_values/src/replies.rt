@@ -15,6 +15,8 @@ pub enum Reply {
     /// The number of the payout list, how many claims are on it, and what they pay out together, in
     /// cents.
     Listed { list: u32, items: u64, total: u64 },
+    /// The number of the reminder run, and how many firms were reminded.
+    Reminded { run: u32, firms: u64 },
 }
 
 /// How the cents of a claim are settled: first what the firm owes of contributions, then what it

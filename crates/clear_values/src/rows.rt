@@ -64,37 +64,6 @@ pub struct BankRow {
     pub employer: Option<EmployerNo>,
 }
 
-/// Rows of bank lines, whatever they are. A contract sees a list.
-#[derive(Drop)]
-pub struct BankRows {
-    rows: Vec<BankRow>,
-}
-
-impl Model for BankRows {
-    ghost use Rattle.std.specs.Prelude.{List};
-    ghost use Rattle.clear_values.specs.declared.rows.BankRow.{BankRow};
-
-    ghost Value = { List BankRow };
-
-    ghost view = { λ a. a.rows.items };
-}
-
-impl BankRows {
-    /// These rows.
-    pub fn new(rows: Vec<BankRow>) -> BankRows
-        ensures { result ≡ rows.items }
-    {
-        BankRows { rows }
-    }
-
-    /// The rows in their order.
-    pub fn as_slice(&self) -> &[BankRow]
-        ensures { result.now ≡ self.now }
-    {
-        self.rows.as_slice()
-    }
-}
-
 /// A credit of a firm: a bank line that is for it, or a set-off of a release.
 #[derive(Drop)]
 pub struct CreditRow {
@@ -134,37 +103,6 @@ pub struct ClaimRow {
     /// The day on which it was made.
     pub made: Day,
     pub state: ClaimState,
-}
-
-/// Rows of claims, whatever they are. A contract sees a list.
-#[derive(Drop)]
-pub struct ClaimRows {
-    rows: Vec<ClaimRow>,
-}
-
-impl Model for ClaimRows {
-    ghost use Rattle.std.specs.Prelude.{List};
-    ghost use Rattle.clear_values.specs.declared.rows.ClaimRow.{ClaimRow};
-
-    ghost Value = { List ClaimRow };
-
-    ghost view = { λ a. a.rows.items };
-}
-
-impl ClaimRows {
-    /// These rows.
-    pub fn new(rows: Vec<ClaimRow>) -> ClaimRows
-        ensures { result ≡ rows.items }
-    {
-        ClaimRows { rows }
-    }
-
-    /// The rows in their order.
-    pub fn as_slice(&self) -> &[ClaimRow]
-        ensures { result.now ≡ self.now }
-    {
-        self.rows.as_slice()
-    }
 }
 
 /// How a claim stands.
@@ -223,6 +161,36 @@ pub struct ReminderRow {
     pub interest: u64,
 }
 
+/// Rows of one table, whatever they are. A contract sees a list.
+#[derive(Drop)]
+pub struct Rows<T> {
+    rows: Vec<T>,
+}
+
+impl<T> Model for Rows<T> {
+    ghost use Rattle.std.specs.Prelude.{List};
+
+    ghost Value = { List T };
+
+    ghost view = { λ a. a.rows.items };
+}
+
+impl<T> Rows<T> {
+    /// These rows.
+    pub fn new(rows: Vec<T>) -> Rows<T>
+        ensures { result ≡ rows.items }
+    {
+        Rows { rows }
+    }
+
+    /// The rows in their order.
+    pub fn as_slice(&self) -> &[T]
+        ensures { result.now ≡ self.now }
+    {
+        self.rows.as_slice()
+    }
+}
+
 /// What an accepted command changes.
 #[derive(Drop)]
 pub enum Change {
@@ -237,7 +205,7 @@ pub enum Change {
     /// A correction: its row and its wage rows stand in the place of the month's.
     ReplaceReport(ReportRow, WageLines),
     /// The new lines of a bank file; each that has a firm is a credit of it.
-    AddBankLines(BankRows),
+    AddBankLines(Rows<BankRow>),
     /// A line that goes out of suspense: its row stands in the place of that of its reference, and
     /// it is a credit of its firm.
     AssignLine(BankRow),
@@ -247,7 +215,9 @@ pub enum Change {
     WithdrawClaim(ClaimRow),
     /// A payout list that was not there, and the claims that go on it: the row of each stands in
     /// the place of that of its number.
-    AddList(ListRow, ClaimRows),
+    AddList(ListRow, Rows<ClaimRow>),
+    /// A reminder run that was not there, and its reminders.
+    AddRun(RunRow, Rows<ReminderRow>),
     /// A claim that is released: its row stands in the place of that of its number, and each of
     /// its set-offs above 0 is a credit of its firm with the serial of the release.
     ReleaseClaim { claim: ClaimRow, serial: u64 },

@@ -1,13 +1,11 @@
 -- What an import reads is what its file is judged by.
-use Rattle.std.proofs.Common.{◌≡◌, ◌⊎◌, inl, inr, ℕ, ◌+◌, ◌<◌, ◌≤◌, List, [], ◌∷◌, ◌++◌, length, take, get_or, filter, count_by, Option, None, Some, is_some, Bool, true, false, cond, refl, sym, ap, subst, ◌∙◌, arith}
-use Rattle.std.proofs.lemmas.List.{take_more}
+use Rattle.std.proofs.Common.{◌≡◌, ◌⊎◌, inl, inr, ℕ, ◌+◌, ◌≤◌, List, [], ◌∷◌, length, filter, count_by, Option, None, Some, is_some, Bool, true, false, cond, refl, sym, ap, subst, ◌∙◌, arith}
 use Rattle.std.proofs.lemmas.List.Sums.{length-filter}
 use Rattle.std.specs.Prelude.{unwrap_or}
-use Rattle.std.proofs.lemmas.List.Elements.{filter_map-append}
 use Rattle.std.proofs.lemmas.Bool.{false≢true}
 use Rattle.std.proofs.lemmas.List.FromFn.{length-enumerate_from}
 use Rattle.std.proofs.lemmas.List.Sums.{count_by-le-length}
-use Rattle.std.specs.List.{AllByRecursion, cons_option, enumerate_from, filter_map}
+use Rattle.std.specs.List.{AllByRecursion, enumerate_from, filter_map}
 use Rattle.std.specs.Option.{option_map, option_map_or}
 use Rattle.std.specs.Prelude.{IfSome}
 use Rattle.std.specs.Str.{bytes_eq}
@@ -40,15 +38,6 @@ use Rattle.clear_schema.specs.Values.{counts_of}
 use Rattle.clear_views.proofs.FoundLemmas.{each_found}
 use Rattle.clear_views.proofs.ViewLemmas.{credits_counted}
 use Rattle.clear_views.specs.Imports.{IsImportRead, IsServing, counted_firm, credits_viewed, firm_viewed, line_found}
-
--- one more is found
-pub found_more : {A B : Type 0} (f : A → Option B) (xs : List A) (i : ℕ) (x : A) (before after : List B) (item : Option B) → i < length xs → x ≡ get_or xs i x
-    → before ≡ filter_map f (take i xs) → item ≡ f x → after ≡ before ++ cons_option item [] → after ≡ filter_map f (take (i + 1) xs)
-found_more f xs i x before after item inside at so_far is added =
-    added
-    ∙ (λ j. so_far j ++ cons_option (is j) [])
-    ∙ sym (filter_map-append f (take i xs) (x ∷ []))
-    ∙ ap (filter_map f) (ap (λ y. take i xs ++ y ∷ []) at ∙ sym (take_more xs i x inside))
 
 -- where no number serves, those that are found are counted
 pub counted_if_none : {A : Type 0} (serving : Option ℕ) (test : A → Bool) (rows found : List A) (n : ℕ) → serving ≡ None → found ≡ filter test rows → n ≡ length found → n ≡ unwrap_or serving (count_by test rows)

@@ -5,9 +5,11 @@ pub mod FillLemmas
 pub mod FirmLemmas
 pub mod FoundLemmas
 pub mod ImportLemmas
+pub mod OverdueLemmas
 pub mod OwedLemmas
 pub mod ReadLemmas
 pub mod ReleaseLemmas
+pub mod RemindLemmas
 pub mod SerialLemmas
 pub mod StatementLemmas
 pub mod StillLemmas

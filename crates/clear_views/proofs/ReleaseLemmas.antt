@@ -1,12 +1,11 @@
 -- What the records of a firm say of what it owes is what the book says.
-use Rattle.std.proofs.Common.{◌≡◌, ℕ, true, List, [], ◌∷◌, length, Some, is_some, refl, sym, ap, subst, ◌∙◌}
+use Rattle.std.proofs.Common.{◌≡◌, ℕ, true, [], ◌∷◌, length, Some, is_some, sym, ap, subst, ◌∙◌}
 use Rattle.std.proofs.lemmas.List.Sums.{length-filter}
-use Rattle.std.specs.List.{AllByRecursion, slice_get}
-use Rattle.clear_account.specs.Arrears.{arrears_on}
+use Rattle.std.specs.List.{AllByRecursion}
 use Rattle.clear_bank.specs.declared.lines.Purpose.{Purpose}
 use Rattle.clear_bank.specs.declared.lines.Purpose.TheVariants.{Contribution, Interest}
 use Rattle.clear_book.specs.declared.rows.ClaimRow.{ClaimRow}
-use Rattle.clear_book.specs.Accounts.{credit_key, credit_rows_of, credits_standing, missing}
+use Rattle.clear_book.specs.Accounts.{credit_key, credit_rows_of, credits_standing}
 use Rattle.clear_book.specs.Book.{Book, member_of}
 use Rattle.clear_book.specs.Keyed.{find_row}
 use Rattle.clear_book.specs.Lines.{credit_count, credits_made, is_credit_of}
@@ -18,11 +17,11 @@ use Rattle.clear_laws.proofs.CreditsMadeLemmas.{credits_once}
 use Rattle.clear_laws.proofs.KeyedChangesLemmas.{found_holds}
 use Rattle.clear_laws.proofs.KeyedRowsLemmas.{AreInOrder-in_key_order, count_by-ordered, find_row-in_key_order}
 use Rattle.clear_rules.specs.declared.decide.release.FirmDebts.{FirmDebts}
-use Rattle.clear_rules.specs.Views.Release.{AreDebts, first}
-use Rattle.clear_texts.proofs.RecordLemmas.{interest_of_book}
+use Rattle.clear_rules.specs.Views.Release.{AreDebts}
 use Rattle.clear_texts.specs.Records.{AreRecords}
-use Rattle.clear_texts.specs.Told.{interest_arrears_in}
 use Rattle.clear_texts.specs.declared.records.FirmRecords.{FirmRecords}
+use Rattle.clear_views.specs.Overdue.{overdue_told}
+use Rattle.clear_views.specs.declared.overdue.Overdue.{Overdue}
 
 -- a firm has as many standing credits for a purpose as were made for it
 rows_counted : (b : Book) (e : ℕ) (p : Purpose) → length (credit_rows_of b e p) ≡ credit_count (credits_made b.entries) e p
@@ -31,18 +30,14 @@ rows_counted b e p =
     ∙ count_by-ordered credit_key (is_credit_of e p) (credits_standing b.entries) (credits_made b.entries) (AreInOrder-in_key_order credit_key (credits_made b.entries) (credits_once b.entries))
     (credits_once b.entries) (λ k. find_row-in_key_order credit_key (credits_made b.entries) k (credits_once b.entries))
 
-first_of : (ms : List ℕ) → slice_get ms 0 ≡ first ms
-first_of [] = refl
-first_of (m ∷ ms) = refl
-
-pub debts_are : (b : Book) (e : ℕ) (r : FirmRecords) → AreRecords b e r → (day : ℕ) (d : FirmDebts) (months : List ℕ) → d.missing ≡ slice_get months 0 → months ≡ missing b e day
-    → d.arrears ≡ arrears_on r.account.charges r.account.credits day → d.interest_arrears ≡ interest_arrears_in r day
+pub debts_are : (b : Book) (e : ℕ) (r : FirmRecords) → AreRecords b e r → (day : ℕ) (overdue : Overdue) → overdue ≡ overdue_told b day e → (d : FirmDebts)
+    → d.missing ≡ overdue.first → d.arrears ≡ overdue.arrears → d.interest_arrears ≡ overdue.interest
     → d.contribution_count ≡ length r.credits.items → d.interest_count ≡ length r.interest_credits.items → AreDebts (debts_of b day e) d
-debts_are b e r are day d months missing_first months_are owed interest paid interest_paid =
+debts_are b e r are day overdue told d missing_first owed interest paid interest_paid =
     record {
-      missing_is = missing_first ∙ first_of months ∙ ap first months_are;
-      arrears_is = owed ∙ (λ i. arrears_on (are.charges i) (are.paid i) day);
-      interest_is = interest ∙ interest_of_book b e r are day;
+      missing_is = missing_first ∙ ap (λ (o : Overdue). o.first) told;
+      arrears_is = owed ∙ ap (λ (o : Overdue). o.arrears) told;
+      interest_is = interest ∙ ap (λ (o : Overdue). o.interest) told;
       contributions_are = paid ∙ ap length are.credits ∙ rows_counted b e Contribution;
       interest_count_is = interest_paid ∙ ap length are.interest_credits ∙ rows_counted b e Interest;
     }

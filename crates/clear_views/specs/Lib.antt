@@ -1,6 +1,7 @@
 pub mod Claimed
 pub mod Ends
 pub mod Imports
+pub mod Overdue
 pub mod Owed
 pub mod Reads
 pub mod Statement

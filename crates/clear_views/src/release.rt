@@ -18,8 +18,8 @@ ghost use Rattle.clear_schema.specs.Values.{counts_of};
 ghost use Rattle.clear_texts.specs.Records.{AreRecords};
 
 use crate::lookups::claim_under;
-use crate::statement::{fault_of, firm_records};
-use clear_account::owed::arrears;
+use crate::overdue::overdue_on;
+use crate::statement::firm_records;
 use clear_book::numbers::{ClaimNo, SerialCount};
 use clear_book::rules::StoreCause;
 use clear_firms::counts::Counts;
@@ -27,8 +27,6 @@ use clear_money::days::Day;
 use clear_money::numbers::EmployerNo;
 use clear_rules::decide::release::{FirmDebts, OwingClaim, ReleaseView};
 use clear_schema::fault::Fault;
-use clear_texts::arrears::interest_arrears;
-use clear_texts::missing::missing_months;
 use clear_texts::records::FirmRecords;
 use sqlite::{Alter, Transaction};
 use std::alloc::Global;
@@ -139,19 +137,14 @@ fn debts_on(alloc: Global, records: &FirmRecords, day: Day) -> Result<FirmDebts,
     ensures fault { (b : Book) (e : ℕ) → IsLawful b → AreRecords b e records.now
         → day_back (ledger_day b.entries) day ≡ None → IfErr result IsOfDisk }
 {
-    let interest_arrears = match interest_arrears(alloc, records, day) {
-        Ok(cents) => cents,
-        Err(fault) => return Err(fault_of(fault)),
-    };
-    let missing = match missing_months(alloc, records, day) {
-        Ok(months) => months,
-        Err(_) => return Err(Fault::Memory),
-    };
-    Ok(FirmDebts {
-        missing: missing.first().copied(),
-        arrears: arrears(&records.account, day),
-        interest_arrears,
-        contribution_count: records.credits.len() as u64,
-        interest_count: records.interest_credits.len() as u64,
-    })
+    match overdue_on(alloc, records, day) {
+        Ok(overdue) => Ok(FirmDebts {
+            missing: overdue.first,
+            arrears: overdue.arrears,
+            interest_arrears: overdue.interest,
+            contribution_count: records.credits.len() as u64,
+            interest_count: records.interest_credits.len() as u64,
+        }),
+        Err(fault) => Err(fault),
+    }
 }

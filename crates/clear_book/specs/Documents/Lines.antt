@@ -1,10 +1,15 @@
 -- The lines of documents. Each ends with LF.
-use Rattle.std.specs.Prelude.{ℕ, List, ◌++◌, codes}
+use Rattle.std.specs.Prelude.{ℕ, List, ◌++◌, codes, Option, None, Some}
 use Rattle.std.specs.Fmt.{decimal}
 use Rattle.clear_money.specs.Texts.{day_text, month_text}
 use Rattle.clear_book.specs.declared.documents.ChargeState.{ChargeState}
 use Rattle.clear_book.specs.declared.documents.Payment.{Payment}
 use Rattle.clear_book.specs.Documents.Amounts.{amount_text}
+
+-- a month, or a dash
+abbrev pub month_or_dash : Option ℕ → List ℕ
+month_or_dash None = codes "-"
+month_or_dash (Some month) = month_text month
 
 -- the charge of a month: when it is due, the version of its report, its contribution, how much of
 -- it is open, and its interest

@@ -1,5 +1,5 @@
 -- The statement of a firm's account.
-use Rattle.std.specs.Prelude.{ℕ, List, ◌++◌, codes, Option, None, Some}
+use Rattle.std.specs.Prelude.{ℕ, List, ◌++◌, codes}
 use Rattle.std.specs.Fmt.{decimal}
 use Rattle.std.specs.List.{flat_map}
 use Rattle.clear_money.specs.Texts.{day_text, month_text}
@@ -8,7 +8,7 @@ use Rattle.clear_book.specs.declared.documents.FirmAccount.{FirmAccount}
 use Rattle.clear_book.specs.declared.documents.Payment.{Payment}
 use Rattle.clear_book.specs.Documents.Amounts.{amount_text}
 use Rattle.clear_book.specs.Documents.Lines.{charge_line, paid_line, interest_paid_line}
-use Rattle.clear_book.specs.Documents.Lines.{missing_line}
+use Rattle.clear_book.specs.Documents.Lines.{missing_line, month_or_dash}
 
 -- a charge as it stands, and the pieces of credits that pay it
 pub record PaidCharge : Type 0 where
@@ -23,17 +23,12 @@ pub record Statement : Type 0 where
   pub interest_credits : List Payment
   pub missing : List ℕ
 
--- the last month of a membership, or a dash
-abbrev pub last_text : Option ℕ → List ℕ
-last_text None = codes "-"
-last_text (Some month) = month_text month
-
 -- the lines on the firm
 unfoldable pub firm_lines : FirmAccount → List ℕ
 firm_lines firm =
     codes "statement " ++ decimal firm.employer ++ codes " " ++ day_text firm.day
     ++ codes "\nname " ++ firm.name
-    ++ codes "\nmember " ++ month_text firm.start ++ codes " " ++ last_text firm.last
+    ++ codes "\nmember " ++ month_text firm.start ++ codes " " ++ month_or_dash firm.last
     ++ codes "\n"
 
 -- the lines of a charge: its own, and one for each of its pieces

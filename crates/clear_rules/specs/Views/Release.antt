@@ -1,5 +1,5 @@
 -- What a release is judged by, and what it changes.
-use Rattle.std.specs.Prelude.{◌≡◌, ℕ, ◌+◌, List, [], ◌∷◌, Option, Some, None, IfSome}
+use Rattle.std.specs.Prelude.{◌≡◌, ℕ, ◌+◌, Option, Some, None, IfSome}
 use Rattle.std.specs.Option.{option_map, option_to_list}
 use Rattle.clear_book.specs.declared.outcomes.Reply.{Reply}
 use Rattle.clear_book.specs.declared.outcomes.Reply.TheVariants.{Released}
@@ -10,6 +10,7 @@ use Rattle.clear_book.specs.declared.rules.Rule.TheVariants.{UnknownClaim}
 use Rattle.clear_book.specs.Book.{Book}
 use Rattle.clear_book.specs.Lines.{serial_count}
 use Rattle.clear_book.specs.Own.Release.{Debts, debts_of, own_release, settlement_of}
+use Rattle.clear_book.specs.Reminders.{first_of_months}
 use Rattle.clear_book.specs.Workers.{claim_of, released}
 use Rattle.clear_rules.specs.declared.decide.release.FirmDebts.{FirmDebts}
 use Rattle.clear_rules.specs.declared.decide.release.OwingClaim.{OwingClaim}
@@ -18,14 +19,9 @@ use Rattle.clear_values.specs.declared.lines.Purpose.{Purpose}
 use Rattle.clear_values.specs.declared.lines.Purpose.TheVariants.{Contribution, Interest}
 use Rattle.clear_values.specs.declared.replies.Settlement.{Settlement}
 
--- the first of months, if there is one
-abbrev pub first : List ℕ → Option ℕ
-first [] = None
-first (m ∷ more) = Some m
-
 -- the numbers are what a firm owes
 pub record AreDebts (d : Debts) (f : FirmDebts) : Type 0 where
-  pub missing_is : f.missing ≡ first d.months
+  pub missing_is : f.missing ≡ first_of_months d.months
   pub arrears_is : f.arrears ≡ d.owed
   pub interest_is : f.interest_arrears ≡ d.interest
   pub contributions_are : f.contribution_count ≡ d.count Contribution

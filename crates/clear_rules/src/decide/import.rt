@@ -25,11 +25,11 @@ use clear_bank::fault::{BankFault, FIRST_ROW};
 use clear_bank::files::read_file;
 use clear_bank::lines::BankLine;
 use clear_bank::newness::{Judged, judge_file};
-use clear_book::files::{BankFile, BankRows};
+use clear_book::files::BankFile;
 use clear_book::limits::MAX_RECORDS;
 use clear_book::numbers::SerialCount;
 use clear_book::outcomes::Reply;
-use clear_book::rows::{BankRow, Change, Decision};
+use clear_book::rows::{BankRow, Change, Decision, Rows};
 use clear_book::rules::{Limit, Rule};
 use clear_money::days::Day;
 use clear_money::numbers::EmployerNo;
@@ -116,7 +116,7 @@ pub fn decide_import(
     };
     let new = rows.len() as u64;
     Ok(Decision {
-        change: Change::AddBankLines(BankRows::new(rows)),
+        change: Change::AddBankLines(Rows::new(rows)),
         reply: Reply::Imported {
             new,
             repeats: repeats as u64,

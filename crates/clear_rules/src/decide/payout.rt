@@ -10,7 +10,7 @@ ghost use Rattle.clear_rules.specs.Decisions.{Refuses, IsJudged, TakesTables};
 ghost use Rattle.clear_rules.specs.Views.PayoutList.{IsPayoutView, Lists};
 
 use clear_book::outcomes::Reply;
-use clear_book::rows::{Change, ClaimRow, ClaimRows, ClaimState, Decision, ListRow, ReleasedClaim};
+use clear_book::rows::{Change, ClaimRow, ClaimState, Decision, ListRow, ReleasedClaim, Rows};
 use clear_book::rules::Rule;
 use clear_money::days::Day;
 use std::alloc::{AllocError, Global};
@@ -58,7 +58,7 @@ pub fn decide_payout(alloc: Global, day: Day, view: &PayoutView) -> Result<Decis
         total: view.total,
     };
     Ok(Decision {
-        change: Change::AddList(list, ClaimRows::new(rows)),
+        change: Change::AddList(list, Rows::new(rows)),
         reply: Reply::Listed {
             list: view.next,
             items,

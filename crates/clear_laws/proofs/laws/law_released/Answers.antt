@@ -1,8 +1,5 @@
-use Rattle.clear_laws.proofs.ReleasedLemmas.{released_by_entry, released_stays, released_whole}
+use Rattle.clear_laws.proofs.ReleasedLemmas.{released_by_entry, released_stays}
 use Rattle.clear_laws.proofs.laws.law_released.Goals as goal
-
-pub returns-clause-whole : goal.returns-clause-whole
-returns-clause-whole c = λ b number claim release lawful found state. released_whole b.opening b.entries lawful number claim release found state
 
 pub returns-clause-entry : goal.returns-clause-entry
 returns-clause-entry c = λ b number claim release lawful found state. released_by_entry b.opening b.entries lawful number claim release found state

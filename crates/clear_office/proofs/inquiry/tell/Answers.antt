@@ -8,7 +8,11 @@ use Rattle.clear_office.proofs.inquiry.tell.Goals as goal
 
 pub returns-in-Payout-clause-told : goal.returns-in-Payout-clause-told
 returns-in-Payout-clause-told g c clean t has back =
-    subst (λ (query : Query). Replies c.args.day query t c.find_list.result) (sym c.in-Payout.is) (c.find_list.ensures.told clean t has c.args.day)
+    subst (λ (query : Query). Replies c.args.day query t c.look_for_list.result) (sym c.in-Payout.is) (c.look_for_list.ensures.told clean t has c.args.day)
+
+pub returns-in-Reminder-clause-told : goal.returns-in-Reminder-clause-told
+returns-in-Reminder-clause-told g c clean t has back =
+    subst (λ (query : Query). Replies c.args.day query t c.look_for_run.result) (sym c.in-Reminder.is) (c.look_for_run.ensures.told clean t has c.args.day)
 
 pub returns-in-Suspense-clause-told : goal.returns-in-Suspense-clause-told
 returns-in-Suspense-clause-told g c clean t has back =

@@ -2,11 +2,12 @@ use Rattle.std.proofs.Common.{◌∙◌, sym, subst, rules}
 use Rattle.clear_laws.proofs.RowRangeLemmas.{rows_in_range}
 use Rattle.clear_schema.specs.Faults.{IsOfDisk}
 use Rattle.clear_office.proofs.LawLemmas.{suspense_few}
+use Rattle.clear_office.proofs.ListLemmas.{tellable}
 use Rattle.clear_office.proofs.inquiry.tell_document.Goals as goal
 
 pub returns-in-Ok-clause-still : goal.returns-in-Ok-clause-still
 returns-in-Ok-clause-still g c clean t has on =
-    let kept = c.tell_rows-told.ensures.kept clean t has in
+    let kept = c.tell_rows-told.ensures.tells.kept clean t has in
     let before = kept.was_open on in
     let first = c.is_autocommit-before.ensures.settled (search rules) before in
     let last = c.is_autocommit-behind.ensures.settled (search rules) on in
@@ -14,7 +15,7 @@ returns-in-Ok-clause-still g c clean t has on =
 
 pub returns-in-Err-clause-still : goal.returns-in-Err-clause-still
 returns-in-Err-clause-still g c clean t has on =
-    let kept = c.tell_rows-told.ensures.kept clean t has in
+    let kept = c.tell_rows-told.ensures.tells.kept clean t has in
     let before = kept.was_open on in
     let first = c.is_autocommit-before.ensures.settled (search rules) before in
     let last = c.is_autocommit-behind.ensures.settled (search rules) on in
@@ -22,4 +23,4 @@ returns-in-Err-clause-still g c clean t has on =
 
 pub returns-in-Err-clause-failed : goal.returns-in-Err-clause-failed
 returns-in-Err-clause-failed g c clean t has number fault is b lawful stands =
-    subst IsOfDisk (cc is) (c.in-Err.ensures.cause clean t has (rows_in_range b t lawful stands) (suspense_few b t lawful stands) number)
+    subst IsOfDisk (cc is) (c.in-Err.ensures.tells.cause clean t has (rows_in_range b t lawful stands) (tellable t c.args.document number (suspense_few b t lawful stands)))

@@ -1,13 +1,10 @@
 use Rattle.std.proofs.Common.{rules}
-use Rattle.sqlite.specs.Held.{state}
-use Rattle.sqlite.specs.State.{HasCleanDisk}
-use Rattle.clear_reading.proofs.ReadLemmas.{was_clean}
+use Rattle.clear_ledger.specs.Shown.{bank_shown}
+use Rattle.clear_reading.proofs.DocumentLemmas.{tells_document}
 use Rattle.clear_reading.proofs.SuspenseLemmas.{addable}
 use Rattle.clear_reading.proofs.suspense.tell_suspense.Goals as goal
 
-pub returns-clause-cause : goal.returns-clause-cause
-returns-clause-cause g c clean t has ranges few =
-    let end = c.write_lines.new.rows.conn.now in
-    let late : HasCleanDisk (state g.S.Store end) = search (rules, clean) in
-    let early : HasCleanDisk (state g.S.Store c.in-Ok.rows.conn.now) = was_clean (state g.S.Store c.in-Ok.rows.conn.now) (state g.S.Store end) c.write_lines.ensures.tells.survives late in
-    c.in-Err-write_lines.ensures.tells.cause late _ (c.in-Ok.ensures.begun.begun early t has) (addable t.bank ranges.bank few)
+pub returns-clause-tells : goal.returns-clause-tells
+returns-clause-tells g c =
+    tells_document g.S.Store bank_shown c.args.conn.now c.in-Ok.rows.conn.now c.tell_rows.new.rows.conn.now _ _ _ _ _ c.tell_rows.result (search rules) c.in-Ok.ensures.begun c.tell_rows.ensures.tells
+    (λ t ranges few. addable t.bank ranges.bank few)

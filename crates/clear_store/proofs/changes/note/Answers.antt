@@ -10,8 +10,8 @@ use Rattle.clear_store.proofs.changes.note.Goals as goal
 pub returns-in-Some-clause-puts : goal.returns-in-Some-clause-puts
 returns-in-Some-clause-puts g c =
     let is = c.in-Some.ensures.next in
-    let after = counts_after c.args.day c.args.serials c.args.claims c.args.lists (as_stored c.args.counts.now) in
-    put_by g.S.Store c.args.tx.now.conn.now c.put_counts.new.tx.conn.now c.put_counts.result _ _ _ Always _ (λ t free. refl) (λ good out. out (countable_after c.in-Some.next c.args.counts.now c.args.day c.args.serials c.args.claims c.args.lists is good))
+    let after = counts_after c.args.day c.args.taken.now (as_stored c.args.counts.now) in
+    put_by g.S.Store c.args.tx.now.conn.now c.put_counts.new.tx.conn.now c.put_counts.result _ _ _ Always _ (λ t free. refl) (λ good out. out (countable_after c.in-Some.next c.args.counts.now c.args.day c.args.taken.now is good))
     (writes_as g.S.Store c.args.tx.now.conn.now c.put_counts.new.tx.conn.now c.put_counts.result _ _ _ _ (λ t has. ap (λ k. with_counts k t) {y = after} is) c.put_counts.ensures.writes)
 
 pub returns-in-None-clause-puts : goal.returns-in-None-clause-puts

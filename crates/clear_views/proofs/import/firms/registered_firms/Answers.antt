@@ -5,7 +5,7 @@ use Rattle.clear_rows.proofs.Inside.{survives_both, survives_none}
 use Rattle.clear_views.specs.Imports.{firm_viewed}
 use Rattle.clear_views.proofs.ReadLemmas.{was_clean}
 use Rattle.clear_views.proofs.StillLemmas.{reads_else, reads_fault, reads_memory, reads_none, reads_then}
-use Rattle.clear_views.proofs.ImportLemmas.{found_more}
+use Rattle.clear_rules.proofs.FilterMapLemmas.{found_more}
 use Rattle.clear_views.proofs.import.firms.registered_firms.Goals as goal
 
 pub loop-no-init : goal.loop-no-init

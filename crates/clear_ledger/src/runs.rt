@@ -1,0 +1,105 @@
+//! The reminder runs, by their numbers.
+ghost use Rattle.std.specs.Prelude.{◌≡◌, ◌↔◌, [], ◌∷◌, true, IsTrue};
+ghost use Rattle.sqlite.specs.Values.{bound};
+ghost use Rattle.clear_values.specs.Keyed.{find_row, with_row};
+ghost use Rattle.clear_values.specs.RowRanges.{IsReply, IsRunRow};
+ghost use Rattle.clear_values.specs.Tables.{run_key};
+ghost use Rattle.clear_columns.specs.Keys.{is_held};
+ghost use Rattle.clear_ledger.specs.Shown.{run_shown};
+ghost use Rattle.clear_schema.specs.Frame.{Finds, Writes};
+
+use clear_columns::columns::{count_at, day_at, number_at};
+use clear_columns::parameters::{day, run_no};
+use clear_columns::queries::find;
+use clear_columns::ranges::{is_firm_count, is_run_no};
+use clear_columns::rows::StoredTable;
+use clear_schema::fault::Fault;
+use clear_schema::statement::put;
+use clear_schema::values::number;
+use clear_values::causes::StoreCause;
+use clear_values::numbers::RunNo;
+use clear_values::replies::Reply;
+use clear_values::rows::RunRow;
+use sqlite::{Alter, Row, Transaction};
+use sqlite_value::value::ValueRef;
+
+/// Adds a reminder run whose number is free. A number out of 1 to 50,000,000, and a count of firms
+/// that no run can have, are refused with `Fault::Store(StoreCause::Row)`, and nothing is done.
+pub fn insert_run<S: Alter>(tx: &mut Transaction<'_, S>, row: &RunRow) -> Result<(), Fault>
+    ensures same_reference { tx.new.conn.ghost_name ≡ tx.old.conn.ghost_name }
+    ensures writes { Writes S.Store tx.old.conn.now tx.new.conn.now result (¬ IsRunRow row.now)
+        (λ t. is_held run_key row.now t.runs)
+        (λ t. record t { runs = with_row run_key t.runs row.now }) }
+{
+    if !is_run_row(row) {
+        return Err(Fault::Store(StoreCause::Row));
+    }
+    put(
+        tx,
+        "INSERT INTO runs (no, day, firms) VALUES (?1, ?2, ?3)",
+        &run_values(row),
+    )
+}
+
+/// The reminder run of a number.
+pub fn find_run<S: Alter>(tx: &mut Transaction<'_, S>, run: RunNo) -> Result<Option<RunRow>, Fault>
+    ensures same_reference { tx.new.conn.ghost_name ≡ tx.old.conn.ghost_name }
+    ensures looks { Finds S.Store tx.old.conn.now tx.new.conn.now result IsRunRow
+        (λ t. find_row run_key t.runs (run ∷ [])) }
+{
+    find::<S, Runs>(
+        tx,
+        "SELECT no, day, firms FROM runs WHERE no = ?1",
+        &[run_no(run)],
+    )
+}
+
+/// The table of reminder runs.
+pub struct Runs;
+
+impl StoredTable for Runs {
+    ghost use Rattle.clear_ledger.specs.Shown.{run_shown};
+    ghost use Rattle.clear_values.specs.RowRanges.{IsRunRow};
+
+    type Row = RunRow;
+
+    ghost shown = { run_shown };
+
+    ghost is_in_range = { IsRunRow };
+
+    fn read(row: &Row) -> Result<RunRow, Fault> {
+        let run = RunRow {
+            run: count_at(row, 0)?,
+            day: day_at(row, 1)?,
+            firms: number_at(row, 2)?,
+        };
+        if !is_run_row(&run) {
+            return Err(Fault::Store(StoreCause::Row));
+        }
+        Ok(run)
+    }
+}
+
+// Whether the numbers of a run are in their ranges.
+fn is_run_row(row: &RunRow) -> bool
+    ensures { (result ≡ true) ↔ IsRunRow row.now }
+{
+    // A proof reads the range of the day from its type.
+    let _day = row.day.number();
+    is_reminded(row.run, row.firms)
+}
+
+/// Whether a reminder run can have this number and so many firms: 1 to 50,000,000, and 1 to 10,000.
+pub fn is_reminded(run: u32, firms: u64) -> bool
+    ensures { IsTrue result ↔ IsReply (Reply.Reminded run firms) }
+{
+    is_run_no(run) && firms >= 1 && is_firm_count(firms)
+}
+
+// The parameters of a statement that writes a row.
+fn run_values(row: &RunRow) -> [ValueRef<'static>; 3]
+    requires { IsRunRow row.now }
+    ensures { bound result ≡ run_shown row.now }
+{
+    [number(u64::from(row.run)), day(row.day), number(row.firms)]
+}

@@ -1,0 +1,61 @@
+//! The document of a reminder run, told outside of a transaction.
+ghost use Rattle.std.specs.Prelude.{◌≡◌, ◌==◌, false, filter};
+ghost use Rattle.clear_values.specs.Numbers.{IsRunNo};
+ghost use Rattle.clear_book.specs.Documents.Reminders.{reminders_text};
+ghost use Rattle.clear_reading.specs.Reader.{TellsDocument};
+
+use crate::telling::{DocumentHead, tell_rows};
+use clear_book::documents::Document;
+use clear_ledger::reminders::{Reminders, read_reminders};
+use clear_schema::fault::{Fault, fault_of};
+use clear_texts::reminders::remind_text;
+use clear_texts::rows::{RowFault, RowSource};
+use clear_values::causes::StoreCause;
+use clear_values::numbers::RunNo;
+use clear_values::rows::{ReminderRow, RunRow};
+use sqlite::{Alter, Connection};
+use std::alloc::Global;
+
+/// The document of a reminder run over the reminders that the table holds, which are read one at a
+/// time. Nothing is changed. It takes as many steps as the run has reminders. A run whose number
+/// none can have is refused with `Fault::Store(StoreCause::Row)`.
+pub fn tell_reminders<S: Alter>(
+    alloc: Global,
+    conn: &mut Connection<S>,
+    run: &RunRow,
+) -> Result<Document, Fault>
+    requires outside { conn.old.in_transaction ≡ false }
+    ensures mode { conn.new.in_transaction ≡ false }
+    ensures tells { TellsDocument S.Store conn.old conn.new
+        (λ t. reminders_text run.now (filter (λ row. row.run == run.now.run) t.reminders))
+        (λ t. IsRunNo run.now.run) result }
+{
+    let Some(number) = RunNo::new(u64::from(run.run)) else {
+        return Err(Fault::Store(StoreCause::Row));
+    };
+    let mut rows = match read_reminders(conn, number) {
+        Ok(rows) => rows,
+        Err(error) => return Err(fault_of(error)),
+    };
+    tell_rows(alloc, run, &mut rows)
+}
+
+// The reminders of the run are told, and nothing of them is added up.
+impl DocumentHead for RunRow {
+    ghost use Rattle.clear_book.specs.Documents.Reminders.{reminders_text};
+
+    type Table = Reminders;
+
+    ghost text_of = { reminders_text };
+
+    ghost amount = { λ reminder. 0 };
+
+    fn append<R: RowSource<Row = ReminderRow>>(
+        &self,
+        alloc: Global,
+        rows: &mut R,
+        text: &mut String,
+    ) -> Result<(), RowFault> {
+        remind_text(alloc, self, rows, text)
+    }
+}
