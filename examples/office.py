@@ -1,0 +1,153 @@
+"""The client of a served office, and what the scripts beside it share.
+
+    office = Office(("127.0.0.1", 8080), "desk")
+    print(office.ask("GET", "/suspense").done().text)
+"""
+
+import argparse
+import http.client
+import json
+import os
+import re
+import sys
+from pathlib import Path
+from typing import NamedTuple
+
+# In seconds. The office serves one connection after another, so others may come first.
+TIMEOUT = 60
+LAST_NUMBER = 999_999_999_999_999_999
+ADDRESS = re.compile(r"([^:/\s]+):([0-9]{1,5})")
+KEY = re.compile(r"[!-~]{1,64}")
+
+
+class Fault(Exception):
+    """What ends a script, with its status: 1 for a refusal, 2 for the command line and files, 3
+    for an office that can't be reached."""
+
+    def __init__(self, text, status):
+        super().__init__(text)
+        self.status = status
+
+
+class Answer(NamedTuple):
+    status: int
+    reason: str
+    text: str
+
+    @property
+    def members(self):
+        """The members of a body in JSON, which is any but that of a document."""
+        try:
+            return dict(json.loads(self.text))
+        except ValueError:
+            raise Fault(f"no answer of an office: {self.status} {self.reason}", 3) from None
+
+    @property
+    def rule(self):
+        """The number of the rule that refuses the request, 0 where it is done."""
+        return 0 if self.status == 200 else self.members.get("rule")
+
+    @property
+    def refusal(self):
+        told = self.members
+        return f"rule {told.get('rule')} {told.get('name')} {told.get('detail')}".rstrip()
+
+    def done(self):
+        """The same answer, of a request that is to be done."""
+        if self.rule != 0:
+            raise Fault(self.refusal, 1)
+        return self
+
+
+def stops(status):
+    """Whether the next request would fare no better than one with this status: the key is
+    nobody's, or the office has failed or has no memory."""
+    return status == 401 or status >= 500
+
+
+class Office:
+    """One connection, which is kept, and made anew where the office has ended it."""
+
+    def __init__(self, address, key, timeout=TIMEOUT):
+        self.key = key
+        self.connection = http.client.HTTPConnection(*address, timeout=timeout)
+
+    def ask(self, method, path, number=None, body=""):
+        """The answer to a request. One that has none is sent once more: it is done once, by its
+        number."""
+        try:
+            return self.ask_once(method, path, number, body)
+        except (http.client.HTTPException, OSError):
+            self.connection.close()
+        try:
+            return self.ask_once(method, path, number, body)
+        except (http.client.HTTPException, OSError) as why:
+            self.connection.close()
+            address = f"{self.connection.host}:{self.connection.port}"
+            raise Fault(f"no answer from {address}: {why}", 3) from why
+
+    def ask_once(self, method, path, number, body):
+        fields = {"Office-Key": self.key}
+        if number is not None:
+            fields["Request-Number"] = str(number)
+        # A connection that is closed is made by the next request.
+        self.connection.request(method, path, body.encode() or None, fields)
+        answer = self.connection.getresponse()
+        return Answer(answer.status, answer.reason, answer.read().decode(errors="replace"))
+
+
+def euros(cents):
+    return f"{cents // 100}.{cents % 100:02}"
+
+
+def read_text(path):
+    try:
+        return Path(path).read_text(encoding="utf-8-sig")
+    except UnicodeError:
+        raise Fault(f"{path}: no text in UTF-8", 2) from None
+
+
+def read_key(path):
+    key = read_text(path).strip()
+    if not KEY.fullmatch(key):
+        raise Fault(f"{path}: not one key", 2)
+    return key
+
+
+def read_address(word):
+    found = ADDRESS.fullmatch(word)
+    if not found or int(found[2]) > 65_535:
+        raise argparse.ArgumentTypeError(f"{word} isn't HOST:PORT")
+    return found[1], int(found[2])
+
+
+def request_number(word):
+    if not re.fullmatch("[1-9][0-9]{0,17}", word):
+        raise argparse.ArgumentTypeError(f"{word} isn't from 1 to {LAST_NUMBER}")
+    return int(word)
+
+
+def command_line(text, *arguments):
+    """The words of a script's command line: ADDRESS, KEYFILE, and the arguments given, each a name
+    with its options. The text is the script's docstring, its usage first."""
+    usage, _, description = text.removeprefix("Usage: ").partition("\n\n")
+    form = argparse.RawDescriptionHelpFormatter
+    parser = argparse.ArgumentParser(usage=usage, description=description, formatter_class=form)
+    parser.add_argument("address", metavar="ADDRESS", type=read_address, help="as 127.0.0.1:8080")
+    parser.add_argument("key", metavar="KEYFILE", type=read_key, help="a file of the key alone")
+    for name, options in arguments:
+        parser.add_argument(name, metavar=name.upper(), **options)
+    return parser.parse_args()
+
+
+def run(script):
+    """Runs a script, which returns its status; tells its fault. Its files are its user's alone."""
+    os.umask(0o077)
+    try:
+        sys.exit(script())
+    except Fault as fault:
+        print(fault, file=sys.stderr)
+        sys.exit(fault.status)
+    except OSError as why:
+        print(why, file=sys.stderr)
+        sys.exit(2)

@@ -1,0 +1,543 @@
+"""Runs the scripts of `examples` as a clerk does, against a served office, and compares their files and words.
+
+    python3 tests/examples.py [PROGRAM]
+
+PROGRAM is crates/clear_app/out/clear_app where it isn't given, as `rt ci` leaves it. What is expected is worked out
+here from docs/rules.md alone.
+"""
+
+import contextlib
+import datetime
+import json
+import os
+import re
+import shutil
+import socket
+import sqlite3
+import subprocess
+import sys
+import tempfile
+import threading
+
+# No __pycache__ is left beside the sources.
+sys.dont_write_bytecode = True
+from program import HEADER, REGISTRATION, post  # noqa: E402
+from program_under_test import DAY, ROOT, ProgramUnderTest, run_tests  # noqa: E402
+from serving import ask, read_answer  # noqa: E402
+
+sys.path.append(str(ROOT / "examples"))
+import office  # noqa: E402
+
+CSV_HEADER = "employer,month,worker,gross\n"
+JANUARY = CSV_HEADER + "1001,2024-01,7,1000000\n"
+REGISTRATION_LINE = 'POST /employers 1 {"employer":1001,"name":"Bau Nord","start":"2024-01"}\n'
+REPORT_LINE = 'POST /employers/1001/reports/2024-02 2 {"lines":[{"gross":100,"worker":8}]}\n'
+
+YEAR_END = "2025-01-31"
+FIRST, FIRMS = 1001, 300
+RATE, INTEREST = 2000, 100
+
+
+class Scripts(ProgramUnderTest):
+    maxDiff = None
+    store = "fund.db"
+
+    def setUp(self):
+        super().setUp()
+        self.write("desk.key", "desk\n")
+        self.write("firm.key", "k1001\n")
+
+    def open_office(self, day=DAY, count=1_000):
+        """An office that is served, and takes connections by now. Its address."""
+        if not (self.folder / self.store).exists():
+            self.init(self.store)
+        self.server = self.serving(count + 1, day, self.store)
+        self.connect(self.server).close()
+        self.address = f"127.0.0.1:{self.server.port}"
+
+    def close_office(self):
+        self.server.kill()
+        self.server.communicate()
+
+    def command(self, name, *words, key="desk.key"):
+        return [sys.executable, "-B", str(ROOT / f"examples/{name}.py"), self.address, key, *map(str, words)]
+
+    def script(self, name, *words, status=0, errors="", **options):
+        """What a script prints, which ends with this status and says this on standard error."""
+        ran = subprocess.run(self.command(name, *words, **options), cwd=self.folder, capture_output=True, timeout=60)
+        self.assertEqual((ran.returncode, ran.stderr.decode()), (status, errors), ran.stdout.decode())
+        return ran.stdout.decode()
+
+    def refuses_to_start(self, said, name, *words, **options):
+        """A script ends with status 2, says this, and opens no connection."""
+        with socket.create_server(("127.0.0.1", 0)) as listener:
+            self.address = f"127.0.0.1:{listener.getsockname()[1]}"
+            self.assertEqual(self.script(name, *words, status=2, errors=said, **options), "")
+            listener.settimeout(0)
+            self.assertRaises(BlockingIOError, listener.accept)
+
+    def ask_desk(self, request):
+        with self.connect(self.server) as peer:
+            return ask(peer, request).decode()
+
+    def statement(self, employer):
+        head = f"GET /employers/{employer}/statement HTTP/1.1\r\nHost: office\r\nOffice-Key: desk\r\n\r\n"
+        return self.ask_desk(head.encode())
+
+
+# ---- the rules of the trade, for the fund below
+
+
+class Firm:
+    """One of 300 firms in the twelve months of 2024, by its place: what it reports, pays and owes."""
+
+    def __init__(self, place):
+        self.place, self.employer = place, FIRST + place
+        self.missing = [month for month in range(12) if self.misses(month)]
+        self.charges = {month: self.charge(month) for month in range(12) if month not in self.missing}
+        self.payments = [*self.payments_by_bank()]
+        self.interest_paid = 0
+
+    def misses(self, month):
+        return self.place % 10 == 3 and month == 4 or self.place % 20 == 13 and month == 11
+
+    def wages(self, month):
+        """Its workers with their gross amounts."""
+        return {self.employer * 10 + at: 200_000 + 1_009 * month + 137 * self.place + 5_003 * at
+                for at in range(1 + self.place % 3)}
+
+    def charge(self, month):
+        return (sum(self.wages(month).values()) * RATE + 5_000) // 10_000
+
+    def payments_by_bank(self):
+        """Most pay on the due day; some pay nothing, and some all of it late."""
+        if self.place % 7 == 2:
+            return
+        for month, cents in self.charges.items():
+            yield (datetime.date(2025, 1, 10) if self.place % 11 == 4 else due(month)), cents
+
+    def arrears(self, day):
+        owed = sum(cents for month, cents in self.charges.items() if due(month) < day)
+        return max(0, owed - sum(cents for _, cents in self.payments))
+
+    def open_at(self, month, day):
+        """What is open of a month's charge on a day: payments pay the charges in the order of their months."""
+        before = sum(cents for earlier, cents in self.charges.items() if earlier < month)
+        paid = sum(cents for paid_on, cents in self.payments if paid_on <= day)
+        return min(max(before + self.charges[month] - paid, 0), self.charges[month])
+
+    def interest(self, day):
+        """The interest of all charges, less what is paid of it."""
+        total = 0
+        for month in self.charges:
+            begun = [due(later) for later in range(month, 24) if due(later) < day]
+            total += sum(self.open_at(month, it) for it in begun) * INTEREST // 10_000
+        return max(0, total - self.interest_paid)
+
+    def release(self, cents, day):
+        """Settles a claim. What is paid out."""
+        to_contributions = min(cents, self.arrears(day))
+        to_interest = min(cents - to_contributions, self.interest(day))
+        self.payments.append((day, to_contributions))
+        self.interest_paid += to_interest
+        return cents - to_contributions - to_interest
+
+    def reminder(self, day):
+        """Its line in the first reminder run, if it is in default."""
+        arrears, interest = self.arrears(day), self.interest(day)
+        if self.missing or arrears or interest:
+            first = month_name(self.missing[0]) if self.missing else "-"
+            amounts = f"{in_euros(arrears):>14} {in_euros(interest):>14}"
+            yield f"employer {self.employer} level 1 missing {len(self.missing)} {first} {amounts}"
+
+
+def due(month):
+    """The 20th of the month behind the one with this number, of which 0 is January 2024."""
+    return datetime.date(2024 + (month + 1) // 12, (month + 1) % 12 + 1, 20)
+
+
+def month_name(month):
+    return f"{2024 + month // 12}-{month % 12 + 1:02}"
+
+
+def in_euros(cents):
+    return f"{cents / 100:.2f}"
+
+
+def amounts_in_cents(pattern, text):
+    """The sum of the amounts that the pattern finds in a text."""
+    return sum(int(found.replace(".", "")) for found in re.findall(pattern, text, re.M))
+
+
+class Fund(Scripts):
+    """A fund of 300 firms and twelve months: registered, reported, paid and ended by the scripts."""
+
+    def setUp(self):
+        super().setUp()
+        if os.access("/dev/shm", os.W_OK):
+            # Most of the time would go to a disk's syncs, one for each of 3,900 requests.
+            memory = tempfile.mkdtemp(prefix="clearing-", dir="/dev/shm")
+            self.addCleanup(shutil.rmtree, memory)
+            os.chmod(memory, 0o777)
+            self.store = f"{memory}/fund.db"
+
+    def test_a_year_and_its_month_end(self):
+        firms = [Firm(place) for place in range(FIRMS)]
+        self.day = datetime.date.fromisoformat(YEAR_END)
+        self.open_office(YEAR_END)
+        self.register(firms)
+        self.report(firms)
+        self.pay(firms)
+        paid_out = self.claim(firms)
+        self.end_the_month(firms, paid_out)
+
+    def register(self, firms):
+        self.write("firms.txt", "".join(
+            f'POST /employers {at} {{"employer":{firm.employer},"name":"Bau {at}","start":"2024-01"}}\n'
+            for at, firm in enumerate(firms, 1)))
+        said = self.script("answer_log", "firms.txt", "firms.log")
+        self.assertEqual(said, f"sent: {FIRMS}, skipped: 0, refused: 0\n")
+
+    def report(self, firms):
+        """All reports in one file, month by month; then once more, which changes nothing."""
+        lines, wanted = [CSV_HEADER], []
+        for month in range(12):
+            name = month_name(month)
+            for firm in firms:
+                if month in firm.charges:
+                    told = f"{1_001 + len(wanted)} {firm.employer} {name}"
+                    wanted.append(f"{told}: {in_euros(firm.charges[month])} euros, version 1\n")
+                    lines += [f"{firm.employer},{name},{worker},{gross}\n"
+                              for worker, gross in firm.wages(month).items()]
+        self.write("wages.csv", "".join(lines))
+        wanted.append(f"reports: {len(wanted)}, refused: 0\n")
+        for _ in range(2):
+            self.assertEqual(self.script("reports_from_csv", 1_001, "wages.csv"), "".join(wanted))
+
+    def pay(self, firms):
+        lines = [f"P{firm.employer}-{at},{day},{firm.employer},{cents},C,\n"
+                 for firm in firms for at, (day, cents) in enumerate(firm.payments)]
+        unknown = "U1,2024-12-30,,5000,C,no number\nU2,2024-12-31,99,700,I,\n"
+        answer = self.ask_desk(post("/bank", 10_001, HEADER + "".join(lines) + unknown))
+        self.assertIn(f'{{"new":{len(lines) + 2},"repeats":0}}', answer)
+
+    def claim(self, firms):
+        """A claim of a firm that owes nothing, of one that owes more, and of one that owes interest: what is paid
+        out of each."""
+        lines, paid_out = [], []
+        for at, (place, cents) in enumerate(((0, 50_000), (2, 60_000), (4, 70_000)), 1):
+            firm = firms[place]
+            claim = json.dumps({"cents": cents, "worker": firm.employer * 10})
+            lines.append(f"POST /employers/{firm.employer}/claims {20_000 + 2 * at} {claim}\n")
+            lines.append(f"POST /claims/{at}/release {20_001 + 2 * at}\n")
+            paid_out.append((at, firm, firm.release(cents, self.day)))
+        self.assertEqual([paid for _, _, paid in paid_out][:2], [50_000, 0])
+        self.assertTrue(0 < paid_out[2][2] < 70_000)
+        self.write("claims.txt", "".join(lines))
+        self.assertEqual(self.script("answer_log", "claims.txt", "claims.log"),
+                         "sent: 6, skipped: 0, refused: 0\n")
+        return [it for it in paid_out if it[2]]
+
+    def end_the_month(self, firms, paid_out):
+        reminders = [line for firm in firms for line in firm.reminder(self.day)]
+        self.assertTrue(0 < len(reminders) < FIRMS)
+        total = sum(paid for _, _, paid in paid_out)
+        words = ["month_end", "january", 30_001, f"{FIRST - 2}-{FIRST + FIRMS + 8}"]
+        skipped = "999 1000 1301 1302 1303 1304 1305 1306 1307 1308 .."
+        said = (f"statements: {FIRMS}\nnumbers without a firm: 11 ({skipped})\n"
+                f"suspense {YEAR_END}: total 57.00\nreminders 1 {YEAR_END}: firms {len(reminders)}\n"
+                f"payout 1 {YEAR_END}: total {in_euros(total)}\n")
+        self.assertEqual(self.script(*words), said)
+        files = self.files("january")
+        self.assertEqual(files.pop(f"reminders-1-{YEAR_END}.txt"), "".join(
+            f"{line}\n" for line in [f"reminders 1 {YEAR_END}", *reminders, f"firms {len(reminders)}"]))
+        self.assertEqual(files.pop(f"payout-1-{YEAR_END}.txt"), f"payout 1 {YEAR_END}\n" + "".join(
+            f"claim {claim} employer {firm.employer} worker {firm.employer * 10} {in_euros(paid):>14}\n"
+            for claim, firm, paid in paid_out) + f"items {len(paid_out)}\ntotal {in_euros(total):>14}\n")
+        self.assertEqual(files.pop(f"suspense-{YEAR_END}.txt"), f"suspense {YEAR_END}\n"
+                         f"line U1 2024-12-30 C - {'50.00':>14} no number\n"
+                         f"line U2 2024-12-31 I 99 {'7.00':>14}\nlines 2\ntotal {'57.00':>14}\n")
+        self.compare_statements(firms, files)
+        before = self.files("january")
+        # Once more under the same numbers, and the firms from a file.
+        self.write("range.txt", f"{FIRST - 2}-{FIRST + FIRMS - 1}\n{FIRST + FIRMS}-{FIRST + FIRMS + 8}\n")
+        self.assertEqual(self.script(*words[:-1], "range.txt"), said)
+        self.assertEqual(self.files("january"), before)
+        # Under new numbers nothing is due, which is no fault.
+        self.assertEqual(self.script("month_end", "again", 30_003, FIRST), f"statements: 1\n"
+                         f"suspense {YEAR_END}: total 57.00\n"
+                         "reminders: rule 30 NothingToRemind\npayouts: rule 29 NothingToPay\n")
+        self.assertEqual(len(self.files("again")), 2)
+
+    def files(self, folder):
+        return {path.name: path.read_text() for path in (self.folder / folder).iterdir()}
+
+    def compare_statements(self, firms, files):
+        self.assertEqual(set(files), {f"statement-{firm.employer}-{YEAR_END}.txt" for firm in firms})
+        text = "".join(files.values())
+        self.assertEqual(len(re.findall("^missing ", text, re.M)), sum(len(firm.missing) for firm in firms))
+        charges = r"^charge .* version 1 +([0-9.]+) +[0-9.]+ +[0-9.]+$"
+        self.assertEqual(amounts_in_cents(charges, text), sum(sum(firm.charges.values()) for firm in firms))
+        for name, of_firm in (("arrears", Firm.arrears), ("interest", Firm.interest)):
+            self.assertEqual(amounts_in_cents(rf"^{name} +([0-9.]+)$", text),
+                             sum(of_firm(firm, self.day) for firm in firms), name)
+        paid = sum(cents for firm in firms for _, cents in firm.payments)
+        self.assertEqual(amounts_in_cents(r"^  paid [0-9-]+ +([0-9.]+) ", text), paid)
+
+
+class MonthEnd(Scripts):
+    def setUp(self):
+        super().setUp()
+        self.open_office()
+        self.ask_desk(REGISTRATION)
+
+    def test_a_number_of_an_earlier_day(self):
+        made = "reminders 1 2024-04-30: firms 1\n"
+        nothing = "payouts: rule 29 NothingToPay\n"
+        said = self.script("month_end", "april", 2, "1001", "1002")
+        self.assertEqual(said, "statements: 1\nnumbers without a firm: 1 (1002)\n"
+                               f"suspense 2024-04-30: total 0.00\n{made}{nothing}")
+        self.close_office()
+        self.open_office("2024-05-02")
+        note = "number 2 made it on an earlier day; a new one needs a new number\n"
+        said = self.script("month_end", "april", 2, "1001")
+        self.assertEqual(said, f"statements: 1\nsuspense 2024-05-02: total 0.00\n{made}{note}{nothing}")
+        # What was written on the earlier day is still there.
+        names = sorted(path.name for path in (self.folder / "april").iterdir())
+        self.assertEqual(names, [
+            "reminders-1-2024-04-30.txt", "statement-1001-2024-04-30.txt", "statement-1001-2024-05-02.txt",
+            "suspense-2024-04-30.txt", "suspense-2024-05-02.txt"])
+        # Nobody else may read it.
+        for path in (self.folder / "april", *(self.folder / "april").iterdir()):
+            self.assertEqual(path.stat().st_mode & 0o077, 0, path)
+
+    def test_refusals(self):
+        self.write("no.key", "nobody\n")
+        for key, number, said, errors in (
+                ("no.key", 2, "", "rule 6 UnknownKey\n"),
+                ("firm.key", 2, "statements: 1\n", "rule 7 NotYours\n"),
+                ("desk.key", 1, "statements: 1\nsuspense 2024-04-30: total 0.00\n", "rule 9 NumberReused\n")):
+            printed = self.script("month_end", "april", number, 1001, key=key, status=1, errors=errors)
+            self.assertEqual(printed, said)
+
+    def test_wrong_words_and_files(self):
+        self.write("firms.txt", "1001 1002-\n")
+        fault = "firms.txt: 1002- is neither an employer number nor FIRST-LAST\n"
+        self.refuses_to_start(fault, "month_end", "april", 2, "firms.txt")
+        fault = "1002-1001: 1002-1001 is neither an employer number nor FIRST-LAST\n"
+        self.refuses_to_start(fault, "month_end", "april", 2, "1002-1001")
+        missing = "[Errno 2] No such file or directory: 'no.txt'\n"
+        self.refuses_to_start(missing, "month_end", "april", 2, "no.txt")
+        self.refuses_to_start("firms.txt: not one key\n", "month_end", "april", 2, 1001, key="firms.txt")
+        self.write("firms.txt", b"1001 \xff\n")
+        self.refuses_to_start("firms.txt: no text in UTF-8\n", "month_end", "april", 2, "firms.txt")
+        self.assertFalse((self.folder / "april").exists())
+
+
+class Reports(Scripts):
+    def test_refused_reports_are_told(self):
+        self.open_office()
+        self.ask_desk(REGISTRATION)
+        self.write("wages.csv", JANUARY + "1002,2024-01,8,1\n1001,2024-05,7,1\n1001,2024-02,7,500050\n")
+        wanted = ("1 1001 2024-01: 2000.00 euros, version 1\n2 1002 2024-01: rule 7 NotYours\n"
+                  "3 1001 2024-05: rule 14 MonthAhead\n4 1001 2024-02: 1000.10 euros, version 1\n"
+                  "reports: 4, refused: 2\n")
+        for _ in range(2):
+            said = self.script("reports_from_csv", 1, "wages.csv", key="firm.key", status=1)
+            self.assertEqual(said, wanted)
+        said = self.script("reports_from_csv", 5, "wages.csv", status=1)
+        self.assertIn("5 1001 2024-01: rule 15 ReportExists 1\n6 1002 2024-01: rule 11 UnknownEmployer\n", said)
+        self.close_office()
+        with contextlib.closing(sqlite3.connect(self.folder / "fund.db")) as store:
+            kept = store.execute("SELECT number, CAST(command AS TEXT) FROM requests WHERE caller = 1001 ORDER BY 1")
+            self.assertEqual(kept.fetchall(), [(1, "report 1001 2024-01 7:1000000"),
+                                               (4, "report 1001 2024-02 7:500050")])
+
+    def test_nobodys_key_ends_it(self):
+        self.open_office()
+        self.write("no.key", "nobody\n")
+        self.write("wages.csv", JANUARY + "1001,2024-02,7,1\n")
+        said = self.script("reports_from_csv", 1, "wages.csv", key="no.key", status=1,
+                           errors="1 reports weren't sent\n")
+        self.assertEqual(said, "1 1001 2024-01: rule 6 UnknownKey\n")
+
+    def test_a_broken_file_sends_nothing(self):
+        full = "".join(f"1001,2024-02,{worker},1\n" for worker in range(1, 501))
+        faults = {
+            "line 1: the header isn't employer,month,worker,gross": "employer;month;worker;gross\n",
+            "line 3: 3 fields in place of 4": JANUARY + "1001,2024-01,8\n",
+            "line 3: gross has other signs than 1 to 18 digits": JANUARY + "1001,2024-01,8,10.00\n",
+            "line 3: employer has other signs than 1 to 18 digits": JANUARY + "Bau,2024-01,8,1\n",
+            "line 3: worker isn't from 1 to 999999999": JANUARY + "1001,2024-01,0,1\n",
+            "line 3: gross isn't from 0 to 10000000": JANUARY + "1001,2024-01,8,10000001\n",
+            "line 3: month isn't YYYY-MM from 2000-01 to 2199-12": JANUARY + "1001,2024-13,8,1\n",
+            "line 4: worker 7 stands twice in this firm's month": JANUARY + "\n1001,2024-01,007,1\n",
+            "line 503: more than 500 lines in this firm's month": JANUARY + full + "1001,2024-02,501,1\n",
+            "line 2: unexpected end of data": CSV_HEADER + '"1001,2024-01,7,1\n',
+        }
+        for fault, text in faults.items():
+            self.write("wages.csv", text)
+            self.refuses_to_start(f"{fault}\nwages.csv: nothing is sent\n", "reports_from_csv", 1, "wages.csv")
+
+    def test_what_is_just_allowed(self):
+        """The largest amount, 500 lines, and a byte order mark, as spreadsheets write it."""
+        self.open_office()
+        self.ask_desk(REGISTRATION)
+        lines = "".join(f"1001,2024-01,{worker},10000000\r\n" for worker in range(1, 501))
+        self.write("wages.csv", b"\xef\xbb\xbf" + CSV_HEADER.encode() + lines.encode())
+        # A fifth of 500 times 100,000.00.
+        self.assertEqual(self.script("reports_from_csv", 1, "wages.csv", key="firm.key"),
+                         "1 1001 2024-01: 10000000.00 euros, version 1\nreports: 1, refused: 0\n")
+
+
+class AnswerLog(Scripts):
+    def entries(self):
+        return [json.loads(line) for line in (self.folder / "log").read_text().splitlines()]
+
+    def test_a_batch_that_broke_off_is_gone_on_with(self):
+        # The office ends its connection behind the 1,000th answer, and here itself with it.
+        first = 'POST /employers 1 {"employer":1001,"name":"Bau Süd","start":"2024-01"}\n'
+        self.write("batch", first + "GET /employers/1001/owed -\n" * 1_000 + REPORT_LINE)
+        self.open_office(count=1)
+        fault = f"no answer from {self.address}: [Errno 111] Connection refused\n"
+        self.assertEqual(self.script("answer_log", "batch", "log", status=3, errors=fault), "")
+        self.assertEqual(len(self.entries()), 1_000)
+        with open(self.folder / "log", "a", encoding="utf-8") as log:
+            log.write('{"time": "2024-')
+        self.open_office()
+        said = self.script("answer_log", "batch", "log")
+        self.assertEqual(said, "sent: 2, skipped: 1000, refused: 0\n")
+        self.assertEqual(self.script("answer_log", "batch", "log"), "sent: 0, skipped: 1002, refused: 0\n")
+        entries = self.entries()
+        self.assertEqual(len(entries), 1_002)
+        for entry in entries:
+            datetime.datetime.fromisoformat(entry.pop("time"))
+        self.assertEqual(entries[0], {"request": first.strip(), "status": "200 OK", "answer": '{"done":true}'})
+        self.assertEqual(entries[-1]["answer"], '{"charge":20,"version":1}')
+
+    def test_refusals(self):
+        self.open_office()
+        self.write("batch", REPORT_LINE + "POST /payouts -\n")
+        said = self.script("answer_log", "batch", "log", status=1)
+        self.assertEqual(said, "sent: 2, skipped: 0, refused: 2\n")
+        self.assertEqual([(it["status"], json.loads(it["answer"])["rule"]) for it in self.entries()],
+                         [("409 Conflict", 11), ("400 Bad Request", 8)])
+        # A refusal is an answer.
+        self.assertEqual(self.script("answer_log", "batch", "log"), "sent: 0, skipped: 2, refused: 0\n")
+        # A wrong key ends the batch, and the right one goes on with it.
+        self.write("no.key", "nobody\n")
+        self.write("batch", REGISTRATION_LINE + "GET /suspense -\n")
+        fault = "stopped: rule 6 UnknownKey\n"
+        self.script("answer_log", "batch", "log", key="no.key", status=1, errors=fault)
+        self.assertEqual(self.script("answer_log", "batch", "log"), "sent: 2, skipped: 0, refused: 0\n")
+
+    def test_what_is_no_answer(self):
+        self.open_office()
+        # The office had no memory.
+        self.write("log", '{"request": "GET /suspense -", "status": "503 Service Unavailable"}\n')
+        self.write("batch", "GET /suspense -\n")
+        self.assertEqual(self.script("answer_log", "batch", "log"), "sent: 1, skipped: 0, refused: 0\n")
+
+    def test_wrong_files(self):
+        for line in ("DELETE /employers 1", "POST employers 1", "POST /employers 01 {}", "POST /employers",
+                     'POST /employers 1 {"employer":1001'):
+            self.write("batch", f"GET /suspense -\n\n{line}\n")
+            self.refuses_to_start("batch: line 3 is no request\n", "answer_log", "batch", "log")
+        self.write("batch", "GET /suspense -\n")
+        entry = '{"request": "GET /suspense -", "status": "200 OK"}\n'
+        for text in ("a line of something else\n", "a line without an end", "[1]\n", entry + "GET /suspense -",
+                     '{"request": "GET /suspense -"}\n'):
+            path = self.write("log", text)
+            self.refuses_to_start("log: no answer log\n", "answer_log", "batch", "log")
+            self.assertEqual(path.read_text(), text)
+
+
+class Client(Scripts):
+    def test_an_answer_that_is_lost(self):
+        """The office does the report, its answer is lost, and the client sends it once more."""
+        self.open_office()
+        self.ask_desk(REGISTRATION)
+        listener = socket.create_server(("127.0.0.1", 0))
+        self.addCleanup(listener.close)
+
+        def pass_on():
+            for is_lost in (True, False):
+                peer, _ = listener.accept()
+                with peer, self.connect(self.server) as served:
+                    # A request has its length as an answer has.
+                    served.sendall(read_answer(peer))
+                    answer = read_answer(served)
+                    if not is_lost:
+                        peer.sendall(answer)
+
+        between = threading.Thread(target=pass_on, daemon=True)
+        between.start()
+        self.address = f"127.0.0.1:{listener.getsockname()[1]}"
+        self.write("wages.csv", JANUARY)
+        self.assertEqual(self.script("reports_from_csv", 1, "wages.csv", key="firm.key"),
+                         "1 1001 2024-01: 2000.00 euros, version 1\nreports: 1, refused: 0\n")
+        between.join(30)
+        self.assertIn("\ncharge 2024-01 due 2024-02-20 version 1 ", self.statement(1001))
+
+    def test_an_office_that_says_nothing(self):
+        with socket.create_server(("127.0.0.1", 0)) as listener:
+            client = office.Office(listener.getsockname(), "desk", timeout=0.1)
+            with self.assertRaisesRegex(office.Fault, "^no answer from .*timed out") as told:
+                client.ask("GET", "/suspense")
+            self.assertEqual(told.exception.status, 3)
+            # It was asked twice.
+            listener.settimeout(0)
+            for _ in range(2):
+                listener.accept()[0].close()
+            self.assertRaises(BlockingIOError, listener.accept)
+
+    def test_what_is_no_office(self):
+        with socket.create_server(("127.0.0.1", 0)) as listener:
+            client = office.Office(listener.getsockname(), "desk", timeout=10)
+            self.addCleanup(client.connection.close)
+
+            def answer():
+                peer, _ = listener.accept()
+                with peer:
+                    peer.recv(65536)
+                    peer.sendall(b"HTTP/1.1 404 Not Found\r\nContent-Length: 4\r\n\r\nnone")
+
+            threading.Thread(target=answer, daemon=True).start()
+            with self.assertRaisesRegex(office.Fault, "^no answer of an office: 404 Not Found$"):
+                client.ask("GET", "/suspense").done()
+
+    def test_command_lines(self):
+        self.address = "127.0.0.1:8080"
+        for name in ("month_end", "reports_from_csv", "answer_log"):
+            for words, status in (self.command(name), 2), (self.command(name)[:3] + ["--help"], 0):
+                ran = subprocess.run(words, cwd=self.folder, capture_output=True, timeout=60)
+                self.assertEqual(ran.returncode, status)
+                self.assertIn(f"usage: python3 examples/{name}.py ADDRESS KEYFILE ",
+                              (ran.stdout + ran.stderr).decode())
+        for number in ("0", "01", "1e3", "1000000000000000000"):
+            ran = subprocess.run(self.command("reports_from_csv", number, "wages.csv"), cwd=self.folder,
+                                 capture_output=True, timeout=60)
+            self.assertEqual(ran.returncode, 2)
+            self.assertIn(b"isn't from 1 to 999999999999999999", ran.stderr)
+
+
+class Readme(Scripts):
+    def test_each_command_line_of_the_examples(self):
+        self.open_office()
+        self.write("wages.csv", JANUARY)
+        self.write("requests.txt", REGISTRATION_LINE + "GET /employers/1001/owed -\n")
+        lines = re.findall(r"^    python3 (.*)$", (ROOT / "examples/README.md").read_text(), re.M)
+        # The firm is registered first.
+        lines.sort(key=lambda line: "answer_log" not in line)
+        ends = ["sent: 2, skipped: 0, refused: 0", "payouts: rule 29 NothingToPay", "reports: 1, refused: 0"]
+        self.assertEqual(len(lines), len(ends))
+        for line, end in zip(lines, ends):
+            words = line.replace("127.0.0.1:8080", self.address).split()
+            ran = subprocess.run([sys.executable, "-B", str(ROOT / words[0]), *words[1:]], cwd=self.folder,
+                                 capture_output=True, timeout=60)
+            self.assertEqual((ran.returncode, ran.stderr), (0, b""), line)
+            self.assertEqual(ran.stdout.decode().splitlines()[-1], end)
+
+
+if __name__ == "__main__":
+    run_tests()
