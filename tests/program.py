@@ -115,6 +115,25 @@ class Words(Program):
             self.assertEqual((status, errors), (0, ""))
             self.assertIn("Usage: clearing", output)
 
+    def test_help_says_what_each_word_is(self):
+        subcommands = {
+            "init": ("STORE", "RATES"),
+            "stream": ("RATES", "CALLERS", "DAY"),
+            "serve": ("STORE", "CALLERS", "DAY", "PORT", "COUNT"),
+            "import": ("STORE", "DAY", "NUMBER", "FILE"),
+            "statement": ("STORE", "DAY", "EMPLOYER"),
+            "migrate": ("STORE",),
+        }
+        for name, words in subcommands.items():
+            status, output, errors = self.run_program("help", name)
+            self.assertEqual((status, errors), (0, ""))
+            usage = " ".join(f"<{word}>" for word in words)
+            self.assertIn(f"Usage: clearing {name} {usage}\n", output)
+            for word in words:
+                self.assertRegex(output, rf"(?m)^  <{word}> +\S")
+            if "DAY" in words:
+                self.assertRegex(output, r"(?m)^  <DAY> +YYYY-MM-DD\b")
+
 
 class Init(Program):
     def test_a_new_store(self):

@@ -9,3 +9,9 @@ pub mod LawLemmas
 pub mod PieceLemmas
 pub mod SettledLemmas
 pub mod CountLemmas
+pub mod WalkLemmas
+pub mod GridLemmas
+pub mod FrontLemmas
+pub mod ReachLemmas
+pub mod KeptLemmas
+pub mod ReworkLemmas

@@ -2,6 +2,9 @@ pub mod Account
 pub mod Allocation
 pub mod Arrears
 pub mod Interest
+pub mod Kept
 pub mod Laws
+pub mod Places
 pub mod Settled
+pub mod Suffix
 pub mod Walk

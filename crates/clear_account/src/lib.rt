@@ -7,14 +7,22 @@
 //! besides. `Plain::settle` tells all charges on a day in one walk along both lists. Only what
 //! grows a list takes memory, and a refusal leaves the keeper as it was. That a call with memory
 //! at hand succeeds is shown by tests.
+//!
+//! `Kept` meets all that `Plain` meets, and keeps its pieces: a change makes anew only those that
+//! reach beyond the place in cents at which the account changes, and `turns` bounds its work by the
+//! charges and payments there. `refill` gives the pieces of any suffix of an account.
 #![tactic(auto)]
 
-mod allocation;
 pub mod entries;
 pub mod keeper;
+pub mod kept;
 pub mod laws;
 mod lists;
 pub mod owed;
+pub mod places;
 pub mod plain;
+pub mod refill;
+mod rework;
 pub mod settled;
+pub mod turns;
 mod weights;

@@ -1,11 +1,12 @@
 //! A keeper that computes each answer from its two lists.
-use crate::allocation::allocate;
 use crate::entries::{AccountFault, Charge, Credit, Piece};
 use crate::keeper::{Keeper, MAX_CREDITS};
 use crate::lists::{
     add_charges, add_credits, add_due, find_serial, open_cents, place_of, put_charge, put_credit,
 };
+use crate::refill::refill;
 use crate::settled::{Settled, settle_all};
+use crate::turns::Turns;
 use crate::weights::{first_day, weigh};
 use clear_money::days::Day;
 use clear_money::months::Month;
@@ -31,7 +32,7 @@ impl Model for Plain {
 
 impl Plain {
     ghost use Rattle.std.specs.Prelude.{◌≡◌, ◌≤◌, [], All, IfErr, IfOk};
-    ghost use Rattle.clear_account.specs.Account.{last_day};
+    ghost use Rattle.clear_account.specs.Account.{IsAccount, last_day};
     ghost use Rattle.clear_account.specs.Settled.{all_settled_on};
 
     /// An account without charges and payments.
@@ -42,6 +43,21 @@ impl Plain {
             charges: Vec::new(alloc),
             credits: Vec::new(alloc),
         }
+    }
+
+    /// The charges in month order.
+    pub(crate) fn all_charges(&self) -> &[Charge]
+        ensures value { result.now ≡ self.now.charges }
+        ensures account { IsAccount self.now.charges self.now.credits }
+    {
+        self.charges.as_slice()
+    }
+
+    /// The payments in order of day and serial.
+    pub(crate) fn all_credits(&self) -> &[Credit]
+        ensures { result.now ≡ self.now.credits }
+    {
+        self.credits.as_slice()
     }
 
     /// Each charge in month order: what is open of it, its weight on a day, and what each payment
@@ -90,10 +106,15 @@ impl Keeper for Plain {
     }
 
     fn pieces(&self, alloc: Global) -> Result<Vec<Piece>, AccountFault> {
-        match allocate(alloc, self.charges.as_slice(), self.credits.as_slice()) {
-            Ok(pieces) => Ok(pieces),
-            Err(_) => Err(AccountFault::Memory),
-        }
+        let mut turns = Turns::new();
+        refill(
+            alloc,
+            0,
+            0,
+            self.charges.as_slice(),
+            self.credits.as_slice(),
+            &mut turns,
+        )
     }
 
     fn open_of(&self, month: Month) -> Option<u64> {

@@ -1,9 +1,12 @@
 //! Accounts that a person worked out, and the largest ones.
 use clear_account::entries::{AccountFault, Charge, Credit, Piece};
 use clear_account::keeper::Keeper;
+use clear_account::kept::Kept;
 use clear_account::owed::{arrears, has_rates, interest};
 use clear_account::plain::Plain;
+use clear_account::refill::refill;
 use clear_account::settled::Settled;
+use clear_account::turns::Turns;
 use clear_money::days::Day;
 use clear_money::months::Month;
 use clear_money::numbers::Amount;
@@ -87,7 +90,7 @@ const WORKED: [Worked; 3] = [
     },
 ];
 
-fn put(account: &mut Plain, charge: &Owed) -> bool {
+fn put<K: Keeper>(account: &mut K, charge: &Owed) -> bool {
     let (month, due, cents) = *charge;
     match (Month::read(month.as_bytes()), Day::read(due.as_bytes())) {
         (Some(month), Some(due)) if cents <= Charge::MAX_CENTS && due.day_of_month() <= 28 => {
@@ -97,7 +100,7 @@ fn put(account: &mut Plain, charge: &Owed) -> bool {
     }
 }
 
-fn pay(account: &mut Plain, payment: &Paid) -> bool {
+fn pay<K: Keeper>(account: &mut K, payment: &Paid) -> bool {
     let (serial, day, cents) = *payment;
     match (Day::read(day.as_bytes()), Amount::new(cents)) {
         (Some(day), Some(cents)) if !account.holds(serial) => {
@@ -109,7 +112,15 @@ fn pay(account: &mut Plain, payment: &Paid) -> bool {
 
 // An account with these charges, put one after another, and then these payments.
 fn account(alloc: Global, charges: &[Owed], payments: &[Paid]) -> Option<Plain> {
-    let mut account = Plain::new(alloc);
+    filled(Plain::new(alloc), charges, payments)
+}
+
+// The same, with its pieces kept.
+fn kept(alloc: Global, charges: &[Owed], payments: &[Paid]) -> Option<Kept> {
+    filled(Kept::new(alloc), charges, payments)
+}
+
+fn filled<K: Keeper + Drop>(mut account: K, charges: &[Owed], payments: &[Paid]) -> Option<K> {
     for charge in charges {
         if !put(&mut account, charge) {
             return None;
@@ -130,7 +141,7 @@ fn rates(alloc: Global, first: &str, interest: u16) -> Option<RateTable> {
     RateTable::first(alloc, row).ok()
 }
 
-fn interest_on(account: &Plain, rates: &RateTable, day: &str) -> Option<u64> {
+fn interest_on<K: Keeper>(account: &K, rates: &RateTable, day: &str) -> Option<u64> {
     let day = Day::read(day.as_bytes())?;
     if !has_rates(account, rates) || day < account.last_day() {
         return None;
@@ -138,7 +149,7 @@ fn interest_on(account: &Plain, rates: &RateTable, day: &str) -> Option<u64> {
     Some(interest(account, rates, day))
 }
 
-fn weight_on(account: &Plain, month: &str, day: &str) -> Option<u64> {
+fn weight_on<K: Keeper>(account: &K, month: &str, day: &str) -> Option<u64> {
     let day = Day::read(day.as_bytes())?;
     if day < account.last_day() {
         return None;
@@ -153,20 +164,22 @@ fn is_piece(piece: &Piece, part: &Part) -> bool {
         && piece.cents == cents
 }
 
-fn has_pieces(alloc: Global, account: &Plain, parts: &[Part]) -> bool {
+fn are_pieces(pieces: &[Piece], parts: &[Part]) -> bool {
+    pieces.len() == parts.len()
+        && pieces
+            .iter()
+            .zip(parts)
+            .all(|(piece, part)| is_piece(piece, part))
+}
+
+fn has_pieces<K: Keeper>(alloc: Global, account: &K, parts: &[Part]) -> bool {
     match account.pieces(alloc) {
-        Ok(pieces) => {
-            pieces.len() == parts.len()
-                && pieces
-                    .iter()
-                    .zip(parts)
-                    .all(|(piece, part)| is_piece(piece, part))
-        }
+        Ok(pieces) => are_pieces(pieces.as_slice(), parts),
         Err(_) => false,
     }
 }
 
-fn has_weights(account: &Plain, weights: &[(&str, u64)]) -> bool {
+fn has_weights<K: Keeper>(account: &K, weights: &[(&str, u64)]) -> bool {
     for (month, weight) in weights {
         if weight_on(account, month, "2024-04-30") != Some(*weight) {
             return false;
@@ -175,11 +188,8 @@ fn has_weights(account: &Plain, weights: &[(&str, u64)]) -> bool {
     true
 }
 
-fn comes_to(alloc: Global, worked: &Worked) -> bool {
-    match (
-        account(alloc, worked.charges, worked.payments),
-        rates(alloc, "2024-01", 100),
-    ) {
+fn comes_to<K: Keeper + Drop>(alloc: Global, account: Option<K>, worked: &Worked) -> bool {
+    match (account, rates(alloc, "2024-01", 100)) {
         (Some(account), Some(rates)) => {
             has_pieces(alloc, &account, worked.parts)
                 && has_weights(&account, worked.weights)
@@ -190,9 +200,75 @@ fn comes_to(alloc: Global, worked: &Worked) -> bool {
     }
 }
 
+// Whether both keepers make of the worked account what it comes to.
+fn both_come_to(alloc: Global, worked: &Worked) -> bool {
+    let plain = account(alloc, worked.charges, worked.payments);
+    let kept = kept(alloc, worked.charges, worked.payments);
+    comes_to(alloc, plain, worked) && comes_to(alloc, kept, worked)
+}
+
+// February of the first account, charged anew.
+const FEBRUARY: Owed = ("2024-02", "2024-03-20", 80_000);
+
+// The charge of February and the second payment, behind January's charge and the first payment.
+fn rest() -> Option<(Charge, Credit)> {
+    let (month, due, cents) = FEBRUARY;
+    let charge = Charge {
+        month: Month::read(month.as_bytes())?,
+        due: Day::read(due.as_bytes())?,
+        cents,
+    };
+    let (serial, day, cents) = PAYMENTS[1];
+    let credit = Credit {
+        day: Day::read(day.as_bytes())?,
+        serial,
+        cents: Amount::new(cents)?,
+    };
+    Some((charge, credit))
+}
+
+// Whether they have one piece, in at most 3 turns.
+fn refills_february(alloc: Global) -> bool {
+    let Some((charge, credit)) = rest() else {
+        return false;
+    };
+    if charge.cents > Charge::MAX_CENTS {
+        return false;
+    }
+    let mut turns = Turns::new();
+    match refill(alloc, 200_000, 150_000, &[charge], &[credit], &mut turns) {
+        Ok(pieces) => {
+            are_pieces(pieces.as_slice(), &[("2024-02", 2, 80_000)]) && turns.count() <= 3
+        }
+        Err(_) => false,
+    }
+}
+
+// Whether a kept account makes only the last piece anew where February is charged anew.
+fn keeps_january(alloc: Global) -> bool {
+    let Some(mut account) = kept(alloc, &CHARGES, &PAYMENTS) else {
+        return false;
+    };
+    put(&mut account, &FEBRUARY)
+        && account.turns() <= 3
+        && account.prepaid() == 70_000
+        && has_pieces(
+            alloc,
+            &account,
+            &[
+                ("2024-01", 1, 150_000),
+                ("2024-01", 2, 50_000),
+                ("2024-02", 2, 80_000),
+            ],
+        )
+}
+
 #[test]
 fn payments_pay_charges_in_order(rt: HostRuntime) {
-    assert!(rt; WORKED.iter().all(|worked| comes_to(rt.alloc(), worked)));
+    let alloc = rt.alloc();
+    assert!(rt; WORKED.iter().all(|worked| both_come_to(alloc, worked)));
+    assert!(rt; refills_february(alloc));
+    assert!(rt; keeps_january(alloc));
 }
 
 // The first account above.

@@ -1,6 +1,6 @@
 -- Arguments of `clap` as the rules that its specification reads.
 use Rattle.std.proofs.Common.{◌≡◌, ◌||◌, ℕ, ◌+◌, ◌<◌, ◌≤◌, Bool, false, List, [], ◌∷◌, ◌++◌, true, ap, sym, ◌∙◌, length, map, take}
-use Rattle.std.specs.Prelude.{fold, slice_index_or}
+use Rattle.std.specs.Prelude.{Some, fold, slice_index_or}
 use Rattle.std.specs.Borrow.{Bor}
 use Rattle.std.proofs.Math.Bool.{or-false}
 use Rattle.std.proofs.lemmas.List.{map_more, take_all}
@@ -12,9 +12,10 @@ use Rattle.clap.specs.declared.Arg.{Arg}
 use Rattle.clear_cli.specs.Command.{and, command_line, program, required, with_word, with_words}
 use Rattle.clear_cli.specs.Lines.{table}
 
--- an argument that is required, and else as it was made
-pub rule_is : (made arg : Arg) (id : Text) → rule_of made ≡ new_rule id → arg ≡ record made { required = true } → rule_of arg ≡ required id
-rule_is made arg id e is = ap rule_of is ∙ ap (λ (r : Rule). record r { required = true }) e
+-- an argument that is required and of which help says something, and else as it was made
+pub rule_is : (made told arg : Arg) (id : Text) (help : Bor Text) → rule_of made ≡ new_rule id → told ≡ record made { help = Some help }
+    → arg ≡ record told { required = true } → rule_of arg ≡ required id
+rule_is made told arg id help e tells is = ap rule_of is ∙ ap (λ (r : Rule). record r { required = true }) (ap rule_of tells ∙ e)
 
 module _ (old : Command) (arg : Arg) (id : Text) (is_local : arg.global ≡ false) (is : rule_of arg ≡ required id) (new : Command) (adds : AddsArg old arg new) where
   pub adds_word : (name : Text) (before : List Text) → app_of old ≡ with_words name before → app_of new ≡ with_words name (before ++ id ∷ [])
@@ -26,10 +27,10 @@ module _ (old : Command) (arg : Arg) (id : Text) (is_local : arg.global ≡ fals
 
 -- a row of the program's table as it is told
 abbrev pub Entry : Type 0
-Entry = Bor Text × Bor Text × Bor (List (Bor Text))
+Entry = Bor Text × Bor Text × Bor (List (Bor Text × Bor Text))
 
 abbrev pub row : Entry → Text × List Text
-row entry = (entry.0.now, map (λ word. word.now) entry.2.now)
+row entry = (entry.0.now, map (λ word. word.0.now) entry.2.now)
 
 -- the command with the subcommands of the first rows
 abbrev pub with_rows : ℕ → List Entry → App

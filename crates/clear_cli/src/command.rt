@@ -7,41 +7,63 @@ ghost use Rattle.clear_cli.specs.Command.{subcommand_with, with_words, program, 
 use clap::{Arg, Command};
 use std::alloc::{AllocError, Global};
 
+// Each word with what help says of it.
+const STORE: (&str, &str) = ("STORE", "The store's file");
+
+const RATES: (&str, &str) = ("RATES", "A rate file; stream also takes the word sample");
+
+const CALLERS: (&str, &str) = (
+    "CALLERS",
+    "A caller file; stream also takes the word sample",
+);
+
+const DAY: (&str, &str) = ("DAY", "YYYY-MM-DD, 2000-01-01 to 2200-12-31");
+
+const PORT: (&str, &str) = ("PORT", "1 to 65535");
+
+const COUNT: (&str, &str) = ("COUNT", "How many connections are served, 1 to 1,000,000");
+
+const NUMBER: (&str, &str) = (
+    "NUMBER",
+    "The number of the request, 1 to 999,999,999,999,999,999",
+);
+
+const FILE: (&str, &str) = ("FILE", "A bank file");
+
+const EMPLOYER: (&str, &str) = ("EMPLOYER", "The firm's number, 1 to 99,999,999");
+
 // Each subcommand with what help says of it, and with its words.
-const SUBCOMMANDS: [(&str, &str, &[&str]); 6] = [
-    ("init", "Makes a store in a new file", &["STORE", "RATES"]),
+const SUBCOMMANDS: [(&str, &str, &[(&str, &str)]); 6] = [
+    ("init", "Makes a store in a new file", &[STORE, RATES]),
     (
         "stream",
         "Serves standard input over an office in memory",
-        &["RATES", "CALLERS", "DAY"],
+        &[RATES, CALLERS, DAY],
     ),
     (
         "serve",
         "Serves COUNT connections on PORT of 127.0.0.1",
-        &["STORE", "CALLERS", "DAY", "PORT", "COUNT"],
+        &[STORE, CALLERS, DAY, PORT, COUNT],
     ),
     (
         "import",
         "Imports a bank file as the clerk",
-        &["STORE", "DAY", "NUMBER", "FILE"],
+        &[STORE, DAY, NUMBER, FILE],
     ),
     (
         "statement",
         "Prints the statement of a firm",
-        &["STORE", "DAY", "EMPLOYER"],
+        &[STORE, DAY, EMPLOYER],
     ),
-    (
-        "migrate",
-        "Brings a store to the current schema",
-        &["STORE"],
-    ),
+    ("migrate", "Brings a store to the current schema", &[STORE]),
 ];
 
-// The command with one word more, which is required.
+// The command with one word more, which is required, with what help says of it.
 fn with_word<'a>(
     alloc: Global,
     command: Command<'a>,
     word: &'a str,
+    help: &'a str,
 ) -> Result<Command<'a>, AllocError>
     ensures app { IfOk result (λ c. (name : List ℕ) (before : List (List ℕ))
         → app_of command.entry ≡ with_words name before
@@ -49,7 +71,7 @@ fn with_word<'a>(
     ensures local { IfOk result (λ c.
         (fields_of c).has_globals ≡ (fields_of command.entry).has_globals) }
 {
-    let arg = Arg::new(alloc, word).required(true);
+    let arg = Arg::new(alloc, word).help(help).required(true);
     command.arg(arg)
 }
 
@@ -58,15 +80,15 @@ fn subcommand_with<'a>(
     alloc: Global,
     name: &'a str,
     about: &'a str,
-    words: &[&'a str],
+    words: &[(&'a str, &'a str)],
 ) -> Result<Command<'a>, AllocError>
     ensures shape { IfOk result (λ c.
-        shape_of c ≡ subcommand_with name.entry.now (map (λ w. w.now) words.now)) }
+        shape_of c ≡ subcommand_with name.entry.now (map (λ w. w.0.now) words.now)) }
     ensures local { IfOk result (λ c. (fields_of c).has_globals ≡ false) }
 {
     let mut command = Command::new(alloc, name).about(about);
-    for word in words {
-        command = with_word(alloc, command, word)?;
+    for (word, help) in words {
+        command = with_word(alloc, command, word, help)?;
     }
     Ok(command)
 }
@@ -77,10 +99,10 @@ fn and<'a>(
     command: Command<'a>,
     name: &'a str,
     about: &'a str,
-    words: &[&'a str],
+    words: &[(&'a str, &'a str)],
 ) -> Result<Command<'a>, AllocError>
     ensures { IfOk result (λ c. app_of c ≡ with_subcommand (app_of command.entry)
-        (subcommand_with name.entry.now (map (λ w. w.now) words.now))) }
+        (subcommand_with name.entry.now (map (λ w. w.0.now) words.now))) }
 {
     let subcommand = subcommand_with(alloc, name, about, words)?;
     command.subcommand(subcommand)

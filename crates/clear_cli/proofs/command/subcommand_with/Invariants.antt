@@ -7,5 +7,5 @@ use Rattle.clear_cli.proofs.command.subcommand_with.Given as goal
 
 abbrev pub invariant-loop-word : goal.invariant-loop-word
 invariant-loop-word l =
-    (app_of l.command ≡ with_words l.name (map (λ (w : Bor (List ℕ)). w.now) (take l.word-index l.words)))
+    (app_of l.command ≡ with_words l.name (map (λ (w : Bor (List ℕ) × Bor (List ℕ)). w.0.now) (take l.word-index l.words)))
     × ((fields_of l.command).has_globals ≡ false)
