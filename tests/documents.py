@@ -121,7 +121,8 @@ class Manual(Documents):
             self.end_server()
             self.start_server(command, printed)
             return
-        if command.startswith(("./clearing", "cp fund.db", "sqlite3 fund.db")):
+        # A check touches no store, so the office may run meanwhile.
+        if command.startswith("./clearing") and not command.startswith("./clearing check"):
             self.end_server()
         said = self.run_command(command)
         if "stream" in command:
@@ -188,7 +189,8 @@ class Plans(unittest.TestCase):
             if crate in uses and crate not in seen:
                 seen.add(crate)
                 crates += uses[crate].split()
-        texts = self.texts(seen)
+        # A text that makes a table or an index drops all plans, its own too.
+        texts = [text for text in self.texts(seen) if not text.startswith("CREATE")]
         self.assertGreater(len(texts), 30)
         # With the empty text by which an office asks whether its store still stands.
         self.assertLess(len(texts) + 1, self.MOST)

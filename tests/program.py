@@ -98,6 +98,12 @@ class Words(Program):
             "serve fund.db callers.toml 2024-04-30 8080 0",
             "serve fund.db callers.toml 2024-04-30 8080 1000001",
             "migrate fund.db",
+            "look",
+            "look fund.db more",
+            "check rates.toml",
+            "check Rates rates.toml",
+            "backup fund.db",
+            "backup fund.db copy.db more",
         ]:
             self.expect(line.split(), 2, "", "fault command line\n")
         self.assertFalse((self.folder / "fund.db").exists())
@@ -123,6 +129,9 @@ class Words(Program):
             "import": ("STORE", "DAY", "NUMBER", "FILE"),
             "statement": ("STORE", "DAY", "EMPLOYER"),
             "migrate": ("STORE",),
+            "look": ("STORE",),
+            "check": ("KIND", "FILE"),
+            "backup": ("STORE", "FILE"),
         }
         for name, words in subcommands.items():
             status, output, errors = self.run_program("help", name)
@@ -181,6 +190,7 @@ class Init(Program):
             "ALTER TABLE runs ADD COLUMN level INTEGER",
             "ALTER TABLE lists RENAME COLUMN total TO sum",
             "DROP TABLE reminders",
+            "DROP TABLE charges",
         )
         for change in changes:
             with self.subTest(change):

@@ -131,7 +131,7 @@ module _ {Y : Type 0} (F : Charge → Credit → ℕ → List Y) (nothing : (c :
 
     -- ---- lists that lie on both sides of the place
     -- a charge that reaches beyond the place has nothing below it of the payments that do
-    line_reaching : (s e : ℕ) (c : Charge) (p : ℕ) (ks : List Credit) → (place ≤ s) ⊎ (place < e) → Reaches place (λ k. k.cents) p ks → line below s e c p ks ≡ []
+    pub line_reaching : (s e : ℕ) (c : Charge) (p : ℕ) (ks : List Credit) → (place ≤ s) ⊎ (place < e) → Reaches place (λ k. k.cents) p ks → line below s e c p ks ≡ []
     line_reaching s e c p [] far near = refl
     line_reaching s e c p (k ∷ ks) (inl at) near = line_late s e c p (k ∷ ks) (omega arith)
     line_reaching s e c p (k ∷ ks) (inr far) (inl at) = line_late s e c p (k ∷ ks) (omega arith)

@@ -1,15 +1,15 @@
 -- The laws of an account.
-use Rattle.std.proofs.Common.{◌≡◌, ℕ, ◌+◌, ◌-◌, ◌*◌, ◌≤◌, Bool, true, false, List, [], ◌∷◌, length, min, max, nat_lt, cond, refl, sym, ap, ◌∙◌, arith}
-use Rattle.std.specs.List.{sum_by, range_with_len}
+use Rattle.std.proofs.Common.{◌≡◌, ℕ, ◌+◌, ◌-◌, ◌*◌, ◌≤◌, Bool, true, false, List, [], ◌∷◌, min, max, nat_lt, cond, refl, sym, ap, ◌∙◌, arith}
+use Rattle.std.specs.List.{sum_by}
 use Rattle.std.proofs.lemmas.List.Sums.{sum_by-append, sum_by-cons}
 use Rattle.std.proofs.lemmas.Bool.{ltb-false}
 use Rattle.clear_money.specs.Calendar.{begun_months}
 use Rattle.clear_account.specs.declared.entries.Charge.{Charge}
 use Rattle.clear_account.specs.declared.entries.Credit.{Credit}
 use Rattle.clear_account.specs.declared.entries.Piece.{Piece}
-use Rattle.clear_account.specs.Account.{charge_at, charged, charged_up_to, credit_at, credited}
-use Rattle.clear_account.specs.Allocation.{open_part, piece_of, share}
-use Rattle.clear_account.specs.Laws.{SharesSum, PiecesSum, CreditsKept, WeightByPieces}
+use Rattle.clear_account.specs.Account.{charge_at, charged, charged_up_to, credited}
+use Rattle.clear_account.specs.Allocation.{open_part, piece_of}
+use Rattle.clear_account.specs.Laws.{SharesSum, PiecesSum, CreditsKept, WeightByPieces, late_shares}
 use Rattle.clear_account.proofs.OpenLemmas.{late_from, weight_on-is}
 use Rattle.clear_account.proofs.QueueLemmas.{piece_in, pieces_from, right_from, right_pieces-walk}
 use Rattle.clear_account.proofs.ShareLemmas.{charged_up_to-more, paid_of-is}
@@ -48,11 +48,14 @@ pub credits_kept : CreditsKept
 credits_kept cs ks = omega (arith, pieces_sum cs ks)
 
 -- ---- the weight
+-- the late shares of charge i as a walk along the credits
+pub late_shares-walk : (cs : List Charge) (ks : List Credit) (i : ℕ) → late_shares cs ks i ≡ late_from (charged_up_to cs i) (charged_up_to cs (i + 1)) (charge_at cs i).due 0 ks
+late_shares-walk cs ks i =
+    sum_by-range (λ k. k.cents) (record { day = 0; serial = 0; cents = 0 }) (λ q r k. (min (charged_up_to cs (i + 1)) r - max (charged_up_to cs i) q) * begun_months (charge_at cs i).due k.day) ks
+
 pub weight_by_shares : WeightByPieces
 weight_by_shares cs ks i t a within early =
     let s : ℕ = charged_up_to cs i in
     let due : ℕ = (charge_at cs i).due in
-    let walk : sum_by (λ j. share cs ks i j * begun_months due (credit_at ks j).day) (range_with_len 0 (length ks)) ≡ late_from s (charged_up_to cs (i + 1)) due 0 ks =
-    sum_by-range (λ k. k.cents) (record { day = 0; serial = 0; cents = 0 }) (λ q r k. (min (charged_up_to cs (i + 1)) r - max s q) * begun_months due k.day) ks in
     weight_on-is cs ks i t a within early
-    ∙ ap (λ n. n + open_part cs ks i * begun_months due t) (ap (λ e. late_from s e due 0 ks) (sym (charged_up_to-more cs i within)) ∙ sym walk)
+    ∙ ap (λ n. n + open_part cs ks i * begun_months due t) (ap (λ e. late_from s e due 0 ks) (sym (charged_up_to-more cs i within)) ∙ sym (late_shares-walk cs ks i))

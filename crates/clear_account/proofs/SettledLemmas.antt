@@ -16,11 +16,11 @@ use Rattle.clear_account.specs.Allocation.{open_part, paid_of, share}
 use Rattle.clear_account.specs.Laws.{late_shares}
 use Rattle.clear_account.specs.Interest.{weight_on}
 use Rattle.clear_account.specs.Settled.{SettledCharge, all_settled_on, settled_on, share_at, shares_of}
-use Rattle.clear_account.specs.Walk.{late_cents, shares_between}
+use Rattle.clear_account.specs.Walk.{PaidCharge, late_cents, paid_charge, shares_between}
 use Rattle.clear_account.proofs.AccountLemmas.{charge_at_place, charged-le}
 use Rattle.clear_account.proofs.LawLemmas.{weight_by_shares}
 use Rattle.clear_account.proofs.OpenLemmas.{begun_months-le, weight_on-le}
-use Rattle.clear_account.proofs.ShareLemmas.{charged_up_to-more, paid_of-is}
+use Rattle.clear_account.proofs.ShareLemmas.{charged_up_to-more, open_part-is, paid_of-is}
 use Rattle.clear_account.proofs.StretchLemmas.{at}
 
 -- the shares of the stretch from s to e, the credits beginning at p and place n
@@ -170,19 +170,25 @@ module _ (cs : List Charge) (ks : List Credit) (i s : ℕ) (d : Charge) (shares 
   unfolding open_part
   left_is p sum = (λ j. (charge_is j).cents - (sum ∙ paid_is) j)
 
-  late_is : sum_by (late_cents ks d.due) shares ≡ late_shares cs ks i
+  pub late_is : sum_by (late_cents ks d.due) shares ≡ late_shares cs ks i
   late_is =
       (λ j. sum_by (late_cents ks (charge_is j).due) (shares_are j))
       ∙ sum_by-shares_of (λ n z. z * begun_months (charge_at cs i).due (credit_at ks n).day) (λ n. omega arith) cs ks i
 
-  pub weight_is : (t p w z : ℕ) → All (λ k. k.day ≤ t) ks → p ≡ sum_by (λ (r : Share). r.cents) shares → w ≡ sum_by (late_cents ks d.due) shares → z ≡ (d.cents - p) * begun_months d.due t → w + z ≡ weight_on cs ks i t
-  weight_is t p w z early sum late part =
-      (λ j. (late ∙ late_is) j + (part ∙ (λ k. left_is p sum k * begun_months (charge_is k).due t)) j)
-      ∙ sym (weight_by_shares cs ks i t a within early)
+-- ---- what is paid of a charge, and what is open of it on a day
+module _ (cs : List Charge) (ks : List Credit) (i t : ℕ) (d : Charge) (p : PaidCharge) (a : IsAccount cs ks) (within : i < length cs) (is : d ≡ get_or cs i d) (paid : p ≡ paid_charge cs ks i) where
+  open_is : p.left * begun_months d.due t ≡ open_part cs ks i * begun_months (charge_at cs i).due t
+  open_is = (λ j. (paid j).left * begun_months (get_or_read cs i d within is (record { month = 0; due = 0; cents = 0 }) j).due t)
 
-  pub weight-low : (t p w z : ℕ) → All (λ k. k.day ≤ t) ks → p ≡ sum_by (λ (r : Share). r.cents) shares → w ≡ sum_by (late_cents ks d.due) shares → z ≡ (d.cents - p) * begun_months d.due t → w + z ≤ 12060000000000
-  weight-low t p w z early sum late part =
-      omega (arith, weight_is t p w z early sum late part, weight_on-le cs ks i t a within early, (charge_at_place cs i a.each_charge within).cents)
+  pub left-low : p.left ≤ 5000000000
+  left-low = omega (arith, ap (λ (q : PaidCharge). q.left) paid, open_part-is cs ks i within, (charge_at_place cs i a.each_charge within).cents)
+
+  module _ (z : ℕ) (early : All (λ k. k.day ≤ t) ks) (part : z ≡ p.left * begun_months d.due t) where
+    pub weight_is : p.weight + z ≡ weight_on cs ks i t
+    weight_is = (λ j. (paid j).weight + (part ∙ open_is) j) ∙ sym (weight_by_shares cs ks i t a within early)
+
+    pub weight-low : p.weight + z ≤ 12060000000000
+    weight-low = omega (arith, weight_is, weight_on-le cs ks i t a within early, (charge_at_place cs i a.each_charge within).cents)
 
 -- ---- all charges
 pub weights_low : (cs : List Charge) (ks : List Credit) (t : ℕ) → IsAccount cs ks → All (λ k. k.day ≤ t) ks → All (λ (c : SettledCharge). c.weight ≤ 12060000000000) (all_settled_on cs ks t)

@@ -1,4 +1,4 @@
-//! What an account tells of each of its charges on a day.
+//! What an account tells of each of its charges, by one walk along charges and payments.
 ghost use Rattle.std.specs.Prelude.{◌≡◌, ◌++◌, ◌+◌, ◌^◌, ◌<◌, ◌≤◌, All, IfOk, OnOk, length, sum_by};
 ghost use Rattle.clear_money.specs.Calendar.{day_of_month};
 ghost use Rattle.clear_money.specs.Limits.{most_base};
@@ -7,6 +7,7 @@ ghost use Rattle.clear_account.specs.Settled.{all_settled_on, settled_on, share_
 ghost use Rattle.clear_account.specs.Walk.{Stands, late_cents, shares_between};
 
 use crate::entries::{Charge, Credit};
+use crate::places::credits_ended;
 use crate::weights::{common, weigh_part};
 use clear_money::days::Day;
 use std::alloc::{AllocError, Global};
@@ -64,6 +65,97 @@ impl Settled {
     }
 }
 
+/// What is paid of a charge, whatever the day. Amounts are in cents.
+#[derive(Drop)]
+pub struct Paid {
+    left: u64,
+    weight: u64,
+    shares: Vec<Share>,
+}
+
+impl Model for Paid {
+    ghost use Rattle.clear_account.specs.Walk.{PaidCharge};
+
+    ghost Value = { PaidCharge };
+
+    ghost view = { λ a. record { left = a.left; weight = a.weight; shares = a.shares.items } };
+}
+
+impl Paid {
+    /// What is open of the charge.
+    pub fn left(&self) -> u64
+        ensures { result ≡ self.now.left }
+    {
+        self.left
+    }
+
+    /// Its weight so far: its shares, each once for each month begun from the due day until it was
+    /// paid.
+    pub fn weight(&self) -> u64
+        ensures { result ≡ self.now.weight }
+    {
+        self.weight
+    }
+}
+
+/// A walk along charges and payments, from one charge to the next.
+#[derive(Clone, Copy)]
+pub struct Walk {
+    /// So many cents of charges are walked.
+    pub charged: u64,
+    /// The place of the payment at which it stands, from 0.
+    pub place: usize,
+    /// The cents of the payments before that one.
+    pub credited: u64,
+}
+
+impl Walk {
+    ghost use Rattle.std.specs.Prelude.{◌≡◌, ◌+◌, ◌^◌, ◌<◌, IfOk, length};
+    ghost use Rattle.clear_account.specs.Account.{IsAccount, charged_up_to, credited};
+    ghost use Rattle.clear_account.specs.Walk.{Stands, paid_charge};
+
+    /// A walk that begins behind so many cents of charges.
+    pub fn behind(charged: u64, credits: &[Credit]) -> Walk
+        requires { credited credits.now < 2 ^ 64 }
+        ensures stands { Stands credits.now result }
+        ensures charged { result.charged ≡ charged }
+    {
+        let paid = credits_ended(credits, charged);
+        Walk {
+            charged,
+            place: paid.count,
+            credited: paid.cents,
+        }
+    }
+
+    /// What is paid of the charge at a place, to which the walk has come. It goes on behind that
+    /// charge. Takes one step for each payment up to where the charge ends.
+    pub fn find_paid(
+        &mut self,
+        alloc: Global,
+        charges: &[Charge],
+        credits: &[Credit],
+        place: usize,
+    ) -> Result<Paid, AllocError>
+        requires account { IsAccount charges.now credits.now }
+        requires place { place < length charges.now }
+        requires stands { Stands credits.now self.old }
+        requires charged { self.old.charged ≡ charged_up_to charges.now place }
+        ensures paid { IfOk result (λ paid. paid ≡ paid_charge charges.now credits.now place) }
+        ensures stands { Stands credits.now self.new }
+        ensures charged { self.new.charged ≡ charged_up_to charges.now (place + 1) }
+    {
+        let charge = &charges[place];
+        let end = self.charged + charge.cents;
+        let shares = find_shares(alloc, credits, end, self)?;
+        Ok(Paid {
+            left: charge.cents - add_shares(shares.as_slice()),
+            weight: weigh_shares(shares.as_slice(), credits, charge.due),
+            shares,
+        })
+    }
+}
+
 /// Each charge in month order, by one walk along the charges and the payments.
 pub(crate) fn settle_all(
     alloc: Global,
@@ -76,24 +168,11 @@ pub(crate) fn settle_all(
     ensures { IfOk result (λ all. all.items ≡ all_settled_on charges.now credits.now day) }
 {
     let mut all = Vec::new(alloc);
-    let mut walk = Walk {
-        charged: 0,
-        place: 0,
-        credited: 0,
-    };
+    let mut walk = Walk::behind(0, credits);
     for place in 0..charges.len() {
         all.push(settle_charge(alloc, charges, credits, place, &mut walk, day)?)?;
     }
     Ok(all)
-}
-
-// A walk along charges and payments: so many cents of charges are walked, and it stands at the
-// payment of a place, with so many cents of payments before that.
-#[derive(Clone, Copy)]
-struct Walk {
-    charged: u64,
-    place: usize,
-    credited: u64,
 }
 
 // The charge at a place, which the walk has come to.
@@ -116,14 +195,12 @@ fn settle_charge(
     ensures charged { walk.new.charged ≡ charged_up_to charges.now (place + 1) }
 {
     let charge = &charges[place];
-    let end = walk.charged + charge.cents;
-    let shares = find_shares(alloc, credits, end, walk)?;
-    let left = charge.cents - add_shares(shares.as_slice());
-    let weight = weigh_shares(shares.as_slice(), credits, charge.due);
+    let paid = walk.find_paid(alloc, charges, credits, place)?;
+    let open = weigh_part(paid.left, charge.due, day);
     Ok(Settled {
-        left,
-        weight: weight + weigh_part(left, charge.due, day),
-        shares,
+        left: paid.left,
+        weight: paid.weight + open,
+        shares: paid.shares,
     })
 }
 

@@ -14,6 +14,7 @@ use Rattle.clear_account.specs.declared.entries.Credit.{Credit}
 use Rattle.clear_values.specs.declared.lines.Purpose.{Purpose}
 use Rattle.clear_values.specs.declared.lines.Purpose.TheVariants.{Contribution, Interest}
 use Rattle.clear_values.specs.declared.rows.CreditRow.{CreditRow}
+use Rattle.clear_values.specs.declared.rows.KeptCharge.{KeptCharge}
 use Rattle.clear_values.specs.declared.texts.WageLine.{WageLine}
 use Rattle.clear_book.specs.Book.{Book, Entry, rates_of, member_of, is_member_month, latest_lines}
 use Rattle.clear_book.specs.Book.{reported_version}
@@ -34,9 +35,14 @@ contribution_of_base rate base =
 abbrev pub contribution_of_lines : Option Rate → List WageLine → ℕ
 contribution_of_lines rate lines = contribution_of_base rate (base_of lines)
 
+-- the day on which a month's contribution is due at a rate row; without one, which no reported
+-- month of a lawful book is, the first day of all
+abbrev pub due_by : Option Rate → ℕ → ℕ
+due_by rate m = option_map_or (due_day_of m) rate 10957
+
 -- the day on which a month's contribution is due
 abbrev pub due_at : List Rate → ℕ → ℕ
-due_at rates m = option_map_or (due_day_of m) (rate_in_force rates m) 0
+due_at rates m = due_by (rate_in_force rates m) m
 
 -- the contribution of a month for a base
 abbrev pub month_charge : List Rate → ℕ → ℕ → Charge
@@ -44,6 +50,15 @@ month_charge rates m base = record {
   month = m;
   due = due_at rates m;
   cents = contribution_of_base (rate_in_force rates m) base;
+}
+
+-- the contribution for the lines of a firm's month, at the rate row in force for it, as it is kept
+abbrev pub kept_charge : Option Rate → ℕ → ℕ → List WageLine → KeptCharge
+kept_charge rate e m lines = record {
+  employer = e;
+  month = m;
+  due = due_by rate m;
+  cents = contribution_of_lines rate lines;
 }
 
 -- the contribution of a month for its latest lines, if there are any

@@ -8,9 +8,10 @@ use Rattle.clear_money.specs.Rates.{rate_in_force}
 use Rattle.clear_values.specs.declared.lines.Purpose.TheVariants.{Contribution}
 use Rattle.clear_values.specs.declared.texts.WageLine.{WageLine}
 use Rattle.clear_values.specs.declared.rows.EmployerRow.{EmployerRow}
+use Rattle.clear_values.specs.declared.rows.KeptCharge.{KeptCharge}
 use Rattle.clear_values.specs.declared.rows.ReportRow.{ReportRow}
 use Rattle.clear_values.specs.declared.rows.WageRow.{WageRow}
-use Rattle.clear_book.specs.Accounts.{month_charge, credit_key, credits_under}
+use Rattle.clear_book.specs.Accounts.{book_charge, month_charge, credit_key, credits_under}
 use Rattle.clear_book.specs.Book.{Book, Entry, Member, rates_of, ledger_day}
 use Rattle.clear_book.specs.Book.{member_of, employer_count, latest_lines, reported_version}
 use Rattle.clear_book.specs.Calls.{command_bytes}
@@ -19,7 +20,8 @@ use Rattle.clear_book.specs.Lines.{lines_standing, credits_made, serial_count}
 use Rattle.clear_book.specs.Reminders.{reminders_of, runs_of}
 use Rattle.clear_book.specs.Workers.{claims_of, entitlement_for, lists_of}
 pub use Rattle.clear_values.specs.Tables.{RequestRow, Tables, employer_key, report_key}
-pub use Rattle.clear_values.specs.Tables.{wage_key, bank_key, claim_key, list_key, run_key}
+pub use Rattle.clear_values.specs.Tables.{wage_key, charge_key, bank_key, claim_key, list_key}
+pub use Rattle.clear_values.specs.Tables.{run_key}
 pub use Rattle.clear_values.specs.Tables.{reminder_key, request_key, member_in, wage_row, wage_rows}
 pub use Rattle.clear_values.specs.Tables.{is_wage_key_of, with_wages, changed, dated}
 
@@ -36,6 +38,14 @@ version_at rows e m = option_map (λ row. row.version) (find_row report_key rows
 -- the gross amount of a worker in a month's latest report
 abbrev pub gross_at : List WageRow → ℕ → ℕ → ℕ → Option ℕ
 gross_at rows e m w = option_map (λ row. row.gross) (find_row wage_key rows (e ∷ m ∷ w ∷ []))
+
+-- the contribution that a row keeps
+abbrev pub charge_in : KeptCharge → Charge
+charge_in row = record { month = row.month; due = row.due; cents = row.cents }
+
+-- the contribution that is kept of a month, if there is one
+abbrev pub charge_at : List KeptCharge → ℕ → ℕ → Option Charge
+charge_at rows e m = option_map charge_in (find_row charge_key rows (e ∷ m ∷ []))
 
 -- the gross amount of a worker's line
 abbrev pub gross_of : List WageLine → ℕ → Option ℕ
@@ -76,6 +86,8 @@ pub record Stands (b : Book) (t : Tables) : Type 0 where
   pub reports_in_order : AreInOrder report_key t.reports
   pub wages : (e m w : ℕ) → gross_at t.wages e m w ≡ reported_gross (latest_lines b.entries e m) w
   pub wages_in_order : AreInOrder wage_key t.wages
+  pub charges : (e m : ℕ) → charge_at t.charges e m ≡ book_charge b e m
+  pub charges_in_order : AreInOrder charge_key t.charges
   pub bank : (reference : List ℕ) → find_row bank_key t.bank reference
       ≡ find_row bank_key (lines_standing b.entries) reference
   pub bank_in_order : AreInOrder bank_key t.bank

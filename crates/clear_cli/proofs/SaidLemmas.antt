@@ -1,7 +1,9 @@
 -- What is said, as a subcommand and the words behind it.
-use Rattle.std.proofs.Common.{◌≡◌, List, [], ◌∷◌, refl, sym, ap, ◌∙◌, length}
+use Rattle.std.proofs.Common.{◌≡◌, ◌≢◌, Bool, true, false, List, [], ◌∷◌, refl, sym, ap, ◌∙◌, length}
 use Rattle.std.specs.Prelude.{Option, Some, None, option_map}
+use Rattle.std.specs.Str.{bytes_eq}
 use Rattle.std.proofs.lemmas.Option.{none-some}
+use Rattle.std.proofs.lemmas.Slice.Eq.{bytes_eq-Decides}
 use Rattle.clap.specs.Words.{Row, Text}
 use Rattle.clear_cli.specs.Lines.{Says, plain_words, words_for}
 use Rattle.clear_cli.specs.Rows.{AreWords, args_for, name_of, places_of, subcommand_for, subcommand_named}
@@ -22,6 +24,14 @@ enough_args _ = refl
 pub named : (v : Subcommand) → subcommand_named (name_of v) ≡ Some v
 named subcommand.Init = refl
 named _ = refl
+
+-- a name that isn't the word is passed over
+pub other_name : {word name : Text} → word ≢ name → bytes_eq name word ≡ false
+other_name {word} {name} other = by (bytes_eq name word) refl
+  where
+    by : (t : Bool) → bytes_eq name word ≡ t → bytes_eq name word ≡ false
+    by true is = absurd (other (sym ((bytes_eq-Decides name word).0 is)))
+    by false is = is
 
 -- words say a subcommand and the words behind it
 pub says_parts : (name : Text) (rest : List Text) (said : Words) → Says (name ∷ rest) said

@@ -10,11 +10,14 @@ use Rattle.clear_money.specs.Calendar.{IsDay}
 use Rattle.clear_money.specs.Numbers.{IsEmployerNo}
 use Rattle.clear_money.specs.Texts.{day_text}
 use Rattle.clear_book.specs.Numbers.{IsRequestNo}
+use Rattle.clear_cli.specs.declared.words.FileKind.{FileKind}
+use Rattle.clear_cli.specs.declared.words.FileKind.TheVariants.{Rates, Callers, Bank}
 use Rattle.clear_cli.specs.declared.words.LineFault.{LineFault}
 use Rattle.clear_cli.specs.declared.words.LineFault.TheVariants.{Help, Line, Memory}
 use Rattle.clear_cli.specs.declared.words.Words.{Words}
 use Rattle.clear_cli.specs.declared.words.Words.TheVariants.{Init, Stream, Serve, Import}
-use Rattle.clear_cli.specs.declared.words.Words.TheVariants.{Statement, Migrate}
+use Rattle.clear_cli.specs.declared.words.Words.TheVariants.{Statement, Migrate, Look}
+use Rattle.clear_cli.specs.declared.words.Words.TheVariants.{Check, Backup}
 
 -- the bytes of a word
 abbrev pub Text : Type 0
@@ -30,7 +33,16 @@ table = (codes "init", codes "STORE" ∷ codes "RATES" ∷ [])
     ∷ (codes "import", codes "STORE" ∷ codes "DAY" ∷ codes "NUMBER" ∷ codes "FILE" ∷ [])
     ∷ (codes "statement", codes "STORE" ∷ codes "DAY" ∷ codes "EMPLOYER" ∷ [])
     ∷ (codes "migrate", codes "STORE" ∷ [])
+    ∷ (codes "look", codes "STORE" ∷ [])
+    ∷ (codes "check", codes "KIND" ∷ codes "FILE" ∷ [])
+    ∷ (codes "backup", codes "STORE" ∷ codes "FILE" ∷ [])
     ∷ []
+
+-- the word for a kind of file
+abbrev pub kind_word : FileKind → Text
+kind_word Rates = codes "rates"
+kind_word Callers = codes "callers"
+kind_word Bank = codes "bank"
 
 -- the words that say it: days as YYYY-MM-DD, numbers in decimal digits
 abbrev pub words_for : Words → List Text
@@ -44,6 +56,9 @@ words_for (Import store day number file) =
 words_for (Statement store day employer) =
     codes "statement" ∷ store.now ∷ day_text day ∷ decimal employer ∷ []
 words_for (Migrate store) = codes "migrate" ∷ store.now ∷ []
+words_for (Look store) = codes "look" ∷ store.now ∷ []
+words_for (Check kind file) = codes "check" ∷ kind_word kind ∷ file.now ∷ []
+words_for (Backup store file) = codes "backup" ∷ store.now ∷ file.now ∷ []
 
 -- the number of a port
 abbrev pub IsPort : ℕ → Type 0
@@ -61,6 +76,9 @@ IsInRange (Serve store callers day port count) = IsDay day × IsPort port × IsC
 IsInRange (Import store day number file) = IsDay day × IsRequestNo number
 IsInRange (Statement store day employer) = IsDay day × IsEmployerNo employer
 IsInRange (Migrate store) = ⊤
+IsInRange (Look store) = ⊤
+IsInRange (Check kind file) = ⊤
+IsInRange (Backup store file) = ⊤
 
 -- ---- what words say
 
@@ -129,6 +147,10 @@ IsSame (Import store day number file) (Import store₂ day₂ number₂ file₂)
 IsSame (Statement store day employer) (Statement store₂ day₂ employer₂) =
     (store.now ≡ store₂.now) × (day ≡ day₂) × (employer ≡ employer₂)
 IsSame (Migrate store) (Migrate store₂) = store.now ≡ store₂.now
+IsSame (Look store) (Look store₂) = store.now ≡ store₂.now
+IsSame (Check kind file) (Check kind₂ file₂) = (kind ≡ kind₂) × (file.now ≡ file₂.now)
+IsSame (Backup store file) (Backup store₂ file₂) =
+    (store.now ≡ store₂.now) × (file.now ≡ file₂.now)
 IsSame _ _ = ⊥
 
 -- the fault is that help was asked for

@@ -1,5 +1,5 @@
 -- What a reading of the command line by `clap` says.
-use Rattle.std.specs.Prelude.{◌≡◌, ⊤, ℕ, List, [], ◌∷◌, drop, find, codes}
+use Rattle.std.specs.Prelude.{◌≡◌, ⊤, List, [], ◌∷◌, drop, find, codes}
 use Rattle.std.specs.Prelude.{Option, Some, None, IfSome, IfNone}
 use Rattle.std.specs.Option.{option_map_or}
 use Rattle.std.specs.Str.{bytes_eq}
@@ -7,7 +7,8 @@ use Rattle.clap.specs.Words.{Row, Text, first_of}
 use Rattle.clear_cli.specs.Lines.{IsInRange, table, words_for}
 use Rattle.clear_cli.specs.declared.words.Words.{Words}
 use Rattle.clear_cli.specs.declared.words.Words.TheVariants.{Init, Stream, Serve, Import}
-use Rattle.clear_cli.specs.declared.words.Words.TheVariants.{Statement, Migrate}
+use Rattle.clear_cli.specs.declared.words.Words.TheVariants.{Statement, Migrate, Look}
+use Rattle.clear_cli.specs.declared.words.Words.TheVariants.{Check, Backup}
 use Rattle.clear_cli.specs.declared.subcommands.Subcommand.{Subcommand}
 use Rattle.clear_cli.specs.declared.subcommands.Subcommand.TheVariants as subcommand
 
@@ -19,11 +20,15 @@ name_of subcommand.Serve = codes "serve"
 name_of subcommand.Import = codes "import"
 name_of subcommand.Statement = codes "statement"
 name_of subcommand.Migrate = codes "migrate"
+name_of subcommand.Look = codes "look"
+name_of subcommand.Check = codes "check"
+name_of subcommand.Backup = codes "backup"
 
 -- all of them
 abbrev pub subcommands : List Subcommand
 subcommands = subcommand.Init ∷ subcommand.Stream ∷ subcommand.Serve ∷ subcommand.Import
-    ∷ subcommand.Statement ∷ subcommand.Migrate ∷ []
+    ∷ subcommand.Statement ∷ subcommand.Migrate ∷ subcommand.Look ∷ subcommand.Check
+    ∷ subcommand.Backup ∷ []
 
 -- the one with this name
 abbrev pub subcommand_named : Text → Option Subcommand
@@ -37,11 +42,12 @@ places_of v = option_map_or (λ row. row.1) (find (λ row. bytes_eq row.0 (name_
 abbrev pub IsWord : List Row → Text → Text → Type 0
 IsWord rows id text = first_of id rows ≡ Some text
 
--- a place read as a number: the one that its word writes, if one of those meant is written there
-abbrev pub ReadsPlace : List Row → Text → (ℕ → Text) → (ℕ → Type 0) → Option ℕ → Type 0
-ReadsPlace rows id written IsMeant result =
-    IfSome result (λ n. IsWord rows id (written n) × IsMeant n)
-    × IfNone result ((n : ℕ) → IsMeant n → ¬ IsWord rows id (written n))
+-- a place read as a value: the one that its word writes, if one of those meant is written there
+abbrev pub ReadsPlace : {X : Type 0} → List Row → Text → (X → Text) → (X → Type 0) → Option X
+    → Type 0
+ReadsPlace {X} rows id written IsMeant result =
+    IfSome result (λ x. IsWord rows id (written x) × IsMeant x)
+    × IfNone result ((x : X) → IsMeant x → ¬ IsWord rows id (written x))
 
 -- the subcommand of what is said
 abbrev pub subcommand_for : Words → Subcommand
@@ -51,6 +57,9 @@ subcommand_for (Serve s c d p n) = subcommand.Serve
 subcommand_for (Import s d n f) = subcommand.Import
 subcommand_for (Statement s d e) = subcommand.Statement
 subcommand_for (Migrate s) = subcommand.Migrate
+subcommand_for (Look s) = subcommand.Look
+subcommand_for (Check k f) = subcommand.Check
+subcommand_for (Backup s f) = subcommand.Backup
 
 -- the words that say it, behind its name
 abbrev pub args_for : Words → List Text

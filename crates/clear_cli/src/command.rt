@@ -32,8 +32,14 @@ const FILE: (&str, &str) = ("FILE", "A bank file");
 
 const EMPLOYER: (&str, &str) = ("EMPLOYER", "The firm's number, 1 to 99,999,999");
 
+const KIND: (&str, &str) = ("KIND", "rates, callers or bank");
+
+const CHECKED_FILE: (&str, &str) = ("FILE", "The file");
+
+const NEW_FILE: (&str, &str) = ("FILE", "A file that isn't there yet");
+
 // Each subcommand with what help says of it, and with its words.
-const SUBCOMMANDS: [(&str, &str, &[(&str, &str)]); 6] = [
+const SUBCOMMANDS: [(&str, &str, &[(&str, &str)]); 9] = [
     ("init", "Makes a store in a new file", &[STORE, RATES]),
     (
         "stream",
@@ -56,6 +62,17 @@ const SUBCOMMANDS: [(&str, &str, &[(&str, &str)]); 6] = [
         &[STORE, DAY, EMPLOYER],
     ),
     ("migrate", "Brings a store to the current schema", &[STORE]),
+    ("look", "Tells what stands in a store", &[STORE]),
+    (
+        "check",
+        "Reads a file and tells its first fault, or what it holds",
+        &[KIND, CHECKED_FILE],
+    ),
+    (
+        "backup",
+        "Copies a store into a new file",
+        &[STORE, NEW_FILE],
+    ),
 ];
 
 // The command with one word more, which is required, with what help says of it.

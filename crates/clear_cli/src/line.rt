@@ -33,7 +33,8 @@ fn said_by<'a>(matches: &ArgMatches<'a>) -> Option<Words<'a>>
 ///
 /// Behind a subcommand stands a word for each of its places, and nothing else. A word that begins
 /// with `-` is taken as one of these only behind a word `--`, or if it is `-` alone. A day is written
-/// as `YYYY-MM-DD` and a number in decimal digits without leading zeros, each in its range.
+/// as `YYYY-MM-DD` and a number in decimal digits without leading zeros, each in its range. A kind
+/// of file is one of the words `rates`, `callers` and `bank`.
 ///
 /// `Help` is answered where help is asked for: by a first word `--help` or one that begins with
 /// `-h`, by such a word behind a subcommand, if it is the first that begins with `-` and no more
@@ -69,6 +70,8 @@ pub fn law_lines_by_example()
     ensures option { plain_words (codes "S" ∷ codes "-x" ∷ []) ≡ None }
     ensures behind_two_minuses { plain_words (codes "S" ∷ codes "--" ∷ codes "-x" ∷ [])
         ≡ Some (codes "S" ∷ codes "-x" ∷ []) }
+    ensures other_kind { (said : Words)
+        → ¬ Says (codes "check" ∷ codes "Bank" ∷ codes "F" ∷ []) said }
     ensures help { asks_help (codes "init" ∷ codes "S" ∷ codes "-h" ∷ []) ≡ true }
     ensures help_first { asks_help (codes "--help" ∷ []) ≡ true }
     ensures help_too_late { asks_help (codes "migrate" ∷ codes "S" ∷ codes "R" ∷ codes "-h" ∷ [])

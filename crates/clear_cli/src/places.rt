@@ -1,14 +1,15 @@
 //! The words behind a subcommand, each by the name of its place.
-ghost use Rattle.std.specs.Prelude.{◌≡◌, ◌<◌, ◌≤◌, ◌^◌, codes, option_map};
+ghost use Rattle.std.specs.Prelude.{◌≡◌, ◌<◌, ◌≤◌, ◌^◌, ⊤, codes, option_map};
 ghost use Rattle.std.specs.Fmt.{decimal};
 ghost use Rattle.clap.specs.Words.{found_of, rows_of, first_of};
 ghost use Rattle.clear_money.specs.Calendar.{IsDay};
 ghost use Rattle.clear_money.specs.Numbers.{IsEmployerNo};
 ghost use Rattle.clear_money.specs.Texts.{day_text};
 ghost use Rattle.clear_book.specs.Numbers.{IsRequestNo};
-ghost use Rattle.clear_cli.specs.Lines.{IsPort, IsCount};
+ghost use Rattle.clear_cli.specs.Lines.{IsPort, IsCount, kind_word};
 ghost use Rattle.clear_cli.specs.Rows.{ReadsPlace};
 
+use crate::words::FileKind;
 use clap::ArgMatches;
 use clear_book::numbers::RequestNo;
 use clear_money::days::Day;
@@ -87,4 +88,17 @@ pub(crate) fn employer(words: &ArgMatches<'_>) -> Option<EmployerNo>
         result }
 {
     EmployerNo::new(number(words, "EMPLOYER")?)
+}
+
+// The kind of the file that is read.
+pub(crate) fn kind(words: &ArgMatches<'_>) -> Option<FileKind>
+    ensures { ReadsPlace (rows_of (found_of words.now)) (codes "KIND") kind_word (λ kind. ⊤)
+        result }
+{
+    match word(words, "KIND")? {
+        "rates" => Some(FileKind::Rates),
+        "callers" => Some(FileKind::Callers),
+        "bank" => Some(FileKind::Bank),
+        _ => None,
+    }
 }

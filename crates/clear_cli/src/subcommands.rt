@@ -4,7 +4,7 @@ ghost use Rattle.clap.specs.Words.{found_of, rows_of};
 ghost use Rattle.clear_cli.specs.Rows.{subcommand_named, Names, ReadsWords};
 ghost use Rattle.clear_cli.specs.declared.words.Words.{Words};
 
-use crate::places::{count, day, employer, port, request, word};
+use crate::places::{count, day, employer, kind, port, request, word};
 use crate::words::Words;
 use clap::ArgMatches;
 
@@ -17,6 +17,9 @@ pub(crate) enum Subcommand {
     Import,
     Statement,
     Migrate,
+    Look,
+    Check,
+    Backup,
 }
 
 fn subcommand_named(name: &str) -> Option<Subcommand>
@@ -29,6 +32,9 @@ fn subcommand_named(name: &str) -> Option<Subcommand>
         "import" => Some(Subcommand::Import),
         "statement" => Some(Subcommand::Statement),
         "migrate" => Some(Subcommand::Migrate),
+        "look" => Some(Subcommand::Look),
+        "check" => Some(Subcommand::Check),
+        "backup" => Some(Subcommand::Backup),
         _ => None,
     }
 }
@@ -142,6 +148,39 @@ fn read_migrate<'a>(words: &ArgMatches<'a>) -> Option<Words<'a>>
     Some(Words::Migrate { store })
 }
 
+fn read_look<'a>(words: &ArgMatches<'a>) -> Option<Words<'a>>
+    ensures { ReadsWords (rows_of (found_of words.now)) Subcommand.Look result }
+{
+    let Some(store) = word(words, "STORE") else {
+        return None;
+    };
+    Some(Words::Look { store })
+}
+
+fn read_check<'a>(words: &ArgMatches<'a>) -> Option<Words<'a>>
+    ensures { ReadsWords (rows_of (found_of words.now)) Subcommand.Check result }
+{
+    let Some(kind) = kind(words) else {
+        return None;
+    };
+    let Some(file) = word(words, "FILE") else {
+        return None;
+    };
+    Some(Words::Check { kind, file })
+}
+
+fn read_backup<'a>(words: &ArgMatches<'a>) -> Option<Words<'a>>
+    ensures { ReadsWords (rows_of (found_of words.now)) Subcommand.Backup result }
+{
+    let Some(store) = word(words, "STORE") else {
+        return None;
+    };
+    let Some(file) = word(words, "FILE") else {
+        return None;
+    };
+    Some(Words::Backup { store, file })
+}
+
 // What a subcommand says with its words.
 pub(crate) fn read_subcommand<'a>(name: &str, words: &ArgMatches<'a>) -> Option<Words<'a>>
     ensures found { IfSome result (Names (Some (name.now, rows_of (found_of words.now)))) }
@@ -155,5 +194,8 @@ pub(crate) fn read_subcommand<'a>(name: &str, words: &ArgMatches<'a>) -> Option<
         Subcommand::Import => read_import(words),
         Subcommand::Statement => read_statement(words),
         Subcommand::Migrate => read_migrate(words),
+        Subcommand::Look => read_look(words),
+        Subcommand::Check => read_check(words),
+        Subcommand::Backup => read_backup(words),
     }
 }

@@ -44,6 +44,31 @@ pub enum Words<'a> {
     Migrate {
         store: &'a str,
     },
+    /// Tells what stands in a store, and changes nothing.
+    Look {
+        store: &'a str,
+    },
+    /// Reads a file of this kind, and touches no store.
+    Check {
+        kind: FileKind,
+        file: &'a str,
+    },
+    /// Copies a store into a new file.
+    Backup {
+        store: &'a str,
+        file: &'a str,
+    },
+}
+
+/// A kind of file.
+#[derive(Clone, Copy)]
+pub enum FileKind {
+    /// A rate file.
+    Rates,
+    /// A caller file.
+    Callers,
+    /// A bank file.
+    Bank,
 }
 
 /// Why the words of a command line say nothing.

@@ -1,10 +1,10 @@
--- Rows of a list that pass no test, and the one row that passes.
-use Rattle.std.proofs.Common.{◌≡◌, ℤ, ◌<ℤ◌, Bool, true, false, cond, List, [], ◌∷◌, filter, refl, sym, ap, ap₂, subst, ◌∙◌, arith, int_eq}
+-- Rows of a list that pass no test, the one row that passes, and rows that pass a further test.
+use Rattle.std.proofs.Common.{◌≡◌, ◌≤◌, ◌&&◌, ℤ, ◌<ℤ◌, Bool, true, false, cond, List, [], ◌∷◌, filter, length, refl, sym, ap, ap₂, subst, ◌∙◌, arith, int_eq}
 use Rattle.std.specs.List.{AllByRecursion}
 use Rattle.std.proofs.lemmas.Int.{ints}
 use Rattle.sqlite_keyed.specs.Keyed.{IsKeyedBy}
 use Rattle.sqlite_keyed.specs.Lists.{update_where}
-use Rattle.sqlite_keyed.proofs.ListLemmas.{all-filter, filter_none, all_weaker}
+use Rattle.sqlite_keyed.proofs.ListLemmas.{all-filter, filter_none, all_weaker, map_same}
 
 module _ {X : Type 0} (p : X → Bool) where
   -- where none passes, each fails
@@ -63,3 +63,23 @@ module _ {X : Type 0} (key : X → ℤ) (p : X → Bool) (f : X → X) where
             ap (λ b. cond b (z ∷ filter q zs) (filter q zs)) fails ∙ it.0,
             ap₂ (λ b l. cond b (f z) z ∷ l) (sym fails) it.1,
           )
+
+module _ {X : Type 0} (p q : X → Bool) where
+  -- no more rows pass a further test, too
+  pub fewer_pass : (xs : List X) → length (filter (λ x. p x && q x) xs) ≤ length (filter p xs)
+  fewer_pass [] = omega arith
+  fewer_pass (x ∷ xs) = told (p x) (q x) (fewer_pass xs)
+    where
+      told : (a b : Bool) → length (filter (λ x. p x && q x) xs) ≤ length (filter p xs) → length (cond (a && b) (x ∷ filter (λ x. p x && q x) xs) (filter (λ x. p x && q x) xs)) ≤ length (cond a (x ∷ filter p xs) (filter p xs))
+      told true true fewer = omega (arith, fewer)
+      told true false fewer = omega (arith, fewer)
+      told false b fewer = fewer
+
+  -- an update may leave out a row that would stay as it is
+  pub updates_same : (f : X → X) → ((x : X) → q x ≡ false → f x ≡ x) → (xs : List X) → update_where (λ x. p x && q x) f xs ≡ update_where p f xs
+  updates_same f stays xs = map_same _ _ (λ x. told x (p x) (q x) refl) xs
+    where
+      told : (x : X) (a b : Bool) → q x ≡ b → cond (a && b) (f x) x ≡ cond a (f x) x
+      told x true true e = refl
+      told x true false e = sym (stays x e)
+      told x false b e = refl

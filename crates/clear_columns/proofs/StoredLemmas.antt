@@ -1,16 +1,16 @@
 -- What columns make of the ledger's values, and how these compare.
-use Rattle.std.proofs.Common.{◌≡◌, ℤ, pos, ℕ, true, false, ◌==◌, nat_le, ap, Option, Some, None, codes, refl, arith, ◌∙◌, int_eq, int_cmp, nat_cmp}
+use Rattle.std.proofs.Common.{◌≡◌, ℤ, pos, ℕ, Bool, true, false, not, ◌||◌, ◌==◌, nat_le, ap, Option, Some, None, codes, refl, arith, ◌∙◌, int_eq, int_cmp, nat_cmp}
 use Rattle.std.proofs.lemmas.Bool.Decides.{nat_tests}
 use Rattle.std.proofs.lemmas.Int.{ints}
 use Rattle.sqlite.specs.Cast.{cast}
 use Rattle.sqlite.specs.Collation.TheVariants.{Binary}
-use Rattle.sqlite.specs.Ops.{binary, is_true, test}
+use Rattle.sqlite.specs.Ops.{binary, from_truth, is_true, test}
 use Rattle.std.specs.Option.{option_map_or}
 use Rattle.sqlite.specs.Order.{value_cmp}
 use Rattle.sqlite.specs.Kind.TheVariants.{Integer, Text as Texts}
 use Rattle.sqlite_schema.specs.Rules.{is_of}
-use Rattle.sqlite_sql.specs.declared.ops.BinaryOp.TheVariants.{Compare}
-use Rattle.sqlite_sql.specs.declared.ops.CompareOp.TheVariants.{Eq, Ge}
+use Rattle.sqlite_sql.specs.declared.ops.BinaryOp.TheVariants.{Compare, Or}
+use Rattle.sqlite_sql.specs.declared.ops.CompareOp.TheVariants.{Eq, Ge, Ne}
 use Rattle.sqlite_value.proofs.OrderLemmas.{value_cmp-Int, value_cmp-Text}
 use Rattle.clear_values.specs.Lines.{same_purpose}
 use Rattle.clear_values.specs.declared.lines.Purpose.{Purpose}
@@ -71,6 +71,23 @@ months_keep = record { same = same_months; order = month_order }
 
 pub equal_numbers : (m n : ℕ) → is_true (binary (Compare Eq Binary) (number m) (number n)) ≡ (m == n)
 equal_numbers m n = equal_ints (pos m) (pos n) ∙ same_numbers m n
+
+-- whether one of two numbers is another
+pub others_differ : (a b m n : ℕ) → is_true (binary Or (binary (Compare Ne Binary) (number a) (number b)) (binary (Compare Ne Binary) (number m) (number n))) ≡ (not (a == b) || not (m == n))
+unfolding binary
+others_differ a b m n = rw (differ a b, differ m n) (either (not (a == b)) (not (m == n)))
+  where
+    other : (m n : ℕ) → test Ne (nat_cmp m n) ≡ not (m == n)
+    other m n = grind (arith, nat_tests)
+
+    differ : (m n : ℕ) → binary (Compare Ne Binary) (number m) (number n) ≡ from_truth (Some (not (m == n)))
+    differ m n = ap (λ o. from_truth (Some (test Ne o))) (value_cmp-Int (pos m) (pos n) ∙ number_order m n) ∙ ap (λ b. from_truth (Some b)) (other m n)
+
+    either : (a b : Bool) → is_true (binary Or (from_truth (Some a)) (from_truth (Some b))) ≡ (a || b)
+    either true true = refl
+    either true false = refl
+    either false true = refl
+    either false false = refl
 
 -- a column that may be NULL has a number only where it is one, and is at least a number only where it
 -- is one

@@ -8,7 +8,8 @@ ghost use Rattle.clear_money.specs.Numbers.{IsAmount, IsEmployerNo, IsWorkerNo};
 ghost use Rattle.clear_money.specs.Rates.{IsDayOfEachMonth};
 ghost use Rattle.clear_values.specs.Texts.{is_note, is_reference};
 ghost use Rattle.clear_values.specs.declared.lines.Purpose.{Purpose};
-ghost use Rattle.clear_values.specs.Limits.{most_entries, most_gross, most_serials, most_versions};
+ghost use Rattle.clear_values.specs.Limits.{most_base, most_entries, most_gross, most_serials};
+ghost use Rattle.clear_values.specs.Limits.{most_versions};
 ghost use Rattle.clear_values.specs.Numbers.{IsClaimNo, IsListNo};
 ghost use Rattle.clear_values.specs.RowRanges.{IsSerial};
 ghost use Rattle.clear_values.specs.Texts.{IsCreditReference, IsName};
@@ -16,7 +17,8 @@ ghost use Rattle.clear_schema.specs.Values as stored;
 ghost use Rattle.clear_columns.specs.Columns.{ReadsColumn};
 
 use crate::ranges::{
-    is_entry_count, is_gross, is_list_no, is_month_count, is_serial, is_serial_count, is_version,
+    is_contribution, is_entry_count, is_gross, is_list_no, is_month_count, is_serial,
+    is_serial_count, is_version,
 };
 use clear_money::days::Day;
 use clear_money::months::Month;
@@ -185,6 +187,17 @@ pub fn gross_at(row: &Row, at: usize) -> Result<u64, Fault>
         return Err(Fault::Store(StoreCause::Row));
     }
     Ok(gross)
+}
+
+/// The contribution of a month in a column, in cents, at most 5,000,000,000.
+pub fn contribution_at(row: &Row, at: usize) -> Result<u64, Fault>
+    ensures reads { ReadsColumn row.now at result stored.number (λ c. c ≤ most_base) }
+{
+    let contribution: u64 = value_at(row, at)?;
+    if !is_contribution(contribution) {
+        return Err(Fault::Store(StoreCause::Row));
+    }
+    Ok(contribution)
 }
 
 /// The serial of a bank line or a release in a column, 1 to 500,000,000,000.

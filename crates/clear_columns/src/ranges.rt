@@ -1,13 +1,15 @@
 //! Whether plain numbers of a row lie in their ranges.
 ghost use Rattle.std.specs.Prelude.{◌≡◌, ◌≤◌, ◌↔◌, length, true};
 ghost use Rattle.clear_money.specs.Calendar.{months};
-ghost use Rattle.clear_values.specs.Limits.{most_charged, most_claimed, most_employers};
+ghost use Rattle.clear_values.specs.Limits.{most_base, most_charged, most_claimed, most_employers};
 ghost use Rattle.clear_values.specs.Limits.{most_entries, most_gross, most_interest};
 ghost use Rattle.clear_values.specs.Limits.{most_serials, most_versions};
 ghost use Rattle.clear_values.specs.Numbers.{IsListNo, IsRunNo};
 ghost use Rattle.clear_values.specs.RowRanges.{IsSerial};
 
-use clear_values::limits::{MAX_EMPLOYERS, MAX_ENTRIES, MAX_GROSS, MAX_SERIALS, MAX_VERSIONS};
+use clear_values::limits::{
+    MAX_BASE, MAX_EMPLOYERS, MAX_ENTRIES, MAX_GROSS, MAX_SERIALS, MAX_VERSIONS,
+};
 
 // All claims, in cents: 50,000,000 claims of 100,000,000,000 cents.
 const MAX_CLAIMED: u64 = 5_000_000_000_000_000_000;
@@ -33,6 +35,13 @@ pub fn is_gross(cents: u64) -> bool
     ensures { (result ≡ true) ↔ (cents ≤ most_gross) }
 {
     cents <= MAX_GROSS
+}
+
+/// Whether the contribution of a month can be this, at most 5,000,000,000 cents.
+pub fn is_contribution(cents: u64) -> bool
+    ensures { (result ≡ true) ↔ (cents ≤ most_base) }
+{
+    cents <= MAX_BASE
 }
 
 /// Whether a bank line or a release can have this serial, 1 to 500,000,000,000.

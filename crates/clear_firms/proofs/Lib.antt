@@ -1,3 +1,4 @@
+pub mod ChargeTable
 pub mod CountsTable
 pub mod EmployerTable
 pub mod RateTable

@@ -4,7 +4,7 @@ use Rattle.sqlite_tied.specs.Compute.{everything}
 use Rattle.sqlite_value.specs.Keys.{ascending, first_key, plain}
 use Rattle.clear_values.proofs.KeyedLemmas.{is_key-true}
 use Rattle.clear_schema.proofs.Changes.{reports_changed}
-use Rattle.clear_columns.proofs.KeyedTable.{KeyedTable, few, finds, lists, or_false}
+use Rattle.clear_columns.proofs.KeyedTable.{KeyedTable, few, finds, lists, lists_all, or_false}
 use Rattle.clear_columns.proofs.Says.{Says, SaysQuery}
 use Rattle.clear_columns.specs.Keys.{is_held}
 use Rattle.clear_firms.specs.Shown.{month_given, report_shown}
@@ -89,6 +89,13 @@ list_says : SaysQuery list (plain_program 3 by_firm columns order)
 unfolding everything
 list_says = record { names = _; said = (refl, refl, refl) }
 
+abbrev pub all : List ℕ
+all = codes "SELECT employer, month, version FROM reports ORDER BY employer, month"
+
+all_says : SaysQuery all (plain_program 3 [] columns order)
+unfolding everything
+all_says = record { names = _; said = (refl, refl, refl) }
+
 -- ---- what they do
 
 -- the row of a firm's month
@@ -134,3 +141,6 @@ module _ {S : Type 0} (g : Ghosts S) (t : Tables) (db : Database) (has : HasTabl
 
   pub answers_of : (e : ℕ) → AnswersJust g list (number e ∷ []) db (map report_shown (filter (is_by e) t.reports))
   answers_of e = lists reports g t db has (number e ∷ []) report_shown (is_by e) (of_firm e) list_says sorted (λ _. refl) rises
+
+  pub answers_all : AnswersJust g all [] db (map report_shown t.reports)
+  answers_all = lists_all reports g t db has [] report_shown (λ _. refl) all_says sorted (λ _. refl) rises

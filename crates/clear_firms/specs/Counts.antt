@@ -16,10 +16,24 @@ as_stored c = record {
   runs = c.runs;
 }
 
+abbrev pub as_told : Counts → Told
+as_told c = record {
+  day = c.day;
+  entries = c.entries;
+  serial = c.serial;
+  claims = c.claims;
+  lists = c.lists;
+  runs = c.runs;
+}
+
 abbrev pub counts_given : Counts → Row
 counts_given c =
     maybe c.day ∷ number c.entries ∷ number c.serial ∷ number c.claims ∷ number c.lists
     ∷ number c.runs ∷ []
+
+-- what a query shows of them
+abbrev pub counts_shown : Told → Row
+counts_shown c = counts_given (as_stored c)
 
 -- no more entries, serials and claims than there may be
 abbrev pub AreCountable : Told → Type 0

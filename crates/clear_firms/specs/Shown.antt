@@ -5,6 +5,7 @@ use Rattle.sqlite.specs.declared.types.Value.TheVariants.{Text}
 use Rattle.sqlite.specs.Order.{Row}
 use Rattle.clear_money.specs.Rates.{Rate}
 use Rattle.clear_values.specs.declared.rows.EmployerRow.{EmployerRow}
+use Rattle.clear_values.specs.declared.rows.KeptCharge.{KeptCharge}
 use Rattle.clear_values.specs.declared.rows.ReportRow.{ReportRow}
 use Rattle.clear_values.specs.declared.rows.WageRow.{WageRow}
 use Rattle.clear_schema.specs.Values.{number, month, maybe_month}
@@ -28,6 +29,10 @@ report_shown row = number row.employer ∷ month row.month ∷ number row.versio
 abbrev pub wage_shown : WageRow → Row
 wage_shown row =
     number row.employer ∷ month row.month ∷ number row.worker ∷ number row.gross ∷ []
+
+abbrev pub charge_shown : KeptCharge → Row
+charge_shown row =
+    number row.employer ∷ month row.month ∷ number row.due ∷ number row.cents ∷ []
 
 -- what a query is given of an employer and a month
 abbrev pub month_given : ℕ → ℕ → Row

@@ -1,22 +1,31 @@
 //! The counts of the office: the one row of `meta`.
+ghost use Rattle.std.specs.Borrow.{sem, RestsIfErr};
 ghost use Rattle.std.specs.Prelude.{◌≡◌, ◌≢◌, ◌↔◌, [], ◌∷◌, true, false, IfErr, IfOk};
+ghost use Rattle.sqlite.specs.Held.{state};
 ghost use Rattle.sqlite.specs.Values.{bound};
+ghost use Rattle.sqlite.specs.contracts.connection.Connection.{the_row};
+ghost use Rattle.clear_columns.specs.Reading.{HasSomeTables, IsLeft, ReadsOn};
 ghost use Rattle.clear_schema.specs.Frame.{LooksUp, Writes};
 ghost use Rattle.clear_schema.specs.Values.{Counts as Stored, counts_of, with_counts};
-ghost use Rattle.clear_firms.specs.Counts.{AreCountable, AreCounts, as_stored, counts_given};
+ghost use Rattle.clear_firms.specs.Counts.{AreCountable, AreCounts, as_stored, as_told};
+ghost use Rattle.clear_firms.specs.Counts.{counts_given, counts_shown};
 
 use clear_columns::columns::{
     claim_count_at, count_at, entry_count_at, maybe_day_at, serial_count_at,
 };
 use clear_columns::parameters::maybe_day;
 use clear_columns::ranges::{is_entry_count, is_serial_count};
+use clear_columns::rows::{StoredTable, begin_rows};
 use clear_money::days::Day;
 use clear_schema::fault::Fault;
 use clear_schema::statement::{look, put};
 use clear_schema::values::number;
 use clear_values::causes::StoreCause;
-use sqlite::{Alter, Row, Transaction};
+use sqlite::{Alter, Connection, Error, Row, Rows, Transaction};
 use sqlite_value::value::ValueRef;
+
+// The counts that stand.
+const COUNTS: &str = "SELECT day, entries, serial, claims, lists, runs FROM meta WHERE one = 1";
 
 /// The day of the last accepted request, how many there were, and the last numbers given.
 #[derive(Clone, Copy)]
@@ -37,11 +46,7 @@ pub fn find_counts<S: Alter>(tx: &mut Transaction<'_, S>) -> Result<Counts, Faul
         (λ t found. as_stored found ≡ counts_of t) (λ found. AreCounts (as_stored found))
         (λ t. ¬ AreCounts (counts_of t)) }
 {
-    let rows = match look(
-        tx,
-        "SELECT day, entries, serial, claims, lists, runs FROM meta WHERE one = 1",
-        &[],
-    ) {
+    let rows = match look(tx, COUNTS, &[]) {
         Ok(rows) => rows,
         Err(fault) => return Err(fault),
     };
@@ -58,7 +63,7 @@ fn first_counts(rows: &[Row]) -> Result<Counts, Fault>
         → (c : Stored) → rows.now ≡ counts_given c ∷ [] → ¬ AreCounts c) }
 {
     match rows.first() {
-        Some(row) => match read_counts(row) {
+        Some(row) => match shown_counts(row) {
             Ok(found) => Ok(found),
             Err(fault) => Err(fault),
         },
@@ -67,7 +72,7 @@ fn first_counts(rows: &[Row]) -> Result<Counts, Fault>
 }
 
 // The counts that an answer shows.
-fn read_counts(row: &Row) -> Result<Counts, Fault>
+fn shown_counts(row: &Row) -> Result<Counts, Fault>
     ensures read { IfOk result (λ found. (c : Stored) → row.now ≡ counts_given c
         → as_stored found ≡ c) }
     ensures good { IfOk result (λ found. AreCounts (as_stored found)) }
@@ -83,6 +88,35 @@ fn read_counts(row: &Row) -> Result<Counts, Fault>
         lists: count_at(row, 4)?,
         runs: count_at(row, 5)?,
     })
+}
+
+/// The counts that stand, as the one row of a query: `next_row` reads it.
+pub fn read_counts<S: Alter>(conn: &mut Connection<S>) -> Result<Rows<'_, S>, Error>
+    ensures* refused { sem 𝓛 (RestsIfErr (the_row S.row S.Store) conn.entry
+        (λ rows. rows.conn.ghost_name) result
+        (IsLeft S.Store conn.old (HasSomeTables (state S.Store conn.old).now) result)) }
+    ensures same_reference { IfOk result (λ rows. rows.conn.ghost_name ≡ conn.entry.ghost_name) }
+    ensures begun { IfOk result (λ rows. ReadsOn S.Store conn.old rows.conn.now counts_shown
+        (λ t. as_told (counts_of t) ∷ [])) }
+{
+    begin_rows::<Meta, S>(conn, COUNTS, &[])
+}
+
+/// The table of the counts, which has one row.
+pub struct Meta;
+
+impl StoredTable for Meta {
+    ghost use Rattle.clear_firms.specs.Counts.{AreCounts, as_stored, counts_shown};
+
+    type Row = Counts;
+
+    ghost shown = { counts_shown };
+
+    ghost is_in_range = { λ counts. AreCounts (as_stored counts) };
+
+    fn read(row: &Row) -> Result<Counts, Fault> {
+        shown_counts(row)
+    }
 }
 
 /// Writes the counts in place of those that stand. More than 50,000,000 entries or claims, or

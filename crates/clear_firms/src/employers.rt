@@ -1,24 +1,31 @@
 //! The table of employers.
-ghost use Rattle.std.specs.Prelude.{◌≡◌, [], ◌∷◌, false};
+ghost use Rattle.std.specs.Borrow.{sem, RestsIfErr};
+ghost use Rattle.std.specs.Prelude.{◌≡◌, [], ◌∷◌, false, IfOk};
+ghost use Rattle.sqlite.specs.Held.{state};
 ghost use Rattle.sqlite.specs.Values.{bound};
+ghost use Rattle.sqlite.specs.contracts.connection.Connection.{the_row};
 ghost use Rattle.clear_values.specs.Keyed.{find_row, with_row};
 ghost use Rattle.clear_values.specs.RowRanges.{IsEmployerRow};
 ghost use Rattle.clear_values.specs.Tables.{employer_key};
 ghost use Rattle.clear_schema.specs.Frame.{Finds, Lists, Writes};
 ghost use Rattle.clear_columns.specs.Keys.{is_held, replaced};
+ghost use Rattle.clear_columns.specs.Reading.{HasSomeTables, IsLeft, ReadsOn};
 ghost use Rattle.clear_firms.specs.Shown.{employer_shown};
 
 use clear_columns::columns::{employer_at, maybe_month_at, month_at, name_at};
 use clear_columns::parameters::{employer, maybe_month};
 use clear_columns::queries::{find, list};
-use clear_columns::rows::StoredTable;
+use clear_columns::rows::{StoredTable, begin_rows};
 use clear_money::numbers::EmployerNo;
 use clear_schema::fault::Fault;
 use clear_schema::statement::put;
 use clear_schema::values::{month, text};
 use clear_values::rows::EmployerRow;
-use sqlite::{Alter, Row, Transaction};
+use sqlite::{Alter, Connection, Error, Row, Rows, Transaction};
 use sqlite_value::value::ValueRef;
+
+// All firms.
+const ALL_EMPLOYERS: &str = "SELECT no, name, start, last FROM employers ORDER BY no";
 
 /// Adds a firm whose number is free.
 pub fn insert_employer<S: Alter>(
@@ -76,11 +83,19 @@ pub fn all_employers<S: Alter>(tx: &mut Transaction<'_, S>) -> Result<Vec<Employ
     ensures looks { Lists S.Store tx.old.conn.now tx.new.conn.now result IsEmployerRow
         (λ t. t.employers) }
 {
-    list::<S, Employers>(
-        tx,
-        "SELECT no, name, start, last FROM employers ORDER BY no",
-        &[],
-    )
+    list::<S, Employers>(tx, ALL_EMPLOYERS, &[])
+}
+
+/// All firms, their numbers rising: `next_row` reads one at a time.
+pub fn read_employers<S: Alter>(conn: &mut Connection<S>) -> Result<Rows<'_, S>, Error>
+    ensures* refused { sem 𝓛 (RestsIfErr (the_row S.row S.Store) conn.entry
+        (λ rows. rows.conn.ghost_name) result
+        (IsLeft S.Store conn.old (HasSomeTables (state S.Store conn.old).now) result)) }
+    ensures same_reference { IfOk result (λ rows. rows.conn.ghost_name ≡ conn.entry.ghost_name) }
+    ensures begun { IfOk result (λ rows. ReadsOn S.Store conn.old rows.conn.now employer_shown
+        (λ t. t.employers)) }
+{
+    begin_rows::<Employers, S>(conn, ALL_EMPLOYERS, &[])
 }
 
 /// The table of employers.

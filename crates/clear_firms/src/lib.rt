@@ -1,6 +1,8 @@
-//! The tables of firms, reports and wages, the rates and the counts: each function one statement.
+//! The tables of firms, reports, wages and charges, the rates and the counts: each function one
+//! statement.
 #![tactic(auto)]
 
+pub mod charges;
 pub mod counts;
 pub mod employers;
 mod parameters;

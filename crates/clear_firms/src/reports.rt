@@ -1,12 +1,16 @@
 //! The table of reports: the version of each month's latest report.
-ghost use Rattle.std.specs.Prelude.{◌≡◌, ◌≤◌, ◌==◌, [], ◌∷◌, false, filter};
+ghost use Rattle.std.specs.Borrow.{sem, RestsIfErr};
+ghost use Rattle.std.specs.Prelude.{◌≡◌, ◌≤◌, ◌==◌, [], ◌∷◌, false, filter, IfOk};
+ghost use Rattle.sqlite.specs.Held.{state};
 ghost use Rattle.sqlite.specs.Values.{bound};
+ghost use Rattle.sqlite.specs.contracts.connection.Connection.{the_row};
 ghost use Rattle.clear_values.specs.Keyed.{find_row, with_row};
 ghost use Rattle.clear_values.specs.Limits.{most_versions};
 ghost use Rattle.clear_values.specs.RowRanges.{IsReportRow};
 ghost use Rattle.clear_values.specs.Tables.{report_key};
 ghost use Rattle.clear_schema.specs.Frame.{Finds, Lists, Writes};
 ghost use Rattle.clear_columns.specs.Keys.{is_held, replaced};
+ghost use Rattle.clear_columns.specs.Reading.{HasSomeTables, IsLeft, ReadsOn};
 ghost use Rattle.clear_firms.specs.Shown.{report_shown};
 
 use crate::parameters::month_values;
@@ -14,7 +18,7 @@ use clear_columns::columns::{employer_at, month_at, version_at};
 use clear_columns::parameters::employer;
 use clear_columns::queries::{find, list};
 use clear_columns::ranges::is_version;
-use clear_columns::rows::StoredTable;
+use clear_columns::rows::{StoredTable, begin_rows};
 use clear_money::months::Month;
 use clear_money::numbers::EmployerNo;
 use clear_schema::fault::Fault;
@@ -22,7 +26,7 @@ use clear_schema::statement::put;
 use clear_schema::values::{month, number};
 use clear_values::causes::StoreCause;
 use clear_values::rows::ReportRow;
-use sqlite::{Alter, Row, Transaction};
+use sqlite::{Alter, Connection, Error, Row, Rows, Transaction};
 use sqlite_value::value::ValueRef;
 
 /// Adds the first report of a month. A version out of 1 to 10,000 is refused with
@@ -92,6 +96,22 @@ pub fn reports_of<S: Alter>(
         tx,
         "SELECT employer, month, version FROM reports WHERE employer = ?1 ORDER BY employer, month",
         &[employer(no)],
+    )
+}
+
+/// All latest reports, by firm and month: `next_row` reads one at a time.
+pub fn read_reports<S: Alter>(conn: &mut Connection<S>) -> Result<Rows<'_, S>, Error>
+    ensures* refused { sem 𝓛 (RestsIfErr (the_row S.row S.Store) conn.entry
+        (λ rows. rows.conn.ghost_name) result
+        (IsLeft S.Store conn.old (HasSomeTables (state S.Store conn.old).now) result)) }
+    ensures same_reference { IfOk result (λ rows. rows.conn.ghost_name ≡ conn.entry.ghost_name) }
+    ensures begun { IfOk result (λ rows. ReadsOn S.Store conn.old rows.conn.now report_shown
+        (λ t. t.reports)) }
+{
+    begin_rows::<Reports, S>(
+        conn,
+        "SELECT employer, month, version FROM reports ORDER BY employer, month",
+        &[],
     )
 }
 

@@ -106,7 +106,7 @@ fn open_file(rt: &HostRuntime, path: &str) -> Result<File, FileFault> {
 }
 
 // Want of memory, or any other fault of a file.
-fn fault_of(error: &io::Error) -> FileFault {
+pub(crate) fn fault_of(error: &io::Error) -> FileFault {
     if error.kind() == io::ErrorKind::OutOfMemory {
         FileFault::Memory
     } else {

@@ -8,10 +8,13 @@
 //! the office goes from call to call as the clearing machine does, and access guards each request.
 #![tactic(auto)]
 
+pub mod backup;
 pub mod connections;
 pub mod files;
+pub mod hindrance;
 mod ledger;
 pub mod named;
 pub mod offices;
+pub mod paths;
 mod peer;
 pub mod stores;

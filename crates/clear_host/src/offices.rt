@@ -18,6 +18,7 @@ ghost use Rattle.clear_host.specs.Contents.{HoldsBook, HoldsOtherLayout, HoldsSc
 ghost use Rattle.clear_host.specs.Contents.{HoldsStore, IfRefused, TellsNone, TellsOnly, TellsOther};
 ghost use Rattle.clear_host.specs.Seen.{Sees};
 
+use crate::hindrance::Hindrance;
 use crate::ledger::ledger_day;
 use clear_money::days::Day;
 use clear_money::rates::RateTable;
@@ -49,6 +50,8 @@ impl<S: Alter> Opened<S> {
 #[derive(Drop)]
 pub struct NotOpened<S: Alter> {
     pub fault: OpenFault,
+    /// What stood in the way of a connection. It says more than the fault does.
+    pub hindrance: Hindrance,
     pub connection: Option<Connection<S>>,
 }
 
@@ -85,6 +88,7 @@ pub(crate) fn new_office<S: Alter>(
         }),
         Err(refusal) => Err(NotOpened {
             fault: refusal.fault,
+            hindrance: Hindrance::None,
             connection: Some(refusal.connection),
         }),
     }
@@ -159,6 +163,7 @@ fn find_store<S: Alter>(connection: Connection<S>) -> Result<Store<S>, NotOpened
         Ok(store) => confirm(store),
         Err(refusal) => Err(NotOpened {
             fault: refusal.fault,
+            hindrance: Hindrance::None,
             connection: Some(refusal.connection),
         }),
     }
@@ -182,6 +187,7 @@ fn confirm<S: Alter>(store: Store<S>) -> Result<Store<S>, NotOpened<S>>
         Ok(()) => Ok(store),
         Err(fault) => Err(NotOpened {
             fault: OpenFault::Failed(fault),
+            hindrance: Hindrance::None,
             connection: Some(store.into_connection()),
         }),
     }
@@ -214,6 +220,7 @@ fn office_over<S: Alter>(alloc: Global, store: Store<S>) -> Result<Opened<S>, No
         }),
         Err(fault) => Err(NotOpened {
             fault: OpenFault::Failed(fault),
+            hindrance: Hindrance::None,
             connection: Some(store.into_connection()),
         }),
     }

@@ -17,6 +17,7 @@ ghost use Rattle.clear_office.specs.Office.{Holds, IsHonest, Keeps};
 ghost use Rattle.clear_host.specs.Contents.{HoldsBook, HoldsOtherLayout, HoldsSchema};
 ghost use Rattle.clear_host.specs.Contents.{HoldsStore, IfRefused, TellsNone, TellsOnly, TellsOther};
 
+use crate::hindrance::{Hindrance, hindrance_of};
 use crate::offices::{NotOpened, Opened, find_office, new_office};
 use clear_book::ranges::rates_in_range;
 use clear_book::rules::StoreCause;
@@ -63,10 +64,14 @@ pub fn create_office<S: Start>(
     make_private(rt, path);
     match Connection::open_from(rt, path, false, start) {
         Ok(connection) => new_office(rt.alloc(), connection, rates),
-        Err((error, _left)) => Err(NotOpened {
-            fault: OpenFault::Failed(fault_of(error)),
-            connection: None,
-        }),
+        Err((error, _left)) => {
+            let hindrance = hindrance_of(&error);
+            Err(NotOpened {
+                fault: OpenFault::Failed(fault_of(error)),
+                hindrance,
+                connection: None,
+            })
+        }
     }
 }
 
@@ -106,16 +111,21 @@ pub fn open_office<S: Start>(
     if let Err(error) = fs::metadata(rt, path) {
         return Err(NotOpened {
             fault: OpenFault::Failed(fault_of_file(&error)),
+            hindrance: Hindrance::NotReachable,
             connection: None,
         });
     }
     // A file that is empty gets an empty database, which is no store.
     match Connection::open_from(rt, path, false, start) {
         Ok(connection) => find_office(rt.alloc(), connection),
-        Err((error, _left)) => Err(NotOpened {
-            fault: OpenFault::Failed(fault_of(error)),
-            connection: None,
-        }),
+        Err((error, _left)) => {
+            let hindrance = hindrance_of(&error);
+            Err(NotOpened {
+                fault: OpenFault::Failed(fault_of(error)),
+                hindrance,
+                connection: None,
+            })
+        }
     }
 }
 

@@ -34,6 +34,7 @@ use Rattle.clear_laws.proofs.LinesLemmas.{none_taken}
 use Rattle.clear_laws.proofs.ListNumbersLemmas.{lists_left}
 use Rattle.clear_laws.proofs.RemindersLemmas.{reminders_left, runs_left}
 use Rattle.clear_laws.proofs.RequestLemmas.{requests_found, requests_still_in_order}
+use Rattle.clear_laws.proofs.TablesLemmas.{charges_left}
 use Rattle.clear_laws.proofs.VersionLemmas.{version_of-other}
 
 module _ (b : Book) (t : Tables) (stands : Stands b t) (caller : Caller) (number day : ℕ) (a : Assignment) (reply : Reply) (judged : judge b (Do caller number day (Assign a)) ≡ new_reply reply) where
@@ -130,6 +131,8 @@ module _ (b : Book) (t : Tables) (stands : Stands b t) (caller : Caller) (number
     reports_in_order = stands.reports_in_order;
     wages = λ e m w. stands.wages e m w;
     wages_in_order = stands.wages_in_order;
+    charges = charges_left b t stands assignment refl refl;
+    charges_in_order = stands.charges_in_order;
     bank = bank_found;
     bank_in_order = AreInOrder-put_row bank_key t.bank row stands.bank_in_order;
     credits = credits_found;

@@ -338,16 +338,19 @@ module _ (b : Book) (t : Tables) (lawful : IsLawful b) (stands : Stands b t) (e 
       let month : row.month ≡ m = cc in
       (λ i. month_charge (stands.rates i) (month i) (table_base t.wages (employer i) (month i))) ∙ ap (month_charge (rates_of b) m) (base_same m lines is)
 
-  book_charge-given : (m : ℕ) → book_charge b e m ≡ given (row_charge t) (filter (is_of e) t.reports) m
-  book_charge-given m =
+  -- the contribution of a month is that of its report row
+  pub book_charge-found : (m : ℕ) → book_charge b e m ≡ option_map (row_charge t) (find_row report_key t.reports (e ∷ m ∷ []))
+  book_charge-found m =
       told (find_row report_key t.reports (e ∷ m ∷ [])) (latest_lines b.entries e m) refl refl (stands.reports e m)
-      ∙ sym (given-found e (row_charge t) t.reports m)
     where
       told : (o : Option ReportRow) (latest : Option (List WageLine)) → find_row report_key t.reports (e ∷ m ∷ []) ≡ o → latest_lines b.entries e m ≡ latest → option_map (λ (row : ReportRow). row.version) o ≡ option_map (λ (lines : List WageLine). version_of b.entries e m) latest → reported_charge b m latest ≡ option_map (row_charge t) o
       told None None found is same = refl
       told None (Some lines) found is same = absurd (cc)
       told (Some row) None found is same = absurd (cc)
       told (Some row) (Some lines) found is same = ap Some (sym (charge_same m row lines (found_key report_key t.reports (e ∷ m ∷ []) row found) is))
+
+  book_charge-given : (m : ℕ) → book_charge b e m ≡ given (row_charge t) (filter (is_of e) t.reports) m
+  book_charge-given m = book_charge-found m ∙ sym (given-found e (row_charge t) t.reports m)
 
   -- what a book has of the months is what the rows have, in their order
   over_months : {A : Type 0} (value : ReportRow → A) (h : ℕ → Option A) → ((m : ℕ) → h m ≡ given value (filter (is_of e) t.reports) m) → (n : ℕ) → n ≡ 2400 → map value (filter (is_of e) t.reports) ≡ filter_map h months

@@ -36,7 +36,7 @@ use Rattle.clear_laws.proofs.ListNumbersLemmas.{lists_left}
 use Rattle.clear_laws.proofs.RemindersLemmas.{reminders_left, runs_left}
 use Rattle.clear_laws.proofs.RequestLemmas.{requests_found, requests_still_in_order}
 use Rattle.clear_laws.proofs.SerialLemmas.{follow-last}
-use Rattle.clear_laws.proofs.TablesLemmas.{bank_left, credits_left, employer_rows_left, employers_left, rates_left, reports_left, wages_left}
+use Rattle.clear_laws.proofs.TablesLemmas.{bank_left, charges_left, credits_left, employer_rows_left, employers_left, rates_left, reports_left, wages_left}
 use Rattle.clear_laws.proofs.ClaimsLemmas.{claims_numbered}
 
 -- ---- a command that changes claims alone
@@ -68,6 +68,8 @@ module _ (b : Book) (t : Tables) (stands : Stands b t) (x : Entry) (of_claims : 
     reports_in_order = stands.reports_in_order;
     wages = wages_left b t stands x of_claims.no_report;
     wages_in_order = stands.wages_in_order;
+    charges = charges_left b t stands x of_claims.no_report of_claims.no_rates;
+    charges_in_order = stands.charges_in_order;
     bank = bank_left b t stands x of_claims.no_move of_claims.no_rows;
     bank_in_order = stands.bank_in_order;
     credits = credits_are;

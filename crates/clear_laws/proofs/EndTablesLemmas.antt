@@ -16,7 +16,7 @@ use Rattle.clear_book.specs.Tables.{Tables, Stands, employer_key, changed, membe
 use Rattle.clear_values.proofs.KeyedChangesLemmas.{find_row-put_row, length-put_row-there, AreInOrder-put_row}
 use Rattle.clear_laws.proofs.DistinctLemmas.{same_worker}
 use Rattle.clear_laws.proofs.JudgeLemmas.{unrefused}
-use Rattle.clear_laws.proofs.TablesLemmas.{employer_rows_left, rates_left, rest_left}
+use Rattle.clear_laws.proofs.TablesLemmas.{charges_left, employer_rows_left, rates_left, rest_left}
 
 module _ (b : Book) (t : Tables) (stands : Stands b t) (caller : Caller) (number day : ℕ) (end : MembershipEnd) (reply : Reply) where
   abbrev end_entry : Entry
@@ -53,7 +53,7 @@ module _ (b : Book) (t : Tables) (stands : Stands b t) (caller : Caller) (number
     ended_tables free =
         rest_left b t stands end_entry
         (record { no_report = refl; no_move = λ rows. refl; no_rows = refl; no_release = refl; no_claims = record { kept = λ claim. refl; none = λ last. refl }; no_list = refl })
-        free refl t.rates employers (rates_left b t stands end_entry refl) members (many ∙ employer_rows_left b t stands end_entry refl)
+        free refl t.rates employers (rates_left b t stands end_entry refl) (charges_left b t stands end_entry refl refl) members (many ∙ employer_rows_left b t stands end_entry refl)
         (AreInOrder-put_row employer_key t.employers ended_row stands.employers_in_order)
 
   pub Stands-ended : judge b (Do caller number day (EndMembership end)) ≡ new_reply reply → (member : Member) → member_of b.entries end.employer ≡ Some member

@@ -28,6 +28,7 @@ use Rattle.clear_laws.proofs.CreditsMadeLemmas.{credits_new, made_with}
 use Rattle.clear_laws.proofs.LinesLemmas.{references_new, references_new_there, serial_count-next}
 use Rattle.clear_laws.proofs.ListNumbersLemmas.{lists_left}
 use Rattle.clear_values.proofs.KeyedRowsLemmas.{AreNew, find_row-append, find_row-with_rows, AreInOrder-with_rows}
+use Rattle.clear_laws.proofs.TablesLemmas.{charges_left}
 use Rattle.clear_laws.proofs.VersionLemmas.{version_of-other}
 
 -- rows that are new to a list are so to each with the same look-ups
@@ -83,6 +84,8 @@ module _ (b : Book) (t : Tables) (stands : Stands b t) (caller : Caller) (number
     reports_in_order = stands.reports_in_order;
     wages = λ e m w. stands.wages e m w;
     wages_in_order = stands.wages_in_order;
+    charges = charges_left b t stands import refl refl;
+    charges_in_order = stands.charges_in_order;
     bank = λ reference.
         grown bank_key t.bank standing rows stands.bank new_lines_there (references_new b.entries file).0 reference
         ∙ ap (λ (all : List BankRow). find_row bank_key all reference) (sym stand_now);

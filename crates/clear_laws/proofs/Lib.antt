@@ -17,6 +17,7 @@ pub mod FirstLemmas
 pub mod FrontLemmas
 pub mod ImportTablesLemmas
 pub mod JudgeLemmas
+pub mod KeptChargesLemmas
 pub mod KeptLemmas
 pub mod LawsLemmas
 pub mod LimitsLemmas

@@ -2,12 +2,13 @@
 use Rattle.std.proofs.Common.{◌≡◌, ℕ, List, Option, Some, None, refl, sym, ap, ◌∙◌}
 use Rattle.std.specs.Option.{option_map}
 use Rattle.clear_values.specs.declared.rows.EmployerRow.{EmployerRow}
+use Rattle.clear_values.specs.declared.rows.KeptCharge.{KeptCharge}
 use Rattle.clear_values.specs.declared.rows.ReportRow.{ReportRow}
 use Rattle.clear_values.specs.declared.rows.WageRow.{WageRow}
 use Rattle.clear_book.specs.Accounts.{credit_key}
 use Rattle.clear_book.specs.Book.{Book}
 use Rattle.clear_values.specs.Keyed.{find_row, AreInOrder}
-use Rattle.clear_book.specs.Tables.{Tables, Stands, employer_key, report_key, wage_key, bank_key, request_key, member_in}
+use Rattle.clear_book.specs.Tables.{Tables, Stands, employer_key, report_key, wage_key, charge_key, bank_key, request_key, charge_at, charge_in, member_in}
 use Rattle.clear_values.proofs.KeyedLemmas.{found_key}
 use Rattle.clear_values.proofs.KeyedRowsLemmas.{same_rows}
 use Rattle.clear_values.proofs.KeyedChangesLemmas.{same_rows_by_key}
@@ -55,6 +56,17 @@ whole_wage x y keys amounts =
     let workers : x.worker ≡ y.worker = cc in
     (λ i. record { employer = employers i; month = months i; worker = workers i; gross = amounts i })
 
+-- employer, month and contribution make up the row
+whole_charge : (x y : KeptCharge) → charge_key x ≡ charge_key y → charge_in x ≡ charge_in y → x ≡ y
+whole_charge x y keys charges =
+    let employers : x.employer ≡ y.employer = cc in
+    (λ i. record { employer = employers i; month = (charges i).month; due = (charges i).due; cents = (charges i).cents })
+
+-- kept contributions in order are one where those of each month are
+pub same_by_month : (xs ys : List KeptCharge) → AreInOrder charge_key xs → AreInOrder charge_key ys → ((e m : ℕ) → charge_at xs e m ≡ charge_at ys e m) → xs ≡ ys
+same_by_month xs ys left right same =
+    same_rows_by_value charge_key charge_in whole_charge xs ys left right (λ row. same row.employer row.month)
+
 -- ---- each table, then all
 
 module _ (b : Book) (t u : Tables) (left : Stands b t) (right : Stands b u) where
@@ -75,6 +87,11 @@ module _ (b : Book) (t u : Tables) (left : Stands b t) (right : Stands b u) wher
   same_wages =
       same_rows_by_value wage_key (λ row. row.gross) whole_wage t.wages u.wages left.wages_in_order right.wages_in_order
       (λ row. left.wages row.employer row.month row.worker ∙ sym (right.wages row.employer row.month row.worker))
+
+  -- the kept contributions agree
+  same_charges : t.charges ≡ u.charges
+  same_charges =
+      same_by_month t.charges u.charges left.charges_in_order right.charges_in_order (λ e m. left.charges e m ∙ sym (right.charges e m))
 
   -- the bank lines agree
   same_bank : t.bank ≡ u.bank
@@ -111,6 +128,7 @@ module _ (b : Book) (t u : Tables) (left : Stands b t) (right : Stands b u) wher
         employers = same_employers i;
         reports = same_reports i;
         wages = same_wages i;
+        charges = same_charges i;
         bank = same_bank i;
         credits = same_credits i;
         claims = claims i;

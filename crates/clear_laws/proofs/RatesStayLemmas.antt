@@ -1,48 +1,45 @@
 -- No later entry changes the rates of a month that has a report: the month isn't ahead of the day of the report, days never go back, and new rates begin behind the month of their day.
-use Rattle.std.proofs.Common.{◌≡◌, ℕ, ◌+◌, ◌<◌, ◌≤◌, ◌⊎◌, ⊎_elim, List, [], ◌∷◌, ◌++◌, Option, Some, None, IsSome, is_some, true, false, cond, nat_le, nat_lt, refl, ap, ◌∙◌, subst, arith}
-use Rattle.std.proofs.lemmas.Bool.{cases_order}
+use Rattle.std.proofs.Common.{◌≡◌, ℕ, ◌<◌, ◌≤◌, ⊎_elim, List, [], ◌∷◌, ◌++◌, Option, Some, None, IsSome, is_some, true, false, cond, nat_le, nat_lt, refl, ap, ◌∙◌, subst, arith}
 use Rattle.std.proofs.lemmas.Bool.Decides.{nat_tests}
 use Rattle.std.proofs.lemmas.List.{append-nil}
+use Rattle.std.proofs.lemmas.List.Sums.{sum_by-le-sum_by}
 use Rattle.std.proofs.lemmas.Option.{cond_some}
-use Rattle.clear_money.specs.Calendar.{IsDay, month_of}
+use Rattle.clear_money.specs.Calendar.{calendar_months, day_in, month_of}
 use Rattle.clear_money.specs.Rates.{Rate, later_row, rate_in_force}
-use Rattle.clear_money.proofs.MonthLemmas.{first_day-mono, month_of-lies}
+use Rattle.clear_values.specs.declared.callers.Caller.{Caller}
+use Rattle.clear_values.specs.declared.replies.Reply.{Reply}
 use Rattle.clear_values.specs.declared.texts.WageLine.{WageLine}
+use Rattle.clear_book.specs.declared.calls.Call.TheVariants.{Do}
 use Rattle.clear_book.specs.declared.calls.Command.{Command}
 use Rattle.clear_book.specs.declared.calls.Command.TheVariants.{AddRate, Report, Correct}
 use Rattle.clear_book.specs.declared.calls.WageReport.{WageReport}
 use Rattle.clear_book.specs.declared.rules.Rule.TheVariants.{DayBack, MonthAhead}
 use Rattle.clear_book.specs.Book.{Book, Entry, RateTable, is_for, latest_lines, ledger_day, member_of, newer, rates_added, rates_behind, rates_of, reported_by, reported_version}
-use Rattle.clear_book.specs.Judge.{day_back, own_rule}
-use Rattle.clear_book.specs.Machine.{AreJudged}
+use Rattle.clear_book.specs.Judge.{day_back, judge, new_reply, own_rule}
+use Rattle.clear_book.specs.Machine.{AreJudged, IsLawful}
 use Rattle.clear_book.specs.Own.Correct.{correct_rules}
 use Rattle.clear_book.specs.Own.Report.{report_rules}
 use Rattle.clear_laws.proofs.ChecksLemmas.{none_applies, when-none}
 use Rattle.clear_laws.proofs.JudgeLemmas.{unrefused}
-use Rattle.clear_laws.proofs.LimitsLemmas.{accepted, latest_means, not_early}
+use Rattle.clear_laws.proofs.LimitsLemmas.{latest_means, not_early}
 use Rattle.clear_laws.proofs.VersionLemmas.{key_is}
 
 -- the month of a later day is the same one or a later
-month_of-mono : (t u : ℕ) → IsDay t → IsDay u → t ≤ u → month_of t ≤ month_of u
-month_of-mono t u day later le =
-    ⊎_elim
-    (λ (e : month_of t ≡ month_of u). omega (arith, e))
-    (λ (h : (month_of t < month_of u) ⊎ (month_of u < month_of t)). ⊎_elim (λ (lt : month_of t < month_of u). omega arith) (λ (gt : month_of u < month_of t). absurd (never gt)) h)
-    (cases_order (month_of t) (month_of u))
+month_of-mono : (t u : ℕ) → t ≤ u → month_of t ≤ month_of u
+unfolding month_of
+month_of-mono t u le =
+    let counts = sum_by-le-sum_by (λ (m : ℕ). cond {A = ℕ} (nat_le (day_in m 1) t) 1 0) (λ (m : ℕ). cond {A = ℕ} (nat_le (day_in m 1) u) 1 0) calendar_months (λ m. begun (day_in m 1)) in
+    omega (arith, counts)
   where
-    never : month_of u < month_of t → ⊥
-    never gt =
-        let from = (month_of-lies t day).from in
-        let to = (month_of-lies u later).to in
-        let low = (month_of-lies u later).low in
-        omega (arith, le, from, to, first_day-mono (month_of u + 1) (month_of t) (omega arith) (omega arith))
+    begun : (first : ℕ) → cond {A = ℕ} (nat_le first t) 1 0 ≤ cond {A = ℕ} (nat_le first u) 1 0
+    begun first = grind (arith, nat_tests)
 
 -- ---- a reported month has come
 
 -- the month isn't ahead of the ledger day
 abbrev HasCome : Option ℕ → ℕ → Type 0
 HasCome None m = ⊥
-HasCome (Some ledger) m = IsDay ledger × (m ≤ month_of ledger)
+HasCome (Some ledger) m = m ≤ month_of ledger
 
 chosen_come : (e m t : ℕ) (r : WageReport) (lines : List WageLine) → cond (is_for e m r) (Some r.lines) None ≡ Some lines → nat_lt (month_of t) r.month ≡ false → m ≤ month_of t
 chosen_come e m t r lines h not_ahead =
@@ -63,30 +60,24 @@ reported_come b t (Correct c) e m lines own h =
 reported_come b t command e m lines own h = absurd (cc)
 
 -- a month that has come isn't ahead of a day that doesn't go back
-still_come : (ledger : Option ℕ) (t m : ℕ) → day_back ledger t ≡ None → IsDay t → HasCome ledger m → m ≤ month_of t
-still_come None t m back day come = absurd come
-still_come (Some ledger) t m back day come =
-    let month = come.1 in
-    omega (arith, month, month_of-mono ledger t come.0 day (not_back (when-none (nat_lt t ledger) (DayBack ledger) back)))
+still_come : (ledger : Option ℕ) (t m : ℕ) → day_back ledger t ≡ None → HasCome ledger m → m ≤ month_of t
+still_come None t m back come = absurd come
+still_come (Some ledger) t m back come =
+    omega (arith, come, month_of-mono ledger t (not_back (when-none (nat_lt t ledger) (DayBack ledger) back)))
   where
     not_back : nat_lt t ledger ≡ false → ledger ≤ t
     not_back k = grind (arith, nat_tests)
 
 module _ (rates : RateTable) where
-  next_come : (x : Entry) (xs : List Entry) (m : ℕ) → AreJudged rates (x ∷ xs) → HasCome (ledger_day xs) m → m ≤ month_of x.day
-  next_come x xs m h come =
-      let b : Book = record { opening = rates; entries = xs } in
-      still_come (ledger_day xs) x.day m (unrefused b x.caller x.number x.day x.command x.reply h.2).in_order h.1.2 come
-
   lawful_come : (xs : List Entry) → AreJudged rates xs → (e m : ℕ) (lines : List WageLine) → latest_lines xs e m ≡ Some lines → HasCome (ledger_day xs) m
   lawful_come [] h e m lines is = absurd (cc)
-  lawful_come (x ∷ xs) h e m lines is = (
-    h.1.2,
-    ⊎_elim
-        (λ (new : reported_by x.command e m ≡ Some lines). reported_come (record { opening = rates; entries = xs }) x.day x.command e m lines (accepted rates x xs h).1 new)
-        (λ (old : latest_lines xs e m ≡ Some lines). next_come x xs m h (lawful_come xs h.0 e m lines old))
-        (latest_means (reported_by x.command e m) (latest_lines xs e m) lines is),
-  )
+  lawful_come (x ∷ xs) h e m lines is =
+      let b : Book = record { opening = rates; entries = xs } in
+      let said = unrefused b x.caller x.number x.day x.command x.reply h.2 in
+      ⊎_elim
+      (λ (new : reported_by x.command e m ≡ Some lines). reported_come b x.day x.command e m lines said.unruled new)
+      (λ (old : latest_lines xs e m ≡ Some lines). still_come (ledger_day xs) x.day m said.in_order (lawful_come xs h.0 e m lines old))
+      (latest_means (reported_by x.command e m) (latest_lines xs e m) lines is)
 
   come : (xs : List Entry) → AreJudged rates xs → (e m : ℕ) → IsSome (latest_lines xs e m) → HasCome (ledger_day xs) m
   come xs h e m there = told (latest_lines xs e m) refl there
@@ -121,9 +112,16 @@ added_behind b t (AddRate row) m own come =
     rate-behind (rates_of b) row m (omega (arith, late, come))
 added_behind b t command m own come = ap (λ (rates : List Rate). rate_in_force rates m) (append-nil (rates_of b))
 
+-- so an accepted command leaves the rates of each month that has a report
+pub rates_left_there : (b : Book) → IsLawful b → (caller : Caller) (number day : ℕ) (command : Command) (reply : Reply) → judge b (Do caller number day command) ≡ new_reply reply
+    → (e m : ℕ) → IsSome (latest_lines b.entries e m) → rate_in_force (rates_of b ++ rates_added command) m ≡ rate_in_force (rates_of b) m
+rates_left_there b lawful caller number day command reply judged e m there =
+    let said = unrefused b caller number day command reply judged in
+    added_behind b day command m said.unruled (still_come (ledger_day b.entries) day m said.in_order (come b.opening b.entries lawful e m there))
+
+-- and so do all later entries
 pub rates_stay : (rates : RateTable) (more xs : List Entry) → AreJudged rates (more ++ xs) → (e m : ℕ) → IsSome (latest_lines xs e m) → rate_in_force (rates_behind rates (more ++ xs)) m ≡ rate_in_force (rates_behind rates xs) m
 rates_stay rates [] xs h e m there = refl
 rates_stay rates (x ∷ more) xs h e m there =
-    added_behind (record { opening = rates; entries = more ++ xs }) x.day x.command m (accepted rates x (more ++ xs) h).1
-    (next_come rates x (more ++ xs) m h (come rates (more ++ xs) h.0 e m (still_reported more xs e m there)))
+    rates_left_there (record { opening = rates; entries = more ++ xs }) h.0 x.caller x.number x.day x.command x.reply h.2 e m (still_reported more xs e m there)
     ∙ rates_stay rates more xs h.0 e m there

@@ -16,7 +16,7 @@ use Rattle.clear_book.specs.Reminders.{reminders_due, reminders_of, runs_of}
 use Rattle.clear_book.specs.Tables.{Tables, Stands, reminder_key, run_key, changed, noted}
 use Rattle.clear_laws.proofs.JudgeLemmas.{unrefused}
 use Rattle.clear_laws.proofs.RemindersLemmas.{reminders_last, run_last}
-use Rattle.clear_laws.proofs.TablesLemmas.{employer_rows_left, employers_left, rates_left, rest_with_runs}
+use Rattle.clear_laws.proofs.TablesLemmas.{charges_left, employer_rows_left, employers_left, rates_left, rest_with_runs}
 
 module _ (b : Book) (t : Tables) (stands : Stands b t) (caller : Caller) (number day : ℕ) where
   -- the tables with a run of this number and these reminders
@@ -32,7 +32,7 @@ module _ (b : Book) (t : Tables) (stands : Stands b t) (caller : Caller) (number
       let reminders : with_rows reminder_key t.reminders rows ≡ reminders_of b ++ reminders_due b day =
       (λ i. with_rows reminder_key (stands.reminders i) (are i)) ∙ reminders_last b lawful day in
       rest_with_runs b t stands x (record { no_report = refl; no_move = λ rows. refl; no_rows = refl; no_release = refl; no_claims = record { kept = λ claim. refl; none = λ last. refl }; no_list = refl })
-      free t.rates t.employers (rates_left b t stands x refl) (employers_left b t stands x (λ e old. refl)) (employer_rows_left b t stands x refl) stands.employers_in_order
+      free t.rates t.employers (rates_left b t stands x refl) (charges_left b t stands x refl refl) (employers_left b t stands x (λ e old. refl)) (employer_rows_left b t stands x refl) stands.employers_in_order
       (with_row run_key t.runs row) (t.last_run + 1) (with_rows reminder_key t.reminders rows) runs more reminders
 
   pub run_takes : IsLawful b → (reply : Reply) → judge b (Do caller number day RemindRun) ≡ new_reply reply → (n : ℕ) (rows : List ReminderRow) → n ≡ length (runs_of b.entries) + 1 → rows ≡ reminders_due b day

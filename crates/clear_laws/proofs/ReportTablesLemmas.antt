@@ -1,6 +1,7 @@
 -- The tables of a book, after a report or a correction more.
-use Rattle.std.proofs.Common.{◌≡◌, ℕ, ◌+◌, List, [], ◌∷◌, length, Option, Some, None, Bool, true, false, cond, ◌&&◌, ◌==◌, refl, sym, ap, ◌∙◌, subst, arith}
+use Rattle.std.proofs.Common.{◌≡◌, ℕ, ◌+◌, List, [], ◌∷◌, length, Option, Some, None, IsSome, is_some, Bool, true, false, cond, ◌&&◌, ◌==◌, refl, sym, ap, ◌∙◌, subst, arith}
 use Rattle.std.specs.Option.{option_map}
+use Rattle.clear_money.specs.Rates.{Rate, rate_in_force}
 use Rattle.clear_book.specs.declared.calls.Call.TheVariants.{Do}
 use Rattle.clear_values.specs.declared.callers.Caller.{Caller}
 use Rattle.clear_book.specs.declared.calls.Command.TheVariants.{Report, Correct}
@@ -10,12 +11,14 @@ use Rattle.clear_values.specs.declared.replies.Reply.{Reply}
 use Rattle.clear_values.specs.declared.rows.Change.TheVariants.{AddReport, ReplaceReport}
 use Rattle.clear_values.specs.declared.rows.BankRow.{BankRow}
 use Rattle.clear_values.specs.declared.rows.ClaimRow.{ClaimRow}
+use Rattle.clear_values.specs.declared.rows.KeptCharge.{KeptCharge}
 use Rattle.clear_values.specs.declared.rows.ListRow.{ListRow}
 use Rattle.clear_values.specs.declared.rows.RunRow.{RunRow}
 use Rattle.clear_values.specs.declared.rows.ReportRow.{ReportRow}
 use Rattle.clear_values.specs.declared.rows.WageRow.{WageRow}
 use Rattle.clear_values.specs.declared.texts.WageLine.{WageLine}
-use Rattle.clear_book.specs.Book.{Book, Entry, Member, entry, entry_under, is_for, newer, member_after, member_of, is_registration, reported_by, latest_lines, is_report_of, version_of, reported_version, rates_added}
+use Rattle.clear_book.specs.Accounts.{base_of, book_charge, kept_charge, month_charge, reported_charge}
+use Rattle.clear_book.specs.Book.{Book, Entry, Member, entry, entry_under, is_for, newer, member_after, member_of, is_registration, reported_by, latest_lines, is_report_of, version_of, reported_version, rates_added, rates_of}
 use Rattle.clear_book.specs.Calls.{is_remind_run}
 use Rattle.clear_book.specs.Judge.{Verdict, new_reply, judge}
 use Rattle.clear_values.specs.Keyed.{find_row, put_row}
@@ -24,7 +27,7 @@ use Rattle.clear_book.specs.Machine.{step, after, appended}
 use Rattle.clear_book.specs.Own.Correct.{own_correct, correct_rules}
 use Rattle.clear_book.specs.Own.Lines.{twice_rule, worker_twice}
 use Rattle.clear_book.specs.Own.Report.{own_report, report_rules}
-use Rattle.clear_book.specs.Tables.{Tables, Stands, report_key, version_at, gross_at, gross_of, reported_gross, with_wages, changed, noted}
+use Rattle.clear_book.specs.Tables.{Tables, Stands, charge_at, charge_in, charge_key, report_key, version_at, gross_at, gross_of, reported_gross, with_wages, changed, noted}
 use Rattle.clear_book.specs.Workers.{lists_by}
 use Rattle.clear_laws.proofs.ChecksLemmas.{none_applies}
 use Rattle.clear_laws.proofs.DistinctLemmas.{AreDistinct, distinct}
@@ -35,7 +38,7 @@ use Rattle.clear_laws.proofs.LinesLemmas.{none_taken}
 use Rattle.clear_laws.proofs.ListNumbersLemmas.{lists_left}
 use Rattle.clear_laws.proofs.RemindersLemmas.{reminders_left, runs_left}
 use Rattle.clear_laws.proofs.RequestLemmas.{requests_found, requests_still_in_order}
-use Rattle.clear_laws.proofs.TablesLemmas.{bank_left, credits_left, employer_rows_left, employers_left, no_map, rates_left}
+use Rattle.clear_laws.proofs.TablesLemmas.{bank_left, credits_left, employer_rows_left, employers_left, no_map, rates_left, same_charge, same_rates}
 use Rattle.clear_laws.proofs.VersionLemmas.{is_some-cond, version_of-other, version_of-more, version_of-none, unreported, corrected, reported_some, reported_none, key_is}
 use Rattle.clear_laws.proofs.WagesLemmas.{gross_at-with_wages, with_wages-in_order, with_wages-first}
 
@@ -68,6 +71,17 @@ pub record Reports (xs : List Entry) (x : Entry) (r : WageReport) : Type 0 where
   pub no_list : lists_by x.day x.reply x.command ≡ []
   pub no_run : is_remind_run x.command ≡ false
   pub no_rates : rates_added x.command ≡ []
+
+-- the contribution of a month with a report is kept
+is_kept : (b : Book) (m : ℕ) (o : Option KeptCharge) (latest : Option (List WageLine)) → option_map charge_in o ≡ reported_charge b m latest → IsSome latest → is_some o ≡ true
+is_kept b m (Some row) latest kept there = refl
+is_kept b m None (Some lines) kept there = absurd (cc)
+is_kept b m None None kept there = absurd (cc)
+
+-- a month whose latest report has a version has one
+has_lines : (n v : ℕ) (latest : Option (List WageLine)) → option_map (λ lines. n) latest ≡ Some v → IsSome latest
+has_lines n v None h = absurd (cc)
+has_lines n v (Some lines) h = refl
 
 abbrev version_in : ReportRow → ℕ
 version_in row = row.version
@@ -103,9 +117,26 @@ module _ (b : Book) (t : Tables) (stands : Stands b t) (x : Entry) (r : WageRepo
       ∙ gross_found (is_for e m r) (gross_at t.wages e m w) (latest_lines b.entries e m) w (stands.wages e m w)
       ∙ ap (λ (o : Option (List WageLine)). reported_gross (newer o (latest_lines b.entries e m)) w) (sym (reports.lines e m))
 
-  -- the month's row and wages in the place of what stood
-  pub replaced_tables : Stands (appended b x) (noted x (changed (ReplaceReport row r.lines) t))
-  replaced_tables = record {
+  -- the contribution for the report
+  abbrev charge : KeptCharge
+  charge = kept_charge (rate_in_force (rates_of b) r.month) r.employer r.month r.lines
+
+  charge_found : (e m : ℕ) (p q : Bool) (o : Option KeptCharge) (latest : Option (List WageLine)) → option_map charge_in o ≡ reported_charge b m latest → (p && q ≡ true → r.month ≡ m)
+      → option_map charge_in (cond (p && (q && true)) (Some charge) o) ≡ reported_charge b m (newer (cond (p && q) (Some r.lines) None) latest)
+  charge_found e m true true o latest old here = ap (λ (n : ℕ). Some (month_charge (rates_of b) n (base_of r.lines))) (here refl)
+  charge_found e m true false o latest old here = old
+  charge_found e m false q o latest old here = old
+
+  charges : (e m : ℕ) → charge_at (put_row charge_key t.charges charge) e m ≡ book_charge (appended b x) e m
+  charges e m =
+      ap (option_map charge_in) (find_row-put_row charge_key t.charges charge (e ∷ m ∷ []))
+      ∙ charge_found e m (r.employer == e) (r.month == m) (find_row charge_key t.charges (e ∷ m ∷ [])) (latest_lines b.entries e m) (stands.charges e m) (λ is. (key_is r.employer e r.month m is).1)
+      ∙ ap (λ (o : Option (List WageLine)). reported_charge b m (newer o (latest_lines b.entries e m))) (sym (reports.lines e m))
+      ∙ same_charge b (appended b x) m (latest_lines (x ∷ b.entries) e m) (λ there. ap (λ (rates : List Rate). rate_in_force rates m) (same_rates b x reports.no_rates))
+
+  -- the month's row, wages and contribution in the place of what stood
+  put_tables : Stands (appended b x) (noted x (record t { reports = put_row report_key t.reports row; wages = with_wages r.employer r.month r.lines t.wages; charges = put_row charge_key t.charges charge }))
+  put_tables = record {
     rates = rates_left b t stands x reports.no_rates;
     day = refl;
     entries = omega (arith, stands.entries);
@@ -116,6 +147,8 @@ module _ (b : Book) (t : Tables) (stands : Stands b t) (x : Entry) (r : WageRepo
     reports_in_order = AreInOrder-put_row report_key t.reports row stands.reports_in_order;
     wages = gross;
     wages_in_order = with_wages-in_order r.employer r.month r.lines t.wages apart stands.wages_in_order;
+    charges = charges;
+    charges_in_order = AreInOrder-put_row charge_key t.charges charge stands.charges_in_order;
     bank = bank_left b t stands x reports.no_move reports.no_rows;
     bank_in_order = stands.bank_in_order;
     credits = credits_left b t stands x reports.no_move reports.no_rows reports.no_release;
@@ -132,34 +165,43 @@ module _ (b : Book) (t : Tables) (stands : Stands b t) (x : Entry) (r : WageRepo
     serial = stands.serial ∙ sym (none_taken b.entries x reports.no_rows reports.no_release);
   }
 
+  -- for a month that has a report, whose contribution is kept
+  pub replaced_tables : IsSome (latest_lines b.entries r.employer r.month) → Stands (appended b x) (noted x (changed (ReplaceReport row r.lines charge) t))
+  replaced_tables there =
+      subst (λ (p : Bool). Stands (appended b x) (noted x (record t { reports = put_row report_key t.reports row; wages = with_wages r.employer r.month r.lines t.wages; charges = cond p (put_row charge_key t.charges charge) t.charges })))
+      (sym (is_kept b r.month (find_row charge_key t.charges (r.employer ∷ r.month ∷ [])) (latest_lines b.entries r.employer r.month) (stands.charges r.employer r.month) there)) put_tables
+
   -- for a month that has none, they are one more
-  pub first_tables : find_row report_key t.reports (r.employer ∷ r.month ∷ []) ≡ None → ((w : ℕ) → gross_at t.wages r.employer r.month w ≡ None) → Stands (appended b x) (noted x (changed (AddReport row r.lines) t))
-  first_tables no_row no_wages =
-      subst (λ (p : List ReportRow × List WageRow). Stands (appended b x) (noted x (record t { reports = p.0; wages = p.1 })))
-      (λ i. (put_row-new report_key t.reports row no_row i, with_wages-first r.employer r.month r.lines t.wages no_wages i))
-      replaced_tables
+  pub first_tables : latest_lines b.entries r.employer r.month ≡ None → Stands (appended b x) (noted x (changed (AddReport row r.lines charge) t))
+  first_tables none =
+      let no_row = no_map version_in (find_row report_key t.reports (r.employer ∷ r.month ∷ [])) (stands.reports r.employer r.month ∙ ap (option_map (λ (lines : List WageLine). version_of b.entries r.employer r.month)) none) in
+      let no_wages = λ (w : ℕ). stands.wages r.employer r.month w ∙ ap (λ (o : Option (List WageLine)). reported_gross o w) none in
+      let no_charge = no_map charge_in (find_row charge_key t.charges (r.employer ∷ r.month ∷ [])) (stands.charges r.employer r.month ∙ ap (reported_charge b r.month) none) in
+      subst (λ (p : List ReportRow × List WageRow × List KeptCharge). Stands (appended b x) (noted x (record t { reports = p.0; wages = p.1; charges = p.2 })))
+      (λ i. (put_row-new report_key t.reports row no_row i, with_wages-first r.employer r.month r.lines t.wages no_wages i, put_row-new charge_key t.charges charge no_charge i))
+      put_tables
 
 -- ---- the two commands
 
 module _ (b : Book) (t : Tables) (stands : Stands b t) (caller : Caller) (number day : ℕ) where
   pub Stands-reported : (r : WageReport) (reply : Reply) → judge b (Do caller number day (Report r)) ≡ new_reply reply → (lines : List WageLine) → lines ≡ r.lines
-      → Stands (step b (Do caller number day (Report r))) (noted (entry caller number day (Report r) reply) (changed (AddReport (record { employer = r.employer; month = r.month; version = 1 }) lines) t))
-  Stands-reported r reply judged lines same =
+      → (charge : KeptCharge) → charge ≡ kept_charge (rate_in_force (rates_of b) r.month) r.employer r.month r.lines
+      → Stands (step b (Do caller number day (Report r))) (noted (entry caller number day (Report r) reply) (changed (AddReport (record { employer = r.employer; month = r.month; version = 1 }) lines charge) t))
+  Stands-reported r reply judged lines same charge charged =
       let said = unrefused b caller number day (Report r) reply judged in
       let own = said.unruled in
-      let none = unreported (member_of b.entries r.employer) (reported_version b.entries r.employer r.month) day r.month r.lines own in
-      let no_lines = reported_none b.entries r.employer r.month none in
+      let no_lines = reported_none b.entries r.employer r.month (unreported (member_of b.entries r.employer) (reported_version b.entries r.employer r.month) day r.month r.lines own) in
       let zero : version_of b.entries r.employer r.month ≡ 0 = version_of-none b.entries r.employer r.month no_lines in
       let x = entry caller number day (Report r) reply in
       let there = first_tables b t stands x r (record { lines = λ e m. refl; counted = λ e m. is_some-cond (is_for e m r) r.lines; no_member = λ e old. refl; no_registration = refl; no_move = λ rows. refl; no_rows = refl; no_release = refl; no_claims = record { kept = λ claim. refl; none = λ last. refl }; no_list = refl; no_run = refl; no_rates = refl }) 1 (omega (arith, zero))
-      (report_distinct (member_of b.entries r.employer) (reported_version b.entries r.employer r.month) day r.month r.lines own) said.free
-      (no_map version_in (find_row report_key t.reports (r.employer ∷ r.month ∷ [])) (stands.reports r.employer r.month ∙ none))
-      (λ w. stands.wages r.employer r.month w ∙ ap (λ (o : Option (List WageLine)). reported_gross o w) no_lines) in
-      subst (λ (p : Verdict × List WageLine). Stands (after b (Do caller number day (Report r)) p.0) (noted x (changed (AddReport (record { employer = r.employer; month = r.month; version = 1 }) p.1) t))) (λ i. (sym judged i, sym same i)) there
+      (report_distinct (member_of b.entries r.employer) (reported_version b.entries r.employer r.month) day r.month r.lines own) said.free no_lines in
+      subst (λ (p : Verdict × List WageLine × KeptCharge). Stands (after b (Do caller number day (Report r)) p.0) (noted x (changed (AddReport (record { employer = r.employer; month = r.month; version = 1 }) p.1 p.2) t)))
+      (λ i. (sym judged i, sym same i, sym charged i)) there
 
   pub Stands-corrected : (c : Correction) (reply : Reply) → judge b (Do caller number day (Correct c)) ≡ new_reply reply → (version : ℕ) → version ≡ c.version + 1 → (lines : List WageLine) → lines ≡ c.report.lines
-      → Stands (step b (Do caller number day (Correct c))) (noted (entry caller number day (Correct c) reply) (changed (ReplaceReport (record { employer = c.report.employer; month = c.report.month; version = version }) lines) t))
-  Stands-corrected c reply judged version more lines same =
+      → (charge : KeptCharge) → charge ≡ kept_charge (rate_in_force (rates_of b) c.report.month) c.report.employer c.report.month c.report.lines
+      → Stands (step b (Do caller number day (Correct c))) (noted (entry caller number day (Correct c) reply) (changed (ReplaceReport (record { employer = c.report.employer; month = c.report.month; version = version }) lines charge) t))
+  Stands-corrected c reply judged version more lines same charge charged =
       let said = unrefused b caller number day (Correct c) reply judged in
       let own = said.unruled in
       let member = member_of b.entries c.report.employer in
@@ -167,5 +209,7 @@ module _ (b : Book) (t : Tables) (stands : Stands b t) (caller : Caller) (number
       let now : version_of b.entries c.report.employer c.report.month ≡ c.version = reported_some b.entries c.report.employer c.report.month c.version latest.0 in
       let x = entry caller number day (Correct c) reply in
       let there = replaced_tables b t stands x c.report (record { lines = λ e m. refl; counted = λ e m. is_some-cond (is_for e m c.report) c.report.lines; no_member = λ e old. refl; no_registration = refl; no_move = λ rows. refl; no_rows = refl; no_release = refl; no_claims = record { kept = λ claim. refl; none = λ last. refl }; no_list = refl; no_run = refl; no_rates = refl }) version (omega (arith, now, more))
-      (correction_distinct member (reported_version b.entries c.report.employer c.report.month) day c own) said.free in
-      subst (λ (p : Verdict × List WageLine). Stands (after b (Do caller number day (Correct c)) p.0) (noted x (changed (ReplaceReport (record { employer = c.report.employer; month = c.report.month; version = version }) p.1) t))) (λ i. (sym judged i, sym same i)) there
+      (correction_distinct member (reported_version b.entries c.report.employer c.report.month) day c own) said.free
+      (has_lines _ c.version (latest_lines b.entries c.report.employer c.report.month) latest.0) in
+      subst (λ (p : Verdict × List WageLine × KeptCharge). Stands (after b (Do caller number day (Correct c)) p.0) (noted x (changed (ReplaceReport (record { employer = c.report.employer; month = c.report.month; version = version }) p.1 p.2) t)))
+      (λ i. (sym judged i, sym same i, sym charged i)) there

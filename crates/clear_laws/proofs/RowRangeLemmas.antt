@@ -8,6 +8,9 @@ use Rattle.clear_bank.specs.Newness.{Placed, is_new}
 use Rattle.clear_values.specs.Ranges.{IsBankLine}
 use Rattle.clear_money.specs.Calendar.{IsMonth, IsDay}
 use Rattle.clear_money.specs.Numbers.{IsAmount, IsEmployerNo, IsWorkerNo}
+use Rattle.clear_money.specs.Rates.{IsRate, Rate, rate_in_force}
+use Rattle.clear_money.proofs.MonthLemmas.{day_in-is_day, month_length_bounds}
+use Rattle.clear_account.specs.declared.entries.Charge.{Charge}
 use Rattle.clear_values.specs.declared.texts.WageLine.{WageLine}
 use Rattle.clear_book.specs.declared.calls.Command.{Command}
 use Rattle.clear_book.specs.declared.calls.Command.TheVariants.{Register, EndMembership, Report, Correct, ImportBank, Assign, Claim, Release, PayoutList, RemindRun}
@@ -17,9 +20,10 @@ use Rattle.clear_values.specs.declared.rows.BankRow.{BankRow}
 use Rattle.clear_values.specs.declared.rows.ClaimRow.{ClaimRow}
 use Rattle.clear_values.specs.declared.rows.CreditRow.{CreditRow}
 use Rattle.clear_values.specs.declared.rows.EmployerRow.{EmployerRow}
+use Rattle.clear_values.specs.declared.rows.KeptCharge.{KeptCharge}
 use Rattle.clear_values.specs.declared.rows.ReportRow.{ReportRow}
 use Rattle.clear_values.specs.declared.rows.WageRow.{WageRow}
-use Rattle.clear_book.specs.Accounts.{credit_key}
+use Rattle.clear_book.specs.Accounts.{base_of, book_charge, credit_key, due_by, month_charge, reported_charge}
 use Rattle.clear_book.specs.Book.{Book, Entry, Member, ended, ledger_day, newer, member_after, member_of, is_for, reported_by, latest_lines, is_report_of, version_of, reported_version, RateTable, rates_of}
 use Rattle.clear_book.specs.Judge.{own_rule, reply_to}
 use Rattle.clear_values.specs.Keyed.{is_key, find_row, in_key_order}
@@ -30,16 +34,17 @@ use Rattle.clear_book.specs.Workers.{claim_of, claims_of}
 use Rattle.clear_book.specs.Calls.{IsWageLine, IsReport, IsCommand}
 use Rattle.clear_values.specs.Limits.{most_entries}
 use Rattle.clear_values.specs.Ranges.{AreRates}
-use Rattle.clear_values.specs.RowRanges.{IsSerial, IsReply, IsRequestRow, IsEmployerRow, IsReportRow, IsWageRow, IsBankRow, IsCreditRow, AreInRange, IsClaimRow, IsListRow, IsRunRow, IsReminderRow}
-use Rattle.clear_book.specs.Tables.{RequestRow, Tables, Stands, employer_key, report_key, wage_key, bank_key, claim_key, request_key, request_row, requests_of, gross_of, reported_gross, member_in}
+use Rattle.clear_values.specs.RowRanges.{IsSerial, IsReply, IsRequestRow, IsEmployerRow, IsReportRow, IsWageRow, IsKeptCharge, IsBankRow, IsCreditRow, AreInRange, IsClaimRow, IsListRow, IsRunRow, IsReminderRow}
+use Rattle.clear_book.specs.Tables.{RequestRow, Tables, Stands, employer_key, report_key, wage_key, charge_in, charge_key, bank_key, claim_key, request_key, request_row, requests_of, gross_of, reported_gross, member_in}
 use Rattle.clear_values.specs.Texts.{IsName}
 use Rattle.clear_laws.proofs.ClaimsLemmas.{claims-in-range, claims_few, room_for, settled_whole}
 use Rattle.clear_laws.proofs.CreditsLemmas.{credits-standing}
 use Rattle.clear_laws.proofs.DistinctLemmas.{same_worker}
 use Rattle.clear_laws.proofs.JudgeLemmas.{unrefused}
+use Rattle.clear_laws.proofs.KeptChargesLemmas.{charge_of_row}
 use Rattle.clear_values.proofs.KeyedChangesLemmas.{all_from_found, AllByRecursion-in_key_order, found_holds}
 use Rattle.clear_values.proofs.KeyedRowsLemmas.{ordered}
-use Rattle.clear_laws.proofs.LimitsLemmas.{lawful_rates, lawful_few, lawful_entries, few_lines, few_corrected, few_charge}
+use Rattle.clear_laws.proofs.LimitsLemmas.{lawful_rates, lawful_few, lawful_entries, few_lines, few_corrected, few_charge, rate_right}
 use Rattle.clear_laws.proofs.LinesLemmas.{of_standing, references_standing, serials_small}
 use Rattle.clear_laws.proofs.ListRangeLemmas.{last_list-in-range, lists-in-range, list-reply-in-range}
 use Rattle.clear_laws.proofs.ReminderRangeLemmas.{reminders_in_range}
@@ -167,6 +172,35 @@ wage_row rates xs h row is = told (latest_lines xs row.employer row.month) refl 
         let few = lawful_few rates xs h row.employer row.month lines latest in
         let line = gross-in-range lines row.worker row.gross within.2 few.small k in
         record { employer = within.0; month = within.1; worker = line.0; gross = line.1 }
+
+-- ---- kept contributions
+
+-- the day on which a month's contribution is due lies in the calendar
+due-in-range : (rate : Option Rate) (m : ℕ) → IsMonth m → ((r : Rate) → rate ≡ Some r → IsRate r) → IsDay (due_by rate m)
+due-in-range None m month right = (omega arith, omega arith)
+due-in-range (Some r) m month right =
+    let day = (right r refl).due_day in
+    let length = month_length_bounds (m + 1) in
+    let last = month.1 in
+    day_in-is_day (m + 1) r.due_day (omega (arith, month.0)) (omega (arith, last)) day.0 (omega (arith, day.1, length.0))
+
+-- so the row of a reported month's contribution is in range
+charge_row : (b : Book) → IsLawful b → (row : KeptCharge) → book_charge b row.employer row.month ≡ Some (charge_in row) → IsKeptCharge row
+charge_row b lawful row is = told (latest_lines b.entries row.employer row.month) refl is
+  where
+    told : (o : Option (List WageLine)) → latest_lines b.entries row.employer row.month ≡ o → reported_charge b row.month o ≡ Some (charge_in row) → IsKeptCharge row
+    told None latest k = absurd (cc k)
+    told (Some lines) latest k =
+        let within = latest-in-range b.opening b.entries lawful row.employer row.month lines latest in
+        let few = lawful_few b.opening b.entries lawful row.employer row.month lines latest in
+        let rates = (lawful_rates b.opening b.entries lawful).ranges in
+        let same : month_charge (rates_of b) row.month (base_of lines) ≡ charge_in row = cc in
+        record {
+          employer = within.0;
+          month = within.1;
+          due = subst (λ (c : Charge). IsDay c.due) same (due-in-range (rate_in_force (rates_of b) row.month) row.month within.1 (λ r there. rate_right (rates_of b) row.month r rates there));
+          cents = subst (λ (c : Charge). c.cents ≤ 5000000000) same (few_charge (rates_of b) row.month lines rates few);
+        }
 
 -- ---- bank lines
 
@@ -332,6 +366,12 @@ module _ (b : Book) (t : Tables) (lawful : IsLawful b) (stands : Stands b t) whe
       all_from_found wage_key IsWageRow t.wages stands.wages_in_order
       (λ row found. wage_row b.opening b.entries lawful row (sym (stands.wages row.employer row.month row.worker) ∙ ap (option_map (λ (r : WageRow). r.gross)) found))
 
+  -- the kept contributions
+  charges-in-range : AllByRecursion IsKeptCharge t.charges
+  charges-in-range =
+      all_from_found charge_key IsKeptCharge t.charges stands.charges_in_order
+      (λ row found. charge_row b lawful row (charge_of_row b t stands row.employer row.month row found))
+
   -- the bank lines
   bank-in-range : AllByRecursion IsBankRow t.bank
   bank-in-range =
@@ -360,6 +400,7 @@ rows_in_range b t lawful stands = record {
   employers = employers-in-range b t lawful stands;
   reports = reports-in-range b t lawful stands;
   wages = wages-in-range b t lawful stands;
+  charges = charges-in-range b t lawful stands;
   bank = bank-in-range b t lawful stands;
   credits = credits-in-range b t lawful stands;
   claims = subst (AllByRecursion IsClaimRow) (sym stands.claims) (claims-in-range b.opening b.entries lawful);

@@ -1,5 +1,5 @@
 -- The tables of a book, after an entry more that leaves some of them, and after a registration.
-use Rattle.std.proofs.Common.{◌≡◌, ℕ, List, ◌∷◌, [], ◌++◌, length, Option, Some, None, is_some, option_and_then, Bool, true, false, cond, ◌&&◌, ◌==◌, refl, sym, ap, ◌∙◌, subst, arith}
+use Rattle.std.proofs.Common.{◌≡◌, ℕ, List, ◌∷◌, [], ◌++◌, length, Option, Some, None, IsSome, is_some, option_and_then, Bool, true, false, cond, ◌&&◌, ◌==◌, refl, sym, ap, ◌∙◌, subst, arith}
 use Rattle.std.proofs.lemmas.List.{append-nil}
 use Rattle.std.proofs.lemmas.List.Sums.{sum_by-cons}
 use Rattle.std.specs.Option.{option_map}
@@ -8,7 +8,7 @@ use Rattle.clear_book.specs.declared.calls.Command.TheVariants.{Register}
 use Rattle.clear_book.specs.declared.calls.Call.TheVariants.{Do}
 use Rattle.clear_book.specs.declared.calls.Registration.{Registration}
 use Rattle.clear_book.specs.declared.calls.WageReport.{WageReport}
-use Rattle.clear_money.specs.Rates.{Rate}
+use Rattle.clear_money.specs.Rates.{Rate, rate_in_force}
 use Rattle.clear_values.specs.declared.replies.Reply.{Reply}
 use Rattle.clear_values.specs.declared.rows.BankRow.{BankRow}
 use Rattle.clear_values.specs.declared.rows.ClaimRow.{ClaimRow}
@@ -20,7 +20,7 @@ use Rattle.clear_values.specs.declared.rows.RunRow.{RunRow}
 use Rattle.clear_values.specs.declared.rows.Change.TheVariants.{AddEmployer}
 use Rattle.clear_values.specs.declared.texts.WageLine.{WageLine}
 use Rattle.clear_book.specs.Book.{Book, Entry, Member, entry, entry_under, newer, member_by, member_after, member_of, is_registration, employer_count, report_in, lines_for, reported_by, latest_lines, reported_version, version_of, rates_added, rates_of}
-use Rattle.clear_book.specs.Accounts.{credit_key}
+use Rattle.clear_book.specs.Accounts.{base_of, book_charge, contribution_of_base, credit_key, due_by, reported_charge}
 use Rattle.clear_book.specs.Calls.{is_remind_run}
 use Rattle.clear_book.specs.Judge.{Verdict, new_reply, judge}
 use Rattle.clear_book.specs.Own.Register.{own_register}
@@ -28,7 +28,7 @@ use Rattle.clear_values.specs.Keyed.{find_row, with_row, AreInOrder}
 use Rattle.clear_book.specs.Lines.{credits_made, is_release, lines_seen, lines_standing, moved_by, rows_by}
 use Rattle.clear_book.specs.Machine.{step, after, appended}
 use Rattle.clear_book.specs.Reminders.{reminders_of, runs_of}
-use Rattle.clear_book.specs.Tables.{Tables, Stands, employer_key, bank_key, changed, gross_at, member_at, noted, member_in, reported_gross, version_at}
+use Rattle.clear_book.specs.Tables.{Tables, Stands, employer_key, bank_key, changed, charge_at, gross_at, member_at, noted, member_in, reported_gross, version_at}
 use Rattle.clear_book.specs.Workers.{lists_by}
 use Rattle.clear_laws.proofs.ClaimsLemmas.{LeavesClaims, claims_left}
 use Rattle.clear_laws.proofs.JudgeLemmas.{unrefused}
@@ -46,10 +46,20 @@ no_map f (Some x) h = absurd (cc)
 
 -- ---- what an entry leaves
 
+-- the contribution of a reported month stays where its rate does
+pub same_charge : (b next : Book) (m : ℕ) (o : Option (List WageLine)) → (IsSome o → rate_in_force (rates_of next) m ≡ rate_in_force (rates_of b) m) → reported_charge b m o ≡ reported_charge next m o
+same_charge b next m None same = refl
+same_charge b next m (Some lines) same =
+    ap (λ (rate : Option Rate). Some (record { month = m; due = due_by rate m; cents = contribution_of_base rate (base_of lines) })) (sym (same refl))
+
+-- without a row of rates, the rates stay
+pub same_rates : (b : Book) (x : Entry) → rates_added x.command ≡ [] → rates_of (appended b x) ≡ rates_of b
+same_rates b x none = ap (λ more. rates_of b ++ more) none ∙ append-nil (rates_of b)
+
 module _ (b : Book) (t : Tables) (stands : Stands b t) (x : Entry) where
-  -- without a row of rates, the rates stay
+  -- and they are those of the next book
   pub rates_left : rates_added x.command ≡ [] → t.rates ≡ rates_of (appended b x)
-  rates_left none = stands.rates ∙ sym (ap (λ more. rates_of b ++ more) none ∙ append-nil (rates_of b))
+  rates_left none = stands.rates ∙ sym (same_rates b x none)
 
   -- where no employer is changed, they stay
   pub employers_left : ((e : ℕ) (old : Option Member) → member_after old x.command e ≡ old) → (e : ℕ) → member_at t.employers e ≡ member_of (x ∷ b.entries) e
@@ -74,6 +84,17 @@ module _ (b : Book) (t : Tables) (stands : Stands b t) (x : Entry) where
     pub wages_left : (e m w : ℕ) → gross_at t.wages e m w ≡ reported_gross (latest_lines (x ∷ b.entries) e m) w
     wages_left e m w = stands.wages e m w ∙ ap (λ (o : Option (List WageLine)). reported_gross (newer o (latest_lines b.entries e m)) w) (sym (no_lines e m))
 
+    -- the contributions stay where the rates of the reported months do
+    pub charges_kept : ((e m : ℕ) → IsSome (latest_lines b.entries e m) → rate_in_force (rates_of (appended b x)) m ≡ rate_in_force (rates_of b) m) → (e m : ℕ) → charge_at t.charges e m ≡ book_charge (appended b x) e m
+    charges_kept same e m =
+        stands.charges e m
+        ∙ same_charge b (appended b x) m (latest_lines b.entries e m) (same e m)
+        ∙ ap (λ (o : Option (List WageLine)). reported_charge (appended b x) m (newer o (latest_lines b.entries e m))) (sym (no_lines e m))
+
+    -- so without a row of rates they do
+    pub charges_left : rates_added x.command ≡ [] → (e m : ℕ) → charge_at t.charges e m ≡ book_charge (appended b x) e m
+    charges_left no_rates = charges_kept (λ e m there. ap (λ (rates : List Rate). rate_in_force rates m) (same_rates b x no_rates))
+
   -- where no line is brought and none is moved, the lines stay, and without a release the credits do
   module _ (no_move : (rows : List BankRow) → moved_by x.command rows ≡ rows) (no_rows : rows_by b.entries (lines_seen b.entries) x.command ≡ []) where
     pub bank_left : (reference : List ℕ) → find_row bank_key t.bank reference ≡ find_row bank_key (lines_standing (x ∷ b.entries)) reference
@@ -93,11 +114,11 @@ pub record LeavesRest (xs : List Entry) (x : Entry) : Type 0 where
 
 module _ (b : Book) (t : Tables) (stands : Stands b t) (x : Entry) (leaves : LeavesRest b.entries x) (free : entry_under b.entries x.caller x.number ≡ None) where
   -- tables with the rates, the employers and the runs of the next book, and else as they were
-  pub rest_with_runs : (rates : List Rate) (employers : List EmployerRow) → rates ≡ rates_of (appended b x) → ((e : ℕ) → member_at employers e ≡ member_of (x ∷ b.entries) e)
+  pub rest_with_runs : (rates : List Rate) (employers : List EmployerRow) → rates ≡ rates_of (appended b x) → ((e m : ℕ) → charge_at t.charges e m ≡ book_charge (appended b x) e m) → ((e : ℕ) → member_at employers e ≡ member_of (x ∷ b.entries) e)
       → length employers ≡ employer_count (x ∷ b.entries) → AreInOrder employer_key employers
       → (runs : List RunRow) (last_run : ℕ) (reminders : List ReminderRow) → runs ≡ runs_of (x ∷ b.entries) → last_run ≡ length (runs_of (x ∷ b.entries)) → reminders ≡ reminders_of (appended b x)
       → Stands (appended b x) (noted x (record t { rates = rates; employers = employers; runs = runs; last_run = last_run; reminders = reminders }))
-  rest_with_runs rates employers rates_are employers_are many in_order runs last_run reminders runs_are last_run_is reminders_are = record {
+  rest_with_runs rates employers rates_are charges_are employers_are many in_order runs last_run reminders runs_are last_run_is reminders_are = record {
     rates = rates_are;
     day = refl;
     entries = omega (arith, stands.entries);
@@ -108,6 +129,8 @@ module _ (b : Book) (t : Tables) (stands : Stands b t) (x : Entry) (leaves : Lea
     reports_in_order = stands.reports_in_order;
     wages = wages_left b t stands x leaves.no_report;
     wages_in_order = stands.wages_in_order;
+    charges = charges_are;
+    charges_in_order = stands.charges_in_order;
     bank = bank_left b t stands x leaves.no_move leaves.no_rows;
     bank_in_order = stands.bank_in_order;
     credits = credits_left b t stands x leaves.no_move leaves.no_rows leaves.no_release;
@@ -125,11 +148,11 @@ module _ (b : Book) (t : Tables) (stands : Stands b t) (x : Entry) (leaves : Lea
   }
 
   -- where the command is no reminder run, the runs stay
-  pub rest_left : is_remind_run x.command ≡ false → (rates : List Rate) (employers : List EmployerRow) → rates ≡ rates_of (appended b x) → ((e : ℕ) → member_at employers e ≡ member_of (x ∷ b.entries) e)
+  pub rest_left : is_remind_run x.command ≡ false → (rates : List Rate) (employers : List EmployerRow) → rates ≡ rates_of (appended b x) → ((e m : ℕ) → charge_at t.charges e m ≡ book_charge (appended b x) e m) → ((e : ℕ) → member_at employers e ≡ member_of (x ∷ b.entries) e)
       → length employers ≡ employer_count (x ∷ b.entries) → AreInOrder employer_key employers → Stands (appended b x) (noted x (record t { rates = rates; employers = employers }))
-  rest_left no_run rates employers rates_are employers_are many in_order =
+  rest_left no_run rates employers rates_are charges_are employers_are many in_order =
       let left = runs_left b.entries x no_run in
-      rest_with_runs rates employers rates_are employers_are many in_order t.runs t.last_run t.reminders (stands.runs ∙ sym left) (stands.last_run ∙ sym (ap (λ (runs : List RunRow). length runs) left))
+      rest_with_runs rates employers rates_are charges_are employers_are many in_order t.runs t.last_run t.reminders (stands.runs ∙ sym left) (stands.last_run ∙ sym (ap (λ (runs : List RunRow). length runs) left))
       (stands.reminders ∙ sym (reminders_left b x no_run))
 
 -- ---- a registration
@@ -163,7 +186,7 @@ module _ (b : Book) (t : Tables) (stands : Stands b t) (caller : Caller) (number
     registered_tables =
         rest_left b t stands registration
         (record { no_report = refl; no_move = λ rows. refl; no_rows = refl; no_release = refl; no_claims = record { kept = λ claim. refl; none = λ last. refl }; no_list = refl })
-        no_number refl t.rates (with_row employer_key t.employers registration_row) (rates_left b t stands registration refl)
+        no_number refl t.rates (with_row employer_key t.employers registration_row) (rates_left b t stands registration refl) (charges_left b t stands registration refl refl)
         (λ e.
         ap (option_map member_in) (find_row-with_row employer_key t.employers registration_row (e ∷ []) no_row)
         ∙ found_member (r.employer == e) registration_row (find_row employer_key t.employers (e ∷ []))

@@ -6,7 +6,7 @@ use Rattle.sqlite_tied.specs.Compute.{everything}
 use Rattle.clear_values.specs.Tables.{claim_key}
 use Rattle.clear_values.proofs.KeyedLemmas.{is_key-true}
 use Rattle.clear_schema.proofs.Changes.{claims_changed}
-use Rattle.clear_columns.proofs.NumberedTable.{NumberedTable, by_number, few, finds, lists}
+use Rattle.clear_columns.proofs.NumberedTable.{NumberedTable, by_number, few, finds, lists, lists_all}
 use Rattle.clear_columns.proofs.Says.{Says, SaysQuery}
 use Rattle.clear_values.specs.Payouts.{is_on, is_released_since}
 use Rattle.clear_ledger.specs.Shown.{claim_shown, columns_of}
@@ -133,6 +133,13 @@ on_list_says : SaysQuery on_list (plain_program 12 by_list columns by_number)
 unfolding everything
 on_list_says = record { names = _; said = (refl, refl, refl) }
 
+abbrev pub all : List ℕ
+all = codes "SELECT no, employer, worker, cents, state, made, released, to_contributions, to_interest, paid, list FROM claims ORDER BY no"
+
+all_says : SaysQuery all (plain_program 12 [] columns by_number)
+unfolding everything
+all_says = record { names = _; said = (refl, refl, refl) }
+
 -- ---- what they do
 
 -- the claim has a number
@@ -194,3 +201,6 @@ module _ {S : Type 0} (g : Ghosts S) (t : Tables) (db : Database) (has : HasTabl
 
   pub answers_on : (l : ℕ) → AnswersJust g on_list (number l ∷ []) db (map claim_shown (filter (λ row. is_on l row.state) t.claims))
   answers_on l = lists claims g t db has (number l ∷ []) claim_shown (λ row. is_on l row.state) (meets_list l) on_list_says (λ _. refl)
+
+  pub answers_all : AnswersJust g all [] db (map claim_shown t.claims)
+  answers_all = lists_all claims g t db has [] claim_shown (λ _. refl) all_says (λ _. refl)

@@ -1,7 +1,9 @@
 pub mod BankTable
 pub mod ClaimTable
 pub mod CreditTable
+pub mod GreatestLemmas
 pub mod ListTable
+pub mod OneLemmas
 pub mod ReminderTable
 pub mod ReplyLemmas
 pub mod RequestTable

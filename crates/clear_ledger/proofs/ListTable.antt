@@ -1,10 +1,12 @@
 -- The payout lists: under their numbers.
-use Rattle.clear_columns.proofs.Words.{◌≡◌, pos, ℕ, List, [], ◌∷◌, map, filter, refl, inl, inr, codes, cast_row, Binary, Insert, Database, Values, Ghosts, Term, lit, col, op2, Null, Compare, Eq, is_key, Tables, ListRow, list_key, meets, plain_program, HasTables, lists_table, list_values, number, cast_int, cast_null, equal_numbers, numbers_keep, AnswersJust}
+use Rattle.clear_columns.proofs.Words.{◌≡◌, pos, ℕ, List, [], ◌∷◌, map, filter, refl, inl, inr, codes, cast_row, Binary, Insert, Database, find_row, subst, Values, Ghosts, Term, lit, col, op2, Null, Compare, Eq, is_key, Tables, ListRow, list_key, meets, plain_program, HasTables, lists_table, list_values, number, cast_int, cast_null, equal_numbers, numbers_keep, AnswersJust}
+use Rattle.std.specs.Option.{option_to_list}
 use Rattle.sqlite_tied.specs.Compute.{everything}
 use Rattle.clear_schema.proofs.Changes.{lists_changed}
 use Rattle.clear_columns.proofs.NumberedTable.{NumberedTable, few, finds}
 use Rattle.clear_columns.proofs.Says.{Says, SaysQuery}
 use Rattle.clear_ledger.specs.Shown.{list_shown}
+use Rattle.clear_ledger.proofs.OneLemmas.{one_found}
 
 pub stored : (x : ListRow) → cast_row lists_table (list_values x) ≡ list_values x
 stored x = rw (cast_int (pos x.list), cast_null, cast_int (pos x.day), cast_int (pos x.items), cast_int (pos x.total))
@@ -63,3 +65,7 @@ of_no n x = rw (equal_numbers x.list n) refl
 
 pub answers : {S : Type 0} (g : Ghosts S) (t : Tables) (db : Database) → HasTables t db → (n : ℕ) → AnswersJust g get (number n ∷ []) db (map list_shown (filter (λ row. is_key (list_key row) (n ∷ [])) t.lists))
 answers g t db has n = finds lists g t db has (number n ∷ []) list_shown (λ row. is_key (list_key row) (n ∷ [])) (of_no n) get_says (λ _. refl) (few lists t db has n)
+
+-- there is one at most
+pub answers_one : {S : Type 0} (g : Ghosts S) (t : Tables) (db : Database) → HasTables t db → (n : ℕ) → AnswersJust g get (number n ∷ []) db (map list_shown (option_to_list (find_row list_key t.lists (n ∷ []))))
+answers_one g t db has n = subst (λ rows. AnswersJust g get (number n ∷ []) db (map list_shown rows)) (one_found list_key t.lists (n ∷ []) (few lists t db has n)) (answers g t db has n)

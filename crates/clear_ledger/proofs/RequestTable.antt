@@ -1,9 +1,15 @@
 -- The kept requests: under their callers and numbers.
-use Rattle.clear_columns.proofs.Words.{◌≡◌, ℤ, pos, ℕ, true, List, [], ◌∷◌, drop, map, filter, refl, sym, ap, subst, inl, inr, is_eq, codes, cast_row, Binary, Insert, Database, Row, output, Values, Ghosts, Term, lit, col, op2, Trees, Null, Int, Blob, automatic, agree, passes, Datatype, NotNull, Compare, Eq, is_key, RequestRow, Tables, meets, plain_program, plain_query, content, HasTables, by_key, request_key, requests_table, store_schema, caller_number, number, request_values, cast_int, cast_null, AnswersJust, key_is, equal_numbers}
+use Rattle.clear_columns.proofs.Words.{◌≡◌, ◌==◌, ◌&&◌, ℤ, pos, ℕ, Bool, true, false, List, [], ◌∷◌, Equal, Less, arith, drop, map, filter, refl, subst, sym, ap, inl, inr, is_eq, nat_cmp, nat_tests, ordering_then, Key, first_program, numbers_compare, output_cmp, codes, cast_row, Binary, Insert, Database, Row, output, Values, Ghosts, Term, lit, col, op2, Trees, Null, Int, Blob, automatic, agree, passes, Datatype, NotNull, Compare, Eq, is_key, RequestRow, Tables, meets, plain_program, plain_query, content, HasTables, by_key, request_key, requests_table, store_schema, caller_number, number, request_values, cast_int, cast_null, AnswersJust, key_is, equal_numbers}
+use Rattle.std.proofs.Common.{Greater, Ordering}
+use Rattle.std.specs.Option.{option_to_list}
 use Rattle.clear_columns.specs.Keys.{is_held}
 use Rattle.sqlite_tied.specs.Compute.{everything}
 use Rattle.sqlite_value.specs.Keys.{first_key, plain}
-use Rattle.clear_ledger.specs.Shown.{kept_shown, numbers_of, request_shown}
+use Rattle.clear_columns.proofs.LastLemmas.{finds_last, from_last, last_of}
+use Rattle.clear_values.specs.declared.callers.Caller.{Caller}
+use Rattle.clear_ledger.specs.Kept.{greatest_number, requests_of}
+use Rattle.clear_ledger.specs.Shown.{kept_shown, number_shown, numbers_of, request_shown}
+use Rattle.clear_ledger.proofs.OneLemmas.{first_shown}
 use Rattle.clear_columns.proofs.KeyedTable.{KeyedTable, few, finds, or_false}
 use Rattle.clear_ledger.proofs.ReplyLemmas.{columns_are}
 use Rattle.clear_columns.proofs.Says.{Says, SaysQuery}
@@ -89,6 +95,23 @@ get_says : SaysQuery get (plain_program 17 by_number columns [])
 unfolding everything
 get_says = record { names = _; said = (refl, refl, refl) }
 
+abbrev by_caller : List Term
+by_caller = op2 (Compare Eq Binary) (col 1 1) (col 0 0) ∷ []
+
+abbrev number_column : List Term
+number_column = col 1 2 ∷ []
+
+-- the greatest number first
+abbrev falling : List (Term × Key)
+falling = (col 1 2, record { collation = Binary; descending = true }) ∷ []
+
+abbrev pub greatest : List ℕ
+greatest = codes "SELECT number FROM requests WHERE caller = ?1 ORDER BY number DESC LIMIT 1"
+
+greatest_says : SaysQuery greatest (first_program 17 by_caller number_column falling)
+unfolding everything
+greatest_says = record { names = _; said = (refl, refl, refl) }
+
 -- ---- what they answer
 
 of_number : (c n : ℕ) (y : ℤ × RequestRow) → meets by_number (number c ∷ number n ∷ []) (request_values y) ≡ is_key (request_key (content y)) (c ∷ n ∷ [])
@@ -99,3 +122,37 @@ shows params y = ap (λ (r : Row). output (plain_query 17 by_number columns []) 
 
 pub answers : {S : Type 0} (g : Ghosts S) (t : Tables) (db : Database) (c n : ℕ) → HasTables t db → AnswersJust g get (number c ∷ number n ∷ []) db (map kept_shown (filter (λ row. is_key (request_key row) (c ∷ n ∷ [])) t.requests))
 answers g t db c n has = finds requests g t db has (number c ∷ number n ∷ []) kept_shown (λ row. is_key (request_key row) (c ∷ n ∷ [])) (of_number c n) get_says (shows (number c ∷ number n ∷ [])) (few requests t db has (c ∷ n ∷ []))
+
+-- ---- the greatest number of a caller
+
+of_caller : (c : ℕ) (y : ℤ × RequestRow) → meets by_caller (number c ∷ []) (request_values y) ≡ (caller_number (content y).caller == c)
+of_caller c y = rw (equal_numbers (caller_number (content y).caller) c) (last (caller_number (content y).caller == c))
+  where
+    last : (b : Bool) → (b && true) ≡ b
+    last true = refl
+    last false = refl
+
+-- of one caller's requests the later has the greater number
+same_caller : (a b c : ℕ) → (a == c) ≡ true → (b == c) ≡ true → nat_cmp a b ≡ Equal
+same_caller a b c first second = grind (arith, nat_tests)
+
+by_numbers : (callers numbers : Ordering) → callers ≡ Equal → ordering_then callers (ordering_then numbers Equal) ≡ Less → ordering_then numbers Equal ≡ Less
+by_numbers Equal numbers same h = h
+by_numbers Less numbers same h = absurd cc
+by_numbers Greater numbers same h = absurd cc
+
+-- what ORDER BY goes by, which is what is shown
+abbrev number_of : RequestRow → Row
+number_of row = number_shown row.number
+
+falls : (c : ℕ) (a b : RequestRow) → (caller_number a.caller == c) ≡ true → (caller_number b.caller == c) ≡ true → by_key request_key a b ≡ Less
+    → output_cmp (plain_query 17 by_caller number_column falling) (number_of b, number_of b) (number_of a, number_of a) ≡ Less
+falls c a b first second h =
+    rw (numbers_compare a.number b.number) (by_numbers _ _ (same_caller (caller_number a.caller) (caller_number b.caller) c first second) h)
+
+pub answers_greatest : {S : Type 0} (g : Ghosts S) (t : Tables) (db : Database) → HasTables t db → (caller : Caller) → AnswersJust g greatest (number (caller_number caller) ∷ []) db (map number_shown (option_to_list (greatest_number caller t.requests)))
+answers_greatest g t db has caller =
+    let c = caller_number caller in
+    let rows = requests_of caller t.requests in
+    subst (AnswersJust g greatest (number c ∷ []) db) (first_shown (λ (row : RequestRow). row.number) number_shown (from_last rows) _ (last_of rows))
+    (finds_last requests g t db has (number c ∷ []) number_of (λ row. caller_number row.caller == c) (of_caller c) greatest_says number_of (λ _. refl) (falls c))

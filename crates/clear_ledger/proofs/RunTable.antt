@@ -1,10 +1,12 @@
 -- The reminder runs: under their numbers.
-use Rattle.clear_columns.proofs.Words.{◌≡◌, pos, ℕ, List, [], ◌∷◌, map, filter, refl, inl, inr, codes, cast_row, Binary, Insert, Database, Values, Ghosts, Term, lit, col, op2, Null, Compare, Eq, is_key, Tables, RunRow, run_key, meets, plain_program, HasTables, runs_table, run_values, number, cast_int, cast_null, equal_numbers, numbers_keep, AnswersJust}
+use Rattle.clear_columns.proofs.Words.{◌≡◌, pos, ℕ, List, [], ◌∷◌, map, filter, refl, inl, inr, codes, cast_row, Binary, Insert, Database, find_row, subst, Values, Ghosts, Term, lit, col, op2, Null, Compare, Eq, is_key, Tables, RunRow, run_key, meets, plain_program, HasTables, runs_table, run_values, number, cast_int, cast_null, equal_numbers, numbers_keep, AnswersJust}
+use Rattle.std.specs.Option.{option_to_list}
 use Rattle.sqlite_tied.specs.Compute.{everything}
 use Rattle.clear_schema.proofs.Changes.{runs_changed}
 use Rattle.clear_columns.proofs.NumberedTable.{NumberedTable, few, finds}
 use Rattle.clear_columns.proofs.Says.{Says, SaysQuery}
 use Rattle.clear_ledger.specs.Shown.{run_shown}
+use Rattle.clear_ledger.proofs.OneLemmas.{one_found}
 
 pub stored : (x : RunRow) → cast_row runs_table (run_values x) ≡ run_values x
 stored x = rw (cast_int (pos x.run), cast_null, cast_int (pos x.day), cast_int (pos x.firms))
@@ -63,3 +65,7 @@ of_no n x = rw (equal_numbers x.run n) refl
 
 pub answers : {S : Type 0} (g : Ghosts S) (t : Tables) (db : Database) → HasTables t db → (n : ℕ) → AnswersJust g get (number n ∷ []) db (map run_shown (filter (λ row. is_key (run_key row) (n ∷ [])) t.runs))
 answers g t db has n = finds runs g t db has (number n ∷ []) run_shown (λ row. is_key (run_key row) (n ∷ [])) (of_no n) get_says (λ _. refl) (few runs t db has n)
+
+-- there is one at most
+pub answers_one : {S : Type 0} (g : Ghosts S) (t : Tables) (db : Database) → HasTables t db → (n : ℕ) → AnswersJust g get (number n ∷ []) db (map run_shown (option_to_list (find_row run_key t.runs (n ∷ []))))
+answers_one g t db has n = subst (λ rows. AnswersJust g get (number n ∷ []) db (map run_shown rows)) (one_found run_key t.runs (n ∷ []) (few runs t db has n)) (answers g t db has n)

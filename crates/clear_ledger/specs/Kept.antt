@@ -1,10 +1,12 @@
 -- Accepted requests as they are kept, each under its caller and number.
-use Rattle.std.specs.Prelude.{ℕ, List}
+use Rattle.std.specs.Prelude.{ℕ, ◌==◌, List, filter, Option, None}
+use Rattle.std.specs.List.{last_or}
+use Rattle.std.specs.Option.{option_map}
 use Rattle.clear_money.specs.Calendar.{IsDay}
 use Rattle.clear_values.specs.declared.callers.Caller.{Caller}
 use Rattle.clear_values.specs.declared.replies.Reply.{Reply}
 use Rattle.clear_values.specs.RowRanges.{IsReply}
-use Rattle.clear_values.specs.Tables.{RequestRow}
+use Rattle.clear_values.specs.Tables.{RequestRow, caller_number}
 use Rattle.clear_ledger.specs.declared.requests.KeptRequest.{KeptRequest}
 
 -- the day of a request, the bytes of its command, and its reply
@@ -39,3 +41,13 @@ row_of caller number kept = record {
 pub record IsKept (k : Kept) : Type 0 where
   pub day : IsDay k.day
   pub reply : IsReply k.reply
+
+-- the requests of a caller
+abbrev pub requests_of : Caller → List RequestRow → List RequestRow
+requests_of caller rows =
+    filter (λ row. caller_number row.caller == caller_number caller) rows
+
+-- the number of the last of them: the greatest, as the rows are in the order of these numbers
+abbrev pub greatest_number : Caller → List RequestRow → Option ℕ
+greatest_number caller rows =
+    option_map (λ row. row.number) (last_or None (requests_of caller rows))

@@ -133,3 +133,7 @@ kept_shown row = number row.day ∷ Blob row.command ∷ numbers_shown (numbers_
 -- a request
 abbrev pub request_shown : RequestRow → Row
 request_shown row = number (caller_number row.caller) ∷ number row.number ∷ kept_shown row
+
+-- the number of a request alone
+abbrev pub number_shown : ℕ → Row
+number_shown n = number n ∷ []

@@ -143,6 +143,23 @@ pub fn read_listed<S: Alter>(conn: &mut Connection<S>, on: ListNo) -> Result<Row
     )
 }
 
+/// All claims, in the order of their numbers: `next_row` reads one at a time.
+pub fn read_claims<S: Alter>(conn: &mut Connection<S>) -> Result<Rows<'_, S>, Error>
+    ensures* refused { sem 𝓛 (RestsIfErr (the_row S.row S.Store) conn.entry
+        (λ rows. rows.conn.ghost_name) result
+        (IsLeft S.Store conn.old (HasSomeTables (state S.Store conn.old).now) result)) }
+    ensures same_reference { IfOk result (λ rows. rows.conn.ghost_name ≡ conn.entry.ghost_name) }
+    ensures begun { IfOk result (λ rows. ReadsOn S.Store conn.old rows.conn.now claim_shown
+        (λ t. t.claims)) }
+{
+    begin_rows::<Claims, S>(
+        conn,
+        "SELECT no, employer, worker, cents, state, made, released, to_contributions, \
+         to_interest, paid, list FROM claims ORDER BY no",
+        &[],
+    )
+}
+
 /// The table of claims. A row whose columns fit no state of a claim is out of its range.
 pub struct Claims;
 

@@ -10,6 +10,7 @@
 pub mod bank;
 pub mod claims;
 pub mod credits;
+pub mod laws;
 pub mod lists;
 pub mod reminders;
 mod replies;

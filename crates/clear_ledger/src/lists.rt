@@ -1,10 +1,15 @@
 //! The payout lists, by their numbers.
-ghost use Rattle.std.specs.Prelude.{◌≡◌, ◌↔◌, ◌≤◌, [], ◌∷◌, true, IsTrue};
+ghost use Rattle.std.specs.Borrow.{sem, RestsIfErr};
+ghost use Rattle.std.specs.Option.{option_to_list};
+ghost use Rattle.std.specs.Prelude.{◌≡◌, ◌↔◌, ◌≤◌, [], ◌∷◌, true, IsTrue, IfOk};
+ghost use Rattle.sqlite.specs.Held.{state};
 ghost use Rattle.sqlite.specs.Values.{bound};
+ghost use Rattle.sqlite.specs.contracts.connection.Connection.{the_row};
 ghost use Rattle.clear_values.specs.Keyed.{find_row, with_row};
 ghost use Rattle.clear_values.specs.RowRanges.{IsListRow, IsReply};
 ghost use Rattle.clear_values.specs.Tables.{list_key};
 ghost use Rattle.clear_columns.specs.Keys.{is_held};
+ghost use Rattle.clear_columns.specs.Reading.{HasSomeTables, IsLeft, ReadsOn};
 ghost use Rattle.clear_ledger.specs.Shown.{list_shown};
 ghost use Rattle.clear_schema.specs.Frame.{Finds, Writes};
 
@@ -12,7 +17,7 @@ use clear_columns::columns::{count_at, day_at, number_at};
 use clear_columns::parameters::{day, list_no};
 use clear_columns::queries::find;
 use clear_columns::ranges::{is_claimed, is_entry_count, is_list_no};
-use clear_columns::rows::StoredTable;
+use clear_columns::rows::{StoredTable, begin_rows};
 use clear_schema::fault::Fault;
 use clear_schema::statement::put;
 use clear_schema::values::number;
@@ -20,8 +25,11 @@ use clear_values::causes::StoreCause;
 use clear_values::numbers::ListNo;
 use clear_values::replies::Reply;
 use clear_values::rows::ListRow;
-use sqlite::{Alter, Row, Transaction};
+use sqlite::{Alter, Connection, Error, Row, Rows, Transaction};
 use sqlite_value::value::ValueRef;
+
+// The payout list of a number.
+const LIST: &str = "SELECT no, day, items, total FROM lists WHERE no = ?1";
 
 /// Adds a payout list whose number is free. A number out of 1 to 50,000,000, and counts of claims and
 /// cents that no list can have, are refused with `Fault::Store(StoreCause::Row)`, and nothing is
@@ -51,11 +59,20 @@ pub fn find_list<S: Alter>(
     ensures looks { Finds S.Store tx.old.conn.now tx.new.conn.now result IsListRow
         (λ t. find_row list_key t.lists (list ∷ [])) }
 {
-    find::<S, Lists>(
-        tx,
-        "SELECT no, day, items, total FROM lists WHERE no = ?1",
-        &[list_no(list)],
-    )
+    find::<S, Lists>(tx, LIST, &[list_no(list)])
+}
+
+/// The payout list of a number, whether a list can have that or not, as the one row of a query, if
+/// there is one: `next_row` reads it.
+pub fn read_list<S: Alter>(conn: &mut Connection<S>, list: u32) -> Result<Rows<'_, S>, Error>
+    ensures* refused { sem 𝓛 (RestsIfErr (the_row S.row S.Store) conn.entry
+        (λ rows. rows.conn.ghost_name) result
+        (IsLeft S.Store conn.old (HasSomeTables (state S.Store conn.old).now) result)) }
+    ensures same_reference { IfOk result (λ rows. rows.conn.ghost_name ≡ conn.entry.ghost_name) }
+    ensures begun { IfOk result (λ rows. ReadsOn S.Store conn.old rows.conn.now list_shown
+        (λ t. option_to_list (find_row list_key t.lists (list ∷ [])))) }
+{
+    begin_rows::<Lists, S>(conn, LIST, &[number(u64::from(list))])
 }
 
 /// The table of payout lists.

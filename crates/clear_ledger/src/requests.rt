@@ -1,22 +1,29 @@
 //! The table of accepted requests.
+ghost use Rattle.std.specs.Borrow.{sem, RestsIfErr};
 ghost use Rattle.std.specs.Prelude.{◌≡◌, ◌≢◌, List, Some, map, slice_get};
 ghost use Rattle.std.specs.Prelude.{IfErr, IfOk, IfSome, OnOk};
-ghost use Rattle.std.specs.Option.{option_map};
+ghost use Rattle.std.specs.Option.{option_map, option_to_list};
 ghost use Rattle.sqlite.specs.Held.{state};
+ghost use Rattle.sqlite.specs.contracts.connection.Connection.{the_row};
+ghost use Rattle.clear_columns.specs.Columns.{ReadsColumn};
 ghost use Rattle.clear_columns.specs.Keys.{is_held};
+ghost use Rattle.clear_columns.specs.Reading.{HasSomeTables, IsLeft, ReadsOn};
 ghost use Rattle.clear_schema.specs.Frame.{IsOut, Looks, Writes};
 ghost use Rattle.sqlite.specs.Values.{bound};
 ghost use Rattle.clear_values.specs.Tables.{request_number};
 ghost use Rattle.clear_values.specs.Keyed.{find_row, with_row};
+ghost use Rattle.clear_values.specs.Numbers.{IsRequestNo};
 ghost use Rattle.clear_values.specs.RowRanges.{IsReply};
 ghost use Rattle.clear_values.specs.Tables.{RequestRow, Tables, request_key};
 ghost use Rattle.clear_schema.specs.Held.{HasTables};
-ghost use Rattle.clear_ledger.specs.Kept.{IsKept, as_kept, kept_of, row_of};
-ghost use Rattle.clear_ledger.specs.Shown.{kept_shown, numbers_of, request_shown};
+ghost use Rattle.clear_schema.specs.Values as stored;
+ghost use Rattle.clear_ledger.specs.Kept.{IsKept, as_kept, greatest_number, kept_of, row_of};
+ghost use Rattle.clear_ledger.specs.Shown.{kept_shown, number_shown, numbers_of, request_shown};
 
 use crate::replies::{ReplyNumbers, is_reply, reply_numbers, reply_of};
 use clear_columns::columns::{bytes_at, day_at, number_at};
 use clear_columns::parameters::{bytes, caller as calling, day, request_no};
+use clear_columns::rows::{StoredTable, begin_rows};
 use clear_money::days::Day;
 use clear_schema::fault::Fault;
 use clear_schema::statement::{look, put};
@@ -25,7 +32,7 @@ use clear_values::callers::Caller;
 use clear_values::causes::StoreCause;
 use clear_values::numbers::RequestNo;
 use clear_values::replies::Reply;
-use sqlite::{Alter, Row, Transaction};
+use sqlite::{Alter, Connection, Error, Row, Rows, Transaction};
 use sqlite_value::value::ValueRef;
 
 /// What is kept of an accepted request.
@@ -95,6 +102,51 @@ pub fn find_request<S: Alter>(
         Err(fault) => return Err(fault),
     };
     first_request(&rows)
+}
+
+/// The greatest number of a caller's requests, as the one row of a query, if it has made any:
+/// `next_row` reads it. It is found by one search.
+pub fn read_greatest<S: Alter>(
+    conn: &mut Connection<S>,
+    caller: Caller,
+) -> Result<Rows<'_, S>, Error>
+    ensures* refused { sem 𝓛 (RestsIfErr (the_row S.row S.Store) conn.entry
+        (λ rows. rows.conn.ghost_name) result
+        (IsLeft S.Store conn.old (HasSomeTables (state S.Store conn.old).now) result)) }
+    ensures same_reference { IfOk result (λ rows. rows.conn.ghost_name ≡ conn.entry.ghost_name) }
+    ensures begun { IfOk result (λ rows. ReadsOn S.Store conn.old rows.conn.now number_shown
+        (λ t. option_to_list (greatest_number caller t.requests))) }
+{
+    begin_rows::<RequestNumbers, S>(
+        conn,
+        "SELECT number FROM requests WHERE caller = ?1 ORDER BY number DESC LIMIT 1",
+        &[calling(caller)],
+    )
+}
+
+/// The table of accepted requests, of which a query shows the numbers alone.
+pub struct RequestNumbers;
+
+impl StoredTable for RequestNumbers {
+    ghost use Rattle.clear_ledger.specs.Shown.{number_shown};
+    ghost use Rattle.clear_values.specs.Numbers.{IsRequestNo};
+
+    type Row = RequestNo;
+
+    ghost shown = { number_shown };
+
+    ghost is_in_range = { IsRequestNo };
+
+    fn read(row: &Row) -> Result<RequestNo, Fault> {
+        request_no_at(row, 0)
+    }
+}
+
+// The number of a request in a column.
+fn request_no_at(row: &Row, at: usize) -> Result<RequestNo, Fault>
+    ensures reads { ReadsColumn row.now at result stored.number IsRequestNo }
+{
+    RequestNo::new(number_at(row, at)?).ok_or(Fault::Store(StoreCause::Row))
 }
 
 // The request that the first row of an answer shows.

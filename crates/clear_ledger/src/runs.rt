@@ -1,10 +1,15 @@
 //! The reminder runs, by their numbers.
-ghost use Rattle.std.specs.Prelude.{◌≡◌, ◌↔◌, [], ◌∷◌, true, IsTrue};
+ghost use Rattle.std.specs.Borrow.{sem, RestsIfErr};
+ghost use Rattle.std.specs.Option.{option_to_list};
+ghost use Rattle.std.specs.Prelude.{◌≡◌, ◌↔◌, [], ◌∷◌, true, IsTrue, IfOk};
+ghost use Rattle.sqlite.specs.Held.{state};
 ghost use Rattle.sqlite.specs.Values.{bound};
+ghost use Rattle.sqlite.specs.contracts.connection.Connection.{the_row};
 ghost use Rattle.clear_values.specs.Keyed.{find_row, with_row};
 ghost use Rattle.clear_values.specs.RowRanges.{IsReply, IsRunRow};
 ghost use Rattle.clear_values.specs.Tables.{run_key};
 ghost use Rattle.clear_columns.specs.Keys.{is_held};
+ghost use Rattle.clear_columns.specs.Reading.{HasSomeTables, IsLeft, ReadsOn};
 ghost use Rattle.clear_ledger.specs.Shown.{run_shown};
 ghost use Rattle.clear_schema.specs.Frame.{Finds, Writes};
 
@@ -12,7 +17,7 @@ use clear_columns::columns::{count_at, day_at, number_at};
 use clear_columns::parameters::{day, run_no};
 use clear_columns::queries::find;
 use clear_columns::ranges::{is_firm_count, is_run_no};
-use clear_columns::rows::StoredTable;
+use clear_columns::rows::{StoredTable, begin_rows};
 use clear_schema::fault::Fault;
 use clear_schema::statement::put;
 use clear_schema::values::number;
@@ -20,8 +25,11 @@ use clear_values::causes::StoreCause;
 use clear_values::numbers::RunNo;
 use clear_values::replies::Reply;
 use clear_values::rows::RunRow;
-use sqlite::{Alter, Row, Transaction};
+use sqlite::{Alter, Connection, Error, Row, Rows, Transaction};
 use sqlite_value::value::ValueRef;
+
+// The reminder run of a number.
+const RUN: &str = "SELECT no, day, firms FROM runs WHERE no = ?1";
 
 /// Adds a reminder run whose number is free. A number out of 1 to 50,000,000, and a count of firms
 /// that no run can have, are refused with `Fault::Store(StoreCause::Row)`, and nothing is done.
@@ -47,11 +55,20 @@ pub fn find_run<S: Alter>(tx: &mut Transaction<'_, S>, run: RunNo) -> Result<Opt
     ensures looks { Finds S.Store tx.old.conn.now tx.new.conn.now result IsRunRow
         (λ t. find_row run_key t.runs (run ∷ [])) }
 {
-    find::<S, Runs>(
-        tx,
-        "SELECT no, day, firms FROM runs WHERE no = ?1",
-        &[run_no(run)],
-    )
+    find::<S, Runs>(tx, RUN, &[run_no(run)])
+}
+
+/// The reminder run of a number, whether a run can have that or not, as the one row of a query, if
+/// there is one: `next_row` reads it.
+pub fn read_run<S: Alter>(conn: &mut Connection<S>, run: u32) -> Result<Rows<'_, S>, Error>
+    ensures* refused { sem 𝓛 (RestsIfErr (the_row S.row S.Store) conn.entry
+        (λ rows. rows.conn.ghost_name) result
+        (IsLeft S.Store conn.old (HasSomeTables (state S.Store conn.old).now) result)) }
+    ensures same_reference { IfOk result (λ rows. rows.conn.ghost_name ≡ conn.entry.ghost_name) }
+    ensures begun { IfOk result (λ rows. ReadsOn S.Store conn.old rows.conn.now run_shown
+        (λ t. option_to_list (find_row run_key t.runs (run ∷ [])))) }
+{
+    begin_rows::<Runs, S>(conn, RUN, &[number(u64::from(run))])
 }
 
 /// The table of reminder runs.

@@ -12,8 +12,8 @@ use Rattle.clear_values.specs.Credits.{credits_of_lines, set_offs_of}
 use Rattle.clear_book.specs.Lines.{is_in_suspense, lines_standing, suspense_count}
 use Rattle.clear_values.specs.Limits.{most_suspense}
 use Rattle.clear_book.specs.Machine.{IsLawful}
-use Rattle.clear_values.specs.RowRanges.{AreInRange, IsBankRow, IsClaimRow, IsCreditRow, IsListRow, IsReminderRow, IsReply, IsReportRow, IsRequestRow, IsRunRow, IsSerial, IsWageRow}
-use Rattle.clear_values.specs.Tables.{Tables, bank_key, changed, claim_key, employer_key, is_wage_key_of, list_key, reminder_key, report_key, request_key, run_key, wage_key, wage_rows}
+use Rattle.clear_values.specs.RowRanges.{AreInRange, IsBankRow, IsClaimRow, IsCreditRow, IsKeptCharge, IsListRow, IsReminderRow, IsReply, IsReportRow, IsRequestRow, IsRunRow, IsSerial, IsWageRow}
+use Rattle.clear_values.specs.Tables.{Tables, bank_key, changed, charge_key, claim_key, employer_key, is_wage_key_of, list_key, reminder_key, report_key, request_key, run_key, wage_key, wage_rows}
 use Rattle.clear_book.specs.Tables.{Stands, noted, request_row}
 use Rattle.clear_values.proofs.KeyedRowsLemmas.{count_by-ordered}
 use Rattle.clear_laws.proofs.AccountLimitLemmas.{standing_within}
@@ -56,11 +56,14 @@ change_free next t x (AddRate row) lawful stands =
 change_free next t x (EndMembership row) lawful stands = tt
 change_free next t x (AddEmployer row) lawful stands =
     (in_order_free employer_key t.employers (row ∷ []) stands.employers_in_order).0
-change_free next t x (AddReport row lines) lawful stands = (
-  (in_order_free report_key t.reports (row ∷ []) stands.reports_in_order).0,
-  in_order_free wage_key t.wages (wage_rows row.employer row.month lines) stands.wages_in_order,
+change_free next t x (AddReport row lines charge) lawful stands = (
+  (
+    (in_order_free report_key t.reports (row ∷ []) stands.reports_in_order).0,
+    in_order_free wage_key t.wages (wage_rows row.employer row.month lines) stands.wages_in_order,
+  ),
+  (in_order_free charge_key t.charges (charge ∷ []) stands.charges_in_order).0,
 )
-change_free next t x (ReplaceReport row lines) lawful stands =
+change_free next t x (ReplaceReport row lines charge) lawful stands =
     in_order_free wage_key (without_rows wage_key (is_wage_key_of row.employer row.month) t.wages)
     (wage_rows row.employer row.month lines) stands.wages_in_order
 change_free next t x (AssignLine row) lawful stands = in_order_free credit_key t.credits (credits_of_lines (row ∷ [])) stands.credits_in_order
@@ -86,8 +89,8 @@ number_free next t x (AddRate row) stands = (in_order_free request_key t.request
 number_free next t x (EndMembership row) stands = (in_order_free request_key t.requests (request_row x ∷ []) stands.requests_in_order).0
 number_free next t x (AssignLine row) stands = (in_order_free request_key t.requests (request_row x ∷ []) stands.requests_in_order).0
 number_free next t x (AddEmployer row) stands = (in_order_free request_key t.requests (request_row x ∷ []) stands.requests_in_order).0
-number_free next t x (AddReport row lines) stands = (in_order_free request_key t.requests (request_row x ∷ []) stands.requests_in_order).0
-number_free next t x (ReplaceReport row lines) stands = (in_order_free request_key t.requests (request_row x ∷ []) stands.requests_in_order).0
+number_free next t x (AddReport row lines charge) stands = (in_order_free request_key t.requests (request_row x ∷ []) stands.requests_in_order).0
+number_free next t x (ReplaceReport row lines charge) stands = (in_order_free request_key t.requests (request_row x ∷ []) stands.requests_in_order).0
 number_free next t x (AddBankLines rows) stands = (in_order_free request_key t.requests (request_row x ∷ []) stands.requests_in_order).0
 number_free next t x (AddClaim row) stands = (in_order_free request_key t.requests (request_row x ∷ []) stands.requests_in_order).0
 number_free next t x (WithdrawClaim row) stands = (in_order_free request_key t.requests (request_row x ∷ []) stands.requests_in_order).0
@@ -111,14 +114,15 @@ rows_puttable : (t : Tables) (x : Entry) (change : Change) → IsThere change t 
 rows_puttable t x (AddRate row) there within = tt
 rows_puttable t x (EndMembership row) there within = tt
 rows_puttable t x (AddEmployer row) there within = tt
-rows_puttable t x (AddReport row lines) there within =
+rows_puttable t x (AddReport row lines charge) there within =
     let report = (all_with report_key IsReportRow t.reports row within.reports).1 in
     let wages = all_new wage_key IsWageRow t.wages (wage_rows row.employer row.month lines) within.wages in
-    ((report.some, report.few), all_gross row.employer row.month lines wages.1)
-rows_puttable t x (ReplaceReport row lines) there within =
+    let kept = (all_with charge_key IsKeptCharge t.charges charge within.charges).1 in
+    (((report.some, report.few), all_gross row.employer row.month lines wages.1), kept.cents)
+rows_puttable t x (ReplaceReport row lines charge) there within =
     let report = (all_with report_key IsReportRow (without_rows report_key (λ k. is_key k (report_key row)) t.reports) row within.reports).1 in
     let wages = all_new wage_key IsWageRow (without_rows wage_key (is_wage_key_of row.employer row.month) t.wages) (wage_rows row.employer row.month lines) within.wages in
-    ((report.some, report.few), all_gross row.employer row.month lines wages.1)
+    (((report.some, report.few), all_gross row.employer row.month lines wages.1), there.1)
 rows_puttable t x (AssignLine row) there within =
     (all_with bank_key IsBankRow (without_rows bank_key (λ k. is_key k (bank_key row)) t.bank) row within.bank).1.serial
 rows_puttable t x (AddBankLines rows) there within =

@@ -1,4 +1,4 @@
--- What is told once connections are taken.
+-- What is told once connections are taken, and of a copy.
 use Rattle.std.specs.Prelude.{ℕ, ◌+◌, nat_lt, List, [], ◌++◌, codes, if◌then◌else◌, Option, Some, None}
 use Rattle.std.specs.Fmt.{decimal}
 use Rattle.clear_money.specs.Texts.{day_text}
@@ -15,6 +15,10 @@ ready_line port day ledger_day =
     ++ codes ", day " ++ day_text day
     ++ codes ", ledger day " ++ day_or_none ledger_day
     ++ codes "\n"
+
+-- a store was copied, whose last accepted request is of this day
+abbrev pub copied_line : Option ℕ → List ℕ
+copied_line ledger_day = codes "copied, ledger day " ++ day_or_none ledger_day ++ codes "\n"
 
 -- what it means where the day lies before the ledger day, or more than 31 days after it
 abbrev pub meaning : ℕ → Option ℕ → List ℕ

@@ -6,7 +6,9 @@
 //! two kinds of store, in files and in memory, are named in `run` alone.
 #![tactic(auto)]
 
+mod look;
 pub mod ready;
+pub mod reasons;
 pub mod run;
 pub mod stop;
 pub mod tasks;

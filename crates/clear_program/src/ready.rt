@@ -1,6 +1,6 @@
-//! What is told once connections are taken.
+//! What is told once connections are taken, and of a copy.
 ghost use Rattle.std.specs.Prelude.{◌≡◌, IfOk, string_bytes};
-ghost use Rattle.clear_program.specs.Ready.{day_or_none, meaning, ready_line};
+ghost use Rattle.clear_program.specs.Ready.{copied_line, day_or_none, meaning, ready_line};
 
 use clear_answers::answer::carried_text;
 use clear_book::rules::Carried;
@@ -26,6 +26,17 @@ pub fn ready_line(
     line.push_str(", day ")?;
     line.push_str(carried_text(alloc, Carried::Day(day))?.as_str())?;
     line.push_str(", ledger day ")?;
+    line.push_str(day_or_none(alloc, ledger_day)?.as_str())?;
+    line.push_str("\n")?;
+    Ok(line)
+}
+
+/// The line that tells that a store was copied, and the day of its last accepted request, `-` for
+/// none.
+pub fn copied_line(alloc: Global, ledger_day: &Option<Day>) -> Result<String, AllocError>
+    ensures { IfOk result (λ line. string_bytes line ≡ copied_line ledger_day.now) }
+{
+    let mut line = String::from_str(alloc, "copied, ledger day ")?;
     line.push_str(day_or_none(alloc, ledger_day)?.as_str())?;
     line.push_str("\n")?;
     Ok(line)

@@ -1,6 +1,7 @@
 //! The program as a whole.
-ghost use Rattle.std.specs.Prelude.{◌≤◌};
+ghost use Rattle.std.specs.Prelude.{◌≡◌, ◌≤◌, IfOk};
 
+use crate::look::look_at;
 use crate::stop::{Stop, tell};
 use crate::tasks::{Task, Work, read_task, words_of};
 use crate::work::{say, serve_stream, work_on};
@@ -18,29 +19,54 @@ use std::fs;
 // The greatest length that a close leaves of a store's log, in bytes.
 const LOG_OF_A_CLOSE: u64 = 41;
 
+// The status of a file that was checked and has a fault.
+const BAD_FILE: u8 = 2;
+
 /// Does what the words of the command line ask for, and gives the status with which the program
 /// ends: 0 where all was done. Why it was not is told on standard error.
 pub fn run(rt: &HostRuntime) -> u8
     ensures { result ≤ 3 }
 {
     match do_task(rt) {
-        Ok(()) => 0,
+        Ok(status) => status,
         Err(stop) => tell(rt.alloc(), &mut rt.stderr(), &stop),
     }
 }
 
-fn do_task(rt: &HostRuntime) -> Result<(), Stop> {
+fn do_task(rt: &HostRuntime) -> Result<u8, Stop>
+    ensures { IfOk result (λ status. status ≤ 3) }
+{
     let words = words_of(rt)?;
-    let said = match read_task(rt, words.as_slice())? {
-        Task::Say(text) => text,
+    match read_task(rt, words.as_slice())? {
+        Task::Say(text) => end_by(rt, text.as_str(), 0),
+        Task::Check(checked) => {
+            let status = if checked.good { 0 } else { BAD_FILE };
+            end_by(rt, checked.text.as_str(), status)
+        }
         Task::Stream {
             rates,
             directory,
             day,
-        } => return stream(rt, &rates, &directory, day),
-        Task::OnStore { store, work } => work_at(rt, store, work, Unknown, Unknown)?,
-    };
-    say(&mut rt.stdout(), said.as_str())
+        } => match stream(rt, &rates, &directory, day) {
+            Ok(()) => Ok(0),
+            Err(stop) => Err(stop),
+        },
+        Task::Look { store } => look_at(rt, store, Unknown, Unknown),
+        Task::OnStore { store, work } => {
+            let said = work_at(rt, store, work, Unknown, Unknown)?;
+            end_by(rt, said.as_str(), 0)
+        }
+    }
+}
+
+// Says a text, and ends with a status.
+fn end_by(rt: &HostRuntime, text: &str, status: u8) -> Result<u8, Stop>
+    ensures { IfOk result (λ given. given ≡ status) }
+{
+    match say(&mut rt.stdout(), text) {
+        Ok(()) => Ok(status),
+        Err(stop) => Err(stop),
+    }
 }
 
 // Serves standard input over a new office in memory.
@@ -60,15 +86,14 @@ fn stream(
 fn work_at<S: Start>(
     rt: &HostRuntime,
     store: &str,
-    work: Work,
+    work: Work<'_>,
     start: S,
     again: S,
 ) -> Result<String, Stop> {
     let opened = match &work {
         Work::Init { rates } => create_office(rt, store, rates, start),
-        Work::Serve { .. } | Work::Import { .. } | Work::Statement { .. } => {
-            open_whole(rt, store, start, again)
-        }
+        Work::Serve { .. } | Work::Import { .. } | Work::Statement { .. } | Work::Backup { .. } =>
+            open_whole(rt, store, start, again),
     };
     match work_on(rt, opened, store, work, &mut rt.stderr()) {
         Ok(done) => {
@@ -81,7 +106,7 @@ fn work_at<S: Start>(
 
 // Opens the store at a path, with all that was accepted in its own file: where its log is longer
 // than a close leaves it, as a kill does, the store is closed and opened once more.
-fn open_whole<S: Start>(
+pub(crate) fn open_whole<S: Start>(
     rt: &HostRuntime,
     store: &str,
     start: S,

@@ -5,14 +5,18 @@ use clear_book::calls::Command;
 use clear_book::files::BankFile;
 use clear_book::numbers::RequestNo;
 use clear_callers::directory::Directory;
+use clear_check::Checked;
+use clear_check::bank::check_bank;
+use clear_check::callers::check_callers;
+use clear_check::rates::check_rates;
 use clear_cli::line::read_words;
-use clear_cli::words::{LineFault, Words};
+use clear_cli::words::{FileKind, LineFault, Words};
 use clear_host::files::{read_caller_file, read_file, read_rate_file};
 use clear_money::days::Day;
 use clear_money::numbers::EmployerNo;
 use clear_money::rates::RateTable;
 use clear_sample::samples::sample_rates;
-use std::alloc::AllocError;
+use std::alloc::{AllocError, Global};
 use std::{env, io};
 
 // The word that names the sample's rates or callers in the place of a file.
@@ -23,22 +27,28 @@ const SAMPLE: &str = "sample";
 pub enum Task<'a> {
     /// Writes a text.
     Say(String),
+    /// Says what a file holds, or its first fault.
+    Check(Checked),
     /// Serves the input over a new office in memory.
     Stream {
         rates: RateTable,
         directory: Directory,
         day: Day,
     },
+    /// Tells what stands in the store at a path.
+    Look {
+        store: &'a str,
+    },
     /// Works on the store at a path.
     OnStore {
         store: &'a str,
-        work: Work,
+        work: Work<'a>,
     },
 }
 
 /// What is done with a store. It is made first, or opened.
 #[derive(Drop)]
-pub enum Work {
+pub enum Work<'a> {
     /// Makes it, with these opening rates.
     Init {
         rates: RateTable,
@@ -60,6 +70,10 @@ pub enum Work {
     Statement {
         day: Day,
         employer: EmployerNo,
+    },
+    /// Copies it into a new file at a path.
+    Backup {
+        copy: &'a str,
     },
 }
 
@@ -151,6 +165,24 @@ fn prepare<'a>(rt: &HostRuntime, words: Words<'a>) -> Result<Task<'a>, Stop> {
         }
         // There is one schema so far, so that no store can be migrated.
         Words::Migrate { store: _ } => Err(Stop::Line),
+        Words::Look { store } => Ok(Task::Look { store }),
+        Words::Check { kind, file } => {
+            let bytes = read_file(rt, file)?;
+            Ok(Task::Check(check_file(rt.alloc(), kind, bytes.as_slice())?))
+        }
+        Words::Backup { store, file } => {
+            let work = Work::Backup { copy: file };
+            Ok(Task::OnStore { store, work })
+        }
+    }
+}
+
+// What is said of the bytes of a file of this kind.
+fn check_file(alloc: Global, kind: FileKind, bytes: &[u8]) -> Result<Checked, AllocError> {
+    match kind {
+        FileKind::Rates => check_rates(alloc, bytes),
+        FileKind::Callers => check_callers(alloc, bytes),
+        FileKind::Bank => check_bank(alloc, bytes),
     }
 }
 

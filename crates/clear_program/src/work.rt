@@ -1,6 +1,6 @@
 //! What is done with an office.
 
-use crate::ready::{meaning, ready_line};
+use crate::ready::{copied_line, meaning, ready_line};
 use crate::stop::{NO_MEMORY, Stop, stop_at_records, write_front};
 use crate::tasks::Work;
 use clear_book::calls::{Caller, Command, Query};
@@ -8,6 +8,7 @@ use clear_book::numbers::RequestNo;
 use clear_book::outcomes::{Answer, Reply};
 use clear_book::rules::{Rule, StoreCause};
 use clear_callers::directory::Directory;
+use clear_host::backup::copy_whole;
 use clear_host::connections::{Ended, Watch, serve_connections};
 use clear_host::named::NamedFile;
 use clear_host::offices::{NotOpened, Opened};
@@ -60,7 +61,7 @@ pub fn work_on<S: Alter + Drop, E: Write>(
     rt: &HostRuntime,
     opened: Result<Opened<S>, NotOpened<S>>,
     store: &str,
-    work: Work,
+    work: Work<'_>,
     errors: &mut E,
 ) -> Result<Done<S>, Stop> {
     match opened {
@@ -77,7 +78,7 @@ fn do_work<S: Alter, E: Write>(
     rt: &HostRuntime,
     opened: &mut Opened<S>,
     store: &str,
-    work: Work,
+    work: Work<'_>,
     errors: &mut E,
 ) -> Result<String, Stop> {
     let alloc = rt.alloc();
@@ -98,6 +99,7 @@ fn do_work<S: Alter, E: Write>(
             command,
         } => import(alloc, &mut opened.office, day, number, &command),
         Work::Statement { day, employer } => statement(alloc, &mut opened.office, day, employer),
+        Work::Backup { copy } => backup(rt, store, copy, &opened.ledger_day),
     }
 }
 
@@ -187,6 +189,17 @@ fn statement<S: Alter>(
         Answer::Text(document) => Ok(String::from_str(alloc, document.as_str())?),
         Answer::Owed { .. } => Err(stop_at_records()),
     }
+}
+
+// Copies the file of the store at a path, which is open and held, and whole without its log.
+fn backup(
+    rt: &HostRuntime,
+    store: &str,
+    copy: &str,
+    ledger_day: &Option<Day>,
+) -> Result<String, Stop> {
+    copy_whole(rt, store, copy)?;
+    Ok(copied_line(rt.alloc(), ledger_day)?)
 }
 
 /// Writes a text on standard output.

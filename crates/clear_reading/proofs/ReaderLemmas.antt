@@ -158,13 +158,13 @@ module _ {S T X : Type 0} (g : Ghosts S) (show : X → Row) (P : X → Type 0) w
             absurd (omega (arith, much, sum, small));
       }
 
-  -- a document over the rows that a reader gave up to its end, and one that was refused
-  module _ (old new : StoredRows S T g) (text_of : List X → List ℕ) (AreRight : List X → Type 0) where
-    pub told : (document : List ℕ) (given : List X) → YieldsThen (Gives g show P) old given None new → document ≡ text_of given → Tells g show (conn_of old) (conn_of new) text_of AreRight (Ok document)
-    told document given run text =
+  -- what is told of the rows that a reader gave up to its end, and what was refused
+  module _ {A : Type 0} (old new : StoredRows S T g) (told_of : List X → A) (AreRight : List X → Type 0) where
+    pub told : (it : A) (given : List X) → YieldsThen (Gives g show P) old given None new → it ≡ told_of given → Tells g show (conn_of old) (conn_of new) told_of AreRight (Ok it)
+    told it given run is =
         let all = done old new given run in
         record {
-          written = λ clean rest to_give. text ∙ ap text_of (all.is clean rest to_give);
+          written = λ clean rest to_give. is ∙ ap told_of (all.is clean rest to_give);
           cause = λ clean rest to_give right. tt;
           same = all.same;
           kept = λ clean. unchanged_keeps (state g (conn_of old)) (state g (conn_of new)) (all.same clean);
@@ -172,7 +172,7 @@ module _ {S T X : Type 0} (g : Ghosts S) (show : X → Row) (P : X → Type 0) w
           survives = all.survives;
         }
 
-    pub cut_off : (why : RowFault) (fault : Fault) → fault ≡ fault_told why → Stopped AreRight old why new → Tells g show (conn_of old) (conn_of new) text_of AreRight (Err fault)
+    pub cut_off : (why : RowFault) (fault : Fault) → fault ≡ fault_told why → Stopped AreRight old why new → Tells g show (conn_of old) (conn_of new) told_of AreRight (Err fault)
     cut_off why fault is all =
         record {
           written = λ clean rest to_give. tt;

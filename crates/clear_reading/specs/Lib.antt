@@ -1,4 +1,6 @@
 pub mod Faults
+pub mod Look
+pub mod LookParts
 pub mod Payout
 pub mod Reader
 pub mod Source

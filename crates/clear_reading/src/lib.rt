@@ -5,13 +5,16 @@
 //! find, whatever else the book holds. Outside of one `tell_list` writes the document of a list,
 //! whose claims it reads one at a time: a list may have every claim of the book. `tell_reminders`
 //! writes that of a reminder run so, and `tell_suspense` that of the lines in suspense, in one pass
-//! over all bank lines. None of them changes anything, and none fails for a key or a row of a lawful
-//! book.
+//! over all bank lines; and `look` tells what stands in a store, in one pass over each of four
+//! tables. None of them changes anything, and none fails for a key or a row of a lawful book.
 #![tactic(auto)]
 
+mod counting;
 pub mod lists;
+pub mod look;
 pub mod payout;
 pub mod reminders;
+mod row_counts;
 pub mod stored;
 pub mod suspense;
 mod telling;

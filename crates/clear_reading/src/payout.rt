@@ -152,8 +152,8 @@ fn add_paid(rows: &[ClaimRow]) -> Option<u64>
     Some(sum)
 }
 
-// Whether something of a claim is to be paid out: it is released, and on no list yet.
-fn is_payable(row: &ClaimRow) -> bool
+/// Whether something of a claim is to be paid out: it is released, and on no list yet.
+pub(crate) fn is_payable(row: &ClaimRow) -> bool
     ensures { result ≡ is_payable row.now.state }
 {
     match row.state {

@@ -1,6 +1,8 @@
 //! The rows of a table that a query shows, one at a time.
-ghost use Rattle.std.specs.Prelude.{◌≡◌, IfErr, IfOk};
+ghost use Rattle.std.specs.List.{AllByRecursion};
+ghost use Rattle.std.specs.Prelude.{◌≡◌, IfErr, IfOk, slice_get};
 ghost use Rattle.clear_reading.specs.Faults.{fault_told};
+ghost use Rattle.clear_reading.specs.Reader.{Tells};
 
 use clear_columns::rows::{StoredTable, next_row};
 use clear_schema::fault::Fault;
@@ -30,6 +32,17 @@ impl<S: Alter, T: StoredTable> RowSource for StoredRows<'_, '_, S, T> {
             Err(fault) => Err(row_fault(fault)),
         }
     }
+}
+
+/// The first row that a query for rows of a table still has to give, if there is one.
+pub(crate) fn first_row<T: StoredTable, S: Alter>(
+    rows: &mut Rows<'_, S>,
+) -> Result<Option<T::Row>, Fault>
+    ensures same_reference { rows.new.conn.ghost_name ≡ rows.old.conn.ghost_name }
+    ensures tells { Tells S.Store T.shown rows.old.conn.now rows.new.conn.now
+        (λ rest. slice_get rest 0) (AllByRecursion T.is_in_range) result }
+{
+    next_row::<T, S>(rows)
 }
 
 // A fault of the store, as one of a row.

@@ -9,20 +9,20 @@ use Rattle.clear_schema.specs.Schema.{Layout, all_indexes, schema_of, this_layou
 
 abbrev pub pieces_table : Table
 pieces_table =
-    keyed (codes "pieces") 24 (1 ∷ 2 ∷ []) ([]) (
+    keyed (codes "pieces") 26 (1 ∷ 2 ∷ []) ([]) (
     int (codes "employer")
     ∷ int (codes "month")
     ∷ int (codes "cents")
     ∷ [])
 
 abbrev pub by_gross : Index
-by_gross = index (codes "wages_by_gross") wages_table (4 ∷ []) 26
+by_gross = index (codes "wages_by_gross") wages_table (4 ∷ []) 28
 
 -- this program's number still tells of it
 abbrev pub more_layout : Layout
 more_layout = record this_layout {
   further = pieces_table ∷ [];
-  indexes = all_indexes ++ automatic pieces_table 0 (1 ∷ 2 ∷ []) 25 ∷ by_gross ∷ [];
+  indexes = all_indexes ++ automatic pieces_table 0 (1 ∷ 2 ∷ []) 27 ∷ by_gross ∷ [];
 }
 
 -- or one of its own

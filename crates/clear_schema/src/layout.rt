@@ -165,6 +165,14 @@ const TABLES: &'static [TableLayout] = &[
             Int("c"),
         ],
     },
+    TableLayout {
+        name: "charges",
+        tree: 19,
+        key: None,
+        primary: &[1, 2],
+        uniques: &[KeyLayout(&[1, 2])],
+        columns: &[Int("employer"), Int("month"), Int("due"), Int("cents")],
+    },
 ];
 
 // The indexes that keep the keys, and those that find wages, claims and reminders.
@@ -219,36 +227,43 @@ const INDEXES: &'static [IndexLayout] = &[
         is_unique: true,
     },
     IndexLayout {
+        name: "sqlite_autoindex_charges_1",
+        tree: 20,
+        table: 19,
+        columns: &[1, 2],
+        is_unique: true,
+    },
+    IndexLayout {
         name: "wages_by_worker",
-        tree: 19,
+        tree: 21,
         table: 5,
         columns: &[3, 1, 2],
         is_unique: false,
     },
     IndexLayout {
         name: "claims_by_worker",
-        tree: 20,
+        tree: 22,
         table: 12,
         columns: &[3, 0],
         is_unique: false,
     },
     IndexLayout {
         name: "claims_by_release",
-        tree: 21,
+        tree: 23,
         table: 12,
         columns: &[7],
         is_unique: false,
     },
     IndexLayout {
         name: "claims_by_list",
-        tree: 22,
+        tree: 24,
         table: 12,
         columns: &[11],
         is_unique: false,
     },
     IndexLayout {
         name: "reminders_by_employer",
-        tree: 23,
+        tree: 25,
         table: 15,
         columns: &[2, 1],
         is_unique: false,

@@ -17,8 +17,8 @@ there_with : (change : Change) (c : Counts) (t : Tables) → IsThere change t �
 there_with (AddRate row) c t there = there
 there_with (AddEmployer row) c t there = there
 there_with (EndMembership row) c t there = there
-there_with (AddReport row lines) c t there = there
-there_with (ReplaceReport row lines) c t there = there
+there_with (AddReport row lines charge) c t there = there
+there_with (ReplaceReport row lines charge) c t there = there
 there_with (AddBankLines rows) c t there = there
 there_with (AssignLine row) c t there = there
 there_with (AddClaim row) c t there = there
@@ -31,8 +31,8 @@ free_with : (change : Change) (c : Counts) (t : Tables) → IsFree change t → 
 free_with (AddRate row) c t free = free
 free_with (AddEmployer row) c t free = free
 free_with (EndMembership row) c t free = free
-free_with (AddReport row lines) c t free = free
-free_with (ReplaceReport row lines) c t free = free
+free_with (AddReport row lines charge) c t free = free
+free_with (ReplaceReport row lines charge) c t free = free
 free_with (AddBankLines rows) c t free = free
 free_with (AssignLine row) c t free = free
 free_with (AddClaim row) c t free = free
@@ -65,8 +65,8 @@ pub counted : (day : ℕ) (change : Change) (t : Tables) → rows_put change (wi
 counted day (AddRate row) t = none_taken day (AddRate row) t
 counted day (AddEmployer row) t = none_taken day (AddEmployer row) t
 counted day (EndMembership row) t = none_taken day (EndMembership row) t
-counted day (AddReport row lines) t = none_taken day (AddReport row lines) t
-counted day (ReplaceReport row lines) t = none_taken day (ReplaceReport row lines) t
+counted day (AddReport row lines charge) t = none_taken day (AddReport row lines charge) t
+counted day (ReplaceReport row lines charge) t = none_taken day (ReplaceReport row lines charge) t
 counted day (AddBankLines rows) t = λ i. numbered day (AddBankLines rows) t (t.serial + length rows) (no_more t.last_claim i) (no_more t.last_list i) (no_more t.last_run i)
 counted day (AssignLine row) t = none_taken day (AssignLine row) t
 counted day (AddClaim row) t = λ i. numbered day (AddClaim row) t (no_more t.serial i) (t.last_claim + 1) (no_more t.last_list i) (no_more t.last_run i)

@@ -18,12 +18,14 @@ use Rattle.clear_values.specs.declared.rows.Change.TheVariants.{AddList, AddRun}
 use Rattle.clear_values.specs.declared.rows.ClaimRow.{ClaimRow}
 use Rattle.clear_values.specs.declared.rows.CreditRow.{CreditRow}
 use Rattle.clear_values.specs.declared.rows.EmployerRow.{EmployerRow}
+use Rattle.clear_values.specs.declared.rows.ReportRow.{ReportRow}
 use Rattle.clear_values.specs.declared.texts.WageLine.{WageLine}
 use Rattle.clear_values.specs.Keyed.{find_row, with_row, without_rows, AreOnce}
-use Rattle.clear_values.specs.Limits.{most_entries, most_gross, most_serials, most_versions}
+use Rattle.clear_values.specs.Limits.{most_base, most_entries, most_gross, most_serials}
+use Rattle.clear_values.specs.Limits.{most_versions}
 use Rattle.clear_values.specs.RowRanges.{IsClaimRow, IsListRow, IsReminderRow, IsRunRow, IsSerial}
 use Rattle.clear_values.specs.Tables.{Tables, bank_key, claim_key, employer_key, report_key}
-use Rattle.clear_values.specs.Tables.{wage_key, list_key, run_key, reminder_key}
+use Rattle.clear_values.specs.Tables.{wage_key, charge_key, list_key, run_key, reminder_key}
 use Rattle.clear_values.specs.Tables.{is_wage_key_of, wage_rows}
 use Rattle.clear_values.specs.declared.causes.StoreCause.TheVariants.{Constraint, Row as OutOfRange}
 use Rattle.clear_schema.specs.Held.{HasTables}
@@ -64,6 +66,10 @@ IsLastRate row t = last_first t.rates < row.first
 abbrev pub IsEmployerThere : EmployerRow → Tables → Type 0
 IsEmployerThere row t = IsSome (find_row employer_key t.employers (employer_key row))
 
+-- there is a report of its month
+abbrev pub IsReportThere : ReportRow → Tables → Type 0
+IsReportThere row t = IsSome (find_row report_key t.reports (report_key row))
+
 -- there is a line that is this one but for its firm
 abbrev pub IsLineThere : BankRow → Tables → Type 0
 IsLineThere row t =
@@ -79,14 +85,15 @@ abbrev pub AreClaimsThere : List ClaimRow → Tables → Type 0
 AreClaimsThere claims t =
     AllByRecursion (λ claim. IsClaimThere claim t) claims × AreOnce claim_key claims
 
--- a row of rates is the last one, the month of a correction has a report, and a firm, a line or a
--- claim that is to be changed is there
+-- a row of rates is the last one, the month of a correction has a report, and its contribution is
+-- one of a report, and a firm, a line or a claim that is to be changed is there
 abbrev pub IsThere : Change → Tables → Type 0
 IsThere (AddRate row) t = IsLastRate row t
 IsThere (AddEmployer row) t = Unit {0}
 IsThere (EndMembership row) t = IsEmployerThere row t
-IsThere (AddReport row lines) t = Unit {0}
-IsThere (ReplaceReport row lines) t = IsSome (find_row report_key t.reports (report_key row))
+IsThere (AddReport row lines charge) t = Unit {0}
+IsThere (ReplaceReport row lines charge) t =
+    IsReportThere row t × (charge.cents ≤ most_base)
 IsThere (AddBankLines rows) t = Unit {0}
 IsThere (AssignLine row) t = IsLineThere row t
 IsThere (AddClaim row) t = Unit {0}
@@ -111,17 +118,26 @@ HaveSerials credits = AllByRecursion (λ row. IsSerial row.serial) credits
 abbrev pub IsVersion : ℕ → Type 0
 IsVersion n = (1 ≤ n) × (n ≤ most_versions)
 
+-- the key of a month's report is free, and that of each of its lines
+abbrev pub IsMonthFree : ReportRow → List WageLine → Tables → Type 0
+IsMonthFree row lines t =
+    (find_row report_key t.reports (report_key row) ≡ None)
+    × AreFree wage_key t.wages (wage_rows row.employer row.month lines)
+
+-- that of each line is free, once those that stand for the month are gone
+abbrev pub AreLinesFree : ReportRow → List WageLine → Tables → Type 0
+AreLinesFree row lines t =
+    AreFree wage_key (without_rows wage_key (is_wage_key_of row.employer row.month) t.wages)
+    (wage_rows row.employer row.month lines)
+
 -- each key that the change adds is free
 abbrev pub IsFree : Change → Tables → Type 0
 IsFree (AddRate row) t = find_row rate_key t.rates (rate_key row) ≡ None
 IsFree (AddEmployer row) t = find_row employer_key t.employers (employer_key row) ≡ None
 IsFree (EndMembership row) t = Unit {0}
-IsFree (AddReport row lines) t =
-    (find_row report_key t.reports (report_key row) ≡ None)
-    × AreFree wage_key t.wages (wage_rows row.employer row.month lines)
-IsFree (ReplaceReport row lines) t =
-    AreFree wage_key (without_rows wage_key (is_wage_key_of row.employer row.month) t.wages)
-    (wage_rows row.employer row.month lines)
+IsFree (AddReport row lines charge) t =
+    IsMonthFree row lines t × (find_row charge_key t.charges (charge_key charge) ≡ None)
+IsFree (ReplaceReport row lines charge) t = AreLinesFree row lines t
 IsFree (AddBankLines rows) t =
     AreFree bank_key t.bank rows × AreFree serial_key t.bank rows
     × AreFree credit_key t.credits (credits_of_lines rows)
@@ -133,13 +149,19 @@ IsFree (AddList row claims) t = find_row list_key t.lists (list_key row) ≡ Non
 IsFree (AddRun row reminders) t =
     (find_row run_key t.runs (run_key row) ≡ None) × AreFree reminder_key t.reminders reminders
 
+-- the numbers of a month's report lie in their ranges
+abbrev pub IsMonthInRange : ReportRow → List WageLine → Type 0
+IsMonthInRange row lines = IsVersion row.version × AreGross lines
+
 -- the numbers in the rows lie in their ranges
 abbrev pub IsInRange : Change → Type 0
 IsInRange (AddRate row) = Unit {0}
 IsInRange (AddEmployer row) = Unit {0}
 IsInRange (EndMembership row) = Unit {0}
-IsInRange (AddReport row lines) = IsVersion row.version × AreGross lines
-IsInRange (ReplaceReport row lines) = IsVersion row.version × AreGross lines
+IsInRange (AddReport row lines charge) =
+    IsMonthInRange row lines × (charge.cents ≤ most_base)
+IsInRange (ReplaceReport row lines charge) =
+    IsMonthInRange row lines × (charge.cents ≤ most_base)
 IsInRange (AddBankLines rows) = AreSerials rows
 IsInRange (AssignLine row) = IsSerial row.serial
 IsInRange (AddClaim row) = IsClaimRow row
@@ -157,8 +179,8 @@ abbrev pub taken_by : Change → Taken
 taken_by (AddRate row) = nothing
 taken_by (AddEmployer row) = nothing
 taken_by (EndMembership row) = nothing
-taken_by (AddReport row lines) = nothing
-taken_by (ReplaceReport row lines) = nothing
+taken_by (AddReport row lines charge) = nothing
+taken_by (ReplaceReport row lines charge) = nothing
 taken_by (AddBankLines rows) = record nothing { serials = length rows }
 taken_by (AssignLine row) = nothing
 taken_by (AddClaim row) = record nothing { claims = 1 }

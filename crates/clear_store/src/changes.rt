@@ -63,8 +63,8 @@ fn put_rows<S: Alter>(
         Change::AddRate(row) => add_rate(tx, row),
         Change::AddEmployer(row) => add_employer(tx, row),
         Change::EndMembership(row) => put_employer(tx, row),
-        Change::AddReport(row, lines) => add_report(tx, row, lines.as_slice()),
-        Change::ReplaceReport(row, lines) => put_report(tx, row, lines.as_slice()),
+        Change::AddReport(row, lines, charge) => add_report(tx, row, lines.as_slice(), charge),
+        Change::ReplaceReport(row, lines, charge) => put_report(tx, row, lines.as_slice(), charge),
         Change::AddBankLines(rows) => add_lines(alloc, tx, rows.as_slice()),
         Change::AssignLine(row) => put_line(alloc, tx, row),
         Change::AddClaim(row) => add_claim(tx, row),
@@ -101,8 +101,8 @@ fn taken_by(change: &Change) -> Taken
         Change::AddRate(_) => NOTHING,
         Change::AddEmployer(_) => NOTHING,
         Change::EndMembership(_) => NOTHING,
-        Change::AddReport(_, _) => NOTHING,
-        Change::ReplaceReport(_, _) => NOTHING,
+        Change::AddReport(_, _, _) => NOTHING,
+        Change::ReplaceReport(_, _, _) => NOTHING,
         Change::AddBankLines(rows) => Taken {
             serials: rows.as_slice().len() as u64,
             ..NOTHING

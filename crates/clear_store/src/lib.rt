@@ -11,6 +11,6 @@ mod month_report;
 mod runs;
 mod suspense;
 
-pub use clear_firms::{counts, employers, rates, reports, wages};
+pub use clear_firms::{charges, counts, employers, rates, reports, wages};
 pub use clear_ledger::{bank, credits, requests};
 pub use clear_schema::{body, fault, files, store};

@@ -1,29 +1,75 @@
-//! A month's report: its row, and the wage rows of its lines.
+//! A month's report: its row, the wage rows of its lines, and the contribution for it.
 ghost use Rattle.std.specs.Prelude.{◌≡◌};
-ghost use Rattle.clear_values.specs.Keyed.{with_rows, without_rows};
-ghost use Rattle.clear_values.specs.Tables.{changed, is_wage_key_of, wage_key, wage_rows, with_wages};
-ghost use Rattle.clear_store.specs.Changes.{AreFree, AreGross, IsFree, IsInRange, IsThere, Puts};
+ghost use Rattle.clear_values.specs.Keyed.{put_row, with_row, with_rows, without_rows};
+ghost use Rattle.clear_values.specs.Tables.{changed, is_wage_key_of, report_key, wage_key};
+ghost use Rattle.clear_values.specs.Tables.{wage_rows, with_wages};
+ghost use Rattle.clear_store.specs.Changes.{AreFree, AreGross, AreLinesFree, IsFree, IsInRange};
+ghost use Rattle.clear_store.specs.Changes.{IsMonthFree, IsMonthInRange, IsReportThere, IsThere};
+ghost use Rattle.clear_store.specs.Changes.{Puts};
 
+use clear_firms::charges::{insert_charge, replace_charge};
 use clear_firms::reports::{insert_report, replace_report};
 use clear_firms::wages::{delete_wages, insert_wage};
 use clear_money::months::Month;
 use clear_money::numbers::EmployerNo;
 use clear_schema::fault::Fault;
-use clear_values::rows::{Change, ReportRow, WageRow};
+use clear_values::rows::{Change, KeptCharge, ReportRow, WageRow};
 use clear_values::texts::WageLine;
 use sqlite::{Alter, Transaction};
 
-// Adds the first report of a month.
+// Adds the first report of a month, and the contribution for it.
 pub(crate) fn add_report<S: Alter>(
+    tx: &mut Transaction<'_, S>,
+    row: &ReportRow,
+    lines: &[WageLine],
+    charge: &KeptCharge,
+) -> Result<(), Fault>
+    ensures same_reference { tx.new.conn.ghost_name ≡ tx.old.conn.ghost_name }
+    ensures puts { Puts S.Store tx.old.conn.now tx.new.conn.now result (λ _. Unit {0})
+        (IsFree (Change.AddReport row.now lines.now charge.now))
+        (IsInRange (Change.AddReport row.now lines.now charge.now))
+        (changed (Change.AddReport row.now lines.now charge.now)) }
+{
+    match insert_charge(tx, *charge) {
+        Ok(()) => insert_month(tx, row, lines),
+        Err(fault) => Err(fault),
+    }
+}
+
+// Puts a correction and the contribution for it in the place of a month's report and contribution.
+pub(crate) fn put_report<S: Alter>(
+    tx: &mut Transaction<'_, S>,
+    row: &ReportRow,
+    lines: &[WageLine],
+    charge: &KeptCharge,
+) -> Result<(), Fault>
+    ensures same_reference { tx.new.conn.ghost_name ≡ tx.old.conn.ghost_name }
+    ensures puts { Puts S.Store tx.old.conn.now tx.new.conn.now result
+        (IsThere (Change.ReplaceReport row.now lines.now charge.now))
+        (IsFree (Change.ReplaceReport row.now lines.now charge.now))
+        (IsInRange (Change.ReplaceReport row.now lines.now charge.now))
+        (changed (Change.ReplaceReport row.now lines.now charge.now)) }
+{
+    match replace_charge(tx, *charge) {
+        Ok(()) => replace_month(tx, row, lines),
+        Err(fault) => Err(fault),
+    }
+}
+
+// Adds the row of the first report of a month, and a row for each of its lines.
+fn insert_month<S: Alter>(
     tx: &mut Transaction<'_, S>,
     row: &ReportRow,
     lines: &[WageLine],
 ) -> Result<(), Fault>
     ensures same_reference { tx.new.conn.ghost_name ≡ tx.old.conn.ghost_name }
     ensures puts { Puts S.Store tx.old.conn.now tx.new.conn.now result (λ _. Unit {0})
-        (IsFree (Change.AddReport row.now lines.now))
-        (IsInRange (Change.AddReport row.now lines.now))
-        (changed (Change.AddReport row.now lines.now)) }
+        (IsMonthFree row.now lines.now) (IsMonthInRange row.now lines.now)
+        (λ t. record t {
+          reports = with_row report_key t.reports row.now;
+          wages = with_rows wage_key t.wages
+              (wage_rows row.now.employer row.now.month lines.now);
+        }) }
 {
     match insert_report(tx, *row) {
         Ok(()) => insert_wages(tx, row.employer, row.month, lines),
@@ -31,18 +77,20 @@ pub(crate) fn add_report<S: Alter>(
     }
 }
 
-// Puts a correction in the place of a month's report.
-pub(crate) fn put_report<S: Alter>(
+// Puts the row of a correction in the place of that of the month's report, and the rows of its lines
+// in the place of what stood for the month.
+fn replace_month<S: Alter>(
     tx: &mut Transaction<'_, S>,
     row: &ReportRow,
     lines: &[WageLine],
 ) -> Result<(), Fault>
     ensures same_reference { tx.new.conn.ghost_name ≡ tx.old.conn.ghost_name }
-    ensures puts { Puts S.Store tx.old.conn.now tx.new.conn.now result
-        (IsThere (Change.ReplaceReport row.now lines.now))
-        (IsFree (Change.ReplaceReport row.now lines.now))
-        (IsInRange (Change.ReplaceReport row.now lines.now))
-        (changed (Change.ReplaceReport row.now lines.now)) }
+    ensures puts { Puts S.Store tx.old.conn.now tx.new.conn.now result (IsReportThere row.now)
+        (AreLinesFree row.now lines.now) (IsMonthInRange row.now lines.now)
+        (λ t. record t {
+          reports = put_row report_key t.reports row.now;
+          wages = with_wages row.now.employer row.now.month lines.now t.wages;
+        }) }
 {
     match replace_report(tx, *row) {
         Ok(()) => replace_wages(tx, row.employer, row.month, lines),

@@ -7,7 +7,7 @@ use Rattle.std.specs.List.{repeat}
 use Rattle.std.proofs.lemmas.Bool.{cases_lt}
 use Rattle.std.proofs.lemmas.Fmt.{decimal_digit, decimal_step}
 use Rattle.clear_money.specs.Texts.{two_digits}
-use Rattle.clear_book.specs.Documents.Amounts.{amount_text}
+use Rattle.clear_book.specs.Documents.Amounts.{amount_text, euros_text}
 
 spaces : (n : ℕ) → repeat {A = ℕ} n (32 ∷ []) ≡ replicate n 32
 spaces zero = refl
@@ -39,3 +39,8 @@ amount_parts cents =
     let shown : amount_text cents ≡ replicate (11 - length euros) 32 ++ (euros ++ codes "." ++ two) = λ i. replicate (places i) 32 ++ (euros ++ codes "." ++ two) in
     let joined : replicate (11 - length euros) 32 ++ (euros ++ codes "." ++ two) ≡ replicate (11 - length euros) 32 ++ euros ++ 46 ∷ two = simp append_assoc in
     rw (right_in_11 euros, two_places (cents % 100) low) (sym (shown ∙ joined))
+
+pub euros_parts : (cents : ℕ) → decimal (cents / 100) ++ 46 ∷ styled_decimal (format_spec 32 0 4 2 (2 ^ 64 - 1)) (cents % 100) ≡ euros_text cents
+euros_parts cents =
+    let low : cents % 100 < 100 = omega arith in
+    rw (two_places (cents % 100) low) (sym (append_assoc (decimal (cents / 100)) (codes ".") (two_digits (cents % 100))))

@@ -2,6 +2,7 @@ pub mod Adding
 pub mod Charges
 pub mod Earned
 pub mod Laws
+pub mod Look
 pub mod Records
 pub mod RowSteps
 pub mod Rows

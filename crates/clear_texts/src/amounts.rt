@@ -1,6 +1,6 @@
 //! Amounts of money as documents write them.
 ghost use Rattle.std.specs.Prelude.{◌≡◌, ◌++◌, IfOk, string_bytes};
-ghost use Rattle.clear_book.specs.Documents.Amounts.{amount_text};
+ghost use Rattle.clear_book.specs.Documents.Amounts.{amount_text, euros_text};
 
 use std::alloc::AllocError;
 use std::fmt::Write;
@@ -21,4 +21,13 @@ fn write_amount(text: &mut String, cents: u64) -> Result<(), AllocError>
         ≡ string_bytes text.old ++ amount_text cents) }
 {
     write!(text, "{:>11}.{:02}", cents / 100, cents % 100)
+}
+
+/// Appends a text, and an amount of cents in euros with two digits of cents. An `Err` may leave a
+/// part of it.
+pub(crate) fn append_euros(text: &mut String, before: &str, cents: u64) -> Result<(), AllocError>
+    ensures { IfOk result (λ _. string_bytes text.new
+        ≡ string_bytes text.old ++ before.now ++ euros_text cents) }
+{
+    write!(text, "{before}{}.{:02}", cents / 100, cents % 100)
 }

@@ -19,6 +19,8 @@
 //! of memory, for what the source tells, or, of a statement, for one row more than an account has,
 //! and of lines in suspense, for 2^64 cents or more. A list may have any number of claims, a run
 //! any number of reminders, and there may be any number of lines.
+//!
+//! `look_text` is no document of a day, but what stands in a store, in twelve lines.
 #![tactic(auto)]
 
 mod account;
@@ -31,6 +33,7 @@ mod firm;
 pub mod laws;
 mod line_rows;
 mod lines;
+pub mod look;
 pub mod missing;
 pub mod payout;
 pub mod records;

@@ -10,6 +10,7 @@ first_tables rates = record {
   employers = [];
   reports = [];
   wages = [];
+  charges = [];
   bank = [];
   credits = [];
   claims = [];

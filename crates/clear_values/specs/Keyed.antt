@@ -1,6 +1,6 @@
 -- Rows in the order of their keys. A key is a list of numbers.
 use Rattle.std.specs.Prelude.{◌≡◌, ℕ, List, [], ◌∷◌, Option, Some, None, Bool, true, false, ◌&&◌}
-use Rattle.std.specs.Prelude.{◌||◌, ◌==◌, nat_lt, if◌then◌else◌, not, filter}
+use Rattle.std.specs.Prelude.{◌||◌, ◌==◌, nat_lt, if◌then◌else◌, is_some, not, filter}
 
 -- whether two keys are one
 abbrev pub is_key : List ℕ → List ℕ → Bool
@@ -59,6 +59,14 @@ module _ {Row : Type 0} (key : Row → List ℕ) where
   -- the rows and the new one, in place of the row with its key, if there is one
   abbrev pub put_row : List Row → Row → List Row
   put_row rows new = with_row (without_rows (λ k. is_key k (key new)) rows) new
+
+  -- a row has the key of this one
+  abbrev pub is_held : Row → List Row → Bool
+  is_held row rows = is_some (find_row rows (key row))
+
+  -- the rows, this one in the place of the one with its key, where there is one
+  abbrev pub replaced : Row → List Row → List Row
+  replaced row rows = if is_held row rows then put_row rows row else rows
 
   -- the rows and several new ones, each in place of the row with its key, one after another
   abbrev pub put_rows : List Row → List Row → List Row

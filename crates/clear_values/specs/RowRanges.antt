@@ -15,6 +15,7 @@ use Rattle.clear_values.specs.declared.rows.ClaimState.{ClaimState}
 use Rattle.clear_values.specs.declared.rows.ClaimState.TheVariants.{Open, Withdrawn, Released}
 use Rattle.clear_values.specs.declared.rows.CreditRow.{CreditRow}
 use Rattle.clear_values.specs.declared.rows.EmployerRow.{EmployerRow}
+use Rattle.clear_values.specs.declared.rows.KeptCharge.{KeptCharge}
 use Rattle.clear_values.specs.declared.rows.ListRow.{ListRow}
 use Rattle.clear_values.specs.declared.rows.ReleasedClaim.{ReleasedClaim}
 use Rattle.clear_values.specs.declared.rows.ReminderRow.{ReminderRow}
@@ -49,6 +50,12 @@ pub record IsWageRow (row : WageRow) : Type 0 where
   pub month : IsMonth row.month
   pub worker : IsWorkerNo row.worker
   pub gross : row.gross ≤ most_gross
+
+pub record IsKeptCharge (row : KeptCharge) : Type 0 where
+  pub employer : IsEmployerNo row.employer
+  pub month : IsMonth row.month
+  pub due : IsDay row.due
+  pub cents : row.cents ≤ most_base
 
 pub record IsBankRow (row : BankRow) : Type 0 where
   pub line : IsBankLine row.line
@@ -133,6 +140,7 @@ pub record AreInRange (t : Tables) : Type 0 where
   pub employers : AllByRecursion IsEmployerRow t.employers
   pub reports : AllByRecursion IsReportRow t.reports
   pub wages : AllByRecursion IsWageRow t.wages
+  pub charges : AllByRecursion IsKeptCharge t.charges
   pub bank : AllByRecursion IsBankRow t.bank
   pub credits : AllByRecursion IsCreditRow t.credits
   pub claims : AllByRecursion IsClaimRow t.claims

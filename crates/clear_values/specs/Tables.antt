@@ -1,6 +1,4 @@
--- The tables: rows by their keys. What a store keeps of accounts besides, the charges with what is
--- open of them and the pieces, is to be no part of these but a record of its own beside them: so a
--- store can be said to be right but for some cents of pieces.
+-- The tables: rows by their keys.
 use Rattle.std.specs.Prelude.{ℕ, ◌+◌, List, [], ◌∷◌, Option, Some, Bool, false, ◌&&◌, ◌==◌}
 use Rattle.std.specs.Prelude.{◌++◌, length, map}
 use Rattle.clear_money.specs.Rates.{Rate}
@@ -18,6 +16,7 @@ use Rattle.clear_values.specs.declared.rows.Change.TheVariants.{AddList, AddRun}
 use Rattle.clear_values.specs.declared.rows.ClaimRow.{ClaimRow}
 use Rattle.clear_values.specs.declared.rows.CreditRow.{CreditRow}
 use Rattle.clear_values.specs.declared.rows.EmployerRow.{EmployerRow}
+use Rattle.clear_values.specs.declared.rows.KeptCharge.{KeptCharge}
 use Rattle.clear_values.specs.declared.rows.ListRow.{ListRow}
 use Rattle.clear_values.specs.declared.rows.ReminderRow.{ReminderRow}
 use Rattle.clear_values.specs.declared.rows.ReportRow.{ReportRow}
@@ -25,7 +24,8 @@ use Rattle.clear_values.specs.declared.rows.RunRow.{RunRow}
 use Rattle.clear_values.specs.declared.rows.WageRow.{WageRow}
 use Rattle.clear_values.specs.declared.texts.WageLine.{WageLine}
 use Rattle.clear_values.specs.Credits.{credit_key, credits_of_lines, set_offs_of}
-use Rattle.clear_values.specs.Keyed.{with_row, with_rows, put_row, put_rows, without_rows}
+use Rattle.clear_values.specs.Keyed.{with_row, with_rows, put_row, put_rows, replaced}
+use Rattle.clear_values.specs.Keyed.{without_rows}
 use Rattle.clear_values.specs.Members.{Member}
 
 -- an accepted request, as it is kept: under its caller and number its day, the bytes of its command
@@ -45,6 +45,7 @@ pub record Tables : Type 0 where
   pub employers : List EmployerRow
   pub reports : List ReportRow
   pub wages : List WageRow
+  pub charges : List KeptCharge
   pub bank : List BankRow
   pub credits : List CreditRow
   pub claims : List ClaimRow
@@ -72,6 +73,10 @@ report_key row = row.employer ∷ row.month ∷ []
 -- an employer, a month and a worker
 abbrev pub wage_key : WageRow → List ℕ
 wage_key row = row.employer ∷ row.month ∷ row.worker ∷ []
+
+-- an employer and a month
+abbrev pub charge_key : KeptCharge → List ℕ
+charge_key row = row.employer ∷ row.month ∷ []
 
 -- the reference of a bank line
 abbrev pub bank_key : BankRow → List ℕ
@@ -135,15 +140,17 @@ abbrev pub changed : Change → Tables → Tables
 changed (AddRate row) t = record t { rates = t.rates ++ row ∷ [] }
 changed (AddEmployer row) t = record t { employers = with_row employer_key t.employers row }
 changed (EndMembership row) t = record t { employers = put_row employer_key t.employers row }
-changed (AddReport row lines) t =
+changed (AddReport row lines charge) t =
     record t {
       reports = with_row report_key t.reports row;
       wages = with_rows wage_key t.wages (wage_rows row.employer row.month lines);
+      charges = with_row charge_key t.charges charge;
     }
-changed (ReplaceReport row lines) t =
+changed (ReplaceReport row lines charge) t =
     record t {
       reports = put_row report_key t.reports row;
       wages = with_wages row.employer row.month lines t.wages;
+      charges = replaced charge_key charge t.charges;
     }
 changed (AddBankLines rows) t =
     record t {

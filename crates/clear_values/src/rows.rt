@@ -54,6 +54,17 @@ pub struct WageRow {
     pub gross: u64,
 }
 
+/// The contribution for the latest report of a month, as it is kept.
+#[derive(Clone, Copy)]
+pub struct KeptCharge {
+    pub employer: EmployerNo,
+    pub month: Month,
+    /// The day on which it is due.
+    pub due: Day,
+    /// Cents.
+    pub cents: u64,
+}
+
 /// A bank line that came in, and counts.
 #[derive(Drop)]
 pub struct BankRow {
@@ -200,10 +211,11 @@ pub enum Change {
     AddEmployer(EmployerRow),
     /// An employer whose membership ends: its row stands in the place of that of its number.
     EndMembership(EmployerRow),
-    /// A first report, with a wage row for each of its lines.
-    AddReport(ReportRow, WageLines),
-    /// A correction: its row and its wage rows stand in the place of the month's.
-    ReplaceReport(ReportRow, WageLines),
+    /// A first report, with a wage row for each of its lines, and the contribution for it.
+    AddReport(ReportRow, WageLines, KeptCharge),
+    /// A correction: its row, its wage rows and the contribution for it stand in the place of the
+    /// month's.
+    ReplaceReport(ReportRow, WageLines, KeptCharge),
     /// The new lines of a bank file; each that has a firm is a credit of it.
     AddBankLines(Rows<BankRow>),
     /// A line that goes out of suspense: its row stands in the place of that of its reference, and

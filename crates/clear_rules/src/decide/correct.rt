@@ -3,13 +3,13 @@ ghost use Rattle.std.specs.Prelude.{◌≡◌, ◌≤◌, ◌+◌, All, IfOk, On
 ghost use Rattle.std.specs.Option.{option_map};
 ghost use Rattle.clear_book.specs.declared.calls.Command.TheVariants.{Correct as DoCorrect};
 ghost use Rattle.clear_book.specs.Book.{Book};
-ghost use Rattle.clear_book.specs.Limits.{most_gross, most_lines};
+ghost use Rattle.clear_book.specs.Limits.{most_base, most_gross, most_lines};
 ghost use Rattle.clear_book.specs.Own.Correct.{own_correct, stale_rule};
 ghost use Rattle.clear_book.specs.Tables.{member_in};
 ghost use Rattle.clear_rules.specs.Decisions.{Obeys, Refuses, IsJudged, TakesTables};
-ghost use Rattle.clear_rules.specs.Views.Report.{IsReportView, next_report};
+ghost use Rattle.clear_rules.specs.Views.Report.{IsReportView, charge_for, next_report};
 
-use super::lines::{charge, check_month, check_sizes, check_workers};
+use super::lines::{check_month, check_sizes, check_workers, kept_charge};
 use super::report::ReportView;
 use clear_book::calls::Correction;
 use clear_book::limits::MAX_VERSIONS;
@@ -36,14 +36,18 @@ pub fn decide_correct(
         → IsJudged b day (DoCorrect correction.now) result }
     // Where the judge gives the reply, the change takes the tables of a lawful book to those of the
     // next.
-    ensures change { (b : Book) → IfOk result (TakesTables b day (DoCorrect correction.now)) }
+    ensures change { (b : Book) → IsReportView b correction.now.report view.now
+        → IfOk result (TakesTables b day (DoCorrect correction.now)) }
     ensures rule { Refuses result (own_correct (option_map member_in view.now.member)
         view.now.version day correction.now) }
     ensures made { IfOk result (λ decision. decision.change
-        ≡ Change.ReplaceReport (next_report correction.now) correction.now.report.lines) }
+        ≡ Change.ReplaceReport (next_report correction.now) correction.now.report.lines
+        (charge_for correction.now.report view.now)) }
     ensures few { OnOk result (length correction.now.report.lines ≤ most_lines) }
     ensures small { OnOk result
         (All (λ line. line.gross ≤ most_gross) correction.now.report.lines) }
+    ensures bound { OnOk result
+        ((charge_for correction.now.report view.now).cents ≤ most_base) }
 {
     let version = match check_correction(alloc, day, correction, view) {
         Ok(version) => version,
@@ -58,12 +62,15 @@ pub fn decide_correct(
         month: report.month,
         version,
     };
+    let lines = report.lines.as_slice();
+    let charge = kept_charge(view.row, report.employer, report.month, lines);
+    let reply = Reply::Reported {
+        version,
+        charge: charge.cents,
+    };
     Ok(Decision {
-        change: Change::ReplaceReport(row, copied),
-        reply: Reply::Reported {
-            version,
-            charge: charge(view.row, report.lines.as_slice()),
-        },
+        change: Change::ReplaceReport(row, copied, charge),
+        reply,
     })
 }
 

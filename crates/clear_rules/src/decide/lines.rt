@@ -2,7 +2,7 @@
 //! for it.
 ghost use Rattle.std.specs.Prelude.{◌≡◌, ◌≤◌, All, IfOk, OnOk, false, length};
 ghost use Rattle.std.specs.Option.{option_map};
-ghost use Rattle.clear_book.specs.Accounts.{base_of, contribution_of_lines};
+ghost use Rattle.clear_book.specs.Accounts.{base_of, contribution_of_lines, due_by, kept_charge};
 ghost use Rattle.clear_book.specs.Checks.{first_of};
 ghost use Rattle.clear_book.specs.Limits.{most_base, most_gross, most_lines};
 ghost use Rattle.clear_book.specs.Own.Lines.{has_large_gross, month_rules, size_rules};
@@ -11,18 +11,60 @@ ghost use Rattle.clear_book.specs.Tables.{member_in};
 ghost use Rattle.clear_rules.specs.Decisions.{Obeys, Refuses};
 
 use clear_book::limits::{MAX_GROSS, MAX_LINES};
-use clear_book::rows::EmployerRow;
+use clear_book::rows::{EmployerRow, KeptCharge};
 use clear_book::rules::{Limit, Rule};
 use clear_book::texts::WageLine;
-use clear_money::days::Day;
+use clear_money::days::{Day, due_day};
 use clear_money::months::Month;
-use clear_money::numbers::WorkerNo;
+use clear_money::numbers::{EmployerNo, WorkerNo};
 use clear_money::rates::{RateRow, contribution};
 use std::alloc::{AllocError, Global};
 use std::collections::BTreeSet;
 
-/// The contribution in cents for lines within the limits at a rate row, and 0 without one.
-pub fn charge(row: Option<RateRow>, lines: &[WageLine]) -> u64
+/// The contribution for lines within the limits of an employer's month, at the rate row in force
+/// for it, as it is kept. Without a rate row, which no reported month of a lawful book lacks, it is
+/// 0 cents, due on 2000-01-01.
+pub fn kept_charge(
+    row: Option<RateRow>,
+    employer: EmployerNo,
+    month: Month,
+    lines: &[WageLine],
+) -> KeptCharge
+    requires few { length lines.now ≤ most_lines }
+    requires small { All (λ line. line.gross ≤ most_gross) lines.now }
+    ensures value { result ≡ kept_charge row employer month lines.now }
+    ensures bound { result.cents ≤ most_base }
+{
+    KeptCharge {
+        employer,
+        month,
+        due: due_by(&row, month),
+        cents: charge(row, lines),
+    }
+}
+
+// The day on which the contribution of a month is due at a rate row, and 2000-01-01 without one.
+fn due_by(row: &Option<RateRow>, month: Month) -> Day
+    ensures { result ≡ due_by row.now month }
+{
+    match row {
+        Some(row) => due_day(month, row),
+        None => first_day(),
+    }
+}
+
+// 2000-01-01.
+fn first_day() -> Day
+    ensures { result ≡ 10957 }
+{
+    match Day::new(10_957) {
+        Some(day) => day,
+        None => unreachable!(),
+    }
+}
+
+// The contribution in cents for lines within the limits at a rate row, and 0 without one.
+fn charge(row: Option<RateRow>, lines: &[WageLine]) -> u64
     requires few { length lines.now ≤ most_lines }
     requires small { All (λ line. line.gross ≤ most_gross) lines.now }
     ensures value { result ≡ contribution_of_lines row lines.now }

@@ -7,9 +7,9 @@ ghost use Rattle.clear_book.specs.Limits.{most_gross, most_lines};
 ghost use Rattle.clear_book.specs.Own.Report.{own_report};
 ghost use Rattle.clear_book.specs.Tables.{member_in};
 ghost use Rattle.clear_rules.specs.Decisions.{Refuses, IsJudged, TakesTables};
-ghost use Rattle.clear_rules.specs.Views.Report.{IsReportView, first_report};
+ghost use Rattle.clear_rules.specs.Views.Report.{IsReportView, charge_for, first_report};
 
-use super::lines::{charge, check_month, check_sizes, check_workers};
+use super::lines::{check_month, check_sizes, check_workers, kept_charge};
 use clear_book::calls::WageReport;
 use clear_book::outcomes::Reply;
 use clear_book::rows::{Change, Decision, EmployerRow, ReportRow};
@@ -43,11 +43,13 @@ pub fn decide_report(
         → IsJudged b day (DoReport report.now) result }
     // Where the judge gives the reply, the change takes the tables of a lawful book to those of the
     // next.
-    ensures change { (b : Book) → IfOk result (TakesTables b day (DoReport report.now)) }
+    ensures change { (b : Book) → IsReportView b report.now view.now
+        → IfOk result (TakesTables b day (DoReport report.now)) }
     ensures rule { Refuses result (own_report (option_map member_in view.now.member)
         view.now.version day report.now.month report.now.lines) }
-    ensures made { IfOk result (λ decision.
-        decision.change ≡ Change.AddReport (first_report report.now) report.now.lines) }
+    ensures made { IfOk result (λ decision. decision.change
+        ≡ Change.AddReport (first_report report.now) report.now.lines
+        (charge_for report.now view.now)) }
     ensures few { OnOk result (length report.now.lines ≤ most_lines) }
     ensures small { OnOk result (All (λ line. line.gross ≤ most_gross) report.now.lines) }
 {
@@ -61,12 +63,14 @@ pub fn decide_report(
         month: report.month,
         version: 1,
     };
+    let charge = kept_charge(view.row, report.employer, report.month, lines);
+    let reply = Reply::Reported {
+        version: 1,
+        charge: charge.cents,
+    };
     Ok(Decision {
-        change: Change::AddReport(row, copied),
-        reply: Reply::Reported {
-            version: 1,
-            charge: charge(view.row, lines),
-        },
+        change: Change::AddReport(row, copied, charge),
+        reply,
     })
 }
 

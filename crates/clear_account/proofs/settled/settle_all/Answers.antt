@@ -1,7 +1,11 @@
 use Rattle.std.proofs.Common.{◌∷◌, [], ◌++◌, sym, ◌∙◌, arith}
 use Rattle.std.proofs.lemmas.List.FromFn.{map-range_with_len_more}
 use Rattle.clear_account.specs.Settled.{settled_on}
+use Rattle.clear_account.proofs.AccountLemmas.{credited-le}
 use Rattle.clear_account.proofs.settled.settle_all.Goals as goal
+
+pub behind-walk-requires : goal.behind-walk-requires
+behind-walk-requires c = omega (arith, credited-le c.args.charges.now c.args.credits.now c.requires.account)
 
 pub loop-place-preserved : goal.loop-place-preserved
 loop-place-preserved c = record {

@@ -13,6 +13,12 @@ use Rattle.clear_office.specs.declared.inquiry.Finding.TheVariants as finding
 use Rattle.clear_office.proofs.BehindLemmas.{leaves_tables, told_behind}
 use Rattle.clear_office.proofs.inquiry.inquire.Goals as goal
 
+pub returns-in-Ok-Answer-clause-crash : goal.returns-in-Ok-Answer-clause-crash
+returns-in-Ok-Answer-clause-crash g c clean t has trees may =
+    leaves_tables g.S.Store c.args.conn.now c.within.new.conn t
+    (λ (u : Tables) (found : Finding). (u ≡ t) × IsTold found × ((caller : Caller) → may_query caller c.args.query.now ≡ true → Tells (Ask caller c.args.day c.args.query.now) t (answer_of t found)))
+    (λ u found does. does.0) (c.within.ensures.crash t has) clean trees may
+
 pub returns-in-Ok-Document-clause-told : goal.returns-in-Ok-Document-clause-told
 returns-in-Ok-Document-clause-told g c clean t has =
     let mid = c.within.new.conn in

@@ -1,4 +1,4 @@
-use Rattle.std.proofs.Common.{◌∙◌, inr, refl, sym, subst}
+use Rattle.std.proofs.Common.{inr, refl, sym, subst}
 use Rattle.clear_program.specs.Stops.{no_memory, AppendsFront}
 use Rattle.clear_program.proofs.WriteLemmas.{memory_line}
 use Rattle.clear_program.proofs.stop.tell.Goals as goal

@@ -1,5 +1,5 @@
--- A document over rows of the tables: of the query that it reads, and of what that still has to give.
-use Rattle.std.proofs.Common.{◌≡◌, ℕ, List, [], ◌∷◌, Result, arith, refl, subst, sum_by}
+-- What is told of rows of the tables: of the query that is read, and of what that still has to give.
+use Rattle.std.proofs.Common.{◌≡◌, List, [], ◌∷◌, Result, arith, refl, subst, sum_by}
 use Rattle.std.specs.List.{AllByRecursion}
 use Rattle.std.proofs.lemmas.List.Sums.{sum_by-cons}
 use Rattle.std.proofs.lemmas.Result.{on_ok_weaker}
@@ -13,7 +13,7 @@ use Rattle.clear_values.specs.Tables.{Tables}
 use Rattle.clear_rows.proofs.Inside.{keeps_both, survives_both, unchanged_keeps}
 use Rattle.clear_columns.specs.Reading.{ReadsOn}
 use Rattle.clear_schema.specs.declared.fault.Fault.{Fault}
-use Rattle.clear_reading.specs.Reader.{AreAddable, Tells, TellsDocument}
+use Rattle.clear_reading.specs.Reader.{AreAddable, Tells, TellsTablesWhere}
 use Rattle.clear_reading.proofs.ReadLemmas.{was_clean}
 
 sum_by-none : {X : Type 0} (rows : List X) → sum_by (λ row. 0) rows ≡ 0
@@ -29,12 +29,12 @@ nothing_added P rows all =
     (all, omega (arith, none))
 
 module _ {S : Type 0} (g : Ghosts S) where
-  pub tells_document : {X : Type 0} (show : X → Row) (old mid end new : Held S) (rows : Tables → List X) (text : List X → List ℕ) (AreRight : List X → Type 0) (IsRight : Tables → Type 0) (result : Result (List ℕ) Fault)
-      → end ≡ new → ReadsOn g old mid show rows → Tells g show mid end text AreRight result
+  pub tells_tables : {X A : Type 0} (IsKnown : Type 0) (show : X → Row) (old mid end new : Held S) (rows : Tables → List X) (told : List X → A) (AreRight : List X → Type 0) (IsRight : Tables → Type 0) (result : Result A Fault)
+      → end ≡ new → ReadsOn g old mid show rows → Tells g show mid end told AreRight result
       → ((t : Tables) → AreInRange t → IsRight t → AreRight (rows t))
-      → TellsDocument g old new (λ t. text (rows t)) IsRight result
-  tells_document show old mid end new rows text AreRight IsRight result is reads tells right =
-      subst (λ n. TellsDocument g old n (λ t. text (rows t)) IsRight result) is (
+      → TellsTablesWhere IsKnown g old new (λ t. told (rows t)) IsRight result
+  tells_tables IsKnown show old mid end new rows told AreRight IsRight result is reads tells right =
+      subst (λ n. TellsTablesWhere IsKnown g old n (λ t. told (rows t)) IsRight result) is (
       let a = state g old in
       let b = state g mid in
       let c = state g end in
@@ -44,7 +44,7 @@ module _ {S : Type 0} (g : Ghosts S) where
         cause = λ clean t has ranges is. tells.cause clean (rows t) (reads.begun (early clean) t has) (right t ranges is);
         same = λ clean t has. on_ok_weaker result (λ same. unchanged_then a b c (reads.same (early clean) (t, has)) same) (tells.same clean);
         kept = λ clean t has. keeps_both a b c (unchanged_keeps a b (reads.same (early clean) (t, has))) (tells.kept clean);
-        survives = λ t has. survives_both a b c (reads.survives (t, has)) tells.survives;
+        survives = λ known t has. survives_both a b c (reads.survives (t, has)) tells.survives;
         clean = λ clean. reads.clean (early clean);
         is_open = λ clean. on_ok_weaker result (λ same. same.0.is_open) (tells.same clean);
       })

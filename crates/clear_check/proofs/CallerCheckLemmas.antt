@@ -1,0 +1,91 @@
+-- How many keys of a document are of clerks.
+use Rattle.std.proofs.Common.{◌≡◌, ℕ, suc, ℤ, pos, negsuc, ◌+◌, ◌≤◌, ◌==◌, nat_le, Bool, true, false, if◌then◌else◌, List, [], ◌∷◌, length, count_by, Option, Some, None, option_and_then, Ok, ok_or, String, Global, string_bytes, refl, sym, ap, ◌∙◌, add_assoc, lit≤, arith}
+use Rattle.std.proofs.lemmas.List.Sums.{sum_by-cons}
+use Rattle.std.proofs.lemmas.Option.{none-some, same_Some}
+use Rattle.toml.proofs.Views.{Entry}
+use Rattle.toml.specs.Data.{Data, as_integer, Members, no_members, member}
+use Rattle.toml.specs.View.{members_view, view}
+use Rattle.toml.specs.declared.value.Value.{Value}
+use Rattle.clear_book.specs.declared.calls.Caller.{Caller}
+use Rattle.clear_book.specs.declared.calls.Caller.TheVariants.{Firm, Clerk}
+use Rattle.clear_money.specs.RateFile.{document_of}
+use Rattle.clear_callers.specs.CallerFile.{caller_at, caller_numbered, directory_in, directory_of, is_key, keys_in}
+use Rattle.clear_callers.specs.declared.caller_file.DirectoryFault.TheVariants.{Entry as EntryFault}
+use Rattle.clear_callers.specs.Callers.{KeyOf}
+use Rattle.clear_check.specs.CallerChecks.{is_clerk, is_clerks, is_zero}
+
+-- how many members have that number
+abbrev pub clerks_in : Members → ℕ
+clerks_in no_members = 0
+clerks_in (member key d ms) = (if is_zero (as_integer d) then 1 else 0) + clerks_in ms
+
+-- one member of those that are still to be counted
+pub counted_one : (clerks : ℕ) (all es rest : List Entry) (k : String Global) (v : Value) (clerk : Bool)
+    → clerks + clerks_in (members_view es) ≡ clerks_in (members_view all) → es ≡ (k, v) ∷ rest → clerk ≡ is_zero (as_integer (view v))
+    → clerks + (if clerk then 1 else 0) + clerks_in (members_view rest) ≡ clerks_in (members_view all)
+counted_one clerks all es rest k v clerk so_far step is =
+    let here = ap (λ (es : List Entry). clerks_in (members_view es)) step ∙ ap (λ b. (if b then 1 else 0) + clerks_in (members_view rest)) (sym is) in
+    add_assoc clerks (if clerk then 1 else 0) (clerks_in (members_view rest)) ∙ ap (λ n. clerks + n) (sym here) ∙ so_far
+
+at_most_one : (b : Bool) → (if b then 1 else 0) ≤ 1
+at_most_one true = lit≤ tt
+at_most_one false = lit≤ tt
+
+pub clerks_in-le : (es : List Entry) → clerks_in (members_view es) ≤ length es
+clerks_in-le [] = lit≤ tt
+clerks_in-le (x ∷ es) =
+    let here : (if is_zero (as_integer (view x.1)) then 1 else 0) ≤ 1 = at_most_one (is_zero (as_integer (view x.1))) in
+    let rest : clerks_in (members_view es) ≤ length es = clerks_in-le es in
+    omega (arith, here, rest)
+
+numbered : (z : Option ℤ) (c : Caller) → option_and_then caller_numbered z ≡ Some c → is_zero z ≡ is_clerk c
+numbered None c e = absurd (none-some _ e)
+numbered (Some (negsuc n)) c e = absurd (none-some _ e)
+numbered (Some (pos n)) c e = by_tests (n == 0) (nat_le n 99999999) e
+  where
+    by_tests : (zero within : Bool) → (if zero then Some Clerk else (if within then Some (Firm n) else None)) ≡ Some c → zero ≡ is_clerk c
+    by_tests true within e = ap is_clerk (same_Some _ _ e)
+    by_tests false true e = ap is_clerk (same_Some _ _ e)
+    by_tests false false e = absurd (none-some _ e)
+
+at_key : (key : List ℕ) (d : Data) (c : Caller) → caller_at key d ≡ Some c → is_zero (as_integer d) ≡ is_clerk c
+at_key key d c e = by_test (is_key key) e
+  where
+    by_test : (fits : Bool) → (if fits then option_and_then caller_numbered (as_integer d) else None) ≡ Some c → is_zero (as_integer d) ≡ is_clerk c
+    by_test true e = numbered (as_integer d) c e
+    by_test false e = absurd (none-some _ e)
+
+-- the members with the number of a clerk are the keys of clerks
+pub clerks_in-keys : (ms : Members) (keys : List KeyOf) → keys_in ms ≡ Some keys → clerks_in ms ≡ count_by is_clerks keys
+clerks_in-keys no_members keys e = ap (count_by is_clerks) (same_Some _ _ e)
+clerks_in-keys (member key d ms) keys e = first (caller_at key d) (keys_in ms) refl (clerks_in-keys ms) e
+  where
+    first : (caller : Option Caller) (more : Option (List KeyOf)) → caller_at key d ≡ caller → ((ks : List KeyOf) → more ≡ Some ks → clerks_in ms ≡ count_by is_clerks ks)
+        → option_and_then (λ (c : Caller). option_and_then (λ (ks : List KeyOf). Some ((key, c) ∷ ks)) more) caller ≡ Some keys
+        → (if is_zero (as_integer d) then 1 else 0) + clerks_in ms ≡ count_by is_clerks keys
+    first (Some c) (Some more) here rest e =
+        let one : (k : KeyOf) → ℕ = λ k. if is_clerks k then 1 else 0 in
+        ap (λ b. (if b then 1 else 0) + clerks_in ms) (at_key key d c here) ∙ ap (λ n. one (key, c) + n) (rest more refl) ∙ sym (sum_by-cons one (key, c) more) ∙ ap (count_by is_clerks) (same_Some _ _ e)
+    first (Some c) None here rest e = absurd (none-some _ e)
+    first None more here rest e = absurd (none-some _ e)
+
+-- each member is a key
+pub length-keys_in : (es : List Entry) (keys : List KeyOf) → keys_in (members_view es) ≡ Some keys → length es ≡ length keys
+length-keys_in [] keys e = ap length (same_Some _ _ e)
+length-keys_in (x ∷ es) keys e = first (caller_at (string_bytes x.0) (view x.1)) (keys_in (members_view es)) (length-keys_in es) e
+  where
+    first : (caller : Option Caller) (more : Option (List KeyOf)) → ((ks : List KeyOf) → more ≡ Some ks → length es ≡ length ks)
+        → option_and_then (λ (c : Caller). option_and_then (λ (ks : List KeyOf). Some ((string_bytes x.0, c) ∷ ks)) more) caller ≡ Some keys
+        → suc (length es) ≡ length keys
+    first (Some c) (Some more) rest e = ap suc (rest more refl) ∙ ap length (same_Some _ _ e)
+    first (Some c) None rest e = absurd (none-some _ e)
+    first None more rest e = absurd (none-some _ e)
+
+-- the keys of a caller file are those of its document
+pub directory_of-keys : (bytes : List ℕ) (document : Members) (keys : List KeyOf) → document_of bytes ≡ Some document → directory_of bytes ≡ Ok keys → keys_in document ≡ Some keys
+unfolding directory_of
+directory_of-keys bytes document keys is e = given (keys_in document) (ap directory_in (sym is) ∙ e)
+  where
+    given : (found : Option (List KeyOf)) → ok_or found EntryFault ≡ Ok keys → found ≡ Some keys
+    given (Some found) e = cc
+    given None e = cc

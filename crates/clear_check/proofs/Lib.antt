@@ -1,0 +1,3 @@
+pub mod BankCheckLemmas
+pub mod CallerCheckLemmas
+pub mod TextLemmas

@@ -1,0 +1,18 @@
+-- The hints below a fault of a bank file.
+use Rattle.std.specs.Prelude.{ℕ, Bool, List, [], ◌∷◌, codes, if◌then◌else◌}
+use Rattle.std.specs.List.{concat}
+use Rattle.clear_check.specs.declared.hints.Hints.{Hints}
+
+-- a line that stands only where it applies
+abbrev pub when : Bool → List ℕ → List ℕ
+when applies line = if applies then line else []
+
+-- a line for each hint that applies
+unfoldable pub hint_lines : Hints → List ℕ
+hint_lines hints = concat (
+    when hints.semicolons
+    (codes "this looks like a bank's own export: its fields are parted by ;\n")
+    ∷ when hints.pointed_day (codes "a day is written YYYY-MM-DD: 2024-04-01 for 01.04.2024\n")
+    ∷ when hints.parted_amount (codes "cents are whole numbers: 1500 for 15,00 or 15.00\n")
+    ∷ when hints.other_text (codes "this text is Latin-1 or the like; the office reads UTF-8\n")
+    ∷ [])

@@ -1,0 +1,5 @@
+pub mod BankChecks
+pub mod CallerChecks
+pub mod Hints
+pub mod RateChecks
+pub mod Shown

@@ -1,0 +1,26 @@
+//! What is said of a file before the office takes it: how much it holds, or its first fault and
+//! where that is.
+//!
+//! A file is read as the program reads it, and its first fault is the reader's: which row, record
+//! and field it is in, and of which kind it is, are proved. A second look at the bytes finds what
+//! stands there; of what it finds the contracts say only that a line stays one line, and the gate
+//! compares the rest.
+#![tactic(auto)]
+
+pub mod bank;
+pub mod callers;
+mod document;
+mod hints;
+pub mod rates;
+mod records;
+mod seen;
+mod texts;
+
+/// What is said of a file.
+#[derive(Drop)]
+pub struct Checked {
+    /// One line or more, each with its end.
+    pub text: String,
+    /// Whether the program takes the file.
+    pub good: bool,
+}

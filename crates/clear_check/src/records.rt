@@ -1,0 +1,35 @@
+//! The records of a bank file, looked at once more.
+
+use clear_values::limits::MAX_RECORDS;
+use csv::{ByteRecord, ReaderBuilder};
+use std::alloc::{AllocError, Global};
+
+// The records of a file whose fields are parted by this byte, the header being the first. No more of
+// them than a file can have and one.
+pub(crate) fn read_records(
+    alloc: Global,
+    bytes: &[u8],
+    delimiter: u8,
+) -> Result<Vec<ByteRecord>, AllocError> {
+    let reader = ReaderBuilder::new()
+        .has_headers(false)
+        .flexible(true)
+        .delimiter(delimiter)
+        .from_reader(alloc, bytes);
+    let mut records = Vec::new(alloc);
+    for record in reader.into_byte_records() {
+        let Ok(record) = record else {
+            return Err(AllocError);
+        };
+        if records.len() > MAX_RECORDS {
+            return Ok(records);
+        }
+        records.push(record)?;
+    }
+    Ok(records)
+}
+
+// The record of a number, counted from 1.
+pub(crate) fn record_at(records: &[ByteRecord], line: usize) -> Option<&ByteRecord> {
+    records.get(line.checked_sub(1)?)
+}

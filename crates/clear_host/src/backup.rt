@@ -1,0 +1,61 @@
+//! A copy of a store in one file. No contract knows what files hold.
+
+use crate::files::{FileFault, fault_of};
+use std::fs::File;
+use std::{fs, io};
+
+/// Copies the file at a path into a new file, whole or not at all.
+///
+/// It is written beside that file, under its name with `.part` behind it, synced, and then renamed;
+/// what an earlier copy left there that was killed is written over. `Unusable` where something stands
+/// at the new path already, or a log of a store that was there (`-wal`), and where a file can't be
+/// read or written; nothing then stands at the new path but what stood there before.
+pub fn copy_whole(rt: &HostRuntime, path: &str, copy: &str) -> Result<(), FileFault> {
+    let Ok(log) = format!(in rt.alloc(); "{copy}-wal") else {
+        return Err(FileFault::Memory);
+    };
+    let Ok(part) = format!(in rt.alloc(); "{copy}.part") else {
+        return Err(FileFault::Memory);
+    };
+    if !is_free(rt, copy) || !is_free(rt, log.as_str()) {
+        return Err(FileFault::Unusable);
+    }
+    match copy_by(rt, path, part.as_str(), copy) {
+        Ok(()) => Ok(()),
+        Err(error) => {
+            let _ = fs::remove_file(rt, part.as_str());
+            Err(fault_of(&error))
+        }
+    }
+}
+
+// Nothing stands at the path, not even a link that leads nowhere.
+fn is_free(rt: &HostRuntime, path: &str) -> bool {
+    match fs::symlink_metadata(rt, path) {
+        Ok(_) => false,
+        Err(error) => error.kind() == io::ErrorKind::NotFound,
+    }
+}
+
+// The copy, by a file of another name.
+fn copy_by(rt: &HostRuntime, path: &str, part: &str, copy: &str) -> io::Result<()> {
+    fs::copy(rt, path, part)?;
+    File::open(rt, part)?.sync_all()?;
+    fs::rename(rt, part, copy)?;
+    // The copy stands. Where its folder can't be synced, the file system keeps the name in its time.
+    let _ = sync_folder(rt, folder_of(copy));
+    Ok(())
+}
+
+fn sync_folder(rt: &HostRuntime, folder: &str) -> io::Result<()> {
+    File::open(rt, folder)?.sync_all()
+}
+
+// The folder that the file of a path stands in.
+fn folder_of(path: &str) -> &str {
+    match path.rsplit_once('/') {
+        Some(("", _)) => "/",
+        Some((folder, _)) => folder,
+        None => ".",
+    }
+}

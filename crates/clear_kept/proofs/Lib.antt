@@ -1,0 +1,9 @@
+pub mod RowLemmas
+pub mod SplitLemmas
+pub mod ChangeLemmas
+pub mod LawLemmas
+pub mod WeighedLemmas
+pub mod PutLemmas
+pub mod ToldLemmas
+pub mod DatedLemmas
+pub mod ArrearsLemmas

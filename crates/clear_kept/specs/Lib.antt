@@ -1,0 +1,4 @@
+pub mod Dated
+pub mod Weighed
+pub mod Changes
+pub mod Start

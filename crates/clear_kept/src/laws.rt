@@ -1,0 +1,84 @@
+//! What a change of an account leaves of its rows, and what it writes anew. Each function does
+//! nothing: its contract is the law.
+ghost use Rattle.clear_kept.specs.Changes.{ChargeLeavesAll, ChargePut, ChargeRewrites};
+ghost use Rattle.clear_kept.specs.Changes.{ChargeRowsStand, CreditPut, CreditRowsStand};
+ghost use Rattle.clear_kept.specs.Changes.{CreditTaken, CreditsLeaveAll, CreditsRewrite};
+ghost use Rattle.clear_kept.specs.Dated.{DatedRows, NamesPayments, RowsTellPieces};
+ghost use Rattle.clear_kept.specs.Weighed.{ArrearsFromRows, ToldByRows, WeightFromRow};
+
+/// A changed charge: the rows of its month or later, of the first payment beyond its place or
+/// later, are written anew, and the others stand.
+pub fn charge_rewrites()
+    ensures { ChargeRewrites }
+{}
+
+/// A changed charge that no payment reaches changes no piece.
+pub fn charge_leaves_all()
+    ensures { ChargeLeavesAll }
+{}
+
+/// Changed payments: the rows of the first charge beyond their place or later, of the first changed
+/// payment or later, are written anew, and the others stand.
+pub fn credits_rewrite()
+    ensures { CreditsRewrite }
+{}
+
+/// Changed payments that no charge reaches change no piece.
+pub fn credits_leave_all()
+    ensures { CreditsLeaveAll }
+{}
+
+/// A changed charge leaves the rows of charges of earlier months.
+pub fn charge_rows_stand()
+    ensures { ChargeRowsStand }
+{}
+
+/// Changed payments leave the rows of charges that end at or below their place.
+pub fn credit_rows_stand()
+    ensures { CreditRowsStand }
+{}
+
+/// A charge that is put in its place leaves those before it.
+pub fn charge_put()
+    ensures { ChargePut }
+{}
+
+/// A payment that is put in its place leaves those before it, and before any earlier one.
+pub fn credit_put()
+    ensures { CreditPut }
+{}
+
+/// Payments that are taken out leave those before them.
+pub fn credit_taken()
+    ensures { CreditTaken }
+{}
+
+/// The pieces are those of the rows.
+pub fn rows_tell_pieces()
+    ensures { RowsTellPieces }
+{}
+
+/// What is open of a charge, and its weight, are told by the rows of its month.
+pub fn told_by_rows()
+    ensures { ToldByRows }
+{}
+
+/// The weight of a charge on a day is that of its row, and what is open once for each month begun.
+pub fn weight_from_row()
+    ensures { WeightFromRow }
+{}
+
+/// The pieces of a suffix, each with the day of its payment, are its rows.
+pub fn dated_rows()
+    ensures { DatedRows }
+{}
+
+/// The pieces of a suffix name its payments.
+pub fn names_payments()
+    ensures { NamesPayments }
+{}
+
+/// What is open of the charges due before a day is the arrears.
+pub fn arrears_from_rows()
+    ensures { ArrearsFromRows }
+{}

@@ -1,0 +1,15 @@
+//! The rows in which a firm's account is kept, and which of them a change writes anew.
+//!
+//! A piece is kept with the day of its payment, a charge with what is open of it and with its
+//! weight so far: then what a firm owes, its arrears and its interest are read from rows, without a
+//! walk along all that it ever paid. A change of a charge or of payments has a place in cents. The
+//! laws say that the rows which end at or below it stand, that those beyond it are the pieces of
+//! one `refill`, and which rows are to be removed for them; `start` finds the place, `date_pieces`
+//! and `settle_from` give the rows to write.
+#![tactic(auto)]
+
+pub mod dated;
+pub mod laws;
+pub mod rows;
+pub mod settled;
+pub mod start;

@@ -1,0 +1,66 @@
+//! A look at a store, and why there is none to look at.
+ghost use Rattle.std.specs.Prelude.{◌≤◌, IfOk};
+
+use crate::reasons::{reason, refused_path};
+use crate::run::open_whole;
+use crate::stop::{Stop, tell, write_front};
+use crate::work::say;
+use clear_book::rules::{Rule, StoreCause};
+use clear_host::hindrance::Hindrance;
+use clear_host::paths::{PathKind, path_kind};
+use clear_reading::look::look;
+use clear_schema::fault::OpenFault;
+use clear_schema::store::SCHEMA;
+use clear_texts::look::look_text;
+use sqlite::{Alter, Connection};
+use sqlite_disk::Start;
+use std::alloc::Global;
+
+/// Says what stands in the store at a path, and changes nothing. Where there is none, or it can't be
+/// opened, the line that each command tells is followed by one that says which, in words. It gives
+/// the status with which the program ends.
+pub(crate) fn look_at<S: Start>(
+    rt: &HostRuntime,
+    store: &str,
+    start: S,
+    again: S,
+) -> Result<u8, Stop>
+    ensures { IfOk result (λ status. status ≤ 3) }
+{
+    let kind = path_kind(rt, store);
+    if let Some(fault) = refused_path(kind) {
+        return Ok(tell_why(rt, kind, Hindrance::None, fault));
+    }
+    match open_whole(rt, store, start, again) {
+        Ok(opened) => {
+            let mut connection = opened.into_connection();
+            let seen = look_over(rt.alloc(), &mut connection);
+            let _ = connection.close();
+            say(&mut rt.stdout(), seen?.as_str())?;
+            Ok(0)
+        }
+        Err(refused) => Ok(tell_why(rt, kind, refused.hindrance, refused.fault)),
+    }
+}
+
+// Tells the fault, and on a line of its own what it means.
+fn tell_why(rt: &HostRuntime, kind: PathKind, hindrance: Hindrance, fault: OpenFault) -> u8
+    ensures { result ≤ 3 }
+{
+    let status = tell(rt.alloc(), &mut rt.stderr(), &Stop::from(fault));
+    if let Ok(text) = reason(rt.alloc(), kind, hindrance, &fault) {
+        write_front(&mut rt.stderr(), text.as_bytes());
+    }
+    status
+}
+
+// What stands in the store of a connection.
+fn look_over<S: Alter>(alloc: Global, connection: &mut Connection<S>) -> Result<String, Stop> {
+    if !connection.is_autocommit() {
+        return Err(Stop::Rule(Rule::Store(StoreCause::Other)));
+    }
+    match look(connection) {
+        Ok(found) => Ok(look_text(alloc, SCHEMA, &found)?),
+        Err(fault) => Err(Stop::from(OpenFault::Failed(fault))),
+    }
+}

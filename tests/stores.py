@@ -1,0 +1,284 @@
+"""A look at a store, and copies of it, by the built program on real files.
+
+    python3 tests/stores.py [PROGRAM]
+
+PROGRAM is crates/clear_app/out/clear_app where it isn't given, as `rt ci` leaves it.
+"""
+
+import os
+import resource
+import signal
+import sqlite3
+import stat
+import sys
+
+# No __pycache__ is left beside the sources.
+sys.dont_write_bytecode = True
+from program_under_test import DAY, NOBODY, ProgramUnderTest, run_tests  # noqa: E402
+
+NEXT_DAY = "2024-05-02"
+HEADER = "reference,value_date,employer,cents,purpose,note\n"
+# Of these four lines the first and the third have a firm that is registered.
+BANK = HEADER + ("B1,2024-02-25,1001,150000,C,\nB9,2024-04-21,,5000,,\n"
+                 "B2,2024-04-21,1001,200000,,January rest\nB3,2024-04-22,7777,1250,I,\n")
+
+NEW = """schema 0
+ledger day -
+requests 0
+greatest number of the desk -
+firms 0
+reports 0
+bank lines 0
+in suspense 0 0.00
+open claims 0
+to pay out 0
+last list -
+last run -
+"""
+
+
+def request(path, number, body="", key="desk", method="POST"):
+    body = body.encode()
+    head = f"{method} {path} HTTP/1.1\r\nHost: office\r\nOffice-Key: {key}\r\nRequest-Number: {number}\r\n"
+    return f"{head}Content-Length: {len(body)}\r\n\r\n".encode() + body
+
+
+REGISTRATION = request("/employers", 7, '{"employer":1001,"name":"Bau Nord","start":"2024-01"}')
+OTHER = request("/employers", 3, '{"employer":1002,"name":"Hoch Tief","start":"2024-01"}')
+JANUARY = request("/employers/1001/reports/2024-01", 900, '{"lines":[{"gross":1000000,"worker":7}]}', "k1001")
+REFUSED = request("/employers/1001/reports/2024-01", 901, '{"lines":[]}', "k1001")
+CLAIMS = b"".join(
+    request("/employers/1001/claims", 902 + at, '{"cents":10000,"worker":7}', "k1001") for at in range(4))
+
+
+class Stores(ProgramUnderTest):
+    def setUp(self):
+        super().setUp()
+        self.write("bank.csv", BANK)
+
+    def served(self, requests, day=DAY):
+        """The answers of an office of a day to these requests."""
+        server = self.serving(1, day)
+        answers = self.send(server, requests)
+        self.assertEqual(self.ended(server), (0, "served 1\n", ""))
+        return answers
+
+    def filled(self):
+        """A store with two firms, a report, four claims and four bank lines; some are refused."""
+        self.init()
+        answers = self.served(REGISTRATION + OTHER + JANUARY + REFUSED + CLAIMS)
+        self.assertEqual(answers.count(b"HTTP/1.1 200 OK"), 7, answers)
+        self.expect(["import", "fund.db", DAY, "12", "bank.csv"], 0, "new 4 repeats 0\n")
+
+    def killed(self):
+        """A store whose office was killed behind its answers, so that its log has what it accepted."""
+        self.init()
+        server = self.serving(2)
+        with self.connect(server) as peer:
+            peer.sendall(REGISTRATION + JANUARY)
+            answers = b""
+            while answers.count(b"HTTP/1.1 200 OK") < 2 or not answers.endswith(b"}"):
+                answers += peer.recv(65536)
+            server.send_signal(signal.SIGKILL)
+        server.communicate()
+
+    def content(self):
+        """The files but for logs, each of which gets a new head when its store is opened."""
+        return {path.name: path.read_bytes() for path in self.folder.iterdir()
+                if path.is_file() and not path.name.endswith("-wal")}
+
+
+class Look(Stores):
+    def test_a_new_store(self):
+        self.init()
+        self.expect(["look", "fund.db"], 0, NEW)
+
+    def test_what_stands_there(self):
+        self.filled()
+        # Seven requests and the import. The firm's numbers are greater than the desk's, and B3's firm is unknown.
+        self.expect(["look", "fund.db"], 0, """schema 0
+ledger day 2024-04-30
+requests 8
+greatest number of the desk 12
+firms 2
+reports 1
+bank lines 4
+in suspense 2 62.50
+open claims 4
+to pay out 0
+last list -
+last run -
+""")
+
+    def test_releases_lists_and_runs(self):
+        self.filled()
+        # February and March are there too, and nothing is owed: what is released is paid out.
+        months = b"".join(request(f"/employers/1001/reports/2024-0{month}", 910 + month, '{"lines":[]}', "k1001")
+                          for month in (2, 3))
+        answers = self.served(months + request("/claims/1/release", 20) + request("/claims/2/release", 21)
+                              + request("/employers/1001/claims/3/withdraw", 920, key="k1001"), NEXT_DAY)
+        self.assertEqual(answers.count(b"HTTP/1.1 200 OK"), 5, answers)
+        # January was paid late by 150,000 and 50,000 cents, with one and two begun months.
+        status, output, errors = self.run_program("look", "fund.db")
+        self.assertEqual((status, errors), (0, ""))
+        self.assertEqual(output.splitlines()[8:], ["open claims 1", "to pay out 2", "last list -", "last run -"])
+        answers = self.served(request("/payouts", 22) + request("/reminders", 23), "2024-05-17")
+        self.assertEqual(answers.count(b"HTTP/1.1 200 OK"), 2, answers)
+        self.expect(["look", "fund.db"], 0, """schema 0
+ledger day 2024-05-17
+requests 15
+greatest number of the desk 23
+firms 2
+reports 3
+bank lines 4
+in suspense 2 62.50
+open claims 1
+to pay out 0
+last list 1 2024-05-17
+last run 1 2024-05-17
+""")
+
+    def test_nothing_is_changed(self):
+        self.filled()
+        before = self.content()
+        for _ in range(2):
+            self.assertEqual(self.run_program("look", "fund.db")[0], 0)
+        self.assertEqual(self.content(), before)
+
+    def test_what_was_acknowledged_before_a_kill(self):
+        self.killed()
+        output = self.run_program("look", "fund.db")[1]
+        self.assertEqual(output.splitlines()[1:6], [
+            "ledger day 2024-04-30", "requests 2", "greatest number of the desk 7", "firms 1", "reports 1"])
+
+    def test_no_store_at_the_path(self):
+        self.write("empty", "")
+        self.write("text", "a text of more than nothing\n" * 200)
+        other = sqlite3.connect(self.write("other.db", ""))
+        other.execute("CREATE TABLE note (id INTEGER PRIMARY KEY, title TEXT NOT NULL)")
+        other.commit()
+        other.close()
+        self.filled()
+        self.write("damaged.db", bytes(self.damaged()))
+        self.write("later.db", (self.folder / "fund.db").read_bytes())
+        self.write("older.db", (self.folder / "fund.db").read_bytes())
+        self.change("later.db", "UPDATE meta SET schema = 7")
+        self.change("older.db", "DROP INDEX claims_by_list")
+        before = self.content()
+        store, version = "rule 41 Store\n", "rule 43 WrongVersion {}\n"
+        for path, told in {
+            "no.db": store + "there is nothing at this path\n",
+            "no/fund.db": store + "there is nothing at this path\n",
+            ".": store + "this is a folder\n",
+            "empty": version.format(0) + "this file is empty\n",
+            "text": store + "this file is no database, or a damaged one\n",
+            "damaged.db": store + "its tables can't be read, or an earlier build of this program made them\n",
+            "other.db": version.format(0) + "this database is no store of this program\n",
+            "later.db": version.format(7) + "this store has schema 7, and this program's is 0\n",
+            "older.db": store + "its tables can't be read, or an earlier build of this program made them\n",
+        }.items():
+            with self.subTest(path):
+                self.expect(["look", path], 3, "", told)
+        self.assertEqual(self.content(), before)
+
+    def damaged(self):
+        content = bytearray((self.folder / "fund.db").read_bytes())
+        content[4096 + 8:4096 + 40] = b"\xff" * 32
+        return content
+
+    def change(self, name, statement):
+        store = sqlite3.connect(self.folder / name)
+        store.execute(statement)
+        store.commit()
+        store.close()
+
+    def test_a_store_that_is_held(self):
+        self.filled()
+        server = self.serving(1)
+        with self.connect(server) as peer:
+            self.expect(["look", "fund.db"], 3, "", "rule 41 Store\nanother process holds this store\n")
+            peer.shutdown(1)
+            self.read_all(peer)
+        self.assertEqual(self.ended(server), (0, "served 1\n", ""))
+
+
+class Backup(Stores):
+    def test_a_copy_opens_by_itself(self):
+        self.filled()
+        self.expect(["backup", "fund.db", "copy.db"], 0, "copied, ledger day 2024-04-30\n")
+        copy = self.folder / "copy.db"
+        self.assertEqual(copy.read_bytes(), (self.folder / "fund.db").read_bytes())
+        self.assertEqual((copy.stat().st_nlink, stat.S_IMODE(copy.stat().st_mode)), (1, 0o600))
+        self.assertFalse((self.folder / "copy.db.part").exists())
+        statement = self.run_program("statement", "fund.db", DAY, "1001")
+        self.assertEqual(self.run_program("statement", "copy.db", DAY, "1001"), statement)
+        # Both go on, each by itself.
+        self.expect(["import", "copy.db", DAY, "13", "bank.csv"], 0, "new 0 repeats 4\n")
+        self.assertEqual(self.run_program("look", "fund.db")[1].splitlines()[2], "requests 8")
+        self.assertEqual(self.run_program("look", "copy.db")[1].splitlines()[2], "requests 9")
+
+    def test_a_new_store(self):
+        self.init()
+        self.expect(["backup", "fund.db", "copy.db"], 0, "copied, ledger day -\n")
+
+    def test_what_a_log_has_is_in_the_copy(self):
+        self.killed()
+        self.expect(["backup", "fund.db", "copy.db"], 0, "copied, ledger day 2024-04-30\n")
+        for name in ("fund.db", "fund.db-wal"):
+            (self.folder / name).unlink()
+        self.assertEqual(self.run_program("look", "copy.db")[1].splitlines()[2], "requests 2")
+
+    def test_what_stands_is_left(self):
+        self.filled()
+        before = self.content()
+        os.symlink("nowhere", self.folder / "link")
+        (self.folder / "folder").mkdir()
+        for path in ("fund.db", "bank.csv", "link", "folder", ".", "no/copy.db", ""):
+            with self.subTest(path):
+                self.expect(["backup", "fund.db", path], 2, "", "fault file\n")
+        self.assertEqual(self.content(), before)
+        # The log of a store that was there would be taken for that of the copy.
+        self.write("copy.db-wal", "")
+        self.expect(["backup", "fund.db", "copy.db"], 2, "", "fault file\n")
+        self.assertFalse((self.folder / "copy.db").exists())
+
+    def test_what_an_earlier_copy_left(self):
+        self.filled()
+        part = self.write("copy.db.part", "half of a copy")
+        if NOBODY:
+            os.chown(part, NOBODY, NOBODY)
+        self.expect(["backup", "fund.db", "copy.db"], 0, "copied, ledger day 2024-04-30\n")
+        self.assertEqual((self.folder / "copy.db").read_bytes(), (self.folder / "fund.db").read_bytes())
+        self.assertFalse((self.folder / "copy.db.part").exists())
+
+    def test_whole_or_not_at_all(self):
+        self.filled()
+        size = (self.folder / "fund.db").stat().st_size
+
+        def half():
+            signal.signal(signal.SIGXFSZ, signal.SIG_IGN)
+            resource.setrlimit(resource.RLIMIT_FSIZE, (size // 2, size // 2))
+
+        self.expect(["backup", "fund.db", "copy.db"], 2, "", "fault file\n", preexec_fn=half)
+        self.assertEqual(sorted(path.name for path in self.folder.glob("copy*")), [])
+        self.expect(["backup", "fund.db", "copy.db"], 0, "copied, ledger day 2024-04-30\n")
+
+    def test_no_store(self):
+        self.write("text", "a text of more than nothing\n" * 200)
+        for path, told in {"no.db": "rule 41 Store\n", "text": "rule 41 Store\n", ".": "rule 41 Store\n"}.items():
+            self.expect(["backup", path, "copy.db"], 3, "", told)
+        self.assertFalse((self.folder / "copy.db").exists())
+
+    def test_while_it_is_served(self):
+        self.filled()
+        server = self.serving(1)
+        with self.connect(server) as peer:
+            self.expect(["backup", "fund.db", "copy.db"], 3, "", "rule 41 Store\n")
+            peer.shutdown(1)
+            self.read_all(peer)
+        self.assertEqual(self.ended(server), (0, "served 1\n", ""))
+        self.assertFalse((self.folder / "copy.db").exists())
+
+
+if __name__ == "__main__":
+    run_tests()
