@@ -121,7 +121,7 @@ module _ (b : Book) (t : Tables) (stands : Stands b t) where
       let m = row.month in
       let latest = latest_lines b.entries e m in
       subst (λ (k : List ℕ). is_some (find_row charge_key t.charges k) ≡ true) (sym fits.1)
-      (kept_there b m (version_of b.entries e m) (find_row report_key t.reports (e ∷ m ∷ [])) latest (find_row charge_key t.charges (e ∷ m ∷ [])) (stands.reports e m) (stands.charges e m) fits.0)
+      (kept_there b m (version_of b.entries e m) (find_row report_key t.reports (e ∷ m ∷ [])) latest (find_row charge_key t.charges (e ∷ m ∷ [])) (stands.reports e m) (stands.charges e m) fits.0.0)
   has_charge (AddRate row) fits = tt
   has_charge (AddEmployer row) fits = tt
   has_charge (EndMembership row) fits = tt

@@ -1,5 +1,5 @@
 -- The pieces of a firm that is left are put: then one firm less is left.
-use Rattle.std.proofs.Common.{◌≡◌, ℕ, ◌<◌, ◌≤◌, List, [], ◌∷◌, ◌⊎◌, inl, inr, length, false, refl, sym, subst}
+use Rattle.std.proofs.Common.{◌≡◌, ℕ, ◌<◌, ◌≤◌, List, ◌∷◌, ◌⊎◌, inl, inr, length, false, refl, sym, subst}
 use Rattle.std.specs.List.{All, Contains}
 use Rattle.std.proofs.lemmas.Bool.{cases_lt}
 use Rattle.clear_account.specs.Account.{IsAccount, charge_at, credit_at}

@@ -1,6 +1,7 @@
 use Rattle.sqlite.specs.Held.{state}
 use Rattle.clear_book.specs.Tables.{changed, dated, request_key, request_row}
 use Rattle.clear_values.specs.Keyed.{with_row}
+use Rattle.clear_rows.proofs.Inside.{keeps_both, survives_both}
 use Rattle.clear_views.proofs.ReadLemmas.{was_clean}
 use Rattle.clear_office.specs.Bodies.{entry_of}
 use Rattle.clear_office.proofs.PiecesLemmas.{kept_following, no_blame}
@@ -28,3 +29,16 @@ returns-in-Ok-clause-fault g c clean t has counts there may unused reply =
     let put = c.in-Ok.ensures.put before t has counts there in
     no_blame c.keep.result _ _ (unused_with origin.caller origin.number origin.day t change unused) reply
     (c.keep.ensures.cause clean (record v { pieces = put.0 }) put.1) c.keep.ensures.range
+
+pub returns-in-Ok-clause-stays : goal.returns-in-Ok-clause-stays
+returns-in-Ok-clause-stays g c =
+    let old = state g.S.Store c.args.tx.now.conn.now in
+    let mid = state g.S.Store c.put_with_pieces.new.tx.conn.now in
+    let new = state g.S.Store c.keep.new.tx.conn.now in
+    let put = c.in-Ok.ensures.stays in
+    let keep = c.keep.ensures in
+    record {
+      goes_on = λ clean t has fits inside. keep.goes_on clean (put.goes_on (was_clean mid new keep.survives clean) t has fits inside);
+      kept = λ clean t has fits. keeps_both old mid new (put.kept (was_clean mid new keep.survives clean) t has fits) (keep.kept clean);
+      survives = survives_both old mid new put.survives keep.survives;
+    }

@@ -1,7 +1,4 @@
-use Rattle.std.proofs.Common.{Bool, true, false}
 use Rattle.std.proofs.lemmas.Result.{IfOk-weaker}
-use Rattle.clear_values.specs.declared.rows.Change.TheVariants.{ReplaceReport}
-use Rattle.clear_pieces.specs.Keeping.{TellsStood}
 use Rattle.clear_pieces.proofs.ReportLemmas.{tells_charge}
 use Rattle.clear_pieces.proofs.keep.charge_stood.Goals as goal
 

@@ -1,8 +1,8 @@
-use Rattle.std.proofs.Common.{◌≡◌, ℕ, [], ◌∷◌, Option, Some, None, false, refl, sym, subst}
+use Rattle.std.proofs.Common.{[], ◌∷◌, Some, None, refl, subst}
 use Rattle.std.proofs.lemmas.Result.{on_ok_weaker}
 use Rattle.clear_rows.proofs.Inside.{keeps_none, survives_none}
 use Rattle.sqlite.specs.Held.{state}
-use Rattle.clear_laws.proofs.FollowsLemmas.{follows_last, is_among}
+use Rattle.clear_laws.proofs.FollowsLemmas.{follows_last}
 use Rattle.clear_pieces.specs.Keeping.{AreFirst, credit_for}
 use Rattle.clear_pieces.proofs.CreditLemmas.{first_serial, is_first, firms_first, next_free, next_put, none_new}
 use Rattle.clear_pieces.proofs.ReportLemmas.{keeps_account}
