@@ -68,6 +68,7 @@ NEXT = "2026-01"
 # Payments come in the month behind a reported one, up to its 28th; what is measured comes behind them all.
 PAID_IN = [*MONTHS[1:], NEXT]
 BEHIND_ALL = "2026-01-30"
+RATE_ROWS = tomllib.loads(RATES)["rate"]
 PAYMENTS = 30
 LINES = 20
 SMALL = 1_000
@@ -111,7 +112,7 @@ KINDS = {
 
 
 def contribution(month, gross):
-    rate = [rate["contribution"] for rate in tomllib.loads(RATES)["rate"] if rate["from"] <= month][-1]
+    rate = [rate["contribution"] for rate in RATE_ROWS if rate["from"] <= month][-1]
     return (gross * rate + 5_000) // 10_000
 
 
