@@ -46,7 +46,7 @@ impl Plain {
     }
 
     /// The charges in month order.
-    pub(crate) fn all_charges(&self) -> &[Charge]
+    pub fn all_charges(&self) -> &[Charge]
         ensures value { result.now ≡ self.now.charges }
         ensures account { IsAccount self.now.charges self.now.credits }
     {
@@ -54,7 +54,7 @@ impl Plain {
     }
 
     /// The payments in order of day and serial.
-    pub(crate) fn all_credits(&self) -> &[Credit]
+    pub fn all_credits(&self) -> &[Credit]
         ensures { result.now ≡ self.now.credits }
     {
         self.credits.as_slice()

@@ -26,3 +26,4 @@ pub use Rattle.clear_values.specs.Payouts
 pub use Rattle.clear_values.specs.Ranges
 pub use Rattle.clear_values.specs.RowRanges
 pub use Rattle.clear_values.specs.Texts
+pub mod Allocated

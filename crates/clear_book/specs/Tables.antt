@@ -21,9 +21,9 @@ use Rattle.clear_book.specs.Reminders.{reminders_of, runs_of}
 use Rattle.clear_book.specs.Workers.{claims_of, entitlement_for, lists_of}
 pub use Rattle.clear_values.specs.Tables.{RequestRow, Tables, employer_key, report_key}
 pub use Rattle.clear_values.specs.Tables.{wage_key, charge_key, bank_key, claim_key, list_key}
-pub use Rattle.clear_values.specs.Tables.{run_key}
+pub use Rattle.clear_values.specs.Tables.{piece_key, run_key}
 pub use Rattle.clear_values.specs.Tables.{reminder_key, request_key, member_in, wage_row, wage_rows}
-pub use Rattle.clear_values.specs.Tables.{is_wage_key_of, with_wages, changed, dated}
+pub use Rattle.clear_values.specs.Tables.{is_wage_key_of, with_wages, with_pieces, changed, dated}
 
 -- ---- look-ups
 
@@ -73,8 +73,8 @@ requests_of xs = map request_row xs
 
 -- ---- the tables of a book, row by row
 
--- the tables are those of the book: each look-up says what the book says, and the keys rise
--- strictly, so that there is no further row
+-- the tables are those of the book, the pieces aside: each look-up says what the book says, and the
+-- keys rise strictly, so that there is no further row
 pub record Stands (b : Book) (t : Tables) : Type 0 where
   pub rates : t.rates ≡ rates_of b
   pub day : t.day ≡ ledger_day b.entries

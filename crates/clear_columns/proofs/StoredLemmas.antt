@@ -1,5 +1,5 @@
 -- What columns make of the ledger's values, and how these compare.
-use Rattle.std.proofs.Common.{◌≡◌, ℤ, pos, ℕ, Bool, true, false, not, ◌||◌, ◌==◌, nat_le, ap, Option, Some, None, codes, refl, arith, ◌∙◌, int_eq, int_cmp, nat_cmp}
+use Rattle.std.proofs.Common.{◌≡◌, ℤ, pos, ℕ, Bool, true, false, not, ◌&&◌, ◌||◌, ◌==◌, nat_le, nat_lt, ap, Option, Some, None, codes, refl, arith, ◌∙◌, int_eq, int_cmp, nat_cmp}
 use Rattle.std.proofs.lemmas.Bool.Decides.{nat_tests}
 use Rattle.std.proofs.lemmas.Int.{ints}
 use Rattle.sqlite.specs.Cast.{cast}
@@ -9,8 +9,9 @@ use Rattle.std.specs.Option.{option_map_or}
 use Rattle.sqlite.specs.Order.{value_cmp}
 use Rattle.sqlite.specs.Kind.TheVariants.{Integer, Text as Texts}
 use Rattle.sqlite_schema.specs.Rules.{is_of}
-use Rattle.sqlite_sql.specs.declared.ops.BinaryOp.TheVariants.{Compare, Or}
-use Rattle.sqlite_sql.specs.declared.ops.CompareOp.TheVariants.{Eq, Ge, Ne}
+use Rattle.sqlite_sql.specs.declared.ops.BinaryOp.TheVariants.{And, Compare, Or}
+use Rattle.sqlite_sql.specs.declared.ops.CompareOp.{CompareOp}
+use Rattle.sqlite_sql.specs.declared.ops.CompareOp.TheVariants.{Eq, Ge, Gt, Ne}
 use Rattle.sqlite_value.proofs.OrderLemmas.{value_cmp-Int, value_cmp-Text}
 use Rattle.clear_values.specs.Lines.{same_purpose}
 use Rattle.clear_values.specs.declared.lines.Purpose.{Purpose}
@@ -72,6 +73,21 @@ months_keep = record { same = same_months; order = month_order }
 pub equal_numbers : (m n : ℕ) → is_true (binary (Compare Eq Binary) (number m) (number n)) ≡ (m == n)
 equal_numbers m n = equal_ints (pos m) (pos n) ∙ same_numbers m n
 
+-- a test of two numbers, as it is found
+tested : (op : CompareOp) (m n : ℕ) → binary (Compare op Binary) (number m) (number n) ≡ from_truth (Some (test op (nat_cmp m n)))
+unfolding binary
+tested op m n = ap (λ o. from_truth (Some (test op o))) (value_cmp-Int (pos m) (pos n) ∙ number_order m n)
+
+-- the tests of the order of two numbers
+same : (m n : ℕ) → test Eq (nat_cmp m n) ≡ (n == m)
+same m n = grind (arith, nat_tests)
+
+greater : (m n : ℕ) → test Gt (nat_cmp m n) ≡ nat_lt n m
+greater m n = grind (arith, nat_tests)
+
+at_least : (m n : ℕ) → test Ge (nat_cmp m n) ≡ nat_le n m
+at_least m n = grind (arith, nat_tests)
+
 -- whether one of two numbers is another
 pub others_differ : (a b m n : ℕ) → is_true (binary Or (binary (Compare Ne Binary) (number a) (number b)) (binary (Compare Ne Binary) (number m) (number n))) ≡ (not (a == b) || not (m == n))
 unfolding binary
@@ -81,13 +97,30 @@ others_differ a b m n = rw (differ a b, differ m n) (either (not (a == b)) (not 
     other m n = grind (arith, nat_tests)
 
     differ : (m n : ℕ) → binary (Compare Ne Binary) (number m) (number n) ≡ from_truth (Some (not (m == n)))
-    differ m n = ap (λ o. from_truth (Some (test Ne o))) (value_cmp-Int (pos m) (pos n) ∙ number_order m n) ∙ ap (λ b. from_truth (Some b)) (other m n)
+    differ m n = tested Ne m n ∙ ap (λ b. from_truth (Some b)) (other m n)
 
     either : (a b : Bool) → is_true (binary Or (from_truth (Some a)) (from_truth (Some b))) ≡ (a || b)
     either true true = refl
     either true false = refl
     either false true = refl
     either false false = refl
+
+-- whether two numbers are a pair or come behind it
+pub comes_from : (a b m n : ℕ)
+    → is_true (binary Or (binary (Compare Gt Binary) (number a) (number m)) (binary And (binary (Compare Eq Binary) (number a) (number m)) (binary (Compare Ge Binary) (number b) (number n))))
+    ≡ (nat_lt m a || ((m == a) && nat_le n b))
+unfolding binary
+comes_from a b m n = rw (tested Gt a m, tested Eq a m, tested Ge b n, greater a m, same a m, at_least b n) (joined (nat_lt m a) (m == a) (nat_le n b))
+  where
+    joined : (a b c : Bool) → is_true (binary Or (from_truth (Some a)) (binary And (from_truth (Some b)) (from_truth (Some c)))) ≡ (a || (b && c))
+    joined true true true = refl
+    joined true true false = refl
+    joined true false true = refl
+    joined true false false = refl
+    joined false true true = refl
+    joined false true false = refl
+    joined false false true = refl
+    joined false false false = refl
 
 -- a column that may be NULL has a number only where it is one, and is at least a number only where it
 -- is one
@@ -100,12 +133,13 @@ pub maybe_from : (o : Option ℕ) (n : ℕ) → is_true (binary (Compare Ge Bina
 unfolding binary
 maybe_from None n = refl
 maybe_from (Some m) n = told _ ∙ ap (test Ge) (value_cmp-Int (pos m) (pos n) ∙ number_order m n) ∙ at_least m n
-  where
-    at_least : (m n : ℕ) → test Ge (nat_cmp m n) ≡ nat_le n m
-    at_least m n = grind (arith, nat_tests)
 
 pub equal_months : (m n : ℕ) → is_true (binary (Compare Eq Binary) (month m) (month n)) ≡ (m == n)
 equal_months m n = equal_ints (month_number m) (month_number n) ∙ same_months m n
+
+pub months_from : (m n : ℕ) → is_true (binary (Compare Ge Binary) (month m) (month n)) ≡ nat_le n m
+unfolding binary
+months_from m n = told _ ∙ ap (test Ge) (value_cmp-Int (month_number m) (month_number n) ∙ month_order m n) ∙ at_least m n
 
 pub months_compare : (m n : ℕ) → value_cmp (month m) (month n) ≡ nat_cmp m n
 months_compare m n = value_cmp-Int (month_number m) (month_number n) ∙ month_order m n

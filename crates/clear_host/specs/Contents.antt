@@ -6,8 +6,9 @@ use Rattle.sqlite.specs.Held.{state}
 use Rattle.sqlite.specs.State.{HasCleanDisk}
 use Rattle.sqlite.specs.Store.{Ghosts}
 use Rattle.sqlite.specs.Tree.{Trees}
+use Rattle.clear_book.specs.Allocated.{Represents}
 use Rattle.clear_book.specs.Book.{Book}
-use Rattle.clear_book.specs.Tables.{Tables, Stands}
+use Rattle.clear_book.specs.Tables.{Tables}
 use Rattle.clear_schema.specs.Faults.{other_layout}
 use Rattle.clear_schema.specs.Held.{StandsAs, StandsOtherwise, TellsAs}
 use Rattle.clear_schema.specs.Schema.{Layout, this_layout}
@@ -48,9 +49,9 @@ HoldsSchema number image =
 abbrev pub HoldsOtherLayout : Image → Type 0
 HoldsOtherLayout image = (trees : Trees) × HoldsDatabase image trees × StandsOtherwise trees
 
--- they hold a store of this program, with the tables of the book
+-- they hold a store of this program, with the tables of the book, its pieces with them
 abbrev pub HoldsBook : Book → Image → Type 0
-HoldsBook b image = (t : Tables) × Stands b t × HoldsStore this_layout t image
+HoldsBook b image = (t : Tables) × Represents b t × HoldsStore this_layout t image
 
 -- where the fault tells a number, it is this one
 abbrev pub TellsOnly : ℕ → OpenFault → Type 0

@@ -7,8 +7,9 @@ ghost use Rattle.sqlite.specs.Files.{IsNothing};
 ghost use Rattle.sqlite.specs.Held.{state};
 ghost use Rattle.sqlite.specs.State.{HasCleanDisk};
 ghost use Rattle.sqlite_wal.specs.Recovery.{Image};
+ghost use Rattle.clear_book.specs.Allocated.{Represents};
 ghost use Rattle.clear_book.specs.Book.{Book, first_book, ledger_day};
-ghost use Rattle.clear_book.specs.Tables.{Tables, Stands};
+ghost use Rattle.clear_book.specs.Tables.{Tables};
 ghost use Rattle.clear_schema.specs.Faults.{IsWrong};
 ghost use Rattle.clear_schema.specs.First.{first_tables};
 ghost use Rattle.clear_schema.specs.Held.{HasTables, this_schema};
@@ -203,7 +204,7 @@ fn office_over<S: Alter>(alloc: Global, store: Store<S>) -> Result<Opened<S>, No
         → (t : Tables) → HasTables t (state S.Store store.conn).now
         → Holds S.Store opened.office.conn t) }
     ensures keeps { IfOk result (λ opened. IsHonest S.Store opened.office
-        → (b : Book) (t : Tables) → Stands b t → HasTables t (state S.Store store.conn).now
+        → (b : Book) (t : Tables) → Represents b t → HasTables t (state S.Store store.conn).now
         → Keeps S.Store opened.office b) }
     ensures day { IfOk result (λ opened. IsHonest S.Store opened.office
         → (t : Tables) → HasTables t (state S.Store store.conn).now

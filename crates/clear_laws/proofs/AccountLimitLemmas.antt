@@ -44,7 +44,7 @@ use Rattle.clear_values.proofs.KeyedRowsLemmas.{sum_by-with_rows}
 
 -- ---- the payments of a firm for a purpose
 
-same_means : (p q : Purpose) → same_purpose p q ≡ true → p ≡ q
+pub same_means : (p q : Purpose) → same_purpose p q ≡ true → p ≡ q
 same_means Contribution Contribution h = refl
 same_means Contribution Interest h = absurd (cc)
 same_means Interest Contribution h = absurd (cc)

@@ -1,5 +1,8 @@
+pub mod AccountChangeLemmas
 pub mod AccountLimitLemmas
+pub mod AccountPiecesLemmas
 pub mod AlikeLemmas
+pub mod AllocatedLemmas
 pub mod AssignLemmas
 pub mod AssignTablesLemmas
 pub mod ChargesLemmas
@@ -14,11 +17,13 @@ pub mod EndTablesLemmas
 pub mod EntitlementLemmas
 pub mod FaultLemmas
 pub mod FirstLemmas
+pub mod FollowsLemmas
 pub mod FrontLemmas
 pub mod ImportTablesLemmas
 pub mod JudgeLemmas
 pub mod KeptChargesLemmas
 pub mod KeptLemmas
+pub mod KeyedFilterLemmas
 pub mod LawsLemmas
 pub mod LimitsLemmas
 pub mod LinesLemmas
@@ -30,7 +35,10 @@ pub mod ListedLemmas
 pub mod MembersLemmas
 pub mod OneTableLemmas
 pub mod OtherKeyLemmas
+pub mod PieceOrderLemmas
+pub mod PieceRowLemmas
 pub mod PiecesLemmas
+pub mod PutPiecesLemmas
 pub mod RateTablesLemmas
 pub mod RatesLemmas
 pub mod RatesStayLemmas
@@ -49,6 +57,8 @@ pub mod RunRangeLemmas
 pub mod SeenLemmas
 pub mod SerialLemmas
 pub mod SuspenseLemmas
+pub mod TableAccountLemmas
+pub mod TablePiecesLemmas
 pub mod TablesLemmas
 pub mod VersionLemmas
 pub mod WagesLemmas

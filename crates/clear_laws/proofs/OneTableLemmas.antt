@@ -1,17 +1,21 @@
 -- The tables that stand for a book are one.
-use Rattle.std.proofs.Common.{◌≡◌, ℕ, List, Option, Some, None, refl, sym, ap, ◌∙◌}
+use Rattle.std.proofs.Common.{◌≡◌, ℕ, List, Option, Some, None, filter, map, ◌==◌, refl, sym, ap, ◌∙◌}
+use Rattle.std.proofs.lemmas.Bool.{eq-eqb}
 use Rattle.std.specs.Option.{option_map}
 use Rattle.clear_values.specs.declared.rows.EmployerRow.{EmployerRow}
 use Rattle.clear_values.specs.declared.rows.KeptCharge.{KeptCharge}
+use Rattle.clear_values.specs.declared.rows.PieceRow.{PieceRow}
 use Rattle.clear_values.specs.declared.rows.ReportRow.{ReportRow}
 use Rattle.clear_values.specs.declared.rows.WageRow.{WageRow}
 use Rattle.clear_book.specs.Accounts.{credit_key}
+use Rattle.clear_book.specs.Allocated.{AreAllocated, table_pieces}
 use Rattle.clear_book.specs.Book.{Book}
 use Rattle.clear_values.specs.Keyed.{find_row, AreInOrder}
-use Rattle.clear_book.specs.Tables.{Tables, Stands, employer_key, report_key, wage_key, charge_key, bank_key, request_key, charge_at, charge_in, member_in}
+use Rattle.clear_book.specs.Tables.{Tables, Stands, employer_key, report_key, wage_key, charge_key, bank_key, piece_key, request_key, charge_at, charge_in, member_in}
 use Rattle.clear_values.proofs.KeyedLemmas.{found_key}
 use Rattle.clear_values.proofs.KeyedRowsLemmas.{same_rows}
 use Rattle.clear_values.proofs.KeyedChangesLemmas.{same_rows_by_key}
+use Rattle.clear_laws.proofs.KeyedFilterLemmas.{find_row-filter}
 
 -- ---- rows told by their keys and values
 
@@ -57,7 +61,7 @@ whole_wage x y keys amounts =
     (λ i. record { employer = employers i; month = months i; worker = workers i; gross = amounts i })
 
 -- employer, month and contribution make up the row
-whole_charge : (x y : KeptCharge) → charge_key x ≡ charge_key y → charge_in x ≡ charge_in y → x ≡ y
+pub whole_charge : (x y : KeptCharge) → charge_key x ≡ charge_key y → charge_in x ≡ charge_in y → x ≡ y
 whole_charge x y keys charges =
     let employers : x.employer ≡ y.employer = cc in
     (λ i. record { employer = employers i; month = (charges i).month; due = (charges i).due; cents = (charges i).cents })
@@ -66,6 +70,15 @@ whole_charge x y keys charges =
 pub same_by_month : (xs ys : List KeptCharge) → AreInOrder charge_key xs → AreInOrder charge_key ys → ((e m : ℕ) → charge_at xs e m ≡ charge_at ys e m) → xs ≡ ys
 same_by_month xs ys left right same =
     same_rows_by_value charge_key charge_in whole_charge xs ys left right (λ row. same row.employer row.month)
+
+-- pieces in order are one where those of each firm are
+same_by_employer : (xs ys : List PieceRow) → AreInOrder piece_key xs → AreInOrder piece_key ys → ((e : ℕ) → filter (λ row. row.employer == e) xs ≡ filter (λ row. row.employer == e) ys) → xs ≡ ys
+same_by_employer xs ys left right same =
+    same_rows_by_key piece_key xs ys left right
+    (λ row. sym (found row xs) ∙ ap (λ (rows : List PieceRow). find_row piece_key rows (piece_key row)) (same row.employer) ∙ found row ys)
+  where
+    found : (row : PieceRow) (rows : List PieceRow) → find_row piece_key (filter (λ r. r.employer == row.employer) rows) (piece_key row) ≡ find_row piece_key rows (piece_key row)
+    found row rows = find_row-filter piece_key (λ r. r.employer == row.employer) (piece_key row) (λ r is. let one : r.employer ≡ row.employer = cc in eq-eqb r.employer row.employer one) rows
 
 -- ---- each table, then all
 
@@ -108,9 +121,9 @@ module _ (b : Book) (t u : Tables) (left : Stands b t) (right : Stands b u) wher
   same_requests =
       same_rows request_key t.requests u.requests left.requests_in_order right.requests_in_order (λ k. left.requests k ∙ sym (right.requests k))
 
-  -- and so do the numbers, and the tables that are lists of the book
-  pub same_tables : t ≡ u
-  same_tables =
+  -- and so do the numbers, and the tables that are lists of the book; so they are equal but for the pieces
+  pub same_but_pieces : record t { pieces = u.pieces } ≡ u
+  same_but_pieces =
       let day : t.day ≡ u.day = left.day ∙ sym right.day in
       let rates : t.rates ≡ u.rates = left.rates ∙ sym right.rates in
       let entries : t.entries ≡ u.entries = left.entries ∙ sym right.entries in
@@ -131,6 +144,7 @@ module _ (b : Book) (t u : Tables) (left : Stands b t) (right : Stands b u) wher
         charges = same_charges i;
         bank = same_bank i;
         credits = same_credits i;
+        pieces = u.pieces;
         claims = claims i;
         lists = lists i;
         runs = runs i;
@@ -143,3 +157,13 @@ module _ (b : Book) (t u : Tables) (left : Stands b t) (right : Stands b u) wher
         last_list = last_list i;
         last_run = last_run i;
       })
+
+  -- and where the pieces of both are those of their accounts, these agree, too
+  module _ (g : PieceRow → PieceRow) (allocated : AreAllocated g t) (also : AreAllocated g u) where
+    same_pieces : t.pieces ≡ u.pieces
+    same_pieces =
+        same_by_employer t.pieces u.pieces allocated.in_order also.in_order
+        (λ e. allocated.pieces e ∙ ap (λ (w : Tables). map g (table_pieces w e)) same_but_pieces ∙ sym (also.pieces e))
+
+    pub same_tables : t ≡ u
+    same_tables = ap (λ (rows : List PieceRow). record t { pieces = rows }) same_pieces ∙ same_but_pieces

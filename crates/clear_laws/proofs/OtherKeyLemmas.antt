@@ -122,7 +122,7 @@ module _ {Row : Type 0} (key : Row → List ℕ) (p : Row → Bool) where
       told true rest = (none-filter rows (key row) once.0, rest)
       told false rest = rest
 
-  behind-filter : (k : List ℕ) (rows : List Row) → AllBehind key k rows → AllBehind key k (filter p rows)
+  pub behind-filter : (k : List ℕ) (rows : List Row) → AllBehind key k rows → AllBehind key k (filter p rows)
   behind-filter k [] all = tt
   behind-filter k (row ∷ rows) all = told (p row) (behind-filter k rows all.1)
     where

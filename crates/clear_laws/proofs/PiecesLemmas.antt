@@ -15,7 +15,7 @@ use Rattle.clear_book.specs.Accounts.{charges_of, credit_rows_of, credits_of, ro
 use Rattle.clear_book.specs.Book.{Book}
 use Rattle.clear_book.specs.Pieces.{piece_of, piece_row, pieces_of, piece_rows_of, row_piece}
 
-map-flat_map : {X A B : Type 0} (f : A → B) (g : X → List A) (xs : List X) → map f (flat_map g xs) ≡ flat_map (λ x. map f (g x)) xs
+pub map-flat_map : {X A B : Type 0} (f : A → B) (g : X → List A) (xs : List X) → map f (flat_map g xs) ≡ flat_map (λ x. map f (g x)) xs
 map-flat_map f g [] = refl
 map-flat_map f g (x ∷ xs) =
     ap (map f) (flat_map-cons g x xs)

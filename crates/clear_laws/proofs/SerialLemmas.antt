@@ -40,7 +40,7 @@ module _ {Row : Type 0} (key : Row → List ℕ) where
   both_new rows (x ∷ xs) ys left right = (left.0, both_new rows xs ys left.1 right)
 
   -- a key that comes before two lists comes before both
-  behind-both : (k : List ℕ) (xs ys : List Row) → AllBehind key k xs → AllBehind key k ys → AllBehind key k (xs ++ ys)
+  pub behind-both : (k : List ℕ) (xs ys : List Row) → AllBehind key k xs → AllBehind key k ys → AllBehind key k (xs ++ ys)
   behind-both k [] ys h g = g
   behind-both k (x ∷ xs) ys h g = (h.0, behind-both k xs ys h.1 g)
 

@@ -23,6 +23,7 @@ ghost use Rattle.clear_book.specs.declared.rules.Rule.TheVariants.{Failed, Store
 ghost use Rattle.clear_values.specs.declared.causes.StoreCause.{StoreCause};
 ghost use Rattle.clear_values.specs.declared.causes.StoreCause.TheVariants.{Other};
 ghost use Rattle.clear_book.specs.Accounts.{charges_of, credit_key, credits_of, credits_standing};
+ghost use Rattle.clear_book.specs.Allocated.{AreAllocated};
 ghost use Rattle.clear_book.specs.Book.{Book, Entry, entry, first_book, latest_lines};
 ghost use Rattle.clear_book.specs.Book.{ledger_day, rates_of};
 ghost use Rattle.clear_book.specs.Conserved.{firm_cents, interest_cents, pieces_cents};
@@ -43,6 +44,7 @@ ghost use Rattle.clear_values.specs.Ranges.{AreRates};
 ghost use Rattle.clear_values.specs.RowRanges.{AreInRange, settled};
 ghost use Rattle.clear_values.specs.declared.rows.ClaimRow.{ClaimRow};
 ghost use Rattle.clear_values.specs.declared.rows.ClaimState.TheVariants.{Released};
+ghost use Rattle.clear_values.specs.declared.rows.PieceRow.{PieceRow};
 ghost use Rattle.clear_values.specs.declared.rows.ReleasedClaim.{ReleasedClaim};
 ghost use Rattle.clear_book.specs.Tables.{Tables, Stands, table_charges, table_credits};
 ghost use Rattle.clear_book.specs.Tables.{list_key, reminder_key, table_entitlement};
@@ -120,9 +122,13 @@ pub fn law_small()
     ensures { (b : Book) → IsLawful b → IsSmall b }
 {}
 
-/// Two tables that stand for one book are equal.
+/// Two tables that stand for one book are equal but for the pieces that they keep; and where these
+/// are allocated alike, they are equal.
 pub fn law_one_table()
-    ensures { (b : Book) (t u : Tables) → Stands b t → Stands b u → t ≡ u }
+    ensures but_pieces { (b : Book) (t u : Tables) → Stands b t → Stands b u
+        → record t { pieces = u.pieces } ≡ u }
+    ensures whole { (b : Book) (t u : Tables) (g : PieceRow → PieceRow) → Stands b t → Stands b u
+        → AreAllocated g t → AreAllocated g u → t ≡ u }
 {}
 
 /// Each row of the tables of a lawful book lies in its ranges.

@@ -4,6 +4,7 @@ pub mod CreditTable
 pub mod GreatestLemmas
 pub mod ListTable
 pub mod OneLemmas
+pub mod PieceTable
 pub mod ReminderTable
 pub mod ReplyLemmas
 pub mod RequestTable

@@ -10,14 +10,16 @@ use Rattle.clear_values.specs.declared.rows.ClaimState.{ClaimState}
 use Rattle.clear_values.specs.declared.rows.ClaimState.TheVariants.{Open, Withdrawn, Released}
 use Rattle.clear_values.specs.declared.rows.CreditRow.{CreditRow}
 use Rattle.clear_values.specs.declared.rows.ListRow.{ListRow}
+use Rattle.clear_values.specs.declared.rows.PieceRow.{PieceRow}
 use Rattle.clear_values.specs.declared.rows.ReminderRow.{ReminderRow}
 use Rattle.clear_values.specs.declared.rows.RunRow.{RunRow}
 use Rattle.clear_values.specs.declared.replies.Reply.{Reply}
 use Rattle.clear_values.specs.declared.replies.Reply.TheVariants.{Done, Reported, Imported, Claimed}
 use Rattle.clear_values.specs.declared.replies.Reply.TheVariants.{Released as reply_of_release}
 use Rattle.clear_values.specs.declared.replies.Reply.TheVariants.{Listed, Reminded}
-use Rattle.clear_schema.specs.Values.{caller_number, number, maybe, maybe_month, purpose}
+use Rattle.clear_schema.specs.Values.{caller_number, number, maybe, month, maybe_month, purpose}
 use Rattle.clear_columns.specs.Keys.{is_held}
+use Rattle.clear_ledger.specs.declared.pieces.PieceFrom.{PieceFrom}
 use Rattle.clear_ledger.specs.declared.replies.ReplyNumbers.{ReplyNumbers}
 use Rattle.clear_ledger.specs.declared.states.StateColumns.{StateColumns}
 
@@ -33,6 +35,17 @@ abbrev pub credit_shown : CreditRow → Row
 credit_shown row =
     number row.employer ∷ purpose row.purpose ∷ number row.day ∷ number row.serial
     ∷ number row.cents ∷ Text row.reference ∷ []
+
+-- a piece
+abbrev pub piece_shown : PieceRow → Row
+piece_shown row =
+    number row.employer ∷ month row.month ∷ number row.day ∷ number row.serial
+    ∷ number row.cents ∷ Text row.reference ∷ []
+
+-- the firm, the month and the credit from which pieces go
+abbrev pub first_piece_given : PieceFrom → Row
+first_piece_given from =
+    number from.employer ∷ month from.month ∷ number from.day ∷ number from.serial ∷ []
 
 -- the serial of a bank line, as a key
 abbrev pub serial_key : BankRow → List ℕ

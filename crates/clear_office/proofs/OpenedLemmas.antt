@@ -1,11 +1,20 @@
 -- An office that was just opened over a store.
-use Rattle.std.proofs.Common.{◌≡◌, sym, subst, false}
+use Rattle.std.proofs.Common.{◌≡◌, List, sym, subst, false}
 use Rattle.sqlite.specs.Held.{Held, state}
 use Rattle.sqlite.specs.State.{HasCleanDisk}
 use Rattle.sqlite.specs.Store as store
-use Rattle.clear_book.specs.Book.{Book}
-use Rattle.clear_book.specs.Tables.{Tables, Stands}
+use Rattle.clear_money.specs.Rates.{Rate}
+use Rattle.clear_book.specs.Book.{Book, first_book}
+use Rattle.clear_book.specs.Allocated.{Represents}
+use Rattle.clear_book.specs.Tables.{Tables}
+use Rattle.clear_laws.proofs.FirstLemmas.{first_stands}
+use Rattle.clear_laws.proofs.TablePiecesLemmas.{first_allocated}
+use Rattle.clear_schema.specs.First.{first_tables}
 use Rattle.clear_office.specs.Office.{AtOffice, Holds, IsHonest, Keeps}
+
+-- the first tables represent the first book
+pub first_represents : (rates : List Rate) → Represents (first_book rates) (first_tables rates)
+first_represents rates = record { stands = first_stands rates; pieces = first_allocated rates (λ row. row) }
 
 module _ {S : Type 0} (g : store.Ghosts S) (office : AtOffice S) (conn : Held S) (is : office ≡ record { conn = conn; failed = false }) where
   -- its disk is that of the store
@@ -16,6 +25,6 @@ module _ {S : Type 0} (g : store.Ghosts S) (office : AtOffice S) (conn : Held S)
   pub holds_still : (t : Tables) → Holds g conn t → Holds g office.conn t
   holds_still t holds = subst (λ (o : AtOffice S). Holds g o.conn t) (sym is) holds
 
-  -- it keeps the book that the store's tables stand for
-  pub keeps_book : (b : Book) (t : Tables) → Stands b t → Holds g conn t → Keeps g office b
-  keeps_book b t stands holds = subst (λ o. Keeps g o b) (sym is) (t, stands, holds)
+  -- it keeps the book that the store's tables represent
+  pub keeps_book : (b : Book) (t : Tables) → Represents b t → Holds g conn t → Keeps g office b
+  keeps_book b t represents holds = subst (λ o. Keeps g o b) (sym is) (t, represents, holds)

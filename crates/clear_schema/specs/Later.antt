@@ -7,22 +7,22 @@ use Rattle.sqlite_schema.specs.declared.schema.Index.{Index}
 use Rattle.clear_rows.specs.Parts.{index, int, keyed}
 use Rattle.clear_schema.specs.Schema.{Layout, all_indexes, schema_of, this_layout, wages_table}
 
-abbrev pub pieces_table : Table
-pieces_table =
-    keyed (codes "pieces") 26 (1 ∷ 2 ∷ []) ([]) (
+abbrev pub refunds_table : Table
+refunds_table =
+    keyed (codes "refunds") 28 (1 ∷ 2 ∷ []) ([]) (
     int (codes "employer")
     ∷ int (codes "month")
     ∷ int (codes "cents")
     ∷ [])
 
 abbrev pub by_gross : Index
-by_gross = index (codes "wages_by_gross") wages_table (4 ∷ []) 28
+by_gross = index (codes "wages_by_gross") wages_table (4 ∷ []) 30
 
 -- this program's number still tells of it
 abbrev pub more_layout : Layout
 more_layout = record this_layout {
-  further = pieces_table ∷ [];
-  indexes = all_indexes ++ automatic pieces_table 0 (1 ∷ 2 ∷ []) 27 ∷ by_gross ∷ [];
+  further = refunds_table ∷ [];
+  indexes = all_indexes ++ automatic refunds_table 0 (1 ∷ 2 ∷ []) 29 ∷ by_gross ∷ [];
 }
 
 -- or one of its own

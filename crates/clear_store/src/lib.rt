@@ -8,6 +8,7 @@ mod claims;
 mod firms;
 mod lists;
 mod month_report;
+pub mod pieces;
 mod runs;
 mod suspense;
 

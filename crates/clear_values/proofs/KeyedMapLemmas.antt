@@ -130,7 +130,7 @@ module _ {Row : Type 0} (key : Row → List ℕ) where
       ∙ put_rows-behind first (put_row key rows new) news all.1
 
   -- a row whose key comes before all others goes first
-  with_row-first : (rows : List Row) (new : Row) → AllBehind key (key new) rows → with_row key rows new ≡ new ∷ rows
+  pub with_row-first : (rows : List Row) (new : Row) → AllBehind key (key new) rows → with_row key rows new ≡ new ∷ rows
   with_row-first [] new all = refl
   with_row-first (row ∷ rows) new all = ap (λ b. cond b (new ∷ row ∷ rows) (row ∷ with_row key rows new)) all.0
 

@@ -13,6 +13,7 @@ first_tables rates = record {
   charges = [];
   bank = [];
   credits = [];
+  pieces = [];
   claims = [];
   lists = [];
   runs = [];

@@ -17,6 +17,7 @@ use Rattle.clear_values.specs.declared.rows.CreditRow.{CreditRow}
 use Rattle.clear_values.specs.declared.rows.EmployerRow.{EmployerRow}
 use Rattle.clear_values.specs.declared.rows.KeptCharge.{KeptCharge}
 use Rattle.clear_values.specs.declared.rows.ListRow.{ListRow}
+use Rattle.clear_values.specs.declared.rows.PieceRow.{PieceRow}
 use Rattle.clear_values.specs.declared.rows.ReleasedClaim.{ReleasedClaim}
 use Rattle.clear_values.specs.declared.rows.ReminderRow.{ReminderRow}
 use Rattle.clear_values.specs.declared.rows.ReportRow.{ReportRow}
@@ -67,6 +68,14 @@ pub record IsCreditRow (row : CreditRow) : Type 0 where
   pub day : IsDay row.day
   pub serial : IsSerial row.serial
   pub cents : IsAmount row.cents
+  pub reference : IsCreditReference row.reference
+
+pub record IsPieceRow (row : PieceRow) : Type 0 where
+  pub employer : IsEmployerNo row.employer
+  pub month : IsMonth row.month
+  pub day : IsDay row.day
+  pub serial : IsSerial row.serial
+  pub cents : row.cents ≤ most_base
   pub reference : IsCreditReference row.reference
 
 -- the sum of the three amounts of a settlement

@@ -1,6 +1,6 @@
 -- The tables: rows by their keys.
-use Rattle.std.specs.Prelude.{ℕ, ◌+◌, List, [], ◌∷◌, Option, Some, Bool, false, ◌&&◌, ◌==◌}
-use Rattle.std.specs.Prelude.{◌++◌, length, map}
+use Rattle.std.specs.Prelude.{ℕ, ◌+◌, List, [], ◌∷◌, Option, Some, Bool, false, ◌&&◌, ◌||◌, ◌==◌}
+use Rattle.std.specs.Prelude.{◌++◌, length, map, nat_le, nat_lt}
 use Rattle.clear_money.specs.Rates.{Rate}
 use Rattle.clear_values.specs.declared.callers.Caller.{Caller}
 use Rattle.clear_values.specs.declared.callers.Caller.TheVariants.{Firm, Clerk}
@@ -18,6 +18,7 @@ use Rattle.clear_values.specs.declared.rows.CreditRow.{CreditRow}
 use Rattle.clear_values.specs.declared.rows.EmployerRow.{EmployerRow}
 use Rattle.clear_values.specs.declared.rows.KeptCharge.{KeptCharge}
 use Rattle.clear_values.specs.declared.rows.ListRow.{ListRow}
+use Rattle.clear_values.specs.declared.rows.PieceRow.{PieceRow}
 use Rattle.clear_values.specs.declared.rows.ReminderRow.{ReminderRow}
 use Rattle.clear_values.specs.declared.rows.ReportRow.{ReportRow}
 use Rattle.clear_values.specs.declared.rows.RunRow.{RunRow}
@@ -48,6 +49,7 @@ pub record Tables : Type 0 where
   pub charges : List KeptCharge
   pub bank : List BankRow
   pub credits : List CreditRow
+  pub pieces : List PieceRow
   pub claims : List ClaimRow
   pub lists : List ListRow
   pub runs : List RunRow
@@ -81,6 +83,10 @@ charge_key row = row.employer ∷ row.month ∷ []
 -- the reference of a bank line
 abbrev pub bank_key : BankRow → List ℕ
 bank_key row = row.line.reference
+
+-- an employer, a month, and the day and the serial of a credit
+abbrev pub piece_key : PieceRow → List ℕ
+piece_key row = row.employer ∷ row.month ∷ row.day ∷ row.serial ∷ []
 
 -- the number of a claim
 abbrev pub claim_key : ClaimRow → List ℕ
@@ -135,7 +141,19 @@ abbrev pub with_wages : ℕ → ℕ → List WageLine → List WageRow → List 
 with_wages e m lines rows =
     with_rows wage_key (without_rows wage_key (is_wage_key_of e m) rows) (wage_rows e m lines)
 
--- what a decision changes
+-- the key of a piece of this employer, of the month or a later one, whose credit is that of the day
+-- and serial or a later one
+abbrev pub is_piece_key_from : ℕ → ℕ → ℕ → ℕ → List ℕ → Bool
+is_piece_key_from e m day serial (f ∷ n ∷ d ∷ s ∷ []) =
+    (e == f) && nat_le m n && (nat_lt day d || ((day == d) && nat_le serial s))
+is_piece_key_from e m day serial k = false
+
+-- the pieces, with these in the place of an employer's from a month and a credit on
+abbrev pub with_pieces : ℕ → ℕ → ℕ → ℕ → List PieceRow → List PieceRow → List PieceRow
+with_pieces e m day serial news rows =
+    with_rows piece_key (without_rows piece_key (is_piece_key_from e m day serial) rows) news
+
+-- what a decision changes; the pieces follow from what it leaves
 abbrev pub changed : Change → Tables → Tables
 changed (AddRate row) t = record t { rates = t.rates ++ row ∷ [] }
 changed (AddEmployer row) t = record t { employers = with_row employer_key t.employers row }

@@ -19,7 +19,7 @@ use Rattle.clear_views.specs.Owed.{with_charges, with_credits}
 -- ---- what is put at its place behind all others comes last
 
 module _ {X : Type 0} (lt : X → X → Bool) where
-  abbrev IsLess : X → X → Type 0
+  abbrev pub IsLess : X → X → Type 0
   IsLess x y = (lt x y ≡ true) × (lt y x ≡ false)
 
   -- each of the held comes before the one
@@ -85,17 +85,17 @@ module _ {Row X : Type 0} (key : Row → List ℕ) (p : Row → Bool) (f : Row �
 
 -- ---- charges whose months rise, and credits that come one before the other
 
-abbrev month_before : Charge → Charge → Bool
+abbrev pub month_before : Charge → Charge → Bool
 month_before c d = nat_lt c.month d.month
 
-charges_rise : (cs held : List Charge) → Rise month_before cs → Precede month_before held cs → with_charges cs held ≡ held ++ cs
+pub charges_rise : (cs held : List Charge) → Rise month_before cs → Precede month_before held cs → with_charges cs held ≡ held ++ cs
 charges_rise [] held rise before = sym (append-nil held)
 charges_rise (c ∷ cs) held rise before =
     ap (with_charges cs) (placed_last month_before held c before.0)
     ∙ charges_rise cs (held ++ c ∷ []) rise.1 (precede_push month_before held c cs before.1 rise.0)
     ∙ append_assoc held (c ∷ []) cs
 
-credits_rise : (ks held : List Credit) → Rise comes_before ks → Precede comes_before held ks → with_credits ks held ≡ held ++ ks
+pub credits_rise : (ks held : List Credit) → Rise comes_before ks → Precede comes_before held ks → with_credits ks held ≡ held ++ ks
 credits_rise [] held rise before = sym (append-nil held)
 credits_rise (k ∷ ks) held rise before =
     ap (with_credits ks) (placed_last comes_before held k before.0)

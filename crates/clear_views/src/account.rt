@@ -10,7 +10,7 @@ ghost use Rattle.clear_schema.specs.Held.{HasTables};
 ghost use Rattle.clear_views.specs.Owed.{HasAccount, with_charges, with_credits};
 
 mod charges;
-mod credits;
+pub mod credits;
 
 use crate::account::charges::add_months;
 use crate::account::credits::add_credits;

@@ -7,7 +7,7 @@
 //! one of a key or of a row.
 #![tactic(auto)]
 
-mod account;
+pub mod account;
 pub mod add_rate;
 pub mod assign;
 pub mod claim;

@@ -17,13 +17,9 @@ use clear_schema::fault::Fault;
 use std::alloc::{AllocError, Global};
 use std::collections::BTreeSet;
 
-// Adds payments to an account, which has none yet. A serial that stands twice, and more payments
-// than an account has, are a fault of the row.
-pub(super) fn add_credits(
-    alloc: Global,
-    account: &mut Plain,
-    rows: &[CreditRow],
-) -> Result<(), Fault>
+/// Adds payments to an account, which has none yet. A serial that stands twice, and more payments
+/// than an account has, are a fault of the row.
+pub fn add_credits(alloc: Global, account: &mut Plain, rows: &[CreditRow]) -> Result<(), Fault>
     requires none { account.old.credits ≡ [] }
     ensures credits { OnOk result (account.new.credits
         ≡ with_credits (map row_credit rows.now) []) }

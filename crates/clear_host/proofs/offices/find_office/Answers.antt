@@ -23,7 +23,7 @@ returns-in-Ok-clause-keeps g c image sees =
 pub returns-in-Ok-clause-day : goal.returns-in-Ok-clause-day
 returns-in-Ok-clause-day g c image sees =
     if_ok_both c.office_over.result _ _ _ (λ opened day clean honest b held.
-    day honest held.0 (c.in-Ok.ensures.found image sees (clean honest) held.0 held.2).now ∙ held.1.day)
+    day honest held.0 (c.in-Ok.ensures.found image sees (clean honest) held.0 held.2).now ∙ held.1.stands.day)
     c.office_over.ensures.day c.office_over.ensures.clean
 
 pub returns-in-Ok-clause-only_this : goal.returns-in-Ok-clause-only_this

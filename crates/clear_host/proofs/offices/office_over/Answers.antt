@@ -11,9 +11,9 @@ returns-in-Ok-clause-kept g c honest t has =
     holds_still g.S.Store c.open.result c.ledger_day.new.store.conn c.open.ensures.value t (c.in-Ok.ensures.kept clean t has)
 
 pub returns-in-Ok-clause-keeps : goal.returns-in-Ok-clause-keeps
-returns-in-Ok-clause-keeps g c honest b t stands has =
+returns-in-Ok-clause-keeps g c honest b t represents has =
     let clean = honest_store g.S.Store c.open.result c.ledger_day.new.store.conn c.open.ensures.value honest in
-    keeps_book g.S.Store c.open.result c.ledger_day.new.store.conn c.open.ensures.value b t stands (c.in-Ok.ensures.kept clean t has)
+    keeps_book g.S.Store c.open.result c.ledger_day.new.store.conn c.open.ensures.value b t represents (c.in-Ok.ensures.kept clean t has)
 
 pub returns-in-Ok-clause-day : goal.returns-in-Ok-clause-day
 returns-in-Ok-clause-day g c honest t has =

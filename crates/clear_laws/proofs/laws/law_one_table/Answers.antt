@@ -1,5 +1,8 @@
-use Rattle.clear_laws.proofs.OneTableLemmas.{same_tables}
+use Rattle.clear_laws.proofs.OneTableLemmas.{same_but_pieces, same_tables}
 use Rattle.clear_laws.proofs.laws.law_one_table.Goals as goal
 
-pub returns : goal.returns
-returns c = λ b t u left right. same_tables b t u left right
+pub returns-clause-but_pieces : goal.returns-clause-but_pieces
+returns-clause-but_pieces c = λ b t u left right. same_but_pieces b t u left right
+
+pub returns-clause-whole : goal.returns-clause-whole
+returns-clause-whole c = λ b t u g left right allocated also. same_tables b t u left right g allocated also

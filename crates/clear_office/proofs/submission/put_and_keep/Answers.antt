@@ -1,21 +1,44 @@
-use Rattle.std.proofs.lemmas.Result.{IfErr-weaker}
 use Rattle.sqlite.specs.Held.{state}
-use Rattle.clear_book.specs.Tables.{changed, dated}
+use Rattle.clear_book.specs.Tables.{changed, dated, request_key, request_row}
+use Rattle.clear_values.specs.Keyed.{with_row}
+use Rattle.clear_rows.proofs.Inside.{keeps_both, survives_both}
 use Rattle.clear_views.proofs.ReadLemmas.{was_clean}
+use Rattle.clear_office.specs.Bodies.{entry_of}
+use Rattle.clear_office.proofs.PiecesLemmas.{kept_following, no_blame}
 use Rattle.clear_office.proofs.SubmissionLemmas.{unused_with}
 use Rattle.clear_office.proofs.submission.put_and_keep.Goals as goal
 
 pub returns-in-Ok-clause-put : goal.returns-in-Ok-clause-put
 returns-in-Ok-clause-put g c clean t has counts there =
-    let mid = state g.S.Store c.put_change.new.tx.conn.now in
+    let mid = state g.S.Store c.put_with_pieces.new.tx.conn.now in
     let before = was_clean mid (state g.S.Store c.keep.new.tx.conn.now) c.keep.ensures.survives clean in
-    c.keep.ensures.put clean (dated c.args.origin.now.day (changed c.args.decision.now.change t)) (c.in-Ok.ensures.puts.put before t has (counts, there))
+    let origin = c.args.origin.now in
+    let decision = c.args.decision.now in
+    let v = dated origin.day (changed decision.change t) in
+    let put = c.in-Ok.ensures.put before t has counts there in
+    kept_following origin.day decision.change t v (with_row request_key v.requests (request_row (entry_of origin c.args.command.now decision.reply))) put.0 put.2 _ c.keep.result
+    (c.keep.ensures.put clean (record v { pieces = put.0 }) put.1)
 
-pub returns-in-Ok-clause-cause : goal.returns-in-Ok-clause-cause
-returns-in-Ok-clause-cause g c clean t has counts there =
-    let mid = state g.S.Store c.put_change.new.tx.conn.now in
+pub returns-in-Ok-clause-fault : goal.returns-in-Ok-clause-fault
+returns-in-Ok-clause-fault g c clean t has counts there may unused reply =
+    let mid = state g.S.Store c.put_with_pieces.new.tx.conn.now in
     let before = was_clean mid (state g.S.Store c.keep.new.tx.conn.now) c.keep.ensures.survives clean in
+    let origin = c.args.origin.now in
     let change = c.args.decision.now.change in
-    let day = c.args.origin.now.day in
-    IfErr-weaker c.keep.result _ _ (λ fault blames is both. blames is (unused_with c.args.origin.now.caller c.args.origin.now.number day t change both.1))
-    (c.keep.ensures.cause clean (dated day (changed change t)) (c.in-Ok.ensures.puts.put before t has (counts, there)))
+    let v = dated origin.day (changed change t) in
+    let put = c.in-Ok.ensures.put before t has counts there in
+    no_blame c.keep.result _ _ (unused_with origin.caller origin.number origin.day t change unused) reply
+    (c.keep.ensures.cause clean (record v { pieces = put.0 }) put.1) c.keep.ensures.range
+
+pub returns-in-Ok-clause-stays : goal.returns-in-Ok-clause-stays
+returns-in-Ok-clause-stays g c =
+    let old = state g.S.Store c.args.tx.now.conn.now in
+    let mid = state g.S.Store c.put_with_pieces.new.tx.conn.now in
+    let new = state g.S.Store c.keep.new.tx.conn.now in
+    let put = c.in-Ok.ensures.stays in
+    let keep = c.keep.ensures in
+    record {
+      goes_on = λ clean t has fits inside. keep.goes_on clean (put.goes_on (was_clean mid new keep.survives clean) t has fits inside);
+      kept = λ clean t has fits. keeps_both old mid new (put.kept (was_clean mid new keep.survives clean) t has fits) (keep.kept clean);
+      survives = survives_both old mid new put.survives keep.survives;
+    }

@@ -6,8 +6,9 @@ use Rattle.clear_book.specs.Judge.{judge, outcome_of}
 use Rattle.clear_laws.proofs.LimitsLemmas.{takes_lawful}
 use Rattle.clear_schema.specs.declared.fault.Fault.TheVariants as fault
 use Rattle.clear_office.specs.Bodies.{IsAdmitted}
-use Rattle.clear_office.specs.Office.{HasSame, LeavesNoMore, MayLeave, Steps}
-use Rattle.clear_office.proofs.StepLemmas.{accepted, accepted_leaves, ended, ended_leaves, ended_rests, ended_same, from_working, rolled_back_stays, still_working}
+use Rattle.clear_office.specs.Office.{HasSame, LeavesNoMore, MayLeave, Steps, StepsBut}
+use Rattle.clear_office.proofs.PiecesLemmas.{keeps_plain}
+use Rattle.clear_office.proofs.StepLemmas.{accepted, accepted_leaves, accepted_tables, each_reached, ended, ended_leaves, ended_rests, ended_same, from_working, open_at, rolled_back_stays, still_working}
 use Rattle.clear_office.proofs.office.Office.submit.Goals as goal
 
 pub returns-in-Ok-clause-step : goal.returns-in-Ok-clause-step
@@ -17,7 +18,17 @@ returns-in-Ok-clause-step g c =
     let working : inside.failed ≡ false = search rules in
     let admitted : IsAdmitted call = search rules in
     still_working inside.store.conn inside.failed c.args.self.now c.self.view_is working c.within.new.conn (λ a b. Steps g.S.Store a call (Replied c.in-Ok.reply) b)
-    (accepted g.S.Store call inside.store.conn c.within.new.conn c.in-Ok.reply admitted c.in-Ok.ensures.done)
+    (each_reached g.S.Store (open_at g.S.Store call inside.store.conn) (open_at g.S.Store call c.within.new.conn) call (Replied c.in-Ok.reply)
+    (accepted g.S.Store call inside.store.conn c.within.new.conn c.in-Ok.reply admitted c.in-Ok.ensures.done (λ row. row) keeps_plain))
+
+pub returns-in-Ok-clause-blurred : goal.returns-in-Ok-clause-blurred
+returns-in-Ok-clause-blurred g c blur keeps =
+    let call = Do c.args.caller c.args.number c.args.day c.args.command.now in
+    let inside = c.self.inside in
+    let working : inside.failed ≡ false = search rules in
+    let admitted : IsAdmitted call = search rules in
+    still_working inside.store.conn inside.failed c.args.self.now c.self.view_is working c.within.new.conn (λ a b. StepsBut blur g.S.Store a call (Replied c.in-Ok.reply) b)
+    (accepted g.S.Store call inside.store.conn c.within.new.conn c.in-Ok.reply admitted c.in-Ok.ensures.done blur keeps)
 
 pub returns-in-Ok-clause-crash : goal.returns-in-Ok-clause-crash
 returns-in-Ok-clause-crash g c =
@@ -35,6 +46,7 @@ returns-in-Err-clause-step g c =
     let working : inside.failed ≡ false = search rules in
     let admitted : IsAdmitted call = search rules in
     from_working inside.store.conn inside.failed c.args.self.now c.self.view_is working (λ a. Steps g.S.Store a call (Refused c.end.result) c.end.new.self)
+    (each_reached g.S.Store (open_at g.S.Store call inside.store.conn) c.end.new.self call (Refused c.end.result)
     (ended g.S.Store call inside.store.conn c.within.new.conn c.in-Err.stop c.end.new.self c.end.result admitted.1
     (λ b why said. ap (after b call) said)
     (λ b lawful. takes_lawful b call (outcome_of (judge b call)) (step b call) (inl (refl, refl)) admitted.0 lawful)
@@ -42,9 +54,33 @@ returns-in-Err-clause-step g c =
     (λ clean t has why is. let said = c.in-Err.ensures.refused clean t has why is in (said.0 admitted, said.1))
     (λ clean t has cause is. elim (c.in-Err.ensures.failed clean t has (fault.Store cause) is) [ inl fails ↦ inl (fails admitted) | inr disk ↦ inr disk ])
     (λ clean t has on. rolled_back_stays g.S.Store inside.store.conn c.within.new.conn t (c.in-Err.ensures.stays clean t has) (c.in-Err.ensures.was_open clean t has) (c.is_autocommit-outside.ensures.settled (search rules)) has on)
-    (λ clean b lawful t stands has trees may. elim ((c.within.ensures.crash t has).crash clean trees may) [ inl before ↦ inl before | inr it ↦ inr (it.1.0, (it.1.2 admitted b lawful stands).1, (it.0, it.1.3, it.2)) ])
+    (λ blur keeps clean b lawful places t represents has trees may. elim ((c.within.ensures.crash t has).crash clean trees may) [
+      | inl before ↦ inl before
+      | inr it ↦ inr (it.1.0, (accepted_tables blur keeps call t it.1.0 it.1.1 (it.1.2 admitted) admitted.0 b lawful places represents).1, (it.0, it.1.3, it.2))
+    ])
     c.end.ensures.told c.end.ensures.failed c.end.ensures.open c.end.ensures.still c.end.ensures.survives
-    (λ trees on may. g.met.S.Store.settled c.end.new.self.conn.store trees on may))
+    (λ row. row) keeps_plain (λ trees on may. g.met.S.Store.settled c.end.new.self.conn.store trees on may)))
+
+pub returns-in-Err-clause-blurred : goal.returns-in-Err-clause-blurred
+returns-in-Err-clause-blurred g c blur keeps =
+    let call = Do c.args.caller c.args.number c.args.day c.args.command.now in
+    let inside = c.self.inside in
+    let working : inside.failed ≡ false = search rules in
+    let admitted : IsAdmitted call = search rules in
+    from_working inside.store.conn inside.failed c.args.self.now c.self.view_is working (λ a. StepsBut blur g.S.Store a call (Refused c.end.result) c.end.new.self)
+    (ended g.S.Store call inside.store.conn c.within.new.conn c.in-Err.stop c.end.new.self c.end.result admitted.1
+    (λ b why said. ap (after b call) said)
+    (λ b lawful. takes_lawful b call (outcome_of (judge b call)) (step b call) (inl (refl, refl)) admitted.0 lawful)
+    c.end.ensures.clean
+    (λ clean t has why is. let said = c.in-Err.ensures.refused clean t has why is in (said.0 admitted, said.1))
+    (λ clean t has cause is. elim (c.in-Err.ensures.failed clean t has (fault.Store cause) is) [ inl fails ↦ inl (fails admitted) | inr disk ↦ inr disk ])
+    (λ clean t has on. rolled_back_stays g.S.Store inside.store.conn c.within.new.conn t (c.in-Err.ensures.stays clean t has) (c.in-Err.ensures.was_open clean t has) (c.is_autocommit-outside.ensures.settled (search rules)) has on)
+    (λ blur keeps clean b lawful places t represents has trees may. elim ((c.within.ensures.crash t has).crash clean trees may) [
+      | inl before ↦ inl before
+      | inr it ↦ inr (it.1.0, (accepted_tables blur keeps call t it.1.0 it.1.1 (it.1.2 admitted) admitted.0 b lawful places represents).1, (it.0, it.1.3, it.2))
+    ])
+    c.end.ensures.told c.end.ensures.failed c.end.ensures.open c.end.ensures.still c.end.ensures.survives
+    blur keeps (λ trees on may. g.met.S.Store.settled c.end.new.self.conn.store trees on may))
 
 pub returns-in-Err-clause-crash : goal.returns-in-Err-clause-crash
 returns-in-Err-clause-crash g c =
@@ -60,7 +96,10 @@ returns-in-Err-clause-crash g c =
     (λ clean t has why is. let said = c.in-Err.ensures.refused clean t has why is in (said.0 admitted, said.1))
     (λ clean t has cause is. elim (c.in-Err.ensures.failed clean t has (fault.Store cause) is) [ inl fails ↦ inl (fails admitted) | inr disk ↦ inr disk ])
     (λ clean t has on. rolled_back_stays g.S.Store inside.store.conn c.within.new.conn t (c.in-Err.ensures.stays clean t has) (c.in-Err.ensures.was_open clean t has) (c.is_autocommit-outside.ensures.settled (search rules)) has on)
-    (λ clean b lawful t stands has trees may. elim ((c.within.ensures.crash t has).crash clean trees may) [ inl before ↦ inl before | inr it ↦ inr (it.1.0, (it.1.2 admitted b lawful stands).1, (it.0, it.1.3, it.2)) ])
+    (λ blur keeps clean b lawful places t represents has trees may. elim ((c.within.ensures.crash t has).crash clean trees may) [
+      | inl before ↦ inl before
+      | inr it ↦ inr (it.1.0, (accepted_tables blur keeps call t it.1.0 it.1.1 (it.1.2 admitted) admitted.0 b lawful places represents).1, (it.0, it.1.3, it.2))
+    ])
     c.end.ensures.told c.end.ensures.failed c.end.ensures.open c.end.ensures.still c.end.ensures.survives)
 
 pub returns-in-Err-clause-rests : goal.returns-in-Err-clause-rests

@@ -1,0 +1,145 @@
+-- The pieces that are put from a start on are those of the first changed place.
+use Rattle.std.proofs.Common.{◌≡◌, ◌∙◌, ℕ, ◌<◌, ◌≤◌, List, drop, length, get_or, map, refl, sym, ap, subst, arith}
+use Rattle.std.specs.List.{All, AllByRecursion}
+use Rattle.std.proofs.lemmas.List.{get_or_read}
+use Rattle.std.proofs.lemmas.List.Elements.{All-from_recursion, All-map, All-weaker}
+use Rattle.sqlite_trees.proofs.ListLemmas.{all-filter}
+use Rattle.clear_account.specs.Account.{charge_at, charged, charged_up_to, credit_at, credited, credited_up_to}
+use Rattle.clear_account.specs.Places.{Ends}
+use Rattle.clear_account.specs.declared.entries.Charge.{Charge}
+use Rattle.clear_account.specs.declared.entries.Credit.{Credit}
+use Rattle.clear_kept.specs.Changes.{charges_before, credits_before}
+use Rattle.clear_kept.specs.Start.{StartsAt}
+use Rattle.clear_kept.specs.declared.start.Start.{Start}
+use Rattle.clear_values.specs.declared.lines.Purpose.TheVariants.{Contribution}
+use Rattle.clear_values.specs.Keyed.{without_rows}
+use Rattle.clear_values.specs.RowRanges.{IsCreditRow, IsSerial}
+use Rattle.clear_values.specs.Tables.{is_piece_key_from}
+use Rattle.clear_values.specs.declared.rows.PieceRow.{PieceRow}
+use Rattle.clear_book.specs.Accounts.{row_credit}
+use Rattle.clear_book.specs.Allocated.{kept_charges, pieces_left}
+use Rattle.clear_book.specs.Lines.{is_credit_of}
+use Rattle.clear_book.specs.Tables.{Tables, piece_key, table_credits, with_pieces}
+use Rattle.clear_store.specs.Changes.{AreFree}
+use Rattle.clear_pieces.specs.Anew.{FromCharge, FromCredit, IsFreeFromCharge, IsFreeFromCredit, credit_place, month_place, pieces_beyond}
+use Rattle.clear_pieces.specs.Firm.{IsFirm, KeepsAccount}
+use Rattle.clear_pieces.specs.declared.firm.FirmAccount.{FirmAccount}
+
+module _ (t : Tables) (e : ℕ) (firm : FirmAccount) (is : IsFirm t e firm) where
+  pub rows_credits : firm.account.credits ≡ map row_credit firm.rows.items
+  rows_credits = is.credits ∙ sym (ap (map row_credit) is.rows)
+
+  pub rows_good : KeepsAccount t e → AllByRecursion IsCreditRow firm.rows.items
+  rows_good keeps = subst (AllByRecursion IsCreditRow) (sym is.rows) (all-filter IsCreditRow (is_credit_of e Contribution) t.credits keeps.credits)
+
+  -- the account, and where it is allocated anew
+  module _ (cs : List Charge) (ks : List Credit) (charges : cs ≡ firm.account.charges) (credits : ks ≡ firm.account.credits) (start : Start) (starts : StartsAt cs ks start) where
+    -- the pieces beyond the start
+    abbrev left : List PieceRow
+    left = pieces_left start.charges.cents start.credits.cents (drop start.charges.count firm.account.charges) (drop start.credits.count firm.rows.items)
+
+    kept : cs ≡ kept_charges t e
+    kept = charges ∙ is.charges
+
+    paid : ks ≡ table_credits t e
+    paid = credits ∙ is.credits
+
+    left_beyond : left ≡ pieces_beyond t e start.charges.count start.credits.count
+    left_beyond =
+        let s = starts.charges_cents ∙ ap (λ xs. charged_up_to xs start.charges.count) kept in
+        let p = starts.credits_cents ∙ ap (λ xs. credited_up_to xs start.credits.count) paid in
+        (λ i. pieces_left (s i) (p i) (drop start.charges.count (is.charges i)) (drop start.credits.count (is.rows i)))
+
+    charges_end : (place : ℕ) → start.place ≡ place → Ends (λ c. c.cents) (kept_charges t e) place start.charges.count
+    charges_end place at =
+        subst (λ (xs : List Charge). Ends (λ c. c.cents) xs place start.charges.count) kept
+        (subst (λ n. Ends (λ (c : Charge). c.cents) cs n start.charges.count) at starts.charges_end)
+
+    credits_end : (place : ℕ) → start.place ≡ place → Ends (λ k. k.cents) (table_credits t e) place start.credits.count
+    credits_end place at =
+        subst (λ (xs : List Credit). Ends (λ k. k.cents) xs place start.credits.count) paid
+        (subst (λ n. Ends (λ (k : Credit). k.cents) ks n start.credits.count) at starts.credits_end)
+
+    -- ---- after the contribution of a month
+    module _ (month : ℕ) (at : start.place ≡ charged (charges_before month cs)) where
+      here : start.place ≡ month_place t e month
+      here = at ∙ ap (λ xs. charged (charges_before month xs)) kept
+
+      module _ (k : Credit) (within : start.credits.count < length ks) (found : k ≡ get_or ks start.credits.count k) where
+        few : start.credits.count < length (table_credits t e)
+        few = omega (arith, within, ap length paid)
+
+        both : ◌≡◌ {A = Credit × List PieceRow} (k, left) (credit_at (table_credits t e) start.credits.count, pieces_beyond t e start.charges.count start.credits.count)
+        both =
+            let credit = get_or_read ks start.credits.count k within found (record { day = 0; serial = 0; cents = 0 }) ∙ ap (λ xs. credit_at xs start.credits.count) paid in
+            (λ i. (credit i, left_beyond i))
+
+        pub charge_anew : (rows : List PieceRow) → rows ≡ left → FromCharge t e month (with_pieces e month k.day k.serial rows t.pieces)
+        charge_anew rows put = record {
+          a = start.charges.count;
+          b = start.credits.count;
+          charges_end = charges_end (month_place t e month) here;
+          credits_end = credits_end (month_place t e month) here;
+          anew = λ _. ap (λ rs. with_pieces e month k.day k.serial rs t.pieces) put ∙ ap (λ (p : Credit × List PieceRow). with_pieces e month p.0.day p.0.serial p.1 t.pieces) both;
+          stay = λ all. absurd (omega (arith, few, all));
+        }
+
+        pub charge_free : IsFreeFromCharge t e month → AreFree piece_key (without_rows piece_key (is_piece_key_from e month k.day k.serial) t.pieces) left
+        charge_free free =
+            subst (λ (p : Credit × List PieceRow). AreFree piece_key (without_rows piece_key (is_piece_key_from e month p.0.day p.0.serial) t.pieces) p.1) (sym both)
+            (free start.charges.count start.credits.count (charges_end (month_place t e month) here) (credits_end (month_place t e month) here) few)
+
+        -- the serial of the credit is one that is given
+        pub credit_serial_good : KeepsAccount t e → IsSerial k.serial
+        credit_serial_good keeps =
+            let serials = All-map (λ (l : Credit). IsSerial l.serial) row_credit firm.rows.items (All-weaker IsCreditRow (λ row. IsSerial row.serial) (λ row good. good.serial) firm.rows.items (All-from_recursion IsCreditRow firm.rows.items (rows_good keeps))) in
+            subst (λ (l : Credit). IsSerial l.serial) (sym found) (subst (All (λ (l : Credit). IsSerial l.serial)) (sym (credits ∙ rows_credits)) serials start.credits.count k within)
+
+      pub charge_stays : length ks ≤ start.credits.count → FromCharge t e month t.pieces
+      charge_stays none = record {
+        a = start.charges.count;
+        b = start.credits.count;
+        charges_end = charges_end (month_place t e month) here;
+        credits_end = credits_end (month_place t e month) here;
+        anew = λ some. absurd (omega (arith, none, some, ap length paid));
+        stay = λ _. refl;
+      }
+
+    -- ---- after a credit
+    module _ (first : Credit) (at : start.place ≡ credited (credits_before first ks)) where
+      there : start.place ≡ credit_place t e first
+      there = at ∙ ap (λ xs. credited (credits_before first xs)) paid
+
+      module _ (c : Charge) (within : start.charges.count < length cs) (found : c ≡ get_or cs start.charges.count c) where
+        reached : start.charges.count < length (kept_charges t e)
+        reached = omega (arith, within, ap length kept)
+
+        with_month : ◌≡◌ {A = Charge × List PieceRow} (c, left) (charge_at (kept_charges t e) start.charges.count, pieces_beyond t e start.charges.count start.credits.count)
+        with_month =
+            let charge = get_or_read cs start.charges.count c within found (record { month = 0; due = 0; cents = 0 }) ∙ ap (λ xs. charge_at xs start.charges.count) kept in
+            (λ i. (charge i, left_beyond i))
+
+        pub credit_anew : (rows : List PieceRow) → rows ≡ left → FromCredit t e first (with_pieces e c.month first.day first.serial rows t.pieces)
+        credit_anew rows put = record {
+          a = start.charges.count;
+          b = start.credits.count;
+          charges_end = charges_end (credit_place t e first) there;
+          credits_end = credits_end (credit_place t e first) there;
+          anew = λ _. ap (λ rs. with_pieces e c.month first.day first.serial rs t.pieces) put ∙ ap (λ (p : Charge × List PieceRow). with_pieces e p.0.month first.day first.serial p.1 t.pieces) with_month;
+          stay = λ all. absurd (omega (arith, reached, all));
+        }
+
+        pub credit_free : IsFreeFromCredit t e first → AreFree piece_key (without_rows piece_key (is_piece_key_from e c.month first.day first.serial) t.pieces) left
+        credit_free free =
+            subst (λ (p : Charge × List PieceRow). AreFree piece_key (without_rows piece_key (is_piece_key_from e p.0.month first.day first.serial) t.pieces) p.1) (sym with_month)
+            (free start.charges.count start.credits.count (charges_end (credit_place t e first) there) (credits_end (credit_place t e first) there) reached)
+
+      pub credit_stays : length cs ≤ start.charges.count → FromCredit t e first t.pieces
+      credit_stays none = record {
+        a = start.charges.count;
+        b = start.credits.count;
+        charges_end = charges_end (credit_place t e first) there;
+        credits_end = credits_end (credit_place t e first) there;
+        anew = λ some. absurd (omega (arith, none, some, ap length kept));
+        stay = λ _. refl;
+      }

@@ -1,0 +1,80 @@
+-- The pieces of the firms of credits that were put.
+use Rattle.std.proofs.Common.{◌≡◌, ℕ, List, [], ◌∷◌, Option, Some, None, false, refl, sym, subst}
+use Rattle.std.specs.List.{AllByRecursion}
+use Rattle.std.proofs.lemmas.List.Elements.{All-contains, All-from_recursion}
+use Rattle.sqlite_trees.proofs.ListLemmas.{all-filter}
+use Rattle.clear_account.specs.Account.{comes_before}
+use Rattle.clear_account.specs.declared.entries.Credit.{Credit}
+use Rattle.clear_values.specs.Credits.{credits_of_lines, set_offs_of}
+use Rattle.clear_values.specs.RowRanges.{AreInRange, IsCreditRow, IsSerial}
+use Rattle.clear_values.specs.declared.lines.Purpose.TheVariants.{Contribution}
+use Rattle.clear_values.specs.declared.rows.BankRow.{BankRow}
+use Rattle.clear_values.specs.declared.rows.Change.TheVariants.{AddBankLines, AssignLine, ReleaseClaim}
+use Rattle.clear_values.specs.declared.rows.ClaimRow.{ClaimRow}
+use Rattle.clear_values.specs.declared.rows.CreditRow.{CreditRow}
+use Rattle.clear_values.specs.declared.rows.PieceRow.{PieceRow}
+use Rattle.clear_book.specs.Accounts.{credit_key, row_credit}
+use Rattle.clear_book.specs.Allocated.{AreAllocated, FirstCredit, Follows, KeepsKeys}
+use Rattle.clear_book.specs.Lines.{is_credit_of}
+use Rattle.clear_book.specs.Tables.{Tables, table_credits}
+use Rattle.clear_laws.proofs.AccountChangeLemmas.{AddsCredits, adds_credits, contributions_in, first_credit, old_credits_stay}
+use Rattle.clear_laws.proofs.FollowsLemmas.{FollowsBut, credits_first, follows_last, is_among}
+use Rattle.clear_store.proofs.OnceLemmas.{all_new}
+use Rattle.clear_pieces.specs.Anew.{FromCredit, IsFreeFromCredit}
+use Rattle.clear_pieces.specs.Keeping.{AreCreditsPut, AreFirst, IsFirst, IsFirstOf, IsPut}
+use Rattle.clear_pieces.proofs.StepLemmas.{credit_free, credit_put}
+
+-- ---- which changes put credits
+
+pub lines_put : (rows : List BankRow) (t v : Tables) → IsPut (AddBankLines rows) t v → AreCreditsPut (credits_of_lines rows) t v
+lines_put rows t v put = record { before = put.before; after = put.after; charges = put.charges; credits = put.credits; pieces = put.pieces }
+
+pub line_put : (row : BankRow) (t v : Tables) → IsPut (AssignLine row) t v → AreCreditsPut (credits_of_lines (row ∷ [])) t v
+line_put row t v put = record { before = put.before; after = put.after; charges = put.charges; credits = put.credits; pieces = put.pieces }
+
+pub release_put : (claim : ClaimRow) (serial : ℕ) (t v : Tables) → IsPut (ReleaseClaim claim serial) t v → AreCreditsPut (set_offs_of claim serial) t v
+release_put claim serial t v put = record { before = put.before; after = put.after; charges = put.charges; credits = put.credits; pieces = put.pieces }
+
+-- ---- credits that were put
+
+module _ (news : List CreditRow) (t v : Tables) (put : AreCreditsPut news t v) where
+  adds : AddsCredits t v news
+  adds = adds_credits t v news put.charges put.credits put.after.credits_in_order
+
+  -- the new credits are in their ranges, too
+  pub new_in_range : AreInRange v → AllByRecursion IsCreditRow news
+  new_in_range ranges = (all_new credit_key IsCreditRow t.credits news (subst (AllByRecursion IsCreditRow) put.credits ranges.credits)).1
+
+  pub first_serial : AreInRange v → (e : ℕ) (k : Credit) → IsFirst (contributions_in e news) k → IsSerial k.serial
+  first_serial ranges e k is =
+      let own : AllByRecursion IsCreditRow (contributions_in e news) = all-filter IsCreditRow (is_credit_of e Contribution) news (new_in_range ranges) in
+      subst (λ (l : Credit). IsSerial l.serial) is.is (All-contains IsCreditRow (contributions_in e news) is.row (All-from_recursion IsCreditRow (contributions_in e news) own) is.there).serial
+
+  module _ (firsts : ℕ → Option Credit) (are : AreFirst firsts news) where
+    -- at first all firms with a new credit are left
+    pub firms_first : (firms : List ℕ) → ((e : ℕ) → is_among firms e ≡ false → firsts e ≡ None) → FollowsBut t v firms
+    firms_first firms others = credits_first t v news firms put.pieces adds (λ e is. subst (IsFirstOf (contributions_in e news)) (others e is) (are e))
+
+    module _ (e : ℕ) (k : Credit) (found : firsts e ≡ Some k) where
+      pub is_first : IsFirst (contributions_in e news) k
+      is_first = subst (IsFirstOf (contributions_in e news)) found (are e)
+
+      first_new : FirstCredit (table_credits t e) (table_credits v e) k
+      first_new =
+          let row : CreditRow = is_first.row in
+          subst (FirstCredit (table_credits t e) (table_credits v e)) is_first.is
+          (first_credit t v news adds e row is_first.there (subst (λ (l : Credit). AllByRecursion (λ other. comes_before (row_credit other) l ≡ false) (contributions_in e news)) (sym is_first.is) is_first.earliest))
+
+      -- the pieces of one of them are put
+      module _ (firms : List ℕ) (once : is_among firms e ≡ false) (so_far : List PieceRow) (before : FollowsBut t (record v { pieces = so_far }) (e ∷ firms)) where
+        pub next_put : (pieces : List PieceRow) → FromCredit (record v { pieces = so_far }) e k pieces → FollowsBut t (record v { pieces = pieces }) firms
+        next_put =
+            credit_put t (record v { pieces = so_far }) e firms once before (put.before.account e) (put.after.account e) k (adds.charges e) (old_credits_stay t v news adds e) first_new
+
+        pub next_free : (g : PieceRow → PieceRow) → KeepsKeys g → AreAllocated g t → IsFreeFromCredit (record v { pieces = so_far }) e k
+        next_free =
+            credit_free t (record v { pieces = so_far }) e firms once before (put.before.account e) (put.after.account e) k (adds.charges e) (old_credits_stay t v news adds e) first_new
+
+  -- without a new credit for contributions all pieces stay
+  pub none_new : AreFirst (λ e. None) news → Follows t v
+  none_new are = follows_last t v (firms_first (λ e. None) are [] (λ e is. refl))

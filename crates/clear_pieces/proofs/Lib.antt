@@ -1,0 +1,9 @@
+pub mod AnewLemmas
+pub mod CreditLemmas
+pub mod FillLemmas
+pub mod FirstLemmas
+pub mod MapLemmas
+pub mod PieceLemmas
+pub mod ProgressLemmas
+pub mod ReportLemmas
+pub mod StepLemmas

@@ -1,0 +1,31 @@
+use Rattle.std.proofs.Common.{◌≤◌, length, arith}
+use Rattle.std.proofs.lemmas.Result.{on_ok_weaker}
+use Rattle.clear_values.specs.Tables.{with_pieces}
+use Rattle.clear_pieces.proofs.AnewLemmas.{charge_anew, charge_free, charge_stays, credit_serial_good, rows_credits, rows_good}
+use Rattle.clear_pieces.proofs.allocate.put_from_charge.Goals as goal
+
+pub returns-in-Some-clause-puts : goal.returns-in-Some-clause-puts
+returns-in-Some-clause-puts g c clean t has =
+    let e = c.args.employer in
+    let firm = c.args.firm.now in
+    let start = c.start_of_charge-start in
+    let look = c.in-Some.ensures.lookup in
+    on_ok_weaker c.put_pieces.result
+    (λ put. (with_pieces e c.args.month c.in-Some.credit.now.day c.in-Some.credit.now.serial put.0 t.pieces, put.1, λ is. charge_anew t e firm is c.all_charges.result.now c.all_credits-credits.result.now c.all_charges.ensures.value c.all_credits-credits.ensures start.result start.ensures.start c.args.month start.ensures.place c.in-Some.credit.now look.3.0 look.1 put.0 (put.2 (rows_credits t e firm is))))
+    (c.put_pieces.ensures.put clean t has)
+
+pub returns-in-Some-clause-fault : goal.returns-in-Some-clause-fault
+returns-in-Some-clause-fault g c clean t has is keeps free =
+    let e = c.args.employer in
+    let firm = c.args.firm.now in
+    let start = c.start_of_charge-start in
+    let look = c.in-Some.ensures.lookup in
+    c.put_pieces.ensures.fault clean t has (rows_credits t e firm is) (rows_good t e firm is keeps)
+    (credit_serial_good t e firm is c.all_charges.result.now c.all_credits-credits.result.now c.all_charges.ensures.value c.all_credits-credits.ensures start.result start.ensures.start c.args.month start.ensures.place c.in-Some.credit.now look.3.0 look.1 keeps)
+    (charge_free t e firm is c.all_charges.result.now c.all_credits-credits.result.now c.all_charges.ensures.value c.all_credits-credits.ensures start.result start.ensures.start c.args.month start.ensures.place c.in-Some.credit.now look.3.0 look.1 free)
+
+pub returns-in-None-clause-puts : goal.returns-in-None-clause-puts
+returns-in-None-clause-puts g c clean t has =
+    let start = c.start_of_charge-start in
+    let none : length c.all_credits-credits.result.now ≤ start.result.credits.count = omega (arith, c.in-None.ensures.lookup) in
+    (t.pieces, has, λ is. charge_stays t c.args.employer c.args.firm.now is c.all_charges.result.now c.all_credits-credits.result.now c.all_charges.ensures.value c.all_credits-credits.ensures start.result start.ensures.start c.args.month start.ensures.place none)

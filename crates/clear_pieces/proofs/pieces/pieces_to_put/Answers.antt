@@ -1,0 +1,40 @@
+use Rattle.std.proofs.Common.{◌≡◌, ◌-◌, ◌∙◌, length, drop, map, take, sym, ap, subst}
+use Rattle.std.specs.List.{AllByRecursion}
+use Rattle.std.proofs.lemmas.List.{take_rest}
+use Rattle.std.proofs.lemmas.List.Elements.{All-drop}
+use Rattle.clear_account.specs.Account.{IsCharge}
+use Rattle.clear_account.specs.Suffix.{pieces_behind}
+use Rattle.clear_kept.specs.Dated.{placed}
+use Rattle.clear_values.specs.RowRanges.{IsCreditRow, IsPieceRow}
+use Rattle.clear_book.specs.Accounts.{row_credit}
+use Rattle.clear_book.specs.Allocated.{pieces_left}
+use Rattle.clear_pieces.specs.Firm.{rows_placed}
+use Rattle.clear_pieces.proofs.PieceLemmas.{all_behind, left_in_range, rows_behind}
+use Rattle.clear_pieces.proofs.pieces.pieces_to_put.Goals as goal
+
+rows_are : (c : goal.After-drop-placed) → c.args.firm.now.account.credits ≡ map row_credit c.args.firm.now.rows.items
+    → let firm = c.args.firm.now in
+    let start = c.args.start.now in
+    c.in-Ok-rows_of.rows.items ≡ pieces_left start.charges.cents start.credits.cents (drop start.charges.count firm.account.charges) (drop start.credits.count firm.rows.items)
+rows_are c same =
+    let firm = c.args.firm.now in
+    let start = c.args.start.now in
+    let n = start.credits.count in
+    let found = c.as_slice.result.now in
+    let rows : take (length found - n) (drop n found) ≡ drop n firm.rows.items = take_rest found n ∙ ap (drop n) c.as_slice.ensures.value in
+    let pieces = c.as_slice-in-Ok.ensures.value ∙ c.in-Ok.ensures.pieces in
+    c.in-Ok-rows_of.ensures
+    ∙ (λ i. rows_placed (rows i) (pieces i))
+    ∙ (λ i. rows_placed (drop n firm.rows.items) (map (placed (drop n (c.all_credits-credits.ensures i))) (pieces_behind start.charges.cents start.credits.cents (drop start.charges.count (c.all_charges.ensures.value i)) (drop n (c.all_credits-credits.ensures i)))))
+    ∙ rows_behind start.charges.cents start.credits.cents n (drop start.charges.count firm.account.charges) firm.account.credits firm.rows.items c.all_charges.ensures.account.serials_differ same
+
+pub returns-in-Ok-rows_of-clause-rows : goal.returns-in-Ok-rows_of-clause-rows
+returns-in-Ok-rows_of-clause-rows c same = rows_are c same
+
+pub returns-in-Ok-rows_of-clause-ranges : goal.returns-in-Ok-rows_of-clause-ranges
+returns-in-Ok-rows_of-clause-ranges c same in_range =
+    let firm = c.args.firm.now in
+    let start = c.args.start.now in
+    subst (AllByRecursion IsPieceRow) (sym (rows_are c same))
+    (left_in_range start.charges.cents start.credits.cents (drop start.charges.count firm.account.charges) (drop start.credits.count firm.rows.items)
+    (All-drop IsCharge start.charges.count firm.account.charges c.all_charges.ensures.account.each_charge) (all_behind IsCreditRow start.credits.count firm.rows.items in_range))

@@ -1,0 +1,79 @@
+-- The pieces of a firm, put anew from the first changed place of its account on.
+use Rattle.std.specs.Prelude.{◌≡◌, ℕ, ◌<◌, ◌≤◌, List, drop, length}
+use Rattle.clear_account.specs.Account.{charge_at, charged, charged_up_to, credit_at}
+use Rattle.clear_account.specs.Account.{credited, credited_up_to}
+use Rattle.clear_account.specs.Places.{Ends}
+use Rattle.clear_account.specs.declared.entries.Credit.{Credit}
+use Rattle.clear_kept.specs.Changes.{charges_before, credits_before}
+use Rattle.clear_values.specs.Keyed.{without_rows}
+use Rattle.clear_values.specs.Tables.{is_piece_key_from}
+use Rattle.clear_values.specs.declared.rows.PieceRow.{PieceRow}
+use Rattle.clear_book.specs.Allocated.{contribution_rows, kept_charges, pieces_left}
+use Rattle.clear_book.specs.Tables.{Tables, piece_key, table_credits, with_pieces}
+use Rattle.clear_store.specs.Changes.{AreFree}
+
+-- the place of the contribution of a month: the contributions of earlier months
+abbrev pub month_place : Tables → ℕ → ℕ → ℕ
+month_place t e month = charged (charges_before month (kept_charges t e))
+
+-- the place of a credit: the credits that come before it
+abbrev pub credit_place : Tables → ℕ → Credit → ℕ
+credit_place t e k = credited (credits_before k (table_credits t e))
+
+-- the pieces of a firm beyond its first a contributions and its first b credits
+abbrev pub pieces_beyond : Tables → ℕ → ℕ → ℕ → List PieceRow
+pieces_beyond t e a b =
+    pieces_left (charged_up_to (kept_charges t e) a) (credited_up_to (table_credits t e) b)
+    (drop a (kept_charges t e)) (drop b (contribution_rows t e))
+
+-- ---- after the contribution of a month was changed or put in
+
+-- a of the firm's contributions and b of its credits end at or below the place of the month; its
+-- pieces of that month or a later one, of the next credit or a later one, give way to those of its
+-- other contributions and credits. Without a next credit all pieces stay
+pub record FromCharge (t : Tables) (e month : ℕ) (pieces : List PieceRow) : Type 0 where
+  pub a : ℕ
+  pub b : ℕ
+  pub charges_end : Ends (λ c. c.cents) (kept_charges t e) (month_place t e month) a
+  pub credits_end : Ends (λ k. k.cents) (table_credits t e) (month_place t e month) b
+  pub anew : b < length (table_credits t e) → pieces
+      ≡ with_pieces e month (credit_at (table_credits t e) b).day
+      (credit_at (table_credits t e) b).serial (pieces_beyond t e a b) t.pieces
+  pub stay : length (table_credits t e) ≤ b → pieces ≡ t.pieces
+
+-- the keys of the pieces that are put then are free among those that are left, and stand once
+abbrev pub IsFreeFromCharge : Tables → ℕ → ℕ → Type 0
+IsFreeFromCharge t e month =
+    (a b : ℕ) → Ends (λ c. c.cents) (kept_charges t e) (month_place t e month) a
+    → Ends (λ k. k.cents) (table_credits t e) (month_place t e month) b
+    → b < length (table_credits t e)
+    → let k = credit_at (table_credits t e) b in
+    AreFree piece_key
+    (without_rows piece_key (is_piece_key_from e month k.day k.serial) t.pieces)
+    (pieces_beyond t e a b)
+
+-- ---- after credits were put in
+
+-- a of the firm's contributions and b of its credits end at or below the place of the first new one;
+-- its pieces of the next contribution or a later one, of that credit or a later one, give way to
+-- those of its other contributions and credits. Without a next contribution all pieces stay
+pub record FromCredit (t : Tables) (e : ℕ) (first : Credit) (pieces : List PieceRow) : Type 0 where
+  pub a : ℕ
+  pub b : ℕ
+  pub charges_end : Ends (λ c. c.cents) (kept_charges t e) (credit_place t e first) a
+  pub credits_end : Ends (λ k. k.cents) (table_credits t e) (credit_place t e first) b
+  pub anew : a < length (kept_charges t e) → pieces
+      ≡ with_pieces e (charge_at (kept_charges t e) a).month first.day first.serial
+      (pieces_beyond t e a b) t.pieces
+  pub stay : length (kept_charges t e) ≤ a → pieces ≡ t.pieces
+
+-- the keys of the pieces that are put then are free among those that are left, and stand once
+abbrev pub IsFreeFromCredit : Tables → ℕ → Credit → Type 0
+IsFreeFromCredit t e first =
+    (a b : ℕ) → Ends (λ c. c.cents) (kept_charges t e) (credit_place t e first) a
+    → Ends (λ k. k.cents) (table_credits t e) (credit_place t e first) b
+    → a < length (kept_charges t e)
+    → AreFree piece_key
+    (without_rows piece_key
+    (is_piece_key_from e (charge_at (kept_charges t e) a).month first.day first.serial) t.pieces)
+    (pieces_beyond t e a b)

@@ -1,0 +1,120 @@
+-- The pieces follow a change that was put into the tables.
+use Rattle.std.specs.Prelude.{◌≡◌, ◌≢◌, ℕ, List, [], Bool, true, false, Option, Some, None}
+use Rattle.std.specs.Prelude.{◌==◌, IfErr, OnOk, Result, filter, if◌then◌else◌}
+use Rattle.std.specs.List.{AllByRecursion, Contains}
+use Rattle.sqlite.specs.Effect.{Database}
+use Rattle.sqlite.specs.Held.{Held, state}
+use Rattle.sqlite.specs.State.{HasCleanDisk}
+use Rattle.sqlite.specs.Store.{Ghosts}
+use Rattle.clear_account.specs.Account.{IsAccount, comes_before}
+use Rattle.clear_account.specs.declared.entries.Credit.{Credit}
+use Rattle.clear_values.specs.declared.lines.Purpose.TheVariants.{Contribution}
+use Rattle.clear_values.specs.declared.rows.Change.{Change}
+use Rattle.clear_values.specs.declared.rows.Change.TheVariants.{ReplaceReport}
+use Rattle.clear_values.specs.declared.rows.CreditRow.{CreditRow}
+use Rattle.clear_values.specs.declared.rows.PieceRow.{PieceRow}
+use Rattle.clear_values.specs.Keyed.{AreInOrder, is_held, with_rows}
+use Rattle.clear_values.specs.RowRanges.{AreInRange}
+use Rattle.clear_book.specs.Accounts.{credit_key, row_credit}
+use Rattle.clear_book.specs.Allocated.{AreAllocated, Follows, KeepsKeys, kept_charges}
+use Rattle.clear_book.specs.Lines.{is_credit_of}
+use Rattle.clear_book.specs.Tables.{Tables, changed, charge_at, charge_in, charge_key, table_credits}
+use Rattle.clear_schema.specs.Faults.{IsOfDisk}
+use Rattle.clear_schema.specs.Frame.{GoesOn}
+use Rattle.clear_schema.specs.Held.{HasTables}
+use Rattle.clear_schema.specs.declared.fault.Fault.{Fault}
+use Rattle.clear_pieces.specs.declared.keep.NewCredit.{NewCredit}
+
+-- what the tables keep of each firm is an account, in the order of its keys
+pub record AreAccounts (t : Tables) : Type 0 where
+  pub account : (e : ℕ) → IsAccount (kept_charges t e) (table_credits t e)
+  pub charges_in_order : AreInOrder charge_key t.charges
+  pub credits_in_order : AreInOrder credit_key t.credits
+
+-- whether the contribution that a correction puts is the one that stood
+abbrev pub TellsStood : Change → Tables → Bool → Type 0
+TellsStood (ReplaceReport row lines charge) t true =
+    charge_at t.charges charge.employer charge.month ≡ Some (charge_in charge)
+TellsStood (ReplaceReport row lines charge) t false =
+    charge_at t.charges charge.employer charge.month ≢ Some (charge_in charge)
+TellsStood change t stood = Unit {0}
+
+-- a contribution is kept of the month of a correction
+abbrev pub HasCharge : Change → Tables → Type 0
+HasCharge (ReplaceReport row lines charge) t = is_held charge_key charge t.charges ≡ true
+HasCharge change t = Unit {0}
+
+-- the change was put into the tables of accounts, and those are accounts again; the pieces are still
+-- as they were
+pub record IsPut (change : Change) (t v : Tables) : Type 0 where
+  pub before : AreAccounts t
+  pub after : AreAccounts v
+  pub has_charge : HasCharge change t
+  pub charges : v.charges ≡ (changed change t).charges
+  pub credits : v.credits ≡ (changed change t).credits
+  pub pieces : v.pieces ≡ t.pieces
+
+-- ---- credits that were put
+
+-- credits were put into the tables of accounts, and those are accounts again; the pieces are still as
+-- they were
+pub record AreCreditsPut (news : List CreditRow) (t v : Tables) : Type 0 where
+  pub before : AreAccounts t
+  pub after : AreAccounts v
+  pub charges : v.charges ≡ t.charges
+  pub credits : v.credits ≡ with_rows credit_key t.credits news
+  pub pieces : v.pieces ≡ t.pieces
+
+-- one of the rows is this credit, and none is one that comes before it
+pub record IsFirst (rows : List CreditRow) (k : Credit) : Type 0 where
+  pub row : CreditRow
+  pub there : Contains rows row
+  pub is : row_credit row ≡ k
+  pub earliest : AllByRecursion (λ other. comes_before (row_credit other) k ≡ false) rows
+
+-- the first credit of rows, and none where there is no row
+abbrev pub IsFirstOf : List CreditRow → Option Credit → Type 0
+IsFirstOf rows None = rows ≡ []
+IsFirstOf rows (Some k) = IsFirst rows k
+
+-- of each firm the first of its new credits for contributions
+abbrev pub AreFirst : (ℕ → Option Credit) → List CreditRow → Type 0
+AreFirst firsts news = (e : ℕ) → IsFirstOf (filter (is_credit_of e Contribution) news) (firsts e)
+
+-- the firm's credit, if the one that is new is its
+abbrev pub credit_for : Option NewCredit → ℕ → Option Credit
+credit_for None e = None
+credit_for (Some new) e = if new.employer == e then Some new.credit else None
+
+-- of two credits the one that comes first, and the former where neither does
+abbrev pub earlier : Option Credit → Option Credit → Option Credit
+earlier None new = new
+earlier (Some k) None = Some k
+earlier (Some k) (Some l) = if comes_before l k then Some l else Some k
+
+-- ---- pieces that follow
+
+module _ (IsPutInto : Tables → Tables → Type 0) (v : Tables) where
+  -- the database has these tables with pieces that follow, whatever tables were before them
+  abbrev pub HasFollowing : Database → Type 0
+  HasFollowing db =
+      (pieces : List PieceRow) × HasTables (record v { pieces = pieces }) db
+      × ((t : Tables) → IsPutInto t v → Follows t (record v { pieces = pieces }))
+
+  -- each row is in its ranges, and the pieces before were right but for the cents of some
+  pub record WasRight : Type 0 where
+    pub t : Tables
+    pub put : IsPutInto t v
+    pub g : PieceRow → PieceRow
+    pub keys : KeepsKeys g
+    pub allocated : AreAllocated g t
+    pub ranges : AreInRange v
+
+-- the pieces were put that follow
+pub record Keeps {S A : Type 0} (g : Ghosts S) (old new : Held S) (result : Result A Fault)
+    (IsPutInto : Tables → Tables → Type 0) : Type 0 where
+  pub keeps : HasCleanDisk (state g new) → (v : Tables) → HasTables v (state g old).now
+      → OnOk result (HasFollowing IsPutInto v (state g new).now)
+  pub fault : HasCleanDisk (state g new) → (v : Tables) → HasTables v (state g old).now
+      → WasRight IsPutInto v → IfErr result IsOfDisk
+  pub stays : GoesOn g old new result

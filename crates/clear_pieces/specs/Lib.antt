@@ -1,0 +1,3 @@
+pub mod Firm
+pub mod Anew
+pub mod Keeping

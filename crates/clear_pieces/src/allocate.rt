@@ -1,0 +1,206 @@
+//! The pieces of a firm in the tables, allocated anew from the first changed place on.
+ghost use Rattle.std.specs.Prelude.{◌≡◌, IfErr, List, OnOk, drop, map};
+ghost use Rattle.std.specs.List.{AllByRecursion};
+ghost use Rattle.sqlite.specs.Held.{state};
+ghost use Rattle.sqlite.specs.State.{HasCleanDisk};
+ghost use Rattle.clear_account.specs.Account.{IsAccount};
+ghost use Rattle.clear_kept.specs.Start.{StartsAt};
+ghost use Rattle.clear_values.specs.Keyed.{without_rows};
+ghost use Rattle.clear_values.specs.RowRanges.{IsCreditRow, IsSerial};
+ghost use Rattle.clear_values.specs.Tables.{is_piece_key_from, piece_key, with_pieces};
+ghost use Rattle.clear_values.specs.declared.rows.PieceRow.{PieceRow as AnyPiece};
+ghost use Rattle.clear_book.specs.Accounts.{row_credit};
+ghost use Rattle.clear_book.specs.Allocated.{kept_charges, pieces_left};
+ghost use Rattle.clear_book.specs.Tables.{Tables, table_credits};
+ghost use Rattle.clear_schema.specs.Frame.{GoesOn};
+ghost use Rattle.clear_schema.specs.Faults.{IsOfDisk};
+ghost use Rattle.clear_schema.specs.Held.{HasTables};
+ghost use Rattle.clear_store.specs.Changes.{AreFree};
+ghost use Rattle.clear_pieces.specs.Anew.{FromCharge, FromCredit, IsFreeFromCharge};
+ghost use Rattle.clear_pieces.specs.Anew.{IsFreeFromCredit};
+ghost use Rattle.clear_pieces.specs.Firm.{IsFirm, KeepsAccount};
+
+use crate::firm::{FirmAccount, read_firm};
+use crate::pieces::pieces_to_put;
+use clear_account::entries::Credit;
+use clear_kept::start::{Start, start_of_charge, start_of_credits};
+use clear_money::months::Month;
+use clear_money::numbers::EmployerNo;
+use clear_schema::fault::Fault;
+use clear_store::pieces::{PieceFrom, replace_pieces};
+use sqlite::{Alter, Transaction};
+use std::alloc::Global;
+
+/// Puts the pieces of a firm anew after the contribution of a month was changed or put in. The
+/// tables hold it already.
+///
+/// Where no credit reaches beyond the contributions of earlier months, nothing is put. A key that is
+/// not free is refused with `Fault::Store(StoreCause::Constraint)`, and rows that make up no account
+/// with `Fault::Store(StoreCause::Row)`. After an error a part may be done: the transaction is to be
+/// rolled back.
+pub fn allocate_from_charge<S: Alter>(
+    alloc: Global,
+    tx: &mut Transaction<'_, S>,
+    employer: EmployerNo,
+    month: Month,
+) -> Result<(), Fault>
+    ensures same_reference { tx.new.conn.ghost_name ≡ tx.old.conn.ghost_name }
+    ensures puts { HasCleanDisk (state S.Store tx.new.conn.now)
+        → (t : Tables) → HasTables t (state S.Store tx.old.conn.now).now
+        → OnOk result ((pieces : List AnyPiece)
+        × HasTables (record t { pieces = pieces }) (state S.Store tx.new.conn.now).now
+        × (IsAccount (kept_charges t employer) (table_credits t employer)
+        → FromCharge t employer month pieces)) }
+    ensures fault { HasCleanDisk (state S.Store tx.new.conn.now)
+        → (t : Tables) → HasTables t (state S.Store tx.old.conn.now).now
+        → KeepsAccount t employer → IsFreeFromCharge t employer month
+        → IfErr result IsOfDisk }
+    ensures stays { GoesOn S.Store tx.old.conn.now tx.new.conn.now result }
+{
+    match read_firm(alloc, tx, employer) {
+        Ok(firm) => put_from_charge(alloc, tx, &firm, employer, month),
+        Err(fault) => Err(fault),
+    }
+}
+
+/// Puts the pieces of a firm anew after credits for contributions were put in, `first` the first of
+/// them by day and serial. The tables hold them already.
+///
+/// Where no contribution reaches beyond the credits that come before `first`, nothing is put. What
+/// is refused, and what an error leaves, are as of `allocate_from_charge`.
+pub fn allocate_from_credit<S: Alter>(
+    alloc: Global,
+    tx: &mut Transaction<'_, S>,
+    employer: EmployerNo,
+    first: &Credit,
+) -> Result<(), Fault>
+    ensures same_reference { tx.new.conn.ghost_name ≡ tx.old.conn.ghost_name }
+    ensures puts { HasCleanDisk (state S.Store tx.new.conn.now)
+        → (t : Tables) → HasTables t (state S.Store tx.old.conn.now).now
+        → OnOk result ((pieces : List AnyPiece)
+        × HasTables (record t { pieces = pieces }) (state S.Store tx.new.conn.now).now
+        × (IsAccount (kept_charges t employer) (table_credits t employer)
+        → FromCredit t employer first.now pieces)) }
+    ensures fault { HasCleanDisk (state S.Store tx.new.conn.now)
+        → (t : Tables) → HasTables t (state S.Store tx.old.conn.now).now
+        → KeepsAccount t employer → IsFreeFromCredit t employer first.now
+        → IsSerial first.now.serial → IfErr result IsOfDisk }
+    ensures stays { GoesOn S.Store tx.old.conn.now tx.new.conn.now result }
+{
+    match read_firm(alloc, tx, employer) {
+        Ok(firm) => put_from_credit(alloc, tx, &firm, employer, first),
+        Err(fault) => Err(fault),
+    }
+}
+
+// Puts the pieces of a firm from the contribution of a month on, where a credit reaches beyond its
+// place.
+fn put_from_charge<S: Alter>(
+    alloc: Global,
+    tx: &mut Transaction<'_, S>,
+    firm: &FirmAccount,
+    employer: EmployerNo,
+    month: Month,
+) -> Result<(), Fault>
+    ensures same_reference { tx.new.conn.ghost_name ≡ tx.old.conn.ghost_name }
+    ensures puts { HasCleanDisk (state S.Store tx.new.conn.now)
+        → (t : Tables) → HasTables t (state S.Store tx.old.conn.now).now
+        → OnOk result ((pieces : List AnyPiece)
+        × HasTables (record t { pieces = pieces }) (state S.Store tx.new.conn.now).now
+        × (IsFirm t employer firm.now → FromCharge t employer month pieces)) }
+    ensures fault { HasCleanDisk (state S.Store tx.new.conn.now)
+        → (t : Tables) → HasTables t (state S.Store tx.old.conn.now).now
+        → IsFirm t employer firm.now → KeepsAccount t employer
+        → IsFreeFromCharge t employer month → IfErr result IsOfDisk }
+    ensures stays { GoesOn S.Store tx.old.conn.now tx.new.conn.now result }
+{
+    let credits = firm.account.all_credits();
+    let start = start_of_charge(firm.account.all_charges(), credits, month);
+    match credits.get(start.credits.count) {
+        Some(credit) => {
+            let from = PieceFrom {
+                employer,
+                month,
+                day: credit.day,
+                serial: credit.serial,
+            };
+            put_pieces(alloc, tx, firm, &start, &from)
+        }
+        None => Ok(()),
+    }
+}
+
+// Puts the pieces of a firm from a credit on, where a contribution reaches beyond its place.
+fn put_from_credit<S: Alter>(
+    alloc: Global,
+    tx: &mut Transaction<'_, S>,
+    firm: &FirmAccount,
+    employer: EmployerNo,
+    first: &Credit,
+) -> Result<(), Fault>
+    ensures same_reference { tx.new.conn.ghost_name ≡ tx.old.conn.ghost_name }
+    ensures puts { HasCleanDisk (state S.Store tx.new.conn.now)
+        → (t : Tables) → HasTables t (state S.Store tx.old.conn.now).now
+        → OnOk result ((pieces : List AnyPiece)
+        × HasTables (record t { pieces = pieces }) (state S.Store tx.new.conn.now).now
+        × (IsFirm t employer firm.now → FromCredit t employer first.now pieces)) }
+    ensures fault { HasCleanDisk (state S.Store tx.new.conn.now)
+        → (t : Tables) → HasTables t (state S.Store tx.old.conn.now).now
+        → IsFirm t employer firm.now → KeepsAccount t employer
+        → IsFreeFromCredit t employer first.now → IsSerial first.now.serial
+        → IfErr result IsOfDisk }
+    ensures stays { GoesOn S.Store tx.old.conn.now tx.new.conn.now result }
+{
+    let charges = firm.account.all_charges();
+    let start = start_of_credits(charges, firm.account.all_credits(), first);
+    match charges.get(start.charges.count) {
+        Some(charge) => {
+            let from = PieceFrom {
+                employer,
+                month: charge.month,
+                day: first.day,
+                serial: first.serial,
+            };
+            put_pieces(alloc, tx, firm, &start, &from)
+        }
+        None => Ok(()),
+    }
+}
+
+// Puts the pieces that reach beyond a start in the place of those that stand from one on.
+fn put_pieces<S: Alter>(
+    alloc: Global,
+    tx: &mut Transaction<'_, S>,
+    firm: &FirmAccount,
+    start: &Start,
+    from: &PieceFrom,
+) -> Result<(), Fault>
+    requires { StartsAt firm.now.account.charges firm.now.account.credits start.now }
+    ensures same_reference { tx.new.conn.ghost_name ≡ tx.old.conn.ghost_name }
+    ensures put { HasCleanDisk (state S.Store tx.new.conn.now)
+        → (t : Tables) → HasTables t (state S.Store tx.old.conn.now).now
+        → OnOk result ((rows : List AnyPiece)
+        × HasTables (record t {
+          pieces = with_pieces from.now.employer from.now.month from.now.day from.now.serial rows
+              t.pieces;
+        }) (state S.Store tx.new.conn.now).now
+        × (firm.now.account.credits ≡ map row_credit firm.now.rows.items
+        → rows ≡ pieces_left start.now.charges.cents start.now.credits.cents
+        (drop start.now.charges.count firm.now.account.charges)
+        (drop start.now.credits.count firm.now.rows.items))) }
+    ensures fault { HasCleanDisk (state S.Store tx.new.conn.now)
+        → (t : Tables) → HasTables t (state S.Store tx.old.conn.now).now
+        → firm.now.account.credits ≡ map row_credit firm.now.rows.items
+        → AllByRecursion IsCreditRow firm.now.rows.items → IsSerial from.now.serial
+        → AreFree piece_key (without_rows piece_key
+        (is_piece_key_from from.now.employer from.now.month from.now.day from.now.serial) t.pieces)
+        (pieces_left start.now.charges.cents start.now.credits.cents
+        (drop start.now.charges.count firm.now.account.charges)
+        (drop start.now.credits.count firm.now.rows.items)) → IfErr result IsOfDisk }
+    ensures stays { GoesOn S.Store tx.old.conn.now tx.new.conn.now result }
+{
+    match pieces_to_put(alloc, firm, start) {
+        Ok(rows) => replace_pieces(tx, from, rows.as_slice()),
+        Err(fault) => Err(fault),
+    }
+}

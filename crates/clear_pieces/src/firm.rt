@@ -1,0 +1,165 @@
+//! A firm's account, read from the rows that keep it.
+ghost use Rattle.std.specs.Prelude.{◌≡◌, [], All, IfErr, IfOk, OnOk, map};
+ghost use Rattle.sqlite.specs.Held.{state};
+ghost use Rattle.sqlite.specs.State.{HasCleanDisk};
+ghost use Rattle.clear_account.specs.Account.{IsCharge, with_charge};
+ghost use Rattle.clear_book.specs.Allocated.{contribution_rows, kept_charges};
+ghost use Rattle.clear_book.specs.Tables.{Tables, charge_in, table_credits};
+ghost use Rattle.clear_schema.specs.Frame.{Leaves};
+ghost use Rattle.clear_schema.specs.Faults.{IsOfDisk};
+ghost use Rattle.clear_schema.specs.Held.{HasTables};
+ghost use Rattle.clear_views.specs.Owed.{with_charges, with_credits};
+ghost use Rattle.clear_pieces.specs.Firm.{KeepsAccount};
+
+use clear_account::entries::{AccountFault, Charge};
+use clear_account::keeper::Keeper;
+use clear_account::plain::Plain;
+use clear_firms::charges::charges_of;
+use clear_ledger::credits::credits_of;
+use clear_money::numbers::EmployerNo;
+use clear_schema::fault::Fault;
+use clear_values::causes::StoreCause;
+use clear_values::lines::Purpose;
+use clear_values::rows::{CreditRow, KeptCharge};
+use clear_views::account::credits::add_credits;
+use sqlite::{Alter, Transaction};
+use std::alloc::Global;
+
+/// A firm's account as the tables keep it.
+#[derive(Drop)]
+pub struct FirmAccount {
+    /// Its contributions, and its credits for them.
+    pub account: Plain,
+    /// The rows of these credits, by day and serial.
+    pub rows: Vec<CreditRow>,
+}
+
+/// The account of a firm: its kept contributions, and its credits for them.
+///
+/// A contribution above 5,000,000,000 cents or due behind the 28th of a month, a serial that stands
+/// twice, and more credits than an account has, are a fault of the row.
+pub fn read_firm<S: Alter>(
+    alloc: Global,
+    tx: &mut Transaction<'_, S>,
+    employer: EmployerNo,
+) -> Result<FirmAccount, Fault>
+    ensures same_reference { tx.new.conn.ghost_name ≡ tx.old.conn.ghost_name }
+    ensures charges { HasCleanDisk (state S.Store tx.new.conn.now)
+        → (t : Tables) → HasTables t (state S.Store tx.old.conn.now).now
+        → IfOk result (λ firm. firm.account.charges
+        ≡ with_charges (kept_charges t employer) []) }
+    ensures credits { HasCleanDisk (state S.Store tx.new.conn.now)
+        → (t : Tables) → HasTables t (state S.Store tx.old.conn.now).now
+        → IfOk result (λ firm. firm.account.credits
+        ≡ with_credits (table_credits t employer) []) }
+    ensures rows { HasCleanDisk (state S.Store tx.new.conn.now)
+        → (t : Tables) → HasTables t (state S.Store tx.old.conn.now).now
+        → IfOk result (λ firm. firm.rows.items ≡ contribution_rows t employer) }
+    ensures fault { HasCleanDisk (state S.Store tx.new.conn.now)
+        → (t : Tables) → HasTables t (state S.Store tx.old.conn.now).now
+        → KeepsAccount t employer → IfErr result IsOfDisk }
+    ensures leaves { Leaves S.Store tx.old.conn.now tx.new.conn.now result }
+{
+    let mut account = Plain::new(alloc);
+    match read_charges(tx, &mut account, employer) {
+        Ok(()) => {}
+        Err(fault) => return Err(fault),
+    }
+    match read_credits(alloc, tx, &mut account, employer) {
+        Ok(rows) => Ok(FirmAccount { account, rows }),
+        Err(fault) => Err(fault),
+    }
+}
+
+// Adds the contributions that are kept of a firm to an account.
+fn read_charges<S: Alter>(
+    tx: &mut Transaction<'_, S>,
+    account: &mut Plain,
+    employer: EmployerNo,
+) -> Result<(), Fault>
+    ensures same_reference { tx.new.conn.ghost_name ≡ tx.old.conn.ghost_name }
+    ensures charges { HasCleanDisk (state S.Store tx.new.conn.now)
+        → (t : Tables) → HasTables t (state S.Store tx.old.conn.now).now
+        → OnOk result (account.new.charges
+        ≡ with_charges (kept_charges t employer) account.old.charges) }
+    ensures credits { account.new.credits ≡ account.old.credits }
+    ensures fault { HasCleanDisk (state S.Store tx.new.conn.now)
+        → (t : Tables) → HasTables t (state S.Store tx.old.conn.now).now
+        → KeepsAccount t employer → IfErr result IsOfDisk }
+    ensures leaves { Leaves S.Store tx.old.conn.now tx.new.conn.now result }
+{
+    match charges_of(tx, employer) {
+        Ok(rows) => add_charges(account, rows.as_slice()),
+        Err(fault) => Err(fault),
+    }
+}
+
+// Adds the credits of a firm for contributions to an account, which has none yet, and gives their
+// rows.
+fn read_credits<S: Alter>(
+    alloc: Global,
+    tx: &mut Transaction<'_, S>,
+    account: &mut Plain,
+    employer: EmployerNo,
+) -> Result<Vec<CreditRow>, Fault>
+    requires none { account.old.credits ≡ [] }
+    ensures same_reference { tx.new.conn.ghost_name ≡ tx.old.conn.ghost_name }
+    ensures rows { HasCleanDisk (state S.Store tx.new.conn.now)
+        → (t : Tables) → HasTables t (state S.Store tx.old.conn.now).now
+        → IfOk result (λ rows. rows.items ≡ contribution_rows t employer) }
+    ensures credits { HasCleanDisk (state S.Store tx.new.conn.now)
+        → (t : Tables) → HasTables t (state S.Store tx.old.conn.now).now
+        → OnOk result (account.new.credits
+        ≡ with_credits (table_credits t employer) []) }
+    ensures charges { account.new.charges ≡ account.old.charges }
+    ensures fault { HasCleanDisk (state S.Store tx.new.conn.now)
+        → (t : Tables) → HasTables t (state S.Store tx.old.conn.now).now
+        → KeepsAccount t employer → IfErr result IsOfDisk }
+    ensures leaves { Leaves S.Store tx.old.conn.now tx.new.conn.now result }
+{
+    match credits_of(tx, employer, Purpose::Contribution) {
+        Ok(rows) => match add_credits(alloc, account, rows.as_slice()) {
+            Ok(()) => Ok(rows),
+            Err(fault) => Err(fault),
+        },
+        Err(fault) => Err(fault),
+    }
+}
+
+// Adds contributions to an account.
+fn add_charges(account: &mut Plain, rows: &[KeptCharge]) -> Result<(), Fault>
+    ensures charges { OnOk result (account.new.charges
+        ≡ with_charges (map charge_in rows.now) account.old.charges) }
+    ensures credits { account.new.credits ≡ account.old.credits }
+    ensures fault { All IsCharge (map charge_in rows.now) → IfErr result IsOfDisk }
+{
+    for row in rows {
+        match add_charge(account, row) {
+            Ok(()) => {}
+            Err(fault) => return Err(fault),
+        }
+    }
+    Ok(())
+}
+
+// Adds a contribution to an account.
+fn add_charge(account: &mut Plain, row: &KeptCharge) -> Result<(), Fault>
+    ensures charges { OnOk result (account.new.charges
+        ≡ with_charge (charge_in row.now) account.old.charges) }
+    ensures credits { account.new.credits ≡ account.old.credits }
+    ensures fault { IsCharge (charge_in row.now) → IfErr result IsOfDisk }
+{
+    if row.cents > Charge::MAX_CENTS || row.due.day_of_month() > 28 {
+        return Err(Fault::Store(StoreCause::Row));
+    }
+    let charge = Charge {
+        month: row.month,
+        due: row.due,
+        cents: row.cents,
+    };
+    match account.set_charge(charge) {
+        Ok(()) => Ok(()),
+        Err(AccountFault::Memory) => Err(Fault::Memory),
+        Err(AccountFault::OverLimit) => unreachable!(),
+    }
+}

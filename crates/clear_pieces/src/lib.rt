@@ -1,0 +1,12 @@
+//! The pieces that the tables keep of a firm, allocated anew after a change.
+//!
+//! A change of a contribution and new credits have a place in a firm's account. What ends at or
+//! below it stands; what reaches beyond it is allocated by one `refill`, and its pieces are put in
+//! the place of those that stood for it. So a request allocates what it changes, and no more.
+#![tactic(auto)]
+
+pub mod allocate;
+pub mod firm;
+pub mod keep;
+pub mod pieces;
+pub mod stands;

@@ -1,0 +1,49 @@
+//! Whether a contribution that is to be kept is kept already.
+ghost use Rattle.std.specs.Prelude.{◌≡◌, ◌↔◌, IfErr, IfOk, IsTrue, Some};
+ghost use Rattle.std.specs.List.{AllByRecursion};
+ghost use Rattle.sqlite.specs.Held.{state};
+ghost use Rattle.sqlite.specs.State.{HasCleanDisk};
+ghost use Rattle.clear_values.specs.Keyed.{find_row};
+ghost use Rattle.clear_values.specs.RowRanges.{IsKeptCharge};
+ghost use Rattle.clear_book.specs.Tables.{Tables, charge_key};
+ghost use Rattle.clear_schema.specs.Frame.{Leaves};
+ghost use Rattle.clear_schema.specs.Faults.{IsOfDisk};
+ghost use Rattle.clear_schema.specs.Held.{HasTables};
+
+use clear_firms::charges::find_charge;
+use clear_schema::fault::Fault;
+use clear_values::rows::KeptCharge;
+use sqlite::{Alter, Transaction};
+
+/// Whether just this contribution is kept of its firm and month: a correction that leaves it leaves
+/// the pieces.
+pub fn charge_stands<S: Alter>(
+    tx: &mut Transaction<'_, S>,
+    charge: &KeptCharge,
+) -> Result<bool, Fault>
+    ensures same_reference { tx.new.conn.ghost_name ≡ tx.old.conn.ghost_name }
+    ensures stands { HasCleanDisk (state S.Store tx.new.conn.now)
+        → (t : Tables) → HasTables t (state S.Store tx.old.conn.now).now
+        → IfOk result (λ stands. IsTrue stands
+        ↔ (find_row charge_key t.charges (charge_key charge.now) ≡ Some charge.now)) }
+    ensures fault { HasCleanDisk (state S.Store tx.new.conn.now)
+        → (t : Tables) → HasTables t (state S.Store tx.old.conn.now).now
+        → AllByRecursion IsKeptCharge t.charges → IfErr result IsOfDisk }
+    ensures leaves { Leaves S.Store tx.old.conn.now tx.new.conn.now result }
+{
+    match find_charge(tx, charge.employer, charge.month) {
+        Ok(Some(kept)) => Ok(is_same(&kept, charge)),
+        Ok(None) => Ok(false),
+        Err(fault) => Err(fault),
+    }
+}
+
+// Whether two kept contributions are one.
+fn is_same(kept: &KeptCharge, other: &KeptCharge) -> bool
+    ensures { IsTrue result ↔ (kept.now ≡ other.now) }
+{
+    kept.employer == other.employer
+        && kept.month == other.month
+        && kept.due == other.due
+        && kept.cents == other.cents
+}

@@ -1,0 +1,58 @@
+//! The pieces of a firm from a month and a credit on, put in the place of those that stood.
+ghost use Rattle.std.specs.Prelude.{◌≡◌};
+ghost use Rattle.std.specs.List.{AllByRecursion};
+ghost use Rattle.clear_values.specs.Keyed.{with_rows, without_rows};
+ghost use Rattle.clear_values.specs.RowRanges.{IsPieceRow, IsSerial};
+ghost use Rattle.clear_values.specs.Tables.{is_piece_key_from, piece_key, with_pieces};
+ghost use Rattle.clear_store.specs.Changes.{AreFree, Puts};
+
+pub use clear_ledger::pieces::PieceFrom;
+use clear_ledger::pieces::{delete_pieces, insert_piece};
+use clear_schema::fault::Fault;
+use clear_values::rows::PieceRow;
+use sqlite::{Alter, Transaction};
+
+/// Puts rows in the place of a firm's pieces of a month or a later one, whose credit is that of a
+/// day and a serial or a later one. All other pieces stay, whatever they hold.
+///
+/// A key that another piece has, or a row before it, is refused with
+/// `Fault::Store(StoreCause::Constraint)`; a serial of 0 or above 500,000,000,000, and more than
+/// 5,000,000,000 cents, with `Fault::Store(StoreCause::Row)`. After an error a part of the change
+/// may be done: the transaction is to be rolled back.
+pub fn replace_pieces<S: Alter>(
+    tx: &mut Transaction<'_, S>,
+    from: &PieceFrom,
+    rows: &[PieceRow],
+) -> Result<(), Fault>
+    ensures same_reference { tx.new.conn.ghost_name ≡ tx.old.conn.ghost_name }
+    ensures puts { Puts S.Store tx.old.conn.now tx.new.conn.now result (λ _. Unit {0})
+        (λ t. AreFree piece_key (without_rows piece_key
+        (is_piece_key_from from.now.employer from.now.month from.now.day from.now.serial)
+        t.pieces) rows.now)
+        (IsSerial from.now.serial × AllByRecursion IsPieceRow rows.now)
+        (λ t. record t {
+          pieces = with_pieces from.now.employer from.now.month from.now.day
+              from.now.serial rows.now t.pieces;
+        }) }
+{
+    match delete_pieces(tx, from) {
+        Ok(()) => insert_pieces(tx, rows),
+        Err(fault) => Err(fault),
+    }
+}
+
+// Adds pieces, one after another.
+fn insert_pieces<S: Alter>(tx: &mut Transaction<'_, S>, rows: &[PieceRow]) -> Result<(), Fault>
+    ensures same_reference { tx.new.conn.ghost_name ≡ tx.old.conn.ghost_name }
+    ensures puts { Puts S.Store tx.old.conn.now tx.new.conn.now result (λ _. Unit {0})
+        (λ t. AreFree piece_key t.pieces rows.now) (AllByRecursion IsPieceRow rows.now)
+        (λ t. record t { pieces = with_rows piece_key t.pieces rows.now }) }
+{
+    for row in rows {
+        match insert_piece(tx, row) {
+            Ok(()) => {}
+            Err(fault) => return Err(fault),
+        }
+    }
+    Ok(())
+}
