@@ -1,0 +1,192 @@
+// Tells what became of a request: the answer, a refusal with what to do about it, a fault; and what stops the forms.
+
+import { sendForm } from "./api.js";
+import { byId, make, pairs } from "./elements.js";
+import { day, euros, month, percent } from "./formats.js";
+import { hasWords, say } from "./words.js";
+
+const MARKS = { done: "✓", repeated: "✓", refused: "✕", undecided: "!", lost: "!", "given-up": "–" };
+const BANK_FIELDS = ["", "reference", "value_date", "employer", "cents", "purpose", "note"];
+const AMOUNTS = ["cents", "gross", "charge", "paid", "to_contributions", "to_interest", "total"];
+const MONTHS = ["month", "start", "last", "from"];
+const RATES = ["contribution", "entitlement", "interest"];
+
+/** The values of a command or a reply, written for the clerk. */
+function written(kind, values) {
+  const told = { ...values };
+  for (const [name, value] of Object.entries(values)) {
+    if (AMOUNTS.includes(name)) {
+      told[name] = euros(value);
+    } else if (MONTHS.includes(name)) {
+      told[name] = month(value);
+    } else if (kind === "rates" && RATES.includes(name)) {
+      told[name] = percent(value);
+    }
+  }
+  return told;
+}
+
+export function subject(entry) {
+  const what = say(`subject.${entry.kind}`, written(entry.kind, entry.values));
+  return what ? `${say(`kind.${entry.kind}`)}: ${what}` : say(`kind.${entry.kind}`);
+}
+
+export const outcomeText = (entry) => `${MARKS[entry.outcome] ?? ""} ${say(`outcome.${entry.outcome}`)}`;
+
+/** What the office answered, in a sentence. */
+export function replyText(entry) {
+  if (entry.reply.rule) {
+    return `${entry.reply.rule} ${entry.reply.name} ${entry.reply.detail}`.trim();
+  }
+  if (entry.outcome === "lost") {
+    return say(`fault.no-answer.${entry.reply.reason}`, entry.reply);
+  }
+  if (entry.outcome === "given-up") {
+    return "";
+  }
+  const key = `reply.${entry.kind}`;
+  return hasWords(key) ? say(key, written(entry.kind, entry.reply)) : say("reply.done");
+}
+
+/** What a refusal carries, in words. */
+function detailText(rule, detail) {
+  if (detail === "") {
+    return "";
+  }
+  if (rule === 18) {
+    return hasWords(`limit.${detail}.most`) ? say("detail.limit", { most: say(`limit.${detail}.most`) }) : detail;
+  }
+  const carried = { detail };
+  if (rule === 10) {
+    carried.day = day(detail);
+  } else if (rule === 25) {
+    carried.amount = euros(detail);
+  } else if (rule === 28 || rule === 31) {
+    carried.month = month(detail);
+  } else if (rule === 20) {
+    const [record, field] = detail.split(":");
+    carried.record = record;
+    carried.field = `${field} ${BANK_FIELDS[Number(field)] ?? ""}`.trim();
+  }
+  return say(hasWords(`detail.${rule}`) ? `detail.${rule}` : "detail.other", carried);
+}
+
+/** The lines that tell a refusal: number and name, what it means, what it carries, what to do. */
+export function refusalLines(refusal) {
+  const { rule, name, detail } = refusal;
+  const carried = detailText(rule, detail);
+  const act = rule === 18 && hasWords(`limit.${detail}.do`) ? say(`limit.${detail}.do`) : say(`refusal.${rule}.do`);
+  return [
+    make("h2", {}, say("answer.rule", { rule, name })),
+    make("p", { class: "means" }, say(`refusal.${rule}.means`)),
+    carried ? make("p", { class: "detail strong" }, carried) : null,
+    make("p", { class: "do" }, make("strong", {}, say("answer.do")), " ", act),
+  ];
+}
+
+export function faultText(told) {
+  const code = told.fault === "no-answer" ? `no-answer.${told.carried.reason}` : told.fault;
+  return say(`fault.${code}`, told.carried ?? {});
+}
+
+/** Tells why a view can't be shown: the desk's fault, or the office's refusal. */
+export function tellFault(told) {
+  const lines = told.refusal ? refusalLines(told.refusal) : [make("p", { class: "strong" }, faultText(told))];
+  byId("fault").replaceChildren(...lines.filter(Boolean));
+  byId("fault").hidden = false;
+}
+
+export function clearFault() {
+  byId("fault").hidden = true;
+}
+
+export function clearAnswer() {
+  byId("answer").hidden = true;
+}
+
+function showAnswer(kind, lines) {
+  const answer = byId("answer");
+  answer.className = `banner ${kind}`;
+  answer.replaceChildren(...lines.filter(Boolean));
+  answer.hidden = false;
+  answer.focus();
+  answer.scrollIntoView({ block: "nearest" });
+}
+
+/** Tells what became of a command, and takes the focus there. Whether it was done. */
+export function tellAnswer(told, further = []) {
+  if (!told.entry) {
+    const lines = told.refusal ? refusalLines(told.refusal) : [make("p", { class: "strong" }, faultText(told))];
+    showAnswer("bad", lines);
+    return false;
+  }
+  const { entry } = told;
+  const isDone = ["done", "repeated"].includes(entry.outcome);
+  const lines = [
+    make("p", { class: "what" }, make("strong", {}, outcomeText(entry)), ` · ${subject(entry)}`),
+    ...(entry.reply.rule ? refusalLines(entry.reply) : [make("p", { class: "reply strong" }, replyText(entry))]),
+    told.known ? make("p", { class: "note strong" }, say("document.known")) : null,
+    ...further.map((text) => make("p", { class: "note" }, text)),
+    ["lost", "undecided"].includes(entry.outcome) ? make("p", {}, say("answer.pending")) : null,
+    make("p", { class: "quiet" }, say("answer.number", { number: entry.number })),
+  ];
+  showAnswer(isDone ? "good" : "bad", lines);
+  return isDone;
+}
+
+/** Shows what stops the forms: failed records, or a request that has no answer yet. */
+export function showState(state) {
+  const { failure, pending } = state;
+  byId("stopped").hidden = !failure;
+  if (failure) {
+    byId("stopped-rule").textContent = say("answer.rule", failure);
+  }
+  byId("pending").hidden = !pending;
+  if (pending) {
+    byId("pending-what").textContent = `${say("answer.number", pending)} · ${subject(pending)}`;
+    byId("pending").dataset.number = String(pending.number);
+  }
+  for (const form of document.querySelectorAll("form[data-form], #form-bank, #form-report")) {
+    form.toggleAttribute("inert", Boolean(failure || pending));
+    form.classList.toggle("stopped", Boolean(failure || pending));
+  }
+  byId("pending-send-again").disabled = false;
+}
+
+/** Asks for the second click, and tells what can't be taken back. Whether it was given. */
+export function confirmed(kind, facts) {
+  const dialog = byId("confirm");
+  byId("confirm-text").textContent = say(`confirm.${kind}`);
+  byId("confirm-yes").textContent = say(`confirm.${kind}.yes`);
+  pairs(byId("confirm-facts"), ...facts);
+  return new Promise((resolve) => {
+    const end = (is) => () => {
+      dialog.close();
+      resolve(is);
+    };
+    byId("confirm-yes").onclick = end(true);
+    byId("confirm-no").onclick = end(false);
+    dialog.oncancel = () => resolve(false);
+    dialog.showModal();
+    byId("confirm-no").focus();
+  });
+}
+
+/** Sends the request without an answer again, or drops it. */
+export function beginPending(done) {
+  const number = () => Number(byId("pending").dataset.number);
+  byId("pending-send-again").addEventListener("click", async () => {
+    byId("pending-send-again").disabled = true;
+    const told = await sendForm("/api/pending/send-again", "send-again", { number: number() });
+    byId("pending-send-again").disabled = false;
+    tellAnswer(told);
+    done(told);
+  });
+  byId("pending-give-up").addEventListener("click", async () => {
+    if (await confirmed("give-up", [])) {
+      const told = await sendForm("/api/pending/give-up", "give-up", { number: number() }, true);
+      tellAnswer(told);
+      done(told);
+    }
+  });
+}

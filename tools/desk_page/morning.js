@@ -1,0 +1,164 @@
+// The morning's work: lines in suspense, the bank's file, reminder runs and payout lists. One question to the office.
+
+import { clearFault, tellFault } from "./answers.js";
+import { get } from "./api.js";
+import { beginBank } from "./bank.js";
+import { button, byId, make, pairs, row, table } from "./elements.js";
+import { beginFinder, beginForm, clearFields } from "./forms.js";
+import { day, euros, month, today } from "./formats.js";
+import { say } from "./words.js";
+
+const PAGE = 200;
+let first = 0;
+
+function firmLink(employer) {
+  return employer ? make("a", { href: `#/firm/${employer}` }, String(employer)) : say("dash");
+}
+
+function openAssign(line) {
+  clearFields(byId("form-assign"));
+  byId("assign-reference").value = line.reference;
+  byId("assign-employer").value = line.employer ?? "";
+  pairs(byId("assign-facts"), ["label.reference", line.reference], ["label.value", day(line.day)],
+    ["column.amount", euros(line.cents)], ["column.purpose", say(`purpose.${line.purpose}`)],
+    ["column.note", line.note || say("dash")]);
+  byId("assign-dialog").showModal();
+  byId("assign-employer").focus();
+}
+
+const SUSPENSE_COLUMNS = [
+  ["column.reference", "reference"], ["column.value", "day"], ["column.purpose", "word"], ["column.named", "number"],
+  ["column.amount", "amount"], ["column.note", "note"], ["column.action", "action"],
+];
+
+function suspenseRow(line) {
+  const name = say("suspense.assign-line", { reference: line.reference, amount: euros(line.cents) });
+  const assign = button(say("suspense.assign"), () => openAssign(line), {
+    class: "assign", "data-reference": line.reference, "aria-label": name,
+  });
+  return row(line.reference, day(line.day), say(`purpose.${line.purpose}`), line.employer ?? say("dash"),
+    euros(line.cents), line.note || say("dash"), assign);
+}
+
+function turnTo(place) {
+  first = place;
+  showMorning();
+}
+
+function pager({ first: from, lines, count }) {
+  if (count <= PAGE) {
+    return null;
+  }
+  const place = { first: from + 1, last: from + lines.length, count };
+  const earlier = button(say("suspense.earlier"), () => turnTo(Math.max(0, from - PAGE)), { id: "suspense-earlier" });
+  const later = button(say("suspense.later"), () => turnTo(from + PAGE), { id: "suspense-later" });
+  earlier.disabled = from === 0;
+  later.disabled = from + lines.length >= count;
+  return make("p", { class: "buttons" }, say("suspense.page", place), earlier, later);
+}
+
+function showSuspense(told) {
+  byId("suspense-text").textContent = told.text;
+  const { suspense } = told;
+  if (!suspense) {
+    byId("suspense-summary").textContent = say("text.not-understood");
+    byId("suspense-lines").replaceChildren();
+    byId("suspense-details").open = true;
+    return;
+  }
+  const carried = { count: suspense.count, total: euros(suspense.total) };
+  byId("suspense-summary").textContent = suspense.count ? say("suspense.summary", carried) : say("suspense.empty");
+  const lines = suspense.lines.length
+    ? table("suspense-table", say("suspense.caption"), SUSPENSE_COLUMNS, suspense.lines.map(suspenseRow))
+    : "";
+  byId("suspense-lines").replaceChildren(lines, pager(suspense) ?? "");
+  byId("morning-day").textContent = say("morning.day", { day: day(suspense.day) });
+  byId("morning-other-day").textContent = say("morning.other-day", { today: day(today()) });
+  byId("morning-other-day").hidden = suspense.day === today();
+}
+
+function showKnown(kind, numbers, show) {
+  const list = byId(`${kind}-known`);
+  const links = numbers.toReversed().map((number) =>
+    button(String(number), () => show(number), { class: "link", "data-number": String(number) }));
+  list.replaceChildren(...(links.length ? [`${say(`${kind}.known`)}: `, ...links] : []));
+}
+
+function payoutTable({ payout }) {
+  const caption = say("payouts.caption", { ...payout, day: day(payout.day), total: euros(payout.total) });
+  const columns = [["column.claim", "number"], ["column.firm", "number"], ["column.worker", "number"],
+    ["column.amount", "amount"]];
+  return table("payout-table", caption, columns, payout.claims.map((it) => row(
+    String(it.claim), firmLink(it.employer), make("a", { href: `#/worker/${it.worker}` }, String(it.worker)),
+    euros(it.cents))));
+}
+
+function remindersTable({ reminders }) {
+  const caption = say("reminders.caption", { ...reminders, day: day(reminders.day) });
+  const columns = [["column.firm", "number"], ["column.level", "number"], ["column.missing", "number"],
+    ["column.first-missing", "day"], ["column.arrears", "amount"], ["column.interest", "amount"]];
+  return table("reminders-table", caption, columns, reminders.reminded.map((it) => row(
+    firmLink(it.employer), String(it.level), String(it.missing), month(it.first), euros(it.arrears),
+    euros(it.interest))));
+}
+
+/** Shows a payout list or a reminder run: its table, and the office's text. */
+async function showDocument(kind, number) {
+  clearFault();
+  const told = await get(`/api/${kind}/${number}`);
+  const place = byId("document");
+  if (told.text === undefined) {
+    place.hidden = true;
+    tellFault(told);
+    return;
+  }
+  const isUnderstood = Boolean(told.payout ?? told.reminders);
+  const read = isUnderstood ? (told.payout ? payoutTable(told) : remindersTable(told)) : say("text.not-understood");
+  const file = `/documents/${kind === "payouts" ? "payout" : kind}-${number}.txt`;
+  const title = kind === "payouts" ? say("payouts.title") : say("reminders.title");
+  place.replaceChildren(
+    make("h2", {}, title), read,
+    make("details", {}, make("summary", {}, say("text")), make("pre", { id: "document-text", tabindex: "0" }, told.text)),
+    make("p", { class: "buttons" }, make("a", { id: "document-download", class: "button", href: file, download: "" }, say("download")),
+      button(say("close"), () => { place.hidden = true; }, { id: "document-close" })));
+  place.hidden = false;
+  place.focus();
+}
+
+export async function showMorning() {
+  const told = await get(`/api/suspense/${first}`);
+  if (told.text === undefined) {
+    tellFault(told);
+    return;
+  }
+  showSuspense(told);
+  showKnown("payouts", told.lists, (number) => showDocument("payouts", number));
+  showKnown("reminders", told.runs, (number) => showDocument("reminders", number));
+}
+
+function isDone(told) {
+  return ["done", "repeated"].includes(told.entry.outcome);
+}
+
+export function beginMorning() {
+  beginBank(showMorning);
+  beginForm("form-assign", showMorning);
+  beginForm("form-release", showMorning);
+  byId("assign-cancel").addEventListener("click", () => byId("assign-dialog").close());
+  for (const [kind, member] of [["payouts", "list"], ["reminders", "run"]]) {
+    beginForm(`form-${kind}`, async (told) => {
+      await showMorning();
+      if (isDone(told)) {
+        await showDocument(kind, told.entry.reply[member]);
+      }
+    });
+    beginFinder(`find-${kind}`, (number) => showDocument(kind, number));
+  }
+}
+
+/** Begins the view anew, where another one was shown before. */
+export function openMorning() {
+  first = 0;
+  byId("document").hidden = true;
+  return showMorning();
+}

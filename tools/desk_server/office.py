@@ -1,0 +1,95 @@
+"""The client of the office: one connection for each request, since the office serves one after another."""
+
+import http.client
+import json
+from dataclasses import dataclass
+from typing import Any
+
+HOST = "127.0.0.1"
+CONNECT_SECONDS = 5
+# Others may come first, and each of them has 30 seconds.
+ANSWER_SECONDS = 60
+MOST_ANSWER = 64 * 1_048_576
+MOST_BODY = 1_048_576
+# The rules by which nothing is decided yet: no memory, and records that couldn't be read or written.
+MEMORY, STORE, FAILED = 40, 41, 42
+
+
+class NoAnswer(Exception):
+    """Nothing came that an office says. The reason is `absent` (nobody takes the connection), `silent` (no answer in
+    time), `broken` (the connection ended before) or `foreign` (what answers is no office)."""
+
+    def __init__(self, reason: str):
+        super().__init__(reason)
+        self.reason = reason
+
+
+@dataclass(frozen=True)
+class Answer:
+    """An answer of the office: its text, and the rule, name and detail of a refusal, or the members of a reply."""
+
+    text: str
+    members: dict[str, Any]
+    is_refused: bool
+
+    @property
+    def rule(self) -> int:
+        return self.members["rule"] if self.is_refused else 0
+
+    @property
+    def is_failure(self) -> bool:
+        return self.rule in (STORE, FAILED)
+
+    @property
+    def is_undecided(self) -> bool:
+        """Whether the request is to be sent again under its number."""
+        return self.rule in (MEMORY, STORE, FAILED)
+
+
+class Office:
+    def __init__(self, port: int, key: str, seconds: float = ANSWER_SECONDS):
+        self.port = port
+        self.seconds = seconds
+        self._key = key
+
+    def ask(self, method: str, path: str, number: int | None = None, body: bytes = b"") -> Answer:
+        fields = {"Office-Key": self._key, "Connection": "close"}
+        if number is not None:
+            fields["Request-Number"] = str(number)
+        connection = http.client.HTTPConnection(HOST, self.port, timeout=CONNECT_SECONDS)
+        try:
+            connection.connect()
+            connection.sock.settimeout(self.seconds)
+            connection.request(method, path, body if method != "GET" else None, fields)
+            response = connection.getresponse()
+            return read_answer(response, response.read(MOST_ANSWER + 1))
+        except ConnectionRefusedError:
+            raise NoAnswer("absent") from None
+        except TimeoutError:
+            raise NoAnswer("silent") from None
+        except (http.client.HTTPException, OSError):
+            raise NoAnswer("broken") from None
+        finally:
+            connection.close()
+
+
+def read_answer(response: http.client.HTTPResponse, content: bytes) -> Answer:
+    """The answer of an office, which is a document, the members of a reply, or those of a refusal."""
+    if response.status == 200 and len(content) <= MOST_ANSWER:
+        if response.headers.get_content_type() == "text/plain":
+            return Answer(content.decode(errors="replace"), {}, False)
+    try:
+        text = content.decode()
+        members = json.loads(text)
+    except (ValueError, RecursionError):
+        raise NoAnswer("foreign") from None
+    if not isinstance(members, dict) or not is_said_by_an_office(response.status, members):
+        raise NoAnswer("foreign")
+    return Answer(text, members, response.status != 200)
+
+
+def is_said_by_an_office(status: int, members: dict[str, Any]) -> bool:
+    if status == 200:
+        return "rule" not in members and all(type(it) in (int, bool) for it in members.values())
+    kinds = {key: type(value) for key, value in members.items()}
+    return kinds == {"rule": int, "name": str, "detail": str}
