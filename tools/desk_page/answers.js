@@ -33,21 +33,6 @@ export function subject(entry) {
 
 export const outcomeText = (entry) => `${MARKS[entry.outcome] ?? ""} ${say(`outcome.${entry.outcome}`)}`;
 
-/** What the office answered, in a sentence. */
-export function replyText(entry) {
-  if (entry.reply.rule) {
-    return `${entry.reply.rule} ${entry.reply.name} ${entry.reply.detail}`.trim();
-  }
-  if (entry.outcome === "lost") {
-    return say(`fault.no-answer.${entry.reply.reason}`, entry.reply);
-  }
-  if (entry.outcome === "given-up") {
-    return "";
-  }
-  const key = `reply.${entry.kind}`;
-  return hasWords(key) ? say(key, written(entry.kind, entry.reply)) : say("reply.done");
-}
-
 /** What a refusal carries, in words. */
 function detailText(rule, detail) {
   if (detail === "") {
@@ -69,6 +54,22 @@ function detailText(rule, detail) {
     carried.field = `${field} ${BANK_FIELDS[Number(field)] ?? ""}`.trim();
   }
   return say(hasWords(`detail.${rule}`) ? `detail.${rule}` : "detail.other", carried);
+}
+
+/** What the office answered, in a sentence. */
+export function replyText(entry) {
+  if (entry.reply.rule) {
+    const { rule, name, detail } = entry.reply;
+    return [`${rule} ${name}`, detailText(rule, detail)].filter(Boolean).join(" · ");
+  }
+  if (entry.outcome === "lost") {
+    return say(`fault.no-answer.${entry.reply.reason}`, entry.reply);
+  }
+  if (entry.outcome === "given-up") {
+    return "";
+  }
+  const key = `reply.${entry.kind}`;
+  return hasWords(key) ? say(key, written(entry.kind, entry.reply)) : say("reply.done");
 }
 
 /** The lines that tell a refusal: number and name, what it means, what it carries, what to do. */

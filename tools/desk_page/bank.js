@@ -2,7 +2,7 @@
 
 import { clearAnswer, confirmed, tellAnswer } from "./answers.js";
 import { get, sendFile } from "./api.js";
-import { byId, make } from "./elements.js";
+import { beginDrop, byId, make } from "./elements.js";
 import { euros } from "./formats.js";
 import { say } from "./words.js";
 
@@ -67,23 +67,7 @@ async function importFile(done) {
 }
 
 export function beginBank(done) {
-  const drop = byId("bank-drop");
-  byId("bank-file").addEventListener("change", (event) => {
-    if (event.target.files.length === 1) {
-      choose(event.target.files[0]);
-    }
-  });
-  for (const kind of ["dragover", "dragleave", "drop"]) {
-    drop.addEventListener(kind, (event) => {
-      event.preventDefault();
-      drop.classList.toggle("over", kind === "dragover");
-    });
-  }
-  drop.addEventListener("drop", (event) => {
-    if (event.dataTransfer.files.length === 1) {
-      choose(event.dataTransfer.files[0]);
-    }
-  });
+  beginDrop("bank-drop", choose);
   byId("form-bank").addEventListener("submit", (event) => {
     event.preventDefault();
     if (chosen) {

@@ -39,30 +39,29 @@ function paymentLines(payments) {
   if (payments.length > MOST_PAYMENTS) {
     lines.push(make("li", {}, say("statement.more", { count: payments.length - MOST_PAYMENTS })));
   }
-  return lines.length ? make("ul", { class: "plain small" }, ...lines) : say("dash");
+  return lines.length ? make("ul", { class: "plain small" }, ...lines) : null;
 }
 
 const MONTH_COLUMNS = [
-  ["column.month", "month"], ["column.due", "day"], ["column.version", "number"], ["column.contribution", "amount"],
-  ["column.paid", "amount"], ["column.open", "amount"], ["column.interest", "amount"], ["column.bar", "bars"],
-  ["column.payments", "payments"], ["column.action", "action"],
+  ["column.month", "month"], ["column.due", "day"], ["column.contribution", "amount"], ["column.paid", "amount"],
+  ["column.open", "amount"], ["column.interest", "amount"], ["column.bar", "payments"], ["column.action", "action"],
 ];
 
 function chargeRow(charge, most) {
   const correct = button(say("statement.correct"), () => openReport(charge.month, charge.version), {
     class: "correct", "data-month": charge.month, "aria-label": say("statement.correct-month", { month: month(charge.month) }),
   });
-  return row(month(charge.month), day(charge.due), String(charge.version), euros(charge.contribution),
-    euros(charge.paid), euros(charge.open), euros(charge.interest), bar(charge, most),
-    paymentLines(charge.payments), correct);
+  const version = make("span", { class: "under quiet small" }, say("statement.version", charge));
+  return row(make("span", {}, month(charge.month), version), day(charge.due), euros(charge.contribution), euros(charge.paid),
+    euros(charge.open), euros(charge.interest), make("div", {}, bar(charge, most), paymentLines(charge.payments)), correct);
 }
 
 function missingRow(text) {
   const report = button(say("statement.report"), () => openReport(text, null), {
     class: "report", "data-month": text, "aria-label": say("statement.report-month", { month: month(text) }),
   });
-  const dashes = Array(6).fill(say("dash"));
-  return { cells: [month(text), ...dashes, make("strong", {}, `! ${say("statement.missing")}`), say("dash"), report],
+  const dashes = Array(5).fill(say("dash"));
+  return { cells: [month(text), ...dashes, make("strong", {}, `! ${say("statement.missing")}`), report],
     attributes: { class: "missing", "data-month": text } };
 }
 
@@ -129,7 +128,7 @@ function claimRow(claim) {
 }
 
 function showClaims(claims) {
-  const columns = [["column.claim", "number"], ["column.worker", "number"], ["column.amount", "amount"],
+  const columns = [["column.claim", "id"], ["column.worker", "id"], ["column.amount", "amount"],
     ["column.state", "word"], ["column.action", "action"]];
   byId("firm-claims").replaceChildren(claims.length
     ? table("firm-claims-table", say("firm-claims.caption"), columns, claims.map(claimRow))

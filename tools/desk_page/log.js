@@ -7,7 +7,7 @@ import { time } from "./formats.js";
 import { say } from "./words.js";
 
 const COLUMNS = [
-  ["column.time", "time"], ["column.number", "number"], ["column.outcome", "word"], ["column.what", "note"],
+  ["column.time", "time"], ["column.number", "id"], ["column.outcome", "word"], ["column.what", "note"],
   ["column.reply", "note"],
 ];
 

@@ -27,7 +27,7 @@ function openAssign(line) {
 }
 
 const SUSPENSE_COLUMNS = [
-  ["column.reference", "reference"], ["column.value", "day"], ["column.purpose", "word"], ["column.named", "number"],
+  ["column.reference", "reference"], ["column.value", "day"], ["column.purpose", "word"], ["column.named", "id"],
   ["column.amount", "amount"], ["column.note", "note"], ["column.action", "action"],
 ];
 
@@ -86,7 +86,7 @@ function showKnown(kind, numbers, show) {
 
 function payoutTable({ payout }) {
   const caption = say("payouts.caption", { ...payout, day: day(payout.day), total: euros(payout.total) });
-  const columns = [["column.claim", "number"], ["column.firm", "number"], ["column.worker", "number"],
+  const columns = [["column.claim", "id"], ["column.firm", "id"], ["column.worker", "id"],
     ["column.amount", "amount"]];
   return table("payout-table", caption, columns, payout.claims.map((it) => row(
     String(it.claim), firmLink(it.employer), make("a", { href: `#/worker/${it.worker}` }, String(it.worker)),
@@ -95,7 +95,7 @@ function payoutTable({ payout }) {
 
 function remindersTable({ reminders }) {
   const caption = say("reminders.caption", { ...reminders, day: day(reminders.day) });
-  const columns = [["column.firm", "number"], ["column.level", "number"], ["column.missing", "number"],
+  const columns = [["column.firm", "id"], ["column.level", "number"], ["column.missing", "number"],
     ["column.first-missing", "day"], ["column.arrears", "amount"], ["column.interest", "amount"]];
   return table("reminders-table", caption, columns, reminders.reminded.map((it) => row(
     firmLink(it.employer), String(it.level), String(it.missing), month(it.first), euros(it.arrears),

@@ -2,7 +2,7 @@
 
 import { clearAnswer, tellAnswer } from "./answers.js";
 import { fieldsOf, sendForm } from "./api.js";
-import { byId, make, row, table } from "./elements.js";
+import { beginDrop, byId, make, row, table } from "./elements.js";
 import { clearFields, tellField } from "./forms.js";
 import { euros, month, percent } from "./formats.js";
 import { say } from "./words.js";
@@ -43,7 +43,7 @@ function expectedText(told) {
 
 function showLines(told) {
   const carried = { month: month(told.month), lines: told.lines, gross: euros(told.gross) };
-  const columns = [["column.worker", "number"], ["column.gross", "amount"]];
+  const columns = [["column.worker", "id"], ["column.gross", "amount"]];
   const lines = told.wages.map((it) => row(String(it.worker), euros(it.cents)));
   const isCorrection = byId("report-version").value.trim() !== "";
   byId("report-check-result").replaceChildren(
@@ -122,11 +122,7 @@ export function beginReport(done) {
   for (const id of ["report-csv", "report-month"]) {
     byId(id).addEventListener("input", forget);
   }
-  byId("report-file").addEventListener("change", (event) => {
-    if (event.target.files.length === 1) {
-      read(event.target.files[0]);
-    }
-  });
+  beginDrop("report-drop", read);
   form.addEventListener("submit", (event) => {
     event.preventDefault();
     if (byId("report-send").disabled) {

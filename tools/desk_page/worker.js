@@ -40,12 +40,12 @@ function sum(lines) {
 }
 
 function showTables(worker) {
-  const claimColumns = [["column.claim", "number"], ["column.firm", "number"], ["column.state", "word"],
+  const claimColumns = [["column.claim", "id"], ["column.firm", "id"], ["column.state", "word"],
     ["column.amount", "amount"], ["column.action", "action"]];
   byId("worker-claims").replaceChildren(worker.claims.length
     ? table("worker-claims-table", say("worker.claims-caption"), claimColumns, worker.claims.map(claimRow))
     : make("p", { class: "hint" }, say("worker.no-claims")));
-  const earnedColumns = [["column.firm", "number"], ["column.month", "month"], ["column.earned", "amount"]];
+  const earnedColumns = [["column.firm", "id"], ["column.month", "month"], ["column.earned", "amount"]];
   const earned = worker.earned.map((it) => row(
     make("a", { href: `#/firm/${it.employer}` }, String(it.employer)), month(it.month), euros(it.cents)));
   byId("worker-earned").replaceChildren(earned.length
