@@ -2,8 +2,8 @@
 
     python3 tests/payment_file.py
 
-What is expected is worked out by hand. The published schema is asked too, where Debian's libhbci4j-core-java and
-libxml2-utils are installed.
+What is expected is worked out by hand. The published schema is asked too, where Debian's libhbci4j-core-java
+and libxml2-utils are installed.
 """
 
 import datetime
