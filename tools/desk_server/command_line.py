@@ -84,6 +84,9 @@ def make_server(words: argparse.Namespace) -> Server:
         "office": words.office, "desk": words.desk, "folder": str(folder), "checks": program is not None,
         "rates_known": rates is not None,
     }
+    if journal.pending is not None:
+        told = journal.pending
+        print(f"request {told.number} ({told.command.words}) has no answer yet: the page offers it", file=sys.stderr)
     server.routes = Routes(Desk(Office(words.office, key), journal, rates, program), Tokens(), settings)
     return server
 

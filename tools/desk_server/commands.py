@@ -7,6 +7,15 @@ from typing import Any
 
 # The commands that can't be taken back: the page tells so, and the desk sends them only when that was confirmed.
 FINAL = frozenset(("assign", "bank", "end", "payouts", "rates", "register", "release", "reminders"))
+# The members of each command's reply: what has others comes from no office.
+DONE = frozenset(("done",))
+REPLIES = {
+    "register": DONE, "end": DONE, "rates": DONE, "assign": DONE, "withdraw": DONE,
+    "report": frozenset(("charge", "version")), "correct": frozenset(("charge", "version")),
+    "claim": frozenset(("claim",)), "release": frozenset(("paid", "to_contributions", "to_interest")),
+    "bank": frozenset(("new", "repeats")), "payouts": frozenset(("items", "list", "total")),
+    "reminders": frozenset(("firms", "run")),
+}
 
 
 @dataclass(frozen=True)

@@ -6,7 +6,7 @@ import time
 from pathlib import Path
 from typing import Any, Iterator
 
-from .commands import FINAL, Command, Numbered
+from .commands import FINAL, REPLIES, Command, Numbered
 from .faults import Fault
 from .journal import Journal
 from .office import Answer, NoAnswer, Office
@@ -55,11 +55,11 @@ class Desk:
 
     def ask_twice(self, path: str) -> Answer:
         try:
-            return self.office.ask("GET", path)
+            return self.office.document(path)
         except NoAnswer as why:
             if why.reason != "broken":
                 raise
-        return self.office.ask("GET", path)
+        return self.office.document(path)
 
     def notice(self, answer: Answer) -> None:
         if answer.is_failure:
@@ -113,7 +113,8 @@ class Desk:
         for pause in PAUSES:
             time.sleep(pause)
             try:
-                answer = self.office.ask(command.method, command.path, numbered.number, command.body)
+                reply = REPLIES[command.kind]
+                answer = self.office.send(command.method, command.path, numbered.number, command.body, reply)
                 return self.settle(numbered, answer, is_repeat)
             except NoAnswer as why:
                 reason = why.reason

@@ -96,11 +96,19 @@ class Journal:
         taken = self.numbers.read()
         self.last = max((entry["number"] for entry in taken), default=0)
         self.history = History()
+        self.pending = self.read_pending(self.read_log())
+
+    def read_log(self) -> set[int]:
+        """Reads what the desk did before. The numbers of the requests that are settled."""
         settled = set()
-        for entry in self.log.read():
-            self.history.add(entry)
-            settled |= {entry["number"]} if is_settled(entry) else set()
-        self.pending = self.read_pending(settled)
+        for place, entry in enumerate(self.log.read(), 1):
+            try:
+                self.history.add(entry)
+            except (KeyError, TypeError, AttributeError):
+                raise StartFault(f"{self.log.path}: line {place} is none of the desk's") from None
+            if is_settled(entry):
+                settled.add(entry["number"])
+        return settled
 
     @property
     def pending_path(self) -> Path:

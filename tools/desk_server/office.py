@@ -26,7 +26,7 @@ class NoAnswer(Exception):
 
 @dataclass(frozen=True)
 class Answer:
-    """An answer of the office: its text, and the rule, name and detail of a refusal, or the members of a reply."""
+    """An answer of the office: the text of a document, the members of a reply, or rule, name and detail of a refusal."""
 
     text: str
     members: dict[str, Any]
@@ -52,6 +52,20 @@ class Office:
         self.seconds = seconds
         self._key = key
 
+    def document(self, path: str) -> Answer:
+        """The document at a path, or a refusal."""
+        answer = self.ask("GET", path)
+        if not answer.is_refused and answer.members:
+            raise NoAnswer("foreign")
+        return answer
+
+    def send(self, method: str, path: str, number: int, body: bytes, reply: frozenset[str]) -> Answer:
+        """The reply to a command, which has just these members, or a refusal."""
+        answer = self.ask(method, path, number, body)
+        if not answer.is_refused and set(answer.members) != reply:
+            raise NoAnswer("foreign")
+        return answer
+
     def ask(self, method: str, path: str, number: int | None = None, body: bytes = b"") -> Answer:
         fields = {"Office-Key": self._key, "Connection": "close"}
         if number is not None:
@@ -75,21 +89,28 @@ class Office:
 
 def read_answer(response: http.client.HTTPResponse, content: bytes) -> Answer:
     """The answer of an office, which is a document, the members of a reply, or those of a refusal."""
-    if response.status == 200 and len(content) <= MOST_ANSWER:
-        if response.headers.get_content_type() == "text/plain":
-            return Answer(content.decode(errors="replace"), {}, False)
+    if len(content) > MOST_ANSWER:
+        raise NoAnswer("foreign")
+    is_document = response.headers.get_content_type() == "text/plain"
     try:
         text = content.decode()
-        members = json.loads(text)
+        members = {} if is_document else json.loads(text)
     except (ValueError, RecursionError):
         raise NoAnswer("foreign") from None
-    if not isinstance(members, dict) or not is_said_by_an_office(response.status, members):
-        raise NoAnswer("foreign")
-    return Answer(text, members, response.status != 200)
+    if response.status == 200 and is_document:
+        return Answer(text, {}, False)
+    if response.status == 200 and is_reply(members):
+        return Answer("", members, False)
+    if response.status != 200 and is_refusal(members):
+        return Answer("", members, True)
+    raise NoAnswer("foreign")
 
 
-def is_said_by_an_office(status: int, members: dict[str, Any]) -> bool:
-    if status == 200:
-        return "rule" not in members and all(type(it) in (int, bool) for it in members.values())
-    kinds = {key: type(value) for key, value in members.items()}
-    return kinds == {"rule": int, "name": str, "detail": str}
+def is_reply(members: Any) -> bool:
+    return isinstance(members, dict) and bool(members) and all(type(it) in (int, bool) for it in members.values())
+
+
+def is_refusal(members: Any) -> bool:
+    if not isinstance(members, dict):
+        return False
+    return {key: type(value) for key, value in members.items()} == {"rule": int, "name": str, "detail": str}

@@ -1,13 +1,15 @@
 """The desk's HTTP server on 127.0.0.1: judges each request's head, and hands it to the routes."""
 
+import contextlib
 import http
 import http.server
 import re
 import socket
 import sys
 import threading
+import time
 import traceback
-from typing import Any
+from typing import Any, Callable
 
 from .assets import Asset
 from .faults import Fault
@@ -18,8 +20,15 @@ HOST = "127.0.0.1"
 # In seconds, for each read and write of a connection.
 SOCKET_SECONDS = 20
 MOST_CONNECTIONS = 32
+# What a peer may still send behind a refusal, so that it gets to read it: bytes, and seconds.
+MOST_DROPPED = 16 * 1_048_576
+DROP_SECONDS = 2
 LENGTH = re.compile(r"[0-9]{1,10}")
 METHODS = "GET, POST"
+
+
+def refusal(fault: Fault) -> Response:
+    return json_response({"fault": fault.code, "carried": fault.carried}, fault.http_status)
 
 
 class Handler(http.server.BaseHTTPRequestHandler):
@@ -37,9 +46,19 @@ class Handler(http.server.BaseHTTPRequestHandler):
         """What the library itself refuses: a head that isn't one, or another method."""
         self.close_connection = True
         if code == http.HTTPStatus.NOT_IMPLEMENTED:
-            self.send(json_response({"fault": "method", "carried": {}}, 405), {"Allow": METHODS})
+            self.send(refusal(Fault("method", 405)), {"Allow": METHODS})
         else:
-            self.send(json_response({"fault": "head", "carried": {}}, int(code)))
+            self.send(refusal(Fault("head", int(code))))
+
+    def handle(self) -> None:
+        """Of a connection of another user nothing is read."""
+        try:
+            check_user(self.client_address, self.connection.getsockname())
+        except Fault as fault:
+            self.command, self.request_version, self.requestline = "", self.protocol_version, ""
+            self.send(refusal(fault))
+        else:
+            super().handle()
 
     def do_GET(self) -> None:
         self.answer(self.answer_get)
@@ -47,20 +66,19 @@ class Handler(http.server.BaseHTTPRequestHandler):
     def do_POST(self) -> None:
         self.answer(self.answer_post)
 
-    def answer(self, find: Any) -> None:
+    def answer(self, find: Callable[[], Response]) -> None:
         # One request a connection: what was left unread of one is never taken for the next one.
         self.close_connection = True
         try:
-            check_user(self.client_address, self.connection.getsockname())
             check_source(self.headers, self.server.server_port, self.command == "POST")
             response = find()
         except Fault as fault:
-            response = json_response({"fault": fault.code, "carried": fault.carried}, fault.http_status)
+            response = refusal(fault)
         except OSError:
             return
         except Exception:
             traceback.print_exc(file=sys.stderr)
-            response = json_response({"fault": "internal", "carried": {}}, 500)
+            response = refusal(Fault("internal", 500))
         self.send(response)
 
     def answer_get(self) -> Response:
@@ -106,6 +124,18 @@ class Handler(http.server.BaseHTTPRequestHandler):
         self.end_headers()
         if self.command != "HEAD":
             self.wfile.write(response.content)
+        if response.status >= 400:
+            self.drop_rest()
+
+    def drop_rest(self) -> None:
+        """Reads on for a moment: a connection that ends with bytes unread is reset, and its peer may lose the answer."""
+        until = time.monotonic() + DROP_SECONDS
+        left = MOST_DROPPED
+        with contextlib.suppress(OSError):
+            self.connection.shutdown(socket.SHUT_WR)
+            self.connection.settimeout(DROP_SECONDS)
+            while left > 0 and time.monotonic() < until and (part := self.connection.recv(65_536)):
+                left -= len(part)
 
 
 class Server(http.server.ThreadingHTTPServer):
