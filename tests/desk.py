@@ -221,8 +221,10 @@ class Fields(DeskUnderTest):
         for kind in ("register", "end", "rates", "assign", "release", "payouts", "reminders"):
             self.assertIn(kind, self.session["final"])
         self.faults(409, "unconfirmed", self.command("payouts", confirmed=False))
-        fields = {"employer": "1001", "name": "Bau", "start": "2024-01"}
-        self.faults(409, "unconfirmed", self.command("register", confirmed=False, **fields))
+        fields = {"employer": "1001", "name": "Bau", "start": "01/2024"}
+        carried = self.faults(409, "unconfirmed", self.command("register", confirmed=False, **fields))
+        # What is to be confirmed is what the desk has read.
+        self.assertEqual(carried, {"values": {"employer": 1001, "name": "Bau", "start": "2024-01"}})
         self.assertEqual(self.lines("numbers.jsonl"), [])
 
 

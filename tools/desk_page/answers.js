@@ -12,7 +12,7 @@ const MONTHS = ["month", "start", "last", "from"];
 const RATES = ["contribution", "entitlement", "interest"];
 
 /** The values of a command or a reply, written for the clerk. */
-function written(kind, values) {
+export function written(kind, values) {
   const told = { ...values };
   for (const [name, value] of Object.entries(values)) {
     if (AMOUNTS.includes(name)) {
@@ -73,7 +73,7 @@ export function replyText(entry) {
 }
 
 /** The lines that tell a refusal: number and name, what it means, what it carries, what to do. */
-export function refusalLines(refusal) {
+function refusalLines(refusal) {
   const { rule, name, detail } = refusal;
   const carried = detailText(rule, detail);
   const act = rule === 18 && hasWords(`limit.${detail}.do`) ? say(`limit.${detail}.do`) : say(`refusal.${rule}.do`);
@@ -85,15 +85,20 @@ export function refusalLines(refusal) {
   ];
 }
 
-export function faultText(told) {
+function faultText(told) {
   const code = told.fault === "no-answer" ? `no-answer.${told.carried.reason}` : told.fault;
   return say(`fault.${code}`, told.carried ?? {});
 }
 
-/** Tells why a view can't be shown: the desk's fault, or the office's refusal. */
-export function tellFault(told) {
+/** What is told where nothing was done: the office's refusal, or the desk's own fault. */
+export function toldLines(told) {
   const lines = told.refusal ? refusalLines(told.refusal) : [make("p", { class: "strong" }, faultText(told))];
-  byId("fault").replaceChildren(...lines.filter(Boolean));
+  return lines.filter(Boolean);
+}
+
+/** Tells why a view can't be shown. */
+export function tellFault(told) {
+  byId("fault").replaceChildren(...toldLines(told));
   byId("fault").hidden = false;
 }
 
@@ -117,8 +122,7 @@ function showAnswer(kind, lines) {
 /** Tells what became of a command, and takes the focus there. Whether it was done. */
 export function tellAnswer(told, further = []) {
   if (!told.entry) {
-    const lines = told.refusal ? refusalLines(told.refusal) : [make("p", { class: "strong" }, faultText(told))];
-    showAnswer("bad", lines);
+    showAnswer("bad", toldLines(told));
     return false;
   }
   const { entry } = told;

@@ -43,7 +43,7 @@ function post(path, form, body, fields) {
   return ask(path, { method: "POST", headers, body });
 }
 
-/** Sends a form of these fields to the desk. */
+/** Sends a form of these fields to the desk; confirmed where the clerk has given the second click. */
 export function sendForm(path, form, fields, isConfirmed = false) {
   const headers = { "Content-Type": "application/json", "Desk-Confirmed": isConfirmed ? "yes" : "no" };
   return post(path, form, JSON.stringify(fields), headers);

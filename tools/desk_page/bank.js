@@ -48,7 +48,7 @@ function clear() {
 async function importFile(done) {
   const file = chosen;
   clearAnswer();
-  const facts = [["label.file", file.name], ["column.what", byId("bank-check-text")?.textContent ?? say("dash")]];
+  const facts = [["label.file", file.name], ["label.check", byId("bank-check-text")?.textContent.trim() ?? say("dash")]];
   if (!await confirmed("bank", facts)) {
     return;
   }

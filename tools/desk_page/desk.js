@@ -8,7 +8,7 @@ import { beginFinder, beginForm } from "./forms.js";
 import { showLog } from "./log.js";
 import { beginMorning, openMorning } from "./morning.js";
 import { beginWorker, showWorker } from "./worker.js";
-import { beginWords } from "./words.js";
+import { beginWords, say } from "./words.js";
 
 const VIEWS = {
   morning: openMorning, firm: showFirm, worker: showWorker, new: () => {}, log: showLog,
@@ -37,6 +37,7 @@ async function show() {
   byId("loading").hidden = false;
   await VIEWS[view](number);
   byId("loading").hidden = true;
+  document.title = `${byId(`view-${view}`).querySelector("h1").textContent} · ${say("title")}`;
   document.body.dataset.shown = `${view}${number ? `/${number}` : ""}`;
 }
 

@@ -1,7 +1,7 @@
 // The forms of commands: a second click where nothing can be taken back, faults beside their fields, and the answer.
 
-import { clearAnswer, confirmed, refusalLines, tellAnswer } from "./answers.js";
-import { fieldsOf, get, sendForm, theSession } from "./api.js";
+import { clearAnswer, confirmed, tellAnswer, toldLines, written } from "./answers.js";
+import { fieldsOf, get, sendForm } from "./api.js";
 import { byId, make } from "./elements.js";
 import { say } from "./words.js";
 
@@ -27,80 +27,82 @@ export function tellField(form, told) {
   const id = `${field.id}-fault`;
   field.setAttribute("aria-invalid", "true");
   field.setAttribute("aria-errormessage", id);
-  field.parentElement.append(make("span", { id, class: "field-fault", role: "alert" }, say(`field.${told.carried.reason}`)));
+  field.parentElement.append(make("span", { id, class: "field-fault", role: "alert" }, `✕ ${say(`field.${told.carried.reason}`)}`));
   field.focus();
   return true;
 }
 
-/** The facts of a form for the second click: its labels, and what was typed. */
-function factsOf(form) {
-  const facts = [];
-  for (const field of form.elements) {
-    if (field.name && field.value && field.type !== "file") {
-      facts.push([`label.${field.name}`, field.value]);
-    }
-  }
-  return facts;
-}
-
-/** The number and the name of the firm that a form names; null where it isn't there, which is told in `tell`. */
-async function firmFacts(form, fields, tell) {
-  if (!/^\s*[1-9][0-9]{0,7}\s*$/.test(fields.employer ?? "")) {
-    tell({ fault: "field", carried: { field: "employer", reason: "employer" } });
-    return null;
-  }
-  const told = await get(`/api/firms/${fields.employer.trim()}`);
+/** The number and the name of a firm; null where it isn't there, which is told. */
+async function firmFact(employer, tell) {
+  const told = await get(`/api/firms/${employer}`);
   if (!told.statement) {
     tell(told);
     return null;
   }
-  return [["label.firm", `${told.statement.employer} ${told.statement.name}`], ...factsOf(form).filter(([word]) => word !== "label.employer")];
+  return ["label.firm", `${employer} ${told.statement.name}`];
 }
 
-function teller(form) {
-  const inDialog = form.closest("dialog");
-  return (told) => {
-    if (tellField(form, told)) {
-      return;
-    }
-    if (!inDialog) {
-      tellAnswer(told);
-      return;
-    }
-    // An open dialog hides the page, so it is told there.
-    const lines = told.refusal ? refusalLines(told.refusal) : [make("p", {}, say(`fault.${told.fault}`, told.carried))];
-    form.append(make("div", { class: "field-fault", role: "alert" }, ...lines.filter(Boolean)));
-  };
+/** The values of a command as the desk has read them, with the name of a firm that should be there; or null. */
+async function factsOf(kind, values, tell) {
+  const facts = Object.entries(written(kind, values)).map(([name, value]) => [`label.${name}`, String(value)]);
+  if (!OF_A_FIRM.includes(kind)) {
+    return facts;
+  }
+  const firm = await firmFact(values.employer, tell);
+  return firm && [firm, ...facts.filter(([word]) => word !== "label.employer")];
 }
 
-/** Sends a form, behind a second click where it is for good. What became of it; null where nothing was sent. */
-export async function submit(form, further = () => []) {
-  const kind = form.dataset.form;
-  const tell = teller(form);
-  const fields = fieldsOf(form);
-  clearFields(form);
+/** Sends a command. Where it is for good, the desk first says what it has read, and wants a second click. What became of
+ * it; null where nothing was sent, and `tell` has told why. */
+export async function sendCommand(kind, fields, tell) {
+  const path = `/api/commands/${kind}`;
   clearAnswer();
-  const isFinal = theSession().final.includes(kind);
-  if (isFinal) {
-    const facts = OF_A_FIRM.includes(kind) ? await firmFacts(form, fields, tell) : factsOf(form);
+  let told = await sendForm(path, kind, fields);
+  if (told.fault === "unconfirmed") {
+    const facts = await factsOf(kind, told.carried.values, tell);
     if (facts === null || !await confirmed(kind, facts)) {
       return null;
     }
+    told = await sendForm(path, kind, fields, true);
   }
-  const told = await sendForm(`/api/commands/${kind}`, kind, fields, isFinal);
   if (!told.entry) {
     tell(told);
     return null;
   }
-  form.closest("dialog")?.close();
-  if (tellAnswer(told, further(told))) {
-    form.reset();
+  return told;
+}
+
+/** Tells of a form what isn't told beside its fields. */
+function teller(form) {
+  const dialog = form.closest("dialog");
+  return (told) => {
+    if (tellField(form, told)) {
+      return;
+    }
+    if (dialog) {
+      // An open dialog hides the page, so it is told there.
+      form.append(make("div", { class: "field-fault", role: "alert" }, ...toldLines(told)));
+    } else {
+      tellAnswer(told);
+    }
+  };
+}
+
+/** Sends a form. What became of it; null where nothing was sent. */
+export async function submit(form) {
+  clearFields(form);
+  const told = await sendCommand(form.dataset.form, fieldsOf(form), teller(form));
+  if (told) {
+    form.closest("dialog")?.close();
+    if (tellAnswer(told)) {
+      form.reset();
+    }
   }
   return told;
 }
 
 /** Has a form send itself, one at a time, and calls this with what became of it. */
-export function beginForm(id, done, further) {
+export function beginForm(id, done) {
   const form = byId(id);
   form.addEventListener("submit", async (event) => {
     event.preventDefault();
@@ -108,7 +110,7 @@ export function beginForm(id, done, further) {
       return;
     }
     form.dataset.isBusy = "yes";
-    const told = await submit(form, further);
+    const told = await submit(form);
     delete form.dataset.isBusy;
     if (told) {
       done(told);

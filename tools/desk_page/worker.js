@@ -1,24 +1,21 @@
 // A worker: what was earned with each firm, the claims, the balance; open claims are released or withdrawn from here.
 
-import { clearAnswer, confirmed, tellAnswer, tellFault } from "./answers.js";
-import { get, sendForm } from "./api.js";
+import { tellAnswer, tellFault } from "./answers.js";
+import { get } from "./api.js";
 import { button, byId, make, pairs, row, table } from "./elements.js";
-import { beginFinder } from "./forms.js";
+import { beginFinder, sendCommand } from "./forms.js";
 import { day, euros, month } from "./formats.js";
 import { currentLanguage, say } from "./words.js";
 
 let shown = null;
 
 async function act(kind, claim) {
-  clearAnswer();
   const fields = { language: currentLanguage(), claim: String(claim.claim), employer: String(claim.employer) };
-  const facts = [["label.claim", fields.claim], ["column.firm", fields.employer], ["column.worker", shown],
-    ["column.amount", euros(claim.cents)]];
-  if (kind === "release" && !await confirmed(kind, facts)) {
-    return;
+  const told = await sendCommand(kind, fields, tellAnswer);
+  if (told) {
+    tellAnswer(told);
+    await showWorker(shown);
   }
-  tellAnswer(await sendForm(`/api/commands/${kind}`, kind, fields, kind === "release"));
-  await showWorker(shown);
 }
 
 function claimRow(claim) {

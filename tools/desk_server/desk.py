@@ -72,13 +72,18 @@ class Desk:
     def perform(self, command: Command, is_confirmed: bool) -> dict[str, Any]:
         """Sends a command under a new number, and tells what became of it."""
         if command.kind in FINAL and not is_confirmed:
-            raise Fault("unconfirmed", 409)
+            raise Fault("unconfirmed", 409, values=self.facts(command))
         with self.turn():
             if self.failure is not None:
                 raise Fault("stopped", 409)
             if self.journal.pending is not None:
                 raise Fault("pending", 409)
             return self.send(self.journal.take(command), is_repeat=False)
+
+    def facts(self, command: Command) -> dict[str, Any]:
+        """What the page tells before the second click: the values as they were read, and what is known of a claim."""
+        known = self.journal.history.claims.get(command.values.get("claim", 0), {})
+        return {**command.values, **{name: known[name] for name in ("employer", "worker", "cents") if name in known}}
 
     def send_again(self, number: int) -> dict[str, Any]:
         """Sends the request that has no answer again, with the same bytes under the same number."""
