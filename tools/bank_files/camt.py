@@ -232,7 +232,7 @@ def read_money(node: Node, path: str) -> Money:
         raise node.fault(f"{path} is missing")
     text, currency = found.own_text(), found.element.get("Ccy", "")
     if not AMOUNT.fullmatch(text) or not CURRENCY.fullmatch(currency):
-        raise node.fault(f"{shown(text)} {shown(currency)} is no amount with a currency")
+        raise node.fault(f"{shown(f'{text} {currency}')} is no amount with a currency")
     return Money(Decimal(text), currency)
 
 

@@ -95,7 +95,7 @@ class Payment:
 
     @property
     def text(self) -> str:
-        return " ".join(it.text for it in self.transactions)
+        return " ".join(filter(None, (it.text for it in self.transactions)))
 
 
 def reason_to_leave_out(entry: Entry) -> Reason | None:

@@ -12,16 +12,14 @@ MOST_DEEP = 50
 MOST_ELEMENTS = 2_000_000
 NOT_INSTALLED = """this needs Python's defusedxml, which isn't installed for /usr/bin/python3; on Debian:
     apt-get install python3-defusedxml"""
+# The marks in front of a text in UTF-16 or UTF-8.
+MARKS = (b"\xff\xfe", b"\xfe\xff", b"\xef\xbb\xbf")
 # How expat says that a text stops before its end.
 CUT_OFF = {
     errors.codes[error]
     for error in (errors.XML_ERROR_NO_ELEMENTS, errors.XML_ERROR_UNCLOSED_TOKEN,
                   errors.XML_ERROR_PARTIAL_CHAR, errors.XML_ERROR_UNCLOSED_CDATA_SECTION)
 }
-
-
-# The marks in front of a text in UTF-16 or UTF-8.
-MARKS = (b"\xff\xfe", b"\xfe\xff", b"\xef\xbb\xbf")
 
 
 class LimitedBuilder(TreeBuilder):
