@@ -306,7 +306,6 @@ class Lost(DeskUnderTest):
 
     def test_a_crash_between_the_number_and_the_office(self):
         office = free_port()
-        self.init()
         self.open_desk(office)
         asked = threading.Thread(target=self.try_to_register, daemon=True)
         asked.start()

@@ -200,6 +200,16 @@ class Readers(unittest.TestCase):
         self.assertEqual([(it["reference"], it["employer"], it["cents"], it["note"]) for it in lines],
                          [("B9", None, "5000", " two  blanks"), ("B10", "1099", "700", "")])
 
+    def test_many_lines_in_suspense_come_in_parts(self):
+        lines = "".join(f"line B{it} 2024-03-01 C -           0.01\n" for it in range(450))
+        text = f"suspense 2024-04-30\n{lines}lines 450\ntotal           4.50\n"
+        for first, references in ((0, (0, 199)), (200, (200, 399)), (400, (400, 449))):
+            read = documents.read_suspense(text, first)
+            found = [it["reference"] for it in read["lines"]]
+            self.assertEqual((found[0], found[-1]), tuple(f"B{it}" for it in references))
+            self.assertEqual((read["count"], read["total"], len(found)), (450, "450", references[1] - references[0] + 1))
+        self.assertEqual(documents.read_suspense(text, 450)["lines"], [])
+
     def test_workers_and_lists(self):
         text = "worker 7 2024-04-30\nearned 1001 2024-01         142.50\nclaim 1 employer 1001 open          10.00\nbalance         132.50\n"
         self.assertEqual(documents.read_worker(text)["claims"],

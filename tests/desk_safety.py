@@ -1,4 +1,4 @@
-"""Keeps the desk (tools/desk) from everybody but its own page, and looks into its folder of numbers and log.
+"""Keeps the desk (tools/desk) from everybody but its own page, and looks into its command line and its folder.
 
     python3 tests/desk_safety.py [PROGRAM]
 
@@ -9,6 +9,7 @@ import datetime
 import json
 import os
 import resource
+import signal
 import socket
 import subprocess
 import sys
@@ -19,6 +20,64 @@ sys.dont_write_bytecode = True
 from desk_under_test import (  # noqa: E402
     DESK, DONE, DeskUnderTest, FakeOffice, answer_bytes, free_port, read_message)
 from program_under_test import NOBODY, run_tests  # noqa: E402
+
+
+class CommandLine(DeskUnderTest):
+    """The words and files with which the desk is started."""
+
+    def run_desk(self, *words):
+        """Status, standard output and standard error of a desk that doesn't start."""
+        ran = subprocess.run([sys.executable, "-B", str(DESK), *words], cwd=self.folder, capture_output=True, timeout=30)
+        return ran.returncode, ran.stdout.decode(), ran.stderr.decode()
+
+    def refuses_to_start(self, told, *words, status=2):
+        code, output, errors = self.run_desk(*words)
+        self.assertEqual((code, output), (status, ""), words)
+        self.assertIn(told, errors)
+        self.assertFalse(self.log_folder.exists())
+
+    def test_help(self):
+        code, output, errors = self.run_desk("--help")
+        self.assertEqual((code, errors), (0, ""))
+        for word in ("--office", "--key-file", "--port", "--log", "--clearing", "--rates", "--desk", "--first-number"):
+            self.assertIn(word, output)
+
+    def test_wrong_words(self):
+        good = ["--office", "8080", "--key-file", "desk.key", "--port", "0"]
+        for words in (good[2:], good[:2] + good[4:], good[:4], ["--office", "65536", *good[2:]], [*good, "--desk", "0"],
+                      [*good, "--desk", "100"], [*good, "--first-number", "01"], [*good, "--first-number", "1" * 19],
+                      [*good, "more"]):
+            self.refuses_to_start("usage: desk ", *words)
+
+    def test_wrong_files(self):
+        good = ["--office", "8080", "--port", "0", "--key-file"]
+        self.refuses_to_start("No such file or directory: 'no.key'\n", *good, "no.key")
+        self.refuses_to_start("rates.toml: not one key\n", *good, "rates.toml")
+        for content in ("", "two keys\n", "k" * 65, "k\u00e4"):
+            self.write("wrong.key", content)
+            self.refuses_to_start("wrong.key: not one key\n", *good, "wrong.key")
+        row = "[[rate]]\nfrom = \"2024-01\"\ncontribution = 2000\nreport_day = 15\ndue_day = 20\ninterest = 100\n"
+        for content, told in (
+                ("rate = 1\n", "no rate file"), ("", "no rate file"), ("[[rate]\n", "no TOML"), (b"\xff", "no TOML"),
+                (row, "block 1: other members"), (row + "entitlement = 10001\n", "block 1: entitlement isn't from 0 to 10000"),
+                (row + "entitlement = 1.0\n", "block 1: entitlement isn't"), (row + "entitlement = true\n", "block 1: entitlement"),
+                ((row + "entitlement = 1\n") * 2, "block 2: from isn't after that of the row before"),
+                (row.replace("2024-01", "2024-13") + "entitlement = 1\n", "block 1: from is no month")):
+            self.write("wrong.toml", content)
+            self.refuses_to_start(f"wrong.toml: {told}", *good, "desk.key", "--rates", "wrong.toml")
+
+    def test_a_port_that_is_taken(self):
+        with socket.create_server(("127.0.0.1", 0)) as taken:
+            port = str(taken.getsockname()[1])
+            words = ["--office", "8080", "--key-file", "desk.key", "--port", port]
+            self.refuses_to_start(f"port {port}: Address already in use\n", *words, status=3)
+
+    def test_stops(self):
+        for stop in (signal.SIGINT, signal.SIGTERM):
+            self.open_desk(free_port())
+            self.desk.send_signal(stop)
+            self.assertEqual(self.desk.wait(30), 0)
+            self.assertEqual(self.desk.stderr.read(), "")
 
 
 class Safety(DeskUnderTest):
@@ -131,16 +190,18 @@ class Safety(DeskUnderTest):
 
     @unittest.skipUnless(NOBODY, "only root can be another user")
     def test_another_user_of_the_machine(self):
-        os.seteuid(NOBODY)
-        try:
-            peer = socket.create_connection(("127.0.0.1", self.port), timeout=30)
-        finally:
-            os.seteuid(0)
-        with peer:
-            # It is told before anything is sent.
-            answer = read_message(peer)
-        self.assertTrue(answer.startswith(b"HTTP/1.1 403 "), answer)
-        self.assertTrue(answer.endswith(b'\r\n\r\n{"fault": "user", "carried": {}}'), answer)
+        requests = [b"GET /api/session", b"GET /api/suspense/0", b"GET /documents/suspense.txt", b"POST /api/commands/payouts"]
+        for request in requests:
+            os.seteuid(NOBODY)
+            try:
+                peer = socket.create_connection(("127.0.0.1", self.port), timeout=30)
+            finally:
+                os.seteuid(0)
+            with peer:
+                peer.sendall(request + f" HTTP/1.1\r\nHost: 127.0.0.1:{self.port}\r\nOrigin: {self.own}\r\n\r\n".encode())
+                answer = read_message(peer)
+            self.assertTrue(answer.startswith(b"HTTP/1.1 403 "), answer)
+            self.assertTrue(answer.endswith(b'\r\n\r\n{"fault": "user", "carried": {}}'), answer)
 
 
 class Numbers(DeskUnderTest):

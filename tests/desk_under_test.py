@@ -75,6 +75,8 @@ class DeskUnderTest(ProgramUnderTest):
     """A folder with a store, the key of a clerk, and the office and the desk when they are opened."""
 
     maxDiff = None
+    # The files of a new store, which is made once.
+    new_store = {}
 
     def setUp(self):
         super().setUp()
@@ -85,10 +87,17 @@ class DeskUnderTest(ProgramUnderTest):
     def open_office(self, day=DAY, port=None):
         """The office, which takes connections by now. Its port."""
         if not (self.folder / "fund.db").exists():
-            self.init()
+            self.make_store()
         self.server = self.serving(100_000, day, port=port)
         self.connect(self.server).close()
         return self.server.port
+
+    def make_store(self):
+        if not self.new_store:
+            self.init()
+            self.new_store.update((path.name, path.read_bytes()) for path in self.folder.glob("fund.db*"))
+        for name, content in self.new_store.items():
+            self.write(name, content)
 
     def close_office(self):
         self.server.kill()

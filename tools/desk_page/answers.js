@@ -72,16 +72,23 @@ export function replyText(entry) {
   return hasWords(key) ? say(key, written(entry.kind, entry.reply)) : say("reply.done");
 }
 
+/** What the clerk does about a refusal. Where the manual says to look further, that is what stands here. */
+function actText(rule, detail) {
+  if (rule === 18 && hasWords(`limit.${detail}.do`)) {
+    return say(`limit.${detail}.do`);
+  }
+  return rule === 41 || rule === 42 ? say("stopped.text") : say(`refusal.${rule}.do`);
+}
+
 /** The lines that tell a refusal: number and name, what it means, what it carries, what to do. */
 function refusalLines(refusal) {
   const { rule, name, detail } = refusal;
   const carried = detailText(rule, detail);
-  const act = rule === 18 && hasWords(`limit.${detail}.do`) ? say(`limit.${detail}.do`) : say(`refusal.${rule}.do`);
   return [
     make("h2", {}, say("answer.rule", { rule, name })),
     make("p", { class: "means" }, say(`refusal.${rule}.means`)),
     carried ? make("p", { class: "detail strong" }, carried) : null,
-    make("p", { class: "do" }, make("strong", {}, say("answer.do")), " ", act),
+    make("p", { class: "do" }, make("strong", {}, say("answer.do")), " ", actText(rule, detail)),
   ];
 }
 
@@ -96,8 +103,11 @@ export function toldLines(told) {
   return lines.filter(Boolean);
 }
 
-/** Tells why a view can't be shown. */
+/** Tells why a view can't be shown. What stops the forms is told on top. */
 export function tellFault(told) {
+  if (told.state?.failure) {
+    return;
+  }
   byId("fault").replaceChildren(...toldLines(told));
   byId("fault").hidden = false;
 }

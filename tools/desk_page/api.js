@@ -2,6 +2,9 @@
 
 import { currentLanguage } from "./words.js";
 
+// Of a file: the office takes no more at once.
+export const MOST_BYTES = 1_048_576;
+
 let session = null;
 let heard = () => {};
 

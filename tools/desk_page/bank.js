@@ -1,7 +1,7 @@
 // The bank's file: dropped or chosen, judged by the office's own program first, then imported.
 
 import { clearAnswer, confirmed, tellAnswer } from "./answers.js";
-import { get, sendFile } from "./api.js";
+import { MOST_BYTES, get, sendFile } from "./api.js";
 import { beginDrop, byId, make } from "./elements.js";
 import { euros } from "./formats.js";
 import { say } from "./words.js";
@@ -30,6 +30,10 @@ async function choose(file) {
   byId("bank-import").disabled = true;
   byId("bank-name").hidden = false;
   byId("bank-name").textContent = say("bank.file", { name: file.name, bytes: file.size });
+  if (file.size > MOST_BYTES) {
+    showCheck({ fault: "file-too-large", carried: {} });
+    return;
+  }
   byId("bank-check").replaceChildren(make("p", { class: "quiet" }, say("bank.checking")));
   const told = await sendFile("/api/check/bank", "check-bank", file);
   if (chosen === file) {

@@ -54,6 +54,7 @@ function begin() {
     state = told;
     showState(told);
   });
+  showState(state ?? {});
   beginMorning();
   beginFirm();
   beginWorker();
@@ -81,13 +82,15 @@ function begin() {
   });
 }
 
-await beginWords(() => {
+onState((told) => {
+  state = told;
+});
+const [session] = await Promise.all([beginSession(), beginWords(() => {
   showState(state ?? {});
   clearAnswer();
   show();
-});
+})]);
 begin();
-const session = await beginSession();
 if (session.fault) {
   tellFault(session);
 } else {

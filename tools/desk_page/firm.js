@@ -21,7 +21,7 @@ export function showRecent(recent) {
     make("li", {}, make("a", { href: `#/firm/${it.employer}` }, `${it.employer} ${it.name}`))));
 }
 
-/** A bar as long as the month's contribution: what is paid is full, what is open is hatched. */
+/** A bar as long as the month's contribution: what is paid is full, what is open is an outline. */
 function bar(charge, most) {
   // Only a length in the picture: the amounts stand beside it.
   const scale = BAR_WIDTH / Math.max(Number(most), 1);

@@ -1,7 +1,7 @@
 // The log of what was done, refused and repeated at this desk, the last entry first.
 
 import { outcomeText, replyText, subject, tellFault } from "./answers.js";
-import { get } from "./api.js";
+import { get, theSession } from "./api.js";
 import { byId, make, row, table } from "./elements.js";
 import { time } from "./formats.js";
 import { say } from "./words.js";
@@ -17,6 +17,7 @@ export async function showLog() {
     tellFault(told);
     return;
   }
+  byId("log-folder").textContent = say("log.folder", theSession());
   const rows = told.log.toReversed().map((entry) => ({
     ...row(time(entry.time), String(entry.number), outcomeText(entry), subject(entry), replyText(entry)),
     attributes: { "data-number": String(entry.number), "data-outcome": entry.outcome },

@@ -1,7 +1,7 @@
 // A report of a month, or its correction: lines from a CSV file, what they come to, and what is to be expected.
 
 import { clearAnswer, tellAnswer } from "./answers.js";
-import { fieldsOf, sendForm } from "./api.js";
+import { MOST_BYTES, fieldsOf, sendForm } from "./api.js";
 import { beginDrop, byId, make, row, table } from "./elements.js";
 import { clearFields, tellField } from "./forms.js";
 import { euros, month, percent } from "./formats.js";
@@ -111,6 +111,11 @@ async function send(done) {
 }
 
 async function read(file) {
+  forget();
+  if (file.size > MOST_BYTES) {
+    tellAnswer({ fault: "file-too-large", carried: {} });
+    return;
+  }
   byId("report-csv").value = await file.text();
   check();
 }

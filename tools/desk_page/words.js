@@ -5,9 +5,26 @@ const KEPT = "desk-language";
 let words = {};
 let language = "en";
 
+/** What was chosen at an earlier visit; a browser may keep nothing. */
+function keptLanguage() {
+  try {
+    return localStorage.getItem(KEPT);
+  } catch {
+    return null;
+  }
+}
+
+function keepLanguage(wanted) {
+  try {
+    localStorage.setItem(KEPT, wanted);
+  } catch {
+    // The choice holds for this visit.
+  }
+}
+
 function wantedLanguage() {
   const asked = new URLSearchParams(location.search).get("lang");
-  const kept = localStorage.getItem(KEPT);
+  const kept = keptLanguage();
   const own = navigator.language.slice(0, 2);
   return [asked, kept, own].find((it) => LANGUAGES.includes(it)) ?? "en";
 }
@@ -48,7 +65,7 @@ export async function beginWords(changed) {
   sayAll();
   for (const it of LANGUAGES) {
     document.getElementById(`language-${it}`).addEventListener("click", async () => {
-      localStorage.setItem(KEPT, it);
+      keepLanguage(it);
       await load(it);
       sayAll();
       changed();

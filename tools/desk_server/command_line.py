@@ -80,10 +80,7 @@ def make_server(words: argparse.Namespace) -> Server:
         raise StartFault(f"port {words.port}: {why.strerror}", Status.NO_PORT) from None
     folder = words.log or words.key_file.resolve().parent / "desk-log"
     journal = Journal(folder, words.desk, words.first_number)
-    settings = {
-        "office": words.office, "desk": words.desk, "folder": str(folder), "checks": program is not None,
-        "rates_known": rates is not None,
-    }
+    settings = {"office": words.office, "desk": words.desk, "folder": str(folder.resolve())}
     if journal.pending is not None:
         told = journal.pending
         print(f"request {told.number} ({told.command.words}) has no answer yet: the page offers it", file=sys.stderr)

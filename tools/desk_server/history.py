@@ -55,4 +55,4 @@ class History:
         return self.documents[kind].get(document, number) != number
 
     def claims_of(self, employer: int) -> list[dict[str, Any]]:
-        return [claim for claim in self.claims.values() if claim["employer"] == employer]
+        return [claim for claim in list(self.claims.values()) if claim["employer"] == employer]

@@ -50,16 +50,6 @@ class Handler(http.server.BaseHTTPRequestHandler):
         else:
             self.send(refusal(Fault("head", int(code))))
 
-    def handle(self) -> None:
-        """Of a connection of another user nothing is read."""
-        try:
-            check_user(self.client_address, self.connection.getsockname())
-        except Fault as fault:
-            self.command, self.request_version, self.requestline = "", self.protocol_version, ""
-            self.send(refusal(fault))
-        else:
-            super().handle()
-
     def do_GET(self) -> None:
         self.answer(self.answer_get)
 
@@ -85,8 +75,10 @@ class Handler(http.server.BaseHTTPRequestHandler):
         path, mark, _ = self.path.partition("?")
         if mark and path != "/":
             raise Fault("path", 404)
-        asset = self.server.assets.get(path)
-        response = Response(200, asset.content, asset.kind) if asset else self.server.routes.get(path)
+        if asset := self.server.assets.get(path):
+            return Response(200, asset.content, asset.kind)
+        self.check_peer()
+        response = self.server.routes.get(path)
         if response is None:
             raise Fault("path", 404)
         return response
@@ -95,6 +87,7 @@ class Handler(http.server.BaseHTTPRequestHandler):
         form = self.server.routes.form_of(self.path)
         if form is None:
             raise Fault("path", 404)
+        self.check_peer()
         self.server.routes.tokens.check(form, one(self.headers, "Desk-Token"))
         request = Request(
             word=form, body=self.read_body(), kind=self.headers.get_content_type(),
@@ -102,6 +95,10 @@ class Handler(http.server.BaseHTTPRequestHandler):
             file_name=one(self.headers, "Desk-File") or "",
         )
         return self.server.routes.post(self.path, request)
+
+    def check_peer(self) -> None:
+        """Another user of this machine gets the files of the page, which are no secret, and nothing of the office."""
+        check_user(self.client_address, self.connection.getsockname())
 
     def read_body(self) -> bytes:
         if one(self.headers, "Transfer-Encoding") is not None:
