@@ -172,13 +172,13 @@ class BankFile:
             return self.leave_out(Reason.NOTHING, payment)
         reference = reference_of(payment, used)
         line = self.line_of(payment, reference)
-        if not (earlier := self.payments.get(reference)):
-            self.payments[reference] = payment
+        first = self.payments.setdefault(reference, payment)
+        if first is payment:
             self.lines.append(line)
-        elif is_same(payment, earlier):
+        elif is_same(payment, first):
             self.leave_out(Reason.REPEAT, payment)
         else:
-            raise Refusal(f"{payment.called} and {earlier.called} are different payments, and the bank gives "
+            raise Refusal(f"{payment.called} and {first.called} are different payments, and the bank gives "
                           f"both the reference {shown(payment.reference)}; ask the bank")
 
     def leave_out(self, reason: Reason, payment: Payment) -> None:
@@ -227,11 +227,12 @@ def reference_of(payment: Payment, used: Counter[str]) -> str:
     return made_reference("bank", own, str(used[own]))
 
 
-def is_same(payment: Payment, earlier: Payment) -> bool:
+def is_same(payment: Payment, other: Payment) -> bool:
     """Whether two statements tell of one payment."""
     def told(it: Payment) -> tuple:
-        return it.place[0], it.booked, it.value, it.money, it.transactions
-    return told(payment) == told(earlier)
+        account = it.place[0]
+        return account, it.booked, it.value, it.money, it.transactions
+    return told(payment) == told(other)
 
 
 def cents_of(payment: Payment) -> int:
