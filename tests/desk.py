@@ -210,7 +210,7 @@ class Fields(DeskUnderTest):
                 ("claim", {"employer": "1", "worker": "7", "amount": "1.23"}, "amount", "amount"),
                 ("claim", {"employer": "1", "worker": "7", "amount": "0,00"}, "amount", "amount-range"),
                 ("claim", {"employer": "1", "worker": "7", "amount": "1.000.000.000,01"}, "amount", "amount-range"),
-                ("rates", {"from": "2026-01", "contribution": "100,01"}, "contribution", "percentage")):
+                ("rates", {"from": "2026-01", "contribution": "100,01"}, "contribution", "contribution")):
             carried = self.faults(400, "field", self.command(kind, **fields))
             self.assertEqual(carried, {"field": field, "reason": reason}, fields)
         # A name of 60 bytes, most in umlauts.
@@ -218,10 +218,12 @@ class Fields(DeskUnderTest):
         self.assertEqual([it["number"] for it in self.lines("numbers.jsonl")], [1])
 
     def test_a_second_click(self):
+        fields = {"employer": "1001", "name": "Bau", "start": "01/2024", "last": "2024-01", "reference": "B1", "claim": "1",
+                  "from": "2024-01", "contribution": "1", "entitlement": "1", "interest": "1", "report_day": "1", "due_day": "1"}
         for kind in ("register", "end", "rates", "assign", "release", "payouts", "reminders"):
-            self.assertIn(kind, self.session["final"])
-        self.faults(409, "unconfirmed", self.command("payouts", confirmed=False))
-        fields = {"employer": "1001", "name": "Bau", "start": "01/2024"}
+            self.faults(409, "unconfirmed", self.command(kind, confirmed=False, **fields))
+        bank = self.post("/api/commands/bank", "bank", FIRST_BANK.encode(), confirmed=False)
+        self.faults(409, "unconfirmed", bank)
         carried = self.faults(409, "unconfirmed", self.command("register", confirmed=False, **fields))
         # What is to be confirmed is what the desk has read.
         self.assertEqual(carried, {"values": {"employer": 1001, "name": "Bau", "start": "2024-01"}})
@@ -411,6 +413,13 @@ class Offices(DeskUnderTest):
             self.assertEqual(self.register()[1]["entry"]["reply"]["reason"], "foreign")
             self.post("/api/pending/give-up", "give-up", {"number": self.lines("numbers.jsonl")[-1]["number"]})
             self.kill_desk()
+
+    def test_a_text_that_ends_early(self):
+        whole = answer_bytes(200, EMPTY_SUSPENSE, "text/plain; charset=utf-8")
+        office = FakeOffice(self, lambda request: whole[:-5])
+        self.open_desk(office.port)
+        for path in ("/api/suspense/0", "/documents/suspense.txt"):
+            self.assertEqual(self.faults(502, "no-answer", self.get(path))["reason"], "broken")
 
     def test_a_text_that_the_desk_does_not_understand(self):
         office = FakeOffice(self, lambda request: answer_bytes(200, b"something new\n", "text/plain; charset=utf-8"))

@@ -11,24 +11,20 @@ import os
 import resource
 import signal
 import socket
-import subprocess
 import sys
 import unittest
 
 # No __pycache__ is left beside the sources.
 sys.dont_write_bytecode = True
 from desk_under_test import (  # noqa: E402
-    DESK, DONE, DeskUnderTest, FakeOffice, answer_bytes, free_port, read_message)
+    DONE, DeskUnderTest, FakeOffice, answer_bytes, free_port, read_message)
 from program_under_test import NOBODY, run_tests  # noqa: E402
+
+WORDS = ["--office", "8080", "--key-file", "desk.key", "--port", "0"]
 
 
 class CommandLine(DeskUnderTest):
     """The words and files with which the desk is started."""
-
-    def run_desk(self, *words):
-        """Status, standard output and standard error of a desk that doesn't start."""
-        ran = subprocess.run([sys.executable, "-B", str(DESK), *words], cwd=self.folder, capture_output=True, timeout=30)
-        return ran.returncode, ran.stdout.decode(), ran.stderr.decode()
 
     def refuses_to_start(self, told, *words, status=2):
         code, output, errors = self.run_desk(*words)
@@ -43,10 +39,9 @@ class CommandLine(DeskUnderTest):
             self.assertIn(word, output)
 
     def test_wrong_words(self):
-        good = ["--office", "8080", "--key-file", "desk.key", "--port", "0"]
-        for words in (good[2:], good[:2] + good[4:], good[:4], ["--office", "65536", *good[2:]], [*good, "--desk", "0"],
-                      [*good, "--desk", "100"], [*good, "--first-number", "01"], [*good, "--first-number", "1" * 19],
-                      [*good, "more"]):
+        for words in (WORDS[2:], WORDS[:2] + WORDS[4:], WORDS[:4], ["--office", "65536", *WORDS[2:]],
+                      [*WORDS, "--desk", "0"], [*WORDS, "--desk", "100"], [*WORDS, "--first-number", "01"],
+                      [*WORDS, "--first-number", "1" * 19], [*WORDS, "more"]):
             self.refuses_to_start("usage: desk ", *words)
 
     def test_wrong_files(self):
@@ -69,8 +64,7 @@ class CommandLine(DeskUnderTest):
     def test_a_port_that_is_taken(self):
         with socket.create_server(("127.0.0.1", 0)) as taken:
             port = str(taken.getsockname()[1])
-            words = ["--office", "8080", "--key-file", "desk.key", "--port", port]
-            self.refuses_to_start(f"port {port}: Address already in use\n", *words, status=3)
+            self.refuses_to_start(f"port {port}: Address already in use\n", *WORDS[:-1], port, status=3)
 
     def test_stops(self):
         for stop in (signal.SIGINT, signal.SIGTERM):
@@ -238,10 +232,9 @@ class Numbers(DeskUnderTest):
 
     def test_two_desks_on_one_folder(self):
         self.open_desk(free_port())
-        words = [sys.executable, "-B", str(DESK), "--office", "8080", "--key-file", "desk.key", "--port", "0"]
-        ran = subprocess.run(words, cwd=self.folder, capture_output=True, timeout=30)
-        self.assertEqual((ran.returncode, ran.stdout), (2, b""))
-        self.assertIn(b"desk-log: another desk works with this folder\n", ran.stderr)
+        code, output, errors = self.run_desk(*WORDS)
+        self.assertEqual((code, output), (2, ""))
+        self.assertIn("desk-log: another desk works with this folder\n", errors)
 
     def test_a_full_disk_sends_nothing(self):
         office = FakeOffice(self, lambda request: answer_bytes(200, DONE))
@@ -259,15 +252,21 @@ class Numbers(DeskUnderTest):
         for path in (self.log_folder, *self.log_folder.iterdir()):
             self.assertEqual(path.stat().st_mode & 0o077, 0, path)
 
+    def test_a_folder_that_others_may_write(self):
+        self.log_folder.mkdir()
+        self.log_folder.chmod(0o770)
+        code, output, errors = self.run_desk(*WORDS)
+        self.assertEqual((code, output), (2, ""))
+        self.assertIn("desk-log: others may write this folder\n", errors)
+
     def test_files_that_are_not_the_desks(self):
         for name, content in (("numbers.jsonl", "{}\n"), ("numbers.jsonl", "1\n"), ("log.jsonl", "none\n"),
                               ("log.jsonl", '{"number": 1, "outcome": "done"}\n'), ("pending.json", "{}")):
             self.log_folder.mkdir(exist_ok=True)
             (self.log_folder / name).write_text(content)
-            words = [sys.executable, "-B", str(DESK), "--office", "8080", "--key-file", "desk.key", "--port", "0"]
-            ran = subprocess.run(words, cwd=self.folder, capture_output=True, timeout=30)
-            self.assertEqual((ran.returncode, ran.stdout), (2, b""), content)
-            self.assertIn(f"{name}: ".encode(), ran.stderr)
+            code, output, errors = self.run_desk(*WORDS)
+            self.assertEqual((code, output), (2, ""), content)
+            self.assertIn(f"{name}: ", errors)
             (self.log_folder / name).unlink()
 
 

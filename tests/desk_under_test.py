@@ -121,6 +121,11 @@ class DeskUnderTest(ProgramUnderTest):
         self.port = int(ready[1])
         return desk
 
+    def run_desk(self, *words):
+        """Status, standard output and standard error of a desk that doesn't start."""
+        ran = subprocess.run([sys.executable, "-B", str(DESK), *words], cwd=self.folder, capture_output=True, timeout=30)
+        return ran.returncode, ran.stdout.decode(), ran.stderr.decode()
+
     def kill_desk(self):
         self.desk.kill()
         self.desk.wait()

@@ -112,6 +112,11 @@ export function tellFault(told) {
   byId("fault").hidden = false;
 }
 
+/** Adds a note to the answer that stands there. */
+export function noteAnswer(text) {
+  byId("answer").append(make("p", { class: "note strong" }, text));
+}
+
 export function clearFault() {
   byId("fault").hidden = true;
 }
@@ -149,9 +154,18 @@ export function tellAnswer(told, further = []) {
   return isDone;
 }
 
+let stop = null;
+
+/** The fault that stops the forms now, or null. */
+export const whatStops = () => stop;
+
 /** Shows what stops the forms: failed records, or a request that has no answer yet. */
 export function showState(state) {
   const { failure, pending } = state;
+  stop = null;
+  if (failure || pending) {
+    stop = failure ? "stopped" : "pending";
+  }
   byId("stopped").hidden = !failure;
   if (failure) {
     byId("stopped-rule").textContent = say("answer.rule", failure);
@@ -162,8 +176,8 @@ export function showState(state) {
     byId("pending").dataset.number = String(pending.number);
   }
   for (const form of document.querySelectorAll("form[data-form], #form-bank, #form-report")) {
-    form.toggleAttribute("inert", Boolean(failure || pending));
-    form.classList.toggle("stopped", Boolean(failure || pending));
+    form.toggleAttribute("inert", stop !== null);
+    form.classList.toggle("stopped", stop !== null);
   }
   byId("pending-send-again").disabled = false;
 }

@@ -41,9 +41,14 @@ export async function beginSession() {
   return told;
 }
 
-function post(path, form, body, fields) {
+async function post(path, form, body, fields) {
   const headers = { "Desk-Token": session?.tokens[form] ?? "", ...fields };
-  return ask(path, { method: "POST", headers, body });
+  const told = await ask(path, { method: "POST", headers, body });
+  if (told.fault === "token") {
+    // The desk was started anew: the next try has its new tokens.
+    await beginSession();
+  }
+  return told;
 }
 
 /** Sends a form of these fields to the desk; confirmed where the clerk has given the second click. */

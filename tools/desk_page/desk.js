@@ -1,7 +1,7 @@
 // The page begins here: its words, its session with the desk, and the view that the address names.
 
 import { beginPending, clearAnswer, clearFault, showState, tellFault } from "./answers.js";
-import { beginSession, onState } from "./api.js";
+import { beginSession, onState, theSession } from "./api.js";
 import { byId } from "./elements.js";
 import { beginFirm, showFirm, showRecent } from "./firm.js";
 import { beginFinder, beginForm } from "./forms.js";
@@ -14,6 +14,8 @@ const VIEWS = {
   morning: openMorning, firm: showFirm, worker: showWorker, new: () => {}, log: showLog,
 };
 let state = null;
+// How often a view was shown: one that comes late isn't taken for the one that is shown now.
+let turns = 0;
 // Whether the answer of a command stays where that leads to another view.
 let keepsAnswer = false;
 
@@ -22,9 +24,19 @@ function place() {
   return view in VIEWS ? { view, number: number ?? null } : { view: "morning", number: null };
 }
 
+/** Whether there is a session with the desk; begins one where that failed before. */
+async function hasSession() {
+  const told = theSession() ?? await beginSession();
+  if (told.fault) {
+    tellFault(told);
+  }
+  return !told.fault;
+}
+
 /** Shows the view that the address names. */
 async function show() {
   const { view, number } = place();
+  const turn = ++turns;
   clearFault();
   for (const it of Object.keys(VIEWS)) {
     byId(`view-${it}`).hidden = it !== view;
@@ -35,7 +47,12 @@ async function show() {
     }
   }
   byId("loading").hidden = false;
-  await VIEWS[view](number);
+  if (await hasSession()) {
+    await VIEWS[view](number);
+  }
+  if (turn !== turns) {
+    return;
+  }
   byId("loading").hidden = true;
   document.title = `${byId(`view-${view}`).querySelector("h1").textContent} · ${say("title")}`;
   document.body.dataset.shown = `${view}${number ? `/${number}` : ""}`;
@@ -85,15 +102,11 @@ function begin() {
 onState((told) => {
   state = told;
 });
-const [session] = await Promise.all([beginSession(), beginWords(() => {
+await Promise.all([beginSession(), beginWords(() => {
   showState(state ?? {});
   clearAnswer();
   show();
 })]);
 begin();
-if (session.fault) {
-  tellFault(session);
-} else {
-  showRecent(session.recent);
-  await show();
-}
+showRecent(theSession()?.recent ?? []);
+await show();

@@ -193,12 +193,7 @@ function openForms(number) {
 }
 
 export function beginFirm() {
-  const again = () => {
-    for (const kind of ["claim", "withdraw", "end"]) {
-      byId(`${kind}-employer`).value = shown;
-    }
-    return showFirm(shown);
-  };
+  const again = () => showFirm(shown);
   beginForm("form-claim", again);
   beginForm("form-withdraw", again);
   beginForm("form-end", again);

@@ -1,6 +1,6 @@
 // The morning's work: lines in suspense, the bank's file, reminder runs and payout lists. One question to the office.
 
-import { clearFault, tellFault } from "./answers.js";
+import { clearFault, noteAnswer, tellAnswer, tellFault, whatStops } from "./answers.js";
 import { get } from "./api.js";
 import { beginBank } from "./bank.js";
 import { button, byId, make, pairs, row, table } from "./elements.js";
@@ -10,12 +10,18 @@ import { say } from "./words.js";
 
 const PAGE = 200;
 let first = 0;
+// The day on which the office works.
+let officeDay = null;
 
 function firmLink(employer) {
   return employer ? make("a", { href: `#/firm/${employer}` }, String(employer)) : say("dash");
 }
 
 function openAssign(line) {
+  if (whatStops()) {
+    tellAnswer({ fault: whatStops() });
+    return;
+  }
   clearFields(byId("form-assign"));
   byId("assign-reference").value = line.reference;
   byId("assign-employer").value = line.employer ?? "";
@@ -72,6 +78,7 @@ function showSuspense(told) {
     ? table("suspense-table", say("suspense.caption"), SUSPENSE_COLUMNS, suspense.lines.map(suspenseRow))
     : "";
   byId("suspense-lines").replaceChildren(lines, pager(suspense) ?? "");
+  officeDay = suspense.day;
   byId("morning-day").textContent = say("morning.day", { day: day(suspense.day) });
   byId("morning-other-day").textContent = say("morning.other-day", { today: day(today()) });
   byId("morning-other-day").hidden = suspense.day === today();
@@ -102,7 +109,7 @@ function remindersTable({ reminders }) {
     euros(it.interest))));
 }
 
-/** Shows a payout list or a reminder run: its table, and the office's text. */
+/** Shows a payout list or a reminder run: its table, and the office's text. Its day, where it is there. */
 async function showDocument(kind, number) {
   clearFault();
   const told = await get(`/api/${kind}/${number}`);
@@ -110,7 +117,7 @@ async function showDocument(kind, number) {
   if (told.text === undefined) {
     place.hidden = true;
     tellFault(told);
-    return;
+    return null;
   }
   const isUnderstood = Boolean(told.payout ?? told.reminders);
   const read = isUnderstood ? (told.payout ? payoutTable(told) : remindersTable(told)) : say("text.not-understood");
@@ -123,6 +130,16 @@ async function showDocument(kind, number) {
       button(say("close"), () => { place.hidden = true; }, { id: "document-close" })));
   place.hidden = false;
   place.focus();
+  return (told.payout ?? told.reminders)?.day ?? null;
+}
+
+/** Shows the list or run that was just made. One of an earlier day was made before, under the same number. */
+async function showMade(kind, { entry, known }) {
+  await showMorning();
+  const made = await showDocument(kind, entry.reply[kind === "payouts" ? "list" : "run"]);
+  if (entry.outcome === "done" && !known && made !== null && made !== officeDay) {
+    noteAnswer(say("document.known"));
+  }
 }
 
 export async function showMorning() {
@@ -145,13 +162,8 @@ export function beginMorning() {
   beginForm("form-assign", showMorning);
   beginForm("form-release", showMorning);
   byId("assign-cancel").addEventListener("click", () => byId("assign-dialog").close());
-  for (const [kind, member] of [["payouts", "list"], ["reminders", "run"]]) {
-    beginForm(`form-${kind}`, async (told) => {
-      await showMorning();
-      if (isDone(told)) {
-        await showDocument(kind, told.entry.reply[member]);
-      }
-    });
+  for (const kind of ["payouts", "reminders"]) {
+    beginForm(`form-${kind}`, (told) => (isDone(told) ? showMade(kind, told) : showMorning()));
     beginFinder(`find-${kind}`, (number) => showDocument(kind, number));
   }
 }

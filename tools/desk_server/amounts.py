@@ -53,7 +53,7 @@ def amount(field: str, text: str, language: str) -> int:
 def percentage(field: str, text: str, language: str, most: int) -> int:
     hundredths = read_hundredths(text, language)
     if hundredths is None or hundredths > most:
-        raise FieldFault(field, "percentage" if most == 10_000 else "interest")
+        raise FieldFault(field, field)
     return hundredths
 
 

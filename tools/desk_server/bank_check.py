@@ -1,6 +1,7 @@
 """Has the office's own program read a bank file before it is sent: `clearing check bank FILE`."""
 
 import os
+import shutil
 import signal
 import subprocess
 import tempfile
@@ -15,13 +16,15 @@ def check_bank(program: Path | None, content: bytes) -> dict[str, str]:
     given), `missing`, `slow` or `failed`."""
     if program is None:
         return {"state": "none", "text": ""}
-    with tempfile.TemporaryDirectory(prefix="desk-") as folder:
-        file = Path(folder, "bank.csv")
-        file.write_bytes(content)
-        try:
+    if shutil.which(program) is None:
+        return {"state": "missing", "text": str(program)}
+    try:
+        with tempfile.TemporaryDirectory(prefix="desk-") as folder:
+            file = Path(folder, "bank.csv")
+            file.write_bytes(content)
             return run(program, file)
-        except OSError:
-            return {"state": "missing", "text": str(program)}
+    except OSError as why:
+        return {"state": "failed", "text": why.strerror or ""}
 
 
 def run(program: Path, file: Path) -> dict[str, str]:

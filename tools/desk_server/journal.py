@@ -75,6 +75,16 @@ def lock(folder: Path) -> int:
     return file
 
 
+def make_folder(folder: Path) -> None:
+    """The folder, which nobody else may write: what stands in it is sent with the clerk's key."""
+    if not folder.exists():
+        folder.mkdir(mode=0o700, parents=True)
+        sync_folder(folder.parent)
+    status = folder.stat()
+    if status.st_uid != os.getuid() or status.st_mode & 0o022:
+        raise StartFault(f"{folder}: others may write this folder")
+
+
 def sync_folder(folder: Path) -> None:
     descriptor = os.open(folder, os.O_RDONLY | os.O_DIRECTORY | os.O_CLOEXEC)
     try:
@@ -88,7 +98,7 @@ class Journal:
         self.folder = folder
         self.desk = desk
         self.first = first
-        folder.mkdir(mode=0o700, parents=True, exist_ok=True)
+        make_folder(folder)
         self.lock = lock(folder)
         self.numbers = Lines(folder / "numbers.jsonl")
         self.log = Lines(folder / "log.jsonl")

@@ -76,7 +76,7 @@ class Office:
             connection.sock.settimeout(self.seconds)
             connection.request(method, path, body if method != "GET" else None, fields)
             response = connection.getresponse()
-            return read_answer(response, response.read(MOST_ANSWER + 1))
+            return read_answer(response, read_body(response))
         except ConnectionRefusedError:
             raise NoAnswer("absent") from None
         except TimeoutError:
@@ -87,10 +87,19 @@ class Office:
             connection.close()
 
 
+def read_body(response: http.client.HTTPResponse) -> bytes:
+    """The whole body, whose length an office tells."""
+    length = response.length
+    if length is None or length > MOST_ANSWER:
+        raise NoAnswer("foreign")
+    content = response.read()
+    if len(content) != length:
+        raise NoAnswer("broken")
+    return content
+
+
 def read_answer(response: http.client.HTTPResponse, content: bytes) -> Answer:
     """The answer of an office, which is a document, the members of a reply, or those of a refusal."""
-    if len(content) > MOST_ANSWER:
-        raise NoAnswer("foreign")
     is_document = response.headers.get_content_type() == "text/plain"
     try:
         text = content.decode()

@@ -8,7 +8,6 @@ from typing import Any, Callable
 
 from .amounts import CONTROL
 from .bank_check import check_bank
-from .commands import FINAL
 from .desk import Desk, Refused
 from .documents import NotUnderstood, read_payout, read_reminders, read_statement, read_suspense, read_worker
 from .faults import Fault
@@ -23,6 +22,8 @@ HTTP_STATUS = {"done": 200, "repeated": 200, "given-up": 200, "refused": 409, "u
 NUMBER = "([1-9][0-9]{0,8})"
 EMPLOYER = "([1-9][0-9]{0,7})"
 FILE_NAME_LENGTH = 80
+# So many of the last lists and runs are offered.
+MOST_KNOWN = 10
 
 
 @dataclass(frozen=True)
@@ -115,7 +116,6 @@ class Routes:
         tokens = {form: self.tokens.token(form) for form in (*FORMS, *FURTHER_FORMS)}
         return json_response({
             **self.settings, "tokens": tokens, "state": self.desk.state(), "recent": self.desk.recent.told(),
-            "final": sorted(FINAL),
         })
 
     def suspense(self, first: str) -> Response:
@@ -123,8 +123,8 @@ class Routes:
         history = self.desk.journal.history
         return json_response({
             "suspense": understood(lambda it: read_suspense(it, int(first)), text), "state": self.desk.state(),
-            "text": text, "lists": list(history.documents["payouts"])[-10:],
-            "runs": list(history.documents["reminders"])[-10:], "log": list(history.entries)[-5:],
+            "text": text, "lists": list(history.documents["payouts"])[-MOST_KNOWN:],
+            "runs": list(history.documents["reminders"])[-MOST_KNOWN:],
         })
 
     def firm(self, employer: str) -> Response:

@@ -64,8 +64,6 @@ class Handler(http.server.BaseHTTPRequestHandler):
             response = find()
         except Fault as fault:
             response = refusal(fault)
-        except OSError:
-            return
         except Exception:
             traceback.print_exc(file=sys.stderr)
             response = refusal(Fault("internal", 500))
@@ -108,7 +106,10 @@ class Handler(http.server.BaseHTTPRequestHandler):
             raise Fault("head", 411)
         if int(length) > MOST_REQUEST:
             raise Fault("file-too-large", 413)
-        body = self.rfile.read(int(length))
+        try:
+            body = self.rfile.read(int(length))
+        except OSError:
+            raise Fault("head", 408) from None
         if len(body) != int(length):
             raise Fault("head", 400)
         return body
