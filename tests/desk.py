@@ -2,8 +2,8 @@
 
     python3 tests/desk.py [PROGRAM]
 
-PROGRAM is crates/clear_app/out/clear_app where it isn't given, as `rt ci` leaves it. What is expected is worked out from
-docs/rules.md by hand, or stands in docs/clerk.md.
+PROGRAM is crates/clear_app/out/clear_app where it isn't given, as `rt ci` leaves it. What is expected is
+worked out from docs/rules.md by hand, or stands in docs/clerk.md.
 """
 
 import json
@@ -81,7 +81,8 @@ class Forms(DeskUnderTest):
         self.assertEqual(headers["Content-Disposition"], 'attachment; filename="statement-1001.txt"')
         # The firm is offered from now on.
         self.assertEqual(self.get("/api/session")[1]["recent"], [{"employer": "1001", "name": "Bau Nord"}])
-        self.assertEqual(self.get("/api/firms/1002")[1]["refusal"], {"rule": 11, "name": "UnknownEmployer", "detail": ""})
+        refusal = {"rule": 11, "name": "UnknownEmployer", "detail": ""}
+        self.assertEqual(self.get("/api/firms/1002")[1]["refusal"], refusal)
 
     def test_claims_releases_and_payouts(self):
         self.to_the_payout_day()
@@ -116,8 +117,10 @@ class Forms(DeskUnderTest):
         self.does({"new": 0, "repeats": 2}, self.bank(BANK_HEADER + lines))
         told = self.get("/api/suspense/0")[1]
         self.assertEqual(told["suspense"], {"day": DAY, "first": 0, "count": 2, "total": "5700", "lines": [
-            {"reference": "B9", "day": "2024-04-02", "purpose": "C", "employer": None, "cents": "5000", "note": note},
-            {"reference": "B10", "day": "2024-04-02", "purpose": "I", "employer": "1099", "cents": "700", "note": ""}]})
+            {"reference": "B9", "day": "2024-04-02", "purpose": "C", "employer": None, "cents": "5000",
+             "note": note},
+            {"reference": "B10", "day": "2024-04-02", "purpose": "I", "employer": "1099", "cents": "700",
+             "note": ""}]})
         self.assertEqual(self.get("/api/suspense/1")[1]["suspense"]["lines"][0]["reference"], "B10")
         self.does(DONE, self.command("assign", employer="1001", reference="B9"))
         self.refuses(23, "NotInSuspense", "", self.command("assign", employer="1001", reference="B9"))
@@ -133,13 +136,15 @@ class Forms(DeskUnderTest):
         for month in ("2024-01", "2024-02", "2024-03"):
             self.does({"charge": 0, "version": 1}, self.report(month, ""))
         self.assertFalse(self.does({"firms": 1, "run": 1}, self.command("reminders"))["known"])
-        self.assertEqual(self.get("/api/reminders/1")[1]["reminders"], {"run": 1, "day": DAY, "firms": 1, "reminded": [
-            {"employer": 1002, "level": 1, "missing": 1, "first": "2024-03", "arrears": "0", "interest": "0"}]})
+        reminded = {"employer": 1002, "level": 1, "missing": 1, "first": "2024-03", "arrears": "0", "interest": "0"}
+        self.assertEqual(self.get("/api/reminders/1")[1]["reminders"],
+                         {"run": 1, "day": DAY, "firms": 1, "reminded": [reminded]})
         self.refuses(30, "NothingToRemind", "", self.command("reminders"))
         self.refuses(31, "EndBeforeReports", "2024-03", self.command("end", employer="1001", last="2024-02"))
         self.does(DONE, self.command("end", employer="1001", last="06.2024"))
         self.assertEqual(self.get("/api/firms/1001")[1]["statement"]["last"], "2024-06")
-        rates = {"contribution": "19,5", "entitlement": "14,25", "interest": "0,90", "report_day": "15", "due_day": "20"}
+        rates = {"contribution": "19,5", "entitlement": "14,25", "interest": "0,90",
+                 "report_day": "15", "due_day": "20"}
         self.refuses(19, "RateOrder", "", self.command("rates", **rates, **{"from": "2025-01"}))
         # 100.00 at 19 percent, then at 19.5.
         self.assertEqual(self.expected("2026-01", "7,10000\n")["cents"], "1900")
@@ -170,7 +175,8 @@ class Fields(DeskUnderTest):
         # The sum at 20 percent, rounded half up: 1 cent is 0.2, 3 are 0.6, 2.5 cents are 0.5 of one.
         for lines, charge in (("", "0"), ("7,1\n", "0"), ("7,2\n", "0"), ("7,3\n", "1"), ("7,1\n8,2\n", "1"),
                               ("7,500052\n", "100010"), ("7,500053\n", "100011"), ("7,10000000\n8,1\n", "2000000")):
-            self.assertEqual(self.expected("2024-01", lines), {"cents": charge, "rate": 2000, "from": "2024-01"}, lines)
+            expected = {"cents": charge, "rate": 2000, "from": "2024-01"}
+            self.assertEqual(self.expected("2024-01", lines), expected, lines)
         # 19 percent of 50 cents are 9.5.
         self.assertEqual(self.expected("2025-01", "7,50\n")["cents"], "10")
         self.assertIsNone(self.expected("2023-12", "7,50\n"))
@@ -218,8 +224,9 @@ class Fields(DeskUnderTest):
         self.assertEqual([it["number"] for it in self.lines("numbers.jsonl")], [1])
 
     def test_a_second_click(self):
-        fields = {"employer": "1001", "name": "Bau", "start": "01/2024", "last": "2024-01", "reference": "B1", "claim": "1",
-                  "from": "2024-01", "contribution": "1", "entitlement": "1", "interest": "1", "report_day": "1", "due_day": "1"}
+        fields = {"employer": "1001", "name": "Bau", "start": "01/2024", "last": "2024-01", "reference": "B1",
+                  "claim": "1", "from": "2024-01", "contribution": "1", "entitlement": "1", "interest": "1",
+                  "report_day": "1", "due_day": "1"}
         for kind in ("register", "end", "rates", "assign", "release", "payouts", "reminders"):
             self.faults(409, "unconfirmed", self.command(kind, confirmed=False, **fields))
         bank = self.post("/api/commands/bank", "bank", FIRST_BANK.encode(), confirmed=False)
@@ -262,7 +269,8 @@ class Lost(DeskUnderTest):
     """An answer that doesn't come: the command acts once."""
 
     def between(self, lost):
-        """A proxy in front of the office, which passes requests on and ends so many connections before the answer."""
+        """A proxy in front of the office, which passes requests on and ends so many connections before
+        the answer."""
         office = self.open_office()
 
         def pass_on(request):
@@ -293,7 +301,8 @@ class Lost(DeskUnderTest):
         self.open_desk(self.between((2, 3, 4)))
         self.does(DONE, self.register())
         status, told = self.report("2024-01", "7,1000000\n")
-        self.assertEqual((status, told["entry"]["outcome"], told["entry"]["reply"]["reason"]), (502, "lost", "broken"))
+        entry = told["entry"]
+        self.assertEqual((status, entry["outcome"], entry["reply"]["reason"]), (502, "lost", "broken"))
         pending = told["state"]["pending"]
         self.assertEqual((pending["number"], pending["kind"]), (2, "report"))
         # Nothing else is sent before.
@@ -356,7 +365,8 @@ class Lost(DeskUnderTest):
         self.open_desk()
         self.does(DONE, self.register())
         self.kill_desk()
-        pending = {"number": 1, "time": "", "kind": "register", "method": "POST", "path": "/employers", "values": {}, "body": ""}
+        pending = {"number": 1, "time": "", "kind": "register", "method": "POST", "path": "/employers",
+                   "values": {}, "body": ""}
         (self.log_folder / "pending.json").write_text(json.dumps(pending))
         self.open_desk(self.server.port)
         self.assertIsNone(self.session["state"]["pending"])
@@ -406,7 +416,8 @@ class Offices(DeskUnderTest):
 
     def test_what_is_no_office(self):
         for answer in (answer_bytes(404, b"<h1>none</h1>", "text/html"), answer_bytes(200, {"hello": "you"}),
-                       answer_bytes(409, {"rule": "9"}), answer_bytes(200, {"claim": 1}), answer_bytes(200, b"\xff", "text/plain")):
+                       answer_bytes(409, {"rule": "9"}), answer_bytes(200, {"claim": 1}),
+                       answer_bytes(200, b"\xff", "text/plain")):
             office = FakeOffice(self, lambda request, answer=answer: answer)
             self.open_desk(office.port)
             self.assertEqual(self.faults(502, "no-answer", self.get("/api/suspense/0"))["reason"], "foreign")

@@ -1,4 +1,5 @@
-"""Compares the words of the desk's page with the manual and with the sources that use them, and reads its readers.
+"""Compares the words of the desk's page with the manual and with the sources that use them, and reads its
+readers.
 
     python3 tests/desk_page.py [PROGRAM]
 
@@ -50,7 +51,8 @@ class Words(unittest.TestCase):
             self.assertEqual(carried[0], carried[1], key)
 
     def test_refusals_are_those_of_the_manual(self):
-        """Number, meaning and what to do: the English words are the manual's, and the German ones stand beside them."""
+        """Number, meaning and what to do: the English words are the manual's, and the German ones stand
+        beside them."""
         rows = rows_behind("What is wrong with how a request is written") + rows_behind("What the office says of it")
         self.assertEqual([row[0] for row in rows], [str(it) for it in (*range(1, 34), 40, 41, 42)])
         for number, _name, _detail, means, act in rows:
@@ -90,7 +92,7 @@ class Words(unittest.TestCase):
         self.assertEqual({key for key in keys if key not in WORDS["en"]}, set())
         begun = tuple(it for it in starts if not it.startswith("."))
         ended = tuple(it for it in starts if it.startswith("."))
-        unused = {key for key in WORDS["en"] if key not in keys and not key.startswith(begun) and not key.endswith(ended)}
+        unused = {key for key in WORDS["en"] if not key.startswith(begun) and not key.endswith(ended)} - keys
         self.assertEqual(unused, set())
 
     def test_every_fault_and_form_has_its_words(self):
@@ -101,7 +103,8 @@ class Words(unittest.TestCase):
             self.assertIn(f"fault.{code}", WORDS["en"])
         for reason in ("absent", "silent", "broken", "foreign"):
             self.assertIn(f"fault.no-answer.{reason}", WORDS["en"])
-        fields = set(re.findall(r'number\("([a-z]+)"', source)) | set(re.findall(r'FieldFault\([a-z"]+, "([a-z-]+)"\)', source))
+        fields = set(re.findall(r'number\("([a-z]+)"', source))
+        fields |= set(re.findall(r'FieldFault\([a-z"]+, "([a-z-]+)"\)', source))
         self.assertGreater(len(fields), 8)
         for reason in fields | {"report_day", "due_day"}:
             self.assertIn(f"field.{reason}", WORDS["en"])
@@ -113,18 +116,21 @@ class Words(unittest.TestCase):
 class Page(unittest.TestCase):
     def test_nothing_of_a_text_is_taken_as_html(self):
         for name, script in SCRIPTS.items():
-            for word in ("innerHTML", "outerHTML", "insertAdjacentHTML", "document.write", "DOMParser", "eval(", "Function(",
-                         "createContextualFragment", "srcdoc", "setTimeout(\"", "javascript:"):
+            for word in ("innerHTML", "outerHTML", "insertAdjacentHTML", "document.write", "DOMParser", "eval(",
+                         "Function(", "createContextualFragment", "srcdoc", "setTimeout(\"", "javascript:"):
                 self.assertNotIn(word, script, name)
 
     def test_no_request_goes_anywhere_else(self):
-        for name, text in (*SCRIPTS.items(), ("index.html", MARKUP), ("desk.css", (PAGE / "desk.css").read_text())):
+        styles = {path.name: path.read_text(encoding="utf-8") for path in PAGE.glob("*.css")}
+        for name, text in {**SCRIPTS, **styles, "index.html": MARKUP}.items():
             self.assertEqual(re.findall(r"(?:https?:)?//[a-z0-9.-]+\.[a-z]+", text.replace(SVG, "")), [], name)
             self.assertNotIn("url(", text)
             self.assertNotIn("@import", text)
 
     def test_the_markup_has_nothing_that_the_policy_forbids(self):
-        self.assertEqual(re.findall(r"<style|\sstyle=|\son[a-z]+=|<script(?! type=\"module\" src=\"/desk\.js\"></script>)", MARKUP), [])
+        script = '<script type="module" src="/desk.js"></script>'
+        self.assertEqual(MARKUP.count(script), 1)
+        self.assertEqual(re.findall(r"<style|\sstyle=|\son[a-z]+=|<script", MARKUP.replace(script, "")), [])
 
     def test_each_field_has_a_label_and_each_id_stands_once(self):
         ids = re.findall(r'\bid="([^"]+)"', MARKUP)
@@ -143,28 +149,32 @@ class Readers(unittest.TestCase):
         for language, text, cents in (
                 ("de", "1.234,56", 123456), ("de", "1234,56", 123456), ("de", "1234", 123400), ("de", "0,01", 1),
                 ("de", "1.234", 123400), ("de", "1.000.000.000,00", 100_000_000_000), ("de", " 5,00 € ", 500),
-                ("en", "1,234.56", 123456), ("en", "1234.56", 123456), ("en", "€1,234.56", 123456), ("en", "7", 700),
+                ("en", "1,234.56", 123456), ("en", "1234.56", 123456), ("en", "€1,234.56", 123456),
+                ("en", "7", 700),
                 # What no float holds: 0.1 and 0.2 in cents, and 2^53 + 1 cents.
                 ("de", "0,29", 29), ("en", "90071992547409.93", None), ("en", "9007199254.93", 900719925493)):
             self.assertEqual(amounts.read_cents(text, language), cents, (language, text))
-        for language, texts in (("de", ("1,234.56", "1.23", "1,2", "1,234", "12.34", "1.2345", "01.234,00", "-1", "1e3", "", ",50",
-                                        "1 234", "١", "1,00,00")),
+        for language, texts in (("de", ("1,234.56", "1.23", "1,2", "1,234", "12.34", "1.2345", "01.234,00", "-1",
+                                        "1e3", "", ",50", "1 234", "١", "1,00,00")),
                                 ("en", ("1.234,56", "1,23", "1.2", "1.234", "12,34", "½"))):
             for text in texts:
                 self.assertIsNone(amounts.read_cents(text, language), (language, text))
 
     def test_rates_and_months(self):
-        for language, text, hundredths in (("de", "14,25", 1425), ("de", "19,5", 1950), ("de", "20", 2000), ("en", "0.9 %", 90),
-                                           ("de", "14.25", None), ("en", "14,25", None), ("de", "1,234", None), ("de", "", None)):
+        for language, text, hundredths in (
+                ("de", "14,25", 1425), ("de", "19,5", 1950), ("de", "20", 2000), ("en", "0.9 %", 90),
+                ("de", "14.25", None), ("en", "14,25", None), ("de", "1,234", None), ("de", "", None)):
             self.assertEqual(amounts.read_hundredths(text, language), hundredths, text)
-        for text, month in (("2024-01", "2024-01"), ("01/2024", "2024-01"), ("1/2024", "2024-01"), ("12.2199", "2199-12")):
+        for text, month in (("2024-01", "2024-01"), ("01/2024", "2024-01"), ("1/2024", "2024-01"),
+                            ("12.2199", "2199-12")):
             self.assertEqual(amounts.month("month", text), month)
         for text in ("2024-1", "13/2024", "1999-12", "2200-01", "2024", "2024-01-01", "00/2024"):
             self.assertRaises(Fault, amounts.month, "month", text)
 
     def test_numbers(self):
         day = datetime.date(2024, 4, 30)
-        for last, number in ((0, 202404300100001), (202404300100001, 202404300100002), (202404290199999, 202404300100001),
+        for last, number in ((0, 202404300100001), (202404300100001, 202404300100002),
+                             (202404290199999, 202404300100001),
                              # The clock went back.
                              (202405010100009, 202405010100010), (202405010100001 + 41, 202405010100043)):
             self.assertEqual(numbers.next_number(last, day, 1, None), number)
@@ -177,16 +187,20 @@ class Readers(unittest.TestCase):
         self.assertLess(numbers.next_number(0, datetime.date(9999, 12, 31), 99, None), 10 ** 18)
 
     def test_statements(self):
-        """The parts that the manual's story has not: set-offs, payments of interest, an end, amounts wider than their places."""
+        """The parts that the manual's story has not: set-offs, payments of interest, an end, amounts
+        wider than their places."""
         text = ("statement 1001 2024-05-02\nname A\u2028B  \u00e4\nmember 2024-01 2024-06\n"
                 "charge 2024-01 due 2024-02-20 version 12        1000.00 100000000000.00           0.00\n"
                 "  paid 2024-05-02         500.10 set-off 1\n"
                 "interest-paid 2024-05-02          40.00 set-off 1\ninterest-paid 2024-05-02           1.00 I!~\n"
-                "missing 2024-02\nmissing 2024-03\nprepaid           0.00\narrears         499.90\ninterest           0.01\n")
+                "missing 2024-02\nmissing 2024-03\nprepaid           0.00\narrears         499.90\n"
+                "interest           0.01\n")
         read = documents.read_statement(text)
-        self.assertEqual((read["name"], read["last"], read["missing"]), ("A\u2028B  \u00e4", "2024-06", ["2024-02", "2024-03"]))
+        self.assertEqual((read["name"], read["last"]), ("A\u2028B  \u00e4", "2024-06"))
+        self.assertEqual(read["missing"], ["2024-02", "2024-03"])
         self.assertEqual(read["charges"][0]["open"], "10000000000000")
-        self.assertEqual(read["charges"][0]["payments"], [{"day": "2024-05-02", "cents": "50010", "reference": "set-off 1"}])
+        self.assertEqual(read["charges"][0]["payments"],
+                         [{"day": "2024-05-02", "cents": "50010", "reference": "set-off 1"}])
         self.assertEqual([it["reference"] for it in read["interest_payments"]], ["set-off 1", "I!~"])
         self.assertEqual((read["arrears"], read["interest"]), ("49990", "1"))
         for wrong in (text[:-1], text + "more\n", text.replace("missing 2024-02\n", "something\n"), "", "\n",
@@ -207,11 +221,13 @@ class Readers(unittest.TestCase):
             read = documents.read_suspense(text, first)
             found = [it["reference"] for it in read["lines"]]
             self.assertEqual((found[0], found[-1]), tuple(f"B{it}" for it in references))
-            self.assertEqual((read["count"], read["total"], len(found)), (450, "450", references[1] - references[0] + 1))
+            self.assertEqual((read["count"], read["total"]), (450, "450"))
+            self.assertEqual(len(found), references[1] - references[0] + 1)
         self.assertEqual(documents.read_suspense(text, 450)["lines"], [])
 
     def test_workers_and_lists(self):
-        text = "worker 7 2024-04-30\nearned 1001 2024-01         142.50\nclaim 1 employer 1001 open          10.00\nbalance         132.50\n"
+        text = ("worker 7 2024-04-30\nearned 1001 2024-01         142.50\n"
+                "claim 1 employer 1001 open          10.00\nbalance         132.50\n")
         self.assertEqual(documents.read_worker(text)["claims"],
                          [{"claim": 1, "employer": 1001, "state": "open", "cents": "1000"}])
         text = ("reminders 2 2024-05-14\nemployer 1001 level 2 missing 1 2024-03           0.00          50.00\n"

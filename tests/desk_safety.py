@@ -1,4 +1,5 @@
-"""Keeps the desk (tools/desk) from everybody but its own page, and looks into its command line and its folder.
+"""Keeps the desk (tools/desk) from everybody but its own page, and looks into its command line and its
+folder.
 
     python3 tests/desk_safety.py [PROGRAM]
 
@@ -35,7 +36,8 @@ class CommandLine(DeskUnderTest):
     def test_help(self):
         code, output, errors = self.run_desk("--help")
         self.assertEqual((code, errors), (0, ""))
-        for word in ("--office", "--key-file", "--port", "--log", "--clearing", "--rates", "--desk", "--first-number"):
+        for word in ("--office", "--key-file", "--port", "--log", "--clearing", "--rates", "--desk",
+                     "--first-number"):
             self.assertIn(word, output)
 
     def test_wrong_words(self):
@@ -54,8 +56,10 @@ class CommandLine(DeskUnderTest):
         row = "[[rate]]\nfrom = \"2024-01\"\ncontribution = 2000\nreport_day = 15\ndue_day = 20\ninterest = 100\n"
         for content, told in (
                 ("rate = 1\n", "no rate file"), ("", "no rate file"), ("[[rate]\n", "no TOML"), (b"\xff", "no TOML"),
-                (row, "block 1: other members"), (row + "entitlement = 10001\n", "block 1: entitlement isn't from 0 to 10000"),
-                (row + "entitlement = 1.0\n", "block 1: entitlement isn't"), (row + "entitlement = true\n", "block 1: entitlement"),
+                (row, "block 1: other members"),
+                (row + "entitlement = 10001\n", "block 1: entitlement isn't from 0 to 10000"),
+                (row + "entitlement = 1.0\n", "block 1: entitlement isn't"),
+                (row + "entitlement = true\n", "block 1: entitlement isn't"),
                 ((row + "entitlement = 1\n") * 2, "block 2: from isn't after that of the row before"),
                 (row.replace("2024-01", "2024-13") + "entitlement = 1\n", "block 1: from is no month")):
             self.write("wrong.toml", content)
@@ -114,7 +118,11 @@ class Safety(DeskUnderTest):
         del without["Origin"]
         self.faults(403, "origin", self.post_with(without))
         for site in ("cross-site", "same-site"):
-            self.faults(403, "origin", self.get("/api/session", **{"Sec-Fetch-Site": site}))
+            for path in ("/api/session", "/api/suspense/0", "/documents/suspense.txt"):
+                self.faults(403, "origin", self.get(path, **{"Sec-Fetch-Site": site}))
+            self.faults(403, "origin", self.post_with({**self.headers("payouts"), "Sec-Fetch-Site": site}))
+            # A link may lead to the page.
+            self.assertEqual(self.ask("GET", "/", headers={"Sec-Fetch-Site": site})[0], 200)
         self.assertEqual(self.get("/api/session", Origin=self.own, **{"Sec-Fetch-Site": "same-origin"})[0], 200)
         localhost = {"Host": f"localhost:{self.port}", "Origin": f"http://localhost:{self.port}"}
         self.assertEqual(self.get("/api/session", **localhost)[0], 200)
@@ -133,7 +141,8 @@ class Safety(DeskUnderTest):
         large = b" " * (1_048_576 + 65_537)
         self.faults(413, "file-too-large", self.post_with(self.headers("bank"), "/api/commands/bank", large))
         # A bank file of one byte too many.
-        self.faults(413, "file-too-large", self.post_with(self.headers("bank"), "/api/commands/bank", b"r" * 1_048_577))
+        large = b"r" * 1_048_577
+        self.faults(413, "file-too-large", self.post_with(self.headers("bank"), "/api/commands/bank", large))
         for body in (b"", b"[]", b"1", b'{"language":"fr"}', b'{"language":1}', b"\xff", b"[" * 100_000,
                      b'{"language":"de","employer":1001}'):
             self.faults(400, "form", self.post_with(self.headers("claim"), "/api/commands/claim", body))
@@ -147,9 +156,10 @@ class Safety(DeskUnderTest):
             self.assertRegex(self.raw(f"{head}{length}\r\n".encode()), rb"^HTTP/1.1 4(00|11) ")
 
     def test_paths(self):
-        for path in ("/../desk", "/../../docs/http.md", "/desk_page/index.html", "/..%2fdesk", "/words.de.json/", "//etc/passwd",
-                     "/api/firms/1001/../1002", "/api/firms/0", "/api/firms/1001?x", "/api/payouts/1%2f", "/index.html",
-                     "/documents/statement-.txt", "/documents/worker-7.txt/x", "/desk.js?x", f"http://127.0.0.1:{self.port}/"):
+        for path in ("/../desk", "/../../docs/http.md", "/desk_page/index.html", "/..%2fdesk", "/words.de.json/",
+                     "//etc/passwd", "/api/firms/1001/../1002", "/api/firms/0", "/api/firms/1001?x", "/index.html",
+                     "/api/payouts/1%2f", "/documents/statement-.txt", "/documents/worker-7.txt/x", "/desk.js?x",
+                     f"http://127.0.0.1:{self.port}/"):
             self.faults(404, "path", self.get(path))
         self.faults(404, "path", self.post_with(self.headers("payouts"), "/api/commands/nothing"))
         self.faults(404, "path", self.post_with(self.headers("payouts"), "/api/session"))
@@ -184,15 +194,16 @@ class Safety(DeskUnderTest):
 
     @unittest.skipUnless(NOBODY, "only root can be another user")
     def test_another_user_of_the_machine(self):
-        requests = [b"GET /api/session", b"GET /api/suspense/0", b"GET /documents/suspense.txt", b"POST /api/commands/payouts"]
-        for request in requests:
+        host = f" HTTP/1.1\r\nHost: 127.0.0.1:{self.port}\r\nOrigin: {self.own}\r\n\r\n".encode()
+        for request in (b"GET /api/session", b"GET /api/suspense/0", b"GET /documents/suspense.txt",
+                        b"POST /api/commands/payouts"):
             os.seteuid(NOBODY)
             try:
                 peer = socket.create_connection(("127.0.0.1", self.port), timeout=30)
             finally:
                 os.seteuid(0)
             with peer:
-                peer.sendall(request + f" HTTP/1.1\r\nHost: 127.0.0.1:{self.port}\r\nOrigin: {self.own}\r\n\r\n".encode())
+                peer.sendall(request + host)
                 answer = read_message(peer)
             self.assertTrue(answer.startswith(b"HTTP/1.1 403 "), answer)
             self.assertTrue(answer.endswith(b'\r\n\r\n{"fault": "user", "carried": {}}'), answer)

@@ -1,4 +1,5 @@
-"""What the tests of the desk share: an office that is served, a desk in front of it, and how they are talked to."""
+"""What the tests of the desk share: an office that is served, a desk in front of it, and how they are
+talked to."""
 
 import http.client
 import json
@@ -41,7 +42,8 @@ def length_of(head):
 
 
 class FakeOffice:
-    """Takes requests on a port of its own, and answers each as `answer` says: bytes, or None to end the connection."""
+    """Takes requests on a port of its own, and answers each as `answer` says: bytes, or None to end the
+    connection."""
 
     def __init__(self, test, answer):
         self.listener = socket.create_server(("127.0.0.1", 0))
@@ -123,7 +125,8 @@ class DeskUnderTest(ProgramUnderTest):
 
     def run_desk(self, *words):
         """Status, standard output and standard error of a desk that doesn't start."""
-        ran = subprocess.run([sys.executable, "-B", str(DESK), *words], cwd=self.folder, capture_output=True, timeout=30)
+        command = [sys.executable, "-B", str(DESK), *words]
+        ran = subprocess.run(command, cwd=self.folder, capture_output=True, timeout=30)
         return ran.returncode, ran.stdout.decode(), ran.stderr.decode()
 
     def kill_desk(self):

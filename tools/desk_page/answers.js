@@ -1,4 +1,5 @@
-// Tells what became of a request: the answer, a refusal with what to do about it, a fault; and what stops the forms.
+// Tells what became of a request: the answer, a refusal with what to do about it, a fault; and what stops
+// the forms.
 
 import { sendForm } from "./api.js";
 import { byId, make, pairs } from "./elements.js";
@@ -39,7 +40,8 @@ function detailText(rule, detail) {
     return "";
   }
   if (rule === 18) {
-    return hasWords(`limit.${detail}.most`) ? say("detail.limit", { most: say(`limit.${detail}.most`) }) : detail;
+    const key = `limit.${detail}.most`;
+    return hasWords(key) ? say("detail.limit", { most: say(key) }) : detail;
   }
   const carried = { detail };
   if (rule === 10) {
@@ -142,9 +144,12 @@ export function tellAnswer(told, further = []) {
   }
   const { entry } = told;
   const isDone = ["done", "repeated"].includes(entry.outcome);
+  const said = entry.reply.rule
+    ? refusalLines(entry.reply)
+    : [make("p", { class: "reply strong" }, replyText(entry))];
   const lines = [
     make("p", { class: "what" }, make("strong", {}, outcomeText(entry)), ` · ${subject(entry)}`),
-    ...(entry.reply.rule ? refusalLines(entry.reply) : [make("p", { class: "reply strong" }, replyText(entry))]),
+    ...said,
     told.known ? make("p", { class: "note strong" }, say("document.known")) : null,
     ...further.map((text) => make("p", { class: "note" }, text)),
     ["lost", "undecided"].includes(entry.outcome) ? make("p", {}, say("answer.pending")) : null,

@@ -8,10 +8,11 @@ export const MOST_BYTES = 1_048_576;
 let session = null;
 let heard = () => {};
 
-/** What the desk said at the beginning: the tokens of the forms, how it was started, the firms that were opened last. */
+/** What the desk said at the beginning: the tokens of the forms, how it was started, the firms that were
+ * opened last. */
 export const theSession = () => session;
 
-/** Calls this with the state of the desk whenever an answer has it: a request without an answer, a failure. */
+/** Calls this with the state of the desk whenever one comes: a request without an answer, a failure. */
 export function onState(listener) {
   heard = listener;
 }
@@ -71,7 +72,9 @@ export function fieldsOf(form) {
 /** Sends a file as it is. */
 export function sendFile(path, form, file) {
   const headers = {
-    "Content-Type": "application/octet-stream", "Desk-Confirmed": "yes", "Desk-File": encodeURIComponent(file.name),
+    "Content-Type": "application/octet-stream",
+    "Desk-Confirmed": "yes",
+    "Desk-File": encodeURIComponent(file.name),
   };
   return post(path, form, file, headers);
 }

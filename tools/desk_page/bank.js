@@ -17,7 +17,8 @@ function showCheck(told) {
   }
   const { state, text } = told.check;
   const mark = CHECK_MARKS[state] ?? "!";
-  const lines = [make("p", { class: state === "good" ? "good strong" : "bad strong" }, `${mark} ${say(`bank.${state}`)}`)];
+  const kind = state === "good" ? "good strong" : "bad strong";
+  const lines = [make("p", { class: kind }, `${mark} ${say(`bank.${state}`)}`)];
   if (text) {
     lines.push(make("pre", { id: "bank-check-text" }, text));
   }
@@ -52,7 +53,8 @@ function clear() {
 async function importFile(done) {
   const file = chosen;
   clearAnswer();
-  const facts = [["label.file", file.name], ["label.check", byId("bank-check-text")?.textContent.trim() ?? say("dash")]];
+  const check = byId("bank-check-text")?.textContent.trim() ?? say("dash");
+  const facts = [["label.file", file.name], ["label.check", check]];
   if (!await confirmed("bank", facts)) {
     return;
   }

@@ -49,8 +49,8 @@ export function beginDrop(id, take) {
   place.addEventListener("drop", (event) => takeOne(event.dataTransfer.files));
 }
 
-/** A table with a caption and headers. A column is the key of its words and the class of its cells; a row is an array of
- * cells, each a text or an element, the first of them its header. */
+/** A table with a caption and headers. A column is the key of its words and the class of its cells; a row is
+ * an array of cells, each a text or an element, the first of them its header. */
 export function table(id, caption, columns, rows) {
   const heads = columns.map(([word, kind]) => make("th", { scope: "col", class: kind }, say(word)));
   const body = make("tbody");
@@ -63,7 +63,8 @@ export function table(id, caption, columns, rows) {
     });
     body.append(make("tr", attributes ?? {}, ...made));
   }
-  const whole = make("table", { id }, make("caption", {}, caption), make("thead", {}, make("tr", {}, ...heads)), body);
+  const head = make("thead", {}, make("tr", {}, ...heads));
+  const whole = make("table", { id }, make("caption", {}, caption), head, body);
   // It scrolls by itself where the window is narrow, by keyboard too.
   return make("div", { class: "scroll", tabindex: "0", role: "region", "aria-label": caption }, whole);
 }

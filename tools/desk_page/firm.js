@@ -8,6 +8,10 @@ import { day, euros, month } from "./formats.js";
 import { beginReport, openReport } from "./report.js";
 import { say } from "./words.js";
 
+// What stands empty where the desk doesn't understand the statement.
+const READ_PARTS = [
+  "firm-member", "firm-day", "firm-owed", "statement-months", "statement-legend", "statement-interest",
+];
 // So many payments of a month stand in its row; all of them stand in the text.
 const MOST_PAYMENTS = 4;
 const BAR_WIDTH = 160;
@@ -16,7 +20,8 @@ let shown = null;
 
 /** The firms that were opened last, for the search and for this view. */
 export function showRecent(recent) {
-  byId("recent-firms").replaceChildren(...recent.map((it) => make("option", { value: it.employer }, it.name)));
+  byId("recent-firms").replaceChildren(...recent.map((it) =>
+    make("option", { value: it.employer }, it.name)));
   byId("firm-recent").replaceChildren(...recent.slice(0, 20).map((it) =>
     make("li", {}, make("a", { href: `#/firm/${it.employer}` }, `${it.employer} ${it.name}`))));
 }
@@ -24,13 +29,16 @@ export function showRecent(recent) {
 /** A bar as long as the month's contribution: what is paid is full, what is open is an outline. */
 function bar(charge, most) {
   // Only a length in the picture: the amounts stand beside it.
-  const scale = BAR_WIDTH / Math.max(Number(most), 1);
+  const scale = BAR_WIDTH / Math.max(most, 1);
   const paid = Number(charge.paid) * scale;
   const open = Number(charge.open) * scale;
-  const label = say("statement.bar", { month: month(charge.month), paid: euros(charge.paid), open: euros(charge.open) });
-  return makeSvg("svg", { class: "bar", role: "img", "aria-label": label, viewBox: `0 0 ${BAR_WIDTH} ${BAR_HEIGHT}` },
-    makeSvg("rect", { class: "bar-paid", x: "0", y: "0", width: String(paid), height: String(BAR_HEIGHT) }),
-    makeSvg("rect", { class: "bar-open", x: String(paid), y: "0", width: String(open), height: String(BAR_HEIGHT) }));
+  const label = say("statement.bar", {
+    month: month(charge.month), paid: euros(charge.paid), open: euros(charge.open),
+  });
+  const part = (kind, x, width) => makeSvg("rect", { class: kind, x, y: 0, width, height: BAR_HEIGHT });
+  const viewBox = `0 0 ${BAR_WIDTH} ${BAR_HEIGHT}`;
+  return makeSvg("svg", { class: "bar", role: "img", "aria-label": label, viewBox },
+    part("bar-paid", 0, paid), part("bar-open", paid, open));
 }
 
 function paymentLines(payments) {
@@ -43,33 +51,43 @@ function paymentLines(payments) {
 }
 
 const MONTH_COLUMNS = [
-  ["column.month", "month"], ["column.due", "day"], ["column.contribution", "amount"], ["column.paid", "amount"],
-  ["column.open", "amount"], ["column.interest", "amount"], ["column.bar", "payments"], ["column.action", "action"],
+  ["column.month", "month"], ["column.due", "day"], ["column.contribution", "amount"],
+  ["column.paid", "amount"], ["column.open", "amount"], ["column.interest", "amount"],
+  ["column.bar", "payments"], ["column.action", "action"],
 ];
 
 function chargeRow(charge, most) {
   const correct = button(say("statement.correct"), () => openReport(charge.month, charge.version), {
-    class: "correct", "data-month": charge.month, "aria-label": say("statement.correct-month", { month: month(charge.month) }),
+    class: "correct", "data-month": charge.month,
+    "aria-label": say("statement.correct-month", { month: month(charge.month) }),
   });
   const version = make("span", { class: "under quiet small" }, say("statement.version", charge));
-  return row(make("span", {}, month(charge.month), version), day(charge.due), euros(charge.contribution), euros(charge.paid),
-    euros(charge.open), euros(charge.interest), make("div", {}, bar(charge, most), paymentLines(charge.payments)), correct);
+  const payments = make("div", {}, bar(charge, most), paymentLines(charge.payments));
+  const amounts = [charge.contribution, charge.paid, charge.open, charge.interest].map(euros);
+  return {
+    cells: [make("span", {}, month(charge.month), version), day(charge.due), ...amounts, payments, correct],
+    attributes: { "data-month": charge.month },
+  };
 }
 
 function missingRow(text) {
   const report = button(say("statement.report"), () => openReport(text, null), {
-    class: "report", "data-month": text, "aria-label": say("statement.report-month", { month: month(text) }),
+    class: "report", "data-month": text,
+    "aria-label": say("statement.report-month", { month: month(text) }),
   });
   const dashes = Array(5).fill(say("dash"));
-  return { cells: [month(text), ...dashes, make("strong", {}, `! ${say("statement.missing")}`), report],
-    attributes: { class: "missing", "data-month": text } };
+  const missing = make("strong", {}, `! ${say("statement.missing")}`);
+  return {
+    cells: [month(text), ...dashes, missing, report],
+    attributes: { class: "missing", "data-month": text },
+  };
 }
 
 /** The months with a report and those without one, in their order. */
 function monthRows(statement) {
-  const most = statement.charges.reduce((so, it) => (Number(it.contribution) > Number(so) ? it.contribution : so), "0");
+  const most = Math.max(0, ...statement.charges.map((it) => Number(it.contribution)));
   const rows = [
-    ...statement.charges.map((it) => [it.month, { ...chargeRow(it, most), attributes: { "data-month": it.month } }]),
+    ...statement.charges.map((it) => [it.month, chargeRow(it, most)]),
     ...statement.missing.map((it) => [it, missingRow(it)]),
   ];
   rows.sort(([one], [other]) => (one < other ? -1 : 1));
@@ -85,11 +103,12 @@ function legend() {
 }
 
 function showOwed(statement) {
-  const alert = (cents) => ({ class: cents === "0" ? "" : "owes" });
+  const missing = String(statement.missing.length);
+  const alert = (count) => ({ class: count === "0" ? "" : "owes" });
   pairs(byId("firm-owed"),
     ["owed.arrears", euros(statement.arrears), { id: "owed-arrears", ...alert(statement.arrears) }],
     ["owed.interest", euros(statement.interest), { id: "owed-interest", ...alert(statement.interest) }],
-    ["owed.missing", String(statement.missing.length), { id: "owed-missing", class: statement.missing.length ? "owes" : "" }],
+    ["owed.missing", missing, { id: "owed-missing", ...alert(missing) }],
     ["owed.prepaid", euros(statement.prepaid), { id: "owed-prepaid" }],
     ["owed.open", euros(statement.open), { id: "owed-open" }],
     ["owed.charged", euros(statement.charged), { id: "owed-charged" }],
@@ -141,7 +160,7 @@ function showStatement(told) {
   byId("firm-text-note").hidden = Boolean(statement);
   byId("firm-title").textContent = statement ? `${shown} · ${statement.name}` : shown;
   if (!statement) {
-    for (const id of ["firm-member", "firm-day", "firm-owed", "statement-months", "statement-legend", "statement-interest"]) {
+    for (const id of READ_PARTS) {
       byId(id).replaceChildren();
     }
     return;

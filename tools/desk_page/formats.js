@@ -1,5 +1,5 @@
-// Writes amounts, days, months and rates as the clerk's language has them. Amounts come as the digits of whole cents and
-// are never made into numbers, which hold no more than 2^53.
+// Writes amounts, days, months and rates as the clerk's language has them. Amounts come as the digits of
+// whole cents and are never made into numbers, which hold no more than 2^53.
 
 import { currentLanguage, say } from "./words.js";
 
@@ -25,23 +25,27 @@ export function percent(hundredths) {
   return `${digits.slice(0, -2)}${point}${digits.slice(-2)}\u00a0%`;
 }
 
-function dated(year, month, day, form) {
-  const date = new Date(Date.UTC(year, month - 1, day));
-  return new Intl.DateTimeFormat(currentLanguage() === "de" ? "de-DE" : "en-GB", { ...form, timeZone: "UTC" }).format(date);
+const YEAR = { year: "numeric", timeZone: "UTC" };
+const DAYS = {
+  de: new Intl.DateTimeFormat("de-DE", { day: "2-digit", month: "2-digit", ...YEAR }),
+  en: new Intl.DateTimeFormat("en-GB", { day: "2-digit", month: "short", ...YEAR }),
+};
+const MONTHS = {
+  de: new Intl.DateTimeFormat("de-DE", { month: "short", ...YEAR }),
+  en: new Intl.DateTimeFormat("en-GB", { month: "short", ...YEAR }),
+};
+
+/** A day in one of these formats; a text that is none stays as it is. */
+function dated(formats, text, day) {
+  const date = new Date(day);
+  return Number.isNaN(date.getTime()) ? text : formats[currentLanguage()].format(date);
 }
 
 /** 2024-04-30 as 30.04.2024 in German, 30 Apr 2024 in English. */
-export function day(text) {
-  const form = { day: "2-digit", month: currentLanguage() === "de" ? "2-digit" : "short", year: "numeric" };
-  const parts = /^(\d{4})-(\d{2})-(\d{2})$/.exec(text);
-  return parts ? dated(Number(parts[1]), Number(parts[2]), Number(parts[3]), form) : text;
-}
+export const day = (text) => dated(DAYS, text, text);
 
 /** 2024-01 as Jan. 2024 in German, Jan 2024 in English; a dash for none. */
-export function month(text) {
-  const parts = /^(\d{4})-(\d{2})$/.exec(text ?? "");
-  return parts ? dated(Number(parts[1]), Number(parts[2]), 1, { month: "short", year: "numeric" }) : say("dash");
-}
+export const month = (text) => (text ? dated(MONTHS, text, `${text}-01`) : say("dash"));
 
 /** The time of a log entry, in the clock of the desk. */
 export function time(text) {
@@ -52,5 +56,6 @@ export function time(text) {
 /** Today's day in the browser's clock, as 2024-04-30. */
 export function today() {
   const now = new Date();
-  return [now.getFullYear(), now.getMonth() + 1, now.getDate()].map((it) => String(it).padStart(2, "0")).join("-");
+  const parts = [now.getFullYear(), now.getMonth() + 1, now.getDate()];
+  return parts.map((it) => String(it).padStart(2, "0")).join("-");
 }

@@ -1,4 +1,4 @@
-// The forms of commands: a second click where nothing can be taken back, faults beside their fields, and the answer.
+// The forms of commands: a second click where nothing can be taken back, and faults beside their fields.
 
 import { clearAnswer, confirmed, tellAnswer, toldLines, written } from "./answers.js";
 import { fieldsOf, get, sendForm } from "./api.js";
@@ -27,7 +27,8 @@ export function tellField(form, told) {
   const id = `${field.id}-fault`;
   field.setAttribute("aria-invalid", "true");
   field.setAttribute("aria-errormessage", id);
-  field.parentElement.append(make("span", { id, class: "field-fault", role: "alert" }, `✕ ${say(`field.${told.carried.reason}`)}`));
+  const text = `✕ ${say(`field.${told.carried.reason}`)}`;
+  field.parentElement.append(make("span", { id, class: "field-fault", role: "alert" }, text));
   field.focus();
   return true;
 }
@@ -42,9 +43,11 @@ async function firmFact(employer, tell) {
   return ["label.firm", `${employer} ${told.statement.name}`];
 }
 
-/** The values of a command as the desk has read them, with the name of a firm that should be there; or null. */
+/** The values of a command as the desk has read them, with the name of a firm that should be there; or
+ * null. */
 async function factsOf(kind, values, tell) {
-  const facts = Object.entries(written(kind, values)).map(([name, value]) => [`label.${name}`, String(value)]);
+  const told = Object.entries(written(kind, values));
+  const facts = told.map(([name, value]) => [`label.${name}`, String(value)]);
   if (!OF_A_FIRM.includes(kind)) {
     return facts;
   }
@@ -52,8 +55,8 @@ async function factsOf(kind, values, tell) {
   return firm && [firm, ...facts.filter(([word]) => word !== "label.employer")];
 }
 
-/** Sends a command. Where it is for good, the desk first says what it has read, and wants a second click. What became of
- * it; null where nothing was sent, and `tell` has told why. */
+/** Sends a command. Where it is for good, the desk first says what it has read, and wants a second click.
+ * What became of it; null where nothing was sent, and `tell` has told why. */
 export async function sendCommand(kind, fields, tell) {
   const path = `/api/commands/${kind}`;
   clearAnswer();

@@ -1,4 +1,5 @@
-// The morning's work: lines in suspense, the bank's file, reminder runs and payout lists. One question to the office.
+// The morning's work: lines in suspense, the bank's file, reminder runs and payout lists. The view asks the
+// office one question.
 
 import { clearFault, noteAnswer, tellAnswer, tellFault, whatStops } from "./answers.js";
 import { get } from "./api.js";
@@ -33,8 +34,8 @@ function openAssign(line) {
 }
 
 const SUSPENSE_COLUMNS = [
-  ["column.reference", "reference"], ["column.value", "day"], ["column.purpose", "word"], ["column.named", "id"],
-  ["column.amount", "amount"], ["column.note", "note"], ["column.action", "action"],
+  ["column.reference", "reference"], ["column.value", "day"], ["column.purpose", "word"],
+  ["column.named", "id"], ["column.amount", "amount"], ["column.note", "note"], ["column.action", "action"],
 ];
 
 function suspenseRow(line) {
@@ -56,8 +57,9 @@ function pager({ first: from, lines, count }) {
     return null;
   }
   const place = { first: from + 1, last: from + lines.length, count };
-  const earlier = button(say("suspense.earlier"), () => turnTo(Math.max(0, from - PAGE)), { id: "suspense-earlier" });
-  const later = button(say("suspense.later"), () => turnTo(from + PAGE), { id: "suspense-later" });
+  const turn = (word, place, id) => button(say(word), () => turnTo(place), { id });
+  const earlier = turn("suspense.earlier", Math.max(0, from - PAGE), "suspense-earlier");
+  const later = turn("suspense.later", from + PAGE, "suspense-later");
   earlier.disabled = from === 0;
   later.disabled = from + lines.length >= count;
   return make("p", { class: "buttons" }, say("suspense.page", place), earlier, later);
@@ -73,7 +75,8 @@ function showSuspense(told) {
     return;
   }
   const carried = { count: suspense.count, total: euros(suspense.total) };
-  byId("suspense-summary").textContent = suspense.count ? say("suspense.summary", carried) : say("suspense.empty");
+  const summary = suspense.count ? "suspense.summary" : "suspense.empty";
+  byId("suspense-summary").textContent = say(summary, carried);
   const lines = suspense.lines.length
     ? table("suspense-table", say("suspense.caption"), SUSPENSE_COLUMNS, suspense.lines.map(suspenseRow))
     : "";
@@ -109,6 +112,13 @@ function remindersTable({ reminders }) {
     euros(it.interest))));
 }
 
+function documentTable(told) {
+  if (told.payout) {
+    return payoutTable(told);
+  }
+  return told.reminders ? remindersTable(told) : say("text.not-understood");
+}
+
 /** Shows a payout list or a reminder run: its table, and the office's text. Its day, where it is there. */
 async function showDocument(kind, number) {
   clearFault();
@@ -119,14 +129,13 @@ async function showDocument(kind, number) {
     tellFault(told);
     return null;
   }
-  const isUnderstood = Boolean(told.payout ?? told.reminders);
-  const read = isUnderstood ? (told.payout ? payoutTable(told) : remindersTable(told)) : say("text.not-understood");
-  const file = `/documents/${kind === "payouts" ? "payout" : kind}-${number}.txt`;
-  const title = kind === "payouts" ? say("payouts.title") : say("reminders.title");
+  const href = `/documents/${kind === "payouts" ? "payout" : kind}-${number}.txt`;
+  const text = make("pre", { id: "document-text", tabindex: "0" }, told.text);
   place.replaceChildren(
-    make("h2", {}, title), read,
-    make("details", {}, make("summary", {}, say("text")), make("pre", { id: "document-text", tabindex: "0" }, told.text)),
-    make("p", { class: "buttons" }, make("a", { id: "document-download", class: "button", href: file, download: "" }, say("download")),
+    make("h2", {}, say(`${kind}.title`)), documentTable(told),
+    make("details", {}, make("summary", {}, say("text")), text),
+    make("p", { class: "buttons" },
+      make("a", { id: "document-download", class: "button", href, download: "" }, say("download")),
       button(say("close"), () => { place.hidden = true; }, { id: "document-close" })));
   place.hidden = false;
   place.focus();

@@ -1,4 +1,4 @@
-// A report of a month, or its correction: lines from a CSV file, what they come to, and what is to be expected.
+// A report of a month, or its correction: lines from a CSV file, their sum, and the charge to be expected.
 
 import { clearAnswer, tellAnswer } from "./answers.js";
 import { MOST_BYTES, fieldsOf, sendForm } from "./api.js";
@@ -57,7 +57,8 @@ function showFaults(told) {
   const lines = told.faults.map((it) =>
     make("li", {}, say("csv.line", { line: it.line, fault: say(`csv.${it.reason}`, { word: it.word }) })));
   byId("report-check-result").replaceChildren(
-    make("p", { class: "bad strong" }, `✕ ${say("report.faults")}`), make("ul", { id: "report-faults" }, ...lines));
+    make("p", { class: "bad strong" }, `✕ ${say("report.faults")}`),
+    make("ul", { id: "report-faults" }, ...lines));
 }
 
 async function check() {

@@ -31,7 +31,7 @@ function wantedLanguage() {
 
 export const currentLanguage = () => language;
 
-/** The words under a key, with what they carry in the place of {names}. A key without words stands as it is. */
+/** The words under a key, with what they carry in the place of {names}. A key without words stays. */
 export function say(key, carried = {}) {
   const text = words[key] ?? key;
   return text.replace(/\{(\w+)\}/g, (whole, name) => String(carried[name] ?? whole));

@@ -1,4 +1,5 @@
-// A worker: what was earned with each firm, the claims, the balance; open claims are released or withdrawn from here.
+// A worker: what was earned with each firm, the claims, the balance; open claims are released or withdrawn
+// from here.
 
 import { tellAnswer, tellFault } from "./answers.js";
 import { get } from "./api.js";
@@ -10,7 +11,9 @@ import { currentLanguage, say } from "./words.js";
 let shown = null;
 
 async function act(kind, claim) {
-  const fields = { language: currentLanguage(), claim: String(claim.claim), employer: String(claim.employer) };
+  const fields = {
+    language: currentLanguage(), claim: String(claim.claim), employer: String(claim.employer),
+  };
   const told = await sendCommand(kind, fields, tellAnswer);
   if (told) {
     tellAnswer(told);
@@ -69,7 +72,9 @@ export async function showWorker(number) {
   const { worker } = told;
   byId("worker-text").textContent = told.text;
   byId("worker-download").href = `/documents/worker-${number}.txt`;
-  byId("worker-day").textContent = worker ? say("as-of", { day: day(worker.day) }) : say("text.not-understood");
+  byId("worker-day").textContent = worker
+    ? say("as-of", { day: day(worker.day) })
+    : say("text.not-understood");
   if (worker) {
     pairs(byId("worker-figures"), ["worker.balance", euros(worker.balance), { id: "worker-balance" }],
       ["worker.earned", euros(sum(worker.earned)), { id: "worker-earned-sum" }],

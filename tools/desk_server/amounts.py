@@ -1,4 +1,5 @@
-"""Reads what a clerk types: amounts, rates, months and numbers. Amounts are whole cents, and no float is in between."""
+"""Reads what a clerk types: amounts, rates, months and numbers. Amounts are whole cents, and no float is
+in between."""
 
 import re
 
@@ -22,8 +23,9 @@ CONTROL = re.compile(r"[\x00-\x1f\x7f]")
 
 
 def read_cents(text: str, language: str) -> int | None:
-    """The cents of an amount in euros as a clerk of this language writes it, or None: `1.234,56` in German, `1,234.56`
-    in English. It has two decimals or none, so that a separator of the other language is told and not misread."""
+    """The cents of an amount in euros as a clerk of this language writes it, or None: `1.234,56` in
+    German, `1,234.56` in English. It has two decimals or none, so that a separator of the other language
+    is told and not misread."""
     group, point = map(re.escape, SEPARATORS[language])
     form = rf"([0-9]{{1,12}}|[1-9][0-9]{{0,2}}(?:{group}[0-9]{{3}}){{1,3}})(?:{point}([0-9]{{2}}))?"
     found = re.fullmatch(form, text.strip(SPACES + "€"))

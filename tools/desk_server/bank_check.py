@@ -12,8 +12,8 @@ MOST_TOLD = 2_000
 
 
 def check_bank(program: Path | None, content: bytes) -> dict[str, str]:
-    """How the program judges the file: `good` or `faulty` with its words, or why it wasn't checked: `none` (no program was
-    given), `missing`, `slow` or `failed`."""
+    """How the program judges the file: `good` or `faulty` with its words, or why it wasn't checked:
+    `none` (no program was given), `missing`, `slow` or `failed`."""
     if program is None:
         return {"state": "none", "text": ""}
     if shutil.which(program) is None:
@@ -28,9 +28,10 @@ def check_bank(program: Path | None, content: bytes) -> dict[str, str]:
 
 
 def run(program: Path, file: Path) -> dict[str, str]:
-    pipes = {"stdin": subprocess.DEVNULL, "stdout": subprocess.PIPE, "stderr": subprocess.PIPE}
     # A process group of its own, so that what a launcher starts ends with it.
-    running = subprocess.Popen([program, "check", "bank", file], cwd=file.parent, start_new_session=True, **pipes)
+    running = subprocess.Popen(
+        [program, "check", "bank", file], cwd=file.parent, start_new_session=True,
+        stdin=subprocess.DEVNULL, stdout=subprocess.PIPE, stderr=subprocess.PIPE)
     try:
         output, errors = running.communicate(timeout=SECONDS)
     except subprocess.TimeoutExpired:

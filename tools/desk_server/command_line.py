@@ -18,12 +18,13 @@ from .routes import Routes
 from .safety import Tokens
 from .server import HOST, Server
 
-DESCRIPTION = """A page in the browser for one clerk, in front of an office that is served on this machine (clearing serve).
-It is reached from this machine alone, by its own user, and the browser never sees the office's key."""
-STATUSES = """The status is 0 when it was stopped (Ctrl-C), 2 for the command line and its files, 3 where the port is taken.
-In the folder stand numbers.jsonl (the request numbers that were taken), pending.json (a request that has no answer yet),
-log.jsonl (what was done, refused and repeated), and firms.json (the firms that were opened). Keep it: the numbers go on
-from there."""
+DESCRIPTION = """A page in the browser for one clerk, in front of an office that is served on this machine
+(clearing serve). It is reached from this machine alone, by its own user, and the browser never sees the
+office's key."""
+STATUSES = """The status is 0 when it was stopped (Ctrl-C), 2 for the command line and its files, 3 where the
+port is taken. In the folder stand numbers.jsonl (the request numbers that were taken), pending.json (a
+request that has no answer yet), log.jsonl (what was done, refused and repeated), and firms.json (the firms
+that were opened). Keep it: the numbers go on from there."""
 KEY = re.compile(r"[!-~]{1,64}")
 
 
@@ -47,14 +48,17 @@ def request_number(word: str) -> int:
 
 def parser() -> argparse.ArgumentParser:
     made = argparse.ArgumentParser(prog="desk", description=DESCRIPTION, epilog=STATUSES)
-    made.add_argument("--office", type=port, required=True, metavar="PORT", help="the port on which the office is served")
-    made.add_argument("--key-file", type=Path, required=True, metavar="FILE", help="a file of a clerk's key alone")
+    made.add_argument("--office", type=port, required=True, metavar="PORT",
+                      help="the port on which the office is served")
+    made.add_argument("--key-file", type=Path, required=True, metavar="FILE",
+                      help="a file of a clerk's key alone")
     made.add_argument("--port", type=port, required=True, help="the port of the page; 0 takes a free one")
     made.add_argument("--log", type=Path, metavar="FOLDER",
-                      help="the folder of numbers and log; it is made where it isn't there (desk-log beside the key file)")
-    made.add_argument("--clearing", type=Path, metavar="PATH", help="the office's program, which checks bank files first")
+                      help="the folder of numbers and log, made if it isn't there (desk-log beside the key)")
+    made.add_argument("--clearing", type=Path, metavar="PATH",
+                      help="the office's program, which checks bank files first")
     made.add_argument("--rates", type=Path, metavar="FILE",
-                      help="the rate file of the store, by which the page tells what a report will be charged")
+                      help="the rate file of the store: the page tells what a report will be charged")
     made.add_argument("--desk", type=desk_number, default=1, metavar="N",
                       help="the number of this desk, 1 to 99, another one for each desk of the fund (1)")
     made.add_argument("--first-number", type=request_number, metavar="NUMBER",
@@ -82,8 +86,8 @@ def make_server(words: argparse.Namespace) -> Server:
     journal = Journal(folder, words.desk, words.first_number)
     settings = {"office": words.office, "desk": words.desk, "folder": str(folder.resolve())}
     if journal.pending is not None:
-        told = journal.pending
-        print(f"request {told.number} ({told.command.words}) has no answer yet: the page offers it", file=sys.stderr)
+        told = f"request {journal.pending.number} ({journal.pending.command.words})"
+        print(f"{told} has no answer yet: the page offers it", file=sys.stderr)
     server.routes = Routes(Desk(Office(words.office, key), journal, rates, program), Tokens(), settings)
     return server
 

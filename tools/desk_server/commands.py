@@ -1,11 +1,15 @@
-"""A command to the office: what the clerk's forms come to, with the words and values by which log and page tell of it."""
+"""A command to the office: what the clerk's forms come to, with the words and values by which log and
+page tell of it."""
 
 import base64
 import json
 from dataclasses import dataclass, field
 from typing import Any
 
-# The commands that can't be taken back: the page tells so, and the desk sends them only when that was confirmed.
+Values = dict[str, Any]
+
+# The commands that can't be taken back: the page tells so, and the desk sends them only when that was
+# confirmed.
 FINAL = frozenset(("assign", "bank", "end", "payouts", "rates", "register", "release", "reminders"))
 # The members of each command's reply: what has others comes from no office.
 DONE = frozenset(("done",))
@@ -24,17 +28,17 @@ class Command:
     method: str
     path: str
     body: bytes
-    values: dict[str, Any] = field(default_factory=dict)
+    values: Values = field(default_factory=dict)
 
     @property
     def words(self) -> str:
         return " ".join([self.kind, *map(str, self.values.values())])
 
 
-def command(kind: str, path: str, members: dict[str, Any] | None, values: dict[str, Any], method: str = "POST") -> Command:
+def command(kind: str, path: str, members: Values | None, values: Values, method: str = "POST") -> Command:
     """A command whose body is a JSON object of these members, or empty where there are none."""
-    body = b"" if members is None else json.dumps(members, ensure_ascii=False, separators=(",", ":")).encode()
-    return Command(kind, method, path, body, values)
+    text = "" if members is None else json.dumps(members, ensure_ascii=False, separators=(",", ":"))
+    return Command(kind, method, path, text.encode(), values)
 
 
 @dataclass(frozen=True)
@@ -51,8 +55,8 @@ class Numbered:
     def to_json(self) -> bytes:
         told = self.command
         members = {
-            "number": self.number, "time": self.time, "kind": told.kind, "method": told.method, "path": told.path,
-            "values": told.values, "body": base64.b64encode(told.body).decode(),
+            "number": self.number, "time": self.time, "kind": told.kind, "method": told.method,
+            "path": told.path, "values": told.values, "body": base64.b64encode(told.body).decode(),
         }
         return json.dumps(members, ensure_ascii=False).encode() + b"\n"
 

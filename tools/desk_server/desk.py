@@ -1,4 +1,5 @@
-"""The desk between the page and the office: sends each command under its number, and again where its answer was lost."""
+"""The desk between the page and the office: sends each command under its number, and again where its
+answer was lost."""
 
 import contextlib
 import threading
@@ -81,9 +82,11 @@ class Desk:
             return self.send(self.journal.take(command), is_repeat=False)
 
     def facts(self, command: Command) -> dict[str, Any]:
-        """What the page tells before the second click: the values as they were read, and what is known of a claim."""
-        known = self.journal.history.claims.get(command.values.get("claim", 0), {})
-        return {**command.values, **{name: known[name] for name in ("employer", "worker", "cents") if name in known}}
+        """What the page tells before the second click: the values as they were read, and what is known of
+        a claim."""
+        claim = self.journal.history.claims.get(command.values.get("claim", 0), {})
+        known = {name: claim[name] for name in ("employer", "worker", "cents") if name in claim}
+        return {**command.values, **known}
 
     def send_again(self, number: int) -> dict[str, Any]:
         """Sends the request that has no answer again, with the same bytes under the same number."""
@@ -156,9 +159,10 @@ class Desk:
     # ---- what a report will be charged
 
     def expected(self, month: str, gross: int) -> dict[str, Any] | None:
-        """The contribution that is to be expected of a month's gross wages, by the rate file and the rates that this desk
-        added; None where they don't tell."""
+        """The contribution that is to be expected of a month's gross wages, by the rate file and the
+        rates that this desk added; None where they don't tell."""
         row = rate_in_force([*(self.rates or []), *self.journal.history.rate_rows], month)
         if self.rates is None or row is None:
             return None
-        return {"cents": str(contribution_of(gross, row.contribution)), "rate": row.contribution, "from": row.first}
+        cents = contribution_of(gross, row.contribution)
+        return {"cents": str(cents), "rate": row.contribution, "from": row.first}

@@ -1,5 +1,6 @@
-"""Reads the office's documents (`docs/formats.md`) into what the page shows. Amounts are cents, written as digits, since
-a browser's numbers hold no more than 2^53. The office's text stays beside them as it came."""
+"""Reads the office's documents (`docs/formats.md`) into what the page shows. Amounts are cents, written
+as digits, since a browser's numbers hold no more than 2^53. The office's text stays beside them as it
+came."""
 
 import re
 from typing import Any
@@ -115,10 +116,10 @@ def read_statement(text: str) -> dict[str, Any]:
     charged = sum(int(it["contribution"]) for it in months)
     paid = sum(int(it["paid"]) for it in months)
     return {
-        "employer": int(employer), "day": day, "name": name, "start": start, "last": some(last), "charges": months,
-        "interest_payments": interest_payments, "missing": missing, "prepaid": prepaid, "arrears": arrears,
-        "interest": interest, "charged": str(charged), "credited": str(paid + int(prepaid)),
-        "open": str(charged - paid),
+        "employer": int(employer), "day": day, "name": name, "start": start, "last": some(last),
+        "charges": months, "interest_payments": interest_payments, "missing": missing, "prepaid": prepaid,
+        "arrears": arrears, "interest": interest, "charged": str(charged),
+        "credited": str(paid + int(prepaid)), "open": str(charged - paid),
     }
 
 
@@ -136,7 +137,8 @@ def read_payout(text: str) -> dict[str, Any]:
 def read_worker(text: str) -> dict[str, Any]:
     reader = Reader(text)
     worker, day = reader.take(WORKER).groups()
-    earned = [{"employer": int(it[1]), "month": it[2], "cents": cents(it[3])} for it in reader.take_all(EARNED)]
+    earned = [{"employer": int(it[1]), "month": it[2], "cents": cents(it[3])}
+              for it in reader.take_all(EARNED)]
     claims = [{"claim": int(it[1]), "employer": int(it[2]), "state": it[3], "cents": cents(it[4])}
               for it in reader.take_all(WORKER_CLAIM)]
     balance = cents(reader.take(BALANCE)[1])
@@ -162,6 +164,6 @@ def read_suspense(text: str, first: int = 0, most: int = 200) -> dict[str, Any]:
     count = int(reader.take(LINES)[1])
     total = cents(reader.take(TOTAL)[1])
     reader.end()
-    lines = [{"reference": it[1], "day": it[2], "purpose": it[3], "employer": some(it[4]), "cents": cents(it[5]),
-              "note": it[6] or ""} for it in found[first:first + most]]
+    lines = [{"reference": it[1], "day": it[2], "purpose": it[3], "employer": some(it[4]),
+              "cents": cents(it[5]), "note": it[6] or ""} for it in found[first:first + most]]
     return {"day": day, "lines": lines, "first": first, "count": count, "total": total}

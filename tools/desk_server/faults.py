@@ -21,7 +21,8 @@ class StartFault(Exception):
 
 
 class Fault(Exception):
-    """A fault that the page tells: its code, for which the words files have `fault.CODE`, and what it carries."""
+    """A fault that the page tells: its code, for which the words files have `fault.CODE`, and what it
+    carries."""
 
     def __init__(self, code: str, http_status: int = 400, **carried: Any):
         super().__init__(code)

@@ -1,4 +1,5 @@
-"""The forms of the page, each made into the command that it stands for. Every value comes as the text that was typed."""
+"""The forms of the page, each made into the command that it stands for. Every value comes as the text
+that was typed."""
 
 import hashlib
 from typing import Any, Callable
@@ -79,7 +80,8 @@ def report(form: Form) -> Command:
 def correct(form: Form) -> Command:
     version = amounts.number("version", form.text("version"), amounts.MOST_VERSION)
     path, values, lines = read_lines(form)
-    return command("correct", path, {"lines": lines, "version": version}, {**values, "version": version}, "PUT")
+    values = {**values, "version": version}
+    return command("correct", path, {"lines": lines, "version": version}, values, "PUT")
 
 
 def claim(form: Form) -> Command:
@@ -121,8 +123,10 @@ FORMS: dict[str, Callable[[Form], Command]] = {
 
 
 def bank(content: bytes, file_name: str) -> Command:
-    """A bank file goes to the office byte for byte. The log tells its name, its size, and by what it may be known again."""
+    """A bank file goes to the office byte for byte. The log tells its name, its size, and by what it may
+    be known again."""
     if len(content) > MOST_BODY:
         raise Fault("file-too-large", 413)
     digest = hashlib.sha256(content).hexdigest()[:16]
-    return Command("bank", "POST", "/bank", content, {"file": file_name, "bytes": len(content), "sha256": digest})
+    values = {"file": file_name, "bytes": len(content), "sha256": digest}
+    return Command("bank", "POST", "/bank", content, values)

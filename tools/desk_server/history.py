@@ -1,6 +1,8 @@
-"""What the desk knows from its own log: recent entries, the claims that it made, the lists and runs, the rates that it added.
+"""What the desk knows from its own log: recent entries, the claims that it made, the lists and runs, the
+rates that it added.
 
-The office has no route for these. What other desks and the firms did isn't here."""
+The office has no route for these. What other desks and the firms did isn't here.
+"""
 
 from collections import deque
 from typing import Any
@@ -51,7 +53,8 @@ class History:
         self.documents["reminders"].setdefault(reply["run"], number)
 
     def is_known(self, kind: str, document: int, number: int) -> bool:
-        """Whether this list or run was made under another number, so that the office took the request for that one."""
+        """Whether this list or run was made under another number, so that the office took the request for
+        that one."""
         return self.documents[kind].get(document, number) != number
 
     def claims_of(self, employer: int) -> list[dict[str, Any]]:

@@ -1,8 +1,8 @@
 """The desk's folder: the numbers that were taken, the one request that has no answer yet, and the log.
 
-`numbers.jsonl` and `pending.json` are written to the disk before a request is sent, `log.jsonl` once it has an answer, and
-`pending.json` goes last. So after a crash at any moment either nothing was sent, or what was sent stands in `pending.json`
-and is sent again under its number.
+`numbers.jsonl` and `pending.json` are written to the disk before a request is sent, `log.jsonl` once it
+has an answer, and `pending.json` goes last. So after a crash at any moment either nothing was sent, or
+what was sent stands in `pending.json` and is sent again under its number.
 """
 
 import datetime
@@ -30,7 +30,8 @@ def time_text() -> str:
 
 
 class Lines:
-    """A file of JSON objects, one a line, to which lines are added; each is on the disk when `append` returns."""
+    """A file of JSON objects, one a line, to which lines are added; each is on the disk when `append`
+    returns."""
 
     def __init__(self, path: Path):
         self.path = path
@@ -142,7 +143,8 @@ class Journal:
         return next_number(self.last, now().date(), self.desk, self.first)
 
     def take(self, command: Command) -> Numbered:
-        """Gives the command the next number, and writes both down. OSError if that fails: then it isn't to be sent."""
+        """Gives the command the next number, and writes both down. OSError if that fails: then it isn't
+        to be sent."""
         numbered = Numbered(self.next_number(), time_text(), command)
         self.numbers.append(numbered.entry())
         self.last = numbered.number

@@ -1,7 +1,8 @@
 """The request numbers of a desk, made of date, desk and count, as the clerk's manual suggests.
 
-202404300100007 is the 7th number of desk 1 on 2024-04-30: eight digits of the date, two of the desk, five of the count. Two
-desks with different numbers never meet, and the numbers of one desk only rise, also where the clock goes back.
+202404300100007 is the 7th number of desk 1 on 2024-04-30: eight digits of the date, two of the desk, five
+of the count. Two desks with different numbers never meet, and the numbers of one desk only rise, also
+where the clock goes back.
 """
 
 import datetime
@@ -18,8 +19,8 @@ def first_of_day(day: datetime.date, desk: int) -> int:
 
 
 def next_number(last: int, day: datetime.date, desk: int, first: int | None) -> int:
-    """The next number above the last one that was used (0 before the first). `first` is where the clerk lets them begin,
-    in the place of date, desk and count."""
+    """The next number above the last one that was used (0 before the first). `first` is where the clerk
+    lets them begin, in the place of date, desk and count."""
     if first is not None:
         number = max(first, last + 1)
         if number > LAST_NUMBER:

@@ -16,8 +16,9 @@ MEMORY, STORE, FAILED = 40, 41, 42
 
 
 class NoAnswer(Exception):
-    """Nothing came that an office says. The reason is `absent` (nobody takes the connection), `silent` (no answer in
-    time), `broken` (the connection ended before) or `foreign` (what answers is no office)."""
+    """Nothing came that an office says. The reason is `absent` (nobody takes the connection), `silent`
+    (no answer in time), `broken` (the connection ended before) or `foreign` (what answers is no
+    office)."""
 
     def __init__(self, reason: str):
         super().__init__(reason)
@@ -26,7 +27,8 @@ class NoAnswer(Exception):
 
 @dataclass(frozen=True)
 class Answer:
-    """An answer of the office: the text of a document, the members of a reply, or rule, name and detail of a refusal."""
+    """An answer of the office: the text of a document, the members of a reply, or rule, name and detail
+    of a refusal."""
 
     text: str
     members: dict[str, Any]
@@ -116,7 +118,9 @@ def read_answer(response: http.client.HTTPResponse, content: bytes) -> Answer:
 
 
 def is_reply(members: Any) -> bool:
-    return isinstance(members, dict) and bool(members) and all(type(it) in (int, bool) for it in members.values())
+    if not isinstance(members, dict) or not members:
+        return False
+    return all(type(it) in (int, bool) for it in members.values())
 
 
 def is_refusal(members: Any) -> bool:

@@ -1,4 +1,5 @@
-"""The rates of a rate file, by which the desk tells beforehand what a report will be charged (`docs/rules.md`)."""
+"""The rates of a rate file, by which the desk tells beforehand what a report will be charged
+(`docs/rules.md`)."""
 
 import tomllib
 from dataclasses import dataclass

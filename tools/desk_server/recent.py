@@ -1,4 +1,5 @@
-"""The firms that were opened at this desk, the last one first: the page offers them, since the office lists no firms."""
+"""The firms that were opened at this desk, the last one first: the page offers them, since the office
+lists no firms."""
 
 import contextlib
 import json

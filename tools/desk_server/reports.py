@@ -1,4 +1,5 @@
-"""Reads a report of gross wages from CSV: the header `worker,gross`, then a line a worker, gross amounts in cents."""
+"""Reads a report of gross wages from CSV: the header `worker,gross`, then a line a worker, gross amounts
+in cents."""
 
 import csv
 import io
@@ -16,7 +17,8 @@ DIGITS = re.compile(r"[0-9]{1,18}")
 
 @dataclass
 class Report:
-    """The gross wages by worker, in the order of the file, and what is wrong with it: line, reason and word."""
+    """The gross wages by worker, in the order of the file, and what is wrong with it: line, reason and
+    word."""
 
     wages: dict[int, int] = field(default_factory=dict)
     faults: list[dict] = field(default_factory=list)

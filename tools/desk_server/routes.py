@@ -21,6 +21,7 @@ MOST_REQUEST = 1_048_576 + 65_536
 HTTP_STATUS = {"done": 200, "repeated": 200, "given-up": 200, "refused": 409, "undecided": 503, "lost": 502}
 NUMBER = "([1-9][0-9]{0,8})"
 EMPLOYER = "([1-9][0-9]{0,7})"
+DOCUMENT = f"statement-{EMPLOYER}|suspense|(?:worker|payout|reminders)-{NUMBER}"
 FILE_NAME_LENGTH = 80
 # So many of the last lists and runs are offered.
 MOST_KNOWN = 10
@@ -58,7 +59,8 @@ def json_response(members: Any, status: int = 200) -> Response:
 
 
 def understood(read: Callable[[str], dict[str, Any]], text: str) -> dict[str, Any] | None:
-    """What a document says; None where the desk doesn't understand it, so that the page shows the text alone."""
+    """What a document says; None where the desk doesn't understand it, so that the page shows the text
+    alone."""
     try:
         return read(text)
     except NotUnderstood:
@@ -78,7 +80,7 @@ class Routes:
             (f"/api/payouts/{NUMBER}", self.payout),
             (f"/api/reminders/{NUMBER}", self.reminder),
             ("/api/log", self.log),
-            (f"/documents/(statement-{EMPLOYER}|suspense|(?:worker|payout|reminders)-{NUMBER})[.]txt", self.document),
+            (f"/documents/({DOCUMENT})[.]txt", self.document),
         )]
         self.posts = {f"/api/commands/{kind}": (kind, self.command) for kind in FORMS}
         self.posts |= {
@@ -120,11 +122,11 @@ class Routes:
 
     def suspense(self, first: str) -> Response:
         text = self.desk.query("/suspense")
-        history = self.desk.journal.history
+        known = self.desk.journal.history.documents
         return json_response({
-            "suspense": understood(lambda it: read_suspense(it, int(first)), text), "state": self.desk.state(),
-            "text": text, "lists": list(history.documents["payouts"])[-MOST_KNOWN:],
-            "runs": list(history.documents["reminders"])[-MOST_KNOWN:],
+            "suspense": understood(lambda it: read_suspense(it, int(first)), text), "text": text,
+            "lists": list(known["payouts"])[-MOST_KNOWN:], "runs": list(known["reminders"])[-MOST_KNOWN:],
+            "state": self.desk.state(),
         })
 
     def firm(self, employer: str) -> Response:
@@ -132,9 +134,10 @@ class Routes:
         statement = understood(read_statement, text)
         if statement is not None:
             self.desk.recent.add(int(employer), statement["name"])
-        claims = self.desk.journal.history.claims_of(int(employer))
-        return json_response({"statement": statement, "text": text, "claims": claims, "state": self.desk.state(),
-                              "recent": self.desk.recent.told()})
+        return json_response({
+            "statement": statement, "text": text, "recent": self.desk.recent.told(),
+            "claims": self.desk.journal.history.claims_of(int(employer)), "state": self.desk.state(),
+        })
 
     def text_and(self, name: str, read: Callable[[str], dict[str, Any]], path: str) -> Response:
         text = self.desk.query(path)
@@ -155,8 +158,10 @@ class Routes:
     def document(self, name: str) -> Response:
         """The office's text as it is, to keep in a file."""
         word, _, number = name.partition("-")
-        paths = {"statement": f"/employers/{number}/statement", "worker": f"/workers/{number}", "suspense": "/suspense",
-                 "payout": f"/payouts/{number}", "reminders": f"/reminders/{number}"}
+        paths = {
+            "statement": f"/employers/{number}/statement", "worker": f"/workers/{number}",
+            "suspense": "/suspense", "payout": f"/payouts/{number}", "reminders": f"/reminders/{number}",
+        }
         text = self.desk.query(paths[word])
         further = {"Content-Disposition": f'attachment; filename="{name}.txt"'}
         return Response(200, text.encode(), "text/plain; charset=utf-8", further)
@@ -185,7 +190,8 @@ class Routes:
 
     def check_bank(self, request: Request) -> Response:
         bank(request.body, "")
-        return json_response({"check": check_bank(self.desk.program, request.body), "state": self.desk.state()})
+        told = check_bank(self.desk.program, request.body)
+        return json_response({"check": told, "state": self.desk.state()})
 
     def check_report(self, request: Request) -> Response:
         """What a report's lines come to, and what they will be charged. Nothing is sent to the office."""

@@ -1,6 +1,8 @@
-"""Who may speak to the desk: the page that it served itself, in a browser of its own user, and nobody else.
+"""Who may speak to the desk: the page that it served itself, in a browser of its own user, and nobody
+else.
 
-- `Host` and `Origin`: another page in the clerk's browser can't reach the desk, whatever name it gave this machine.
+- `Host` and `Origin`: another page in the clerk's browser can't reach the desk, whatever name it gave
+  this machine.
 - Tokens: each form has one, made of a secret of this process, which only the page could read.
 - The user: the desk has the clerk's key, so a connection of another user of this machine is refused.
 """
@@ -18,7 +20,8 @@ CONNECTIONS = Path("/proc/net/tcp")
 ESTABLISHED = "01"
 
 HEADERS = {
-    "Content-Security-Policy": "default-src 'self'; base-uri 'none'; form-action 'self'; frame-ancestors 'none'",
+    "Content-Security-Policy": (
+        "default-src 'self'; base-uri 'none'; form-action 'self'; frame-ancestors 'none'"),
     "X-Content-Type-Options": "nosniff",
     "X-Frame-Options": "DENY",
     "Referrer-Policy": "no-referrer",
@@ -56,6 +59,11 @@ def check_source(headers: Message, port: int, is_post: bool) -> None:
     origin = one(headers, "Origin")
     if origin != f"http://{host}" and (is_post or origin is not None):
         raise Fault("origin", 403)
+
+
+def check_site(headers: Message) -> None:
+    """Refuses what a browser says that another page has asked for. A link to the page itself may stand
+    anywhere."""
     if one(headers, "Sec-Fetch-Site") not in (None, "none", "same-origin"):
         raise Fault("origin", 403)
 
@@ -77,6 +85,7 @@ def owner_of(peer: tuple[str, int], here: tuple[str, int]) -> int | None:
 
 
 def check_user(peer: tuple[str, int], here: tuple[str, int]) -> None:
-    """Where the kernel doesn't list its connections, as on other systems than Linux, all users count as the clerk."""
+    """Where the kernel doesn't list its connections, as on other systems than Linux, all users count as
+    the clerk."""
     if CONNECTIONS.exists() and owner_of(peer, here) != os.getuid():
         raise Fault("user", 403)

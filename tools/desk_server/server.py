@@ -14,7 +14,7 @@ from typing import Any, Callable
 from .assets import Asset
 from .faults import Fault
 from .routes import MOST_REQUEST, Request, Response, Routes, json_response
-from .safety import HEADERS, check_source, check_user, one
+from .safety import HEADERS, check_site, check_source, check_user, one
 
 HOST = "127.0.0.1"
 # In seconds, for each read and write of a connection.
@@ -95,7 +95,9 @@ class Handler(http.server.BaseHTTPRequestHandler):
         return self.server.routes.post(self.path, request)
 
     def check_peer(self) -> None:
-        """Another user of this machine gets the files of the page, which are no secret, and nothing of the office."""
+        """Another page, or another user of this machine, gets the files of the page, which are no secret,
+        and nothing of the office."""
+        check_site(self.headers)
         check_user(self.client_address, self.connection.getsockname())
 
     def read_body(self) -> bytes:
@@ -116,7 +118,8 @@ class Handler(http.server.BaseHTTPRequestHandler):
 
     def send(self, response: Response, further: dict[str, str] | None = None) -> None:
         self.send_response(response.status)
-        fields = {"Content-Type": response.kind, "Content-Length": str(len(response.content)), "Connection": "close"}
+        length = str(len(response.content))
+        fields = {"Content-Type": response.kind, "Content-Length": length, "Connection": "close"}
         for name, value in {**HEADERS, **fields, **response.further, **(further or {})}.items():
             self.send_header(name, value)
         self.end_headers()
@@ -126,7 +129,8 @@ class Handler(http.server.BaseHTTPRequestHandler):
             self.drop_rest()
 
     def drop_rest(self) -> None:
-        """Reads on for a moment: a connection that ends with bytes unread is reset, and its peer may lose the answer."""
+        """Reads on for a moment: a connection that ends with bytes unread is reset, and its peer may lose
+        the answer."""
         until = time.monotonic() + DROP_SECONDS
         left = MOST_DROPPED
         with contextlib.suppress(OSError):
