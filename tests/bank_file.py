@@ -1,0 +1,588 @@
+"""Runs tools/bank-file on statements written by hand, and has the office read what it makes.
+
+    python3 tests/bank_file.py [PROGRAM]
+
+PROGRAM is crates/clear_app/out/clear_app where it isn't given, as `rt ci` leaves it. What is expected is
+worked out by hand from the statements. It needs /usr/bin/python3 with defusedxml.
+"""
+
+import os
+import resource
+import shutil
+import stat
+import subprocess
+import sys
+import unittest
+
+# No __pycache__ is left beside the sources.
+sys.dont_write_bytecode = True
+from bank_statements import (  # noqa: E402
+    ACCOUNT, BATCH, BATCH_LINES, DECLARED, FIRMS, GOOD, LATIN, LATIN_LINES, NAMESPACE, NORD, PAGES, STRANGE,
+    WEST, as_02, balance, document, entry, one, packed, page, payment, statement, transaction)
+from documents import commands  # noqa: E402
+from program_under_test import ROOT, ProgramUnderTest, run_tests  # noqa: E402
+
+TOOL = str(ROOT / "tools/bank-file")
+PYTHON = "/usr/bin/python3"
+HEADER = "reference,value_date,employer,cents,purpose,note\n"
+
+# How a message names the statement, its first entry, and that as it is read.
+S1 = f"statement S1 of {ACCOUNT}"
+FIRST = f"entry 1 of {S1}"
+AT_FIRST = f"{S1}, entry 1 of the page"
+RETURNED = "<RtrInf><Rsn><Cd>AC04</Cd></Rsn></RtrInf>"
+PACK = "Pack the files of all pages into one zip"
+
+
+def has_defusedxml():
+    words = [PYTHON, "-c", "import defusedxml"]
+    return os.access(PYTHON, os.X_OK) and subprocess.run(words, capture_output=True, check=False).returncode == 0
+
+
+def setUpModule():
+    if not has_defusedxml():
+        raise unittest.SkipTest("tools/bank-file: /usr/bin/python3 with python3-defusedxml isn't here")
+
+
+class BankFiles(ProgramUnderTest):
+    maxDiff = None
+
+    def setUp(self):
+        super().setUp()
+        self.write("firms.csv", FIRMS)
+
+    def tool(self, *words, **options):
+        """Status, standard output and standard error of the tool."""
+        streams = {"stdout": subprocess.PIPE, "stderr": subprocess.PIPE, "timeout": 60, "check": False}
+        ran = subprocess.run([TOOL, *words], cwd=self.folder, **{**streams, **options})
+        return ran.returncode, (ran.stdout or b"").decode(), ran.stderr.decode()
+
+    def made(self, content, *words):
+        """The bank file of a statement, without its header, and what is told."""
+        self.write("statement", content)
+        known = ["--firms", "firms.csv", "--interest-word", "ZINSEN"]
+        status, output, told = self.tool("statement", *known, *words)
+        self.assertEqual((status, output[:len(HEADER)]), (0, HEADER), told)
+        return output.removeprefix(HEADER), told
+
+    def makes(self, content, lines, *words):
+        """These lines are made of a statement, and the office finds them good. What is told."""
+        output, told = self.made(content, *words)
+        self.assertEqual(output.splitlines(), lines, told)
+        self.write("bank.csv", HEADER + output)
+        status, said, errors = self.run_program("check", "bank", "bank.csv")
+        count = f"{len(lines)} {'line' if len(lines) == 1 else 'lines'}, 0 repeats within the file, "
+        self.assertEqual((status, said[:len(count)], errors), (0, count, ""), said)
+        return told
+
+    def refuses(self, content, said, status=1, words=("--firms", "firms.csv")):
+        """A statement ends with this status and says this, and no file is left."""
+        self.write("statement", content)
+        before = {it.name for it in self.folder.iterdir()}
+        ended = self.tool("statement", *words, "--out", "refused.csv")
+        self.assertEqual(ended, (status, "", f"{said}\nnothing is written\n"))
+        self.assertEqual({it.name for it in self.folder.iterdir()}, before)
+
+    def misread(self, content, said):
+        self.refuses(content, f"statement{said}", status=2)
+
+
+class Good(BankFiles):
+    def test_the_lines(self):
+        for name, (content, lines) in GOOD.items():
+            with self.subTest(name):
+                self.makes(content, lines)
+                # It comes again, and is the same.
+                self.makes(content, lines)
+
+    def test_version_02_has_the_lines_of_version_08(self):
+        for name in ("batch", "references", "no references", "notes"):
+            with self.subTest(name):
+                self.makes(as_02(GOOD[name][0]), GOOD[name][1])
+        content = one("0.00", "1.00", payment("1.00", status="PDNG"), payment("1.00", reference="A"))
+        told = self.makes(as_02(content), ["A,2024-04-30,,100,C,"])
+        self.assertIn("left out in all, pending: 1, 1.00 EUR\n", told)
+
+    def test_the_office_takes_each_and_then_knows_it(self):
+        self.init()
+        number = 0
+        for name, (content, lines) in GOOD.items():
+            with self.subTest(name):
+                self.write("bank.csv", HEADER + self.made(content)[0])
+                for said in (f"new {len(lines)} repeats 0\n", f"new 0 repeats {len(lines)}\n"):
+                    number += 1
+                    words = ["import", "fund.db", "2024-04-30", str(number), "bank.csv"]
+                    self.expect(words, 0, said)
+
+    def test_a_zip_has_all_its_statements_by_their_names(self):
+        other = one("1.00", "2.00", payment("1.00", reference="Z-1"), identifier="S0")
+        zipped = packed(("b.xml", LATIN), ("a.XML", other), ("C.xml", BATCH.replace("S1", "S2")))
+        self.makes(zipped, [*BATCH_LINES, "Z-1,2024-04-30,,100,C,", *LATIN_LINES])
+
+    def test_other_encodings_that_are_declared(self):
+        self.makes("\ufeff" + LATIN, LATIN_LINES)
+        self.makes(LATIN.replace("UTF-8", "UTF-16").encode("utf-16"), LATIN_LINES)
+        self.makes(LATIN.replace("UTF-8", "windows-1252").encode("cp1252"), LATIN_LINES)
+        self.makes(LATIN.replace(DECLARED, ""), LATIN_LINES)
+
+    def test_no_booked_credit(self):
+        self.assertEqual(self.makes(one("5.00", "5.00"), []), "written: 0 lines, 0.00 EUR\n")
+
+    def test_days(self):
+        entries = [payment("0.01", reference="D-1", value="<Dt>2000-01-01+01:00</Dt>"),
+                   payment("0.01", reference="D-2", value="<DtTm>2200-12-31T23:59:59Z</DtTm>"),
+                   payment("0.01", reference="D-3", value="", booked="2024-02-29")]
+        lines = ["D-1,2000-01-01,,1,C,", "D-2,2200-12-31,,1,C,", "D-3,2024-02-29,,1,C,"]
+        told = self.makes(one("0", "0.03", *entries), lines)
+        self.assertIn("  value dates 2000-01-01 to 2200-12-31\n", told)
+
+    def test_days_that_are_refused(self):
+        for day in ("1999-12-31", "2201-01-01"):
+            self.refuses(one("0", "1", payment("1", value=f"<Dt>{day}</Dt>")),
+                         f"{FIRST}: {day} doesn't lie from 2000-01-01 to 2200-12-31")
+        for day in ("2024-02-30", "20240430", "30.04.2024", "２０２４-04-30"):
+            self.refuses(one("0", "1", payment("1", value=f"<Dt>{day}</Dt>")),
+                         f"{AT_FIRST}: ValDt: {day} is no day", status=2)
+        self.refuses(one("0", "1", payment("1", value="", booked="")),
+                     f"{FIRST}: it has neither a value date nor a booking date")
+
+    def test_amounts(self):
+        entries = [payment("1000000000.00", reference="A-1"), payment("0.29000", reference="A-2"),
+                   payment("1.1", reference="A-3")]
+        lines = ["A-1,2024-04-30,,100000000000,C,", "A-2,2024-04-30,,29,C,", "A-3,2024-04-30,,110,C,"]
+        self.makes(one("0", "1000000001.39", *entries), lines)
+
+    def test_amounts_that_are_refused(self):
+        self.refuses(one("0", "1000000000.01", payment("1000000000.01")),
+                     f"{FIRST}: 1000000000.01 EUR is more than the office takes in one line")
+        self.refuses(one("0", "0.005", payment("0.005")), f"{FIRST}: 0.005 euros aren't whole cents")
+        for amount in ("-1.00", "1,00", "1e3", "NaN", "١", "1 000", "0x1"):
+            self.refuses(one("0", "1", payment(amount)),
+                         f"{AT_FIRST}: {amount} EUR is no amount with a currency", status=2)
+
+
+class Firms(BankFiles):
+    def finds(self, firm, text, iban=STRANGE, purpose="C", table=FIRMS):
+        self.write("firms.csv", table)
+        output, _ = self.made(one("0", "1", payment("1.00", text, "", iban, "F")))
+        self.assertEqual(output.split(",")[:5], ["F", "2024-04-30", firm, "100", purpose], text)
+
+    def test_by_the_iban_first(self):
+        self.finds("1001", "Betrieb 1002", NORD)
+        self.finds("1002", "", f"{WEST[:4].lower()} {WEST[4:]}")
+        self.finds("", "", STRANGE)
+
+    def test_by_one_number_of_the_table(self):
+        for text in ("1001", "Betrieb 1001", "Nr.1001", "Nr:1001, Mai", "(1001)", "1001.", "1001 4711 1001",
+                     "#1001/x", ["Betrieb", "1001"], "1001 Februar 03/2024"):
+            self.finds("1001", text)
+
+    def test_no_number_or_several(self):
+        for text in ("", "10010", "01001", "1001a", "x1001", "1001_", "1001/2024", "03-1001", "1.001", "1001,00",
+                     "EUR 1001", "€1001", "1001 EUR", "1001€", "1001 1003", "１００１", ["10", "01"],
+                     "10&#x200b;01"):
+            self.finds("", text)
+
+    def test_interest_by_a_word(self):
+        for text in ("Zinsen", "ZINSEN", "für Zinsen, Mai", "Zinsen/Mai"):
+            self.finds("", text, purpose="I")
+        for text in ("Verzugszinsen", "Zins en", "Zinsen2"):
+            self.finds("", text)
+        self.write("statement", one("0", "1", payment("1.00", "Rückstand", reference="F")))
+        words = "statement --firms firms.csv --interest-word zins --interest-word RU\u0308CKSTAND"
+        self.assertIn("F,2024-04-30,,100,I,Rückstand\n", self.tool(*words.split())[1])
+
+    def test_other_tables(self):
+        self.finds("99999999", "", NORD, table=f"\ufeffiban,employer\r\n\r\n{NORD}, 99999999 \r\n")
+        self.finds("7", "7", table=f'"iban","employer"\n{NORD},7\n{WEST},7\n')
+        self.finds("", "7", table="iban,employer\n")
+
+    def faulty(self, table, said):
+        self.write("firms.csv", table)
+        self.refuses(LATIN, said, status=2)
+
+    def test_faulty_tables(self):
+        for table in ("", "iban;employer\n", "employer,iban\n"):
+            self.faulty(table, "firms.csv: the first line isn't iban,employer")
+        self.faulty(f"iban,employer\n{NORD}\n", "firms.csv, line 2: 1 fields in place of 2")
+        self.faulty('iban,employer\n"a\n', "firms.csv, line 2: unexpected end of data")
+        self.faulty("iban,employer\nM\xe4rz,1\n".encode("latin-1"), "firms.csv: no text in UTF-8")
+
+    def test_each_fault_of_a_table(self):
+        lines = [f"{NORD[:-1]}1,1001", "", f"{WEST},0", f"{NORD},01", f"{WEST},1", f"{WEST},1", "DE1,2",
+                 f"{NORD},100000000"]
+        self.faulty("\n".join(["iban,employer", *lines]), "\n".join([
+            f"firms.csv, line 2: {NORD[:-1]}1 is no IBAN, or a digit of it is wrong",
+            "firms.csv, line 4: 0 is no number of a firm (1 to 99999999)",
+            "firms.csv, line 5: 01 is no number of a firm (1 to 99999999)",
+            f"firms.csv, line 6: {WEST} stands twice",
+            f"firms.csv, line 7: {WEST} stands twice",
+            "firms.csv, line 8: DE1 is no IBAN, or a digit of it is wrong",
+            "firms.csv, line 9: 100000000 is no number of a firm (1 to 99999999)"]))
+
+    def test_a_changed_table_and_an_earlier_file(self):
+        entries = payment("2.00", "x", "", STRANGE, "E-1"), payment("3.00", "y", "", STRANGE, "E-2")
+        content = one("0", "5.00", *entries)
+        self.write("made.csv", HEADER + "E-1,2024-04-30,1001,200,,as it was\nE-2,2024-04-30,1001,299,C,\n")
+        self.write("more.csv", HEADER + "E-1,2024-04-30,1002,200,C,\n")
+        self.write("firms.csv", f"iban,employer\n{STRANGE},5\n")
+        told = self.makes(content, ["E-1,2024-04-30,1001,200,,as it was", "E-2,2024-04-30,5,300,C,y"],
+                          "--earlier", "made.csv", "more.csv")
+        self.assertIn("  as in an earlier file: 1 line, 2.00 EUR\n", told)
+        self.write("made.csv", "reference,cents\n")
+        self.refuses(content, f"made.csv: the first line isn't {HEADER.strip()}", 2,
+                     words=("--firms", "firms.csv", "--earlier", "made.csv"))
+
+
+class Batches(BankFiles):
+    def test_without_amounts_it_is_one_line(self):
+        nord, west = transaction("", "Mai", "Bau Nord", NORD), transaction("4.00", "Zinsen", "Bau West", WEST)
+        interest = transaction("", "Zinsen 1003")
+        for details, line in (
+                ([nord, west], 'B,2024-04-30,,900,C,"Bau Nord, Bau West: Mai Zinsen"'),
+                ([nord, nord], "B,2024-04-30,1001,900,C,Bau Nord: Mai Mai"),
+                ([nord, transaction("", "1001")], "B,2024-04-30,1001,900,C,Bau Nord: Mai 1001"),
+                ([nord, transaction("", "", "Bau Nord", STRANGE)], "B,2024-04-30,,900,C,Bau Nord: Mai"),
+                ([interest, interest], "B,2024-04-30,1003,900,I,Zinsen 1003 Zinsen 1003"),
+                # One is in another currency, or was taken off.
+                ([transaction("5.00"), west.replace("EUR", "USD")], "B,2024-04-30,,900,C,Bau West: Zinsen"),
+                ([transaction("5.00"), west.replace("CRDT", "DBIT")], "B,2024-04-30,,900,C,Bau West: Zinsen")):
+            self.makes(one("0", "9.00", entry("9.00", *details, reference="B")), [line])
+
+    def test_not_all_its_transactions_are_there(self):
+        nord = transaction("4.00", "Mai", "Bau Nord", NORD)
+        for count, details, line in ((2, [nord], "B,2024-04-30,,900,C,Bau Nord: Mai"),
+                                     (2, [], "B,2024-04-30,,900,C,"),
+                                     (3, [nord, nord], "B,2024-04-30,,900,C,Bau Nord: Mai Mai"),
+                                     (2, [transaction("4.00", more=RETURNED)], "B,2024-04-30,,900,C,"),
+                                     ("001", [nord], "B,2024-04-30,1001,900,C,Bau Nord: Mai")):
+            batch = f"<Btch><NbOfTxs>{count}</NbOfTxs></Btch>"
+            self.makes(one("0", "9.00", entry("9.00", *details, reference="B", batch=batch)), [line])
+
+    def test_the_amounts_of_its_transactions_are_its_own(self):
+        for content in (BATCH, as_02(BATCH)):
+            self.refuses(content.replace("99.89", "99.90"),
+                         f"{FIRST}: its 3 transactions don't make its amount, 200.00 EUR")
+
+    def test_one_that_came_back_is_left_out(self):
+        back = transaction("1.00", reference="X", more=RETURNED)
+        parts = transaction("2.00", reference="Y"), back, transaction("0.00", reference="Z")
+        told = self.makes(one("0", "3.00", entry("3.00", *parts, reference="B")), ["Y,2024-04-30,,200,C,"])
+        self.assertIn(f"left out, returned transfer (a credit): transaction 2 of {FIRST}, 2024-04-30, 1.00 EUR\n",
+                      told)
+        self.assertIn("left out in all, amount of 0: 1, 0.00 EUR\n", told)
+        # Where it can't be parted from the others, the clerk has to look.
+        whole = entry("3.00", transaction("", iban=NORD), back, reference="B")
+        self.makes(one("0", "3.00", whole), ["B,2024-04-30,,300,C,"])
+
+
+class LeftOut(BankFiles):
+    def test_each_with_its_reason_and_sums(self):
+        returned = transaction("", "Auszahlung 3", more=RETURNED)
+        reversal = "<RvslInd>true</RvslInd>"
+        content = one(
+            "100.00", "176.00", payment("80.00", reference="L-1"), entry("1.10", direction="DBIT"),
+            entry("2.20", direction="DBIT"), entry("3.00", direction="DBIT", reversal=reversal),
+            entry("0.30", returned), entry("2.00", reversal="<RvslInd>1</RvslInd>"),
+            payment("9.00", status="PDNG"), payment("8.00", status="INFO"), payment("7.00", currency="USD"),
+            payment("6.50", currency="USD"), payment("5", currency="JPY", value="", booked=""), payment("0.00"),
+            entry("5.00", direction="DBIT", status="PDNG", reversal=reversal),
+            payment("0.00", reversal="<RvslInd>false</RvslInd>"),
+            entry("0.20", returned, returned), entry("0.20", returned, direction="DBIT"))
+        told = self.makes(content, ["L-1,2024-04-30,,8000,C,"]).splitlines()
+        self.assertEqual(told[:3], [
+            f"left out, debit: entry 2 of {S1}, 2024-04-30, 1.10 EUR",
+            f"left out, debit: entry 3 of {S1}, 2024-04-30, 2.20 EUR",
+            f"left out, returned payment (a debit): entry 4 of {S1}, 2024-04-30, 3.00 EUR"])
+        self.assertIn(f"left out, other currency: entry 11 of {S1}, no day, 5.00 JPY", told)
+        self.assertEqual(told[15:], [
+            "left out in all, debit: 2, 3.30 EUR",
+            "left out in all, returned payment (a debit): 2, 3.20 EUR",
+            "left out in all, returned transfer (a credit): 3, 2.50 EUR",
+            "left out in all, pending: 2, 14.00 EUR",
+            "left out in all, neither booked nor pending: 1, 8.00 EUR",
+            "left out in all, other currency: 2, 13.50 USD",
+            "left out in all, other currency: 1, 5.00 JPY",
+            "left out in all, amount of 0: 2, 0.00 EUR",
+            "written: 1 line, 80.00 EUR", "  without a firm: 1 line, 80.00 EUR",
+            "  value dates 2024-04-30 to 2024-04-30"])
+
+    def test_an_account_in_another_currency(self):
+        content = one("1.00", "3.00", payment("2.00", reference="A")).replace('Ccy="EUR"', 'Ccy="USD"')
+        self.assertIn("other currency: 1, 2.00 USD\n", self.makes(content, []))
+        self.refuses(content.replace(">3.00<", ">4.00<"), f"{S1}: the opening balance 1.00 USD and the booked "
+                     "entries make 3.00 USD, but the closing balance is 4.00 USD")
+        self.refuses(content.replace("USD", "EUR", 1), f"{S1}: its balances are in EUR and USD")
+
+
+class Balances(BankFiles):
+    def test_they_agree_with_the_booked_entries(self):
+        entries = [payment("5.00", reference="A"), payment("7.00", direction="DBIT"),
+                   payment("9.00", status="PDNG")]
+        self.makes(one("1.00", "-1.00", *entries), ["A,2024-04-30,,500,C,"])
+        three = [statement("1.00", "1.01", *entries), statement("1.00", "1.00", *entries, identifier="S2"),
+                 statement("1.00", "-1.00", *entries, identifier="S3")]
+        said = "the opening balance 1.00 EUR and the booked entries make -1.00 EUR, but the closing balance is"
+        self.refuses(document(*three), f"{S1}: {said} 1.01 EUR\nstatement S2 of {ACCOUNT}: {said} 1.00 EUR")
+
+    def test_one_of_each(self):
+        first, last = balance("OPBD", "0"), balance("CLBD", "0.00")
+        self.makes(document(page(first + balance("PRCD", "0.0") + last + last + balance("CLAV", "9"))), [])
+        self.refuses(document(page(last)),
+                     f"{S1}: it has no opening balance (OPBD or PRCD), so it can't be checked")
+        self.refuses(document(page(first)), f"{S1}: it has no closing balance (CLBD), so it can't be checked")
+        self.refuses(document(page(first + balance("PRCD", "1") + last)),
+                     f"{S1}: it has several opening balances: 0.00 EUR, 1.00 EUR")
+
+    def test_pages_that_are_not_all_there(self):
+        for there, told in (([0], "1"), ([0, 2], "1, 3"), ([1, 2], "2, 3"), ([0, 1], "1, 2")):
+            pages = [PAGES[it] for it in there]
+            self.refuses(document(*pages), f"{S1}: a page is missing; there are {told}. {PACK}")
+        self.refuses(document(*PAGES, PAGES[1]), f"{S1}: it stands twice in the file, or a page of it does")
+
+    def test_balances_of_pages(self):
+        for old, new in (("90.00", "90.01"), ("140.00", "90.00"), ("140.00", "140.01")):
+            pages = [PAGES[0], PAGES[1].replace(old, new), PAGES[2]]
+            self.refuses(document(*pages), f"{S1}: the interim balances of page 2 don't agree with the other "
+                         "pages and the entries")
+        self.refuses(document(*PAGES).replace(">120.00", ">121.00"), f"{S1}: the opening balance -10.00 EUR and "
+                     "the booked entries make 120.00 EUR, but the closing balance is 121.00 EUR")
+
+    def test_messages_of_version_02_by_pages(self):
+        def message(number, last, *statements):
+            paged = f"<MsgPgntn><PgNb>{number}</PgNb><LastPgInd>{last}</LastPgInd></MsgPgntn>"
+            return as_02(document(*statements, head=paged))
+
+        whole = statement("0", "1.00", payment("1.00", reference="M-1"))
+        begun = page(balance("OPBD", "0"), payment("2.00", reference="M-2"), identifier="S2")
+        ended = page(balance("CLBD", "6.00"), payment("4.00", reference="M-3"), identifier="S2")
+        first, second = message(1, "false", whole, begun), message(2, "true", ended)
+        lines = ["M-1,2024-04-30,,100,C,", "M-2,2024-04-30,,200,C,", "M-3,2024-04-30,,400,C,"]
+        self.makes(packed(("1.xml", first), ("2.xml", second)), lines)
+        self.refuses(packed(("1.xml", first), ("2.xml", message(3, "true", ended))),
+                     f"statement S2 of {ACCOUNT}: a page is missing; there are 1, 3. {PACK}")
+
+
+class References(BankFiles):
+    def references(self, content):
+        return [line.split(",")[0] for line in self.made(content)[0].splitlines()]
+
+    def test_one_payment_in_two_statements(self):
+        text, second = "a" * 150, f"entry 1 of statement S2 of {ACCOUNT}"
+
+        def both(later):
+            return document(statement("0", "1.00", payment("1.00", text, reference="R")),
+                            statement("0", "1.00", later, identifier="S2"))
+
+        told = self.makes(both(payment("1.00", text, reference="R")), [f"R,2024-04-30,,100,C,{text[:140]}"])
+        self.assertIn(f"left out, stands in two statements: {second}, 2024-04-30, 1.00 EUR\n", told)
+        # Two others, though their lines would be equal.
+        for other in (payment("1.00", text[1:], reference="R"), payment("1.00", text, "", STRANGE, "R"),
+                      payment("1.00", text, reference="R", booked="2024-05-01")):
+            self.refuses(both(other), f"{second} and {FIRST} are different payments, and the bank gives both the "
+                         "reference R; ask the bank")
+
+    def test_places_are_those_of_a_statement(self):
+        here, = self.references(one("0", "1", payment("1.00")))
+        others = [one("0", "1", payment("1.00"), identifier="S2"), one("0", "1", payment("1.00"), account=NORD),
+                  one("0", "1", payment("1.00", booked="2024-04-29")),
+                  one("0", "1", payment("1.00", end_to_end="E"))]
+        parts = transaction("0.50"), transaction("0.50")
+        third = self.references(one("0", "2", entry("1"), entry("1", *parts)))
+        self.assertEqual(third[0], here)
+        self.assertEqual(len({*third, *sum(map(self.references, others), [])}), 7)
+        # What may change of an entry is no part of it.
+        same = payment("1.00", "x", "y", NORD, value="<Dt>2024-04-29</Dt>")
+        self.assertEqual(self.references(one("0", "1", same)), [here])
+
+
+class Limits(BankFiles):
+    def test_the_lines_of_a_file(self):
+        def entries(count, text=""):
+            return one("0", f"{count}", *(payment("1", text, reference=f"N{at:04}") for at in range(count)))
+
+        said = ("are more than the office takes in a file (10000 lines, 1048576 bytes); "
+                "give fewer statements at once")
+        self.makes(entries(10_000), [f"N{at:04},2024-04-30,,100,C," for at in range(10_000)])
+        self.refuses(entries(10_001), f"10001 lines of {49 + 25 * 10_001 + 1} bytes {said}")
+        self.refuses(entries(6_500, "x" * 140), f"6500 lines of {49 + 165 * 6_500} bytes {said}")
+
+    def test_files_that_are_too_large(self):
+        self.misread(LATIN.ljust(33_554_433), ": larger than 33554432 bytes")
+        deep = ": too many XML elements, or too deep within each other"
+        self.misread("<a>" * 100, deep)
+        self.misread(LATIN.replace("<BkTxCd/>", "<BkTxCd/>" * 2_000_000), deep)
+        bomb = packed(*((f"{at}.xml", b" " * 12_000_000) for at in range(3)))
+        self.assertLess(len(bomb), 100_000)
+        self.misread(bomb, ": the zip unpacks to more than 33554432 bytes")
+        # It isn't unpacked further than that, whatever it says of its size.
+        bomb = packed(("a.xml", bytes(300_000_000)))
+        self.misread(bomb.replace((300_000_000).to_bytes(4, "little"), (9).to_bytes(4, "little")),
+                     ": a zip that can't be unpacked: Bad CRC-32 for file 'a.xml'")
+        self.write("statement", bomb)
+        few = {"preexec_fn": lambda: resource.setrlimit(resource.RLIMIT_AS, (250_000_000, 250_000_000))}
+        self.assertEqual(self.tool("statement", "--firms", "firms.csv", **few)[0], 2)
+        many = packed(*((f"{at}.xml", "") for at in range(1_001)))
+        self.misread(many, ": the zip has more than 1000 files")
+
+
+class NotRead(BankFiles):
+    def test_other_messages(self):
+        wanted = "the statement of the day, camt.053, is wanted"
+        ours = "only camt.053.001.02 and camt.053.001.08 are read"
+        for message, said in (("camt.052.001.08", f"a report within the day, which isn't final; {wanted}"),
+                              ("camt.054.001.02", f"a notification of single payments; {wanted}"),
+                              ("camt.053.001.04", ours), ("pain.001.001.09", ours)):
+            self.misread(LATIN.replace("camt.053.001.08", message), f": {message}: {said}")
+        root = ": the XML is no camt.053 statement; its root is"
+        self.misread("<html><p/></html>", f"{root} html")
+        self.misread(LATIN.replace(f' xmlns="{NAMESPACE}08"', ""), f"{root} Document")
+        self.misread(LATIN.replace("BkToCstmrStmt", "BkToCstmrAcctRpt"),
+                     ": no statement (BkToCstmrStmt/Stmt) in it")
+
+    def test_no_xml(self):
+        for content in ("", " \n"):
+            self.misread(content, ": the file is empty")
+        self.misread("%PDF-1.7\n", ": a PDF; the statement is wanted as camt.053, in XML")
+        for content in (HEADER, ":20:STARTUMS\n", b"\x00\x01"):
+            self.misread(content, ": no XML; the statement is wanted as camt.053, not as CSV or MT940")
+        self.misread("<a></b>", ": no XML: line 1, column 6: mismatched tag")
+
+    def test_a_file_that_is_cut_off(self):
+        for size in (50, len(LATIN) // 2, len(LATIN) - 5):
+            line = LATIN[:size].count("\n") + 1
+            self.misread(LATIN[:size], f": the XML stops in line {line}, before its end: the file isn't whole")
+
+    def test_bytes_that_are_not_what_is_declared(self):
+        told = ("has bytes that aren't UTF-8, and the file doesn't declare another encoding: it is Latin-1 or the "
+                "like, or damaged")
+        self.misread(LATIN.encode("latin-1"), f": line 6 {told}")
+        self.misread(LATIN.replace(DECLARED, "").encode("latin-1"), f": line 5 {told}")
+        self.misread(LATIN.replace("UTF-8", "latin-9000"),
+                     ": its encoding isn't read: unknown encoding: latin-9000")
+
+    def test_document_types_and_entities(self):
+        levels = "".join(f'<!ENTITY l{at} "{f"&l{at - 1};" * 10}">' for at in range(1, 10))
+        for declared in (f'<!DOCTYPE d [<!ENTITY l0 "lol">{levels}]>', "<!DOCTYPE d>",
+                         '<!DOCTYPE d [<!ENTITY l9 SYSTEM "file:///etc/hostname">]>',
+                         '<!DOCTYPE d SYSTEM "http://127.0.0.1:1/d.dtd">'):
+            content = LATIN.replace(DECLARED, DECLARED + declared).replace("März", "&l9;")
+            self.misread(content, ": it declares a document type or entities, as no bank does; it isn't read")
+        before, _, behind = LATIN.partition("März")
+        place = f"line {before.count(chr(10)) + 1}, column {len(before) - before.rindex(chr(10))}"
+        self.misread(f"{before}&l9;{behind}", f": no XML: {place}: undefined entity")
+
+    def test_names_in_a_zip(self):
+        for name in ("a.pdf", "a/b.xml", "../a.xml", "/a.xml", "..\\a.xml", ".xml", ".a.xml"):
+            self.misread(packed((name, LATIN)),
+                         f": the zip has {name}, which is no plain name that ends in .xml")
+        self.misread(packed(("a\x1b[2J.xml", LATIN)),
+                     ": the zip has a [2J.xml, which is no plain name that ends in .xml")
+        self.misread(packed(("a.xml", LATIN), ("a.xml", LATIN)), ": the zip has 2 files of the name a.xml")
+
+    def test_zips_that_are_not_read(self):
+        self.misread(packed(), ": the zip has no file")
+        self.misread(packed(("a.xml", LATIN))[:-30], ": a zip that can't be unpacked: File is not a zip file")
+        broken = bytearray(packed(("a.xml", LATIN)))
+        broken[60] ^= 255
+        self.write("statement", bytes(broken))
+        status, output, told = self.tool("statement", "--firms", "firms.csv")
+        self.assertEqual((status, output), (2, ""))
+        self.assertRegex(told, "^statement: a zip that can't be unpacked: ")
+        self.misread(packed(("a.xml", packed(("b.xml", LATIN)))),
+                     ", a.xml: no XML; the statement is wanted as camt.053, not as CSV or MT940")
+        closed = bytearray(packed(("a.xml", LATIN)))
+        closed[closed.index(b"PK\x01\x02") + 8] |= 1
+        self.misread(bytes(closed), ": a.xml is encrypted; unpack the zip with its password first")
+
+    def test_what_an_entry_lacks(self):
+        amount = '<Amt Ccy="EUR">1.00</Amt>'
+        direction = "<CdtDbtInd>CRDT</CdtDbtInd><Sts>"
+        for old, new, said in (
+                ("<Sts><Cd>BOOK</Cd></Sts>", "", f"{AT_FIRST}: Sts/Cd or Sts/Prtry or Sts is missing"),
+                (direction, "<Sts>", f"{AT_FIRST}: CdtDbtInd is missing"),
+                (direction, direction.replace("CRDT", "X\x85"),
+                 f"{AT_FIRST}: CdtDbtInd is X, neither CRDT nor DBIT"),
+                (amount + direction, direction, f"{AT_FIRST}: Amt is missing"),
+                (amount + direction, "<Amt>1.00</Amt>" + direction,
+                 f"{AT_FIRST}: 1.00 is no amount with a currency"),
+                ("<Id>S1</Id>", "", "statement: Id is missing"),
+                (f"<IBAN>{ACCOUNT}</IBAN>", "", "statement: Acct/Id/IBAN or Acct/Id/Othr/Id is missing")):
+            self.assertIn(old, LATIN)
+            self.refuses(LATIN.replace(old, new), said, status=2)
+
+
+class CommandLine(BankFiles):
+    words = ("statement", "--firms", "firms.csv")
+
+    def setUp(self):
+        super().setUp()
+        self.write("statement", LATIN)
+
+    def test_the_file_is_written_whole_and_over_no_other(self):
+        self.assertEqual(self.tool(*self.words, "--out", "bank.csv")[:2], (0, ""))
+        written = self.folder / "bank.csv"
+        self.assertEqual(stat.S_IMODE(written.stat().st_mode), 0o600)
+        (self.folder / "link").symlink_to("nowhere")
+        for name in ("bank.csv", "link", "."):
+            self.assertEqual(self.tool(*self.words, "--out", name),
+                             (2, "", f"{name}: there is such a file already\nnothing is written\n"))
+        status, output, told = self.tool(*self.words, "--out", "missing/bank.csv")
+        self.assertEqual((status, output), (2, ""))
+        self.assertIn("No such file or directory", told)
+        self.assertEqual(written.read_text(), f"{HEADER}{LATIN_LINES[0]}\n")
+        self.assertEqual([it.name for it in self.folder.iterdir() if it.name.startswith(".")], [])
+
+    def test_a_file_system_without_second_names(self):
+        self.write("sitecustomize.py", "import errno, os\ndef link(*names):\n"
+                   "    raise OSError(errno.EPERM, 'no second names')\nos.link = link\n")
+        environment = {**os.environ, "PYTHONPATH": str(self.folder)}
+        self.assertEqual(self.tool(*self.words, "--out", "bank.csv", env=environment)[:2], (0, ""))
+        self.assertEqual((self.folder / "bank.csv").read_text(), f"{HEADER}{LATIN_LINES[0]}\n")
+        self.assertEqual([it.name for it in self.folder.iterdir() if it.name.startswith(".")], [])
+
+    def test_files_that_are_not_there(self):
+        for words in ("missing --firms firms.csv", "statement --firms missing", ". --firms firms.csv",
+                      "statement --firms firms.csv --earlier missing"):
+            status, output, told = self.tool(*words.split())
+            self.assertEqual((status, output), (2, ""), told)
+            self.assertRegex(told, r"^\[Errno \d+\] (No such file or|Is a) directory: '(missing|\.)'\n$")
+
+    def test_a_disk_that_is_full(self):
+        with open("/dev/full", "wb") as full:
+            status, _, told = self.tool(*self.words, stdout=full)
+        self.assertEqual((status, told), (2, "[Errno 28] No space left on device\n"))
+
+    def test_words(self):
+        status, output, _ = self.tool("--help")
+        self.assertEqual(status, 0)
+        for word in ("STATEMENT", "--firms TABLE", "--interest-word WORD", "--earlier FILE", "--out FILE"):
+            self.assertIn(word, output)
+        for words in ("", "statement", "--firms firms.csv", "statement --firms firms.csv more",
+                      "statement --firms firms.csv --interest-word a-b",
+                      "statement --firms firms.csv --ou x"):
+            status, output, told = self.tool(*words.split())
+            self.assertEqual((status, output, told[:6]), (2, "", "usage:"))
+
+    def test_without_defusedxml(self):
+        self.write("defusedxml.py", "raise ImportError")
+        status, output, told = self.tool(*self.words, env={**os.environ, "PYTHONPATH": str(self.folder)})
+        self.assertEqual((status, output), (2, ""))
+        self.assertIn("    apt-get install python3-defusedxml\n", told)
+
+
+class Document(BankFiles):
+    def test_the_example(self):
+        shutil.copytree(ROOT / "examples", self.folder / "examples")
+        (self.folder / "tools").symlink_to(ROOT / "tools")
+        text = (ROOT / "docs/tools.md").read_text()
+        examples = commands(text.partition("\n## bank-file\n")[2].partition("\n## ")[0])
+        self.assertEqual(len(examples), 7)
+        for command, printed in examples:
+            ran = subprocess.run(["bash", "-c", command], cwd=self.folder, stdout=subprocess.PIPE,
+                                 stderr=subprocess.STDOUT, check=False)
+            self.assertEqual((ran.returncode, ran.stdout.decode()), (0, printed), command)
+
+
+if __name__ == "__main__":
+    run_tests()

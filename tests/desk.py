@@ -1,0 +1,489 @@
+"""Talks to the desk (tools/desk) in front of a served office, as its page does and as an attacker would.
+
+    python3 tests/desk.py [PROGRAM]
+
+PROGRAM is crates/clear_app/out/clear_app where it isn't given, as `rt ci` leaves it. What is expected is
+worked out from docs/rules.md by hand, or stands in docs/clerk.md.
+"""
+
+import json
+import socket
+import sys
+import threading
+
+# No __pycache__ is left beside the sources.
+sys.dont_write_bytecode = True
+from desk_under_test import (  # noqa: E402
+    BANK_HEADER, DONE, FIRST_BANK, DeskUnderTest, FakeOffice, answer_bytes, free_port, read_message)
+from program_under_test import DAY, run_tests  # noqa: E402
+
+EMPTY_SUSPENSE = b"suspense 2024-04-30\nlines 0\ntotal           0.00\n"
+STORE_FAILED = {"rule": 41, "name": "Store", "detail": "Other"}
+FAILED = {"rule": 42, "name": "Failed", "detail": ""}
+# What docs/clerk.md shows of the firm after the correction of January.
+STATEMENT = """statement 1001 2024-04-30
+name Bau Nord
+member 2024-01 -
+charge 2024-01 due 2024-02-20 version 2        1000.00           0.00          10.00
+  paid 2024-02-25        1000.00 B1
+charge 2024-02 due 2024-03-20 version 1        1000.10           0.00          10.00
+  paid 2024-02-25         500.00 B1
+  paid 2024-04-21         500.10 B2
+missing 2024-03
+prepaid        1499.90
+arrears           0.00
+interest          20.00
+"""
+
+
+class Forms(DeskUnderTest):
+    """Each form once, in the order of the manual's story, and the views beside them."""
+
+    def setUp(self):
+        super().setUp()
+        self.open_desk(None, "--rates", "rates.toml")
+
+    def to_the_correction(self):
+        self.does(DONE, self.register())
+        self.does({"charge": 200000, "version": 1}, self.report("2024-01", "7,1000000\n"))
+        self.does({"charge": 100010, "version": 1}, self.report("02/2024", "7,500050\n"))
+        self.does({"new": 2, "repeats": 0}, self.bank(FIRST_BANK))
+        self.refuses(15, "ReportExists", "1", self.report("2024-01", "7,500000\n"))
+        self.does({"charge": 100000, "version": 2}, self.report("2024-01", "7,500000\n", "correct", version="1"))
+
+    def to_the_payout_day(self):
+        self.to_the_correction()
+        claim = {"employer": "1001", "worker": "7"}
+        self.refuses(25, "OverBalance", "142507", self.command("claim", **claim, amount="8.000,00"))
+        self.does({"claim": 1}, self.command("claim", **claim, amount="800"))
+        self.refuses(28, "MissingReport", "2024-03", self.command("release", claim="1"))
+        self.does({"charge": 200000, "version": 1}, self.report("2024-03", "7,1000000\n"))
+
+    def test_a_firm(self):
+        self.to_the_correction()
+        status, told = self.get("/api/firms/1001")
+        self.assertEqual((status, told["text"]), (200, STATEMENT))
+        january = {
+            "month": "2024-01", "due": "2024-02-20", "version": 2, "contribution": "100000", "open": "0",
+            "paid": "100000", "interest": "1000",
+            "payments": [{"day": "2024-02-25", "cents": "100000", "reference": "B1"}]}
+        february = {
+            "month": "2024-02", "due": "2024-03-20", "version": 1, "contribution": "100010", "open": "0",
+            "paid": "100010", "interest": "1000",
+            "payments": [{"day": "2024-02-25", "cents": "50000", "reference": "B1"},
+                         {"day": "2024-04-21", "cents": "50010", "reference": "B2"}]}
+        self.assertEqual(told["statement"], {
+            "employer": 1001, "day": "2024-04-30", "name": "Bau Nord", "start": "2024-01", "last": None,
+            "charges": [january, february], "interest_payments": [], "missing": ["2024-03"], "prepaid": "149990",
+            "arrears": "0", "interest": "2000", "charged": "200010", "credited": "350000", "open": "0"})
+        status, headers, text = self.ask("GET", "/documents/statement-1001.txt")
+        self.assertEqual((status, text), (200, STATEMENT.encode()))
+        self.assertEqual(headers["Content-Disposition"], 'attachment; filename="statement-1001.txt"')
+        # The firm is offered from now on.
+        self.assertEqual(self.get("/api/session")[1]["recent"], [{"employer": "1001", "name": "Bau Nord"}])
+        refusal = {"rule": 11, "name": "UnknownEmployer", "detail": ""}
+        self.assertEqual(self.get("/api/firms/1002")[1]["refusal"], refusal)
+
+    def test_claims_releases_and_payouts(self):
+        self.to_the_payout_day()
+        self.does({"claim": 2}, self.command("claim", employer="1001", worker="7", amount="10,00"))
+        self.does(DONE, self.command("withdraw", employer="1001", claim="2"))
+        # 800.00 first pay the arrears of 500.10 and the interest of 40.00.
+        released = {"paid": 25990, "to_contributions": 50010, "to_interest": 4000}
+        self.does(released, self.command("release", claim="1"))
+        claims = self.get("/api/firms/1001")[1]["claims"]
+        self.assertEqual([(it["claim"], it["worker"], it["cents"], it["state"]) for it in claims],
+                         [(1, 7, 80000, "released"), (2, 7, 1000, "withdrawn")])
+        self.assertEqual(claims[0]["reply"], released)
+        self.assertFalse(self.does({"items": 1, "list": 1, "total": 25990}, self.command("payouts"))["known"])
+        payout = self.get("/api/payouts/1")[1]
+        self.assertEqual(payout["text"], "payout 1 2024-04-30\nclaim 1 employer 1001 worker 7         259.90\n"
+                                         "items 1\ntotal         259.90\n")
+        self.assertEqual(payout["payout"], {
+            "list": 1, "day": DAY, "claims": [{"claim": 1, "employer": 1001, "worker": 7, "cents": "25990"}],
+            "items": 1, "total": "25990"})
+        self.refuses(29, "NothingToPay", "", self.command("payouts"))
+        worker = self.get("/api/workers/7")[1]["worker"]
+        self.assertEqual([(it["employer"], it["month"], it["cents"]) for it in worker["earned"]],
+                         [(1001, "2024-01", "71250"), (1001, "2024-02", "71257"), (1001, "2024-03", "142500")])
+        self.assertEqual(worker["claims"], [{"claim": 1, "employer": 1001, "state": "released", "cents": "80000"}])
+        self.assertEqual((worker["worker"], worker["day"], worker["balance"]), (7, DAY, "205007"))
+
+    def test_suspense_and_assignment(self):
+        self.does(DONE, self.register())
+        note = '<img src=x onerror="alert(1)">'
+        lines = f'B9,2024-04-02,,5000,,"{note.replace(chr(34), chr(34) * 2)}"\nB10,2024-04-02,1099,700,I,\n'
+        self.does({"new": 2, "repeats": 0}, self.bank(BANK_HEADER + lines))
+        self.does({"new": 0, "repeats": 2}, self.bank(BANK_HEADER + lines))
+        told = self.get("/api/suspense/0")[1]
+        self.assertEqual(told["suspense"], {"day": DAY, "first": 0, "count": 2, "total": "5700", "lines": [
+            {"reference": "B9", "day": "2024-04-02", "purpose": "C", "employer": None, "cents": "5000",
+             "note": note},
+            {"reference": "B10", "day": "2024-04-02", "purpose": "I", "employer": "1099", "cents": "700",
+             "note": ""}]})
+        self.assertEqual(self.get("/api/suspense/1")[1]["suspense"]["lines"][0]["reference"], "B10")
+        self.does(DONE, self.command("assign", employer="1001", reference="B9"))
+        self.refuses(23, "NotInSuspense", "", self.command("assign", employer="1001", reference="B9"))
+        self.assertEqual(self.get("/api/suspense/0")[1]["suspense"]["count"], 1)
+        self.assertEqual(self.get("/api/firms/1001")[1]["statement"]["prepaid"], "5000")
+        self.assertEqual(self.ask("GET", "/documents/suspense.txt")[2],
+                         b"suspense 2024-04-30\nline B10 2024-04-02 I 1099           7.00\nlines 1\n"
+                         b"total           7.00\n")
+
+    def test_reminders_ends_and_rates(self):
+        self.does(DONE, self.register())
+        self.does(DONE, self.register("1002", "Bau West", "03/2024"))
+        for month in ("2024-01", "2024-02", "2024-03"):
+            self.does({"charge": 0, "version": 1}, self.report(month, ""))
+        self.assertFalse(self.does({"firms": 1, "run": 1}, self.command("reminders"))["known"])
+        reminded = {"employer": 1002, "level": 1, "missing": 1, "first": "2024-03", "arrears": "0", "interest": "0"}
+        self.assertEqual(self.get("/api/reminders/1")[1]["reminders"],
+                         {"run": 1, "day": DAY, "firms": 1, "reminded": [reminded]})
+        self.refuses(30, "NothingToRemind", "", self.command("reminders"))
+        self.refuses(31, "EndBeforeReports", "2024-03", self.command("end", employer="1001", last="2024-02"))
+        self.does(DONE, self.command("end", employer="1001", last="06.2024"))
+        self.assertEqual(self.get("/api/firms/1001")[1]["statement"]["last"], "2024-06")
+        rates = {"contribution": "19,5", "entitlement": "14,25", "interest": "0,90",
+                 "report_day": "15", "due_day": "20"}
+        self.refuses(19, "RateOrder", "", self.command("rates", **rates, **{"from": "2025-01"}))
+        # 100.00 at 19 percent, then at 19.5.
+        self.assertEqual(self.expected("2026-01", "7,10000\n")["cents"], "1900")
+        self.does(DONE, self.command("rates", **rates, **{"from": "2026-01"}))
+        self.assertEqual(self.expected("2026-01", "7,10000\n"), {"cents": "1950", "rate": 1950, "from": "2026-01"})
+        self.assertEqual(self.expected("2025-12", "7,10000\n")["cents"], "1900")
+
+    def test_markup_in_a_name_stays_text(self):
+        name = "<script>alert('1')</script>&amp;"
+        self.does(DONE, self.register(name=name))
+        told = self.get("/api/firms/1001")[1]
+        self.assertEqual(told["statement"]["name"], name)
+        status, headers, _ = self.ask("GET", "/api/firms/1001")
+        self.assertEqual((status, headers["Content-Type"]), (200, "application/json"))
+        self.assertEqual(headers["X-Content-Type-Options"], "nosniff")
+        self.assertEqual(self.get("/api/log")[1]["log"][0]["values"]["name"], name)
+
+
+class Fields(DeskUnderTest):
+    """What the desk judges by itself, before anything is sent."""
+
+    def setUp(self):
+        super().setUp()
+        self.office = FakeOffice(self, lambda request: answer_bytes(200, DONE))
+        self.open_desk(self.office.port, "--rates", "rates.toml")
+
+    def test_what_a_report_will_be_charged(self):
+        # The sum at 20 percent, rounded half up: 1 cent is 0.2, 3 are 0.6, 2.5 cents are 0.5 of one.
+        for lines, charge in (("", "0"), ("7,1\n", "0"), ("7,2\n", "0"), ("7,3\n", "1"), ("7,1\n8,2\n", "1"),
+                              ("7,500052\n", "100010"), ("7,500053\n", "100011"), ("7,10000000\n8,1\n", "2000000")):
+            expected = {"cents": charge, "rate": 2000, "from": "2024-01"}
+            self.assertEqual(self.expected("2024-01", lines), expected, lines)
+        # 19 percent of 50 cents are 9.5.
+        self.assertEqual(self.expected("2025-01", "7,50\n")["cents"], "10")
+        self.assertIsNone(self.expected("2023-12", "7,50\n"))
+        told = self.check_report("2024-01", "worker;gross\r\n7;100\r\n\r\n9;250\r\n")
+        self.assertEqual((told["lines"], told["gross"], told["faults"]), (2, "350", []))
+        self.assertEqual(told["wages"], [{"worker": 7, "cents": "100"}, {"worker": 9, "cents": "250"}])
+
+    def test_lines_that_are_wrong(self):
+        full = "".join(f"{worker},1\n" for worker in range(1, 502))
+        for csv, line, reason in (
+                ("worker,cents\n7,1\n", 1, "header"), ("", 1, "header"), ("worker,gross\n7\n", 2, "fields"),
+                ("worker,gross\n7,1\n0,1\n", 3, "worker"), ("worker,gross\n1000000000,1\n", 2, "worker"),
+                ("worker,gross\n7,10000001\n", 2, "gross"), ("worker,gross\n7,10.00\n", 2, "gross"),
+                ("worker,gross\n7,-1\n", 2, "gross"), ("worker,gross\n7,1\n8,1\n07,1\n", 4, "twice"),
+                ("worker,gross\n" + full, 502, "lines"), ('worker,gross\n"7,1\n', 2, "csv")):
+            told = self.check_report("2024-01", csv)
+            self.assertEqual([(it["line"], it["reason"]) for it in told["faults"]], [(line, reason)], csv[:40])
+            self.assertIsNone(told["expected"])
+            carried = self.faults(400, "field", self.command("report", employer="1001", month="2024-01", csv=csv))
+            self.assertEqual(carried, {"field": "csv", "reason": "csv"})
+        self.assertEqual(self.lines("numbers.jsonl"), [])
+
+    def test_fields_that_are_wrong(self):
+        register = {"employer": "1001", "name": "Bau", "start": "2024-01"}
+        for kind, fields, field, reason in (
+                ("register", {**register, "employer": "0"}, "employer", "employer"),
+                ("register", {**register, "employer": "100000000"}, "employer", "employer"),
+                ("register", {**register, "employer": "1001/end"}, "employer", "employer"),
+                ("register", {**register, "name": "ä" * 31}, "name", "name"),
+                ("register", {**register, "name": " "}, "name", "name"),
+                ("register", {**register, "name": "a\nb"}, "name", "name"),
+                ("register", {**register, "name": "\ud800"}, "name", "name"),
+                ("register", {**register, "start": "2024-13"}, "start", "month"),
+                ("register", {"employer": "1001", "name": "Bau"}, "start", "missing"),
+                ("release", {"claim": "50000001"}, "claim", "claim"),
+                ("assign", {"employer": "1", "reference": "a b"}, "reference", "reference"),
+                ("claim", {"employer": "1", "worker": "7", "amount": "1.23"}, "amount", "amount"),
+                ("claim", {"employer": "1", "worker": "7", "amount": "0,00"}, "amount", "amount-range"),
+                ("claim", {"employer": "1", "worker": "7", "amount": "1.000.000.000,01"}, "amount", "amount-range"),
+                ("rates", {"from": "2026-01", "contribution": "100,01"}, "contribution", "contribution")):
+            carried = self.faults(400, "field", self.command(kind, **fields))
+            self.assertEqual(carried, {"field": field, "reason": reason}, fields)
+        # A name of 60 bytes, most in umlauts.
+        self.does(DONE, self.register(name="ä" * 30))
+        self.assertEqual([it["number"] for it in self.lines("numbers.jsonl")], [1])
+
+    def test_a_second_click(self):
+        fields = {"employer": "1001", "name": "Bau", "start": "01/2024", "last": "2024-01", "reference": "B1",
+                  "claim": "1", "from": "2024-01", "contribution": "1", "entitlement": "1", "interest": "1",
+                  "report_day": "1", "due_day": "1"}
+        for kind in ("register", "end", "rates", "assign", "release", "payouts", "reminders"):
+            self.faults(409, "unconfirmed", self.command(kind, confirmed=False, **fields))
+        bank = self.post("/api/commands/bank", "bank", FIRST_BANK.encode(), confirmed=False)
+        self.faults(409, "unconfirmed", bank)
+        carried = self.faults(409, "unconfirmed", self.command("register", confirmed=False, **fields))
+        # What is to be confirmed is what the desk has read.
+        self.assertEqual(carried, {"values": {"employer": 1001, "name": "Bau", "start": "2024-01"}})
+        self.assertEqual(self.lines("numbers.jsonl"), [])
+
+
+class BankCheck(DeskUnderTest):
+    """What the office's program says of a bank file before it is sent."""
+
+    def check(self, content):
+        kind = {"Content-Type": "application/octet-stream"}
+        return self.post("/api/check/bank", "check-bank", content.encode(), **kind)[1]["check"]
+
+    def test_good_and_faulty_files(self):
+        self.open_desk(free_port(), "--clearing", "clearing")
+        told = "2 lines, 0 repeats within the file, 0 without a firm, 3500.00 in all\n"
+        self.assertEqual(self.check(FIRST_BANK), {"state": "good", "text": told})
+        told = ("record 2, value_date: 01.04.2024 is no day (YYYY-MM-DD, 2000-01-01 to 2200-12-31)\n"
+                "a day is written YYYY-MM-DD: 2024-04-01 for 01.04.2024\n")
+        self.assertEqual(self.check(BANK_HEADER + "B7,01.04.2024,1001,100,C,\n"), {"state": "faulty", "text": told})
+
+    def test_without_a_program(self):
+        self.open_desk(free_port())
+        self.assertEqual(self.check(FIRST_BANK), {"state": "none", "text": ""})
+
+    def test_a_program_that_is_not_there(self):
+        self.open_desk(free_port(), "--clearing", "nowhere")
+        self.assertEqual(self.check(FIRST_BANK)["state"], "missing")
+
+    def test_a_program_that_fails(self):
+        self.open_desk(free_port(), "--clearing", "/bin/false")
+        self.assertEqual(self.check(FIRST_BANK), {"state": "failed", "text": ""})
+
+
+class Lost(DeskUnderTest):
+    """An answer that doesn't come: the command acts once."""
+
+    def between(self, lost):
+        """A proxy in front of the office, which passes requests on and ends so many connections before
+        the answer."""
+        office = self.open_office()
+
+        def pass_on(request):
+            with socket.create_connection(("127.0.0.1", office)) as served:
+                served.sendall(request)
+                answer = read_message(served)
+            return None if len(self.proxy.requests) in lost else answer
+
+        self.proxy = FakeOffice(self, pass_on)
+        return self.proxy.port
+
+    def claims(self):
+        return [it["claim"] for it in self.get("/api/workers/7")[1]["worker"]["claims"]]
+
+    def test_a_lost_answer(self):
+        self.open_desk(self.between((3,)))
+        self.does(DONE, self.register())
+        self.does({"charge": 200000, "version": 1}, self.report("2024-01", "7,1000000\n"))
+        # The office makes the claim, the connection ends, and the desk sends it again: it is the same claim.
+        self.does({"claim": 1}, self.command("claim", employer="1001", worker="7", amount="10,00"), "repeated")
+        self.assertEqual(self.proxy.requests[2], self.proxy.requests[3])
+        self.assertIn(b"\r\nRequest-Number: 3\r\n", self.proxy.requests[2])
+        self.assertEqual(self.claims(), [1])
+        self.assertEqual(self.logged()[2], (3, "repeated", "claim 1001 7 1000"))
+        self.does({"claim": 2}, self.command("claim", employer="1001", worker="7", amount="10,00"))
+
+    def test_answers_that_are_lost_again_and_again(self):
+        self.open_desk(self.between((2, 3, 4)))
+        self.does(DONE, self.register())
+        status, told = self.report("2024-01", "7,1000000\n")
+        entry = told["entry"]
+        self.assertEqual((status, entry["outcome"], entry["reply"]["reason"]), (502, "lost", "broken"))
+        pending = told["state"]["pending"]
+        self.assertEqual((pending["number"], pending["kind"]), (2, "report"))
+        # Nothing else is sent before.
+        self.faults(409, "pending", self.command("claim", employer="1001", worker="7", amount="10,00"))
+        self.faults(409, "not-pending", self.post("/api/pending/send-again", "send-again", {"number": 1}))
+        told = self.does({"charge": 200000, "version": 1},
+                         self.post("/api/pending/send-again", "send-again", {"number": 2}), "repeated")
+        self.assertIsNone(told["state"]["pending"])
+        self.assertEqual(self.logged()[1:], [(2, "lost", "report 1001 2024-01 1 1000000"),
+                                             (2, "repeated", "report 1001 2024-01 1 1000000")])
+        self.does({"claim": 1}, self.command("claim", employer="1001", worker="7", amount="10,00"))
+
+    def test_a_crash_between_the_number_and_the_office(self):
+        office = free_port()
+        self.open_desk(office)
+        asked = threading.Thread(target=self.try_to_register, daemon=True)
+        asked.start()
+        self.wait_for((self.log_folder / "pending.json").exists)
+        self.kill_desk()
+        asked.join(30)
+        self.assertEqual([it["number"] for it in self.lines("numbers.jsonl")], [1])
+        self.open_office(port=office)
+        self.open_desk(office)
+        self.assertEqual(self.session["state"]["pending"]["values"],
+                         {"employer": 1001, "name": "Bau Nord", "start": "2024-01"})
+        self.assertIn("request 1 (register 1001 Bau Nord 2024-01) has no answer yet", self.desk.stderr.readline())
+        self.faults(409, "pending", self.register("1002"))
+        self.does(DONE, self.post("/api/pending/send-again", "send-again", {"number": 1}), "repeated")
+        self.assertFalse((self.log_folder / "pending.json").exists())
+        self.assertEqual(self.get("/api/firms/1001")[1]["statement"]["name"], "Bau Nord")
+        # The next one has the next number.
+        self.assertEqual(self.register("1002")[1]["entry"]["number"], 2)
+
+    def try_to_register(self):
+        try:
+            self.register()
+        except (OSError, ValueError):
+            pass
+
+    def test_a_crash_between_the_office_and_the_log(self):
+        office = self.open_office()
+        self.open_desk(office)
+        self.does(DONE, self.register())
+        self.does({"charge": 200000, "version": 1}, self.report("2024-01", "7,1000000\n"))
+        self.does({"claim": 1}, self.command("claim", employer="1001", worker="7", amount="10,00"))
+        self.kill_desk()
+        # The request is written down anew, as if its answer hadn't come, and the log ends before it.
+        pending = {"number": 3, "time": "2024-04-30T08:00:00+02:00", "kind": "claim", "method": "POST",
+                   "path": "/employers/1001/claims", "values": {"employer": 1001, "worker": 7, "cents": 1000},
+                   "body": "eyJjZW50cyI6MTAwMCwid29ya2VyIjo3fQ=="}
+        (self.log_folder / "pending.json").write_text(json.dumps(pending))
+        lines = (self.log_folder / "log.jsonl").read_text().splitlines(keepends=True)
+        (self.log_folder / "log.jsonl").write_text("".join(lines[:2]) + lines[2][:30])
+        self.open_desk(office)
+        self.does({"claim": 1}, self.post("/api/pending/send-again", "send-again", {"number": 3}), "repeated")
+        self.assertEqual(self.claims(), [1])
+        self.assertEqual([it[0] for it in self.logged()], [1, 2, 3])
+
+    def test_a_request_that_has_its_entry_is_not_offered(self):
+        self.open_desk()
+        self.does(DONE, self.register())
+        self.kill_desk()
+        pending = {"number": 1, "time": "", "kind": "register", "method": "POST", "path": "/employers",
+                   "values": {}, "body": ""}
+        (self.log_folder / "pending.json").write_text(json.dumps(pending))
+        self.open_desk(self.server.port)
+        self.assertIsNone(self.session["state"]["pending"])
+        self.assertFalse((self.log_folder / "pending.json").exists())
+
+    def test_giving_up(self):
+        self.open_desk(free_port())
+        self.register()
+        self.faults(409, "unconfirmed", self.post("/api/pending/give-up", "give-up", {"number": 1}, confirmed=False))
+        status, told = self.post("/api/pending/give-up", "give-up", {"number": 1})
+        self.assertEqual((status, told["entry"]["outcome"], told["state"]["pending"]), (200, "given-up", None))
+        self.assertEqual([it[:2] for it in self.logged()], [(1, "lost"), (1, "given-up")])
+
+    def test_a_list_that_was_made_before(self):
+        """Under a number that made a list before, the office answers with that one, and the desk tells it."""
+        listed = answer_bytes(200, {"items": 1, "list": 7, "total": 5})
+        office = FakeOffice(self, lambda request: listed)
+        self.open_desk(office.port)
+        self.assertFalse(self.command("payouts")[1]["known"])
+        self.assertTrue(self.command("payouts")[1]["known"])
+
+
+class Offices(DeskUnderTest):
+    """An office that isn't there, isn't one, doesn't know the key, or has failed."""
+
+    def test_an_office_that_is_not_there(self):
+        port = free_port()
+        self.open_desk(port)
+        for path in ("/api/suspense/0", "/api/firms/1001", "/documents/statement-1001.txt"):
+            self.assertEqual(self.faults(502, "no-answer", self.get(path)), {"reason": "absent", "port": port})
+        status, told = self.register()
+        self.assertEqual((status, told["entry"]["outcome"], told["entry"]["reply"]),
+                         (502, "lost", {"reason": "absent", "port": port}))
+
+    def test_a_key_that_is_wrong(self):
+        self.write("wrong.key", "nobody\n")
+        self.open_desk(None, key="wrong.key")
+        refusal = {"rule": 6, "name": "UnknownKey", "detail": ""}
+        self.assertEqual(self.get("/api/suspense/0")[1]["refusal"], refusal)
+        self.refuses(6, "UnknownKey", "", self.register())
+        self.assertIsNone(self.get("/api/session")[1]["state"]["pending"])
+
+    def test_the_key_of_a_firm(self):
+        self.write("firm.key", "k1001\n")
+        self.open_desk(None, key="firm.key")
+        self.assertEqual(self.get("/api/suspense/0")[1]["refusal"]["name"], "NotYours")
+
+    def test_what_is_no_office(self):
+        for answer in (answer_bytes(404, b"<h1>none</h1>", "text/html"), answer_bytes(200, {"hello": "you"}),
+                       answer_bytes(409, {"rule": "9"}), answer_bytes(200, {"claim": 1}),
+                       answer_bytes(200, b"\xff", "text/plain")):
+            office = FakeOffice(self, lambda request, answer=answer: answer)
+            self.open_desk(office.port)
+            self.assertEqual(self.faults(502, "no-answer", self.get("/api/suspense/0"))["reason"], "foreign")
+            self.assertEqual(self.register()[1]["entry"]["reply"]["reason"], "foreign")
+            self.post("/api/pending/give-up", "give-up", {"number": self.lines("numbers.jsonl")[-1]["number"]})
+            self.kill_desk()
+
+    def test_a_text_that_ends_early(self):
+        whole = answer_bytes(200, EMPTY_SUSPENSE, "text/plain; charset=utf-8")
+        office = FakeOffice(self, lambda request: whole[:-5])
+        self.open_desk(office.port)
+        for path in ("/api/suspense/0", "/documents/suspense.txt"):
+            self.assertEqual(self.faults(502, "no-answer", self.get(path))["reason"], "broken")
+
+    def test_a_text_that_the_desk_does_not_understand(self):
+        office = FakeOffice(self, lambda request: answer_bytes(200, b"something new\n", "text/plain; charset=utf-8"))
+        self.open_desk(office.port)
+        told = self.get("/api/firms/1001")[1]
+        self.assertEqual((told["statement"], told["text"]), (None, "something new\n"))
+
+    def failing(self, refusal):
+        """A desk in front of an office whose records have failed, until `heals` is set."""
+        self.heals = False
+
+        def answer(request):
+            if not self.heals:
+                return answer_bytes(500, refusal)
+            if request.startswith(b"POST"):
+                return answer_bytes(200, DONE)
+            return answer_bytes(200, EMPTY_SUSPENSE, "text/plain; charset=utf-8")
+
+        self.office = FakeOffice(self, answer)
+        self.open_desk(self.office.port)
+
+    def test_failed_records_stop_the_forms(self):
+        for refusal in (STORE_FAILED, FAILED):
+            self.failing(refusal)
+            told = self.get("/api/suspense/0")[1]
+            self.assertEqual((told["refusal"], told["state"]["failure"]), (refusal, refusal))
+            # Nothing is sent, and no number is taken.
+            self.faults(409, "stopped", self.register())
+            self.assertEqual(len(self.office.requests), 1)
+            self.assertEqual(self.lines("numbers.jsonl"), [])
+            self.heals = True
+            self.assertIsNone(self.get("/api/suspense/0")[1]["state"]["failure"])
+            self.does(DONE, self.register())
+            self.kill_desk()
+            (self.log_folder / "numbers.jsonl").unlink()
+
+    def test_a_command_that_failed_is_sent_again_under_its_number(self):
+        self.failing(STORE_FAILED)
+        status, told = self.register()
+        self.assertEqual((status, told["entry"]["outcome"], told["entry"]["reply"]), (503, "undecided", STORE_FAILED))
+        self.assertEqual((told["state"]["failure"], told["state"]["pending"]["number"]), (STORE_FAILED, 1))
+        self.heals = True
+        told = self.does(DONE, self.post("/api/pending/send-again", "send-again", {"number": 1}), "repeated")
+        self.assertEqual(told["state"], {"failure": None, "pending": None})
+        posts = [it for it in self.office.requests if it.startswith(b"POST")]
+        self.assertEqual(posts[0], posts[1])
+
+    def test_want_of_memory(self):
+        self.failing({"rule": 40, "name": "Memory", "detail": ""})
+        status, told = self.register()
+        self.assertEqual((status, told["entry"]["outcome"], told["state"]["failure"]), (503, "undecided", None))
+        self.assertEqual(told["state"]["pending"]["number"], 1)
+
+
+if __name__ == "__main__":
+    run_tests()

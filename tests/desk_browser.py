@@ -1,0 +1,285 @@
+"""A fund's month through the desk's page, as a clerk goes through it by keyboard and mouse in a browser.
+
+    python3 tests/desk_browser.py [PROGRAM] [--pictures FOLDER]
+
+PROGRAM is crates/clear_app/out/clear_app where it isn't given, as `rt ci` leaves it. It needs chromium, its driver and
+selenium (tests/browser.py), and is left out where one of them is missing. With --pictures it makes those of docs/desk.md, a
+firm and the morning's work, in this folder. What is expected is worked out from docs/rules.md by hand.
+"""
+
+import json
+import sys
+import unittest
+from pathlib import Path
+
+# No __pycache__ is left beside the sources.
+sys.dont_write_bytecode = True
+from browser import Browser, what_is_missing  # noqa: E402
+from desk_under_test import BANK_HEADER, DeskUnderTest  # noqa: E402
+from program_under_test import DAY, run_tests  # noqa: E402
+
+if not what_is_missing():
+    from selenium.webdriver.common.keys import Keys
+
+# The browser's clock stands on the office's day, so that the page looks the same whenever it is tried.
+CLOCK = """{ const Real = Date; const now = Real.parse("DAYT07:30:00Z");
+  globalThis.Date = class extends Real { constructor(...told) { super(...(told.length ? told : [now])); } }; }"""
+MARKUP = '<img src=x onerror="document.title=1"><b>Bau</b> & Söhne'
+# January is paid, February in part; the third line names no firm, and the fourth one that isn't registered.
+BANK = BANK_HEADER + """B1,2024-02-25,1001,150000,C,
+B2,2024-04-21,1001,200000,C,January rest and February
+B3,2024-04-22,,10000,C,"Nord, <b>February</b>"
+B4,2024-04-23,1099,700,I,interest
+"""
+NEXT_BANK = BANK_HEADER + """B2,2024-04-21,1001,200000,C,January rest and February
+B5,2024-04-29,,4550,C,no number
+"""
+
+
+class InBrowser(DeskUnderTest):
+    """An office, a desk in front of it, and a browser with its page in English."""
+
+    pictures = None
+
+    @classmethod
+    def setUpClass(cls):
+        super().setUpClass()
+        if missing := what_is_missing():
+            raise unittest.SkipTest(missing)
+        cls.browser = Browser()
+        cls.addClassCleanup(cls.browser.end)
+        clock = {"source": CLOCK.replace("DAY", DAY)}
+        cls.browser.driver.execute_cdp_cmd("Page.addScriptToEvaluateOnNewDocument", clock)
+
+    def setUp(self):
+        super().setUp()
+        self.open_desk(None, "--rates", "rates.toml", "--clearing", "clearing", first="202404301001")
+        self.address = f"http://127.0.0.1:{self.port}/"
+        self.browser.requested()
+        self.browser.open(self.address + "?lang=en")
+
+    def tearDown(self):
+        # Nothing but the desk was asked for anything, and nothing of the page was stopped by its own policy.
+        foreign = [it for it in self.browser.requested() if not it.startswith((self.address, "data:", "chrome:"))]
+        self.assertEqual(foreign, [])
+        self.assertEqual(self.browser.complaints(), [])
+        super().tearDown()
+
+    # ---- what a clerk does
+
+    def go(self, view):
+        """Goes to a view by the bar on top."""
+        self.browser.click(f"#nav-{view}")
+        self.browser.wait_for_view(view)
+
+    def open_firm(self, number):
+        self.browser.type("#find-firm-number", number)
+        self.browser.click("#find-firm-open")
+        self.browser.wait_for_view(f"firm/{number}")
+
+    def fill(self, form, **fields):
+        for name, text in fields.items():
+            self.browser.type(f"#{form}-{name}", text)
+
+    def confirm(self, *told):
+        """The second click, where this is told."""
+        self.browser.wait(lambda: self.browser.is_shown("#confirm"), "the second click")
+        for text in told:
+            self.assertIn(text, self.browser.text("#confirm"))
+        # The key that is under the finger does nothing.
+        self.assertEqual(self.browser.focus(), "confirm-no")
+        self.browser.click("#confirm-yes")
+
+    def answers(self, *told, focus="answer"):
+        """Waits for the answer of a command, in which all of this stands. Its place, or what was made, has the focus then, so
+        that a screen reader reads it."""
+        self.browser.wait(lambda: self.browser.is_shown("#answer"), "an answer")
+        for text in told:
+            self.assertIn(text, self.browser.text("#answer"))
+        self.browser.wait(lambda: self.browser.focus() == focus, "the focus")
+
+    def register(self, employer="1001", name="Bau Nord", start="2024-01"):
+        self.go("new")
+        self.fill("register", employer=employer, name=name, start=start)
+        self.browser.click("#register-send")
+        self.confirm("can't be changed later", employer, name)
+        self.browser.wait_for_view(f"firm/{employer}")
+        self.answers("done", f"Registration: {employer} {name}, from")
+
+    def report(self, month, csv, summary, expected, answer):
+        """Reports a month from a file; what its lines come to, and what is expected, stands there first."""
+        path = self.write(f"report-{month}.csv", "worker,gross\n" + csv)
+        self.browser.click(f"#statement-months [data-month='{month}'] .report, #statement-months [data-month='{month}'] .correct")
+        self.browser.one("#report-file").send_keys(str(path))
+        self.browser.wait(lambda: self.browser.one("#report-send").is_enabled(), "checked lines")
+        self.assertIn(summary, self.browser.text("#report-summary"))
+        self.assertIn(expected, self.browser.text("#report-expected"))
+        self.browser.click("#report-send")
+        self.answers(*answer)
+        self.browser.wait(lambda: self.browser.one(f"#statement-months [data-month='{month}'] .correct"), "a reported month")
+
+    def choose_bank_file(self, content, check):
+        self.browser.one("#bank-file").send_keys(str(self.write("bank.csv", content)))
+        self.browser.wait(lambda: self.browser.one("#bank-import").is_enabled(), "a checked file")
+        self.assertIn("Checked", self.browser.text("#bank-check"))
+        self.assertEqual(self.browser.text("#bank-check-text"), check)
+
+    def import_bank_file(self, content, check, *answer):
+        self.choose_bank_file(content, check)
+        self.browser.click("#bank-import")
+        self.confirm("can't be taken out", check)
+        self.answers(*answer)
+
+
+class Month(InBrowser):
+    """From registering to reminders."""
+
+    def test_a_funds_month(self):
+        self.register()
+        self.register("1002", MARKUP, "2024-03")
+        self.the_name_stays_text()
+        self.open_firm("1001")
+        self.first_reports()
+        self.go("morning")
+        self.the_banks_file()
+        self.the_line_in_suspense()
+        self.the_statement()
+        self.a_claim()
+        self.a_release()
+        self.a_payout_list()
+        self.a_reminder_run()
+        self.the_next_file()
+        self.the_log()
+
+    def the_name_stays_text(self):
+        self.assertEqual(self.browser.text("#firm-title"), f"1002 · {MARKUP}")
+        self.assertIn(f"name {MARKUP}\n", self.browser.text("#firm-text"))
+        self.assertEqual(self.browser.all("main b, main img"), [])
+        self.assertNotEqual(self.browser.driver.title, "1")
+
+    def first_reports(self):
+        self.report("2024-01", "7,1000000\n", "€10,000.00", "€2,000.00", ["done", "Contribution €2,000.00, version 1"])
+        # 20 % of 11000.50.
+        self.report("2024-02", "7,500050\n8,600000\n", "€11,000.50", "€2,200.10", ["done", "Contribution €2,200.10"])
+
+    def the_banks_file(self):
+        check = "4 lines, 0 repeats within the file, 1 without a firm, 3607.00 in all"
+        self.import_bank_file(BANK, check, "done", "New: 4, repeats: 0.", "In suspense now: 2, together €107.00.")
+        self.import_bank_file(BANK, check, "done", "New: 0, repeats: 4.", "In suspense now: 2, together €107.00.")
+        self.assertIn("2, together €107.00", self.browser.text("#suspense-summary"))
+        self.assertEqual([it[:6] for it in self.browser.table("#suspense-table")[1:]], [
+            ["B3", "22 Apr 2024", "contribution", "–", "€100.00", "Nord, <b>February</b>"],
+            ["B4", "23 Apr 2024", "interest", "1099", "€7.00", "interest"]])
+
+    def the_line_in_suspense(self):
+        self.browser.click("#suspense-table .assign[data-reference='B3']")
+        self.browser.wait(lambda: self.browser.focus() == "assign-employer", "the form to assign")
+        self.assertIn("€100.00", self.browser.text("#assign-facts"))
+        self.browser.type("#assign-employer", "1003")
+        self.browser.click("#assign-send")
+        # Nobody has that number: the second click isn't even asked for.
+        self.browser.wait(lambda: "rule 11, UnknownEmployer" in self.browser.text("#assign-dialog"), "rule 11")
+        self.assertIn("mend the number, or register the firm", self.browser.text("#assign-dialog"))
+        self.browser.type("#assign-employer", "1001")
+        self.browser.click("#assign-send")
+        self.confirm("1001 Bau Nord", "B3", "can't be given to another")
+        self.answers("done", "B3 to 1001")
+        self.browser.wait(lambda: "1, together €7.00" in self.browser.text("#suspense-summary"), "one line less")
+
+    def the_statement(self):
+        """Of February 100.00 more are paid than by B2; on 2024-03-20 and 2024-04-20 all of it was open: 44.00 of interest."""
+        self.open_firm("1001")
+        self.assertEqual([it[:6] for it in self.browser.table("#statement-table")], [
+            ["Month", "Due", "Contribution", "Paid", "Open", "Interest"],
+            ["Jan 2024\nversion 1", "20 Feb 2024", "€2,000.00", "€2,000.00", "€0.00", "€30.00"],
+            ["Feb 2024\nversion 1", "20 Mar 2024", "€2,200.10", "€1,600.00", "€600.10", "€44.00"],
+            ["Mar 2024", "–", "–", "–", "–", "–"]])
+        self.assertIn("report missing", self.browser.text("tr.missing[data-month='2024-03']"))
+        # A bar is as long as its month's contribution, and says in words what it shows.
+        self.assertEqual([it.get_attribute("aria-label") for it in self.browser.all("#statement-table svg")],
+                         ["Jan 2024: €2,000.00 paid, €0.00 open", "Feb 2024: €1,600.00 paid, €600.10 open"])
+        self.assertEqual(self.bars(), [[2000, 0], [1600, 600]])
+        self.assertIn("€600.10", self.browser.text("#owed-arrears"))
+        self.assertIn("€74.00", self.browser.text("#owed-interest"))
+        text = self.browser.run("return document.getElementById('firm-text').textContent")
+        self.assertIn("charge 2024-02 due 2024-03-20 version 1        2200.10         600.10          44.00\n", text)
+        saved = self.browser.driver.execute_async_script(
+            "fetch(document.getElementById('firm-download').href).then(it => it.text()).then(arguments[0])")
+        self.assertEqual(saved, text)
+        if self.pictures:
+            self.browser.picture(self.pictures / "desk-firm.png", 900)
+
+    def bars(self):
+        """The widths of what is paid and open in each bar, by the longest bar's 2200.10, in whole euros."""
+        widths = self.browser.run("""return [...document.querySelectorAll("#statement-table svg")].map(svg =>
+            [...svg.querySelectorAll("rect")].map(it => it.getBoundingClientRect().width))""")
+        euro = sum(widths[-1]) / 2200.10
+        return [[round(it / euro) for it in bar] for bar in widths]
+
+    def a_claim(self):
+        # The worker has earned 1425.00 and 712.57.
+        self.claim("2.200,00")
+        self.browser.wait(lambda: "1,234.56" in self.browser.text("#claim-amount-fault"), "the fault beside its field")
+        self.assertEqual(self.browser.focus(), "claim-amount")
+        self.claim("2200")
+        self.answers("refused", "rule 25, OverBalance", "more is claimed than the worker's balance",
+                     "The balance is €2,137.57.", "What to do:")
+        self.claim("1,500.00")
+        self.answers("done", "worker 7: €1,500.00", "The claim has the number 1.")
+
+    def claim(self, amount):
+        self.fill("claim", worker="7", amount=amount)
+        self.browser.click("#claim-send")
+
+    def release(self):
+        self.go("morning")
+        self.fill("release", claim="1")
+        self.browser.click("#release-send")
+        self.confirm("A release is for good", "€1,500.00")
+
+    def a_release(self):
+        """March's 400.00 make it 1000.10 in arrears, and 4.00 more of interest make 78.00."""
+        self.release()
+        self.answers("refused", "rule 28, MissingReport", "The first month without a report is Mar 2024.",
+                     "have it reported, release the claim then")
+        self.open_firm("1001")
+        self.report("2024-03", "7,200000\n", "€2,000.00", "€400.00", ["done", "Contribution €400.00"])
+        self.release()
+        self.answers("done", "Paid out: €421.90.", "Set off to contributions: €1,000.10, to interest: €78.00.")
+
+    def a_payout_list(self):
+        self.browser.click("#payouts-make")
+        self.confirm("What was listed is listed for good")
+        self.answers("done", "List 1. Claims: 1, together €421.90.", focus="document")
+        self.browser.wait(lambda: self.browser.is_shown("#payout-table"), "the list")
+        self.assertEqual(self.browser.table("#payout-table")[1:], [["1", "1001", "7", "€421.90"]])
+
+    def a_reminder_run(self):
+        self.browser.click("#reminders-make")
+        self.confirm("A run can't be taken back")
+        self.answers("done", "Run 1. Firms reminded: 1.", focus="document")
+        self.browser.wait(lambda: self.browser.is_shown("#reminders-table"), "the run")
+        # The release has paid all that the first firm owed.
+        self.assertEqual(self.browser.table("#reminders-table")[1:], [["1002", "1", "1", "Mar 2024", "€0.00", "€0.00"]])
+        self.browser.click("#reminders-make")
+        self.confirm()
+        self.answers("refused", "rule 30, NothingToRemind", "reminded in the last 14 days")
+
+    def the_next_file(self):
+        """A bank file that is only looked at, as the morning's work begins."""
+        self.go("firm")
+        self.go("morning")
+        self.choose_bank_file(NEXT_BANK, "2 lines, 0 repeats within the file, 1 without a firm, 2045.50 in all")
+        if self.pictures:
+            self.browser.picture(self.pictures / "desk-morning.png", 900)
+
+    def the_log(self):
+        self.go("log")
+        told = self.browser.table("#log-table")[1:]
+        self.assertEqual(len(told), len(self.lines("log.jsonl")))
+        self.assertEqual([it[2] for it in told[:3]], ["✕ refused", "✓ done", "✓ done"])
+        self.assertIn("30 NothingToRemind", told[0][4])
+
+
+if __name__ == "__main__":
+    run_tests()

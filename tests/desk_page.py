@@ -1,0 +1,239 @@
+"""Compares the words of the desk's page with the manual and with the sources that use them, and reads its
+readers.
+
+    python3 tests/desk_page.py [PROGRAM]
+
+The program isn't asked here.
+"""
+
+import datetime
+import json
+import re
+import sys
+import unittest
+
+# No __pycache__ is left beside the sources.
+sys.dont_write_bytecode = True
+from program_under_test import ROOT, run_tests  # noqa: E402
+
+sys.path.append(str(ROOT / "tools"))
+from desk_server import amounts, documents, numbers  # noqa: E402
+from desk_server.faults import Fault  # noqa: E402
+from desk_server.forms import FORMS  # noqa: E402
+
+PAGE = ROOT / "tools/desk_page"
+SERVER = ROOT / "tools/desk_server"
+LANGUAGES = ("de", "en")
+WORDS = {it: json.loads((PAGE / f"words.{it}.json").read_text(encoding="utf-8")) for it in LANGUAGES}
+SCRIPTS = {path.name: path.read_text(encoding="utf-8") for path in PAGE.glob("*.js")}
+MARKUP = (PAGE / "index.html").read_text(encoding="utf-8")
+CLERK = (ROOT / "docs/clerk.md").read_text(encoding="utf-8")
+SVG = "http://www.w3.org/2000/svg"
+
+
+def cells(row):
+    return [cell.strip().replace("`", "") for cell in row.strip().strip("|").split("|")]
+
+
+def rows_behind(heading):
+    """The rows of the manual's first table behind a text, without its head."""
+    table = re.search(r"(?:^\|.*\n)+", CLERK.split(heading, 1)[1], re.M)[0]
+    return [cells(row) for row in table.splitlines()[2:]]
+
+
+class Words(unittest.TestCase):
+    maxDiff = None
+
+    def test_both_languages_have_the_same_words(self):
+        self.assertEqual(list(WORDS["de"]), list(WORDS["en"]))
+        for key in WORDS["en"]:
+            carried = [sorted(re.findall(r"\{\w+\}", WORDS[it][key])) for it in LANGUAGES]
+            self.assertEqual(carried[0], carried[1], key)
+
+    def test_refusals_are_those_of_the_manual(self):
+        """Number, meaning and what to do: the English words are the manual's, and the German ones stand
+        beside them."""
+        rows = rows_behind("What is wrong with how a request is written") + rows_behind("What the office says of it")
+        self.assertEqual([row[0] for row in rows], [str(it) for it in (*range(1, 34), 40, 41, 42)])
+        for number, _name, _detail, means, act in rows:
+            self.assertEqual(WORDS["en"][f"refusal.{number}.means"], means)
+            self.assertEqual(WORDS["en"][f"refusal.{number}.do"], act)
+
+    def test_what_a_refusal_carries_has_its_words(self):
+        rows = rows_behind("What is wrong with how a request is written") + rows_behind("What the office says of it")
+        with_detail = {int(row[0]) for row in rows if row[2]}
+        # The limits have a table of their own.
+        self.assertEqual({it for it in range(1, 43) if f"detail.{it}" in WORDS["en"]}, with_detail - {18})
+
+    def test_limits_are_those_of_the_manual(self):
+        told = {}
+        for names, most, act in rows_behind("The limits:"):
+            for name in names.split(", "):
+                told[f"limit.{name}.most"], told[f"limit.{name}.do"] = most, act
+        self.assertEqual({key: text for key, text in WORDS["en"].items() if key.startswith("limit.")}, told)
+
+    def test_what_stops_the_forms_is_the_manuals(self):
+        paragraph = re.search(r"\*\*After `rule 41 Store`\*\*.*?\n\n", CLERK, re.S)[0]
+        self.assertEqual(WORDS["en"]["stopped.text"], " ".join(re.sub(r"[*`]", "", paragraph).split()))
+
+    def used(self):
+        """The keys that markup and scripts name, and what the others begin with."""
+        keys = set(re.findall(r'data-word(?:-label)?="([^"]+)"', MARKUP))
+        starts = set()
+        for script in SCRIPTS.values():
+            keys |= set(re.findall(r'"((?:[a-z-]+\.)+[a-zA-Z_-]+)"', script))
+            keys |= set(re.findall(r'say\("([^"]+)"', script))
+            starts |= set(re.findall(r"`([a-z-]+\.(?:[a-z-]+\.)?)\$\{", script))
+            starts |= set(re.findall(r'say\(`\$\{kind\}(\.[a-z]+)`', script))
+        return {key for key in keys if not key.endswith((".js", ".csv", ".txt"))}, starts
+
+    def test_every_word_that_is_used_is_there_and_every_other_is_used(self):
+        keys, starts = self.used()
+        self.assertEqual({key for key in keys if key not in WORDS["en"]}, set())
+        begun = tuple(it for it in starts if not it.startswith("."))
+        ended = tuple(it for it in starts if it.startswith("."))
+        unused = {key for key in WORDS["en"] if not key.startswith(begun) and not key.endswith(ended)} - keys
+        self.assertEqual(unused, set())
+
+    def test_every_fault_and_form_has_its_words(self):
+        source = "".join(path.read_text(encoding="utf-8") for path in SERVER.glob("*.py"))
+        codes = set(re.findall(r'(?<!Field)Fault\("([a-z-]+)"', source))
+        self.assertGreater(len(codes), 15)
+        for code in codes - {"no-answer"}:
+            self.assertIn(f"fault.{code}", WORDS["en"])
+        for reason in ("absent", "silent", "broken", "foreign"):
+            self.assertIn(f"fault.no-answer.{reason}", WORDS["en"])
+        fields = set(re.findall(r'number\("([a-z]+)"', source))
+        fields |= set(re.findall(r'FieldFault\([a-z"]+, "([a-z-]+)"\)', source))
+        self.assertGreater(len(fields), 8)
+        for reason in fields | {"report_day", "due_day"}:
+            self.assertIn(f"field.{reason}", WORDS["en"])
+        for kind in (*FORMS, "bank"):
+            self.assertIn(f"kind.{kind}", WORDS["en"])
+            self.assertIn(f"subject.{kind}", WORDS["en"])
+
+
+class Page(unittest.TestCase):
+    def test_nothing_of_a_text_is_taken_as_html(self):
+        for name, script in SCRIPTS.items():
+            for word in ("innerHTML", "outerHTML", "insertAdjacentHTML", "document.write", "DOMParser", "eval(",
+                         "Function(", "createContextualFragment", "srcdoc", "setTimeout(\"", "javascript:"):
+                self.assertNotIn(word, script, name)
+
+    def test_no_request_goes_anywhere_else(self):
+        styles = {path.name: path.read_text(encoding="utf-8") for path in PAGE.glob("*.css")}
+        for name, text in {**SCRIPTS, **styles, "index.html": MARKUP}.items():
+            self.assertEqual(re.findall(r"(?:https?:)?//[a-z0-9.-]+\.[a-z]+", text.replace(SVG, "")), [], name)
+            self.assertNotIn("url(", text)
+            self.assertNotIn("@import", text)
+
+    def test_the_markup_has_nothing_that_the_policy_forbids(self):
+        script = '<script type="module" src="/desk.js"></script>'
+        self.assertEqual(MARKUP.count(script), 1)
+        self.assertEqual(re.findall(r"<style|\sstyle=|\son[a-z]+=|<script", MARKUP.replace(script, "")), [])
+
+    def test_each_field_has_a_label_and_each_id_stands_once(self):
+        ids = re.findall(r'\bid="([^"]+)"', MARKUP)
+        self.assertEqual(len(ids), len(set(ids)))
+        fields = re.findall(r'<(?:input|textarea) id="([^"]+)"(?! type="hidden")', MARKUP)
+        self.assertEqual(sorted(fields), sorted(re.findall(r'<label for="([^"]+)"', MARKUP)))
+        for word in re.findall(r'aria-(?:labelledby|describedby)="([^"]+)"', MARKUP):
+            self.assertIn(word, ids)
+        for name in SCRIPTS.values():
+            for word in re.findall(r'byId\("([^"]+)"\)', name):
+                self.assertIn(word, [*ids, "bank-check-text"])
+
+
+class Readers(unittest.TestCase):
+    def test_amounts(self):
+        for language, text, cents in (
+                ("de", "1.234,56", 123456), ("de", "1234,56", 123456), ("de", "1234", 123400), ("de", "0,01", 1),
+                ("de", "1.234", 123400), ("de", "1.000.000.000,00", 100_000_000_000), ("de", " 5,00 € ", 500),
+                ("en", "1,234.56", 123456), ("en", "1234.56", 123456), ("en", "€1,234.56", 123456),
+                ("en", "7", 700),
+                # What no float holds: 0.1 and 0.2 in cents, and 2^53 + 1 cents.
+                ("de", "0,29", 29), ("en", "90071992547409.93", None), ("en", "9007199254.93", 900719925493)):
+            self.assertEqual(amounts.read_cents(text, language), cents, (language, text))
+        for language, texts in (("de", ("1,234.56", "1.23", "1,2", "1,234", "12.34", "1.2345", "01.234,00", "-1",
+                                        "1e3", "", ",50", "1 234", "١", "1,00,00")),
+                                ("en", ("1.234,56", "1,23", "1.2", "1.234", "12,34", "½"))):
+            for text in texts:
+                self.assertIsNone(amounts.read_cents(text, language), (language, text))
+
+    def test_rates_and_months(self):
+        for language, text, hundredths in (
+                ("de", "14,25", 1425), ("de", "19,5", 1950), ("de", "20", 2000), ("en", "0.9 %", 90),
+                ("de", "14.25", None), ("en", "14,25", None), ("de", "1,234", None), ("de", "", None)):
+            self.assertEqual(amounts.read_hundredths(text, language), hundredths, text)
+        for text, month in (("2024-01", "2024-01"), ("01/2024", "2024-01"), ("1/2024", "2024-01"),
+                            ("12.2199", "2199-12")):
+            self.assertEqual(amounts.month("month", text), month)
+        for text in ("2024-1", "13/2024", "1999-12", "2200-01", "2024", "2024-01-01", "00/2024"):
+            self.assertRaises(Fault, amounts.month, "month", text)
+
+    def test_numbers(self):
+        day = datetime.date(2024, 4, 30)
+        for last, number in ((0, 202404300100001), (202404300100001, 202404300100002),
+                             (202404290199999, 202404300100001),
+                             # The clock went back.
+                             (202405010100009, 202405010100010), (202405010100001 + 41, 202405010100043)):
+            self.assertEqual(numbers.next_number(last, day, 1, None), number)
+        # The last number of the day, and numbers of another desk or of another kind.
+        for last in (202404300199999, 202404300200001, 999_999_999_999_999_999):
+            self.assertRaises(Fault, numbers.next_number, last, day, 1, None)
+        self.assertEqual(numbers.next_number(7, day, 1, 5), 8)
+        self.assertEqual(numbers.next_number(0, day, 1, 5), 5)
+        self.assertRaises(Fault, numbers.next_number, 999_999_999_999_999_999, day, 1, 5)
+        self.assertLess(numbers.next_number(0, datetime.date(9999, 12, 31), 99, None), 10 ** 18)
+
+    def test_statements(self):
+        """The parts that the manual's story has not: set-offs, payments of interest, an end, amounts
+        wider than their places."""
+        text = ("statement 1001 2024-05-02\nname A\u2028B  \u00e4\nmember 2024-01 2024-06\n"
+                "charge 2024-01 due 2024-02-20 version 12        1000.00 100000000000.00           0.00\n"
+                "  paid 2024-05-02         500.10 set-off 1\n"
+                "interest-paid 2024-05-02          40.00 set-off 1\ninterest-paid 2024-05-02           1.00 I!~\n"
+                "missing 2024-02\nmissing 2024-03\nprepaid           0.00\narrears         499.90\n"
+                "interest           0.01\n")
+        read = documents.read_statement(text)
+        self.assertEqual((read["name"], read["last"]), ("A\u2028B  \u00e4", "2024-06"))
+        self.assertEqual(read["missing"], ["2024-02", "2024-03"])
+        self.assertEqual(read["charges"][0]["open"], "10000000000000")
+        self.assertEqual(read["charges"][0]["payments"],
+                         [{"day": "2024-05-02", "cents": "50010", "reference": "set-off 1"}])
+        self.assertEqual([it["reference"] for it in read["interest_payments"]], ["set-off 1", "I!~"])
+        self.assertEqual((read["arrears"], read["interest"]), ("49990", "1"))
+        for wrong in (text[:-1], text + "more\n", text.replace("missing 2024-02\n", "something\n"), "", "\n",
+                      text.replace("arrears         499.90\n", "")):
+            self.assertRaises(documents.NotUnderstood, documents.read_statement, wrong)
+
+    def test_suspense(self):
+        text = ("suspense 2024-04-30\nline B9 2024-03-01 C -          50.00  two  blanks\n"
+                "line B10 2024-03-01 I 1099           7.00\nlines 2\ntotal          57.00\n")
+        lines = documents.read_suspense(text)["lines"]
+        self.assertEqual([(it["reference"], it["employer"], it["cents"], it["note"]) for it in lines],
+                         [("B9", None, "5000", " two  blanks"), ("B10", "1099", "700", "")])
+
+    def test_many_lines_in_suspense_come_in_parts(self):
+        lines = "".join(f"line B{it} 2024-03-01 C -           0.01\n" for it in range(450))
+        text = f"suspense 2024-04-30\n{lines}lines 450\ntotal           4.50\n"
+        for first, references in ((0, (0, 199)), (200, (200, 399)), (400, (400, 449))):
+            read = documents.read_suspense(text, first)
+            found = [it["reference"] for it in read["lines"]]
+            self.assertEqual((found[0], found[-1]), tuple(f"B{it}" for it in references))
+            self.assertEqual((read["count"], read["total"]), (450, "450"))
+            self.assertEqual(len(found), references[1] - references[0] + 1)
+        self.assertEqual(documents.read_suspense(text, 450)["lines"], [])
+
+    def test_workers_and_lists(self):
+        text = ("worker 7 2024-04-30\nearned 1001 2024-01         142.50\n"
+                "claim 1 employer 1001 open          10.00\nbalance         132.50\n")
+        self.assertEqual(documents.read_worker(text)["claims"],
+                         [{"claim": 1, "employer": 1001, "state": "open", "cents": "1000"}])
+        text = ("reminders 2 2024-05-14\nemployer 1001 level 2 missing 1 2024-03           0.00          50.00\n"
+                "employer 1004 level 1 missing 0 -         300.00           5.00\nfirms 2\n")
+        self.assertEqual([it["first"] for it in documents.read_reminders(text)["reminded"]], ["2024-03", None])
+
+
+if __name__ == "__main__":
+    run_tests()

@@ -1,0 +1,285 @@
+"""Keeps the desk (tools/desk) from everybody but its own page, and looks into its command line and its
+folder.
+
+    python3 tests/desk_safety.py [PROGRAM]
+
+PROGRAM is crates/clear_app/out/clear_app where it isn't given, as `rt ci` leaves it.
+"""
+
+import datetime
+import json
+import os
+import resource
+import signal
+import socket
+import sys
+import unittest
+
+# No __pycache__ is left beside the sources.
+sys.dont_write_bytecode = True
+from desk_under_test import (  # noqa: E402
+    DONE, DeskUnderTest, FakeOffice, answer_bytes, free_port, read_message)
+from program_under_test import NOBODY, run_tests  # noqa: E402
+
+WORDS = ["--office", "8080", "--key-file", "desk.key", "--port", "0"]
+
+
+class CommandLine(DeskUnderTest):
+    """The words and files with which the desk is started."""
+
+    def refuses_to_start(self, told, *words, status=2):
+        code, output, errors = self.run_desk(*words)
+        self.assertEqual((code, output), (status, ""), words)
+        self.assertIn(told, errors)
+        self.assertFalse(self.log_folder.exists())
+
+    def test_help(self):
+        code, output, errors = self.run_desk("--help")
+        self.assertEqual((code, errors), (0, ""))
+        for word in ("--office", "--key-file", "--port", "--log", "--clearing", "--rates", "--desk",
+                     "--first-number"):
+            self.assertIn(word, output)
+
+    def test_wrong_words(self):
+        for words in (WORDS[2:], WORDS[:2] + WORDS[4:], WORDS[:4], ["--office", "65536", *WORDS[2:]],
+                      [*WORDS, "--desk", "0"], [*WORDS, "--desk", "100"], [*WORDS, "--first-number", "01"],
+                      [*WORDS, "--first-number", "1" * 19], [*WORDS, "more"]):
+            self.refuses_to_start("usage: desk ", *words)
+
+    def test_wrong_files(self):
+        good = ["--office", "8080", "--port", "0", "--key-file"]
+        self.refuses_to_start("No such file or directory: 'no.key'\n", *good, "no.key")
+        self.refuses_to_start("rates.toml: not one key\n", *good, "rates.toml")
+        for content in ("", "two keys\n", "k" * 65, "k\u00e4"):
+            self.write("wrong.key", content)
+            self.refuses_to_start("wrong.key: not one key\n", *good, "wrong.key")
+        row = "[[rate]]\nfrom = \"2024-01\"\ncontribution = 2000\nreport_day = 15\ndue_day = 20\ninterest = 100\n"
+        for content, told in (
+                ("rate = 1\n", "no rate file"), ("", "no rate file"), ("[[rate]\n", "no TOML"), (b"\xff", "no TOML"),
+                (row, "block 1: other members"),
+                (row + "entitlement = 10001\n", "block 1: entitlement isn't from 0 to 10000"),
+                (row + "entitlement = 1.0\n", "block 1: entitlement isn't"),
+                (row + "entitlement = true\n", "block 1: entitlement isn't"),
+                ((row + "entitlement = 1\n") * 2, "block 2: from isn't after that of the row before"),
+                (row.replace("2024-01", "2024-13") + "entitlement = 1\n", "block 1: from is no month")):
+            self.write("wrong.toml", content)
+            self.refuses_to_start(f"wrong.toml: {told}", *good, "desk.key", "--rates", "wrong.toml")
+
+    def test_a_port_that_is_taken(self):
+        with socket.create_server(("127.0.0.1", 0)) as taken:
+            port = str(taken.getsockname()[1])
+            self.refuses_to_start(f"port {port}: Address already in use\n", *WORDS[:-1], port, status=3)
+
+    def test_stops(self):
+        for stop in (signal.SIGINT, signal.SIGTERM):
+            self.open_desk(free_port())
+            self.desk.send_signal(stop)
+            self.assertEqual(self.desk.wait(30), 0)
+            self.assertEqual(self.desk.stderr.read(), "")
+
+
+class Safety(DeskUnderTest):
+    """Nobody but the page that the desk served reaches the office through it."""
+
+    def setUp(self):
+        super().setUp()
+        self.office = FakeOffice(self, lambda request: answer_bytes(200, DONE))
+        self.open_desk(self.office.port)
+        self.own = f"http://127.0.0.1:{self.port}"
+
+    def tearDown(self):
+        self.assertEqual(self.office.requests, [])
+        self.assertEqual(self.lines("numbers.jsonl"), [])
+
+    def raw(self, request):
+        with socket.create_connection(("127.0.0.1", self.port), timeout=30) as peer:
+            peer.sendall(request)
+            return read_message(peer)
+
+    def post_with(self, headers, path="/api/commands/payouts", body=b'{"language":"de"}'):
+        status, _, told = self.ask("POST", path, body, headers)
+        return status, json.loads(told)
+
+    def test_a_wrong_host(self):
+        for host in ("evil.example", f"evil.example:{self.port}", "127.0.0.1", f"127.0.0.1:{self.port + 1}", "",
+                     f"127.0.0.1:{self.port}.evil.example"):
+            for path in ("/", "/api/session", "/desk.js"):
+                self.faults(403, "host", self.get(path, Host=host))
+            self.faults(403, "host", self.post_with({**self.headers("payouts"), "Host": host}))
+        for head in (b"", f"Host: 127.0.0.1:{self.port}\r\nHost: 127.0.0.1:{self.port}\r\n".encode()):
+            self.assertRegex(self.raw(b"GET /api/session HTTP/1.1\r\n" + head + b"\r\n"), rb"^HTTP/1.1 40[03] ")
+
+    def test_a_wrong_origin(self):
+        for origin in ("http://evil.example", "null", f"https://127.0.0.1:{self.port}", "http://127.0.0.1",
+                       f"http://localhost:{self.port}", f"{self.own}/"):
+            self.faults(403, "origin", self.post_with({**self.headers("payouts"), "Origin": origin}))
+            self.faults(403, "origin", self.get("/api/session", Origin=origin))
+        without = self.headers("payouts")
+        del without["Origin"]
+        self.faults(403, "origin", self.post_with(without))
+        for site in ("cross-site", "same-site"):
+            for path in ("/api/session", "/api/suspense/0", "/documents/suspense.txt"):
+                self.faults(403, "origin", self.get(path, **{"Sec-Fetch-Site": site}))
+            self.faults(403, "origin", self.post_with({**self.headers("payouts"), "Sec-Fetch-Site": site}))
+            # A link may lead to the page.
+            self.assertEqual(self.ask("GET", "/", headers={"Sec-Fetch-Site": site})[0], 200)
+        self.assertEqual(self.get("/api/session", Origin=self.own, **{"Sec-Fetch-Site": "same-origin"})[0], 200)
+        localhost = {"Host": f"localhost:{self.port}", "Origin": f"http://localhost:{self.port}"}
+        self.assertEqual(self.get("/api/session", **localhost)[0], 200)
+
+    def test_a_wrong_token(self):
+        for token in ("", "0" * 64, self.session["tokens"]["reminders"], "ä"):
+            headers = {**self.headers("payouts"), "Desk-Token": token.encode("utf-8")}
+            self.faults(403, "token", self.post_with(headers))
+        without = self.headers("payouts")
+        del without["Desk-Token"]
+        self.faults(403, "token", self.post_with(without))
+        tokens = list(self.session["tokens"].values())
+        self.assertEqual(len(set(tokens)), len(tokens))
+
+    def test_bodies(self):
+        large = b" " * (1_048_576 + 65_537)
+        self.faults(413, "file-too-large", self.post_with(self.headers("bank"), "/api/commands/bank", large))
+        # A bank file of one byte too many.
+        large = b"r" * 1_048_577
+        self.faults(413, "file-too-large", self.post_with(self.headers("bank"), "/api/commands/bank", large))
+        for body in (b"", b"[]", b"1", b'{"language":"fr"}', b'{"language":1}', b"\xff", b"[" * 100_000,
+                     b'{"language":"de","employer":1001}'):
+            self.faults(400, "form", self.post_with(self.headers("claim"), "/api/commands/claim", body))
+        plain = {**self.headers("payouts"), "Content-Type": "text/plain"}
+        self.faults(415, "form", self.post_with(plain))
+        chunked = {**self.headers("payouts"), "Transfer-Encoding": "chunked"}
+        self.faults(501, "head", self.post_with(chunked, body=b"0\r\n\r\n"))
+        head = "".join(f"{name}: {value}\r\n" for name, value in self.headers("payouts").items())
+        head = f"POST /api/commands/payouts HTTP/1.1\r\nHost: 127.0.0.1:{self.port}\r\n{head}"
+        for length in ("", "Content-Length: -1\r\n", "Content-Length: 1\r\nContent-Length: 1\r\n"):
+            self.assertRegex(self.raw(f"{head}{length}\r\n".encode()), rb"^HTTP/1.1 4(00|11) ")
+
+    def test_paths(self):
+        for path in ("/../desk", "/../../docs/http.md", "/desk_page/index.html", "/..%2fdesk", "/words.de.json/",
+                     "//etc/passwd", "/api/firms/1001/../1002", "/api/firms/0", "/api/firms/1001?x", "/index.html",
+                     "/api/payouts/1%2f", "/documents/statement-.txt", "/documents/worker-7.txt/x", "/desk.js?x",
+                     f"http://127.0.0.1:{self.port}/"):
+            self.faults(404, "path", self.get(path))
+        self.faults(404, "path", self.post_with(self.headers("payouts"), "/api/commands/nothing"))
+        self.faults(404, "path", self.post_with(self.headers("payouts"), "/api/session"))
+
+    def test_methods(self):
+        for method in ("PUT", "DELETE", "OPTIONS", "PATCH", "TRACE", "BREW"):
+            status, headers, body = self.ask(method, "/api/session", headers={"Origin": self.own})
+            self.assertEqual((status, json.loads(body)["fault"], headers["Allow"]), (405, "method", "GET, POST"))
+        self.assertEqual(self.ask("HEAD", "/")[0], 405)
+
+    def test_heads(self):
+        for request in (b"\x16\x03\x01\x00\r\n\r\n", b"GET\r\n\r\n", b"GET / HTTP/9.9\r\n\r\n",
+                        b"GET /" + b"a" * 70_000 + b" HTTP/1.1\r\n\r\n",
+                        b"GET / HTTP/1.1\r\n" + b"A: b\r\n" * 200 + b"\r\n"):
+            told = self.raw(request)
+            self.assertRegex(told, rb"^(HTTP/1.1 [45][0-9]{2} |\{)", request[:40])
+            self.assertNotIn(b"<", told)
+
+    def test_what_each_answer_says(self):
+        for path in ("/", "/desk.css", "/desk.js", "/api/session", "/nothing"):
+            _, headers, body = self.ask("GET", path)
+            policy = headers["Content-Security-Policy"]
+            self.assertTrue(policy.startswith("default-src 'self';"), policy)
+            self.assertIn("frame-ancestors 'none'", policy)
+            self.assertNotIn("unsafe", policy)
+            for name, value in (("X-Content-Type-Options", "nosniff"), ("Referrer-Policy", "no-referrer"),
+                                ("Cache-Control", "no-store"), ("Cross-Origin-Resource-Policy", "same-origin")):
+                self.assertEqual(headers[name], value)
+            self.assertIsNone(headers["Access-Control-Allow-Origin"])
+            self.assertNotIn(b"Office-Key", body)
+            self.assertEqual(int(headers["Content-Length"]), len(body))
+
+    @unittest.skipUnless(NOBODY, "only root can be another user")
+    def test_another_user_of_the_machine(self):
+        host = f" HTTP/1.1\r\nHost: 127.0.0.1:{self.port}\r\nOrigin: {self.own}\r\n\r\n".encode()
+        for request in (b"GET /api/session", b"GET /api/suspense/0", b"GET /documents/suspense.txt",
+                        b"POST /api/commands/payouts"):
+            os.seteuid(NOBODY)
+            try:
+                peer = socket.create_connection(("127.0.0.1", self.port), timeout=30)
+            finally:
+                os.seteuid(0)
+            with peer:
+                peer.sendall(request + host)
+                answer = read_message(peer)
+            self.assertTrue(answer.startswith(b"HTTP/1.1 403 "), answer)
+            self.assertTrue(answer.endswith(b'\r\n\r\n{"fault": "user", "carried": {}}'), answer)
+
+
+class Numbers(DeskUnderTest):
+    def test_numbers_are_written_before_they_are_sent(self):
+        seen = []
+
+        def answer(request):
+            seen.append([it["number"] for it in self.lines("numbers.jsonl")])
+            seen.append((self.log_folder / "pending.json").exists())
+            return answer_bytes(200, DONE)
+
+        self.open_desk(FakeOffice(self, answer).port, first="77")
+        self.does(DONE, self.register())
+        self.assertEqual(seen, [[77], True])
+        self.assertEqual(self.lines("numbers.jsonl")[0]["words"], "register 1001 Bau Nord 2024-01")
+        datetime.datetime.fromisoformat(self.lines("numbers.jsonl")[0]["time"])
+        # A lower first number takes none of those that were used.
+        self.kill_desk()
+        self.open_desk(self.session["office"], first="5")
+        self.assertEqual(self.register()[1]["entry"]["number"], 78)
+
+    def test_numbers_of_date_desk_and_count(self):
+        office = FakeOffice(self, lambda request: answer_bytes(200, DONE))
+        before = datetime.date.today()
+        self.open_desk(office.port, "--desk", "7", first=None)
+        numbers = [self.register()[1]["entry"]["number"] for _ in range(3)]
+        days = {f"{day:%Y%m%d}" for day in (before, datetime.date.today())}
+        self.assertIn(str(numbers[0]), {f"{day}0700001" for day in days})
+        self.assertEqual(numbers, sorted(set(numbers)))
+        # The folder is that of desk 7: another desk's numbers can't go on behind it.
+        self.kill_desk()
+        self.open_desk(office.port, "--desk", "6", first=None)
+        self.faults(409, "numbers-end", self.register())
+
+    def test_two_desks_on_one_folder(self):
+        self.open_desk(free_port())
+        code, output, errors = self.run_desk(*WORDS)
+        self.assertEqual((code, output), (2, ""))
+        self.assertIn("desk-log: another desk works with this folder\n", errors)
+
+    def test_a_full_disk_sends_nothing(self):
+        office = FakeOffice(self, lambda request: answer_bytes(200, DONE))
+
+        def so_small():
+            resource.setrlimit(resource.RLIMIT_FSIZE, (50, 50))
+
+        self.open_desk(office.port, preexec_fn=so_small)
+        self.faults(500, "journal", self.register())
+        self.assertEqual((office.requests, (self.log_folder / "numbers.jsonl").read_bytes()), ([], b""))
+
+    def test_who_may_read_the_folder(self):
+        self.open_desk(FakeOffice(self, lambda request: answer_bytes(200, DONE)).port)
+        self.register()
+        for path in (self.log_folder, *self.log_folder.iterdir()):
+            self.assertEqual(path.stat().st_mode & 0o077, 0, path)
+
+    def test_a_folder_that_others_may_write(self):
+        self.log_folder.mkdir()
+        self.log_folder.chmod(0o770)
+        code, output, errors = self.run_desk(*WORDS)
+        self.assertEqual((code, output), (2, ""))
+        self.assertIn("desk-log: others may write this folder\n", errors)
+
+    def test_files_that_are_not_the_desks(self):
+        for name, content in (("numbers.jsonl", "{}\n"), ("numbers.jsonl", "1\n"), ("log.jsonl", "none\n"),
+                              ("log.jsonl", '{"number": 1, "outcome": "done"}\n'), ("pending.json", "{}")):
+            self.log_folder.mkdir(exist_ok=True)
+            (self.log_folder / name).write_text(content)
+            code, output, errors = self.run_desk(*WORDS)
+            self.assertEqual((code, output), (2, ""), content)
+            self.assertIn(f"{name}: ", errors)
+            (self.log_folder / name).unlink()
+
+
+if __name__ == "__main__":
+    run_tests()

@@ -1,0 +1,258 @@
+"""What a camt.053 text says: its pages of statements with their balances, entries and transactions.
+
+Versions 02 and 08 say the same in nearly the same elements; where they differ, both ways are looked up.
+"""
+
+from __future__ import annotations
+
+import re
+from collections.abc import Iterator
+from dataclasses import dataclass
+from datetime import date
+from decimal import Decimal
+from xml.etree.ElementTree import Element
+
+from .texts import Fault, plain, shown
+from .xml_text import read_root
+
+NAMESPACE = "urn:iso:std:iso:20022:tech:xsd:"
+VERSIONS = ("camt.053.001.02", "camt.053.001.08")
+OTHER_MESSAGES = {
+    "camt.052": "a report within the day, which isn't final; the statement of the day, camt.053, is wanted",
+    "camt.054": "a notification of single payments; the statement of the day, camt.053, is wanted",
+}
+AMOUNT = re.compile(r"[0-9]{1,15}(\.[0-9]{0,5})?")
+CURRENCY = re.compile("[A-Z]{3}")
+# A date or a date with a time, of which the day counts as it is written.
+DAY = re.compile(r"([0-9]{4}-[0-9]{2}-[0-9]{2})(T.*|Z|[+-][0-9]{2}:[0-9]{2})?", re.DOTALL)
+PAGE_NUMBER = re.compile("[0-9]{1,5}")
+REMITTANCE = ("RmtInf/Ustrd", "RmtInf/Strd/CdtrRefInf/Ref", "RmtInf/Strd/AddtlRmtInf")
+DEBTOR_NAME = ("RltdPties/Dbtr/Pty/Nm", "RltdPties/Dbtr/Nm", "RltdPties/Dbtr/Agt/FinInstnId/Nm")
+DIRECTIONS = {"CRDT": True, "DBIT": False}
+# What banks write where they have no reference.
+NO_REFERENCE = re.compile("NON-?REF|NOT ?PROVIDED|NONE|0+", re.IGNORECASE)
+
+
+@dataclass(frozen=True)
+class Money:
+    amount: Decimal
+    currency: str
+
+    def __str__(self) -> str:
+        digits = max(2, -self.amount.normalize().as_tuple().exponent)
+        return f"{self.amount:.{digits}f} {self.currency}"
+
+
+@dataclass(frozen=True)
+class Balance:
+    code: str
+    # Below zero where the account is in debit.
+    money: Money
+
+
+@dataclass(frozen=True)
+class Transaction:
+    """One payment of an entry. A text that the bank doesn't give is empty."""
+
+    reference: str
+    end_to_end: str
+    # What it adds to the entry, where the details say so.
+    credited: Money | None
+    is_return: bool
+    name: str
+    iban: str
+    text: str
+
+
+@dataclass(frozen=True)
+class Entry:
+    status: str
+    is_credit: bool
+    money: Money
+    is_reversal: bool
+    reference: str
+    booked: date | None
+    value: date | None
+    transactions: tuple[Transaction, ...]
+    # Whether all transactions stand here that the entry is said to have.
+    is_detailed: bool
+
+    @property
+    def is_return(self) -> bool:
+        returns = [it.is_return for it in self.transactions]
+        return self.is_reversal or self.is_detailed and bool(returns) and all(returns)
+
+
+@dataclass(frozen=True)
+class Page:
+    """A statement, or one page of it."""
+
+    account: str
+    identifier: str
+    number: int
+    # Whether it says that it is the last one, where the statement itself is numbered by pages.
+    is_last: bool | None
+    balances: tuple[Balance, ...]
+    entries: tuple[Entry, ...]
+
+
+@dataclass(frozen=True)
+class Node:
+    """An element, with what a message calls it."""
+
+    element: Element
+    namespace: str
+    called: str
+
+    def parts(self, path: str) -> Iterator[Node]:
+        steps = "/".join(f"{{{self.namespace}}}{step}" for step in path.split("/"))
+        for element in self.element.iterfind(steps):
+            yield Node(element, self.namespace, self.called)
+
+    def has(self, path: str) -> bool:
+        return any(True for _ in self.parts(path))
+
+    def text(self, *paths: str) -> str:
+        """The first text at these paths that isn't empty."""
+        texts = (node.own_text() for path in paths for node in self.parts(path))
+        return next(filter(None, texts), "")
+
+    def own_text(self) -> str:
+        return (self.element.text or "").strip()
+
+    def need(self, *paths: str) -> str:
+        text = self.text(*paths)
+        if not text:
+            raise self.fault(f"{' or '.join(paths)} is missing")
+        return text
+
+    def fault(self, text: str) -> Fault:
+        return Fault(f"{self.called}: {text}")
+
+
+def read_pages(name: str, content: bytes) -> list[Page]:
+    """The statements of a text, or their pages."""
+    root = read_root(name, content)
+    message, _, local = root.tag.removeprefix("{" + NAMESPACE).partition("}")
+    if local != "Document" or not root.tag.startswith("{" + NAMESPACE):
+        raise Fault(f"{name}: the XML is no camt.053 statement; its root is {shown(root.tag)}")
+    if message not in VERSIONS:
+        told = OTHER_MESSAGES.get(message[:8], f"only {' and '.join(VERSIONS)} are read")
+        raise Fault(f"{name}: {shown(message)}: {told}")
+    document = Node(root, NAMESPACE + message, name)
+    pages = [read_page(found, document) for found in document.parts("BkToCstmrStmt/Stmt")]
+    if not pages:
+        raise Fault(f"{name}: no statement (BkToCstmrStmt/Stmt) in it")
+    return pages
+
+
+def read_page(found: Node, document: Node) -> Page:
+    account = found.need("Acct/Id/IBAN", "Acct/Id/Othr/Id")
+    identifier = found.need("Id")
+    page = Node(found.element, found.namespace, f"statement {shown(identifier)} of {shown(account)}")
+    entries = enumerate(page.parts("Ntry"), 1)
+    last = page.text("StmtPgntn/LastPgInd")
+    return Page(
+        account=account,
+        identifier=identifier,
+        number=read_page_number(page, document),
+        is_last=is_true(last) if last else None,
+        balances=tuple(map(read_balance, page.parts("Bal"))),
+        entries=tuple(
+            read_entry(Node(it.element, it.namespace, f"{page.called}, entry {place} of the page"))
+            for place, it in entries
+        ),
+    )
+
+
+def read_page_number(page: Node, document: Node) -> int:
+    """The number of the page: of the statement, or else of the message, by which version 02 counts."""
+    number = page.text("StmtPgntn/PgNb") or document.text("BkToCstmrStmt/GrpHdr/MsgPgntn/PgNb") or "1"
+    if not PAGE_NUMBER.fullmatch(number):
+        raise page.fault(f"{shown(number)} is no page number")
+    return int(number)
+
+
+def read_balance(node: Node) -> Balance:
+    money = read_money(node, "Amt")
+    amount = money.amount if read_direction(node) else -money.amount
+    return Balance(node.text("Tp/CdOrPrtry/Cd"), Money(amount, money.currency))
+
+
+def read_entry(node: Node) -> Entry:
+    details = list(node.parts("NtryDtls"))
+    return Entry(
+        status=node.need("Sts/Cd", "Sts/Prtry", "Sts"),
+        is_credit=read_direction(node),
+        money=read_money(node, "Amt"),
+        is_reversal=is_true(node.text("RvslInd")),
+        reference=read_reference(node, "AcctSvcrRef"),
+        booked=read_day(node, "BookgDt"),
+        value=read_day(node, "ValDt"),
+        transactions=tuple(read_transaction(it) for part in details for it in part.parts("TxDtls")),
+        is_detailed=all(map(has_all_transactions, details)),
+    )
+
+
+def has_all_transactions(details: Node) -> bool:
+    """Whether as many transactions stand there as the batch is said to have, if it is said."""
+    announced = details.text("Btch/NbOfTxs")
+    return not announced or announced.lstrip("0") == str(sum(1 for _ in details.parts("TxDtls")))
+
+
+def read_transaction(node: Node) -> Transaction:
+    texts = [it.own_text() for path in REMITTANCE for it in node.parts(path)]
+    return Transaction(
+        reference=read_reference(node, "Refs/AcctSvcrRef"),
+        end_to_end=read_reference(node, "Refs/EndToEndId"),
+        credited=read_credited(node),
+        is_return=node.has("RtrInf"),
+        name=plain(node.text(*DEBTOR_NAME)),
+        iban=node.text("RltdPties/DbtrAcct/Id/IBAN"),
+        text=plain(" ".join(texts)),
+    )
+
+
+def read_credited(node: Node) -> Money | None:
+    """The amount of a transaction, which stands in the details of its amounts alone in version 02."""
+    path = next((path for path in ("Amt", "AmtDtls/TxAmt/Amt") if node.has(path)), None)
+    if path is None or node.text("CdtDbtInd") == "DBIT":
+        return None
+    return read_money(node, path)
+
+
+def read_reference(node: Node, path: str) -> str:
+    reference = node.text(path)
+    return "" if NO_REFERENCE.fullmatch(reference) else reference
+
+
+def read_money(node: Node, path: str) -> Money:
+    found = next(node.parts(path), None)
+    if found is None:
+        raise node.fault(f"{path} is missing")
+    text, currency = found.own_text(), found.element.get("Ccy", "")
+    if not AMOUNT.fullmatch(text) or not CURRENCY.fullmatch(currency):
+        raise node.fault(f"{shown(f'{text} {currency}')} is no amount with a currency")
+    return Money(Decimal(text), currency)
+
+
+def read_direction(node: Node) -> bool:
+    """Whether it is a credit."""
+    direction = node.need("CdtDbtInd")
+    if direction not in DIRECTIONS:
+        raise node.fault(f"CdtDbtInd is {shown(direction)}, neither CRDT nor DBIT")
+    return DIRECTIONS[direction]
+
+
+def read_day(node: Node, path: str) -> date | None:
+    text = node.text(f"{path}/Dt", f"{path}/DtTm")
+    if not text:
+        return None
+    try:
+        return date.fromisoformat(DAY.fullmatch(text)[1])
+    except (TypeError, ValueError):
+        raise node.fault(f"{path}: {shown(text)} is no day") from None
+
+
+def is_true(text: str) -> bool:
+    return text in ("true", "1")

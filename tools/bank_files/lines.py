@@ -1,0 +1,267 @@
+"""The lines of the office's bank file for the booked credits of statements, and what is left out."""
+
+from __future__ import annotations
+
+import base64
+import csv
+import hashlib
+import io
+import json
+import re
+from collections import Counter
+from collections.abc import Iterator
+from dataclasses import dataclass, field, replace
+from datetime import date
+from decimal import Decimal
+from enum import Enum
+
+from .camt import Entry, Money, Transaction
+from .earlier import HEADER, EarlierLine
+from .firms import Firms, Found
+from .statements import Statement
+from .texts import Refusal, cut, shown
+
+# The limits of the office (docs/formats.md).
+REFERENCE = re.compile("[!-~]{1,35}")
+MOST_NOTE_BYTES = 140
+MOST_CENTS = 100_000_000_000
+DAYS = (date(2000, 1, 1), date(2200, 12, 31))
+MOST_LINES = 10_000
+MOST_BYTES = 1_048_576
+
+# References of this program's own making, which none of the bank's may look like.
+MADE = re.compile("(bank|place)~.*")
+DIGEST_SIGNS = 26
+
+
+class Reason(Enum):
+    """Why something is left out."""
+
+    DEBIT = "debit"
+    RETURNED_PAYMENT = "returned payment (a debit)"
+    RETURNED_TRANSFER = "returned transfer (a credit)"
+    PENDING = "pending"
+    NOT_BOOKED = "neither booked nor pending"
+    OTHER_CURRENCY = "other currency"
+    NOTHING = "amount of 0"
+    REPEAT = "stands in two statements"
+
+
+@dataclass(frozen=True)
+class LeftOut:
+    reason: Reason
+    called: str
+    day: date | None
+    money: Money
+
+
+@dataclass(frozen=True)
+class Line:
+    reference: str
+    value: date
+    employer: str
+    cents: int
+    purpose: str
+    note: str
+    found: Found
+
+    def fields(self) -> tuple:
+        return self.reference, self.value, self.employer, self.cents, self.purpose, self.note
+
+
+@dataclass(frozen=True)
+class Payment:
+    """What becomes one line: a transaction, or an entry that its details don't part."""
+
+    called: str
+    # The bank's own, or empty.
+    reference: str
+    # By what it is known where the bank gives no reference.
+    place: tuple[str, ...]
+    booked: date | None
+    value: date | None
+    money: Money
+    # Several where one amount stands for them all.
+    transactions: tuple[Transaction, ...]
+    is_detailed: bool
+
+    @property
+    def is_return(self) -> bool:
+        return self.is_detailed and len(self.transactions) == 1 and self.transactions[0].is_return
+
+    @property
+    def name(self) -> str:
+        return ", ".join(dict.fromkeys(filter(None, (it.name for it in self.transactions))))
+
+    @property
+    def text(self) -> str:
+        return " ".join(filter(None, (it.text for it in self.transactions)))
+
+
+def reason_to_leave_out(entry: Entry) -> Reason | None:
+    """Why no part of an entry is taken."""
+    if entry.status != "BOOK":
+        return Reason.PENDING if entry.status == "PDNG" else Reason.NOT_BOOKED
+    if entry.money.currency != "EUR":
+        return Reason.OTHER_CURRENCY
+    if entry.is_return:
+        return Reason.RETURNED_TRANSFER if entry.is_credit else Reason.RETURNED_PAYMENT
+    return None if entry.is_credit else Reason.DEBIT
+
+
+def payments_of(statement: Statement, place: int, entry: Entry) -> Iterator[Payment]:
+    """The payments of a booked credit: one a transaction, or one for all where their amounts aren't known."""
+    called = f"entry {place} of {statement.called}"
+    details = entry.transactions
+    is_parted = len(details) > 1 and entry.is_detailed and all(
+        it.credited and it.credited.currency == "EUR" for it in details)
+    if is_parted and sum(it.credited.amount for it in details) != entry.money.amount:
+        raise Refusal(f"{called}: its {len(details)} transactions don't make its amount, {entry.money}")
+    groups = [((it,), it.credited) for it in details] if is_parted else [(details, entry.money)]
+    for number, (group, money) in enumerate(groups, 1):
+        own = group[0] if len(group) == 1 else None
+        end_to_end = own.end_to_end if own else ""
+        day = str(entry.booked or entry.value)
+        yield Payment(
+            called=f"transaction {number} of {called}" if is_parted else called,
+            reference=(own.reference if own else "") or entry.reference,
+            place=(statement.account, statement.identifier, day, str(place), str(number), end_to_end),
+            booked=entry.booked,
+            value=entry.value or entry.booked,
+            money=money,
+            transactions=group,
+            is_detailed=entry.is_detailed,
+        )
+
+
+def made_reference(kind: str, *parts: str) -> str:
+    """A reference that fits the office, is always the same for these parts, and of no others."""
+    digest = hashlib.sha256(json.dumps(parts).encode()).digest()
+    return f"{kind}~{base64.b32encode(digest).decode().lower()[:DIGEST_SIGNS]}"
+
+
+@dataclass
+class BankFile:
+    """The lines, and what is left out, of the statements added so far."""
+
+    firms: Firms
+    # As casefold() leaves them.
+    interest_words: frozenset[str]
+    # By their references.
+    earlier: dict[str, EarlierLine]
+    lines: list[Line] = field(default_factory=list)
+    left_out: list[LeftOut] = field(default_factory=list)
+    # Each line's payment by its reference.
+    payments: dict[str, Payment] = field(default_factory=dict)
+
+    def add(self, statement: Statement) -> None:
+        used: Counter[str] = Counter()
+        for place, entry in statement.entries():
+            if reason := reason_to_leave_out(entry):
+                called = f"entry {place} of {statement.called}"
+                self.left_out.append(LeftOut(reason, called, entry.value or entry.booked, entry.money))
+                continue
+            for payment in payments_of(statement, place, entry):
+                self.add_payment(payment, used)
+
+    def add_payment(self, payment: Payment, used: Counter[str]) -> None:
+        """Adds a payment; of each of the bank's references it is counted how often the statement used it."""
+        if payment.is_return:
+            return self.leave_out(Reason.RETURNED_TRANSFER, payment)
+        if not payment.money.amount:
+            return self.leave_out(Reason.NOTHING, payment)
+        reference = reference_of(payment, used)
+        line = self.line_of(payment, reference)
+        first = self.payments.setdefault(reference, payment)
+        if first is payment:
+            self.lines.append(line)
+        elif is_same(payment, first):
+            self.leave_out(Reason.REPEAT, payment)
+        else:
+            raise Refusal(f"{payment.called} and {first.called} are different payments, and the bank gives "
+                          f"both the reference {shown(payment.reference)}; ask the bank")
+
+    def leave_out(self, reason: Reason, payment: Payment) -> None:
+        self.left_out.append(LeftOut(reason, payment.called, payment.value, payment.money))
+
+    def line_of(self, payment: Payment, reference: str) -> Line:
+        if payment.value is None:
+            raise Refusal(f"{payment.called}: it has neither a value date nor a booking date")
+        if not DAYS[0] <= payment.value <= DAYS[1]:
+            raise Refusal(f"{payment.called}: {payment.value} doesn't lie from {DAYS[0]} to {DAYS[1]}")
+        employer, found = self.firm_of(payment)
+        purpose = "I" if self.is_interest(payment) else "C"
+        line = Line(reference, payment.value, employer, cents_of(payment), purpose, note_of(payment), found)
+        return as_earlier(line, self.earlier.get(reference))
+
+    def firm_of(self, payment: Payment) -> tuple[str, Found]:
+        """The firm of all transactions of a payment; none where they have several, or aren't all known."""
+        found = {self.firms.firm_of(it.iban, it.text) for it in payment.transactions}
+        is_sure = payment.is_detailed and not any(it.is_return for it in payment.transactions)
+        if not is_sure or len({firm for firm, _ in found}) != 1:
+            return "", Found.NOT_FOUND
+        return min(found, key=lambda it: it[1].value)
+
+    def is_interest(self, payment: Payment) -> bool:
+        words = [set(re.findall(r"\w+", it.text.casefold())) for it in payment.transactions]
+        return bool(words) and all(self.interest_words & it for it in words)
+
+
+def as_earlier(line: Line, earlier: EarlierLine | None) -> Line:
+    """The line as an earlier file has it; one of another day or amount stays, for the office to refuse."""
+    if earlier is None or (earlier.value, earlier.cents) != (str(line.value), str(line.cents)):
+        return line
+    told = {"employer": earlier.employer, "purpose": earlier.purpose, "note": earlier.note}
+    return replace(line, found=Found.EARLIER, **told)
+
+
+def reference_of(payment: Payment, used: Counter[str]) -> str:
+    """The bank's reference as it is, where it fits and the statement has it for the first time; else one
+    that is made of it, or of the place where there is none."""
+    own = payment.reference
+    if not own:
+        return made_reference("place", *payment.place)
+    used[own] += 1
+    if used[own] == 1 and REFERENCE.fullmatch(own) and not MADE.fullmatch(own):
+        return own
+    return made_reference("bank", own, str(used[own]))
+
+
+def is_same(payment: Payment, other: Payment) -> bool:
+    """Whether two statements tell of one payment."""
+    def told(it: Payment) -> tuple:
+        account = it.place[0]
+        return account, it.booked, it.value, it.money, it.transactions
+    return told(payment) == told(other)
+
+
+def cents_of(payment: Payment) -> int:
+    cents = payment.money.amount * 100
+    if cents != cents.to_integral_value():
+        raise Refusal(f"{payment.called}: {payment.money.amount:f} euros aren't whole cents")
+    if cents > MOST_CENTS:
+        raise Refusal(f"{payment.called}: {payment.money} is more than the office takes in one line")
+    return int(cents)
+
+
+def note_of(payment: Payment) -> str:
+    """Who paid, and the text; a sign by which a spreadsheet knows a formula doesn't stand first."""
+    note = ": ".join(filter(None, (payment.name, payment.text)))
+    return cut(note.lstrip("=+-@ "), MOST_NOTE_BYTES)
+
+
+def bank_file_text(lines: list[Line]) -> bytes:
+    """The office's bank file."""
+    text = io.StringIO()
+    rows = csv.writer(text, lineterminator="\n")
+    rows.writerow(HEADER)
+    rows.writerows(line.fields() for line in lines)
+    content = text.getvalue().encode()
+    if len(lines) > MOST_LINES or len(content) > MOST_BYTES:
+        raise Refusal(f"{len(lines)} lines of {len(content)} bytes are more than the office takes in a file "
+                      f"({MOST_LINES} lines, {MOST_BYTES} bytes); give fewer statements at once")
+    return content
+
+
+def total(lines: list[Line]) -> Money:
+    return Money(Decimal(sum(line.cents for line in lines)) / 100, "EUR")

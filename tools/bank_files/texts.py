@@ -1,0 +1,45 @@
+"""What ends the program, and texts of others made fit to be shown and written."""
+
+import re
+import unicodedata
+from enum import IntEnum
+
+# Control characters, and those without a width that hide something or turn the direction of writing.
+UNSHOWN = re.compile("[\x00-\x1f\x7f-\x9f\u00ad\u061c\u200b-\u200f\u2028-\u202e\u2060-\u206f\ufeff]")
+MOST_SHOWN = 60
+
+
+class Status(IntEnum):
+    DONE = 0
+    REFUSED = 1
+    UNREADABLE = 2
+
+
+class Fault(Exception):
+    """What ends the program, in words, with its status."""
+
+    def __init__(self, text: str, status: Status = Status.UNREADABLE):
+        super().__init__(text)
+        self.status = status
+
+
+class Refusal(Fault):
+    """Why a statement that can be read isn't taken."""
+
+    def __init__(self, text: str):
+        super().__init__(text, Status.REFUSED)
+
+
+def plain(text: str) -> str:
+    """The text on one line, without control characters, with single spaces; a letter in one writing."""
+    return " ".join(UNSHOWN.sub(" ", unicodedata.normalize("NFC", text)).split())
+
+
+def shown(text: str) -> str:
+    """As much of a text as a message shows."""
+    return plain(text)[:MOST_SHOWN]
+
+
+def cut(text: str, most_bytes: int) -> str:
+    """The text up to so many bytes of UTF-8, cut between two characters."""
+    return text.encode()[:most_bytes].decode(errors="ignore").rstrip()

@@ -1,0 +1,90 @@
+"""Reads an XML text from outside, within limits: no document type, no entities, nothing from elsewhere."""
+
+from __future__ import annotations
+
+from xml.etree.ElementTree import Element, ParseError, TreeBuilder
+from xml.parsers.expat import errors
+
+from .texts import Fault, shown
+
+# A statement is some 12 deep, and an entry has some 70 elements.
+MOST_DEEP = 50
+MOST_ELEMENTS = 2_000_000
+NOT_INSTALLED = """this needs Python's defusedxml, which isn't installed for /usr/bin/python3; on Debian:
+    apt-get install python3-defusedxml"""
+# The marks in front of a text in UTF-16 or UTF-8.
+MARKS = (b"\xff\xfe", b"\xfe\xff", b"\xef\xbb\xbf")
+# How expat says that a text stops before its end.
+CUT_OFF = {
+    errors.codes[error]
+    for error in (errors.XML_ERROR_NO_ELEMENTS, errors.XML_ERROR_UNCLOSED_TOKEN,
+                  errors.XML_ERROR_PARTIAL_CHAR, errors.XML_ERROR_UNCLOSED_CDATA_SECTION)
+}
+
+
+class LimitedBuilder(TreeBuilder):
+    """Builds the tree of a text, as long as it isn't too deep or too large."""
+
+    def __init__(self, name: str):
+        super().__init__()
+        self.name, self.depth, self.count = name, 0, 0
+
+    def start(self, tag, attributes):
+        self.depth += 1
+        self.count += 1
+        if self.depth > MOST_DEEP or self.count > MOST_ELEMENTS:
+            raise Fault(f"{self.name}: too many XML elements, or too deep within each other")
+        return super().start(tag, attributes)
+
+    def end(self, tag):
+        self.depth -= 1
+        return super().end(tag)
+
+
+def read_root(name: str, content: bytes) -> Element:
+    """The root element of a text."""
+    try:
+        from defusedxml import DefusedXmlException
+        from defusedxml.ElementTree import DefusedXMLParser
+    except ImportError:
+        raise Fault(NOT_INSTALLED) from None
+    check_beginning(name, content)
+    parser = DefusedXMLParser(target=LimitedBuilder(name), forbid_dtd=True)
+    try:
+        parser.feed(content)
+        return parser.close()
+    except DefusedXmlException:
+        raise Fault(f"{name}: it declares a document type or entities, as no bank does; "
+                    "it isn't read") from None
+    except ParseError as error:
+        raise Fault(f"{name}: {why_not_parsed(content, error)}") from None
+    except (LookupError, ValueError) as why:
+        raise Fault(f"{name}: its encoding isn't read: {shown(str(why))}") from None
+
+
+def check_beginning(name: str, content: bytes) -> None:
+    """Names what is often given in the place of XML."""
+    if not content.strip():
+        raise Fault(f"{name}: the file is empty")
+    if content.startswith(b"%PDF"):
+        raise Fault(f"{name}: a PDF; the statement is wanted as camt.053, in XML")
+    if not content.startswith(MARKS) and not content.lstrip().startswith(b"<"):
+        raise Fault(f"{name}: no XML; the statement is wanted as camt.053, not as CSV or MT940")
+
+
+def why_not_parsed(content: bytes, error: ParseError) -> str:
+    line = error.position[0]
+    if error.code in CUT_OFF:
+        return f"the XML stops in line {line}, before its end: the file isn't whole"
+    if error.code == errors.codes[errors.XML_ERROR_INVALID_TOKEN] and not is_utf8(content):
+        return (f"line {line} has bytes that aren't UTF-8, and the file doesn't declare another encoding: "
+                "it is Latin-1 or the like, or damaged")
+    return f"no XML: line {line}, column {error.position[1] + 1}: {errors.messages[error.code]}"
+
+
+def is_utf8(content: bytes) -> bool:
+    try:
+        content.decode()
+    except UnicodeDecodeError:
+        return False
+    return True

@@ -1,0 +1,226 @@
+// Tells what became of a request: the answer, a refusal with what to do about it, a fault; and what stops
+// the forms.
+
+import { sendForm } from "./api.js";
+import { byId, make, pairs } from "./elements.js";
+import { day, euros, month, percent } from "./formats.js";
+import { hasWords, say } from "./words.js";
+
+const MARKS = { done: "✓", repeated: "✓", refused: "✕", undecided: "!", lost: "!", "given-up": "–" };
+const BANK_FIELDS = ["", "reference", "value_date", "employer", "cents", "purpose", "note"];
+const AMOUNTS = ["cents", "gross", "charge", "paid", "to_contributions", "to_interest", "total"];
+const MONTHS = ["month", "start", "last", "from"];
+const RATES = ["contribution", "entitlement", "interest"];
+
+/** The values of a command or a reply, written for the clerk. */
+export function written(kind, values) {
+  const told = { ...values };
+  for (const [name, value] of Object.entries(values)) {
+    if (AMOUNTS.includes(name)) {
+      told[name] = euros(value);
+    } else if (MONTHS.includes(name)) {
+      told[name] = month(value);
+    } else if (kind === "rates" && RATES.includes(name)) {
+      told[name] = percent(value);
+    }
+  }
+  return told;
+}
+
+export function subject(entry) {
+  const what = say(`subject.${entry.kind}`, written(entry.kind, entry.values));
+  return what ? `${say(`kind.${entry.kind}`)}: ${what}` : say(`kind.${entry.kind}`);
+}
+
+export const outcomeText = (entry) => `${MARKS[entry.outcome] ?? ""} ${say(`outcome.${entry.outcome}`)}`;
+
+/** What a refusal carries, in words. */
+function detailText(rule, detail) {
+  if (detail === "") {
+    return "";
+  }
+  if (rule === 18) {
+    const key = `limit.${detail}.most`;
+    return hasWords(key) ? say("detail.limit", { most: say(key) }) : detail;
+  }
+  const carried = { detail };
+  if (rule === 10) {
+    carried.day = day(detail);
+  } else if (rule === 25) {
+    carried.amount = euros(detail);
+  } else if (rule === 28 || rule === 31) {
+    carried.month = month(detail);
+  } else if (rule === 20) {
+    const [record, field] = detail.split(":");
+    carried.record = record;
+    carried.field = `${field} ${BANK_FIELDS[Number(field)] ?? ""}`.trim();
+  }
+  return say(hasWords(`detail.${rule}`) ? `detail.${rule}` : "detail.other", carried);
+}
+
+/** What the office answered, in a sentence. */
+export function replyText(entry) {
+  if (entry.reply.rule) {
+    const { rule, name, detail } = entry.reply;
+    return [`${rule} ${name}`, detailText(rule, detail)].filter(Boolean).join(" · ");
+  }
+  if (entry.outcome === "lost") {
+    return say(`fault.no-answer.${entry.reply.reason}`, entry.reply);
+  }
+  if (entry.outcome === "given-up") {
+    return "";
+  }
+  const key = `reply.${entry.kind}`;
+  return hasWords(key) ? say(key, written(entry.kind, entry.reply)) : say("reply.done");
+}
+
+/** What the clerk does about a refusal. Where the manual says to look further, that is what stands here. */
+function actText(rule, detail) {
+  if (rule === 18 && hasWords(`limit.${detail}.do`)) {
+    return say(`limit.${detail}.do`);
+  }
+  return rule === 41 || rule === 42 ? say("stopped.text") : say(`refusal.${rule}.do`);
+}
+
+/** The lines that tell a refusal: number and name, what it means, what it carries, what to do. */
+function refusalLines(refusal) {
+  const { rule, name, detail } = refusal;
+  const carried = detailText(rule, detail);
+  return [
+    make("h2", {}, say("answer.rule", { rule, name })),
+    make("p", { class: "means" }, say(`refusal.${rule}.means`)),
+    carried ? make("p", { class: "detail strong" }, carried) : null,
+    make("p", { class: "do" }, make("strong", {}, say("answer.do")), " ", actText(rule, detail)),
+  ];
+}
+
+function faultText(told) {
+  const code = told.fault === "no-answer" ? `no-answer.${told.carried.reason}` : told.fault;
+  return say(`fault.${code}`, told.carried ?? {});
+}
+
+/** What is told where nothing was done: the office's refusal, or the desk's own fault. */
+export function toldLines(told) {
+  const lines = told.refusal ? refusalLines(told.refusal) : [make("p", { class: "strong" }, faultText(told))];
+  return lines.filter(Boolean);
+}
+
+/** Tells why a view can't be shown. What stops the forms is told on top. */
+export function tellFault(told) {
+  if (told.state?.failure) {
+    return;
+  }
+  byId("fault").replaceChildren(...toldLines(told));
+  byId("fault").hidden = false;
+}
+
+/** Adds a note to the answer that stands there. */
+export function noteAnswer(text) {
+  byId("answer").append(make("p", { class: "note strong" }, text));
+}
+
+export function clearFault() {
+  byId("fault").hidden = true;
+}
+
+export function clearAnswer() {
+  byId("answer").hidden = true;
+}
+
+function showAnswer(kind, lines) {
+  const answer = byId("answer");
+  answer.className = `banner ${kind}`;
+  answer.replaceChildren(...lines.filter(Boolean));
+  answer.hidden = false;
+  answer.focus();
+  answer.scrollIntoView({ block: "nearest" });
+}
+
+/** Tells what became of a command, and takes the focus there. Whether it was done. */
+export function tellAnswer(told, further = []) {
+  if (!told.entry) {
+    showAnswer("bad", toldLines(told));
+    return false;
+  }
+  const { entry } = told;
+  const isDone = ["done", "repeated"].includes(entry.outcome);
+  const said = entry.reply.rule
+    ? refusalLines(entry.reply)
+    : [make("p", { class: "reply strong" }, replyText(entry))];
+  const lines = [
+    make("p", { class: "what" }, make("strong", {}, outcomeText(entry)), ` · ${subject(entry)}`),
+    ...said,
+    told.known ? make("p", { class: "note strong" }, say("document.known")) : null,
+    ...further.map((text) => make("p", { class: "note" }, text)),
+    ["lost", "undecided"].includes(entry.outcome) ? make("p", {}, say("answer.pending")) : null,
+    make("p", { class: "quiet" }, say("answer.number", { number: entry.number })),
+  ];
+  showAnswer(isDone ? "good" : "bad", lines);
+  return isDone;
+}
+
+let stop = null;
+
+/** The fault that stops the forms now, or null. */
+export const whatStops = () => stop;
+
+/** Shows what stops the forms: failed records, or a request that has no answer yet. */
+export function showState(state) {
+  const { failure, pending } = state;
+  stop = null;
+  if (failure || pending) {
+    stop = failure ? "stopped" : "pending";
+  }
+  byId("stopped").hidden = !failure;
+  if (failure) {
+    byId("stopped-rule").textContent = say("answer.rule", failure);
+  }
+  byId("pending").hidden = !pending;
+  if (pending) {
+    byId("pending-what").textContent = `${say("answer.number", pending)} · ${subject(pending)}`;
+    byId("pending").dataset.number = String(pending.number);
+  }
+  for (const form of document.querySelectorAll("form[data-form], #form-bank, #form-report")) {
+    form.toggleAttribute("inert", stop !== null);
+    form.classList.toggle("stopped", stop !== null);
+  }
+  byId("pending-send-again").disabled = false;
+}
+
+/** Asks for the second click, and tells what can't be taken back. Whether it was given. */
+export function confirmed(kind, facts) {
+  const dialog = byId("confirm");
+  byId("confirm-text").textContent = say(`confirm.${kind}`);
+  byId("confirm-yes").textContent = say(`confirm.${kind}.yes`);
+  pairs(byId("confirm-facts"), ...facts);
+  return new Promise((resolve) => {
+    const end = (is) => () => {
+      dialog.close();
+      resolve(is);
+    };
+    byId("confirm-yes").onclick = end(true);
+    byId("confirm-no").onclick = end(false);
+    dialog.oncancel = () => resolve(false);
+    dialog.showModal();
+    byId("confirm-no").focus();
+  });
+}
+
+/** Sends the request without an answer again, or drops it. */
+export function beginPending(done) {
+  const number = () => Number(byId("pending").dataset.number);
+  byId("pending-send-again").addEventListener("click", async () => {
+    byId("pending-send-again").disabled = true;
+    const told = await sendForm("/api/pending/send-again", "send-again", { number: number() });
+    byId("pending-send-again").disabled = false;
+    tellAnswer(told);
+    done(told);
+  });
+  byId("pending-give-up").addEventListener("click", async () => {
+    if (await confirmed("give-up", [])) {
+      const told = await sendForm("/api/pending/give-up", "give-up", { number: number() }, true);
+      tellAnswer(told);
+      done(told);
+    }
+  });
+}

@@ -1,0 +1,80 @@
+// Asks the desk. The key of the office is the desk's: this page never has it.
+
+import { currentLanguage } from "./words.js";
+
+// Of a file: the office takes no more at once.
+export const MOST_BYTES = 1_048_576;
+
+let session = null;
+let heard = () => {};
+
+/** What the desk said at the beginning: the tokens of the forms, how it was started, the firms that were
+ * opened last. */
+export const theSession = () => session;
+
+/** Calls this with the state of the desk whenever one comes: a request without an answer, a failure. */
+export function onState(listener) {
+  heard = listener;
+}
+
+async function ask(path, options) {
+  let answer;
+  let told;
+  try {
+    answer = await fetch(path, { cache: "no-store", redirect: "error", ...options });
+    told = await answer.json();
+  } catch {
+    return { fault: "no-desk", carried: {} };
+  }
+  if (told.state) {
+    heard(told.state);
+  }
+  return told;
+}
+
+export const get = (path) => ask(path, {});
+
+export async function beginSession() {
+  const told = await get("/api/session");
+  if (!told.fault) {
+    session = told;
+  }
+  return told;
+}
+
+async function post(path, form, body, fields) {
+  const headers = { "Desk-Token": session?.tokens[form] ?? "", ...fields };
+  const told = await ask(path, { method: "POST", headers, body });
+  if (told.fault === "token") {
+    // The desk was started anew: the next try has its new tokens.
+    await beginSession();
+  }
+  return told;
+}
+
+/** Sends a form of these fields to the desk; confirmed where the clerk has given the second click. */
+export function sendForm(path, form, fields, isConfirmed = false) {
+  const headers = { "Content-Type": "application/json", "Desk-Confirmed": isConfirmed ? "yes" : "no" };
+  return post(path, form, JSON.stringify(fields), headers);
+}
+
+/** The fields of a form as they were typed, with the language in which amounts are written. */
+export function fieldsOf(form) {
+  const fields = { language: currentLanguage() };
+  for (const [name, value] of new FormData(form)) {
+    if (typeof value === "string") {
+      fields[name] = value;
+    }
+  }
+  return fields;
+}
+
+/** Sends a file as it is. */
+export function sendFile(path, form, file) {
+  const headers = {
+    "Content-Type": "application/octet-stream",
+    "Desk-Confirmed": "yes",
+    "Desk-File": encodeURIComponent(file.name),
+  };
+  return post(path, form, file, headers);
+}

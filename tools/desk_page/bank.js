@@ -1,0 +1,83 @@
+// The bank's file: dropped or chosen, judged by the office's own program first, then imported.
+
+import { clearAnswer, confirmed, tellAnswer } from "./answers.js";
+import { MOST_BYTES, get, sendFile } from "./api.js";
+import { beginDrop, byId, make } from "./elements.js";
+import { euros } from "./formats.js";
+import { say } from "./words.js";
+
+const CHECK_MARKS = { good: "✓", faulty: "✕" };
+let chosen = null;
+
+function showCheck(told) {
+  const result = byId("bank-check");
+  if (!told.check) {
+    result.replaceChildren(make("p", { class: "bad" }, say(`fault.${told.fault}`, told.carried)));
+    return;
+  }
+  const { state, text } = told.check;
+  const mark = CHECK_MARKS[state] ?? "!";
+  const kind = state === "good" ? "good strong" : "bad strong";
+  const lines = [make("p", { class: kind }, `${mark} ${say(`bank.${state}`)}`)];
+  if (text) {
+    lines.push(make("pre", { id: "bank-check-text" }, text));
+  }
+  result.replaceChildren(...lines);
+  byId("bank-import").disabled = state === "faulty";
+}
+
+async function choose(file) {
+  chosen = file;
+  byId("bank-import").disabled = true;
+  byId("bank-name").hidden = false;
+  byId("bank-name").textContent = say("bank.file", { name: file.name, bytes: file.size });
+  if (file.size > MOST_BYTES) {
+    showCheck({ fault: "file-too-large", carried: {} });
+    return;
+  }
+  byId("bank-check").replaceChildren(make("p", { class: "quiet" }, say("bank.checking")));
+  const told = await sendFile("/api/check/bank", "check-bank", file);
+  if (chosen === file) {
+    showCheck(told);
+  }
+}
+
+function clear() {
+  chosen = null;
+  byId("form-bank").reset();
+  byId("bank-name").hidden = true;
+  byId("bank-check").replaceChildren();
+  byId("bank-import").disabled = true;
+}
+
+async function importFile(done) {
+  const file = chosen;
+  clearAnswer();
+  const check = byId("bank-check-text")?.textContent.trim() ?? say("dash");
+  const facts = [["label.file", file.name], ["label.check", check]];
+  if (!await confirmed("bank", facts)) {
+    return;
+  }
+  byId("bank-import").disabled = true;
+  const told = await sendFile("/api/commands/bank", "bank", file);
+  const after = told.entry ? await get("/api/suspense/0") : {};
+  const further = after.suspense
+    ? [say("bank.after", { count: after.suspense.count, total: euros(after.suspense.total) })]
+    : [];
+  if (tellAnswer(told, further)) {
+    clear();
+  } else {
+    byId("bank-import").disabled = false;
+  }
+  done(told);
+}
+
+export function beginBank(done) {
+  beginDrop("bank-drop", choose);
+  byId("form-bank").addEventListener("submit", (event) => {
+    event.preventDefault();
+    if (chosen) {
+      importFile(done);
+    }
+  });
+}

@@ -1,0 +1,112 @@
+// The page begins here: its words, its session with the desk, and the view that the address names.
+
+import { beginPending, clearAnswer, clearFault, showState, tellFault } from "./answers.js";
+import { beginSession, onState, theSession } from "./api.js";
+import { byId } from "./elements.js";
+import { beginFirm, showFirm, showRecent } from "./firm.js";
+import { beginFinder, beginForm } from "./forms.js";
+import { showLog } from "./log.js";
+import { beginMorning, openMorning } from "./morning.js";
+import { beginWorker, showWorker } from "./worker.js";
+import { beginWords, say } from "./words.js";
+
+const VIEWS = {
+  morning: openMorning, firm: showFirm, worker: showWorker, new: () => {}, log: showLog,
+};
+let state = null;
+// How often a view was shown: one that comes late isn't taken for the one that is shown now.
+let turns = 0;
+// Whether the answer of a command stays where that leads to another view.
+let keepsAnswer = false;
+
+function place() {
+  const [, view, number] = /^#\/([a-z]+)(?:\/([1-9][0-9]{0,8}))?$/.exec(location.hash) ?? [];
+  return view in VIEWS ? { view, number: number ?? null } : { view: "morning", number: null };
+}
+
+/** Whether there is a session with the desk; begins one where that failed before. */
+async function hasSession() {
+  const told = theSession() ?? await beginSession();
+  if (told.fault) {
+    tellFault(told);
+  }
+  return !told.fault;
+}
+
+/** Shows the view that the address names. */
+async function show() {
+  const { view, number } = place();
+  const turn = ++turns;
+  clearFault();
+  for (const it of Object.keys(VIEWS)) {
+    byId(`view-${it}`).hidden = it !== view;
+    if (it === view) {
+      byId(`nav-${it}`).setAttribute("aria-current", "page");
+    } else {
+      byId(`nav-${it}`).removeAttribute("aria-current");
+    }
+  }
+  byId("loading").hidden = false;
+  if (await hasSession()) {
+    await VIEWS[view](number);
+  }
+  if (turn !== turns) {
+    return;
+  }
+  byId("loading").hidden = true;
+  document.title = `${byId(`view-${view}`).querySelector("h1").textContent} · ${say("title")}`;
+  document.body.dataset.shown = `${view}${number ? `/${number}` : ""}`;
+}
+
+function goTo(hash) {
+  if (location.hash === hash) {
+    show();
+  } else {
+    location.hash = hash;
+  }
+}
+
+function begin() {
+  onState((told) => {
+    state = told;
+    showState(told);
+  });
+  showState(state ?? {});
+  beginMorning();
+  beginFirm();
+  beginWorker();
+  beginForm("form-register", (told) => {
+    if (["done", "repeated"].includes(told.entry.outcome)) {
+      keepsAnswer = true;
+      goTo(`#/firm/${told.entry.values.employer}`);
+    }
+  });
+  beginForm("form-rates", () => {});
+  beginFinder("find-firm", (number) => goTo(`#/firm/${number}`));
+  beginPending(show);
+  byId("stopped-again").addEventListener("click", show);
+  byId("skip").addEventListener("click", (event) => {
+    event.preventDefault();
+    byId("main").focus();
+  });
+  addEventListener("hashchange", () => {
+    if (!keepsAnswer) {
+      clearAnswer();
+      byId("main").focus({ preventScroll: true });
+    }
+    keepsAnswer = false;
+    show();
+  });
+}
+
+onState((told) => {
+  state = told;
+});
+await Promise.all([beginSession(), beginWords(() => {
+  showState(state ?? {});
+  clearAnswer();
+  show();
+})]);
+begin();
+showRecent(theSession()?.recent ?? []);
+await show();

@@ -1,0 +1,78 @@
+// Makes the elements of the page. Text always comes in as text: nothing of it is taken as HTML.
+
+import { say } from "./words.js";
+
+const SVG = "http://www.w3.org/2000/svg";
+
+export const byId = (id) => document.getElementById(id);
+
+function fill(element, attributes, children) {
+  for (const [name, value] of Object.entries(attributes)) {
+    if (value !== null && value !== undefined) {
+      element.setAttribute(name, value);
+    }
+  }
+  element.append(...children.filter((it) => it !== null && it !== undefined));
+  return element;
+}
+
+/** An element with attributes and children; a child that is a string becomes a text. */
+export function make(name, attributes = {}, ...children) {
+  return fill(document.createElement(name), attributes, children);
+}
+
+export function makeSvg(name, attributes = {}, ...children) {
+  return fill(document.createElementNS(SVG, name), attributes, children);
+}
+
+export function button(text, act, attributes = {}) {
+  const made = make("button", { type: "button", ...attributes }, text);
+  made.addEventListener("click", act);
+  return made;
+}
+
+/** Has a place take one file, dropped there or chosen by its input. */
+export function beginDrop(id, take) {
+  const place = byId(id);
+  const takeOne = (files) => {
+    if (files.length === 1) {
+      take(files[0]);
+    }
+  };
+  place.querySelector("input").addEventListener("change", (event) => takeOne(event.target.files));
+  for (const kind of ["dragover", "dragleave", "drop"]) {
+    place.addEventListener(kind, (event) => {
+      event.preventDefault();
+      place.classList.toggle("over", kind === "dragover");
+    });
+  }
+  place.addEventListener("drop", (event) => takeOne(event.dataTransfer.files));
+}
+
+/** A table with a caption and headers. A column is the key of its words and the class of its cells; a row is
+ * an array of cells, each a text or an element, the first of them its header. */
+export function table(id, caption, columns, rows) {
+  const heads = columns.map(([word, kind]) => make("th", { scope: "col", class: kind }, say(word)));
+  const body = make("tbody");
+  for (const { cells, attributes } of rows) {
+    const made = cells.map((cell, place) => {
+      const kind = columns[place][1];
+      return place === 0
+        ? make("th", { scope: "row", class: kind }, cell)
+        : make("td", { class: kind, "data-column": say(columns[place][0]) }, cell);
+    });
+    body.append(make("tr", attributes ?? {}, ...made));
+  }
+  const head = make("thead", {}, make("tr", {}, ...heads));
+  const whole = make("table", { id }, make("caption", {}, caption), head, body);
+  // It scrolls by itself where the window is narrow, by keyboard too.
+  return make("div", { class: "scroll", tabindex: "0", role: "region", "aria-label": caption }, whole);
+}
+
+export const row = (...cells) => ({ cells });
+
+/** The pairs of a description list: the key of a term's words, and what is said of it. */
+export function pairs(list, ...told) {
+  list.replaceChildren(...told.map(([word, value, attributes]) =>
+    make("div", attributes ?? {}, make("dt", {}, say(word)), make("dd", {}, value))));
+}

@@ -1,0 +1,221 @@
+// A firm: what it owes, its statement month by month with bars, the office's text beside it, and its forms.
+
+import { tellFault } from "./answers.js";
+import { get, theSession } from "./api.js";
+import { button, byId, make, makeSvg, pairs, row, table } from "./elements.js";
+import { beginForm } from "./forms.js";
+import { day, euros, month } from "./formats.js";
+import { beginReport, openReport } from "./report.js";
+import { say } from "./words.js";
+
+// What stands empty where the desk doesn't understand the statement.
+const READ_PARTS = [
+  "firm-member", "firm-day", "firm-owed", "statement-months", "statement-legend", "statement-interest",
+];
+// So many payments of a month stand in its row; all of them stand in the text.
+const MOST_PAYMENTS = 4;
+const BAR_WIDTH = 160;
+const BAR_HEIGHT = 12;
+let shown = null;
+
+/** The firms that were opened last, for the search and for this view. */
+export function showRecent(recent) {
+  byId("recent-firms").replaceChildren(...recent.map((it) =>
+    make("option", { value: it.employer }, it.name)));
+  byId("firm-recent").replaceChildren(...recent.slice(0, 20).map((it) =>
+    make("li", {}, make("a", { href: `#/firm/${it.employer}` }, `${it.employer} ${it.name}`))));
+}
+
+/** A bar as long as the month's contribution: what is paid is full, what is open is an outline. */
+function bar(charge, most) {
+  // Only a length in the picture: the amounts stand beside it.
+  const scale = BAR_WIDTH / Math.max(most, 1);
+  const paid = Number(charge.paid) * scale;
+  const open = Number(charge.open) * scale;
+  const label = say("statement.bar", {
+    month: month(charge.month), paid: euros(charge.paid), open: euros(charge.open),
+  });
+  const part = (kind, x, width) => makeSvg("rect", { class: kind, x, y: 0, width, height: BAR_HEIGHT });
+  const viewBox = `0 0 ${BAR_WIDTH} ${BAR_HEIGHT}`;
+  return makeSvg("svg", { class: "bar", role: "img", "aria-label": label, viewBox },
+    part("bar-paid", 0, paid), part("bar-open", paid, open));
+}
+
+function paymentLines(payments) {
+  const lines = payments.slice(0, MOST_PAYMENTS).map((it) =>
+    make("li", {}, `${day(it.day)} · ${euros(it.cents)} · ${it.reference}`));
+  if (payments.length > MOST_PAYMENTS) {
+    lines.push(make("li", {}, say("statement.more", { count: payments.length - MOST_PAYMENTS })));
+  }
+  return lines.length ? make("ul", { class: "plain small" }, ...lines) : null;
+}
+
+const MONTH_COLUMNS = [
+  ["column.month", "month"], ["column.due", "day"], ["column.contribution", "amount"],
+  ["column.paid", "amount"], ["column.open", "amount"], ["column.interest", "amount"],
+  ["column.bar", "payments"], ["column.action", "action"],
+];
+
+function chargeRow(charge, most) {
+  const correct = button(say("statement.correct"), () => openReport(charge.month, charge.version), {
+    class: "correct", "data-month": charge.month,
+    "aria-label": say("statement.correct-month", { month: month(charge.month) }),
+  });
+  const version = make("span", { class: "under quiet small" }, say("statement.version", charge));
+  const payments = make("div", {}, bar(charge, most), paymentLines(charge.payments));
+  const amounts = [charge.contribution, charge.paid, charge.open, charge.interest].map(euros);
+  return {
+    cells: [make("span", {}, month(charge.month), version), day(charge.due), ...amounts, payments, correct],
+    attributes: { "data-month": charge.month },
+  };
+}
+
+function missingRow(text) {
+  const report = button(say("statement.report"), () => openReport(text, null), {
+    class: "report", "data-month": text,
+    "aria-label": say("statement.report-month", { month: month(text) }),
+  });
+  const dashes = Array(5).fill(say("dash"));
+  const missing = make("strong", {}, `! ${say("statement.missing")}`);
+  return {
+    cells: [month(text), ...dashes, missing, report],
+    attributes: { class: "missing", "data-month": text },
+  };
+}
+
+/** The months with a report and those without one, in their order. */
+function monthRows(statement) {
+  const most = Math.max(0, ...statement.charges.map((it) => Number(it.contribution)));
+  const rows = [
+    ...statement.charges.map((it) => [it.month, chargeRow(it, most)]),
+    ...statement.missing.map((it) => [it, missingRow(it)]),
+  ];
+  rows.sort(([one], [other]) => (one < other ? -1 : 1));
+  return rows.map(([, made]) => made);
+}
+
+function legend() {
+  const sign = (kind) => makeSvg("svg", { class: "sign", viewBox: "0 0 12 12", "aria-hidden": "true" },
+    makeSvg("rect", { class: kind, x: "0", y: "0", width: "12", height: "12" }));
+  return [make("span", {}, sign("bar-paid"), ` ${say("statement.legend.paid")}`),
+    make("span", {}, sign("bar-open"), ` ${say("statement.legend.open")}`),
+    make("span", {}, `! ${say("statement.legend.missing")}`)];
+}
+
+function showOwed(statement) {
+  const missing = String(statement.missing.length);
+  const alert = (count) => ({ class: count === "0" ? "" : "owes" });
+  pairs(byId("firm-owed"),
+    ["owed.arrears", euros(statement.arrears), { id: "owed-arrears", ...alert(statement.arrears) }],
+    ["owed.interest", euros(statement.interest), { id: "owed-interest", ...alert(statement.interest) }],
+    ["owed.missing", missing, { id: "owed-missing", ...alert(missing) }],
+    ["owed.prepaid", euros(statement.prepaid), { id: "owed-prepaid" }],
+    ["owed.open", euros(statement.open), { id: "owed-open" }],
+    ["owed.charged", euros(statement.charged), { id: "owed-charged" }],
+    ["owed.credited", euros(statement.credited), { id: "owed-credited" }]);
+}
+
+function showMonths(statement) {
+  const rows = monthRows(statement);
+  const caption = say("statement.caption", { employer: statement.employer, day: day(statement.day) });
+  byId("statement-months").replaceChildren(rows.length
+    ? table("statement-table", caption, MONTH_COLUMNS, rows)
+    : make("p", {}, say("statement.none")));
+  byId("statement-legend").replaceChildren(...(rows.length ? legend() : []));
+  const columns = [["column.day", "day"], ["column.amount", "amount"], ["column.reference", "reference"]];
+  const interest = statement.interest_payments.map((it) => row(day(it.day), euros(it.cents), it.reference));
+  byId("statement-interest").replaceChildren(interest.length
+    ? table("interest-table", say("interest.caption"), columns, interest)
+    : "");
+}
+
+function fillIn(id, value) {
+  byId(id).value = String(value);
+  byId(id).focus();
+}
+
+function claimRow(claim) {
+  const actions = make("span", { class: "buttons" });
+  if (claim.state === "open") {
+    actions.append(
+      button(say("withdraw.button"), () => fillIn("withdraw-claim", claim.claim),
+        { "aria-label": say("withdraw.claim", claim) }),
+      make("a", { class: "button", href: `#/worker/${claim.worker}` }, say("release.button")));
+  }
+  return row(String(claim.claim), make("a", { href: `#/worker/${claim.worker}` }, String(claim.worker)),
+    euros(claim.cents), say(`state.${claim.state}`), actions);
+}
+
+function showClaims(claims) {
+  const columns = [["column.claim", "id"], ["column.worker", "id"], ["column.amount", "amount"],
+    ["column.state", "word"], ["column.action", "action"]];
+  byId("firm-claims").replaceChildren(claims.length
+    ? table("firm-claims-table", say("firm-claims.caption"), columns, claims.map(claimRow))
+    : make("p", { class: "hint" }, say("firm-claims.none")));
+}
+
+function showStatement(told) {
+  const { statement } = told;
+  byId("firm-text").textContent = told.text;
+  byId("firm-text-note").hidden = Boolean(statement);
+  byId("firm-title").textContent = statement ? `${shown} · ${statement.name}` : shown;
+  if (!statement) {
+    for (const id of READ_PARTS) {
+      byId(id).replaceChildren();
+    }
+    return;
+  }
+  const carried = { start: month(statement.start), last: month(statement.last) };
+  byId("firm-member").textContent = say(statement.last ? "firm.member-until" : "firm.member", carried);
+  byId("firm-day").textContent = say("as-of", { day: day(statement.day) });
+  showOwed(statement);
+  showMonths(statement);
+}
+
+/** Shows the firm of this number; without one, those that were opened last. */
+export async function showFirm(number) {
+  const isOther = shown !== number;
+  shown = number;
+  byId("firm-choose").hidden = Boolean(number);
+  byId("firm-shown").hidden = true;
+  byId("firm-title").textContent = number ?? say("firm.title");
+  if (!number) {
+    showRecent(theSession().recent);
+    return;
+  }
+  const told = await get(`/api/firms/${number}`);
+  if (shown !== number) {
+    return;
+  }
+  if (told.text === undefined) {
+    tellFault(told);
+    return;
+  }
+  theSession().recent = told.recent;
+  showRecent(told.recent);
+  showStatement(told);
+  showClaims(told.claims);
+  if (isOther) {
+    openForms(number);
+  }
+  byId("firm-download").href = `/documents/statement-${number}.txt`;
+  byId("firm-shown").hidden = false;
+}
+
+/** Empties the forms for another firm. */
+function openForms(number) {
+  for (const kind of ["report", "claim", "withdraw", "end"]) {
+    byId(`form-${kind}`).reset();
+    byId(`${kind}-employer`).value = number;
+  }
+  openReport(null, null);
+}
+
+export function beginFirm() {
+  const again = () => showFirm(shown);
+  beginForm("form-claim", again);
+  beginForm("form-withdraw", again);
+  beginForm("form-end", again);
+  beginReport(again);
+  byId("firm-print").addEventListener("click", () => print());
+}

@@ -1,0 +1,138 @@
+// The forms of commands: a second click where nothing can be taken back, and faults beside their fields.
+
+import { clearAnswer, confirmed, tellAnswer, toldLines, written } from "./answers.js";
+import { fieldsOf, get, sendForm } from "./api.js";
+import { byId, make } from "./elements.js";
+import { say } from "./words.js";
+
+// Forms that name a firm which should be there: its name is shown before the second click.
+const OF_A_FIRM = ["assign", "end"];
+
+/** Takes away what an earlier try told beside the fields. */
+export function clearFields(form) {
+  for (const field of form.querySelectorAll("[aria-invalid]")) {
+    field.removeAttribute("aria-invalid");
+  }
+  for (const told of form.querySelectorAll(".field-fault")) {
+    told.remove();
+  }
+}
+
+/** Tells what is wrong beside the field that is wrong, and goes there. Whether there is such a field. */
+export function tellField(form, told) {
+  const field = told.fault === "field" ? form.elements.namedItem(told.carried.field) : null;
+  if (!field || field.type === "hidden") {
+    return false;
+  }
+  const id = `${field.id}-fault`;
+  field.setAttribute("aria-invalid", "true");
+  field.setAttribute("aria-errormessage", id);
+  const text = `✕ ${say(`field.${told.carried.reason}`)}`;
+  field.parentElement.append(make("span", { id, class: "field-fault", role: "alert" }, text));
+  field.focus();
+  return true;
+}
+
+/** The number and the name of a firm; null where it isn't there, which is told. */
+async function firmFact(employer, tell) {
+  const told = await get(`/api/firms/${employer}`);
+  if (!told.statement) {
+    tell(told);
+    return null;
+  }
+  return ["label.firm", `${employer} ${told.statement.name}`];
+}
+
+/** The values of a command as the desk has read them, with the name of a firm that should be there; or
+ * null. */
+async function factsOf(kind, values, tell) {
+  const told = Object.entries(written(kind, values));
+  const facts = told.map(([name, value]) => [`label.${name}`, String(value)]);
+  if (!OF_A_FIRM.includes(kind)) {
+    return facts;
+  }
+  const firm = await firmFact(values.employer, tell);
+  return firm && [firm, ...facts.filter(([word]) => word !== "label.employer")];
+}
+
+/** Sends a command. Where it is for good, the desk first says what it has read, and wants a second click.
+ * What became of it; null where nothing was sent, and `tell` has told why. */
+export async function sendCommand(kind, fields, tell) {
+  const path = `/api/commands/${kind}`;
+  clearAnswer();
+  let told = await sendForm(path, kind, fields);
+  if (told.fault === "unconfirmed") {
+    const facts = await factsOf(kind, told.carried.values, tell);
+    if (facts === null || !await confirmed(kind, facts)) {
+      return null;
+    }
+    told = await sendForm(path, kind, fields, true);
+  }
+  if (!told.entry) {
+    tell(told);
+    return null;
+  }
+  return told;
+}
+
+/** Tells of a form what isn't told beside its fields. */
+function teller(form) {
+  const dialog = form.closest("dialog");
+  return (told) => {
+    if (tellField(form, told)) {
+      return;
+    }
+    if (dialog) {
+      // An open dialog hides the page, so it is told there.
+      form.append(make("div", { class: "field-fault", role: "alert" }, ...toldLines(told)));
+    } else {
+      tellAnswer(told);
+    }
+  };
+}
+
+/** Sends a form. What became of it; null where nothing was sent. */
+export async function submit(form) {
+  clearFields(form);
+  const told = await sendCommand(form.dataset.form, fieldsOf(form), teller(form));
+  if (told) {
+    form.closest("dialog")?.close();
+    if (tellAnswer(told)) {
+      form.reset();
+    }
+  }
+  return told;
+}
+
+/** Has a form send itself, one at a time, and calls this with what became of it. */
+export function beginForm(id, done) {
+  const form = byId(id);
+  form.addEventListener("submit", async (event) => {
+    event.preventDefault();
+    if (form.dataset.isBusy) {
+      return;
+    }
+    form.dataset.isBusy = "yes";
+    const told = await submit(form);
+    delete form.dataset.isBusy;
+    if (told) {
+      done(told);
+    }
+  });
+}
+
+/** Has a form that only asks take its number to this function. */
+export function beginFinder(id, show) {
+  const form = byId(id);
+  form.addEventListener("submit", (event) => {
+    event.preventDefault();
+    clearFields(form);
+    const field = form.querySelector("input");
+    const number = field.value.trim();
+    if (/^[1-9][0-9]{0,8}$/.test(number)) {
+      show(number);
+    } else {
+      tellField(form, { fault: "field", carried: { field: field.name, reason: field.name } });
+    }
+  });
+}

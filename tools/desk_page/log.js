@@ -1,0 +1,28 @@
+// The log of what was done, refused and repeated at this desk, the last entry first.
+
+import { outcomeText, replyText, subject, tellFault } from "./answers.js";
+import { get, theSession } from "./api.js";
+import { byId, make, row, table } from "./elements.js";
+import { time } from "./formats.js";
+import { say } from "./words.js";
+
+const COLUMNS = [
+  ["column.time", "time"], ["column.number", "id"], ["column.outcome", "word"], ["column.what", "note"],
+  ["column.reply", "note"],
+];
+
+export async function showLog() {
+  const told = await get("/api/log");
+  if (!told.log) {
+    tellFault(told);
+    return;
+  }
+  byId("log-folder").textContent = say("log.folder", theSession());
+  const rows = told.log.toReversed().map((entry) => ({
+    ...row(time(entry.time), String(entry.number), outcomeText(entry), subject(entry), replyText(entry)),
+    attributes: { "data-number": String(entry.number), "data-outcome": entry.outcome },
+  }));
+  byId("log-lines").replaceChildren(rows.length
+    ? table("log-table", say("log.caption"), COLUMNS, rows)
+    : make("p", { class: "hint" }, say("log.empty")));
+}

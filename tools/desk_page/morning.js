@@ -1,0 +1,185 @@
+// The morning's work: lines in suspense, the bank's file, reminder runs and payout lists. The view asks the
+// office one question.
+
+import { clearFault, noteAnswer, tellAnswer, tellFault, whatStops } from "./answers.js";
+import { get } from "./api.js";
+import { beginBank } from "./bank.js";
+import { button, byId, make, pairs, row, table } from "./elements.js";
+import { beginFinder, beginForm, clearFields } from "./forms.js";
+import { day, euros, month, today } from "./formats.js";
+import { say } from "./words.js";
+
+const PAGE = 200;
+let first = 0;
+// The day on which the office works.
+let officeDay = null;
+
+function firmLink(employer) {
+  return employer ? make("a", { href: `#/firm/${employer}` }, String(employer)) : say("dash");
+}
+
+function openAssign(line) {
+  if (whatStops()) {
+    tellAnswer({ fault: whatStops() });
+    return;
+  }
+  clearFields(byId("form-assign"));
+  byId("assign-reference").value = line.reference;
+  byId("assign-employer").value = line.employer ?? "";
+  pairs(byId("assign-facts"), ["label.reference", line.reference], ["label.value", day(line.day)],
+    ["column.amount", euros(line.cents)], ["column.purpose", say(`purpose.${line.purpose}`)],
+    ["column.note", line.note || say("dash")]);
+  byId("assign-dialog").showModal();
+  byId("assign-employer").focus();
+}
+
+const SUSPENSE_COLUMNS = [
+  ["column.reference", "reference"], ["column.value", "day"], ["column.purpose", "word"],
+  ["column.named", "id"], ["column.amount", "amount"], ["column.note", "note"], ["column.action", "action"],
+];
+
+function suspenseRow(line) {
+  const name = say("suspense.assign-line", { reference: line.reference, amount: euros(line.cents) });
+  const assign = button(say("suspense.assign"), () => openAssign(line), {
+    class: "assign", "data-reference": line.reference, "aria-label": name,
+  });
+  return row(line.reference, day(line.day), say(`purpose.${line.purpose}`), line.employer ?? say("dash"),
+    euros(line.cents), line.note || say("dash"), assign);
+}
+
+function turnTo(place) {
+  first = place;
+  showMorning();
+}
+
+function pager({ first: from, lines, count }) {
+  if (count <= PAGE) {
+    return null;
+  }
+  const place = { first: from + 1, last: from + lines.length, count };
+  const turn = (word, place, id) => button(say(word), () => turnTo(place), { id });
+  const earlier = turn("suspense.earlier", Math.max(0, from - PAGE), "suspense-earlier");
+  const later = turn("suspense.later", from + PAGE, "suspense-later");
+  earlier.disabled = from === 0;
+  later.disabled = from + lines.length >= count;
+  return make("p", { class: "buttons" }, say("suspense.page", place), earlier, later);
+}
+
+function showSuspense(told) {
+  byId("suspense-text").textContent = told.text;
+  const { suspense } = told;
+  if (!suspense) {
+    byId("suspense-summary").textContent = say("text.not-understood");
+    byId("suspense-lines").replaceChildren();
+    byId("suspense-details").open = true;
+    return;
+  }
+  const carried = { count: suspense.count, total: euros(suspense.total) };
+  const summary = suspense.count ? "suspense.summary" : "suspense.empty";
+  byId("suspense-summary").textContent = say(summary, carried);
+  const lines = suspense.lines.length
+    ? table("suspense-table", say("suspense.caption"), SUSPENSE_COLUMNS, suspense.lines.map(suspenseRow))
+    : "";
+  byId("suspense-lines").replaceChildren(lines, pager(suspense) ?? "");
+  officeDay = suspense.day;
+  byId("morning-day").textContent = say("morning.day", { day: day(suspense.day) });
+  byId("morning-other-day").textContent = say("morning.other-day", { today: day(today()) });
+  byId("morning-other-day").hidden = suspense.day === today();
+}
+
+function showKnown(kind, numbers, show) {
+  const list = byId(`${kind}-known`);
+  const links = numbers.toReversed().map((number) =>
+    button(String(number), () => show(number), { class: "link", "data-number": String(number) }));
+  list.replaceChildren(...(links.length ? [`${say(`${kind}.known`)}: `, ...links] : []));
+}
+
+function payoutTable({ payout }) {
+  const caption = say("payouts.caption", { ...payout, day: day(payout.day), total: euros(payout.total) });
+  const columns = [["column.claim", "id"], ["column.firm", "id"], ["column.worker", "id"],
+    ["column.amount", "amount"]];
+  return table("payout-table", caption, columns, payout.claims.map((it) => row(
+    String(it.claim), firmLink(it.employer), make("a", { href: `#/worker/${it.worker}` }, String(it.worker)),
+    euros(it.cents))));
+}
+
+function remindersTable({ reminders }) {
+  const caption = say("reminders.caption", { ...reminders, day: day(reminders.day) });
+  const columns = [["column.firm", "id"], ["column.level", "number"], ["column.missing", "number"],
+    ["column.first-missing", "day"], ["column.arrears", "amount"], ["column.interest", "amount"]];
+  return table("reminders-table", caption, columns, reminders.reminded.map((it) => row(
+    firmLink(it.employer), String(it.level), String(it.missing), month(it.first), euros(it.arrears),
+    euros(it.interest))));
+}
+
+function documentTable(told) {
+  if (told.payout) {
+    return payoutTable(told);
+  }
+  return told.reminders ? remindersTable(told) : say("text.not-understood");
+}
+
+/** Shows a payout list or a reminder run: its table, and the office's text. Its day, where it is there. */
+async function showDocument(kind, number) {
+  clearFault();
+  const told = await get(`/api/${kind}/${number}`);
+  const place = byId("document");
+  if (told.text === undefined) {
+    place.hidden = true;
+    tellFault(told);
+    return null;
+  }
+  const href = `/documents/${kind === "payouts" ? "payout" : kind}-${number}.txt`;
+  const text = make("pre", { id: "document-text", tabindex: "0" }, told.text);
+  place.replaceChildren(
+    make("h2", {}, say(`${kind}.title`)), documentTable(told),
+    make("details", {}, make("summary", {}, say("text")), text),
+    make("p", { class: "buttons" },
+      make("a", { id: "document-download", class: "button", href, download: "" }, say("download")),
+      button(say("close"), () => { place.hidden = true; }, { id: "document-close" })));
+  place.hidden = false;
+  place.focus();
+  return (told.payout ?? told.reminders)?.day ?? null;
+}
+
+/** Shows the list or run that was just made. One of an earlier day was made before, under the same number. */
+async function showMade(kind, { entry, known }) {
+  await showMorning();
+  const made = await showDocument(kind, entry.reply[kind === "payouts" ? "list" : "run"]);
+  if (entry.outcome === "done" && !known && made !== null && made !== officeDay) {
+    noteAnswer(say("document.known"));
+  }
+}
+
+export async function showMorning() {
+  const told = await get(`/api/suspense/${first}`);
+  if (told.text === undefined) {
+    tellFault(told);
+    return;
+  }
+  showSuspense(told);
+  showKnown("payouts", told.lists, (number) => showDocument("payouts", number));
+  showKnown("reminders", told.runs, (number) => showDocument("reminders", number));
+}
+
+function isDone(told) {
+  return ["done", "repeated"].includes(told.entry.outcome);
+}
+
+export function beginMorning() {
+  beginBank(showMorning);
+  beginForm("form-assign", showMorning);
+  beginForm("form-release", showMorning);
+  byId("assign-cancel").addEventListener("click", () => byId("assign-dialog").close());
+  for (const kind of ["payouts", "reminders"]) {
+    beginForm(`form-${kind}`, (told) => (isDone(told) ? showMade(kind, told) : showMorning()));
+    beginFinder(`find-${kind}`, (number) => showDocument(kind, number));
+  }
+}
+
+/** Begins the view anew, where another one was shown before. */
+export function openMorning() {
+  first = 0;
+  byId("document").hidden = true;
+  return showMorning();
+}

@@ -1,0 +1,74 @@
+// The words of the page in German or English. All of them stand in words.de.json and words.en.json.
+
+const LANGUAGES = ["de", "en"];
+const KEPT = "desk-language";
+let words = {};
+let language = "en";
+
+/** What was chosen at an earlier visit; a browser may keep nothing. */
+function keptLanguage() {
+  try {
+    return localStorage.getItem(KEPT);
+  } catch {
+    return null;
+  }
+}
+
+function keepLanguage(wanted) {
+  try {
+    localStorage.setItem(KEPT, wanted);
+  } catch {
+    // The choice holds for this visit.
+  }
+}
+
+function wantedLanguage() {
+  const asked = new URLSearchParams(location.search).get("lang");
+  const kept = keptLanguage();
+  const own = navigator.language.slice(0, 2);
+  return [asked, kept, own].find((it) => LANGUAGES.includes(it)) ?? "en";
+}
+
+export const currentLanguage = () => language;
+
+/** The words under a key, with what they carry in the place of {names}. A key without words stays. */
+export function say(key, carried = {}) {
+  const text = words[key] ?? key;
+  return text.replace(/\{(\w+)\}/g, (whole, name) => String(carried[name] ?? whole));
+}
+
+export const hasWords = (key) => key in words;
+
+/** Puts the words into all elements that name their keys. */
+export function sayAll() {
+  document.documentElement.lang = language;
+  document.title = say("title");
+  for (const element of document.querySelectorAll("[data-word]")) {
+    element.textContent = say(element.dataset.word);
+  }
+  for (const element of document.querySelectorAll("[data-word-label]")) {
+    element.setAttribute("aria-label", say(element.dataset.wordLabel));
+  }
+  for (const it of LANGUAGES) {
+    document.getElementById(`language-${it}`).setAttribute("aria-pressed", String(it === language));
+  }
+}
+
+async function load(wanted) {
+  const answer = await fetch(`/words.${wanted}.json`);
+  words = await answer.json();
+  language = wanted;
+}
+
+export async function beginWords(changed) {
+  await load(wantedLanguage());
+  sayAll();
+  for (const it of LANGUAGES) {
+    document.getElementById(`language-${it}`).addEventListener("click", async () => {
+      keepLanguage(it);
+      await load(it);
+      sayAll();
+      changed();
+    });
+  }
+}

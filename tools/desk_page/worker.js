@@ -1,0 +1,95 @@
+// A worker: what was earned with each firm, the claims, the balance; open claims are released or withdrawn
+// from here.
+
+import { tellAnswer, tellFault } from "./answers.js";
+import { get } from "./api.js";
+import { button, byId, make, pairs, row, table } from "./elements.js";
+import { beginFinder, sendCommand } from "./forms.js";
+import { day, euros, month } from "./formats.js";
+import { currentLanguage, say } from "./words.js";
+
+let shown = null;
+
+async function act(kind, claim) {
+  const fields = {
+    language: currentLanguage(), claim: String(claim.claim), employer: String(claim.employer),
+  };
+  const told = await sendCommand(kind, fields, tellAnswer);
+  if (told) {
+    tellAnswer(told);
+    await showWorker(shown);
+  }
+}
+
+function claimRow(claim) {
+  const actions = make("span", { class: "buttons" });
+  if (claim.state === "open") {
+    for (const kind of ["release", "withdraw"]) {
+      actions.append(button(say(`${kind}.button`), () => act(kind, claim), {
+        class: kind, "data-claim": String(claim.claim), "aria-label": say(`${kind}.claim`, claim),
+      }));
+    }
+  }
+  return row(String(claim.claim), make("a", { href: `#/firm/${claim.employer}` }, String(claim.employer)),
+    say(`state.${claim.state}`), euros(claim.cents), actions);
+}
+
+/** The sum of amounts, which come as digits: exact, whatever it comes to. */
+function sum(lines) {
+  return String(lines.reduce((so, it) => so + BigInt(it.cents), 0n));
+}
+
+function showTables(worker) {
+  const claimColumns = [["column.claim", "id"], ["column.firm", "id"], ["column.state", "word"],
+    ["column.amount", "amount"], ["column.action", "action"]];
+  byId("worker-claims").replaceChildren(worker.claims.length
+    ? table("worker-claims-table", say("worker.claims-caption"), claimColumns, worker.claims.map(claimRow))
+    : make("p", { class: "hint" }, say("worker.no-claims")));
+  const earnedColumns = [["column.firm", "id"], ["column.month", "month"], ["column.earned", "amount"]];
+  const earned = worker.earned.map((it) => row(
+    make("a", { href: `#/firm/${it.employer}` }, String(it.employer)), month(it.month), euros(it.cents)));
+  byId("worker-earned").replaceChildren(earned.length
+    ? table("worker-earned-table", say("worker.earned-caption"), earnedColumns, earned)
+    : make("p", { class: "hint" }, say("worker.no-earned")));
+}
+
+export async function showWorker(number) {
+  shown = number;
+  byId("worker-shown").hidden = true;
+  byId("worker-title").textContent = number ? say("worker.heading", { worker: number }) : say("worker.title");
+  if (!number) {
+    return;
+  }
+  byId("find-worker-number").value = number;
+  const told = await get(`/api/workers/${number}`);
+  if (shown !== number) {
+    return;
+  }
+  if (told.text === undefined) {
+    tellFault(told);
+    return;
+  }
+  const { worker } = told;
+  byId("worker-text").textContent = told.text;
+  byId("worker-download").href = `/documents/worker-${number}.txt`;
+  byId("worker-day").textContent = worker
+    ? say("as-of", { day: day(worker.day) })
+    : say("text.not-understood");
+  if (worker) {
+    pairs(byId("worker-figures"), ["worker.balance", euros(worker.balance), { id: "worker-balance" }],
+      ["worker.earned", euros(sum(worker.earned)), { id: "worker-earned-sum" }],
+      ["worker.claimed", euros(sum(worker.claims)), { id: "worker-claimed" }]);
+    showTables(worker);
+  }
+  byId("worker-shown").hidden = false;
+}
+
+export function beginWorker() {
+  beginFinder("find-worker", (number) => {
+    if (location.hash === `#/worker/${number}`) {
+      showWorker(number);
+    } else {
+      location.hash = `#/worker/${number}`;
+    }
+  });
+}

@@ -1,0 +1,95 @@
+"""Reads what a clerk types: amounts, rates, months and numbers. Amounts are whole cents, and no float is
+in between."""
+
+import re
+
+from .faults import FieldFault
+
+MOST_CENTS = 100_000_000_000
+MOST_EMPLOYER = 99_999_999
+MOST_WORKER = 999_999_999
+MOST_CLAIM = 50_000_000
+MOST_VERSION = 4_294_967_295
+NAME_BYTES = 60
+
+# What stands between thousands, and in front of the cents.
+SEPARATORS = {"de": (".", ","), "en": (",", ".")}
+SPACES = " \t\u00a0\u202f"
+NUMBER = re.compile(r"[1-9][0-9]{0,17}")
+YEAR_FIRST = re.compile(r"(2[01][0-9]{2})-(0[1-9]|1[0-2])")
+MONTH_FIRST = re.compile(r"(0?[1-9]|1[0-2])[./](2[01][0-9]{2})")
+REFERENCE = re.compile(r"[!-~]{1,35}")
+CONTROL = re.compile(r"[\x00-\x1f\x7f]")
+
+
+def read_cents(text: str, language: str) -> int | None:
+    """The cents of an amount in euros as a clerk of this language writes it, or None: `1.234,56` in
+    German, `1,234.56` in English. It has two decimals or none, so that a separator of the other language
+    is told and not misread."""
+    group, point = map(re.escape, SEPARATORS[language])
+    form = rf"([0-9]{{1,12}}|[1-9][0-9]{{0,2}}(?:{group}[0-9]{{3}}){{1,3}})(?:{point}([0-9]{{2}}))?"
+    found = re.fullmatch(form, text.strip(SPACES + "€"))
+    if not found:
+        return None
+    return int(re.sub(group, "", found[1])) * 100 + int(found[2] or "0")
+
+
+def read_hundredths(text: str, language: str) -> int | None:
+    """The hundredths of a percentage, as 1425 for `14,25` in German; or None."""
+    point = re.escape(SEPARATORS[language][1])
+    found = re.fullmatch(rf"([0-9]{{1,3}})(?:{point}([0-9]{{1,2}}))?", text.strip(SPACES + "%"))
+    if not found:
+        return None
+    return int(found[1]) * 100 + int((found[2] or "").ljust(2, "0"))
+
+
+def amount(field: str, text: str, language: str) -> int:
+    cents = read_cents(text, language)
+    if cents is None:
+        raise FieldFault(field, "amount")
+    if not 1 <= cents <= MOST_CENTS:
+        raise FieldFault(field, "amount-range")
+    return cents
+
+
+def percentage(field: str, text: str, language: str, most: int) -> int:
+    hundredths = read_hundredths(text, language)
+    if hundredths is None or hundredths > most:
+        raise FieldFault(field, field)
+    return hundredths
+
+
+def number(field: str, text: str, most: int) -> int:
+    found = NUMBER.fullmatch(text.strip(SPACES))
+    if not found or int(found[0]) > most:
+        raise FieldFault(field, field)
+    return int(found[0])
+
+
+def month(field: str, text: str) -> str:
+    """A month as the office takes it, `2024-01`; a clerk may write 01/2024 or 01.2024 too."""
+    text = text.strip(SPACES)
+    if YEAR_FIRST.fullmatch(text):
+        return text
+    found = MONTH_FIRST.fullmatch(text)
+    if not found:
+        raise FieldFault(field, "month")
+    return f"{found[2]}-{int(found[1]):02}"
+
+
+def name(field: str, text: str) -> str:
+    text = text.strip()
+    try:
+        size = len(text.encode())
+    except UnicodeEncodeError:
+        raise FieldFault(field, "name") from None
+    if not 1 <= size <= NAME_BYTES or CONTROL.search(text):
+        raise FieldFault(field, "name")
+    return text
+
+
+def reference(field: str, text: str) -> str:
+    text = text.strip()
+    if not REFERENCE.fullmatch(text):
+        raise FieldFault(field, "reference")
+    return text

@@ -1,0 +1,168 @@
+"""The desk between the page and the office: sends each command under its number, and again where its
+answer was lost."""
+
+import contextlib
+import threading
+import time
+from pathlib import Path
+from typing import Any, Iterator
+
+from .commands import FINAL, REPLIES, Command, Numbered
+from .faults import Fault
+from .journal import Journal
+from .office import Answer, NoAnswer, Office
+from .rates import RateRow, contribution_of, rate_in_force
+from .recent import Recent
+
+# In seconds: the pauses in front of each attempt to send a request.
+PAUSES = (0, 0.2, 1)
+# An attempt that ended so isn't made again by itself: the next one would take as long, or fare no better.
+NO_USE = ("silent", "foreign")
+# How long a command waits for the one before it.
+TURN_SECONDS = 90
+
+
+class Refused(Exception):
+    """The office has refused a question."""
+
+    def __init__(self, members: dict[str, Any]):
+        super().__init__(members["name"])
+        self.members = members
+
+
+class Desk:
+    def __init__(self, office: Office, journal: Journal, rates: list[RateRow] | None, program: Path | None):
+        self.office = office
+        self.journal = journal
+        self.rates = rates
+        self.program = program
+        self.recent = Recent(journal.folder)
+        # What the office said when its records failed. It stops the forms until the office answers again.
+        self.failure: dict[str, Any] | None = None
+        self.turns = threading.Lock()
+
+    # ---- questions
+
+    def query(self, path: str) -> str:
+        """The document at a path of the office."""
+        try:
+            answer = self.ask_twice(path)
+        except NoAnswer as why:
+            raise Fault("no-answer", 502, reason=why.reason, port=self.office.port) from None
+        self.notice(answer)
+        if answer.is_refused:
+            raise Refused(answer.members)
+        return answer.text
+
+    def ask_twice(self, path: str) -> Answer:
+        try:
+            return self.office.document(path)
+        except NoAnswer as why:
+            if why.reason != "broken":
+                raise
+        return self.office.document(path)
+
+    def notice(self, answer: Answer) -> None:
+        if answer.is_failure:
+            self.failure = answer.members
+        elif not answer.is_undecided:
+            self.failure = None
+
+    # ---- commands
+
+    def perform(self, command: Command, is_confirmed: bool) -> dict[str, Any]:
+        """Sends a command under a new number, and tells what became of it."""
+        if command.kind in FINAL and not is_confirmed:
+            raise Fault("unconfirmed", 409, values=self.facts(command))
+        with self.turn():
+            if self.failure is not None:
+                raise Fault("stopped", 409)
+            if self.journal.pending is not None:
+                raise Fault("pending", 409)
+            return self.send(self.journal.take(command), is_repeat=False)
+
+    def facts(self, command: Command) -> dict[str, Any]:
+        """What the page tells before the second click: the values as they were read, and what is known of
+        a claim."""
+        claim = self.journal.history.claims.get(command.values.get("claim", 0), {})
+        known = {name: claim[name] for name in ("employer", "worker", "cents") if name in claim}
+        return {**command.values, **known}
+
+    def send_again(self, number: int) -> dict[str, Any]:
+        """Sends the request that has no answer again, with the same bytes under the same number."""
+        with self.turn():
+            return self.send(self.pending(number), is_repeat=True)
+
+    def give_up(self, number: int) -> dict[str, Any]:
+        """Drops the request that has no answer. It may have been done."""
+        with self.turn():
+            return self.told(self.journal.note(self.pending(number), "given-up", {}))
+
+    def pending(self, number: int) -> Numbered:
+        pending = self.journal.pending
+        if pending is None or pending.number != number:
+            raise Fault("not-pending", 409)
+        return pending
+
+    @contextlib.contextmanager
+    def turn(self) -> Iterator[None]:
+        """One command after another; what can't be written down is told and not sent."""
+        if not self.turns.acquire(timeout=TURN_SECONDS):
+            raise Fault("busy", 503)
+        try:
+            yield
+        except OSError as why:
+            raise Fault("journal", 500, why=why.strerror or "") from why
+        finally:
+            self.turns.release()
+
+    def send(self, numbered: Numbered, is_repeat: bool) -> dict[str, Any]:
+        command, reason = numbered.command, ""
+        for pause in PAUSES:
+            time.sleep(pause)
+            try:
+                reply = REPLIES[command.kind]
+                answer = self.office.send(command.method, command.path, numbered.number, command.body, reply)
+                return self.settle(numbered, answer, is_repeat)
+            except NoAnswer as why:
+                reason = why.reason
+            # Where nobody took the connection, nothing was sent.
+            is_repeat = is_repeat or reason != "absent"
+            if reason in NO_USE:
+                break
+        return self.told(self.journal.note(numbered, "lost", {"reason": reason, "port": self.office.port}))
+
+    def settle(self, numbered: Numbered, answer: Answer, is_repeat: bool) -> dict[str, Any]:
+        self.notice(answer)
+        if answer.is_undecided:
+            outcome = "undecided"
+        elif answer.is_refused:
+            outcome = "refused"
+        else:
+            outcome = "repeated" if is_repeat else "done"
+        return self.told(self.journal.note(numbered, outcome, answer.members))
+
+    def told(self, entry: dict[str, Any]) -> dict[str, Any]:
+        """What the page is told of an entry of the log, with the state in which the desk is then."""
+        told = {"entry": entry, "state": self.state(), "known": False}
+        member = {"payouts": "list", "reminders": "run"}.get(entry["kind"])
+        if member in entry["reply"]:
+            history = self.journal.history
+            told["known"] = history.is_known(entry["kind"], entry["reply"][member], entry["number"])
+        return told
+
+    def state(self) -> dict[str, Any]:
+        pending = self.journal.pending
+        return {"failure": self.failure, "pending": None if pending is None else {
+            **pending.entry(), "kind": pending.command.kind, "values": pending.command.values}}
+
+    # ---- what a report will be charged
+
+    def expected(self, month: str, gross: int) -> dict[str, Any] | None:
+        """The contribution that is to be expected of a month's gross wages, by the rate file and the
+        rates that this desk added; None where they don't tell."""
+        row = rate_in_force([*(self.rates or []), *self.journal.history.rate_rows], month)
+        if self.rates is None or row is None:
+            return None
+        cents = contribution_of(gross, row.contribution)
+        return {"cents": str(cents), "rate": row.contribution, "from": row.first}

@@ -1,0 +1,129 @@
+"""The client of the office: one connection for each request, since the office serves one after another."""
+
+import http.client
+import json
+from dataclasses import dataclass
+from typing import Any
+
+HOST = "127.0.0.1"
+CONNECT_SECONDS = 5
+# Others may come first, and each of them has 30 seconds.
+ANSWER_SECONDS = 60
+MOST_ANSWER = 64 * 1_048_576
+MOST_BODY = 1_048_576
+# The rules by which nothing is decided yet: no memory, and records that couldn't be read or written.
+MEMORY, STORE, FAILED = 40, 41, 42
+
+
+class NoAnswer(Exception):
+    """Nothing came that an office says. The reason is `absent` (nobody takes the connection), `silent`
+    (no answer in time), `broken` (the connection ended before) or `foreign` (what answers is no
+    office)."""
+
+    def __init__(self, reason: str):
+        super().__init__(reason)
+        self.reason = reason
+
+
+@dataclass(frozen=True)
+class Answer:
+    """An answer of the office: the text of a document, the members of a reply, or rule, name and detail
+    of a refusal."""
+
+    text: str
+    members: dict[str, Any]
+    is_refused: bool
+
+    @property
+    def rule(self) -> int:
+        return self.members["rule"] if self.is_refused else 0
+
+    @property
+    def is_failure(self) -> bool:
+        return self.rule in (STORE, FAILED)
+
+    @property
+    def is_undecided(self) -> bool:
+        """Whether the request is to be sent again under its number."""
+        return self.rule in (MEMORY, STORE, FAILED)
+
+
+class Office:
+    def __init__(self, port: int, key: str, seconds: float = ANSWER_SECONDS):
+        self.port = port
+        self.seconds = seconds
+        self._key = key
+
+    def document(self, path: str) -> Answer:
+        """The document at a path, or a refusal."""
+        answer = self.ask("GET", path)
+        if not answer.is_refused and answer.members:
+            raise NoAnswer("foreign")
+        return answer
+
+    def send(self, method: str, path: str, number: int, body: bytes, reply: frozenset[str]) -> Answer:
+        """The reply to a command, which has just these members, or a refusal."""
+        answer = self.ask(method, path, number, body)
+        if not answer.is_refused and set(answer.members) != reply:
+            raise NoAnswer("foreign")
+        return answer
+
+    def ask(self, method: str, path: str, number: int | None = None, body: bytes = b"") -> Answer:
+        fields = {"Office-Key": self._key, "Connection": "close"}
+        if number is not None:
+            fields["Request-Number"] = str(number)
+        connection = http.client.HTTPConnection(HOST, self.port, timeout=CONNECT_SECONDS)
+        try:
+            connection.connect()
+            connection.sock.settimeout(self.seconds)
+            connection.request(method, path, body if method != "GET" else None, fields)
+            response = connection.getresponse()
+            return read_answer(response, read_body(response))
+        except ConnectionRefusedError:
+            raise NoAnswer("absent") from None
+        except TimeoutError:
+            raise NoAnswer("silent") from None
+        except (http.client.HTTPException, OSError):
+            raise NoAnswer("broken") from None
+        finally:
+            connection.close()
+
+
+def read_body(response: http.client.HTTPResponse) -> bytes:
+    """The whole body, whose length an office tells."""
+    length = response.length
+    if length is None or length > MOST_ANSWER:
+        raise NoAnswer("foreign")
+    content = response.read()
+    if len(content) != length:
+        raise NoAnswer("broken")
+    return content
+
+
+def read_answer(response: http.client.HTTPResponse, content: bytes) -> Answer:
+    """The answer of an office, which is a document, the members of a reply, or those of a refusal."""
+    is_document = response.headers.get_content_type() == "text/plain"
+    try:
+        text = content.decode()
+        members = {} if is_document else json.loads(text)
+    except (ValueError, RecursionError):
+        raise NoAnswer("foreign") from None
+    if response.status == 200 and is_document:
+        return Answer(text, {}, False)
+    if response.status == 200 and is_reply(members):
+        return Answer("", members, False)
+    if response.status != 200 and is_refusal(members):
+        return Answer("", members, True)
+    raise NoAnswer("foreign")
+
+
+def is_reply(members: Any) -> bool:
+    if not isinstance(members, dict) or not members:
+        return False
+    return all(type(it) in (int, bool) for it in members.values())
+
+
+def is_refusal(members: Any) -> bool:
+    if not isinstance(members, dict):
+        return False
+    return {key: type(value) for key, value in members.items()} == {"rule": int, "name": str, "detail": str}

@@ -1,0 +1,91 @@
+"""Who may speak to the desk: the page that it served itself, in a browser of its own user, and nobody
+else.
+
+- `Host` and `Origin`: another page in the clerk's browser can't reach the desk, whatever name it gave
+  this machine.
+- Tokens: each form has one, made of a secret of this process, which only the page could read.
+- The user: the desk has the clerk's key, so a connection of another user of this machine is refused.
+"""
+
+import hashlib
+import hmac
+import os
+import secrets
+from email.message import Message
+from pathlib import Path
+
+from .faults import Fault
+
+CONNECTIONS = Path("/proc/net/tcp")
+ESTABLISHED = "01"
+
+HEADERS = {
+    "Content-Security-Policy": (
+        "default-src 'self'; base-uri 'none'; form-action 'self'; frame-ancestors 'none'"),
+    "X-Content-Type-Options": "nosniff",
+    "X-Frame-Options": "DENY",
+    "Referrer-Policy": "no-referrer",
+    "Cross-Origin-Opener-Policy": "same-origin",
+    "Cross-Origin-Resource-Policy": "same-origin",
+    "Cache-Control": "no-store",
+}
+
+
+class Tokens:
+    def __init__(self) -> None:
+        self._secret = secrets.token_bytes(32)
+
+    def token(self, form: str) -> str:
+        return hmac.new(self._secret, form.encode(), hashlib.sha256).hexdigest()
+
+    def check(self, form: str, given: str | None) -> None:
+        if not hmac.compare_digest(self.token(form).encode(), (given or "").encode(errors="replace")):
+            raise Fault("token", 403)
+
+
+def one(headers: Message, name: str) -> str | None:
+    """The value of a header that may stand once."""
+    values = headers.get_all(name, [])
+    if len(values) > 1:
+        raise Fault("headers", 400)
+    return values[0] if values else None
+
+
+def check_source(headers: Message, port: int, is_post: bool) -> None:
+    """Refuses what another page, or a name that leads to this machine, has sent."""
+    host = one(headers, "Host")
+    if host not in (f"127.0.0.1:{port}", f"localhost:{port}"):
+        raise Fault("host", 403)
+    origin = one(headers, "Origin")
+    if origin != f"http://{host}" and (is_post or origin is not None):
+        raise Fault("origin", 403)
+
+
+def check_site(headers: Message) -> None:
+    """Refuses what a browser says that another page has asked for. A link to the page itself may stand
+    anywhere."""
+    if one(headers, "Sec-Fetch-Site") not in (None, "none", "same-origin"):
+        raise Fault("origin", 403)
+
+
+def kernel_name(address: tuple[str, int]) -> str:
+    """An address as the kernel lists it: `0100007F:1F90` is 127.0.0.1:8080."""
+    host = bytes(reversed([int(it) for it in address[0].split(".")]))
+    return f"{host.hex().upper()}:{address[1]:04X}"
+
+
+def owner_of(peer: tuple[str, int], here: tuple[str, int]) -> int | None:
+    """The user whose program holds the other end of a connection of this machine."""
+    ends = [kernel_name(peer), kernel_name(here), ESTABLISHED]
+    for line in CONNECTIONS.read_text(encoding="ascii").splitlines()[1:]:
+        fields = line.split()
+        if fields[1:4] == ends:
+            return int(fields[7])
+    return None
+
+
+def check_user(peer: tuple[str, int], here: tuple[str, int]) -> None:
+    """Where the kernel doesn't list its connections, as on other systems than Linux, all users count as
+    the clerk."""
+    if CONNECTIONS.exists() and owner_of(peer, here) != os.getuid():
+        raise Fault("user", 403)
