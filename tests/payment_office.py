@@ -25,7 +25,7 @@ from payment_rules import leaves  # noqa: E402
 from program import REGISTRATION, post  # noqa: E402
 from program_under_test import ROOT, ProgramUnderTest, run_tests  # noqa: E402
 
-DOCUMENT = ROOT / "docs/payment-tool-part.md"
+DOCUMENT = ROOT / "docs/tools.md"
 
 
 class Peers(Tool):
