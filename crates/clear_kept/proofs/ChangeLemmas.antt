@@ -1,10 +1,10 @@
 -- What a change leaves of the rows, and what it writes anew.
 use Rattle.std.proofs.Common.{◌≡◌, ℕ, ◌+◌, ◌<◌, ◌≤◌, Bool, true, false, nat_le, List, [], ◌∷◌, ◌++◌, map, inl, inr, refl, sym, ap, subst, ◌∙◌, arith}
 use Rattle.std.specs.Prelude.{◌&&◌, not}
-use Rattle.std.specs.List.{All}
+use Rattle.std.specs.List.{All, filter}
 use Rattle.std.proofs.lemmas.Bool.{le-leb, lt-leb}
 use Rattle.std.proofs.lemmas.List.{append-nil, map-append}
-use Rattle.std.proofs.lemmas.List.Elements.{All-append, filter-append}
+use Rattle.std.proofs.lemmas.List.Elements.{All-append, All-weaker, filter-append}
 use Rattle.std.proofs.lemmas.List.Folds.{map_fixed}
 use Rattle.clear_account.specs.declared.entries.Charge.{Charge}
 use Rattle.clear_account.specs.declared.entries.Credit.{Credit}
@@ -27,6 +27,14 @@ stays_before false v is = refl
 
 goes : (m n : ℕ) (v : Bool) → m ≤ n → v ≡ false → not (nat_le m n && not v) ≡ false
 goes m n v h is = (λ i. not (le-leb m n h i && not (is i)))
+
+pub not_true : (v : Bool) → not v ≡ true → v ≡ false
+not_true true is = sym is
+not_true false is = refl
+
+not_false : (v : Bool) → not v ≡ false → v ≡ true
+not_false true is = refl
+not_false false is = sym is
 
 -- the rows that end at or below a place
 abbrev pub low : ℕ → ℕ → ℕ → List Charge → List Credit → List DatedPiece
@@ -104,6 +112,13 @@ module _ (place : ℕ) (ds bs : List Charge) (us vs : List Credit) (charges_end 
         ∙ filter-append (λ r. not (is_from month k r)) (low place 0 0 (ds ++ bs) (us ++ vs)) (dated_behind (charged ds) (credited us) bs vs)
         ∙ (λ i. filter_all (λ r. not (is_from month k r)) (low place 0 0 (ds ++ bs) (us ++ vs)) low_stays i ++ filter_none (λ r. not (is_from month k r)) (dated_behind (charged ds) (credited us) bs vs) behind_goes i)
         ∙ append-nil (low place 0 0 (ds ++ bs) (us ++ vs))
+
+    -- and those that are removed are the ones behind
+    pub removed_is : filter (is_from month k) (dated_pieces (ds ++ bs) (us ++ vs)) ≡ dated_behind (charged ds) (credited us) bs vs
+    removed_is =
+        ap (filter (is_from month k)) parted
+        ∙ filter-append (is_from month k) (low place 0 0 (ds ++ bs) (us ++ vs)) (dated_behind (charged ds) (credited us) bs vs)
+        ∙ (λ i. filter_none (is_from month k) (low place 0 0 (ds ++ bs) (us ++ vs)) (All-weaker Stays (λ r. is_from month k r ≡ false) (λ r. not_true (is_from month k r)) (low place 0 0 (ds ++ bs) (us ++ vs)) low_stays) i ++ filter_all (is_from month k) (dated_behind (charged ds) (credited us) bs vs) (All-weaker Goes (λ r. is_from month k r ≡ true) (λ r. not_false (is_from month k r)) (dated_behind (charged ds) (credited us) bs vs) behind_goes) i)
 
   -- rows of charges beyond the place are not blurred
   pub behind_blurred : (g : DatedPiece → DatedPiece) → Blurs g bs → map g (dated_behind (charged ds) (credited us) bs vs) ≡ dated_behind (charged ds) (credited us) bs vs

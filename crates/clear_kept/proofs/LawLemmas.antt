@@ -1,5 +1,5 @@
 -- The laws of changes.
-use Rattle.std.proofs.Common.{◌≡◌, ℕ, ◌+◌, ◌<◌, ◌≤◌, Bool, true, false, nat_lt, List, [], ◌∷◌, ◌++◌, length, take, drop, refl, sym, ap, ◌∙◌, arith}
+use Rattle.std.proofs.Common.{◌≡◌, ℕ, ◌+◌, ◌<◌, ◌≤◌, true, false, nat_lt, List, [], ◌∷◌, ◌++◌, length, take, drop, refl, sym, ap, ◌∙◌, arith}
 use Rattle.std.specs.Prelude.{not}
 use Rattle.std.specs.List.{All, AllPairs, filter}
 use Rattle.std.proofs.lemmas.Bool.{ltb-false, ltb-true, le-ltb}
@@ -13,17 +13,13 @@ use Rattle.clear_account.proofs.FrontLemmas.{All-drop_rising}
 use Rattle.clear_account.proofs.GridLemmas.{grid_same_charges, grid_same_credits}
 use Rattle.clear_account.proofs.ReachLemmas.{ends_reaches, reaches_at}
 use Rattle.clear_account.proofs.WalkLemmas.{grid_all}
-use Rattle.clear_kept.specs.Changes.{ChargeLeavesAll, ChargeRewrites, ChargeRowsStand, CreditRowsStand, CreditsLeaveAll, CreditsRewrite, charges_before, credits_before}
-use Rattle.clear_kept.specs.Dated.{dated_behind, dated_piece_of}
+use Rattle.clear_kept.specs.Changes.{ChargeLeavesAll, ChargeRewrites, ChargeRowsStand, CreditRowsStand, CreditsLeaveAll, CreditsRewrite, RemovedReachBeyond, charges_before, credits_before, is_from}
+use Rattle.clear_kept.specs.Dated.{dated_behind, dated_piece_of, dated_pieces}
 use Rattle.clear_kept.specs.Weighed.{weighed_charges}
 use Rattle.clear_kept.proofs.WeighedLemmas.{rows_front, rows_walk, rows_walk-front}
-use Rattle.clear_kept.proofs.ChangeLemmas.{low, rewritten, unchanged}
+use Rattle.clear_kept.proofs.ChangeLemmas.{low, not_true, removed_is, rewritten, unchanged}
 use Rattle.clear_kept.proofs.RowLemmas.{no_row, dated_behind-walk}
 use Rattle.clear_kept.proofs.SplitLemmas.{before_index, split_rising}
-
-not_true : (v : Bool) → not v ≡ true → v ≡ false
-not_true true is = sym is
-not_true false is = refl
 
 -- ---- the two sides of a month
 abbrev pub charges_from : ℕ → List Charge → List Charge
@@ -141,6 +137,19 @@ credits_leave_all cs old new first place a acc acc2 same at ends_c beyond =
     (same_credits place first cs old acc.credits_rise (omega arith) ∙ ap (λ xs. low place 0 0 cs xs) same ∙ sym (same_credits place first cs new acc2.credits_rise (omega arith)))
     (no_charges_behind (charged (take a cs)) (credited (credits_before first old)) a cs (credits_from first old) beyond)
     (no_charges_behind (charged (take a cs)) (credited (credits_before first new)) a cs (credits_from first new) beyond)
+
+pub removed_reach_beyond : RemovedReachBeyond
+removed_reach_beyond cs ks place a b acc ends_c ends_k within_c within_k =
+    let none_c : Charge = record { month = 0; due = 0; cents = 0 } in
+    let none_k : Credit = record { day = 0; serial = 0; cents = 0 } in
+    let m : ℕ = (charge_at cs a).month in
+    let k : Credit = credit_at ks b in
+    (λ i. filter (is_from m k) (dated_pieces (sym (take-append-drop a cs) i) (sym (take-append-drop b ks) i)))
+    ∙ removed_is place (take a cs) (drop a cs) (take b ks) (drop b ks) ends_c.below ends_k.below (ends_reaches place (λ (c : Charge). c.cents) cs a ends_c) (ends_reaches place (λ (l : Credit). l.cents) ks b ends_k) m k
+    (before_index (λ c d. c.month < d.month) cs a none_c acc.months_rise within_c)
+    (All-drop_rising (λ c d. c.month < d.month) (λ c. (charge_at cs a).month ≤ c.month) (λ c d le lt. omega arith) cs a (charge_at cs a) acc.months_rise within_c (get_or_default cs a none_c (charge_at cs a) within_c) (omega arith))
+    (before_index (λ k l. comes_before k l ≡ true) ks b none_k acc.credits_rise within_k)
+    (All-drop_rising (λ k l. comes_before k l ≡ true) (λ l. comes_before l (credit_at ks b) ≡ false) (λ l q is step. on (credit_at ks b) l q step is) ks b (credit_at ks b) acc.credits_rise within_k (get_or_default ks b none_k (credit_at ks b) within_k) (not_itself (credit_at ks b)))
 
 -- ---- rows of charges
 pub charge_rows_stand : ChargeRowsStand

@@ -61,6 +61,18 @@ ChargeRewrites =
     ++ dated_behind (charged_up_to new a) (credited_up_to credits b) (drop a new) (drop b credits)
     ≡ map g (dated_pieces new credits)
 
+-- the right rows that are so removed, from the month of the first charge and from the first payment on
+-- that reach beyond a place, are just those that reach beyond it: the shares of these charges and of
+-- those behind them in these payments and in those behind them
+abbrev pub RemovedReachBeyond : Type 0
+RemovedReachBeyond =
+    (charges : List Charge) (credits : List Credit) (place a b : ℕ) →
+    IsAccount charges credits →
+    Ends (λ c. c.cents) charges place a → Ends (λ k. k.cents) credits place b →
+    a < length charges → b < length credits →
+    filter (is_from (charge_at charges a).month (credit_at credits b)) (dated_pieces charges credits)
+    ≡ dated_behind (charged_up_to charges a) (credited_up_to credits b) (drop a charges) (drop b credits)
+
 -- where no payment reaches beyond the place, no row changes
 abbrev pub ChargeLeavesAll : Type 0
 ChargeLeavesAll =

@@ -3,6 +3,7 @@
 ghost use Rattle.clear_kept.specs.Changes.{ChargeLeavesAll, ChargePut, ChargeRewrites};
 ghost use Rattle.clear_kept.specs.Changes.{ChargeRowsStand, CreditPut, CreditRowsStand};
 ghost use Rattle.clear_kept.specs.Changes.{CreditTaken, CreditsLeaveAll, CreditsRewrite};
+ghost use Rattle.clear_kept.specs.Changes.{RemovedReachBeyond};
 ghost use Rattle.clear_kept.specs.Dated.{DatedRows, NamesPayments, RowsTellPieces};
 ghost use Rattle.clear_kept.specs.Weighed.{ArrearsFromRows, ToldByRows, WeightFromRow};
 
@@ -15,6 +16,12 @@ pub fn charge_rewrites()
 /// A changed charge that no payment reaches changes no piece.
 pub fn charge_leaves_all()
     ensures { ChargeLeavesAll }
+{}
+
+/// The right rows that are removed, from the first charge and the first payment beyond a place on, are
+/// those that reach beyond it.
+pub fn removed_reach_beyond()
+    ensures { RemovedReachBeyond }
 {}
 
 /// Changed payments: the rows of the first charge beyond their place or later, of the first changed
