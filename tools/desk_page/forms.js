@@ -92,7 +92,7 @@ function teller(form) {
 }
 
 /** Sends a form. What became of it; null where nothing was sent. */
-export async function submit(form) {
+async function submit(form) {
   clearFields(form);
   const told = await sendCommand(form.dataset.form, fieldsOf(form), teller(form));
   if (told) {

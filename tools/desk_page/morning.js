@@ -151,7 +151,7 @@ async function showMade(kind, { entry, known }) {
   }
 }
 
-export async function showMorning() {
+async function showMorning() {
   const told = await get(`/api/suspense/${first}`);
   if (told.text === undefined) {
     tellFault(told);
