@@ -20,7 +20,7 @@ function showCheck(told) {
   const kind = state === "good" ? "good strong" : "bad strong";
   const lines = [make("p", { class: kind }, `${mark} ${say(`bank.${state}`)}`)];
   if (text) {
-    lines.push(make("pre", { id: "bank-check-text" }, text));
+    lines.push(make("p", {}, say("bank.told")), make("pre", { id: "bank-check-text" }, text));
   }
   result.replaceChildren(...lines);
   byId("bank-import").disabled = state === "faulty";
