@@ -94,8 +94,10 @@ class Browser:
 
     def table(self, selector):
         """The texts of a table's cells, row by row, its header first."""
-        rows = self.one(selector).find_elements("css selector", "tr")
-        return [[it.text for it in row.find_elements("css selector", "th, td")] for row in rows]
+        rows = self.run("return [...arguments[0].rows].map(row => [...row.cells].map(it => it.innerText.trim()))",
+                        self.one(selector))
+        # An amount and its sign are held together by a blank of their own.
+        return [[cell.replace("\u00a0", " ") for cell in row] for row in rows]
 
     def focus(self):
         return self.run("return document.activeElement.id")

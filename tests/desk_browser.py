@@ -7,7 +7,7 @@ selenium (tests/browser.py), and is left out where one of them is missing. With 
 firm and the morning's work, in this folder. What is expected is worked out from docs/rules.md by hand.
 """
 
-import json
+import re
 import sys
 import unittest
 from pathlib import Path
@@ -15,7 +15,7 @@ from pathlib import Path
 # No __pycache__ is left beside the sources.
 sys.dont_write_bytecode = True
 from browser import Browser, what_is_missing  # noqa: E402
-from desk_under_test import BANK_HEADER, DeskUnderTest  # noqa: E402
+from desk_under_test import BANK_HEADER, DONE, DeskUnderTest  # noqa: E402
 from program_under_test import DAY, run_tests  # noqa: E402
 
 if not what_is_missing():
@@ -77,7 +77,7 @@ class InBrowser(DeskUnderTest):
         self.browser.click("#find-firm-open")
         self.browser.wait_for_view(f"firm/{number}")
 
-    def fill(self, form, **fields):
+    def type_in(self, form, **fields):
         for name, text in fields.items():
             self.browser.type(f"#{form}-{name}", text)
 
@@ -98,15 +98,15 @@ class InBrowser(DeskUnderTest):
             self.assertIn(text, self.browser.text("#answer"))
         self.browser.wait(lambda: self.browser.focus() == focus, "the focus")
 
-    def register(self, employer="1001", name="Bau Nord", start="2024-01"):
+    def register_firm(self, employer, name, start):
         self.go("new")
-        self.fill("register", employer=employer, name=name, start=start)
+        self.type_in("register", employer=employer, name=name, start=start)
         self.browser.click("#register-send")
         self.confirm("can't be changed later", employer, name)
         self.browser.wait_for_view(f"firm/{employer}")
         self.answers("done", f"Registration: {employer} {name}, from")
 
-    def report(self, month, csv, summary, expected, answer):
+    def report_month(self, month, csv, summary, expected, answer):
         """Reports a month from a file; what its lines come to, and what is expected, stands there first."""
         path = self.write(f"report-{month}.csv", "worker,gross\n" + csv)
         self.browser.click(f"#statement-months [data-month='{month}'] .report, #statement-months [data-month='{month}'] .correct")
@@ -135,8 +135,8 @@ class Month(InBrowser):
     """From registering to reminders."""
 
     def test_a_funds_month(self):
-        self.register()
-        self.register("1002", MARKUP, "2024-03")
+        self.register_firm("1001", "Bau Nord", "2024-01")
+        self.register_firm("1002", MARKUP, "2024-03")
         self.the_name_stays_text()
         self.open_firm("1001")
         self.first_reports()
@@ -158,9 +158,9 @@ class Month(InBrowser):
         self.assertNotEqual(self.browser.driver.title, "1")
 
     def first_reports(self):
-        self.report("2024-01", "7,1000000\n", "€10,000.00", "€2,000.00", ["done", "Contribution €2,000.00, version 1"])
+        self.report_month("2024-01", "7,1000000\n", "€10,000.00", "€2,000.00", ["done", "Contribution €2,000.00, version 1"])
         # 20 % of 11000.50.
-        self.report("2024-02", "7,500050\n8,600000\n", "€11,000.50", "€2,200.10", ["done", "Contribution €2,200.10"])
+        self.report_month("2024-02", "7,500050\n8,600000\n", "€11,000.50", "€2,200.10", ["done", "Contribution €2,200.10"])
 
     def the_banks_file(self):
         check = "4 lines, 0 repeats within the file, 1 without a firm, 3607.00 in all"
@@ -228,12 +228,12 @@ class Month(InBrowser):
         self.answers("done", "worker 7: €1,500.00", "The claim has the number 1.")
 
     def claim(self, amount):
-        self.fill("claim", worker="7", amount=amount)
+        self.type_in("claim", worker="7", amount=amount)
         self.browser.click("#claim-send")
 
     def release(self):
         self.go("morning")
-        self.fill("release", claim="1")
+        self.type_in("release", claim="1")
         self.browser.click("#release-send")
         self.confirm("A release is for good", "€1,500.00")
 
@@ -243,7 +243,7 @@ class Month(InBrowser):
         self.answers("refused", "rule 28, MissingReport", "The first month without a report is Mar 2024.",
                      "have it reported, release the claim then")
         self.open_firm("1001")
-        self.report("2024-03", "7,200000\n", "€2,000.00", "€400.00", ["done", "Contribution €400.00"])
+        self.report_month("2024-03", "7,200000\n", "€2,000.00", "€400.00", ["done", "Contribution €400.00"])
         self.release()
         self.answers("done", "Paid out: €421.90.", "Set off to contributions: €1,000.10, to interest: €78.00.")
 
@@ -281,5 +281,194 @@ class Month(InBrowser):
         self.assertIn("30 NothingToRemind", told[0][4])
 
 
+class Page(InBrowser):
+    """What holds of the page whatever is done there."""
+
+    VIEWS = ("morning", "firm", "worker", "new", "log")
+    # What a screen reader would have no name for, and what stands twice under one id.
+    NAMELESS = """
+        const shown = (it) => it.checkVisibility();
+        const named = (it) => (it.labels?.length && [...it.labels].every((label) => label.textContent.trim()))
+          || it.getAttribute("aria-label") || it.textContent.trim();
+        const nameless = [...document.querySelectorAll("input, textarea, select, button, a, summary")]
+          .filter((it) => it.type !== "hidden" && shown(it) && !named(it)).map((it) => it.outerHTML);
+        const tables = [...document.querySelectorAll("table")].filter((it) => !it.caption?.textContent
+          || it.querySelectorAll("thead th:not([scope=col]), tbody tr > :first-child:not(th[scope=row])").length);
+        const pointed = [...document.querySelectorAll("[aria-labelledby], [aria-describedby]")].flatMap((it) =>
+          ["aria-labelledby", "aria-describedby"].flatMap((name) => (it.getAttribute(name) ?? "").split(" ")))
+          .filter((id) => id && !document.getElementById(id));
+        const ids = [...document.querySelectorAll("[id]")].map((it) => it.id);
+        const twice = ids.filter((id, place) => ids.indexOf(id) !== place);
+        return [...nameless, ...tables.map((it) => it.outerHTML), ...pointed, ...twice];"""
+    # Each text that is shown, with how much darker or lighter it is than its ground, by WCAG 2.
+    CONTRAST = """
+        const part = (it) => (it /= 255) <= 0.04045 ? it / 12.92 : ((it + 0.055) / 1.055) ** 2.4;
+        const numbers = (color) => color.match(/[0-9.]+/g).map(Number);
+        const light = ([red, green, blue]) => 0.2126 * part(red) + 0.7152 * part(green) + 0.0722 * part(blue);
+        const ground = (it) => {
+          for (; it; it = it.parentElement) {
+            const color = numbers(getComputedStyle(it).backgroundColor);
+            if (color.length === 3 || color[3] === 1) return color;
+          }
+          return [255, 255, 255];
+        };
+        const walker = document.createTreeWalker(document.body, NodeFilter.SHOW_TEXT);
+        const found = [];
+        while (walker.nextNode()) {
+          const it = walker.currentNode.parentElement;
+          if (!walker.currentNode.data.trim() || !it.checkVisibility() || it.closest(":disabled, script, noscript")) continue;
+          const [one, other] = [light(numbers(getComputedStyle(it).color)), light(ground(it))].sort((a, b) => b - a);
+          if ((one + 0.05) / (other + 0.05) < 4.5) found.push([walker.currentNode.data, (one + 0.05) / (other + 0.05)]);
+        }
+        return found;"""
+
+    def setUp(self):
+        super().setUp()
+        self.does(DONE, self.register(name=MARKUP))
+        self.does({"charge": 200000, "version": 1}, self.report("2024-01", "7,1000000\n"))
+        self.does({"claim": 1}, self.command("claim", employer="1001", worker="7", amount="10"))
+        self.does({"new": 4, "repeats": 0}, self.bank(BANK))
+
+    def each_view(self):
+        """Goes through all views, those of a firm and of a worker among them."""
+        for view in (*self.VIEWS, "firm/1001", "worker/7"):
+            self.browser.run("location.hash = arguments[0]", f"#/{view}")
+            self.browser.wait_for_view(view)
+            yield view
+
+    def test_all_has_a_name(self):
+        for view in self.each_view():
+            self.assertEqual(self.browser.run(self.NAMELESS), [], view)
+            self.assertEqual(len([it for it in self.browser.all("h1") if it.is_displayed()]), 1, view)
+
+    def test_contrast(self):
+        for scheme in ("light", "dark"):
+            feature = {"features": [{"name": "prefers-color-scheme", "value": scheme}]}
+            self.browser.driver.execute_cdp_cmd("Emulation.setEmulatedMedia", feature)
+            for view in self.each_view():
+                self.assertEqual(self.browser.run(self.CONTRAST), [], (scheme, view))
+        self.browser.driver.execute_cdp_cmd("Emulation.setEmulatedMedia", {"features": []})
+
+    def test_narrow_and_wide(self):
+        """Nothing lies beside the window, which a clerk would have to move to see it; a table may scroll by itself."""
+        for width in (360, 1280, 1920):
+            self.browser.resize(width, 900)
+            for view in self.each_view():
+                self.assertLessEqual(self.browser.run("return document.documentElement.scrollWidth"), width, view)
+        self.browser.resize(1280, 900)
+
+    def test_the_languages(self):
+        for language, title, button, amount, day in (
+                ("de", "Tagesarbeit", "Zuordnen …", "100,00 €", "22.04.2024"),
+                ("en", "The morning's work", "Assign …", "€100.00", "22 Apr 2024")):
+            self.browser.click(f"#language-{language}")
+            self.browser.wait(lambda: self.browser.text("#morning-title") == title, title)
+            self.browser.wait(lambda: self.browser.text("#suspense-table .assign") == button, button)
+            self.assertEqual(self.browser.run("return document.documentElement.lang"), language)
+            self.assertEqual(self.browser.one(f"#language-{language}").get_attribute("aria-pressed"), "true")
+            cells = self.browser.table("#suspense-table")[1]
+            self.assertEqual((cells[1], cells[4]), (day, amount))
+            self.no_word_is_missing()
+        # It is kept for the next visit.
+        self.browser.click("#language-de")
+        self.browser.wait(lambda: self.browser.text("#morning-title") == "Tagesarbeit", "German")
+        self.browser.open(self.address)
+        self.assertEqual(self.browser.text("#morning-title"), "Tagesarbeit")
+        self.browser.click("#language-en")
+        self.browser.wait(lambda: self.browser.text("#morning-title") == "The morning's work", "English")
+
+    def no_word_is_missing(self):
+        """A key without words would stand there as it is, as `nav.firm`."""
+        for view in self.each_view():
+            text = self.browser.run("return document.body.innerText")
+            self.assertEqual(re.findall(r"\b[a-z]+\.[a-z][a-z-]+\b", text.replace(MARKUP, "")), [], view)
+        self.browser.run("location.hash = '#/morning'")
+        self.browser.wait_for_view("morning")
+
+    def test_a_refusal(self):
+        self.open_firm("1002")
+        self.browser.wait(lambda: self.browser.is_shown("#fault"), "a refusal")
+        for text in ("rule 11, UnknownEmployer", "no firm of this number is registered", "mend the number, or register the firm"):
+            self.assertIn(text.lower(), self.browser.text("#fault").lower())
+
+    def test_a_file_with_a_fault(self):
+        self.browser.one("#bank-file").send_keys(str(self.write("wrong.csv", BANK_HEADER + "B7,01.04.2024,1001,100,C,\n")))
+        self.browser.wait(lambda: "has a fault" in self.browser.text("#bank-check"), "a fault")
+        self.assertIn("record 2, value_date: 01.04.2024 is no day", self.browser.text("#bank-check-text"))
+        self.assertFalse(self.browser.one("#bank-import").is_enabled())
+
+    def test_a_second_click_that_is_not_given(self):
+        self.browser.click("#reminders-make")
+        self.browser.wait(lambda: self.browser.is_shown("#confirm"), "the second click")
+        self.browser.press(Keys.ESCAPE)
+        self.browser.wait(lambda: not self.browser.is_shown("#confirm"), "nothing")
+        self.assertEqual(self.browser.focus(), "reminders-make")
+        self.assertNotIn("reminders", [words for _, _, words in self.logged()])
+
+    def test_a_lost_connection(self):
+        """The office parts; the page keeps the request, stops its forms, and sends it again when the office is back."""
+        self.close_office()
+        self.go("new")
+        self.type_in("register", employer="1003", name="Bau Ost", start="2024-04")
+        self.browser.click("#register-send")
+        self.confirm("1003", "Bau Ost")
+        self.answers("no answer", "nobody answers on 127.0.0.1")
+        self.assertIn("Registration: 1003 Bau Ost", self.browser.text("#pending-what"))
+        self.assertTrue(self.browser.run("return document.getElementById('form-register').inert"))
+        self.open_office(port=self.server.port)
+        self.browser.click("#pending-send-again")
+        self.browser.wait(lambda: not self.browser.is_shown("#pending"), "an answer")
+        self.answers("done", "1003 Bau Ost")
+        self.assertFalse(self.browser.run("return document.getElementById('form-register').inert"))
+        self.open_firm("1003")
+        self.assertEqual(self.browser.text("#firm-title"), "1003 · Bau Ost")
+
+
+class Keyboard(InBrowser):
+    """Without a mouse."""
+
+    def tab_to(self, wanted):
+        """Presses the tabulator until the focus is where it is wanted; it is seen at each place."""
+        for _ in range(40):
+            self.browser.press(Keys.TAB)
+            outline = self.browser.run("return getComputedStyle(document.activeElement).outlineStyle")
+            self.assertNotEqual((outline, self.browser.focus()), ("none", self.browser.focus()))
+            if self.browser.focus() == wanted:
+                return
+        raise AssertionError(f"{wanted} isn't reached")
+
+    def test_a_firm_is_registered(self):
+        self.tab_to("nav-new")
+        self.browser.press(Keys.ENTER)
+        self.browser.wait_for_view("new")
+        for field, text in (("employer", "1001"), ("name", "Bau Nord"), ("start", "01/2024")):
+            self.tab_to(f"register-{field}")
+            self.browser.press(text)
+        self.browser.press(Keys.ENTER)
+        self.browser.wait(lambda: self.browser.focus() == "confirm-no", "the second click")
+        self.browser.driver.switch_to.active_element.send_keys(Keys.SHIFT, Keys.TAB)
+        self.browser.wait(lambda: self.browser.focus() == "confirm-yes", "the button before")
+        self.browser.press(Keys.ENTER)
+        self.browser.wait_for_view("firm/1001")
+        self.answers("done", "1001 Bau Nord, from Jan 2024")
+        # The first place behind the answer, and on to the report that is missing.
+        self.tab_to("firm-text")
+
+    def test_the_content_is_skipped_to(self):
+        self.browser.run("document.activeElement.blur()")
+        self.tab_to("skip")
+        self.browser.press(Keys.ENTER)
+        self.assertEqual(self.browser.focus(), "main")
+
+
+def take_pictures_word():
+    """Takes --pictures and its folder out of the command line."""
+    if "--pictures" in sys.argv:
+        place = sys.argv.index("--pictures")
+        InBrowser.pictures = Path(sys.argv.pop(place + 1))
+        sys.argv.pop(place)
+
+
 if __name__ == "__main__":
+    take_pictures_word()
     run_tests()
