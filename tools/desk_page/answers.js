@@ -196,12 +196,13 @@ export function confirmed(kind, facts) {
   pairs(byId("confirm-facts"), ...facts);
   return new Promise((resolve) => {
     const end = (is) => () => {
-      dialog.close();
       resolve(is);
+      dialog.close();
     };
     byId("confirm-yes").onclick = end(true);
     byId("confirm-no").onclick = end(false);
-    dialog.oncancel = () => resolve(false);
+    // By Escape, or by going to another view.
+    dialog.onclose = end(false);
     dialog.showModal();
     byId("confirm-no").focus();
   });

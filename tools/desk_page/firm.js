@@ -43,9 +43,10 @@ function bar(charge, most) {
 
 function paymentLines(payments) {
   const lines = payments.slice(0, MOST_PAYMENTS).map((it) =>
-    make("li", {}, `${day(it.day)} · ${euros(it.cents)} · ${it.reference}`));
+    make("li", {}, make("span", {}, day(it.day)), " ", make("span", { class: "amount" }, euros(it.cents)), " ",
+      make("span", {}, it.reference)));
   if (payments.length > MOST_PAYMENTS) {
-    lines.push(make("li", {}, say("statement.more", { count: payments.length - MOST_PAYMENTS })));
+    lines.push(make("li", { class: "more" }, say("statement.more", { count: payments.length - MOST_PAYMENTS })));
   }
   return lines.length ? make("ul", { class: "plain small" }, ...lines) : null;
 }
@@ -63,7 +64,8 @@ function chargeRow(charge, most) {
   });
   const version = make("span", { class: "under quiet small" }, say("statement.version", charge));
   const payments = make("div", {}, bar(charge, most), paymentLines(charge.payments));
-  const amounts = [charge.contribution, charge.paid, charge.open, charge.interest].map(euros);
+  const open = charge.open === "0" ? euros(charge.open) : make("strong", {}, euros(charge.open));
+  const amounts = [euros(charge.contribution), euros(charge.paid), open, euros(charge.interest)];
   return {
     cells: [make("span", {}, month(charge.month), version), day(charge.due), ...amounts, payments, correct],
     attributes: { "data-month": charge.month },
