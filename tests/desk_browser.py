@@ -327,7 +327,7 @@ class Page(InBrowser):
         self.does(DONE, self.register(name=MARKUP))
         self.does({"charge": 200000, "version": 1}, self.report("2024-01", "7,1000000\n"))
         self.does({"claim": 1}, self.command("claim", employer="1001", worker="7", amount="10"))
-        self.does({"new": 4, "repeats": 0}, self.bank(BANK))
+        self.does({"new": 4, "repeats": 0}, self.bank(BANK, "BANK.CSV"))
 
     def each_view(self):
         """Goes through all views, those of a firm and of a worker among them."""
