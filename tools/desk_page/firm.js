@@ -3,7 +3,7 @@
 import { tellFault } from "./answers.js";
 import { get, theSession } from "./api.js";
 import { button, byId, make, makeSvg, pairs, row, table } from "./elements.js";
-import { beginForm } from "./forms.js";
+import { beginForm, clearFields } from "./forms.js";
 import { day, euros, month } from "./formats.js";
 import { beginReport, openReport } from "./report.js";
 import { say } from "./words.js";
@@ -180,7 +180,7 @@ export async function showFirm(number) {
   shown = number;
   byId("firm-choose").hidden = Boolean(number);
   byId("firm-shown").hidden = true;
-  byId("firm-title").textContent = number ?? say("firm.title");
+  byId("firm-title").textContent = number ? `${say("firm.title")} ${number}` : say("firm.title");
   if (!number) {
     showRecent(theSession().recent);
     return;
@@ -208,6 +208,7 @@ export async function showFirm(number) {
 function openForms(number) {
   for (const kind of ["report", "claim", "withdraw", "end"]) {
     byId(`form-${kind}`).reset();
+    clearFields(byId(`form-${kind}`));
     byId(`${kind}-employer`).value = number;
   }
   openReport(null, null);
