@@ -271,7 +271,7 @@ class Month(InBrowser):
         self.go("morning")
         self.choose_bank_file(NEXT_BANK, "2 lines, 0 repeats within the file, 1 without a firm, 2045.50 in all")
         if self.pictures:
-            self.browser.picture(self.pictures / "desk-morning.png", 900)
+            self.browser.picture(self.pictures / "desk-morning.png", 960)
 
     def the_log(self):
         self.go("log")
@@ -350,11 +350,14 @@ class Page(InBrowser):
         self.browser.driver.execute_cdp_cmd("Emulation.setEmulatedMedia", {"features": []})
 
     def test_narrow_and_wide(self):
-        """Nothing lies beside the window, which a clerk would have to move to see it; a table may scroll by itself."""
+        """Nothing lies beside the window or beside a table's place, where a clerk would have to move it to see it."""
         for width in (360, 1280, 1920):
             self.browser.resize(width, 900)
             for view in self.each_view():
                 self.assertLessEqual(self.browser.run("return document.documentElement.scrollWidth"), width, view)
+                cut = self.browser.run("""return [...document.querySelectorAll(".scroll")]
+                    .filter((it) => it.scrollWidth > it.clientWidth).map((it) => it.ariaLabel)""")
+                self.assertEqual(cut, [], (width, view))
         self.browser.resize(1280, 900)
 
     def test_the_languages(self):

@@ -1,4 +1,5 @@
-"""Runs the commands of docs/desk.md as they stand there, and compares what they print.
+"""Runs the commands of docs/desk.md as they stand there, and compares what they print; and looks at what it calls the page's
+words, and at its pictures.
 
     python3 tests/desk_document.py [PROGRAM]
 
@@ -7,6 +8,8 @@ and Debian's Python with python3-defusedxml. Only the two ports are others, whic
 """
 
 import http.client
+import json
+import re
 import shutil
 import signal
 import subprocess
@@ -102,6 +105,25 @@ class FirstDay(documents.Manual):
         self.assertIsNotNone(self.desk, "docs/desk.md starts no desk")
         self.desk.send_signal(signal.SIGINT)
         self.assertEqual(self.desk.wait(timeout=30), 0)
+
+
+class Words(unittest.TestCase):
+    """What stands in docs/desk.md of the page."""
+
+    def setUp(self):
+        self.text = (ROOT / "docs/desk.md").read_text()
+
+    def test_words_of_the_page(self):
+        words = set(json.loads((ROOT / "tools/desk_page/words.en.json").read_text()).values())
+        said = re.findall(r"(?<!\*)\*([^*\n]+)\*(?!\*)", self.text)
+        self.assertGreater(len(said), 7)
+        self.assertEqual([it for it in said if it not in words], [])
+
+    def test_pictures(self):
+        for name in re.findall(r"!\[[^]]+\]\(([^)]+)\)", self.text):
+            content = (ROOT / "docs" / name).read_bytes()
+            self.assertEqual(content[:8], b"\x89PNG\r\n\x1a\n", name)
+            self.assertLess(len(content), 150_000, name)
 
 
 if __name__ == "__main__":
