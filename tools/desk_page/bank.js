@@ -22,6 +22,9 @@ function showCheck(told) {
   if (text) {
     lines.push(make("p", {}, say("bank.told")), make("pre", { id: "bank-check-text" }, text));
   }
+  if (state === "good") {
+    lines.push(make("p", { class: "hint" }, say("bank.unregistered")));
+  }
   result.replaceChildren(...lines);
   byId("bank-import").disabled = state === "faulty";
 }

@@ -3,7 +3,7 @@
 import { tellFault } from "./answers.js";
 import { get, theSession } from "./api.js";
 import { button, byId, make, makeSvg, pairs, row, table } from "./elements.js";
-import { beginForm, clearFields } from "./forms.js";
+import { beginForm, claimActions, clearFields } from "./forms.js";
 import { day, euros, month } from "./formats.js";
 import { beginReport, openReport } from "./report.js";
 import { say } from "./words.js";
@@ -42,11 +42,12 @@ function bar(charge, most) {
 }
 
 function paymentLines(payments) {
-  const lines = payments.slice(0, MOST_PAYMENTS).map((it) =>
-    make("li", {}, make("span", {}, day(it.day)), " ", make("span", { class: "amount" }, euros(it.cents)), " ",
-      make("span", {}, it.reference)));
-  if (payments.length > MOST_PAYMENTS) {
-    lines.push(make("li", { class: "more" }, say("statement.more", { count: payments.length - MOST_PAYMENTS })));
+  const lines = payments.slice(0, MOST_PAYMENTS).map((it) => make("li", {},
+    make("span", {}, day(it.day)), " ", make("span", { class: "amount" }, euros(it.cents)), " ",
+    make("span", {}, it.reference)));
+  const count = payments.length - MOST_PAYMENTS;
+  if (count > 0) {
+    lines.push(make("li", { class: "more" }, say("statement.more", { count })));
   }
   return lines.length ? make("ul", { class: "plain small" }, ...lines) : null;
 }
@@ -131,21 +132,9 @@ function showMonths(statement) {
     : "");
 }
 
-function fillIn(id, value) {
-  byId(id).value = String(value);
-  byId(id).focus();
-}
-
 function claimRow(claim) {
-  const actions = make("span", { class: "buttons" });
-  if (claim.state === "open") {
-    actions.append(
-      button(say("withdraw.button"), () => fillIn("withdraw-claim", claim.claim),
-        { "aria-label": say("withdraw.claim", claim) }),
-      make("a", { class: "button", href: `#/worker/${claim.worker}` }, say("release.button")));
-  }
   return row(String(claim.claim), make("a", { href: `#/worker/${claim.worker}` }, String(claim.worker)),
-    euros(claim.cents), say(`state.${claim.state}`), actions);
+    euros(claim.cents), say(`state.${claim.state}`), claimActions(claim, () => showFirm(shown)));
 }
 
 function showClaims(claims) {
