@@ -155,6 +155,8 @@ async function showMade(kind, { entry, known }) {
 
 async function showMorning() {
   const told = await get(`/api/suspense/${first}`);
+  // Where the office doesn't answer, nothing is said of what is in suspense.
+  byId("suspense").hidden = told.text === undefined;
   if (told.text === undefined) {
     tellFault(told);
     return;
