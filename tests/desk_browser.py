@@ -25,15 +25,22 @@ if not what_is_missing():
 CLOCK = """{ const Real = Date; const now = Real.parse("DAYT07:30:00Z");
   globalThis.Date = class extends Real { constructor(...told) { super(...(told.length ? told : [now])); } }; }"""
 MARKUP = '<img src=x onerror="document.title=1"><b>Bau</b> & Söhne'
-# January is paid, February in part; the third line names no firm, and the fourth one that isn't registered.
+# January is paid, February in part. The third line and the fifth name no firm, and two a firm that isn't registered.
 BANK = BANK_HEADER + """B1,2024-02-25,1001,150000,C,
 B2,2024-04-21,1001,200000,C,January rest and February
 B3,2024-04-22,,10000,C,"Nord, <b>February</b>"
-B4,2024-04-23,1099,700,I,interest
+B4,2024-04-23,1099,700,I,Bau Süd: Zinsen
+B5,2024-04-24,,32000,C,Maurerbetrieb Lang: Beitrag März 2024
+B6,2024-04-25,1100,45500,C,Steuerbüro Weiß für Betrieb 1100
 """
 NEXT_BANK = BANK_HEADER + """B2,2024-04-21,1001,200000,C,January rest and February
-B5,2024-04-29,,4550,C,no number
+B7,2024-04-29,,4550,C,no number
 """
+
+
+def setUpModule():
+    if missing := what_is_missing():
+        raise unittest.SkipTest(missing)
 
 
 class InBrowser(DeskUnderTest):
@@ -44,8 +51,6 @@ class InBrowser(DeskUnderTest):
     @classmethod
     def setUpClass(cls):
         super().setUpClass()
-        if missing := what_is_missing():
-            raise unittest.SkipTest(missing)
         cls.browser = Browser()
         cls.addClassCleanup(cls.browser.end)
         clock = {"source": CLOCK.replace("DAY", DAY)}
@@ -119,7 +124,7 @@ class InBrowser(DeskUnderTest):
         self.browser.wait(lambda: self.browser.one(f"#statement-months [data-month='{month}'] .correct"), "a reported month")
 
     def choose_bank_file(self, content, check):
-        self.browser.one("#bank-file").send_keys(str(self.write("bank.csv", content)))
+        self.browser.one("#bank-file").send_keys(str(self.write("2024-04-30.csv", content)))
         self.browser.wait(lambda: self.browser.one("#bank-import").is_enabled(), "a checked file")
         self.assertIn("Checked", self.browser.text("#bank-check"))
         self.assertEqual(self.browser.text("#bank-check-text"), check)
@@ -144,6 +149,9 @@ class Month(InBrowser):
         self.the_banks_file()
         self.the_line_in_suspense()
         self.the_statement()
+        self.an_end()
+        self.new_rates()
+        self.open_firm("1001")
         self.a_claim()
         self.a_release()
         self.a_payout_list()
@@ -163,13 +171,15 @@ class Month(InBrowser):
         self.report_month("2024-02", "7,500050\n8,600000\n", "€11,000.50", "€2,200.10", ["done", "Contribution €2,200.10"])
 
     def the_banks_file(self):
-        check = "4 lines, 0 repeats within the file, 1 without a firm, 3607.00 in all"
-        self.import_bank_file(BANK, check, "done", "New: 4, repeats: 0.", "In suspense now: 2, together €107.00.")
-        self.import_bank_file(BANK, check, "done", "New: 0, repeats: 4.", "In suspense now: 2, together €107.00.")
-        self.assertIn("2, together €107.00", self.browser.text("#suspense-summary"))
+        check = "6 lines, 0 repeats within the file, 2 without a firm, 4382.00 in all"
+        self.import_bank_file(BANK, check, "done", "New: 6, repeats: 0.", "In suspense now: 4, together €882.00.")
+        self.import_bank_file(BANK, check, "done", "New: 0, repeats: 6.", "In suspense now: 4, together €882.00.")
+        self.assertIn("4, together €882.00", self.browser.text("#suspense-summary"))
         self.assertEqual([it[:6] for it in self.browser.table("#suspense-table")[1:]], [
             ["B3", "22 Apr 2024", "contribution", "–", "€100.00", "Nord, <b>February</b>"],
-            ["B4", "23 Apr 2024", "interest", "1099", "€7.00", "interest"]])
+            ["B4", "23 Apr 2024", "interest", "1099", "€7.00", "Bau Süd: Zinsen"],
+            ["B5", "24 Apr 2024", "contribution", "–", "€320.00", "Maurerbetrieb Lang: Beitrag März 2024"],
+            ["B6", "25 Apr 2024", "contribution", "1100", "€455.00", "Steuerbüro Weiß für Betrieb 1100"]])
 
     def the_line_in_suspense(self):
         self.browser.click("#suspense-table .assign[data-reference='B3']")
@@ -182,9 +192,9 @@ class Month(InBrowser):
         self.assertIn("mend the number, or register the firm", self.browser.text("#assign-dialog"))
         self.browser.type("#assign-employer", "1001")
         self.browser.click("#assign-send")
-        self.confirm("1001 Bau Nord", "B3", "can't be given to another")
+        self.confirm("1001 Bau Nord", "B3", "€100.00", "can't be given to another")
         self.answers("done", "B3 to 1001")
-        self.browser.wait(lambda: "1, together €7.00" in self.browser.text("#suspense-summary"), "one line less")
+        self.browser.wait(lambda: "3, together €782.00" in self.browser.text("#suspense-summary"), "one line less")
 
     def the_statement(self):
         """Of February 100.00 more are paid than by B2; on 2024-03-20 and 2024-04-20 all of it was open: 44.00 of interest."""
@@ -216,6 +226,22 @@ class Month(InBrowser):
         euro = sum(widths[-1]) / 2200.10
         return [[round(it / euro) for it in bar] for bar in widths]
 
+    def an_end(self):
+        self.open_firm("1002")
+        self.type_in("end", last="06/2024")
+        self.browser.click("#end-send")
+        self.confirm("The end is set once for good", f"1002 {MARKUP}", "Jun 2024")
+        self.answers("done", "1002, last month Jun 2024")
+        self.browser.wait(lambda: "Jun 2024" in self.browser.text("#firm-member"), "the end")
+
+    def new_rates(self):
+        self.go("new")
+        self.type_in("rates", contribution="19.5", entitlement="14.20", interest="0.9", report_day="15", due_day="20",
+                     **{"from": "2026-01"})
+        self.browser.click("#rates-send")
+        self.confirm("can't be changed or taken back", "Jan 2026", "19.50 %", "14.20 %", "0.90 %")
+        self.answers("done", "from Jan 2026")
+
     def a_claim(self):
         # The worker has earned 1425.00 and 712.57.
         self.claim("2.200,00")
@@ -231,21 +257,22 @@ class Month(InBrowser):
         self.type_in("claim", worker="7", amount=amount)
         self.browser.click("#claim-send")
 
-    def release(self):
+    def a_release(self):
+        """March's 400.00 make it 1000.10 in arrears, and 4.00 more of interest make 78.00."""
         self.go("morning")
         self.type_in("release", claim="1")
         self.browser.click("#release-send")
         self.confirm("A release is for good", "€1,500.00")
-
-    def a_release(self):
-        """March's 400.00 make it 1000.10 in arrears, and 4.00 more of interest make 78.00."""
-        self.release()
         self.answers("refused", "rule 28, MissingReport", "The first month without a report is Mar 2024.",
                      "have it reported, release the claim then")
         self.open_firm("1001")
-        self.report_month("2024-03", "7,200000\n", "€2,000.00", "€400.00", ["done", "Contribution €400.00"])
-        self.release()
+        self.report_month("2024-03", "7,100000\n", "€1,000.00", "€200.00", ["done", "Contribution €200.00, version 1"])
+        self.report_month("2024-03", "7,200000\n", "€2,000.00", "€400.00", ["done", "Contribution €400.00, version 2"])
+        self.browser.click("#firm-claims-table .release[data-claim='1']")
+        self.confirm("A release is for good", "€1,500.00")
         self.answers("done", "Paid out: €421.90.", "Set off to contributions: €1,000.10, to interest: €78.00.")
+        self.browser.wait(lambda: self.browser.table("#firm-claims-table")[1][3] == "released", "a released claim")
+        self.go("morning")
 
     def a_payout_list(self):
         self.browser.click("#payouts-make")
@@ -271,7 +298,7 @@ class Month(InBrowser):
         self.go("morning")
         self.choose_bank_file(NEXT_BANK, "2 lines, 0 repeats within the file, 1 without a firm, 2045.50 in all")
         if self.pictures:
-            self.browser.picture(self.pictures / "desk-morning.png", 960)
+            self.browser.picture(self.pictures / "desk-morning.png", 1000)
 
     def the_log(self):
         self.go("log")
@@ -327,7 +354,7 @@ class Page(InBrowser):
         self.does(DONE, self.register(name=MARKUP))
         self.does({"charge": 200000, "version": 1}, self.report("2024-01", "7,1000000\n"))
         self.does({"claim": 1}, self.command("claim", employer="1001", worker="7", amount="10"))
-        self.does({"new": 4, "repeats": 0}, self.bank(BANK, "BANK.CSV"))
+        self.does({"new": 6, "repeats": 0}, self.bank(BANK, "BANK.CSV"))
 
     def each_view(self):
         """Goes through all views, those of a firm and of a worker among them."""
