@@ -129,11 +129,14 @@ export function claimActions(claim, done) {
   const fields = {
     language: currentLanguage(), claim: String(claim.claim), employer: String(claim.employer),
   };
-  const act = async (kind, event) => {
-    const { target } = event;
-    target.disabled = true;
+  let isBusy = false;
+  const act = async (kind) => {
+    if (isBusy) {
+      return;
+    }
+    isBusy = true;
     const told = await sendCommand(kind, fields, tellAnswer);
-    target.disabled = false;
+    isBusy = false;
     if (told) {
       tellAnswer(told);
       done();
@@ -141,7 +144,7 @@ export function claimActions(claim, done) {
   };
   const kinds = claim.state === "open" ? ["release", "withdraw"] : [];
   return make("span", { class: "buttons" }, ...kinds.map((kind) =>
-    button(say(`${kind}.button`), (event) => act(kind, event), {
+    button(say(`${kind}.button`), () => act(kind), {
       class: kind, "data-claim": String(claim.claim), "aria-label": say(`${kind}.claim`, claim),
     })));
 }
