@@ -3,12 +3,13 @@
 
     python3 bench/desk.py [PROGRAM] [--firms 1000] [--months 24] [--suspense 100] [--times 20] [--folder FOLDER]
 
-PROGRAM is the built program where none is named. A new store gets so many firms, and so many months of each: every month each
-firm reports ten workers and pays in full by the bank's file, but for the last month, of which it pays a half. So many lines of
-the bank are in suspense. Then a desk (tools/desk) is started in front of the office, and its page opened in a browser
-(tests/browser.py), which goes so many times to the page of a firm, to the morning's work, and to either by loading the page
-anew. The table has the median and the longest of each, from the click, or the beginning of the load, to the end of the second
-frame behind the moment at which the page says that it shows the view; and what the office alone took of it.
+PROGRAM is the built program where none is named. A new store gets so many firms, and so many months of each:
+every month each firm reports ten workers and pays in full by the bank's file, but for the last month, of which it
+pays a half. So many lines of the bank are in suspense. Then a desk (tools/desk) is started in front of the office,
+and its page opened in a browser (tests/browser.py), which goes so many times to the page of a firm, to the
+morning's work, and to either by loading the page anew. The table has the median and the longest of each, from the
+click, or the beginning of the load, to the end of the second frame behind the moment at which the page says that
+it shows the view; and what the office alone took of it.
 
 The files lie below FOLDER, /dev/shm where there is one, so that the figures are the programs' and not the disk's.
 """
@@ -32,14 +33,14 @@ from server import Server  # noqa: E402
 from suspense import Desk, FILE, FIRST, HEADER, MEMORY, PROGRAM  # noqa: E402
 
 DESK = HERE.parent / "tools/desk"
-WORKERS = 10
 # What takes too long, in seconds.
 MOST_FIRM, MOST_MORNING = 0.3, 1.0
 
 # Calls back with the milliseconds from now, or from the load of the page, until a view was drawn.
 UNTIL_SHOWN = """
     const [view, begun, done] = arguments;
-    const drawn = () => requestAnimationFrame(() => requestAnimationFrame(() => done(performance.now() - begun)));
+    const told = () => done(performance.now() - begun);
+    const drawn = () => requestAnimationFrame(() => requestAnimationFrame(told));
     const look = () => document.body.dataset.shown === view ? drawn() : setTimeout(look, 1);
     look();"""
 GO = """
@@ -47,7 +48,7 @@ GO = """
     document.body.dataset.shown = "";
     const begun = performance.now();
     location.hash = `#/${view}`;
-    ((view, begun, done) => {%s})(view, begun, done);""" % UNTIL_SHOWN.replace("const [view, begun, done] = arguments;", "")
+    (function () {%s})(view, begun, done);""" % UNTIL_SHOWN
 
 
 def fill(desk, options):
@@ -61,7 +62,8 @@ def fill(desk, options):
         for no in numbers:
             desk.post(f"/employers/{no}/reports/{month}", BODY)
         send_bank(desk, [f"P{no}-{month},{month}-28,{no},{cents},C,{month}\n" for no in numbers])
-    send_bank(desk, [f"S{place},2024-01-28,,{100 + place},C,no number\n" for place in range(options.suspense)])
+    lines = range(options.suspense)
+    send_bank(desk, [f"S{place},2024-01-28,,{100 + place},C,no number\n" for place in lines])
 
 
 def send_bank(desk, lines):
@@ -71,8 +73,8 @@ def send_bank(desk, lines):
 
 def make_office(options, folder):
     """An office on a day behind all months, which holds what was asked for."""
-    server = Server("program", str(options.program), os.path.join(folder, "office"), month_name(options.months) + "-28",
-                    "desk = 0\n")
+    day = month_name(options.months) + "-28"
+    server = Server("program", str(options.program), os.path.join(folder, "office"), day, "desk = 0\n")
     server.init()
     server.start()
     begun = time.perf_counter()
@@ -93,7 +95,7 @@ def start_desk(office, folder):
 
 
 def ask_office(office, path):
-    """The milliseconds that the office takes for a document, over a connection of its own, as the desk asks for it."""
+    """The milliseconds that the office takes for a document, over a connection of its own, as for the desk."""
     begun = time.perf_counter()
     connection = http.client.HTTPConnection(*office.address, timeout=60)
     connection.request("GET", path, headers={"Office-Key": "desk", "Connection": "close"})
@@ -125,7 +127,8 @@ def measure(browser, office, address, options):
     yield "a firm, loaded", MOST_FIRM, [load(browser, address, f"firm/{no}") for no in firms]
     yield "the morning, by a click", MOST_MORNING, [go(browser, "morning", "new") for _ in firms]
     yield "the morning, loaded", MOST_MORNING, [load(browser, address, "morning") for _ in firms]
-    yield "the office alone: a statement", None, [ask_office(office, f"/employers/{no}/statement") for no in firms]
+    statements = [f"/employers/{no}/statement" for no in firms]
+    yield "the office alone: a statement", None, [ask_office(office, path) for path in statements]
     yield "the office alone: suspense", None, [ask_office(office, "/suspense") for _ in firms]
 
 

@@ -2,9 +2,10 @@
 
     python3 tests/desk_browser.py [PROGRAM] [--pictures FOLDER]
 
-PROGRAM is crates/clear_app/out/clear_app where it isn't given, as `rt ci` leaves it. It needs chromium, its driver and
-selenium (tests/browser.py), and is left out where one of them is missing. With --pictures it makes those of docs/desk.md, a
-firm and the morning's work, in this folder. What is expected is worked out from docs/rules.md by hand.
+PROGRAM is crates/clear_app/out/clear_app where it isn't given, as `rt ci` leaves it. It needs chromium, its
+driver and selenium (tests/browser.py), and is left out where one of them is missing. With --pictures it makes
+those of docs/desk.md, a firm and the morning's work, in this folder. What is expected is worked out from
+docs/rules.md by hand.
 """
 
 import re
@@ -23,9 +24,11 @@ if not what_is_missing():
 
 # The browser's clock stands on the office's day, so that the page looks the same whenever it is tried.
 CLOCK = """{ const Real = Date; const now = Real.parse("DAYT07:30:00Z");
-  globalThis.Date = class extends Real { constructor(...told) { super(...(told.length ? told : [now])); } }; }"""
+  globalThis.Date = class extends Real {
+    constructor(...told) { super(...(told.length ? told : [now])); }
+  }; }"""
 MARKUP = '<img src=x onerror="document.title=1"><b>Bau</b> & Söhne'
-# January is paid, February in part. The third line and the fifth name no firm, and two a firm that isn't registered.
+# January is paid, February in part. Two further lines name no firm, and two a firm that isn't registered.
 BANK = BANK_HEADER + """B1,2024-02-25,1001,150000,C,
 B2,2024-04-21,1001,200000,C,January rest and February
 B3,2024-04-22,,10000,C,"Nord, <b>February</b>"
@@ -65,8 +68,8 @@ class InBrowser(DeskUnderTest):
 
     def tearDown(self):
         # Nothing but the desk was asked for anything, and nothing of the page was stopped by its own policy.
-        foreign = [it for it in self.browser.requested() if not it.startswith((self.address, "data:", "chrome:"))]
-        self.assertEqual(foreign, [])
+        own = (self.address, "data:", "chrome:")
+        self.assertEqual([it for it in self.browser.requested() if not it.startswith(own)], [])
         self.assertEqual(self.browser.complaints(), [])
         super().tearDown()
 
@@ -96,8 +99,8 @@ class InBrowser(DeskUnderTest):
         self.browser.click("#confirm-yes")
 
     def answers(self, *told, focus="answer"):
-        """Waits for the answer of a command, in which all of this stands. Its place, or what was made, has the focus then, so
-        that a screen reader reads it."""
+        """Waits for the answer of a command, in which all of this stands. Its place, or what was made, has the
+        focus then, so that a screen reader reads it."""
         self.browser.wait(lambda: self.browser.is_shown("#answer"), "an answer")
         for text in told:
             self.assertIn(text, self.browser.text("#answer"))
@@ -114,14 +117,15 @@ class InBrowser(DeskUnderTest):
     def report_month(self, month, csv, summary, expected, answer):
         """Reports a month from a file; what its lines come to, and what is expected, stands there first."""
         path = self.write(f"report-{month}.csv", "worker,gross\n" + csv)
-        self.browser.click(f"#statement-months [data-month='{month}'] .report, #statement-months [data-month='{month}'] .correct")
+        row = f"#statement-months [data-month='{month}']"
+        self.browser.click(f"{row} .report, {row} .correct")
         self.browser.one("#report-file").send_keys(str(path))
         self.browser.wait(lambda: self.browser.one("#report-send").is_enabled(), "checked lines")
         self.assertIn(summary, self.browser.text("#report-summary"))
         self.assertIn(expected, self.browser.text("#report-expected"))
         self.browser.click("#report-send")
         self.answers(*answer)
-        self.browser.wait(lambda: self.browser.one(f"#statement-months [data-month='{month}'] .correct"), "a reported month")
+        self.browser.wait(lambda: self.browser.one(f"{row} .correct"), "a reported month")
 
     def choose_bank_file(self, content, check):
         self.browser.one("#bank-file").send_keys(str(self.write("2024-04-30.csv", content)))
@@ -166,14 +170,17 @@ class Month(InBrowser):
         self.assertNotEqual(self.browser.driver.title, "1")
 
     def first_reports(self):
-        self.report_month("2024-01", "7,1000000\n", "€10,000.00", "€2,000.00", ["done", "Contribution €2,000.00, version 1"])
+        self.report_month("2024-01", "7,1000000\n", "€10,000.00", "€2,000.00",
+                          ["done", "Contribution €2,000.00, version 1"])
         # 20 % of 11000.50.
-        self.report_month("2024-02", "7,500050\n8,600000\n", "€11,000.50", "€2,200.10", ["done", "Contribution €2,200.10"])
+        self.report_month("2024-02", "7,500050\n8,600000\n", "€11,000.50", "€2,200.10",
+                          ["done", "Contribution €2,200.10"])
 
     def the_banks_file(self):
         check = "6 lines, 0 repeats within the file, 2 without a firm, 4382.00 in all"
-        self.import_bank_file(BANK, check, "done", "New: 6, repeats: 0.", "In suspense now: 4, together €882.00.")
-        self.import_bank_file(BANK, check, "done", "New: 0, repeats: 6.", "In suspense now: 4, together €882.00.")
+        after = "In suspense now: 4, together €882.00."
+        self.import_bank_file(BANK, check, "done", "New: 6, repeats: 0.", after)
+        self.import_bank_file(BANK, check, "done", "New: 0, repeats: 6.", after)
         self.assertIn("4, together €882.00", self.browser.text("#suspense-summary"))
         self.assertEqual([it[:6] for it in self.browser.table("#suspense-table")[1:]], [
             ["B3", "22 Apr 2024", "contribution", "–", "€100.00", "Nord, <b>February</b>"],
@@ -188,16 +195,17 @@ class Month(InBrowser):
         self.browser.type("#assign-employer", "1003")
         self.browser.click("#assign-send")
         # Nobody has that number: the second click isn't even asked for.
-        self.browser.wait(lambda: "rule 11, UnknownEmployer" in self.browser.text("#assign-dialog"), "rule 11")
+        self.browser.wait_for_text("#assign-dialog", "rule 11, UnknownEmployer")
         self.assertIn("mend the number, or register the firm", self.browser.text("#assign-dialog"))
         self.browser.type("#assign-employer", "1001")
         self.browser.click("#assign-send")
         self.confirm("1001 Bau Nord", "B3", "€100.00", "can't be given to another")
         self.answers("done", "B3 to 1001")
-        self.browser.wait(lambda: "3, together €782.00" in self.browser.text("#suspense-summary"), "one line less")
+        self.browser.wait_for_text("#suspense-summary", "3, together €782.00")
 
     def the_statement(self):
-        """Of February 100.00 more are paid than by B2; on 2024-03-20 and 2024-04-20 all of it was open: 44.00 of interest."""
+        """Of February 100.00 more are paid than by B2. On 2024-03-20 and 2024-04-20 all of it was open: 44.00 of
+        interest."""
         self.open_firm("1001")
         self.assertEqual([it[:6] for it in self.browser.table("#statement-table")], [
             ["Month", "Due", "Contribution", "Paid", "Open", "Interest"],
@@ -236,8 +244,8 @@ class Month(InBrowser):
 
     def new_rates(self):
         self.go("new")
-        self.type_in("rates", contribution="19.5", entitlement="14.20", interest="0.9", report_day="15", due_day="20",
-                     **{"from": "2026-01"})
+        self.type_in("rates", contribution="19.5", entitlement="14.20", interest="0.9", report_day="15",
+                     due_day="20", **{"from": "2026-01"})
         self.browser.click("#rates-send")
         self.confirm("can't be changed or taken back", "Jan 2026", "19.50 %", "14.20 %", "0.90 %")
         self.answers("done", "from Jan 2026")
@@ -245,7 +253,7 @@ class Month(InBrowser):
     def a_claim(self):
         # The worker has earned 1425.00 and 712.57.
         self.claim("2.200,00")
-        self.browser.wait(lambda: "1,234.56" in self.browser.text("#claim-amount-fault"), "the fault beside its field")
+        self.browser.wait_for_text("#claim-amount-fault", "1,234.56")
         self.assertEqual(self.browser.focus(), "claim-amount")
         self.claim("2200")
         self.answers("refused", "rule 25, OverBalance", "more is claimed than the worker's balance",
@@ -266,12 +274,14 @@ class Month(InBrowser):
         self.answers("refused", "rule 28, MissingReport", "The first month without a report is Mar 2024.",
                      "have it reported, release the claim then")
         self.open_firm("1001")
-        self.report_month("2024-03", "7,100000\n", "€1,000.00", "€200.00", ["done", "Contribution €200.00, version 1"])
-        self.report_month("2024-03", "7,200000\n", "€2,000.00", "€400.00", ["done", "Contribution €400.00, version 2"])
+        self.report_month("2024-03", "7,100000\n", "€1,000.00", "€200.00",
+                          ["done", "Contribution €200.00, version 1"])
+        self.report_month("2024-03", "7,200000\n", "€2,000.00", "€400.00",
+                          ["done", "Contribution €400.00, version 2"])
         self.browser.click("#firm-claims-table .release[data-claim='1']")
         self.confirm("A release is for good", "€1,500.00")
         self.answers("done", "Paid out: €421.90.", "Set off to contributions: €1,000.10, to interest: €78.00.")
-        self.browser.wait(lambda: self.browser.table("#firm-claims-table")[1][3] == "released", "a released claim")
+        self.browser.wait_for_text("#firm-claims-table", "released")
         self.go("morning")
 
     def a_payout_list(self):
@@ -287,7 +297,8 @@ class Month(InBrowser):
         self.answers("done", "Run 1. Firms reminded: 1.", focus="document")
         self.browser.wait(lambda: self.browser.is_shown("#reminders-table"), "the run")
         # The release has paid all that the first firm owed.
-        self.assertEqual(self.browser.table("#reminders-table")[1:], [["1002", "1", "1", "Mar 2024", "€0.00", "€0.00"]])
+        self.assertEqual(self.browser.table("#reminders-table")[1:],
+                         [["1002", "1", "1", "Mar 2024", "€0.00", "€0.00"]])
         self.browser.click("#reminders-make")
         self.confirm()
         self.answers("refused", "rule 30, NothingToRemind", "reminded in the last 14 days")
@@ -296,7 +307,8 @@ class Month(InBrowser):
         """A bank file that is only looked at, as the morning's work begins."""
         self.go("firm")
         self.go("morning")
-        self.choose_bank_file(NEXT_BANK, "2 lines, 0 repeats within the file, 1 without a firm, 2045.50 in all")
+        check = "2 lines, 0 repeats within the file, 1 without a firm, 2045.50 in all"
+        self.choose_bank_file(NEXT_BANK, check)
         if self.pictures:
             self.browser.picture(self.pictures / "desk-morning.png", 1000)
 
@@ -320,9 +332,10 @@ class Page(InBrowser):
         const nameless = [...document.querySelectorAll("input, textarea, select, button, a, summary")]
           .filter((it) => it.type !== "hidden" && shown(it) && !named(it)).map((it) => it.outerHTML);
         const tables = [...document.querySelectorAll("table")].filter((it) => !it.caption?.textContent
-          || it.querySelectorAll("thead th:not([scope=col]), tbody tr > :first-child:not(th[scope=row])").length);
-        const pointed = [...document.querySelectorAll("[aria-labelledby], [aria-describedby]")].flatMap((it) =>
-          ["aria-labelledby", "aria-describedby"].flatMap((name) => (it.getAttribute(name) ?? "").split(" ")))
+          || it.querySelector("thead th:not([scope=col]), tbody tr > :first-child:not(th[scope=row])"));
+        const pointers = ["aria-labelledby", "aria-describedby"];
+        const pointed = [...document.querySelectorAll("[aria-labelledby], [aria-describedby]")]
+          .flatMap((it) => pointers.flatMap((name) => (it.getAttribute(name) ?? "").split(" ")))
           .filter((id) => id && !document.getElementById(id));
         const ids = [...document.querySelectorAll("[id]")].map((it) => it.id);
         const twice = ids.filter((id, place) => ids.indexOf(id) !== place);
@@ -343,9 +356,11 @@ class Page(InBrowser):
         const found = [];
         while (walker.nextNode()) {
           const it = walker.currentNode.parentElement;
-          if (!walker.currentNode.data.trim() || !it.checkVisibility() || it.closest(":disabled, script, noscript")) continue;
-          const [one, other] = [light(numbers(getComputedStyle(it).color)), light(ground(it))].sort((a, b) => b - a);
-          if ((one + 0.05) / (other + 0.05) < 4.5) found.push([walker.currentNode.data, (one + 0.05) / (other + 0.05)]);
+          const text = walker.currentNode.data.trim();
+          if (!text || !it.checkVisibility() || it.closest(":disabled, script, noscript")) continue;
+          const both = [light(numbers(getComputedStyle(it).color)), light(ground(it))];
+          const ratio = (Math.max(...both) + 0.05) / (Math.min(...both) + 0.05);
+          if (ratio < 4.5) found.push([text, ratio]);
         }
         return found;"""
 
@@ -377,11 +392,12 @@ class Page(InBrowser):
         self.browser.driver.execute_cdp_cmd("Emulation.setEmulatedMedia", {"features": []})
 
     def test_narrow_and_wide(self):
-        """Nothing lies beside the window or beside a table's place, where a clerk would have to move it to see it."""
+        """Nothing lies beside the window or a table's place, where a clerk would have to move it to see it."""
         for width in (360, 1280, 1920):
             self.browser.resize(width, 900)
             for view in self.each_view():
-                self.assertLessEqual(self.browser.run("return document.documentElement.scrollWidth"), width, view)
+                whole = self.browser.run("return document.documentElement.scrollWidth")
+                self.assertLessEqual(whole, width, view)
                 cut = self.browser.run("""return [...document.querySelectorAll(".scroll")]
                     .filter((it) => it.scrollWidth > it.clientWidth).map((it) => it.ariaLabel)""")
                 self.assertEqual(cut, [], (width, view))
@@ -418,12 +434,14 @@ class Page(InBrowser):
     def test_a_refusal(self):
         self.open_firm("1002")
         self.browser.wait(lambda: self.browser.is_shown("#fault"), "a refusal")
-        for text in ("rule 11, UnknownEmployer", "no firm of this number is registered", "mend the number, or register the firm"):
+        for text in ("rule 11, UnknownEmployer", "no firm of this number is registered",
+                     "mend the number, or register the firm"):
             self.assertIn(text.lower(), self.browser.text("#fault").lower())
 
     def test_a_file_with_a_fault(self):
-        self.browser.one("#bank-file").send_keys(str(self.write("wrong.csv", BANK_HEADER + "B7,01.04.2024,1001,100,C,\n")))
-        self.browser.wait(lambda: "has a fault" in self.browser.text("#bank-check"), "a fault")
+        path = self.write("wrong.csv", BANK_HEADER + "B7,01.04.2024,1001,100,C,\n")
+        self.browser.one("#bank-file").send_keys(str(path))
+        self.browser.wait_for_text("#bank-check", "has a fault")
         self.assertIn("record 2, value_date: 01.04.2024 is no day", self.browser.text("#bank-check-text"))
         self.assertFalse(self.browser.one("#bank-import").is_enabled())
 
@@ -436,7 +454,7 @@ class Page(InBrowser):
         self.assertNotIn("reminders", [words for _, _, words in self.logged()])
 
     def test_a_lost_connection(self):
-        """The office parts; the page keeps the request, stops its forms, and sends it again when the office is back."""
+        """The office parts. The page keeps the request, stops its forms, and sends it again when it is back."""
         self.close_office()
         self.go("new")
         self.type_in("register", employer="1003", name="Bau Ost", start="2024-04")

@@ -1,10 +1,11 @@
-"""Runs the commands of docs/desk.md as they stand there, and compares what they print; and looks at what it calls the page's
-words, and at its pictures.
+"""Runs the commands of docs/desk.md as they stand there, and compares what they print; and looks at what it says
+of the page's words, and at its pictures.
 
     python3 tests/desk_document.py [PROGRAM]
 
-PROGRAM is crates/clear_app/out/clear_app where it isn't given, as `rt ci` leaves it. It needs what tests/documents.py needs,
-and Debian's Python with python3-defusedxml. Only the two ports are others, which are free.
+PROGRAM is crates/clear_app/out/clear_app where it isn't given, as `rt ci` leaves it. It needs what
+tests/documents.py needs, and Debian's Python with python3-defusedxml. Only the two ports are others, which are
+free.
 """
 
 import http.client
@@ -69,8 +70,8 @@ class FirstDay(documents.Manual):
 
     def start_desk(self, command, printed):
         with open(self.folder / "desk.log", "wb") as log:
-            self.desk = subprocess.Popen(["bash", "-c", f"exec {command}"], cwd=self.folder, stdout=log, stderr=log,
-                                         env=self.environment)
+            self.desk = subprocess.Popen(["bash", "-c", f"exec {command}"], cwd=self.folder, env=self.environment,
+                                         stdout=log, stderr=log)
         self.addCleanup(self.desk.kill)
         until = time.monotonic() + 30
         while "desk on" not in self.told_by_desk():
