@@ -445,6 +445,16 @@ class Page(InBrowser):
         self.assertIn("record 2, value_date: 01.04.2024 is no day", self.browser.text("#bank-check-text"))
         self.assertFalse(self.browser.one("#bank-import").is_enabled())
 
+    def test_a_file_that_is_dropped(self):
+        self.browser.run("""
+            const dataTransfer = new DataTransfer();
+            dataTransfer.items.add(new File([arguments[0]], "dropped.csv"));
+            const drop = new DragEvent("drop", { dataTransfer, bubbles: true, cancelable: true });
+            document.getElementById("bank-drop").dispatchEvent(drop);""", NEXT_BANK)
+        self.browser.wait_for_text("#bank-check", "2 lines, 0 repeats within the file, 1 without a firm")
+        self.assertIn("dropped.csv", self.browser.text("#bank-name"))
+        self.assertTrue(self.browser.one("#bank-import").is_enabled())
+
     def test_a_second_click_that_is_not_given(self):
         self.browser.click("#reminders-make")
         self.browser.wait(lambda: self.browser.is_shown("#confirm"), "the second click")
