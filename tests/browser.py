@@ -1,4 +1,5 @@
-"""Debian's chromium without a window, driven by Debian's selenium, for what looks at the desk's page as a clerk does.
+"""Debian's chromium without a window, driven by Debian's selenium, for what looks at the desk's page as a clerk
+does.
 
     apt-get install -y chromium chromium-driver python3-selenium
 
@@ -36,10 +37,11 @@ def what_is_missing():
 
 
 def flags(profile):
-    """No profile is kept, and no name but that of this machine is found: nothing of a test goes anywhere else."""
-    told = ["--headless=new", f"--user-data-dir={profile}", "--window-size=1280,900", "--lang=en", "--no-first-run",
-            "--disable-background-networking", "--disable-component-update", "--disable-sync", "--disable-extensions",
-            "--disable-dev-shm-usage", "--disable-gpu", "--force-color-profile=srgb", "--hide-scrollbars",
+    """No profile is kept, and no name but that of this machine is found: nothing of a test goes elsewhere."""
+    told = ["--headless=new", f"--user-data-dir={profile}", "--window-size=1280,900", "--lang=en",
+            "--no-first-run", "--disable-background-networking", "--disable-component-update", "--disable-sync",
+            "--disable-extensions", "--disable-dev-shm-usage", "--disable-gpu", "--force-color-profile=srgb",
+            "--hide-scrollbars",
             "--host-resolver-rules=MAP * ~NOTFOUND, EXCLUDE 127.0.0.1"]
     # Chromium doesn't start in its sandbox as root.
     return told + (["--no-sandbox"] if os.geteuid() == 0 else [])
@@ -94,14 +96,16 @@ class Browser:
 
     def table(self, selector):
         """The texts of a table's cells, row by row, its header first."""
-        rows = self.one(selector).find_elements("css selector", "tr")
-        return [[it.text for it in row.find_elements("css selector", "th, td")] for row in rows]
+        script = "return [...arguments[0].rows].map(row => [...row.cells].map(it => it.innerText.trim()))"
+        rows = self.run(script, self.one(selector))
+        # An amount and its sign are held together by a blank of their own.
+        return [[cell.replace("\u00a0", " ") for cell in row] for row in rows]
 
     def focus(self):
         return self.run("return document.activeElement.id")
 
     def wait(self, is_so, what=""):
-        """Waits until this holds. It doesn't hold yet where an element is missing, hidden or was just replaced."""
+        """Waits until this holds. It doesn't hold yet where an element is missing or was just replaced."""
         until = time.monotonic() + SECONDS
         while time.monotonic() < until:
             with contextlib.suppress(WebDriverException):
@@ -109,6 +113,9 @@ class Browser:
                     return found
             time.sleep(0.02)
         raise AssertionError(f"not within {SECONDS} seconds: {what}\n{self.text('body')}")
+
+    def wait_for_text(self, selector, text):
+        self.wait(lambda: text in self.text(selector), text)
 
     def wait_for_view(self, view):
         """Waits until the page says that it shows a view, `firm/1001` for a firm's."""

@@ -58,7 +58,7 @@ function detailText(rule, detail) {
   return say(hasWords(`detail.${rule}`) ? `detail.${rule}` : "detail.other", carried);
 }
 
-/** What the office answered, in a sentence. */
+/** What the office answered, in a sentence; an empty text where it said no more than that it is done. */
 export function replyText(entry) {
   if (entry.reply.rule) {
     const { rule, name, detail } = entry.reply;
@@ -71,7 +71,7 @@ export function replyText(entry) {
     return "";
   }
   const key = `reply.${entry.kind}`;
-  return hasWords(key) ? say(key, written(entry.kind, entry.reply)) : say("reply.done");
+  return hasWords(key) ? say(key, written(entry.kind, entry.reply)) : "";
 }
 
 /** What the clerk does about a refusal. Where the manual says to look further, that is what stands here. */
@@ -144,9 +144,10 @@ export function tellAnswer(told, further = []) {
   }
   const { entry } = told;
   const isDone = ["done", "repeated"].includes(entry.outcome);
+  const text = replyText(entry);
   const said = entry.reply.rule
     ? refusalLines(entry.reply)
-    : [make("p", { class: "reply strong" }, replyText(entry))];
+    : [text ? make("p", { class: "reply strong" }, text) : null];
   const lines = [
     make("p", { class: "what" }, make("strong", {}, outcomeText(entry)), ` · ${subject(entry)}`),
     ...said,
@@ -195,12 +196,13 @@ export function confirmed(kind, facts) {
   pairs(byId("confirm-facts"), ...facts);
   return new Promise((resolve) => {
     const end = (is) => () => {
-      dialog.close();
       resolve(is);
+      dialog.close();
     };
     byId("confirm-yes").onclick = end(true);
     byId("confirm-no").onclick = end(false);
-    dialog.oncancel = () => resolve(false);
+    // By Escape, or by going to another view.
+    dialog.onclose = end(false);
     dialog.showModal();
     byId("confirm-no").focus();
   });

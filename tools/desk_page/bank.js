@@ -20,7 +20,11 @@ function showCheck(told) {
   const kind = state === "good" ? "good strong" : "bad strong";
   const lines = [make("p", { class: kind }, `${mark} ${say(`bank.${state}`)}`)];
   if (text) {
-    lines.push(make("pre", { id: "bank-check-text" }, text));
+    lines.push(make("p", { class: "hint" }, say("bank.told")),
+      make("pre", { id: "bank-check-text", lang: "en" }, text));
+  }
+  if (state === "good") {
+    lines.push(make("p", { class: "hint" }, say("bank.unregistered")));
   }
   result.replaceChildren(...lines);
   byId("bank-import").disabled = state === "faulty";
@@ -29,6 +33,7 @@ function showCheck(told) {
 async function choose(file) {
   chosen = file;
   byId("bank-import").disabled = true;
+  byId("bank-hint").hidden = true;
   byId("bank-name").hidden = false;
   byId("bank-name").textContent = say("bank.file", { name: file.name, bytes: file.size });
   if (file.size > MOST_BYTES) {
@@ -45,6 +50,7 @@ async function choose(file) {
 function clear() {
   chosen = null;
   byId("form-bank").reset();
+  byId("bank-hint").hidden = false;
   byId("bank-name").hidden = true;
   byId("bank-check").replaceChildren();
   byId("bank-import").disabled = true;

@@ -90,6 +90,9 @@ function begin() {
     byId("main").focus();
   });
   addEventListener("hashchange", () => {
+    for (const dialog of document.querySelectorAll("dialog[open]")) {
+      dialog.close();
+    }
     if (!keepsAnswer) {
       clearAnswer();
       byId("main").focus({ preventScroll: true });

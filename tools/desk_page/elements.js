@@ -50,21 +50,23 @@ export function beginDrop(id, take) {
 }
 
 /** A table with a caption and headers. A column is the key of its words and the class of its cells; a row is
- * an array of cells, each a text or an element, the first of them its header. */
+ * an array of cells, each a text or an element, the first of them its header. The roles are said, since the
+ * styles of a narrow window, where a row is a block, take them away. */
 export function table(id, caption, columns, rows) {
-  const heads = columns.map(([word, kind]) => make("th", { scope: "col", class: kind }, say(word)));
-  const body = make("tbody");
+  const heads = columns.map(([word, kind]) =>
+    make("th", { scope: "col", role: "columnheader", class: kind }, say(word)));
+  const body = make("tbody", { role: "rowgroup" });
   for (const { cells, attributes } of rows) {
     const made = cells.map((cell, place) => {
       const kind = columns[place][1];
       return place === 0
-        ? make("th", { scope: "row", class: kind }, cell)
-        : make("td", { class: kind, "data-column": say(columns[place][0]) }, cell);
+        ? make("th", { scope: "row", role: "rowheader", class: kind }, cell)
+        : make("td", { role: "cell", class: kind, "data-column": say(columns[place][0]) }, cell);
     });
-    body.append(make("tr", attributes ?? {}, ...made));
+    body.append(make("tr", { role: "row", ...attributes }, ...made));
   }
-  const head = make("thead", {}, make("tr", {}, ...heads));
-  const whole = make("table", { id }, make("caption", {}, caption), head, body);
+  const head = make("thead", { role: "rowgroup" }, make("tr", { role: "row" }, ...heads));
+  const whole = make("table", { id, role: "table" }, make("caption", {}, caption), head, body);
   // It scrolls by itself where the window is narrow, by keyboard too.
   return make("div", { class: "scroll", tabindex: "0", role: "region", "aria-label": caption }, whole);
 }

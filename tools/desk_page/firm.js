@@ -3,7 +3,7 @@
 import { tellFault } from "./answers.js";
 import { get, theSession } from "./api.js";
 import { button, byId, make, makeSvg, pairs, row, table } from "./elements.js";
-import { beginForm } from "./forms.js";
+import { beginForm, claimActions, clearFields } from "./forms.js";
 import { day, euros, month } from "./formats.js";
 import { beginReport, openReport } from "./report.js";
 import { say } from "./words.js";
@@ -42,10 +42,12 @@ function bar(charge, most) {
 }
 
 function paymentLines(payments) {
-  const lines = payments.slice(0, MOST_PAYMENTS).map((it) =>
-    make("li", {}, `${day(it.day)} · ${euros(it.cents)} · ${it.reference}`));
-  if (payments.length > MOST_PAYMENTS) {
-    lines.push(make("li", {}, say("statement.more", { count: payments.length - MOST_PAYMENTS })));
+  const lines = payments.slice(0, MOST_PAYMENTS).map((it) => make("li", {},
+    make("span", {}, day(it.day)), " ", make("span", { class: "amount" }, euros(it.cents)), " ",
+    make("span", {}, it.reference)));
+  const count = payments.length - MOST_PAYMENTS;
+  if (count > 0) {
+    lines.push(make("li", { class: "more" }, say("statement.more", { count })));
   }
   return lines.length ? make("ul", { class: "plain small" }, ...lines) : null;
 }
@@ -63,7 +65,8 @@ function chargeRow(charge, most) {
   });
   const version = make("span", { class: "under quiet small" }, say("statement.version", charge));
   const payments = make("div", {}, bar(charge, most), paymentLines(charge.payments));
-  const amounts = [charge.contribution, charge.paid, charge.open, charge.interest].map(euros);
+  const open = charge.open === "0" ? euros(charge.open) : make("strong", {}, euros(charge.open));
+  const amounts = [euros(charge.contribution), euros(charge.paid), open, euros(charge.interest)];
   return {
     cells: [make("span", {}, month(charge.month), version), day(charge.due), ...amounts, payments, correct],
     attributes: { "data-month": charge.month },
@@ -129,21 +132,9 @@ function showMonths(statement) {
     : "");
 }
 
-function fillIn(id, value) {
-  byId(id).value = String(value);
-  byId(id).focus();
-}
-
 function claimRow(claim) {
-  const actions = make("span", { class: "buttons" });
-  if (claim.state === "open") {
-    actions.append(
-      button(say("withdraw.button"), () => fillIn("withdraw-claim", claim.claim),
-        { "aria-label": say("withdraw.claim", claim) }),
-      make("a", { class: "button", href: `#/worker/${claim.worker}` }, say("release.button")));
-  }
   return row(String(claim.claim), make("a", { href: `#/worker/${claim.worker}` }, String(claim.worker)),
-    euros(claim.cents), say(`state.${claim.state}`), actions);
+    euros(claim.cents), say(`state.${claim.state}`), claimActions(claim, () => showFirm(shown)));
 }
 
 function showClaims(claims) {
@@ -178,7 +169,7 @@ export async function showFirm(number) {
   shown = number;
   byId("firm-choose").hidden = Boolean(number);
   byId("firm-shown").hidden = true;
-  byId("firm-title").textContent = number ?? say("firm.title");
+  byId("firm-title").textContent = number ? `${say("firm.title")} ${number}` : say("firm.title");
   if (!number) {
     showRecent(theSession().recent);
     return;
@@ -206,6 +197,7 @@ export async function showFirm(number) {
 function openForms(number) {
   for (const kind of ["report", "claim", "withdraw", "end"]) {
     byId(`form-${kind}`).reset();
+    clearFields(byId(`form-${kind}`));
     byId(`${kind}-employer`).value = number;
   }
   openReport(null, null);

@@ -2,8 +2,8 @@
 
 import { clearAnswer, confirmed, tellAnswer, toldLines, written } from "./answers.js";
 import { fieldsOf, get, sendForm } from "./api.js";
-import { byId, make } from "./elements.js";
-import { say } from "./words.js";
+import { button, byId, make } from "./elements.js";
+import { currentLanguage, say } from "./words.js";
 
 // Forms that name a firm which should be there: its name is shown before the second click.
 const OF_A_FIRM = ["assign", "end"];
@@ -55,15 +55,16 @@ async function factsOf(kind, values, tell) {
   return firm && [firm, ...facts.filter(([word]) => word !== "label.employer")];
 }
 
-/** Sends a command. Where it is for good, the desk first says what it has read, and wants a second click.
- * What became of it; null where nothing was sent, and `tell` has told why. */
-export async function sendCommand(kind, fields, tell) {
+/** Sends a command. Where it is for good, the desk first says what it has read, and wants a second click,
+ * beside which these further facts stand. What became of it; null where nothing was sent, and `tell` has told
+ * why. */
+async function sendCommand(kind, fields, tell, further = []) {
   const path = `/api/commands/${kind}`;
   clearAnswer();
   let told = await sendForm(path, kind, fields);
   if (told.fault === "unconfirmed") {
     const facts = await factsOf(kind, told.carried.values, tell);
-    if (facts === null || !await confirmed(kind, facts)) {
+    if (facts === null || !await confirmed(kind, [...facts, ...further])) {
       return null;
     }
     told = await sendForm(path, kind, fields, true);
@@ -92,9 +93,9 @@ function teller(form) {
 }
 
 /** Sends a form. What became of it; null where nothing was sent. */
-export async function submit(form) {
+async function submit(form, further) {
   clearFields(form);
-  const told = await sendCommand(form.dataset.form, fieldsOf(form), teller(form));
+  const told = await sendCommand(form.dataset.form, fieldsOf(form), teller(form), further);
   if (told) {
     form.closest("dialog")?.close();
     if (tellAnswer(told)) {
@@ -104,8 +105,9 @@ export async function submit(form) {
   return told;
 }
 
-/** Has a form send itself, one at a time, and calls this with what became of it. */
-export function beginForm(id, done) {
+/** Has a form send itself, one at a time, and calls this with what became of it. What it is about may have
+ * more facts than its fields. */
+export function beginForm(id, done, further = () => []) {
   const form = byId(id);
   form.addEventListener("submit", async (event) => {
     event.preventDefault();
@@ -113,12 +115,38 @@ export function beginForm(id, done) {
       return;
     }
     form.dataset.isBusy = "yes";
-    const told = await submit(form);
+    const told = await submit(form, further());
     delete form.dataset.isBusy;
     if (told) {
       done(told);
     }
   });
+}
+
+/** The buttons of a claim in a table, none where it isn't open any more; calls this when one of them was
+ * answered. */
+export function claimActions(claim, done) {
+  const fields = {
+    language: currentLanguage(), claim: String(claim.claim), employer: String(claim.employer),
+  };
+  let isBusy = false;
+  const act = async (kind) => {
+    if (isBusy) {
+      return;
+    }
+    isBusy = true;
+    const told = await sendCommand(kind, fields, tellAnswer);
+    isBusy = false;
+    if (told) {
+      tellAnswer(told);
+      done();
+    }
+  };
+  const kinds = claim.state === "open" ? ["release", "withdraw"] : [];
+  return make("span", { class: "buttons" }, ...kinds.map((kind) =>
+    button(say(`${kind}.button`), () => act(kind), {
+      class: kind, "data-claim": String(claim.claim), "aria-label": say(`${kind}.claim`, claim),
+    })));
 }
 
 /** Has a form that only asks take its number to this function. */

@@ -19,7 +19,8 @@ export async function showLog() {
   }
   byId("log-folder").textContent = say("log.folder", theSession());
   const rows = told.log.toReversed().map((entry) => ({
-    ...row(time(entry.time), String(entry.number), outcomeText(entry), subject(entry), replyText(entry)),
+    ...row(time(entry.time), String(entry.number), outcomeText(entry), subject(entry),
+      replyText(entry) || say("dash")),
     attributes: { "data-number": String(entry.number), "data-outcome": entry.outcome },
   }));
   byId("log-lines").replaceChildren(rows.length

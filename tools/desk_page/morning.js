@@ -13,6 +13,8 @@ const PAGE = 200;
 let first = 0;
 // The day on which the office works.
 let officeDay = null;
+// What is told of the line that is being assigned, beside its reference.
+let lineFacts = [];
 
 function firmLink(employer) {
   return employer ? make("a", { href: `#/firm/${employer}` }, String(employer)) : say("dash");
@@ -26,9 +28,9 @@ function openAssign(line) {
   clearFields(byId("form-assign"));
   byId("assign-reference").value = line.reference;
   byId("assign-employer").value = line.employer ?? "";
-  pairs(byId("assign-facts"), ["label.reference", line.reference], ["label.value", day(line.day)],
-    ["column.amount", euros(line.cents)], ["column.purpose", say(`purpose.${line.purpose}`)],
-    ["column.note", line.note || say("dash")]);
+  lineFacts = [["label.value", day(line.day)], ["column.amount", euros(line.cents)],
+    ["column.purpose", say(`purpose.${line.purpose}`)], ["column.note", line.note || say("dash")]];
+  pairs(byId("assign-facts"), ["label.reference", line.reference], ...lineFacts);
   byId("assign-dialog").showModal();
   byId("assign-employer").focus();
 }
@@ -151,8 +153,10 @@ async function showMade(kind, { entry, known }) {
   }
 }
 
-export async function showMorning() {
+async function showMorning() {
   const told = await get(`/api/suspense/${first}`);
+  // Where the office doesn't answer, nothing is said of what is in suspense.
+  byId("suspense").hidden = told.text === undefined;
   if (told.text === undefined) {
     tellFault(told);
     return;
@@ -168,7 +172,7 @@ function isDone(told) {
 
 export function beginMorning() {
   beginBank(showMorning);
-  beginForm("form-assign", showMorning);
+  beginForm("form-assign", showMorning, () => lineFacts);
   beginForm("form-release", showMorning);
   byId("assign-cancel").addEventListener("click", () => byId("assign-dialog").close());
   for (const kind of ["payouts", "reminders"]) {

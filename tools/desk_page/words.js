@@ -40,7 +40,7 @@ export function say(key, carried = {}) {
 export const hasWords = (key) => key in words;
 
 /** Puts the words into all elements that name their keys. */
-export function sayAll() {
+function sayAll() {
   document.documentElement.lang = language;
   document.title = say("title");
   for (const element of document.querySelectorAll("[data-word]")) {

@@ -1,37 +1,18 @@
 // A worker: what was earned with each firm, the claims, the balance; open claims are released or withdrawn
 // from here.
 
-import { tellAnswer, tellFault } from "./answers.js";
+import { tellFault } from "./answers.js";
 import { get } from "./api.js";
-import { button, byId, make, pairs, row, table } from "./elements.js";
-import { beginFinder, sendCommand } from "./forms.js";
+import { byId, make, pairs, row, table } from "./elements.js";
+import { beginFinder, claimActions } from "./forms.js";
 import { day, euros, month } from "./formats.js";
-import { currentLanguage, say } from "./words.js";
+import { say } from "./words.js";
 
 let shown = null;
 
-async function act(kind, claim) {
-  const fields = {
-    language: currentLanguage(), claim: String(claim.claim), employer: String(claim.employer),
-  };
-  const told = await sendCommand(kind, fields, tellAnswer);
-  if (told) {
-    tellAnswer(told);
-    await showWorker(shown);
-  }
-}
-
 function claimRow(claim) {
-  const actions = make("span", { class: "buttons" });
-  if (claim.state === "open") {
-    for (const kind of ["release", "withdraw"]) {
-      actions.append(button(say(`${kind}.button`), () => act(kind, claim), {
-        class: kind, "data-claim": String(claim.claim), "aria-label": say(`${kind}.claim`, claim),
-      }));
-    }
-  }
   return row(String(claim.claim), make("a", { href: `#/firm/${claim.employer}` }, String(claim.employer)),
-    say(`state.${claim.state}`), euros(claim.cents), actions);
+    say(`state.${claim.state}`), euros(claim.cents), claimActions(claim, () => showWorker(shown)));
 }
 
 /** The sum of amounts, which come as digits: exact, whatever it comes to. */
