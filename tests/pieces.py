@@ -205,6 +205,7 @@ class Pieces(ProgramUnderTest):
                 scenario = Scenario(office, 20240410)
                 for firm in office.firms.values():
                     office.register(firm)
+            office.connection.close()
             office.connection = http.client.HTTPConnection("127.0.0.1", server.port, timeout=60)
             for _ in range(REQUESTS):
                 scenario.take()
