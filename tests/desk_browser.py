@@ -10,6 +10,7 @@ docs/rules.md by hand.
 
 import re
 import sys
+import time
 import unittest
 from pathlib import Path
 
@@ -388,8 +389,18 @@ class Page(InBrowser):
             feature = {"features": [{"name": "prefers-color-scheme", "value": scheme}]}
             self.browser.driver.execute_cdp_cmd("Emulation.setEmulatedMedia", feature)
             for view in self.each_view():
-                self.assertEqual(self.browser.run(self.CONTRAST), [], (scheme, view))
+                self.assertEqual(self.poor_contrast(), [], (scheme, view))
         self.browser.driver.execute_cdp_cmd("Emulation.setEmulatedMedia", {"features": []})
+
+    def poor_contrast(self):
+        """What is hard to read, once the colours of the last click have changed."""
+        found = []
+        for _ in range(20):
+            found = self.browser.run(self.CONTRAST)
+            if not found:
+                break
+            time.sleep(0.1)
+        return found
 
     def test_narrow_and_wide(self):
         """Nothing lies beside the window or a table's place, where a clerk would have to move it to see it."""

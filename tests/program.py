@@ -179,7 +179,7 @@ class Init(Program):
 
     def test_a_store_of_another_build_is_left_as_it_is(self):
         changes = (
-            "CREATE TABLE pieces (employer INTEGER NOT NULL, month INTEGER NOT NULL, cents INTEGER NOT NULL) STRICT",
+            "CREATE TABLE sums (employer INTEGER NOT NULL, month INTEGER NOT NULL, cents INTEGER NOT NULL) STRICT",
             "CREATE INDEX wages_by_gross ON wages (gross)",
             "DROP INDEX wages_by_worker",
             "DROP INDEX claims_by_worker",
@@ -191,6 +191,7 @@ class Init(Program):
             "ALTER TABLE lists RENAME COLUMN total TO sum",
             "DROP TABLE reminders",
             "DROP TABLE charges",
+            "DROP TABLE pieces",
         )
         for change in changes:
             with self.subTest(change):
