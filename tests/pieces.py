@@ -173,6 +173,26 @@ class Scenario:
             office.release(firm)
 
 
+def register(firm):
+    return "POST", "/employers", json.dumps({"employer": firm, "name": "Bau", "start": "2024-01"})
+
+
+def lines(gross, worker):
+    return [{"gross": gross, "worker": worker}] if gross else []
+
+
+def report(firm, month, gross, worker=7):
+    return "POST", f"/employers/{firm}/reports/{month}", json.dumps({"lines": lines(gross, worker)})
+
+
+def correction(firm, month, gross, worker=7):
+    return "PUT", f"/employers/{firm}/reports/{month}", json.dumps({"lines": lines(gross, worker), "version": 1})
+
+
+def bank(*records):
+    return "POST", "/bank", HEADER + "".join(f"{record}\n" for record in records)
+
+
 class Pieces(ProgramUnderTest):
     def rows(self, statement):
         store = sqlite3.connect(self.folder / "fund.db")
@@ -233,18 +253,67 @@ class Pieces(ProgramUnderTest):
         self.assertEqual(self.run_program("look", "fund.db")[0], 0)
         return office, firm
 
-    def test_worked_rows(self):
-        """January 2,000.00 and February 1,500.00, paid by 1,500.00 and 2,000.00; then January is corrected to
-        1,000.00: February is then paid by what January leaves of the first payment."""
-        _, firm = self.one_firm(
-            lambda office, firm: office.report(firm, 1, 1_000_000),
-            lambda office, firm: office.report(firm, 2, 750_000),
-            lambda office, firm: office.bank([(firm, "2024-02-25", 150_000, "C"), (firm, "2024-04-21", 200_000, "C")]))
+    def worked(self, *days):
+        """The pieces of a new store to which these requests were sent, each day's by a server of its own."""
+        for path in self.folder.glob("fund.db*"):
+            path.unlink()
+        self.init()
+        sent = 0
+        for day, requests in days:
+            server = self.serving(1_000, day)
+            self.connect(server).close()
+            office = Office(server, [])
+            office.sent = sent
+            for request in requests:
+                office.done(*request)
+            sent = office.sent
+            office.connection.close()
+            server.kill()
+            server.communicate()
+        self.assertEqual(self.run_program("look", "fund.db")[0], 0)
+        return self.kept()
+
+    def test_worked_accounts(self):
+        """Accounts whose pieces were reckoned by hand: two months and two payments, then a month corrected, a payment
+        dated before the others, the later month corrected; a month without lines that is corrected."""
         january, february = 24 * 12, 24 * 12 + 1
-        first, second = day_number("2024-02-25"), day_number("2024-04-21")
-        self.assertEqual(self.kept(), [
-            (1001, january, first, 1, 150_000, "B1"), (1001, january, second, 2, 50_000, "B2"),
-            (1001, february, second, 2, 150_000, "B2")])
+        day = "2024-04-30"
+        first, second, early = (day_number(it) for it in ("2024-02-25", "2024-04-21", "2024-02-20"))
+        account = [
+            register(1001), report(1001, "2024-01", 1_000_000), report(1001, "2024-02", 500_050),
+            bank("B1,2024-02-25,1001,150000,C,", "B2,2024-04-21,1001,200000,C,")]
+        paid = (1001, january, first, 1, 150_000, "B1"), (1001, january, second, 2, 50_000, "B2")
+        self.assertEqual(self.worked((day, account)), [*paid, (1001, february, second, 2, 100_010, "B2")])
+        corrected = [*account, correction(1001, "2024-01", 500_000)]
+        self.assertEqual(self.worked((day, corrected)), [
+            (1001, january, first, 1, 100_000, "B1"),
+            (1001, february, first, 1, 50_000, "B1"), (1001, february, second, 2, 50_010, "B2")])
+        late = [*account, bank("B3,2024-02-20,1001,60000,C,")]
+        self.assertEqual(self.worked((day, late)), [
+            (1001, january, early, 3, 60_000, "B3"), (1001, january, first, 1, 140_000, "B1"),
+            (1001, february, first, 1, 10_000, "B1"), (1001, february, second, 2, 90_010, "B2")])
+        lower = [*account, correction(1001, "2024-02", 400_000)]
+        self.assertEqual(self.worked((day, lower)), [*paid, (1001, february, second, 2, 80_000, "B2")])
+        nothing = [
+            register(1003), report(1003, "2024-01", 0), report(1003, "2024-02", 500_050),
+            bank("C1,2024-03-20,1003,100010,C,")]
+        march = day_number("2024-03-20")
+        self.assertEqual(self.worked((day, nothing)), [(1003, february, march, 1, 100_010, "C1")])
+        self.assertEqual(self.worked((day, [*nothing, correction(1003, "2024-01", 100_000)])), [
+            (1003, january, march, 1, 20_000, "C1"), (1003, february, march, 1, 80_010, "C1")])
+
+    def test_a_set_off_that_is_prepaid_later(self):
+        """A release sets 300.00 off, the rest of January; January is then corrected to what the bank line has paid."""
+        january, line, released = 24 * 12, day_number("2024-02-21"), day_number("2024-03-10")
+        before = "2024-03-10", [
+            register(1002), register(1004), report(1002, "2024-01", 400_000, 9), report(1004, "2024-01", 250_000, 9),
+            bank("D1,2024-02-21,1004,20000,C,"),
+            ("POST", "/employers/1004/claims", json.dumps({"cents": 80_000, "worker": 9})),
+            ("POST", "/claims/1/release", "")]
+        self.assertEqual(self.worked(before), [
+            (1004, january, line, 1, 20_000, "D1"), (1004, january, released, 2, 30_000, "set-off 1")])
+        after = "2024-03-12", [correction(1004, "2024-01", 100_000, 9)]
+        self.assertEqual(self.worked(before, after), [(1004, january, line, 1, 20_000, "D1")])
 
     def test_a_correction_that_leaves_the_contribution(self):
         """Nothing is written: a wrong piece that stands keeps its cents."""
