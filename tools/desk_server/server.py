@@ -34,6 +34,8 @@ def refusal(fault: Fault) -> Response:
 class Handler(http.server.BaseHTTPRequestHandler):
     protocol_version = "HTTP/1.1"
     timeout = SOCKET_SECONDS
+    # A head and its body go out together.
+    wbufsize = -1
     server: "Server"
 
     def version_string(self) -> str:
@@ -125,6 +127,7 @@ class Handler(http.server.BaseHTTPRequestHandler):
         self.end_headers()
         if self.command != "HEAD":
             self.wfile.write(response.content)
+        self.wfile.flush()
         if response.status >= 400:
             self.drop_rest()
 
