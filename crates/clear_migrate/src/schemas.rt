@@ -1,9 +1,9 @@
 //! The number of a database's schema, and a store brought to this program's.
-ghost use Rattle.std.specs.Prelude.{◌≡◌, ◌≢◌, false, true, ℕ, Ok, Err, IsTrue, OnOk};
+ghost use Rattle.std.specs.Prelude.{◌≡◌, ◌≢◌, false, true, ℕ, Ok, Err, IsTrue, IfErr, OnOk};
 ghost use Rattle.sqlite.specs.Held.{state};
 ghost use Rattle.sqlite.specs.State.{HasCleanDisk, Survives};
 ghost use Rattle.clear_values.specs.Tables.{Tables};
-ghost use Rattle.clear_schema.specs.Faults.{other_layout};
+ghost use Rattle.clear_schema.specs.Faults.{IsWrong, other_layout};
 ghost use Rattle.clear_schema.specs.Held.{HasOtherLayout, HasTables, TellsSchema, this_schema};
 ghost use Rattle.clear_schema.specs.Opening.{HasMetaOrNothing, IsBelowZero};
 ghost use Rattle.clear_schema.specs.Schema.{no_schema, store_schema};
@@ -70,6 +70,9 @@ pub fn to_current<S: Alter>(conn: &mut Connection<S>) -> Result<Migration, OpenF
         → AnswersOrFails (Err (OpenFault.WrongVersion number)) result }
     ensures other { HasCleanDisk (state S.Store conn.new)
         → HasOtherLayout (state S.Store conn.old).now → AnswersOrFails (Err other_layout) result }
+    ensures version { HasCleanDisk (state S.Store conn.new)
+        → (number : ℕ) → TellsSchema number (state S.Store conn.old).now
+        → IfErr result (IsWrong this_schema number) }
     ensures empty { HasCleanDisk (state S.Store conn.new)
         → (state S.Store conn.old).now.schema ≡ no_schema
         → AnswersOrFails (Err (OpenFault.WrongVersion 0)) result }
@@ -103,6 +106,7 @@ fn current_if(number: u64, ours: bool) -> Result<Migration, OpenFault>
     ensures current { number ≡ this_schema → ours ≡ true → result ≡ Ok Migration.AlreadyCurrent }
     ensures another { number ≢ this_schema → result ≡ Err (OpenFault.WrongVersion number) }
     ensures other { number ≡ this_schema → ours ≡ false → result ≡ Err other_layout }
+    ensures version { IfErr result (IsWrong this_schema number) }
     ensures only_this { OnOk result (number ≡ this_schema) }
     ensures only_ours { OnOk result (IsTrue ours) }
 {

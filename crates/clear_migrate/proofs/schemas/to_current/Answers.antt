@@ -1,10 +1,11 @@
-use Rattle.std.proofs.Common.{◌∙◌, Err, ap, inl, sym}
+use Rattle.std.proofs.Common.{◌∙◌, Err, IfErr, ap, inl, subst, sym}
 use Rattle.sqlite.specs.Held.{state}
+use Rattle.clear_schema.specs.Faults.{IsWrong}
 use Rattle.clear_schema.specs.Held.{this_schema}
 use Rattle.clear_schema.specs.Schema.{this_layout}
 use Rattle.clear_schema.specs.declared.fault.OpenFault.TheVariants.{WrongVersion}
 use Rattle.clear_schema.proofs.OpenLemmas.{store_tells}
-use Rattle.clear_migrate.proofs.AnswerLemmas.{fails_so, not_true, on_ok_so, told_is}
+use Rattle.clear_migrate.proofs.AnswerLemmas.{fails_so, fails_untold, not_true, on_ok_so, told_is}
 use Rattle.clear_migrate.proofs.schemas.to_current.Goals as goal
 
 pub returns-in-Ok-clause-current : goal.returns-in-Ok-clause-current
@@ -37,3 +38,11 @@ returns-in-Err-clause-another g c clean number tells other =
 pub returns-in-Err-clause-other : goal.returns-in-Err-clause-other
 returns-in-Err-clause-other g c clean has =
     fails_so this_schema _ c.in-Err.fault (c.in-Err.ensures.told clean this_schema has.tells)
+
+pub returns-in-Ok-clause-version : goal.returns-in-Ok-clause-version
+returns-in-Ok-clause-version g c clean number tells =
+    subst (λ n. IfErr c.current_if.result (IsWrong this_schema n)) (told_is c.in-Ok.number number (c.in-Ok.ensures.told clean number tells)) c.current_if.ensures.version
+
+pub returns-in-Err-clause-version : goal.returns-in-Err-clause-version
+returns-in-Err-clause-version g c clean number tells =
+    fails_untold number this_schema number c.in-Err.fault (c.in-Err.ensures.told clean number tells)
