@@ -1,4 +1,4 @@
-"""A look at a store, and copies of it, by the built program on real files.
+"""A look at a store, copies of it, and its schema, by the built program on real files.
 
     python3 tests/stores.py [PROGRAM]
 
@@ -87,6 +87,37 @@ class Stores(ProgramUnderTest):
         return {path.name: path.read_bytes() for path in self.folder.iterdir()
                 if path.is_file() and not path.name.endswith("-wal")}
 
+    def damaged(self):
+        content = bytearray((self.folder / "fund.db").read_bytes())
+        content[4096 + 8:4096 + 40] = b"\xff" * 32
+        return content
+
+    def change(self, name, statement):
+        store = sqlite3.connect(self.folder / name)
+        store.execute(statement)
+        store.commit()
+        store.close()
+
+    def copy(self, name, *statements):
+        """The store under another name, changed by these statements."""
+        self.write(name, (self.folder / "fund.db").read_bytes())
+        for it in statements:
+            self.change(name, it)
+
+    def other_databases(self):
+        """Files that aren't stores of this program, in a folder where there is one; and what each is refused with."""
+        self.write("empty", "")
+        self.write("text", "a text of more than nothing\n" * 200)
+        self.write("other.db", "")
+        self.change("other.db", "CREATE TABLE note (id INTEGER PRIMARY KEY, title TEXT NOT NULL)")
+        self.write("damaged.db", bytes(self.damaged()))
+        self.copy("later.db", "UPDATE meta SET schema = 7")
+        self.copy("older.db", "DROP INDEX claims_by_list")
+        store, version = "rule 41 Store\n", "rule 43 WrongVersion {}\n"
+        return {
+            "no.db": store, "no/fund.db": store, ".": store, "empty": version.format(0), "text": store,
+            "damaged.db": store, "other.db": version.format(0), "later.db": version.format(7), "older.db": store}
+
 
 class Look(Stores):
     def test_a_new_store(self):
@@ -152,45 +183,23 @@ last run 1 2024-05-17
             "ledger day 2024-04-30", "requests 2", "greatest number of the desk 7", "firms 1", "reports 1"])
 
     def test_no_store_at_the_path(self):
-        self.write("empty", "")
-        self.write("text", "a text of more than nothing\n" * 200)
-        other = sqlite3.connect(self.write("other.db", ""))
-        other.execute("CREATE TABLE note (id INTEGER PRIMARY KEY, title TEXT NOT NULL)")
-        other.commit()
-        other.close()
         self.filled()
-        self.write("damaged.db", bytes(self.damaged()))
-        self.write("later.db", (self.folder / "fund.db").read_bytes())
-        self.write("older.db", (self.folder / "fund.db").read_bytes())
-        self.change("later.db", "UPDATE meta SET schema = 7")
-        self.change("older.db", "DROP INDEX claims_by_list")
+        refused = self.other_databases()
         before = self.content()
-        store, version = "rule 41 Store\n", "rule 43 WrongVersion {}\n"
         for path, told in {
-            "no.db": store + "there is nothing at this path\n",
-            "no/fund.db": store + "there is nothing at this path\n",
-            ".": store + "this is a folder\n",
-            "empty": version.format(0) + "this file is empty\n",
-            "text": store + "this file is no database, or a damaged one\n",
-            "damaged.db": store + "its tables can't be read, or an earlier build of this program made them\n",
-            "other.db": version.format(0) + "this database is no store of this program\n",
-            "later.db": version.format(7) + "this store has schema 7, and this program's is 0\n",
-            "older.db": store + "its tables can't be read, or an earlier build of this program made them\n",
+            "no.db": "there is nothing at this path\n",
+            "no/fund.db": "there is nothing at this path\n",
+            ".": "this is a folder\n",
+            "empty": "this file is empty\n",
+            "text": "this file is no database, or a damaged one\n",
+            "damaged.db": "its tables can't be read, or an earlier build of this program made them\n",
+            "other.db": "this database is no store of this program\n",
+            "later.db": "this store has schema 7, and this program's is 0\n",
+            "older.db": "its tables can't be read, or an earlier build of this program made them\n",
         }.items():
             with self.subTest(path):
-                self.expect(["look", path], 3, "", told)
+                self.expect(["look", path], 3, "", refused[path] + told)
         self.assertEqual(self.content(), before)
-
-    def damaged(self):
-        content = bytearray((self.folder / "fund.db").read_bytes())
-        content[4096 + 8:4096 + 40] = b"\xff" * 32
-        return content
-
-    def change(self, name, statement):
-        store = sqlite3.connect(self.folder / name)
-        store.execute(statement)
-        store.commit()
-        store.close()
 
     def test_a_store_that_is_held(self):
         self.filled()
@@ -200,6 +209,74 @@ last run 1 2024-05-17
             peer.shutdown(1)
             self.read_all(peer)
         self.assertEqual(self.ended(server), (0, "served 1\n", ""))
+
+
+class Migrate(Stores):
+    """There is one schema so far: a store has it, or is refused, and nothing changes."""
+
+    def test_a_current_store(self):
+        self.init()
+        self.expect(["migrate", "fund.db"], 0, "schema 0\n")
+        self.filled_further()
+        before = self.content()
+        for _ in range(2):
+            self.expect(["migrate", "fund.db"], 0, "schema 0\n")
+        self.assertEqual(self.content(), before)
+
+    def filled_further(self):
+        self.assertEqual(self.served(REGISTRATION + JANUARY).count(b"HTTP/1.1 200 OK"), 2)
+
+    def test_what_was_acknowledged_before_a_kill(self):
+        self.killed()
+        self.expect(["migrate", "fund.db"], 0, "schema 0\n")
+        # All is in the file of the store.
+        (self.folder / "fund.db-wal").unlink()
+        self.assertEqual(self.run_program("look", "fund.db")[1].splitlines()[2], "requests 2")
+
+    def test_other_files(self):
+        self.filled()
+        refused = self.other_databases()
+        before = self.content()
+        for path, told in refused.items():
+            with self.subTest(path):
+                self.expect(["migrate", path], 3, "", told)
+        self.assertEqual(self.content(), before)
+        self.assertFalse((self.folder / "no.db").exists())
+        self.assertFalse((self.folder / "empty-wal").exists())
+
+    def test_numbers(self):
+        self.filled()
+        for number, told in {1: "rule 43 WrongVersion 1\n", 9: "rule 43 WrongVersion 9\n",
+                             2**63 - 1: f"rule 43 WrongVersion {2**63 - 1}\n",
+                             -1: "rule 41 Store\n", -2**63: "rule 41 Store\n"}.items():
+            with self.subTest(number):
+                self.copy("copy.db", f"UPDATE meta SET schema = {number}")
+                before = self.content()
+                self.expect(["migrate", "copy.db"], 3, "", told)
+                self.assertEqual(self.content(), before)
+
+    def test_a_number_beside_other_tables(self):
+        self.filled()
+        for number, told in {0: "rule 41 Store\n", 5: "rule 43 WrongVersion 5\n"}.items():
+            with self.subTest(number):
+                self.copy("copy.db", f"UPDATE meta SET schema = {number}", "CREATE TABLE note (id INTEGER PRIMARY KEY)")
+                self.expect(["migrate", "copy.db"], 3, "", told)
+        self.copy("copy.db", "DELETE FROM meta")
+        self.expect(["migrate", "copy.db"], 3, "", "rule 43 WrongVersion 0\n")
+
+    def test_a_store_that_is_held(self):
+        self.filled()
+        server = self.serving(1)
+        with self.connect(server) as peer:
+            self.expect(["migrate", "fund.db"], 3, "", "rule 41 Store\n")
+            peer.shutdown(1)
+            self.read_all(peer)
+        self.assertEqual(self.ended(server), (0, "served 1\n", ""))
+
+    def test_a_closed_output(self):
+        self.init()
+        with open("/dev/full", "wb") as full:
+            self.assertEqual(self.run_program("migrate", "fund.db", stdout=full), (3, "", "fault stream\n"))
 
 
 class Backup(Stores):
