@@ -97,7 +97,7 @@ class Words(Program):
             "serve fund.db callers.toml 2024-04-30 65536 1",
             "serve fund.db callers.toml 2024-04-30 8080 0",
             "serve fund.db callers.toml 2024-04-30 8080 1000001",
-            "migrate fund.db",
+            "migrate",
             "look",
             "look fund.db more",
             "check rates.toml",

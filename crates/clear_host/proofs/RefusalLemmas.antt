@@ -6,7 +6,7 @@ use Rattle.sqlite.specs.Held.{state}
 use Rattle.sqlite.specs.State.{HasCleanDisk}
 use Rattle.clear_schema.specs.Faults.{IsWrong, other_layout}
 use Rattle.clear_schema.specs.declared.fault.Fault.TheVariants.{Memory, Store}
-use Rattle.clear_values.specs.declared.causes.StoreCause.TheVariants.{Constraint, Row, Other}
+use Rattle.clear_book.specs.declared.rules.StoreCause.TheVariants.{Constraint, Row, Other}
 use Rattle.clear_migrate.specs.Answered.{AnswersOrFails}
 use Rattle.clear_schema.specs.declared.fault.OpenFault.{OpenFault}
 use Rattle.clear_schema.specs.declared.fault.OpenFault.TheVariants.{WrongVersion, Failed}
