@@ -1,5 +1,8 @@
 use Rattle.sqlite.specs.Files.{over_files}
 use Rattle.sqlite_wal.specs.Files.{image_at}
+use Rattle.clear_schema.specs.Faults.{IsWrong}
+use Rattle.clear_schema.specs.Held.{this_schema}
+use Rattle.clear_host.specs.Contents.{TellsOnly, TellsOther}
 use Rattle.clear_host.proofs.RefusalLemmas.{unconnected}
 use Rattle.clear_host.proofs.migrations.bring_to_current.Goals as goal
 
@@ -28,10 +31,10 @@ pub returns-in-Ok-clause-other : goal.returns-in-Ok-clause-other
 returns-in-Ok-clause-other g c = c.bring.ensures.other (image_at g.S.Start) c.in-Ok.ensures.sees
 
 pub returns-in-Err-clause-version : goal.returns-in-Err-clause-version
-returns-in-Err-clause-version g c number holds = unconnected over_files _ c.in-Err.refused c.in-Err.ensures.none
+returns-in-Err-clause-version g c number holds = unconnected over_files (IsWrong this_schema number) c.in-Err.refused c.in-Err.ensures.none
 
 pub returns-in-Err-clause-other : goal.returns-in-Err-clause-other
-returns-in-Err-clause-other g c holds = unconnected over_files _ c.in-Err.refused c.in-Err.ensures.none
+returns-in-Err-clause-other g c holds = unconnected over_files TellsOther c.in-Err.refused c.in-Err.ensures.none
 
 pub returns-in-Err-clause-empty : goal.returns-in-Err-clause-empty
-returns-in-Err-clause-empty g c nothing = unconnected over_files _ c.in-Err.refused c.in-Err.ensures.none
+returns-in-Err-clause-empty g c nothing = unconnected over_files (TellsOnly 0) c.in-Err.refused c.in-Err.ensures.none
