@@ -2,6 +2,7 @@
 """How long the desk's page takes from a click to what it shows, in a browser, by the browser's own clock.
 
     python3 bench/desk.py [PROGRAM] [--firms 1000] [--months 24] [--suspense 100] [--times 20] [--folder FOLDER]
+                          [--office PORT]
 
 PROGRAM is the built program where none is named. A new store gets so many firms, and so many months of each:
 every month each firm reports ten workers and pays in full by the bank's file, but for the last month, of which it
@@ -9,7 +10,10 @@ pays a half. So many lines of the bank are in suspense. Then a desk (tools/desk)
 and its page opened in a browser (tests/browser.py), which goes so many times to the page of a firm, to the
 morning's work, and to either by loading the page anew. The table has the median and the longest of each, from the
 click, or the beginning of the load, to the end of the second frame behind the moment at which the page says that
-it shows the view; and what the office alone took of it.
+it shows the view; and what the office alone took of it. Below it stands what a page that is loaded asks for.
+
+With --office, an office that is served on this port is asked in the place of a new one: it takes the key `desk` as a
+clerk's, and has so many firms from 1001 on.
 
 The files lie below FOLDER, /dev/shm where there is one, so that the figures are the programs' and not the disk's.
 """
@@ -22,6 +26,7 @@ import tempfile
 import time
 from pathlib import Path
 from statistics import median
+from types import SimpleNamespace
 
 sys.dont_write_bytecode = True
 HERE = Path(__file__).resolve().parent
@@ -36,19 +41,34 @@ DESK = HERE.parent / "tools/desk"
 # What takes too long, in seconds.
 MOST_FIRM, MOST_MORNING = 0.3, 1.0
 
-# Calls back with the milliseconds from now, or from the load of the page, until a view was drawn.
-UNTIL_SHOWN = """
-    const [view, begun, done] = arguments;
-    const told = () => done(performance.now() - begun);
-    const drawn = () => requestAnimationFrame(() => requestAnimationFrame(told));
-    const look = () => document.body.dataset.shown === view ? drawn() : setTimeout(look, 1);
-    look();"""
+# Calls back with the milliseconds from the click until the view was drawn.
 GO = """
     const [view, done] = arguments;
     document.body.dataset.shown = "";
     const begun = performance.now();
     location.hash = `#/${view}`;
-    (function () {%s})(view, begun, done);""" % UNTIL_SHOWN
+    const told = () => done(performance.now() - begun);
+    const drawn = () => requestAnimationFrame(() => requestAnimationFrame(told));
+    const look = () => document.body.dataset.shown === view ? drawn() : setTimeout(look, 1);
+    look();"""
+# In each page from its beginning, so that what the driver takes isn't counted: notes when a view was drawn.
+# `performance.now()` counts from the beginning of the load.
+WATCH = """{
+    const note = () => { globalThis.drawnAt = performance.now(); };
+    const watch = new MutationObserver(() => {
+      watch.disconnect();
+      requestAnimationFrame(() => requestAnimationFrame(note));
+    });
+    watch.observe(document, { subtree: true, attributeFilter: ["data-shown"] });
+  }"""
+LOADED = """
+    const [done] = arguments;
+    const look = () => globalThis.drawnAt === undefined ? setTimeout(look, 1) : done(drawnAt);
+    look();"""
+# The names and bytes of what a page was made of.
+ASKED = """
+    const asked = [...performance.getEntriesByType("navigation"), ...performance.getEntriesByType("resource")];
+    return asked.map((it) => [new URL(it.name).pathname, it.transferSize]);"""
 
 
 def fill(desk, options):
@@ -85,6 +105,11 @@ def make_office(options, folder):
     return server
 
 
+def office_on(port):
+    """An office that somebody else serves."""
+    return SimpleNamespace(address=("127.0.0.1", port), stop=lambda: None)
+
+
 def start_desk(office, folder):
     """A desk in front of an office. Its process and its address."""
     key = Path(folder, "desk.key")
@@ -115,13 +140,15 @@ def load(browser, address, view):
     """From the beginning of the load to the view, in a page of its own."""
     browser.driver.get("about:blank")
     browser.driver.get(f"{address}?lang=en#/{view}")
-    # `performance.now()` counts from the beginning of the load.
-    return browser.driver.execute_async_script(UNTIL_SHOWN, view, 0)
+    took = browser.driver.execute_async_script(LOADED)
+    browser.wait_for_view(view)
+    return took
 
 
 def measure(browser, office, address, options):
     """Each way with the milliseconds that it took, and what may be taken."""
     firms = [FIRST + place * options.firms // options.times for place in range(options.times)]
+    browser.driver.execute_cdp_cmd("Page.addScriptToEvaluateOnNewDocument", {"source": WATCH})
     browser.open(f"{address}?lang=en")
     yield "a firm, by a click", MOST_FIRM, [go(browser, f"firm/{no}", "new") for no in firms]
     yield "a firm, loaded", MOST_FIRM, [load(browser, address, f"firm/{no}") for no in firms]
@@ -144,6 +171,14 @@ def tell(found):
     return is_quick
 
 
+def tell_asked(browser, address):
+    """What the page of a firm asks for as it is loaded."""
+    load(browser, address, f"firm/{FIRST}")
+    asked = browser.run(ASKED)
+    names = ", ".join(name for name, _ in asked)
+    print(f"\nA firm's page: {len(asked)} requests, {sum(size for _, size in asked):,} bytes ({names}).")
+
+
 def read_options():
     parser = argparse.ArgumentParser(description=__doc__, formatter_class=argparse.RawDescriptionHelpFormatter)
     parser.add_argument("program", nargs="?", default=str(PROGRAM))
@@ -152,6 +187,7 @@ def read_options():
     parser.add_argument("--suspense", type=int, default=100)
     parser.add_argument("--times", type=int, default=20)
     parser.add_argument("--folder", default=MEMORY if os.path.isdir(MEMORY) else None)
+    parser.add_argument("--office", type=int, metavar="PORT", help="an office that is served already")
     return parser.parse_args()
 
 
@@ -160,11 +196,12 @@ def main():
     if missing := what_is_missing():
         sys.exit(missing)
     with tempfile.TemporaryDirectory(dir=options.folder) as folder:
-        office = make_office(options, folder)
+        office = office_on(options.office) if options.office else make_office(options, folder)
         desk, address = start_desk(office, folder)
         browser = Browser()
         try:
             is_quick = tell(measure(browser, office, address, options))
+            tell_asked(browser, address)
         finally:
             browser.end()
             desk.kill()

@@ -379,6 +379,20 @@ class Page(InBrowser):
             self.browser.wait_for_view(view)
             yield view
 
+    def test_a_load(self):
+        """The page is a few files. What its view needs is asked for beside them, and all of it once."""
+        self.browser.driver.get("about:blank")
+        self.browser.requested()
+        self.browser.open(self.address + "?lang=en#/firm/1001", "firm/1001")
+        asked = [it.partition("#")[0] for it in self.browser.requested() if not it.startswith("chrome:")]
+        paths = ["?lang=en", "api/firms/1001", "api/session", "desk.css", "desk.js", "words.en.json"]
+        # Whether the browser wants the page's sign is its own matter.
+        self.assertEqual(sorted(set(asked) | {self.address + "desk.svg"}),
+                         sorted(self.address + path for path in [*paths, "desk.svg"]))
+        self.assertEqual(len(asked), len(set(asked)))
+        offered = self.browser.run("return [...document.getElementById('recent-firms').options].map((it) => it.value)")
+        self.assertEqual(offered[0], "1001")
+
     def test_all_has_a_name(self):
         for view in self.each_view():
             self.assertEqual(self.browser.run(self.NAMELESS), [], view)

@@ -17,7 +17,7 @@ sys.dont_write_bytecode = True
 from program_under_test import ROOT, run_tests  # noqa: E402
 
 sys.path.append(str(ROOT / "tools"))
-from desk_server import amounts, documents, numbers  # noqa: E402
+from desk_server import amounts, assets, documents, joined, numbers  # noqa: E402
 from desk_server.faults import Fault  # noqa: E402
 from desk_server.forms import FORMS  # noqa: E402
 
@@ -142,6 +142,55 @@ class Page(unittest.TestCase):
         for name in SCRIPTS.values():
             for word in re.findall(r'byId\("([^"]+)"\)', name):
                 self.assertIn(word, [*ids, "bank-check-text"])
+
+
+class Joined(unittest.TestCase):
+    """The page's files as they are served: its scripts in one, and its styles in another."""
+
+    def test_all_scripts_are_in_it(self):
+        script = assets.read_script()
+        self.assertEqual(re.findall(r"^(?:import|export)\b.*", script, re.M), [])
+        self.assertEqual(sorted(re.findall(r"^\{ // (.*)$", script, re.M)), sorted(SCRIPTS))
+        for name, text in SCRIPTS.items():
+            for line in text.splitlines():
+                line = re.sub("^export ", "", line)
+                if not line.startswith("import "):
+                    self.assertIn(line + "\n", script, name)
+
+    def test_each_script_is_behind_those_that_it_imports(self):
+        script = assets.read_script()
+        for name, text in SCRIPTS.items():
+            for imported in re.findall(r'^import .* from "\./(.*)";$', text, re.M):
+                self.assertLess(script.index(f"{{ // {imported}\n"), script.index(f"{{ // {name}\n"))
+
+    def test_what_a_script_hands_on(self):
+        scripts = {
+            "a": 'import { one, two } from "./b.js";\n\none(two);\n',
+            "b": 'import { three } from "./c.js";\nexport const one = () => {};\n'
+                 "export async function two() {}\n",
+            "c": "export function three() {}\n",
+        }
+        self.assertEqual(joined.join_scripts(scripts, "a"), (
+            "const modules = {};\n"
+            "{ // c.js\nfunction three() {}\nmodules.c = { three };\n}\n"
+            "{ // b.js\nconst { three } = modules.c;\nconst one = () => {};\nasync function two() {}\n"
+            "modules.b = { one, two };\n}\n"
+            "{ // a.js\nconst { one, two } = modules.b;\n\none(two);\n}\n"))
+
+    def test_what_is_not_joined(self):
+        for script, told in (('import { b as c } from "./b.js";\n', "import"), ('import "./b.js";\n', "import"),
+                             ('import b from "./b.js";\n', "import"), ("export default 1;\n", "export"),
+                             ("export { b };\n", "export"), ("export let b = 1;\n", "export"),
+                             ('import { b } from "./c.js";\n', "isn't there"),
+                             ('import { b } from "./a.js";\n', "imports itself")):
+            with self.assertRaises(joined.NotJoined, msg=script) as caught:
+                joined.join_scripts({"a": script, "b": "export const b = 1;\n"}, "a")
+            self.assertIn(told, str(caught.exception))
+
+    def test_all_styles_are_in_it(self):
+        styles = assets.read_styles()
+        for path in PAGE.glob("*.css"):
+            self.assertEqual(styles.count(path.read_text(encoding="utf-8")), 1, path.name)
 
 
 class Readers(unittest.TestCase):

@@ -19,7 +19,10 @@ import unittest
 sys.dont_write_bytecode = True
 from desk_under_test import (  # noqa: E402
     DONE, DeskUnderTest, FakeOffice, answer_bytes, free_port, read_message)
-from program_under_test import NOBODY, run_tests  # noqa: E402
+from program_under_test import NOBODY, ROOT, run_tests  # noqa: E402
+
+sys.path.append(str(ROOT / "tools"))
+from desk_server import owners  # noqa: E402
 
 WORDS = ["--office", "8080", "--key-file", "desk.key", "--port", "0"]
 
@@ -207,6 +210,53 @@ class Safety(DeskUnderTest):
                 answer = read_message(peer)
             self.assertTrue(answer.startswith(b"HTTP/1.1 403 "), answer)
             self.assertTrue(answer.endswith(b'\r\n\r\n{"fault": "user", "carried": {}}'), answer)
+
+
+class Owners(unittest.TestCase):
+    """Whose connection it is, as the kernel answers and as it lists it."""
+
+    def setUp(self):
+        self.listener = socket.create_server(("127.0.0.1", 0))
+        self.listener.settimeout(30)
+        self.addCleanup(self.listener.close)
+
+    def connect(self):
+        """A connection's end here, and the addresses of the other end and of this one."""
+        peer = socket.create_connection(self.listener.getsockname())
+        self.addCleanup(peer.close)
+        connection, address = self.listener.accept()
+        self.addCleanup(connection.close)
+        return peer, address, connection.getsockname()
+
+    def owners(self, peer, here):
+        """By the list; the kernel's answer is the same, or none where it answers no such questions."""
+        listed = owners.listed_owner(peer, here)
+        self.assertIn(owners.asked_owner(peer, here), (None, listed))
+        return listed
+
+    def test_a_connection_of_ones_own(self):
+        _, peer, here = self.connect()
+        self.assertEqual(self.owners(peer, here), os.geteuid())
+        self.assertTrue(owners.is_own(peer, here))
+
+    @unittest.skipUnless(NOBODY, "only root can be another user")
+    def test_a_connection_of_another_user(self):
+        os.seteuid(NOBODY)
+        try:
+            _, peer, here = self.connect()
+        finally:
+            os.seteuid(0)
+        self.assertEqual(self.owners(peer, here), NOBODY)
+        self.assertFalse(owners.is_own(peer, here))
+
+    def test_no_connection(self):
+        """Both ends of one that has ended, one that never was, and one in whose place a port is listened on."""
+        other, peer, here = self.connect()
+        other.close()
+        nobody = ("127.0.0.1", 1)
+        for one, two in ((peer, here), (here, peer), (peer, nobody), (here, nobody)):
+            self.assertIsNone(self.owners(one, two))
+            self.assertFalse(owners.is_own(one, two))
 
 
 class Numbers(DeskUnderTest):

@@ -1,6 +1,7 @@
 """What the tests of the desk share: an office that is served, a desk in front of it, and how they are
 talked to."""
 
+import contextlib
 import http.client
 import json
 import re
@@ -50,8 +51,16 @@ class FakeOffice:
         self.port = self.listener.getsockname()[1]
         self.requests = []
         self.answer = answer
-        test.addCleanup(self.listener.close)
-        threading.Thread(target=self.serve, daemon=True).start()
+        self.thread = threading.Thread(target=self.serve, daemon=True)
+        self.thread.start()
+        test.addCleanup(self.end)
+
+    def end(self):
+        """Ends the thread first, so that it never waits at a socket that gets the number of this one."""
+        with contextlib.suppress(OSError):
+            self.listener.shutdown(socket.SHUT_RDWR)
+        self.thread.join(1)
+        self.listener.close()
 
     def serve(self):
         while True:

@@ -3,15 +3,20 @@
 import { beginPending, clearAnswer, clearFault, showState, tellFault } from "./answers.js";
 import { beginSession, onState, theSession } from "./api.js";
 import { byId } from "./elements.js";
-import { beginFirm, showFirm, showRecent } from "./firm.js";
+import { askFirm, beginFirm, showFirm, showRecent } from "./firm.js";
 import { beginFinder, beginForm } from "./forms.js";
-import { showLog } from "./log.js";
-import { beginMorning, openMorning } from "./morning.js";
-import { beginWorker, showWorker } from "./worker.js";
-import { beginWords, say } from "./words.js";
+import { askLog, showLog } from "./log.js";
+import { askMorning, beginMorning, openMorning } from "./morning.js";
+import { askWorker, beginWorker, showWorker } from "./worker.js";
+import { beginWords, say, sayWords } from "./words.js";
 
+// What each view asks of the desk, and how it shows the answer.
 const VIEWS = {
-  morning: openMorning, firm: showFirm, worker: showWorker, new: () => {}, log: showLog,
+  morning: { ask: askMorning, open: openMorning },
+  firm: { ask: askFirm, open: showFirm },
+  worker: { ask: askWorker, open: showWorker },
+  new: { ask: () => null, open: () => {} },
+  log: { ask: askLog, open: showLog },
 };
 let state = null;
 // How often a view was shown: one that comes late isn't taken for the one that is shown now.
@@ -21,7 +26,8 @@ let keepsAnswer = false;
 
 function place() {
   const [, view, number] = /^#\/([a-z]+)(?:\/([1-9][0-9]{0,8}))?$/.exec(location.hash) ?? [];
-  return view in VIEWS ? { view, number: number ?? null } : { view: "morning", number: null };
+  const isView = Object.hasOwn(VIEWS, view ?? "");
+  return isView ? { view, number: number ?? null } : { view: "morning", number: null };
 }
 
 /** Whether there is a session with the desk; begins one where that failed before. */
@@ -33,9 +39,14 @@ async function hasSession() {
   return !told.fault;
 }
 
-/** Shows the view that the address names. */
-async function show() {
+/** Asks for the view that the address names. */
+function askView() {
   const { view, number } = place();
+  return { hash: location.hash, view, number, asked: VIEWS[view].ask(number) };
+}
+
+/** Shows the view that the address names. */
+async function show({ view, number, asked } = askView()) {
   const turn = ++turns;
   clearFault();
   for (const it of Object.keys(VIEWS)) {
@@ -48,11 +59,12 @@ async function show() {
   }
   byId("loading").hidden = false;
   if (await hasSession()) {
-    await VIEWS[view](number);
+    await VIEWS[view].open(number, asked);
   }
   if (turn !== turns) {
     return;
   }
+  showRecent(theSession()?.recent ?? []);
   byId("loading").hidden = true;
   document.title = `${byId(`view-${view}`).querySelector("h1").textContent} · ${say("title")}`;
   document.body.dataset.shown = `${view}${number ? `/${number}` : ""}`;
@@ -83,8 +95,8 @@ function begin() {
   });
   beginForm("form-rates", () => {});
   beginFinder("find-firm", (number) => goTo(`#/firm/${number}`));
-  beginPending(show);
-  byId("stopped-again").addEventListener("click", show);
+  beginPending(() => show());
+  byId("stopped-again").addEventListener("click", () => show());
   byId("skip").addEventListener("click", (event) => {
     event.preventDefault();
     byId("main").focus();
@@ -105,11 +117,15 @@ function begin() {
 onState((told) => {
   state = told;
 });
-await Promise.all([beginSession(), beginWords(() => {
+// What the page needs is asked for side by side.
+const first = askView();
+await Promise.all([beginSession(), beginWords()]);
+// Nothing stands there without its words, so that it is laid out and drawn once.
+document.body.prepend(byId("page").content);
+sayWords(() => {
   showState(state ?? {});
   clearAnswer();
   show();
-})]);
+});
 begin();
-showRecent(theSession()?.recent ?? []);
-await show();
+await show(first.hash === location.hash ? first : askView());

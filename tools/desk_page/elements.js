@@ -53,15 +53,16 @@ export function beginDrop(id, take) {
  * an array of cells, each a text or an element, the first of them its header. The roles are said, since the
  * styles of a narrow window, where a row is a block, take them away. */
 export function table(id, caption, columns, rows) {
-  const heads = columns.map(([word, kind]) =>
-    make("th", { scope: "col", role: "columnheader", class: kind }, say(word)));
+  const named = columns.map(([word, kind]) => [say(word), kind]);
+  const heads = named.map(([name, kind]) =>
+    make("th", { scope: "col", role: "columnheader", class: kind }, name));
   const body = make("tbody", { role: "rowgroup" });
   for (const { cells, attributes } of rows) {
     const made = cells.map((cell, place) => {
-      const kind = columns[place][1];
+      const [name, kind] = named[place];
       return place === 0
         ? make("th", { scope: "row", role: "rowheader", class: kind }, cell)
-        : make("td", { role: "cell", class: kind, "data-column": say(columns[place][0]) }, cell);
+        : make("td", { role: "cell", class: kind, "data-column": name }, cell);
     });
     body.append(make("tr", { role: "row", ...attributes }, ...made));
   }

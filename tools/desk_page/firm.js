@@ -17,9 +17,15 @@ const MOST_PAYMENTS = 4;
 const BAR_WIDTH = 160;
 const BAR_HEIGHT = 12;
 let shown = null;
+// The firms that are offered now.
+let offered = null;
 
 /** The firms that were opened last, for the search and for this view. */
 export function showRecent(recent) {
+  if (recent === offered) {
+    return;
+  }
+  offered = recent;
   byId("recent-firms").replaceChildren(...recent.map((it) =>
     make("option", { value: it.employer }, it.name)));
   byId("firm-recent").replaceChildren(...recent.slice(0, 20).map((it) =>
@@ -163,18 +169,20 @@ function showStatement(told) {
   showMonths(statement);
 }
 
+/** Asks for the firm of this number. */
+export const askFirm = (number) => (number ? get(`/api/firms/${number}`) : null);
+
 /** Shows the firm of this number; without one, those that were opened last. */
-export async function showFirm(number) {
+export async function showFirm(number, asked = askFirm(number)) {
   const isOther = shown !== number;
   shown = number;
   byId("firm-choose").hidden = Boolean(number);
   byId("firm-shown").hidden = true;
   byId("firm-title").textContent = number ? `${say("firm.title")} ${number}` : say("firm.title");
   if (!number) {
-    showRecent(theSession().recent);
     return;
   }
-  const told = await get(`/api/firms/${number}`);
+  const told = await asked;
   if (shown !== number) {
     return;
   }
@@ -183,7 +191,6 @@ export async function showFirm(number) {
     return;
   }
   theSession().recent = told.recent;
-  showRecent(told.recent);
   showStatement(told);
   showClaims(told.claims);
   if (isOther) {

@@ -1,7 +1,7 @@
 // Writes amounts, days, months and rates as the clerk's language has them. Amounts come as the digits of
 // whole cents and are never made into numbers, which hold no more than 2^53.
 
-import { currentLanguage, say } from "./words.js";
+import { currentLanguage, hasWords, say } from "./words.js";
 
 function withGroups(digits, separator) {
   return digits.replace(/\B(?=(\d{3})+$)/g, separator);
@@ -25,27 +25,32 @@ export function percent(hundredths) {
   return `${digits.slice(0, -2)}${point}${digits.slice(-2)}\u00a0%`;
 }
 
-const YEAR = { year: "numeric", timeZone: "UTC" };
-const DAYS = {
-  de: new Intl.DateTimeFormat("de-DE", { day: "2-digit", month: "2-digit", ...YEAR }),
-  en: new Intl.DateTimeFormat("en-GB", { day: "2-digit", month: "short", ...YEAR }),
-};
-const MONTHS = {
-  de: new Intl.DateTimeFormat("de-DE", { month: "short", ...YEAR }),
-  en: new Intl.DateTimeFormat("en-GB", { month: "short", ...YEAR }),
-};
-
-/** A day in one of these formats; a text that is none stays as it is. */
-function dated(formats, text, day) {
-  const date = new Date(day);
-  return Number.isNaN(date.getTime()) ? text : formats[currentLanguage()].format(date);
+// The browser's own formats of dates take long to make, so the names of the months stand among the words.
+function monthAndYear(text) {
+  const [year, number] = text.split("-");
+  return `${say(`month.${number}`)} ${year}`;
 }
 
-/** 2024-04-30 as 30.04.2024 in German, 30 Apr 2024 in English. */
-export const day = (text) => dated(DAYS, text, text);
+const isMonth = (text) => /^\d{4}-\d{2}$/.test(text) && hasWords(`month.${text.slice(5)}`);
+
+/** 2024-04-30 as 30.04.2024 in German, 30 Apr 2024 in English; a text that is no day stays as it is. */
+export function day(text) {
+  const [, its, number] = /^(.{7})-(\d{2})$/.exec(text) ?? [];
+  if (!number || !isMonth(its)) {
+    return text;
+  }
+  return currentLanguage() === "de"
+    ? `${number}.${its.slice(5)}.${its.slice(0, 4)}`
+    : `${number} ${monthAndYear(its)}`;
+}
 
 /** 2024-01 as Jan. 2024 in German, Jan 2024 in English; a dash for none. */
-export const month = (text) => (text ? dated(MONTHS, text, `${text}-01`) : say("dash"));
+export function month(text) {
+  if (!text) {
+    return say("dash");
+  }
+  return isMonth(text) ? monthAndYear(text) : text;
+}
 
 /** The time of a log entry, in the clock of the desk. */
 export function time(text) {

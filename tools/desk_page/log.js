@@ -11,8 +11,10 @@ const COLUMNS = [
   ["column.reply", "note"],
 ];
 
-export async function showLog() {
-  const told = await get("/api/log");
+export const askLog = () => get("/api/log");
+
+export async function showLog(_number, asked = askLog()) {
+  const told = await asked;
   if (!told.log) {
     tellFault(told);
     return;

@@ -153,8 +153,10 @@ async function showMade(kind, { entry, known }) {
   }
 }
 
-async function showMorning() {
-  const told = await get(`/api/suspense/${first}`);
+const ask = (place) => get(`/api/suspense/${place}`);
+
+async function showMorning(asked = ask(first)) {
+  const told = await asked;
   // Where the office doesn't answer, nothing is said of what is in suspense.
   byId("suspense").hidden = told.text === undefined;
   if (told.text === undefined) {
@@ -171,19 +173,23 @@ function isDone(told) {
 }
 
 export function beginMorning() {
-  beginBank(showMorning);
-  beginForm("form-assign", showMorning, () => lineFacts);
-  beginForm("form-release", showMorning);
+  const again = () => showMorning();
+  beginBank(again);
+  beginForm("form-assign", again, () => lineFacts);
+  beginForm("form-release", again);
   byId("assign-cancel").addEventListener("click", () => byId("assign-dialog").close());
   for (const kind of ["payouts", "reminders"]) {
-    beginForm(`form-${kind}`, (told) => (isDone(told) ? showMade(kind, told) : showMorning()));
+    beginForm(`form-${kind}`, (told) => (isDone(told) ? showMade(kind, told) : again()));
     beginFinder(`find-${kind}`, (number) => showDocument(kind, number));
   }
 }
 
+/** Asks for the first lines in suspense. */
+export const askMorning = () => ask(0);
+
 /** Begins the view anew, where another one was shown before. */
-export function openMorning() {
+export function openMorning(_number, asked = askMorning()) {
   first = 0;
   byId("document").hidden = true;
-  return showMorning();
+  return showMorning(asked);
 }

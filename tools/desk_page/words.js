@@ -24,9 +24,11 @@ function keepLanguage(wanted) {
 
 function wantedLanguage() {
   const asked = new URLSearchParams(location.search).get("lang");
-  const kept = keptLanguage();
+  if (LANGUAGES.includes(asked)) {
+    return asked;
+  }
   const own = navigator.language.slice(0, 2);
-  return [asked, kept, own].find((it) => LANGUAGES.includes(it)) ?? "en";
+  return [keptLanguage(), own].find((it) => LANGUAGES.includes(it)) ?? "en";
 }
 
 export const currentLanguage = () => language;
@@ -60,8 +62,11 @@ async function load(wanted) {
   language = wanted;
 }
 
-export async function beginWords(changed) {
-  await load(wantedLanguage());
+/** Fetches the words, so that they can be said. */
+export const beginWords = () => load(wantedLanguage());
+
+/** Says all words of the page, and calls this when another language is chosen. */
+export function sayWords(changed) {
   sayAll();
   for (const it of LANGUAGES) {
     document.getElementById(`language-${it}`).addEventListener("click", async () => {

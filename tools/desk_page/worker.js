@@ -34,7 +34,11 @@ function showTables(worker) {
     : make("p", { class: "hint" }, say("worker.no-earned")));
 }
 
-export async function showWorker(number) {
+/** Asks for the worker of this number. */
+export const askWorker = (number) => (number ? get(`/api/workers/${number}`) : null);
+
+/** Shows the worker of this number; without one, the form that asks for it. */
+export async function showWorker(number, asked = askWorker(number)) {
   shown = number;
   byId("worker-shown").hidden = true;
   byId("worker-title").textContent = number ? say("worker.heading", { worker: number }) : say("worker.title");
@@ -42,7 +46,7 @@ export async function showWorker(number) {
     return;
   }
   byId("find-worker-number").value = number;
-  const told = await get(`/api/workers/${number}`);
+  const told = await asked;
   if (shown !== number) {
     return;
   }

@@ -9,15 +9,11 @@ else.
 
 import hashlib
 import hmac
-import os
 import secrets
 from email.message import Message
-from pathlib import Path
 
 from .faults import Fault
-
-CONNECTIONS = Path("/proc/net/tcp")
-ESTABLISHED = "01"
+from .owners import Address, is_own
 
 HEADERS = {
     "Content-Security-Policy": (
@@ -68,24 +64,6 @@ def check_site(headers: Message) -> None:
         raise Fault("origin", 403)
 
 
-def kernel_name(address: tuple[str, int]) -> str:
-    """An address as the kernel lists it: `0100007F:1F90` is 127.0.0.1:8080."""
-    host = bytes(reversed([int(it) for it in address[0].split(".")]))
-    return f"{host.hex().upper()}:{address[1]:04X}"
-
-
-def owner_of(peer: tuple[str, int], here: tuple[str, int]) -> int | None:
-    """The user whose program holds the other end of a connection of this machine."""
-    ends = [kernel_name(peer), kernel_name(here), ESTABLISHED]
-    for line in CONNECTIONS.read_text(encoding="ascii").splitlines()[1:]:
-        fields = line.split()
-        if fields[1:4] == ends:
-            return int(fields[7])
-    return None
-
-
-def check_user(peer: tuple[str, int], here: tuple[str, int]) -> None:
-    """Where the kernel doesn't list its connections, as on other systems than Linux, all users count as
-    the clerk."""
-    if CONNECTIONS.exists() and owner_of(peer, here) != os.getuid():
+def check_user(peer: Address, here: Address) -> None:
+    if not is_own(peer, here):
         raise Fault("user", 403)

@@ -34,8 +34,9 @@ def refusal(fault: Fault) -> Response:
 class Handler(http.server.BaseHTTPRequestHandler):
     protocol_version = "HTTP/1.1"
     timeout = SOCKET_SECONDS
-    # A head and its body go out together.
+    # A head and its body go out together, and a large body doesn't wait until its head is acknowledged.
     wbufsize = -1
+    disable_nagle_algorithm = True
     server: "Server"
 
     def version_string(self) -> str:
