@@ -16,10 +16,11 @@ reminder run over all firms.
 
 Stores of up to --rows requests are filled through the office, one request after another. For quickness the
 rows of larger ones are put by Python's own sqlite3 into the tables that the program's `init` made, while it
-doesn't run, in the order in which serving puts them. That this comes to the same is looked at in each such
-run: two stores of --alike requests over the months of the largest one are filled, one in each way, and
-compared: their forms, and all tables row by row, by rowids. The script ends where they differ. How rows are
-spread over pages is each program's own matter, so the sizes of these two files are told below the table.
+doesn't run, in the order in which serving puts them, each contribution with what is open of it, and its
+weight, as the last payment leaves them. That this comes to the same is looked at in each such run: two
+stores of --alike requests over the months of the largest one are filled, one in each way, and compared:
+their forms, and all tables row by row, by rowids. The script ends where they differ. How rows are spread
+over pages is each program's own matter, so the sizes of these two files are told below the table.
 
 The files lie below FOLDER, /dev/shm where there is one, so that the figures are the program's and not the
 disk's.
@@ -38,7 +39,7 @@ from itertools import zip_longest
 
 sys.dont_write_bytecode = True
 import server  # noqa: E402
-from pieces import Account, RATE_ROWS, contribution  # noqa: E402
+from pieces import Account, RATE_ROWS, begun_months, contribution  # noqa: E402
 from serve import row, tell  # noqa: E402
 from server import Server, request  # noqa: E402
 from suspense import Desk, FILE, FIRST, HEADER, MEMORY, PROGRAM  # noqa: E402
@@ -173,16 +174,25 @@ class Rows:
         self.sent = self.serial = 0
         self.charges = {month: contribution(month_name(month), GROSS * len(WORKERS))
                         for month in range(months)}
-        self.pieces = self.pieces_by_request()
+        credits = {(day_number(paid_on(month)), month): (PAID, month) for month in range(months)}
+        allocated = sorted(Account(self.charges, credits).allocated())
+        self.pieces = self.pieces_by_request(allocated)
+        self.settled = {month: self.settled_in(month, allocated) for month in range(months)}
 
-    def pieces_by_request(self):
+    def pieces_by_request(self, allocated):
         """A firm's pieces by the request that leaves them; those of all firms are alike."""
-        credits = {(day_number(paid_on(month)), month): (PAID, month) for month in range(self.months)}
         pieces = defaultdict(list)
-        for month, day, paid, cents, _ in sorted(Account(self.charges, credits).allocated()):
+        for month, day, paid, cents, _ in allocated:
             last = "report" if month > paid else "payment"
             pieces[last, max(month, paid)].append((month, day, paid, cents))
         return pieces
+
+    def settled_in(self, month, allocated):
+        """What all payments leave open of a month's contribution, and its weight, as its row has it then."""
+        due = due_day(month)
+        paid = [(day, cents) for charged, day, _, cents, _ in allocated if charged == month]
+        return (self.charges[month] - sum(cents for _, cents in paid),
+                sum(cents * begun_months(due, day) for day, cents in paid))
 
     def put(self):
         """Gives how many requests it were."""
@@ -216,7 +226,7 @@ class Rows:
         lines = " ".join(f"{worker}:{GROSS}" for worker in WORKERS)
         self.put_all("reports", ((no, number, 1) for no in self.numbers))
         self.put_all("wages", ((no, number, worker, GROSS) for no in self.numbers for worker in WORKERS))
-        self.put_all("charges", ((no, number, due, owed) for no in self.numbers))
+        self.put_all("charges", ((no, number, due, owed, *self.settled[month]) for no in self.numbers))
         self.put_pieces("report", month)
         self.put_all("requests", (self.kept(f"report {no} {month_name(month)} {lines}", 2, 1, owed)
                                   for no in self.numbers))

@@ -1,12 +1,13 @@
 #!/usr/bin/env python3
-"""What it costs that a firm's pieces are kept: rows of a request, and its time beside a build without them.
+"""What it costs that a firm's pieces, and what is open of its charges, are kept: rows of a request, and its
+time beside another build.
 
     python3 bench/pieces.py [PROGRAM] [--before PROGRAM] [--firms 200,2000] [--each 100] [--kinds report,..]
                             [--folder FOLDER]
 
 PROGRAM is the built program where none is named, and the one that --before names is a build of before, whose
-stores have another layout; without it nothing stands beside. For each size and program a new store gets so
-many firms by serving, month after month: each reports 24 months with one line, and the bank brings 30
+stores may have another layout; without it nothing stands beside. For each size and program a new store gets
+so many firms by serving, month after month: each reports 24 months with one line, and the bank brings 30
 payments of each. Those of every second firm end within its newest month, of which it owes a part (it is
 behind); those of the others reach beyond it (it is ahead). The firms of the smallest book are in all, and
 two more, to which the first request of each kind goes: it makes the plans of its statements, and isn't
@@ -14,12 +15,14 @@ measured.
 
 Rows are counted on copies of the smallest book's store. Into these Python's own sqlite3 puts a row for each
 firm behind all of its pieces, which any DELETE of its pieces takes, and one of no firm behind all rows, so
-that no piece is written under the rowid of one that was deleted. Then one request of each kind is served,
-and `pieces` compared by rowids with what was there. The script ends where a firm's pieces aren't those of
-its charges and credits, where others were deleted or written than those that reach beyond the first changed
-place, or where nothing reaches beyond it and there was a DELETE. Rows read are not measured but counted from
-the tables, as the sources read them: the firm's charges and its credits for contributions, and before a
-correction the month's charge.
+that no piece is written under the rowid of one that was deleted; and it adds to the weight of each charge,
+so that a row which is written is told from one that isn't. Then one request of each kind is served, and
+`pieces` and `charges` are compared by rowids with what was there. The script ends where a firm's pieces
+aren't those of its charges and credits, where others were deleted or written than those that reach beyond
+the first changed place, or where nothing reaches beyond it and there was a DELETE; and where what is open
+of a charge, or its weight, isn't that of its pieces, or a charge was written that ends at or below the place
+and isn't the changed one. Rows read are not measured but counted from the tables, as the sources read them:
+the firm's charges and its credits for contributions, and before a correction the month's charge.
 
 Then each kind (or those that --kinds names) is measured on fresh copies of all stores, by --each requests (a
 tenth as many bank files), each of another firm, and so at most half as many as the smallest book has firms.
@@ -54,6 +57,8 @@ import tomllib
 from collections import defaultdict
 from concurrent.futures import ThreadPoolExecutor
 from dataclasses import astuple, dataclass, field
+from datetime import date, timedelta
+from itertools import accumulate
 from pathlib import Path
 
 sys.dont_write_bytecode = True
@@ -82,6 +87,8 @@ NUMBERS = 99_999_900
 # A firm that is not registered, and a row behind all that a firm can have: month, day, serial, cents, ref.
 NOBODY = 99_999_999
 PROBE = (2_399, 80_000, 500_000_000_000, 1, "probe")
+# What is added to each weight: more than any in these books, and less than the greatest one.
+PROBE_WEIGHT = 1_000_000_000_000
 SIZES_APART = 1.2
 
 
@@ -114,6 +121,15 @@ KINDS = {
 def contribution(month, gross):
     rate = [rate["contribution"] for rate in RATE_ROWS if rate["from"] <= month][-1]
     return (gross * rate + 5_000) // 10_000
+
+
+def begun_months(due, day):
+    """How many of the due day and the same day of each later month lie before a day. Days are day numbers."""
+    begun, late = 0, date(1970, 1, 1) + timedelta(due)
+    while late < date(1970, 1, 1) + timedelta(day):
+        begun += 1
+        late = late.replace(year=late.year + late.month // 12, month=late.month % 12 + 1)
+    return begun
 
 
 class Firm:
@@ -270,10 +286,12 @@ def make_book(programs, size, firms, suspense, folder):
 
 @dataclass
 class Account:
-    """A firm's charges by month, its credits for contributions by day and serial, its pieces by rowid."""
+    """A firm's charges by month, its credits for contributions by day and serial, its pieces by rowid; and by
+    month the rowid of the charge, its due day, what is open of it and its weight."""
     charges: dict = field(default_factory=dict)
     credits: dict = field(default_factory=dict)
     pieces: dict = field(default_factory=dict)
+    rows: dict = field(default_factory=dict)
 
     def allocated(self):
         """The pieces as they should be: what the stretches of a charge and of a credit have in common."""
@@ -287,6 +305,14 @@ class Account:
                 paid += cents
             charged += owed
         return pieces
+
+    def settled(self):
+        """What is open of each charge, and its weight, as they should be."""
+        left, weights = dict(self.charges), dict.fromkeys(self.charges, 0)
+        for month, day, _, cents, _ in self.allocated():
+            left[month] -= cents
+            weights[month] += cents * begun_months(self.rows[month][1], day)
+        return {month: (left[month], weights[month]) for month in self.charges}
 
     def kept(self):
         return set(self.pieces.values()) - {PROBE}
@@ -305,6 +331,18 @@ class Account:
             return (lambda piece: piece[1:3] >= min(keys)) if charged > place else None
         return None
 
+    def may_be_written(self, before):
+        """The months whose charges may be written: the changed one, and those that reach beyond the place."""
+        months = [month for month, cents in self.charges.items() if before.charges.get(month) != cents]
+        keys = [key for key in self.credits if key not in before.credits]
+        if months:
+            return {month for month in self.charges if month >= min(months)}
+        if not keys:
+            return set()
+        place = sum(cents for key, (cents, _) in self.credits.items() if key < min(keys))
+        ends = zip(self.charges, accumulate(self.charges.values()))
+        return {month for month, end in ends if end > place}
+
     def is_read(self, before):
         return self.charges != before.charges or self.credits != before.credits
 
@@ -313,8 +351,10 @@ def read_accounts(store):
     """The accounts of all firms in a store that nothing serves, by number."""
     accounts = defaultdict(Account)
     with contextlib.closing(sqlite3.connect(store)) as base:
-        for no, month, cents in base.execute("SELECT employer, month, cents FROM charges ORDER BY 1, 2"):
+        for no, month, cents, *rest in base.execute("SELECT employer, month, cents, rowid, due, open, weight"
+                                                    " FROM charges ORDER BY 1, 2"):
             accounts[no].charges[month] = cents
+            accounts[no].rows[month] = tuple(rest)
         for no, day, serial, *credit in base.execute("SELECT employer, day, serial, cents, ref FROM credits"
                                                      " WHERE purpose = 'C' ORDER BY 1, 2, 3"):
             accounts[no].credits[day, serial] = tuple(credit)
@@ -325,8 +365,10 @@ def read_accounts(store):
 
 
 def plant(store):
-    """The rows that tell a DELETE, and behind all one that keeps their rowids from being given again."""
+    """The rows that tell a DELETE, and behind all one that keeps their rowids from being given again; and
+    weights that tell which charges are written."""
     with contextlib.closing(sqlite3.connect(store)) as base, base:
+        base.execute("UPDATE charges SET weight = weight + ?", [PROBE_WEIGHT])
         base.execute("INSERT INTO pieces SELECT no, ?, ?, ?, ?, ? FROM employers", PROBE)
         base.execute("INSERT INTO pieces VALUES (?, ?, ?, ?, ?, ?)", (NOBODY, *PROBE))
 
@@ -347,6 +389,7 @@ class Rows:
     written: int = 0
     left: int = 0
     deletes: int = 0
+    charges_written: int = 0
 
     def add(self, before, after, deleted, written, was_deleted):
         self.firms += 1
@@ -358,6 +401,25 @@ class Rows:
         self.written += len(written)
         self.left += len(after.kept()) - len(written)
         self.deletes += was_deleted
+        self.charges_written += len(written_charges(after))
+
+
+def written_charges(after):
+    """The months whose charges were written: their weights have nothing added."""
+    return {month for month, (*_, weight) in after.rows.items() if weight < PROBE_WEIGHT}
+
+
+def check_charges(kind, no, before, after):
+    """What is open of a firm's charges, and their weights, are those of its pieces, and no more were written
+    than may be."""
+    for account in (before, after):
+        kept = {month: (left, weight % PROBE_WEIGHT) for month, (_, _, left, weight) in account.rows.items()}
+        expect(kept == account.settled(), kind, no, "has", kept, "due", account.settled())
+    written, may_be = written_charges(after), after.may_be_written(before)
+    expect(written <= may_be, kind, no, "wrote charges of", written - may_be)
+    for month in before.rows:
+        same = before.rows[month][:2] == after.rows[month][:2]
+        expect(same, kind, no, "a charge has another rowid or due day", month)
 
 
 def rows_of_firm(kind, no, before, after, last):
@@ -375,6 +437,7 @@ def rows_of_firm(kind, no, before, after, last):
     expect(gone - {PROBE} == due[0], kind, no, "deleted", gone, "due", due[0])
     expect(written == due[1], kind, no, "wrote", written, "due", due[1])
     expect((PROBE in gone) == (test is not None), kind, no, "DELETE:", PROBE in gone)
+    check_charges(kind, no, before, after)
     return due[0], due[1], PROBE in gone
 
 
@@ -446,8 +509,9 @@ def measure_copies(kind, servers, measured, each, folder):
 
 def print_rows(counts):
     print("\nRows of one request\n")
-    row("Request", "Firms", "Charges", "Credits", "Read", "Deleted", "Written", "Left", "Firms with DELETE")
-    row(*["---"] * 9)
+    row("Request", "Firms", "Charges", "Credits", "Read", "Deleted", "Written", "Left", "Firms with DELETE",
+        "Charges written")
+    row(*["---"] * 10)
     for kind, rows in counts.items():
         row(kind, *astuple(rows))
 

@@ -1,4 +1,5 @@
-"""The kept contributions and pieces of the built program, against an allocation of its own, read by Python's sqlite3.
+"""The kept contributions, what is open of them, their weights and their pieces in stores of the built program, read by
+Python's sqlite3: against an allocation of its own, and by the statements of examples/recompute.sql.
 
     python3 tests/pieces.py [PROGRAM]
 
@@ -10,13 +11,15 @@ import json
 import random
 import sqlite3
 import sys
+from collections import Counter
 from datetime import date, timedelta
 
 # No __pycache__ is left beside the sources.
 sys.dont_write_bytecode = True
-from program_under_test import ProgramUnderTest, run_tests  # noqa: E402
+from program_under_test import ROOT, ProgramUnderTest, run_tests  # noqa: E402
 
 DAY = "2024-04-10"
+JANUARY, FEBRUARY = 24 * 12, 24 * 12 + 1
 HEADER = "reference,value_date,employer,cents,purpose,note\n"
 FIRMS = range(1001, 1301)
 STAGES = 8
@@ -25,6 +28,21 @@ REQUESTS = 300
 
 def day_number(text):
     return (date.fromisoformat(text) - date(1970, 1, 1)).days
+
+
+def due_day(month):
+    """The 20th of the month behind it, as a day number. Months count from 2000-01."""
+    year, place = divmod(month + 1, 12)
+    return day_number(f"{2000 + year}-{place + 1:02}-20")
+
+
+def begun_months(due, day):
+    """How many of the due day and the same day of each later month lie before a day."""
+    begun, late = 0, date(1970, 1, 1) + timedelta(due)
+    while late < date(1970, 1, 1) + timedelta(day):
+        begun += 1
+        late = late.replace(year=late.year + late.month // 12, month=late.month % 12 + 1)
+    return begun
 
 
 def allocate(charges, credits):
@@ -54,6 +72,17 @@ class Firm:
 
     def rows(self):
         return [(self.number, *piece) for piece in allocate(self.charges(), sorted(self.credits))]
+
+    def kept_charges(self):
+        """Each contribution with its due day, what no piece of it pays, and the cents of its pieces, each once for each
+        month begun from the due day until the day of its payment."""
+        rows, pieces = [], self.rows()
+        for month, cents in self.charges():
+            due = due_day(month)
+            paid = [(day, share) for _, of, day, _, share, _ in pieces if of == month]
+            rows.append((self.number, month, due, cents, cents - sum(share for _, share in paid),
+                         sum(share * begun_months(due, day) for day, share in paid)))
+        return rows
 
 
 class Office:
@@ -149,7 +178,8 @@ class Scenario:
         return self.draw.choice(amounts)
 
     def value(self):
-        return str(date(2024, 1, 2) + timedelta(self.draw.randrange(99)))
+        """From two days before January is due up to the day before the requests."""
+        return str(date(2024, 2, 18) + timedelta(self.draw.randrange(52)))
 
     def firm(self):
         return self.office.firms[self.draw.choice(list(self.office.firms))]
@@ -205,13 +235,18 @@ class Pieces(ProgramUnderTest):
                          "ORDER BY employer, month, day, serial")
 
     def charges(self):
-        return self.rows("SELECT employer, month, due, cents FROM charges ORDER BY employer, month")
+        return self.rows("SELECT employer, month, due, cents, open, weight FROM charges ORDER BY employer, month")
+
+    def recomputed(self):
+        """What is told by the statements for a look from outside: nothing, where all that is kept is right."""
+        text = (ROOT / "examples/recompute.sql").read_text()
+        return [row for statement in text.split(";") if statement.strip() for row in self.rows(statement)]
 
     def check(self, office):
         self.assertEqual(self.kept(), sorted(row for firm in office.firms.values() for row in firm.rows()))
-        wanted = [(firm.number, month, day_number(f"2024-{month - 24 * 12 + 2:02}-20"), cents)
-                  for firm in office.firms.values() for month, cents in firm.charges()]
-        self.assertEqual(self.charges(), sorted(wanted))
+        self.assertEqual(self.charges(),
+                         sorted(row for firm in office.firms.values() for row in firm.kept_charges()))
+        self.assertEqual(self.recomputed(), [])
 
     def test_random_requests(self):
         """The firms are scenarios of their own; bank files bring several of them together."""
@@ -237,6 +272,7 @@ class Pieces(ProgramUnderTest):
             with self.subTest(stage):
                 self.check(office)
         self.assertGreater(len(self.kept()), 200)
+        self.assertGreater(sum(row[5] > 0 for row in self.charges()), 50)
 
     def one_firm(self, *steps):
         self.init()
@@ -273,10 +309,17 @@ class Pieces(ProgramUnderTest):
         self.assertEqual(self.run_program("look", "fund.db")[0], 0)
         return self.kept()
 
+    def expect_charges(self, firm, *wanted):
+        """Of the firm's months from January on: what it owes, what is open of that, and its weight."""
+        self.assertEqual(self.charges(), [
+            (firm, JANUARY + place, day_number(due), *row)
+            for place, (due, row) in enumerate(zip(("2024-02-20", "2024-03-20"), wanted))])
+        self.assertEqual(self.recomputed(), [])
+
     def test_worked_accounts(self):
-        """Accounts whose pieces were reckoned by hand: two months and two payments, then a month corrected, a payment
-        dated before the others, the later month corrected; a month without lines that is corrected."""
-        january, february = 24 * 12, 24 * 12 + 1
+        """Accounts whose pieces and weights were reckoned by hand: two months and two payments, then a month corrected,
+        a payment dated before the others, the later month corrected; a month without lines that is corrected."""
+        january, february = JANUARY, FEBRUARY
         day = "2024-04-30"
         first, second, early = (day_number(it) for it in ("2024-02-25", "2024-04-21", "2024-02-20"))
         account = [
@@ -284,27 +327,36 @@ class Pieces(ProgramUnderTest):
             bank("B1,2024-02-25,1001,150000,C,", "B2,2024-04-21,1001,200000,C,")]
         paid = (1001, january, first, 1, 150_000, "B1"), (1001, january, second, 2, 50_000, "B2")
         self.assertEqual(self.worked((day, account)), [*paid, (1001, february, second, 2, 100_010, "B2")])
+        # B1 pays January in its first month, B2 in its third one, and February in its second one.
+        self.expect_charges(1001, (200_000, 0, 300_000), (100_010, 0, 200_020))
         corrected = [*account, correction(1001, "2024-01", 500_000)]
         self.assertEqual(self.worked((day, corrected)), [
             (1001, january, first, 1, 100_000, "B1"),
             (1001, february, first, 1, 50_000, "B1"), (1001, february, second, 2, 50_010, "B2")])
+        self.expect_charges(1001, (100_000, 0, 100_000), (100_010, 0, 100_020))
         late = [*account, bank("B3,2024-02-20,1001,60000,C,")]
         self.assertEqual(self.worked((day, late)), [
             (1001, january, early, 3, 60_000, "B3"), (1001, january, first, 1, 140_000, "B1"),
             (1001, february, first, 1, 10_000, "B1"), (1001, february, second, 2, 90_010, "B2")])
+        self.expect_charges(1001, (200_000, 0, 140_000), (100_010, 0, 180_020))
         lower = [*account, correction(1001, "2024-02", 400_000)]
         self.assertEqual(self.worked((day, lower)), [*paid, (1001, february, second, 2, 80_000, "B2")])
+        self.expect_charges(1001, (200_000, 0, 300_000), (80_000, 0, 160_000))
         nothing = [
             register(1003), report(1003, "2024-01", 0), report(1003, "2024-02", 500_050),
             bank("C1,2024-03-20,1003,100010,C,")]
         march = day_number("2024-03-20")
         self.assertEqual(self.worked((day, nothing)), [(1003, february, march, 1, 100_010, "C1")])
+        self.expect_charges(1003, (0, 0, 0), (100_010, 0, 0))
         self.assertEqual(self.worked((day, [*nothing, correction(1003, "2024-01", 100_000)])), [
             (1003, january, march, 1, 20_000, "C1"), (1003, february, march, 1, 80_010, "C1")])
+        self.expect_charges(1003, (20_000, 0, 20_000), (100_010, 20_000, 0))
 
     def test_a_set_off_that_is_prepaid_later(self):
         """A release sets 300.00 off, the rest of January; January is then corrected to what the bank line has paid."""
-        january, line, released = 24 * 12, day_number("2024-02-21"), day_number("2024-03-10")
+        january, line, released = JANUARY, day_number("2024-02-21"), day_number("2024-03-10")
+        due = day_number("2024-02-20")
+        unpaid = 1002, january, due, 80_000, 80_000, 0
         before = "2024-03-10", [
             register(1002), register(1004), report(1002, "2024-01", 400_000, 9), report(1004, "2024-01", 250_000, 9),
             bank("D1,2024-02-21,1004,20000,C,"),
@@ -312,17 +364,41 @@ class Pieces(ProgramUnderTest):
             ("POST", "/claims/1/release", "")]
         self.assertEqual(self.worked(before), [
             (1004, january, line, 1, 20_000, "D1"), (1004, january, released, 2, 30_000, "set-off 1")])
+        self.assertEqual(self.charges(), [unpaid, (1004, january, due, 50_000, 0, 50_000)])
         after = "2024-03-12", [correction(1004, "2024-01", 100_000, 9)]
         self.assertEqual(self.worked(before, after), [(1004, january, line, 1, 20_000, "D1")])
+        self.assertEqual(self.charges(), [unpaid, (1004, january, due, 20_000, 0, 20_000)])
+        self.assertEqual(self.recomputed(), [])
 
     def test_a_correction_that_leaves_the_contribution(self):
-        """Nothing is written: a wrong piece that stands keeps its cents."""
+        """Nothing is written: a wrong piece that stands keeps its cents, and what is paid of the contribution stays."""
         self.one_firm(
             lambda office, firm: office.report(firm, 1, 1_000_000),
             lambda office, firm: office.bank([(firm, "2024-02-25", 150_000, "C")]))
         self.change("UPDATE pieces SET cents = 149999")
         self.expect_done("PUT", "/employers/1001/reports/2024-01", '{"lines":[{"gross":1000000,"worker":8}],"version":1}')
         self.assertEqual([row[4] for row in self.kept()], [149_999])
+        self.assertEqual([row[3:] for row in self.charges()], [(200_000, 50_000, 150_000)])
+
+    def test_a_wrong_piece_moves_nothing_that_is_open(self):
+        """What is open follows from contributions and payments, whatever cents the pieces below a place hold."""
+        self.one_firm(
+            lambda office, firm: office.report(firm, 1, 1_000_000),
+            lambda office, firm: office.bank([(firm, "2024-02-25", 100_000, "C")]))
+        self.change("UPDATE pieces SET cents = 99999")
+        self.expect_done("POST", "/bank", HEADER + "B2,2024-04-21,1001,50000,C,\n")
+        self.assertEqual([row[4:] for row in self.kept()], [(99_999, "B1"), (50_000, "B2")])
+        self.assertEqual([row[3:] for row in self.charges()], [(200_000, 50_000, 250_000)])
+
+    def test_a_later_change_leaves_the_contributions_below_it(self):
+        """The row of a month that ends at the place of a change isn't written, not even where it is wrong."""
+        self.one_firm(
+            lambda office, firm: office.report(firm, 1, 1_000_000),
+            lambda office, firm: office.report(firm, 2, 500_050),
+            lambda office, firm: office.bank([(firm, "2024-02-25", 200_000, "C")]))
+        self.change("UPDATE charges SET weight = 200001 WHERE month = 288")
+        self.expect_done("POST", "/bank", HEADER + "B2,2024-04-21,1001,50000,C,\n")
+        self.assertEqual([row[3:] for row in self.charges()], [(200_000, 0, 200_001), (100_010, 50_010, 100_000)])
 
     def test_a_piece_below_the_place_is_left(self):
         """A later payment reaches beyond the piece of the first one, which keeps its wrong cents."""
@@ -332,6 +408,36 @@ class Pieces(ProgramUnderTest):
         self.change("UPDATE pieces SET cents = 149999 WHERE ref = 'B1'")
         self.expect_done("POST", "/bank", HEADER + "B3,2024-04-25,1001,1000,C,\n")
         self.assertEqual([row[4:] for row in self.kept()], [(149_999, "B1"), (50_000, "B2")])
+
+    def test_what_is_told_from_outside(self):
+        """Whatever is wrong in a store is told by firm and by month or day: what is kept, what is recomputed, or both."""
+        self.one_firm(
+            lambda office, firm: office.report(firm, 1, 1_000_000),
+            lambda office, firm: office.report(firm, 2, 500_050),
+            lambda office, firm: office.bank([(firm, "2024-02-25", 150_000, "C"), (firm, "2024-04-21", 100_000, "C")]))
+        self.assertEqual(self.recomputed(), [])
+        whole = (self.folder / "fund.db").read_bytes()
+        january, february, late = "2024-01", "2024-02", "2024-04-21"
+        for statement, told in {
+            "UPDATE wages SET gross = gross + 100 WHERE month = 288": {("contribution", january): 2},
+            "UPDATE charges SET due = due + 1 WHERE month = 288": {("contribution", january): 2, ("paid", january): 2},
+            "UPDATE charges SET open = 1 WHERE month = 288": {("paid", january): 2},
+            "UPDATE charges SET weight = weight - 1 WHERE month = 289": {("paid", february): 2},
+            "UPDATE pieces SET cents = cents - 1 WHERE ref = 'B1'": {("piece", january): 2, ("paid", january): 2},
+            "DELETE FROM pieces WHERE month = 288 AND ref = 'B2'": {("piece", january): 1, ("paid", january): 2},
+            "DELETE FROM pieces": {
+                ("piece", january): 2, ("piece", february): 1, ("paid", january): 2, ("paid", february): 2},
+            "DELETE FROM charges WHERE month = 289": {("contribution", february): 1, ("piece", february): 1},
+            "UPDATE bank SET cents = cents + 1 WHERE reference = 'B2'": {("payment", late): 2},
+            "DELETE FROM credits WHERE ref = 'B2'": {
+                ("payment", late): 1, ("piece", january): 1, ("piece", february): 1},
+        }.items():
+            with self.subTest(statement):
+                self.write("fund.db", whole)
+                self.change(statement)
+                rows = self.recomputed()
+                self.assertEqual({row[1] for row in rows}, {1001})
+                self.assertEqual(Counter((kind, when) for kind, _, when, *_ in rows), told)
 
     def change(self, statement):
         store = sqlite3.connect(self.folder / "fund.db")

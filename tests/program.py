@@ -97,7 +97,7 @@ class Words(Program):
             "serve fund.db callers.toml 2024-04-30 65536 1",
             "serve fund.db callers.toml 2024-04-30 8080 0",
             "serve fund.db callers.toml 2024-04-30 8080 1000001",
-            "migrate fund.db",
+            "migrate",
             "look",
             "look fund.db more",
             "check rates.toml",
@@ -112,7 +112,7 @@ class Words(Program):
         self.expect([b"init", b"\xff", b"rates.toml"], 2, "", "fault command line\n")
 
     def test_words_that_begin_with_a_minus(self):
-        self.expect(["init", "--", "-x", "rates.toml"], 0, "schema 0\n")
+        self.expect(["init", "--", "-x", "rates.toml"], 0, "schema 1\n")
         self.assertTrue((self.folder / "-x").exists())
 
     def test_help(self):
@@ -149,6 +149,9 @@ class Init(Program):
         self.init()
         with sqlite3.connect(self.folder / "fund.db") as store:
             self.assertEqual(store.execute("PRAGMA integrity_check").fetchall(), [("ok",)])
+            self.assertEqual(store.execute("SELECT schema FROM meta").fetchall(), [(1,)])
+            self.assertEqual([row[1] for row in store.execute("PRAGMA table_info(charges)")],
+                             ["employer", "month", "due", "cents", "open", "weight"])
             self.assertEqual(store.execute("SELECT first FROM rates ORDER BY first").fetchall(), [(288,), (300,)])
             indexes = store.execute(
                 "SELECT m.name, m.tbl_name, group_concat(i.name) FROM sqlite_schema m, pragma_index_info(m.name) i "
@@ -166,7 +169,7 @@ class Init(Program):
 
     def test_a_store_is_left_as_it_is(self):
         self.filled()
-        self.expect(["init", "fund.db", "rates.toml"], 3, "", "rule 43 WrongVersion 0\n")
+        self.expect(["init", "fund.db", "rates.toml"], 3, "", "rule 43 WrongVersion 1\n")
         self.expect(["import", "fund.db", DAY, "2", "bank.csv"], 0, "new 2 repeats 0\n")
 
     def test_another_database_is_left_as_it_is(self):
@@ -190,6 +193,8 @@ class Init(Program):
             "ALTER TABLE runs ADD COLUMN level INTEGER",
             "ALTER TABLE lists RENAME COLUMN total TO sum",
             "DROP TABLE reminders",
+            "ALTER TABLE charges DROP COLUMN weight",
+            "ALTER TABLE charges RENAME COLUMN open TO unpaid",
             "DROP TABLE charges",
             "DROP TABLE pieces",
         )
@@ -202,7 +207,7 @@ class Init(Program):
                 before = (self.folder / "fund.db").read_bytes()
                 self.expect(["statement", "fund.db", DAY, "1001"], 3, "", "rule 41 Store\n")
                 self.expect(["import", "fund.db", DAY, "2", "bank.csv"], 3, "", "rule 41 Store\n")
-                self.expect(["init", "fund.db", "rates.toml"], 3, "", "rule 43 WrongVersion 0\n")
+                self.expect(["init", "fund.db", "rates.toml"], 3, "", "rule 43 WrongVersion 1\n")
                 self.assertEqual((self.folder / "fund.db").read_bytes(), before)
                 for file in self.folder.glob("fund.db*"):
                     file.unlink()

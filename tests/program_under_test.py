@@ -74,7 +74,7 @@ class ProgramUnderTest(unittest.TestCase):
         self.assertEqual(self.run_program(*words, **options), (status, output, errors), words)
 
     def init(self, store="fund.db"):
-        self.expect(["init", store, "rates.toml"], 0, "schema 0\n")
+        self.expect(["init", store, "rates.toml"], 0, "schema 1\n")
 
     # ---- servers
 

@@ -376,7 +376,7 @@ class Store(program.Program):
         def mode(name):
             return stat.S_IMODE((self.folder / name).stat().st_mode)
 
-        self.expect(["init", "fund.db", "rates.toml"], 0, "schema 0\n", preexec_fn=no_mask)
+        self.expect(["init", "fund.db", "rates.toml"], 0, "schema 1\n", preexec_fn=no_mask)
         self.assertEqual(mode("fund.db"), 0o600)
         server = self.serving(1, preexec_fn=no_mask)
         self.assertIn(b'{"done":true}', self.send(server, REGISTRATION))
@@ -452,7 +452,7 @@ class Stops(program.Program):
             os.close(reading)
             with os.fdopen(writing, "wb") as closed:
                 self.expect(words, 3, "", "fault stream\n", stdout=closed, restore_signals=False)
-        self.expect(["init", "new.db", "rates.toml"], 3, "", "rule 43 WrongVersion 0\n")
+        self.expect(["init", "new.db", "rates.toml"], 3, "", "rule 43 WrongVersion 1\n")
 
     def test_an_end_leaves_all_in_the_file_of_the_store(self):
         self.filled()
@@ -501,7 +501,7 @@ class Stops(program.Program):
             running.kill()
             running.communicate()
             made = self.run_program("init", store, "rates.toml")
-            self.assertIn(made, [(0, "schema 0\n", ""), (3, "", "rule 43 WrongVersion 0\n")])
+            self.assertIn(made, [(0, "schema 1\n", ""), (3, "", "rule 43 WrongVersion 1\n")])
             self.expect(["statement", store, DAY, "1001"], 1, "", "rule 11 UnknownEmployer\n")
 
     def test_a_kill_while_a_file_is_imported(self):

@@ -1,4 +1,4 @@
-"""A look at a store, and copies of it, by the built program on real files.
+"""A look at a store, copies of it, and its schema, by the built program on real files.
 
     python3 tests/stores.py [PROGRAM]
 
@@ -22,7 +22,7 @@ HEADER = "reference,value_date,employer,cents,purpose,note\n"
 BANK = HEADER + ("B1,2024-02-25,1001,150000,C,\nB9,2024-04-21,,5000,,\n"
                  "B2,2024-04-21,1001,200000,,January rest\nB3,2024-04-22,7777,1250,I,\n")
 
-NEW = """schema 0
+NEW = """schema 1
 ledger day -
 requests 0
 greatest number of the desk -
@@ -34,6 +34,58 @@ open claims 0
 to pay out 0
 last list -
 last run -
+"""
+
+# What a build of schema 0 made: its tables in their order, without what is open of the contributions, and its indexes.
+OLD_STORE = """
+CREATE TABLE meta (one INTEGER PRIMARY KEY, schema INTEGER NOT NULL, day INTEGER, entries INTEGER NOT NULL,
+    serial INTEGER NOT NULL, claims INTEGER NOT NULL, lists INTEGER NOT NULL, runs INTEGER NOT NULL) STRICT;
+CREATE TABLE rates (first INTEGER PRIMARY KEY, contribution INTEGER NOT NULL, report_day INTEGER NOT NULL,
+    due_day INTEGER NOT NULL, interest INTEGER NOT NULL, entitlement INTEGER NOT NULL) STRICT;
+CREATE TABLE employers (no INTEGER PRIMARY KEY, name TEXT NOT NULL, start INTEGER NOT NULL, last INTEGER) STRICT;
+CREATE TABLE reports (employer INTEGER NOT NULL, month INTEGER NOT NULL, version INTEGER NOT NULL,
+    PRIMARY KEY (employer, month)) STRICT;
+CREATE TABLE wages (employer INTEGER NOT NULL, month INTEGER NOT NULL, worker INTEGER NOT NULL, gross INTEGER NOT NULL,
+    PRIMARY KEY (employer, month, worker)) STRICT;
+CREATE TABLE bank (reference TEXT NOT NULL PRIMARY KEY, serial INTEGER NOT NULL UNIQUE, value INTEGER NOT NULL,
+    named INTEGER, employer INTEGER, cents INTEGER NOT NULL, purpose TEXT NOT NULL, note TEXT NOT NULL) STRICT;
+CREATE TABLE credits (employer INTEGER NOT NULL, purpose TEXT NOT NULL, day INTEGER NOT NULL, serial INTEGER NOT NULL,
+    cents INTEGER NOT NULL, ref TEXT NOT NULL, PRIMARY KEY (employer, purpose, day, serial)) STRICT;
+CREATE TABLE claims (no INTEGER PRIMARY KEY, employer INTEGER NOT NULL, worker INTEGER NOT NULL, cents INTEGER NOT NULL,
+    state INTEGER NOT NULL, made INTEGER NOT NULL, released INTEGER, to_contributions INTEGER NOT NULL,
+    to_interest INTEGER NOT NULL, paid INTEGER NOT NULL, list INTEGER) STRICT;
+CREATE TABLE lists (no INTEGER PRIMARY KEY, day INTEGER NOT NULL, items INTEGER NOT NULL,
+    total INTEGER NOT NULL) STRICT;
+CREATE TABLE runs (no INTEGER PRIMARY KEY, day INTEGER NOT NULL, firms INTEGER NOT NULL) STRICT;
+CREATE TABLE reminders (run INTEGER NOT NULL, employer INTEGER NOT NULL, level INTEGER NOT NULL,
+    missing INTEGER NOT NULL, first INTEGER, arrears INTEGER NOT NULL, interest INTEGER NOT NULL,
+    PRIMARY KEY (run, employer)) STRICT;
+CREATE TABLE requests (caller INTEGER NOT NULL, number INTEGER NOT NULL, day INTEGER NOT NULL, command BLOB NOT NULL,
+    kind INTEGER NOT NULL, a INTEGER NOT NULL, b INTEGER NOT NULL, c INTEGER NOT NULL,
+    PRIMARY KEY (caller, number)) STRICT;
+CREATE TABLE charges (employer INTEGER NOT NULL, month INTEGER NOT NULL, due INTEGER NOT NULL, cents INTEGER NOT NULL,
+    PRIMARY KEY (employer, month)) STRICT;
+CREATE TABLE pieces (employer INTEGER NOT NULL, month INTEGER NOT NULL, day INTEGER NOT NULL, serial INTEGER NOT NULL,
+    cents INTEGER NOT NULL, ref TEXT NOT NULL, PRIMARY KEY (employer, month, day, serial)) STRICT;
+CREATE INDEX wages_by_worker ON wages (worker, employer, month);
+CREATE INDEX claims_by_worker ON claims (worker, no);
+CREATE INDEX claims_by_release ON claims (released);
+CREATE INDEX claims_by_list ON claims (list);
+CREATE INDEX reminders_by_employer ON reminders (employer, run);
+INSERT INTO meta VALUES (1, 0, 19843, 3, 1, 0, 0, 0);
+INSERT INTO rates VALUES (288, 2000, 15, 20, 100, 1425);
+INSERT INTO employers VALUES (1001, 'Bau Nord', 288, NULL);
+INSERT INTO reports VALUES (1001, 288, 1);
+INSERT INTO wages VALUES (1001, 288, 7, 1000000);
+INSERT INTO bank VALUES ('B1', 1, 19778, 1001, 1001, 150000, 'C', '');
+INSERT INTO credits VALUES (1001, 'C', 19778, 1, 150000, 'B1');
+INSERT INTO charges VALUES (1001, 288, 19773, 200000);
+INSERT INTO pieces VALUES (1001, 288, 19778, 1, 150000, 'B1');
+INSERT INTO requests VALUES (0, 1, 19843, CAST('employer 1001 2024-01 Bau Nord' AS BLOB), 1, 0, 0, 0),
+    (1001, 1, 19843, CAST('report 1001 2024-01 7:1000000' AS BLOB), 2, 1, 200000, 0),
+    (0, 2, 19843, CAST('bank reference,value_date,employer,cents,purpose,note
+B1,2024-02-25,1001,150000,C,
+' AS BLOB), 3, 1, 0, 0);
 """
 
 
@@ -87,6 +139,45 @@ class Stores(ProgramUnderTest):
         return {path.name: path.read_bytes() for path in self.folder.iterdir()
                 if path.is_file() and not path.name.endswith("-wal")}
 
+    def damaged(self):
+        content = bytearray((self.folder / "fund.db").read_bytes())
+        content[4096 + 8:4096 + 40] = b"\xff" * 32
+        return content
+
+    def change(self, name, statement):
+        store = sqlite3.connect(self.folder / name)
+        store.execute(statement)
+        store.commit()
+        store.close()
+
+    def copy(self, name, *statements):
+        """The store under another name, changed by these statements."""
+        self.write(name, (self.folder / "fund.db").read_bytes())
+        for it in statements:
+            self.change(name, it)
+
+    def old_store(self, name):
+        """A store of schema 0, as one was left that nothing serves."""
+        store = sqlite3.connect(self.write(name, ""))
+        store.execute("PRAGMA journal_mode = WAL")
+        store.executescript(OLD_STORE)
+        store.close()
+
+    def other_databases(self):
+        """Files that aren't stores of this program, in a folder where there is one; and what each is refused with."""
+        self.write("empty", "")
+        self.write("text", "a text of more than nothing\n" * 200)
+        self.write("other.db", "")
+        self.change("other.db", "CREATE TABLE note (id INTEGER PRIMARY KEY, title TEXT NOT NULL)")
+        self.write("damaged.db", bytes(self.damaged()))
+        self.old_store("old.db")
+        self.copy("later.db", "UPDATE meta SET schema = 7")
+        self.copy("changed.db", "DROP INDEX claims_by_list")
+        store, none, later = "rule 41 Store\n", "rule 43 WrongVersion 0\n", "rule 43 WrongVersion 7\n"
+        return {
+            "no.db": store, "no/fund.db": store, ".": store, "empty": none, "text": store, "damaged.db": store,
+            "other.db": none, "old.db": none, "later.db": later, "changed.db": store}
+
 
 class Look(Stores):
     def test_a_new_store(self):
@@ -96,7 +187,7 @@ class Look(Stores):
     def test_what_stands_there(self):
         self.filled()
         # Seven requests and the import. The firm's numbers are greater than the desk's, and B3's firm is unknown.
-        self.expect(["look", "fund.db"], 0, """schema 0
+        self.expect(["look", "fund.db"], 0, """schema 1
 ledger day 2024-04-30
 requests 8
 greatest number of the desk 12
@@ -124,7 +215,7 @@ last run -
         self.assertEqual(output.splitlines()[8:], ["open claims 1", "to pay out 2", "last list -", "last run -"])
         answers = self.served(request("/payouts", 22) + request("/reminders", 23), "2024-05-17")
         self.assertEqual(answers.count(b"HTTP/1.1 200 OK"), 2, answers)
-        self.expect(["look", "fund.db"], 0, """schema 0
+        self.expect(["look", "fund.db"], 0, """schema 1
 ledger day 2024-05-17
 requests 15
 greatest number of the desk 23
@@ -152,45 +243,24 @@ last run 1 2024-05-17
             "ledger day 2024-04-30", "requests 2", "greatest number of the desk 7", "firms 1", "reports 1"])
 
     def test_no_store_at_the_path(self):
-        self.write("empty", "")
-        self.write("text", "a text of more than nothing\n" * 200)
-        other = sqlite3.connect(self.write("other.db", ""))
-        other.execute("CREATE TABLE note (id INTEGER PRIMARY KEY, title TEXT NOT NULL)")
-        other.commit()
-        other.close()
         self.filled()
-        self.write("damaged.db", bytes(self.damaged()))
-        self.write("later.db", (self.folder / "fund.db").read_bytes())
-        self.write("older.db", (self.folder / "fund.db").read_bytes())
-        self.change("later.db", "UPDATE meta SET schema = 7")
-        self.change("older.db", "DROP INDEX claims_by_list")
+        refused = self.other_databases()
         before = self.content()
-        store, version = "rule 41 Store\n", "rule 43 WrongVersion {}\n"
         for path, told in {
-            "no.db": store + "there is nothing at this path\n",
-            "no/fund.db": store + "there is nothing at this path\n",
-            ".": store + "this is a folder\n",
-            "empty": version.format(0) + "this file is empty\n",
-            "text": store + "this file is no database, or a damaged one\n",
-            "damaged.db": store + "its tables can't be read, or an earlier build of this program made them\n",
-            "other.db": version.format(0) + "this database is no store of this program\n",
-            "later.db": version.format(7) + "this store has schema 7, and this program's is 0\n",
-            "older.db": store + "its tables can't be read, or an earlier build of this program made them\n",
+            "no.db": "there is nothing at this path\n",
+            "no/fund.db": "there is nothing at this path\n",
+            ".": "this is a folder\n",
+            "empty": "this file is empty\n",
+            "text": "this file is no database, or a damaged one\n",
+            "damaged.db": "its tables can't be read, or are others than this program's\n",
+            "other.db": "this database is no store of this program, or one of schema 0\n",
+            "old.db": "this database is no store of this program, or one of schema 0\n",
+            "later.db": "this store has schema 7, and this program's is 1\n",
+            "changed.db": "its tables can't be read, or are others than this program's\n",
         }.items():
             with self.subTest(path):
-                self.expect(["look", path], 3, "", told)
+                self.expect(["look", path], 3, "", refused[path] + told)
         self.assertEqual(self.content(), before)
-
-    def damaged(self):
-        content = bytearray((self.folder / "fund.db").read_bytes())
-        content[4096 + 8:4096 + 40] = b"\xff" * 32
-        return content
-
-    def change(self, name, statement):
-        store = sqlite3.connect(self.folder / name)
-        store.execute(statement)
-        store.commit()
-        store.close()
 
     def test_a_store_that_is_held(self):
         self.filled()
@@ -200,6 +270,98 @@ last run 1 2024-05-17
             peer.shutdown(1)
             self.read_all(peer)
         self.assertEqual(self.ended(server), (0, "served 1\n", ""))
+
+
+class Migrate(Stores):
+    """No schema is brought over yet: a store has this program's, or is refused, and nothing changes."""
+
+    def test_a_current_store(self):
+        self.init()
+        self.expect(["migrate", "fund.db"], 0, "schema 1\n")
+        self.filled_further()
+        before = self.content()
+        for _ in range(2):
+            self.expect(["migrate", "fund.db"], 0, "schema 1\n")
+        self.assertEqual(self.content(), before)
+
+    def filled_further(self):
+        self.assertEqual(self.served(REGISTRATION + JANUARY).count(b"HTTP/1.1 200 OK"), 2)
+
+    def test_what_was_acknowledged_before_a_kill(self):
+        self.killed()
+        self.expect(["migrate", "fund.db"], 0, "schema 1\n")
+        # All is in the file of the store.
+        (self.folder / "fund.db-wal").unlink()
+        self.assertEqual(self.run_program("look", "fund.db")[1].splitlines()[2], "requests 2")
+
+    def test_other_files(self):
+        self.filled()
+        refused = self.other_databases()
+        before = self.content()
+        for path, told in refused.items():
+            with self.subTest(path):
+                self.expect(["migrate", path], 3, "", told)
+        self.assertEqual(self.content(), before)
+        self.assertFalse((self.folder / "no.db").exists())
+        self.assertFalse((self.folder / "empty-wal").exists())
+
+    def test_numbers(self):
+        self.filled()
+        for number in (0, 2, 9, 2**63 - 1, -1, -2**63):
+            told = f"rule 43 WrongVersion {number}\n" if number >= 0 else "rule 41 Store\n"
+            with self.subTest(number):
+                self.copy("copy.db", f"UPDATE meta SET schema = {number}")
+                before = self.content()
+                self.expect(["migrate", "copy.db"], 3, "", told)
+                self.assertEqual(self.content(), before)
+
+    def test_a_number_beside_other_tables(self):
+        self.filled()
+        for number in (0, 1, 5):
+            told = "rule 41 Store\n" if number == 1 else f"rule 43 WrongVersion {number}\n"
+            with self.subTest(number):
+                self.copy("copy.db", f"UPDATE meta SET schema = {number}", "CREATE TABLE note (id INTEGER PRIMARY KEY)")
+                self.expect(["migrate", "copy.db"], 3, "", told)
+        self.copy("copy.db", "DELETE FROM meta")
+        self.expect(["migrate", "copy.db"], 3, "", "rule 43 WrongVersion 0\n")
+
+    def test_a_store_of_schema_0(self):
+        """Each word that opens a store refuses it with its number, and nothing of it changes."""
+        self.old_store("old.db")
+        before, rows = self.content(), self.rows_of("old.db")
+        refusal = "rule 43 WrongVersion 0\n"
+        told = "this database is no store of this program, or one of schema 0\n"
+        for words in (["migrate", "old.db"], ["init", "old.db", "rates.toml"], ["statement", "old.db", DAY, "1001"],
+                      ["import", "old.db", DAY, "3", "bank.csv"], ["serve", "old.db", "callers.toml", DAY, "8080", "1"],
+                      ["backup", "old.db", "copy.db"]):
+            with self.subTest(words):
+                self.expect(words, 3, "", refusal)
+                self.assertEqual(self.content(), before)
+        self.expect(["look", "old.db"], 3, "", refusal + told)
+        self.assertEqual(self.content(), before)
+        self.assertEqual(self.rows_of("old.db"), rows)
+
+    def rows_of(self, name):
+        """All rows of a database, by tables."""
+        store = sqlite3.connect(self.folder / name)
+        tables = [row[0] for row in store.execute("SELECT name FROM sqlite_schema WHERE type = 'table' ORDER BY rowid")]
+        rows = {table: store.execute(f"SELECT * FROM {table}").fetchall() for table in tables}
+        store.close()
+        return rows
+
+    def test_a_store_that_is_held(self):
+        self.filled()
+        server = self.serving(1)
+        with self.connect(server) as peer:
+            self.expect(["migrate", "fund.db"], 3, "", "rule 41 Store\n")
+            peer.shutdown(1)
+            self.read_all(peer)
+        self.assertEqual(self.ended(server), (0, "served 1\n", ""))
+
+    def test_a_closed_output(self):
+        self.init()
+        with open("/dev/full", "wb") as full:
+            self.assertEqual(self.run_program("migrate", "fund.db", stdout=full), (3, "", "fault stream\n"))
 
 
 class Backup(Stores):

@@ -53,12 +53,15 @@ month_charge rates m base = record {
 }
 
 -- the contribution for the lines of a firm's month, at the rate row in force for it, as it is kept
+-- while nothing is paid of it
 abbrev pub kept_charge : Option Rate → ℕ → ℕ → List WageLine → KeptCharge
 kept_charge rate e m lines = record {
   employer = e;
   month = m;
   due = due_by rate m;
   cents = contribution_of_lines rate lines;
+  left = contribution_of_lines rate lines;
+  weight = 0;
 }
 
 -- the contribution of a month for its latest lines, if there are any

@@ -1,4 +1,5 @@
--- The pieces that the tables keep of each firm's account, and where a request changes it first.
+-- The pieces that the tables keep of each firm's account, what is open of its contributions, and where
+-- a request changes it first.
 use Rattle.std.specs.Prelude.{◌≡◌, ◌≢◌, ℕ, ◌+◌, ◌<◌, ◌==◌, List, Any, filter, find, length, map}
 use Rattle.std.specs.List.{enumerate_from, flat_map}
 use Rattle.clear_account.specs.Account.{charge_at, charged, charged_up_to, credited, places}
@@ -6,8 +7,11 @@ use Rattle.clear_account.specs.Suffix.{share_behind}
 use Rattle.clear_account.specs.declared.entries.Charge.{Charge}
 use Rattle.clear_account.specs.declared.entries.Credit.{Credit}
 use Rattle.clear_kept.specs.Changes.{charges_before, credits_before}
+use Rattle.clear_kept.specs.Weighed.{weighed_charges}
+use Rattle.clear_kept.specs.declared.rows.WeighedCharge.{WeighedCharge}
 use Rattle.clear_values.specs.declared.lines.Purpose.TheVariants.{Contribution}
 use Rattle.clear_values.specs.declared.rows.CreditRow.{CreditRow}
+use Rattle.clear_values.specs.declared.rows.KeptCharge.{KeptCharge}
 use Rattle.clear_values.specs.declared.rows.PieceRow.{PieceRow}
 use Rattle.clear_values.specs.Keyed.{AreInOrder}
 use Rattle.clear_book.specs.declared.calls.Call.{Call}
@@ -37,10 +41,35 @@ table_pieces t e =
 abbrev pub IsAllocated : (PieceRow → PieceRow) → Tables → ℕ → Type 0
 IsAllocated g t e = filter (λ row. row.employer == e) t.pieces ≡ map g (table_pieces t e)
 
--- and so are those of each firm
+-- ---- what is paid of the contributions
+
+-- a kept contribution with what is open of it, and with its weight so far
+abbrev pub weighed_in : KeptCharge → WeighedCharge
+weighed_in row = record {
+  month = row.month;
+  due = row.due;
+  cents = row.cents;
+  left = row.left;
+  weight = row.weight;
+}
+
+-- those of a firm
+abbrev pub weighed_rows : Tables → ℕ → List WeighedCharge
+weighed_rows t e = map weighed_in (filter (λ row. row.employer == e) t.charges)
+
+-- what is kept as open of the contributions of a firm, and as their weights so far, is what its
+-- credits leave open of them, and weigh
+abbrev pub IsWeighed : Tables → ℕ → Type 0
+IsWeighed t e = weighed_rows t e ≡ weighed_charges (kept_charges t e) (table_credits t e)
+
+-- ---- all firms
+
+-- the kept pieces of each firm are what its credits pay, but for the cents that g gives to some, and
+-- its kept contributions have what is open of them
 pub record AreAllocated (g : PieceRow → PieceRow) (t : Tables) : Type 0 where
   pub pieces : (e : ℕ) → IsAllocated g t e
   pub in_order : AreInOrder piece_key t.pieces
+  pub weighed : (e : ℕ) → IsWeighed t e
 
 -- the same of contributions and credits that are left of a firm, where s cents of contributions and
 -- p cents of credits lie before them
@@ -49,6 +78,14 @@ pieces_left s p charges rows = flat_map
     (λ i. flat_map (λ placed. piece_of (charge_at charges i).month placed.1
     (share_behind s p charges (map row_credit rows) i placed.0)) (enumerate_from 0 rows))
     (places charges)
+
+-- the contribution alone, as it is kept while nothing is paid of it
+abbrev pub unpaid : KeptCharge → KeptCharge
+unpaid row = record row { left = row.cents; weight = 0 }
+
+-- the same contributions, of which other parts may be paid
+abbrev pub AreSameCharges : List KeptCharge → List KeptCharge → Type 0
+AreSameCharges old new = map unpaid old ≡ map unpaid new
 
 -- ---- where g may give other cents
 
@@ -100,8 +137,8 @@ LeavesPlaces g b call =
     (e : ℕ) → LeavesChange g e (charges_of b e) (charges_of (step b call) e) (credits_of b e)
     (credits_of (step b call) e)
 
--- the pieces follow a change of the tables: whatever g may give other cents to, it gives them to the
--- same pieces after it
+-- the pieces, and what is open of the contributions, follow a change of the tables: whatever g may give
+-- other cents to, it gives them to the same pieces after it
 abbrev pub Follows : Tables → Tables → Type 0
 Follows t u =
     (g : PieceRow → PieceRow) → KeepsKeys g → ((e : ℕ) → LeavesChanged g t u e)
@@ -109,11 +146,18 @@ Follows t u =
 
 -- ---- the tables of a book
 
--- the tables are those of the book, and so are the pieces, but for the cents that g gives to some
+-- the tables are those of the book, and so are the pieces, but for the cents that g gives to some, and
+-- what is open of the contributions
 pub record RepresentsBut (g : PieceRow → PieceRow) (b : Book) (t : Tables) : Type 0 where
   pub stands : Stands b t
   pub pieces : AreAllocated g t
 
--- the tables are those of the book, its pieces with them
+-- the tables are those of the book, its pieces and what is open of its contributions with them
 abbrev pub Represents : Book → Tables → Type 0
 Represents b t = RepresentsBut (λ row. row) b t
+
+-- the tables are those of the book, with what is open of its contributions, whatever cents the pieces
+-- hold
+pub record StandsWeighed (b : Book) (t : Tables) : Type 0 where
+  pub stands : Stands b t
+  pub weighed : (e : ℕ) → IsWeighed t e

@@ -1,6 +1,7 @@
 -- The tables that stand for a book: rows by their keys.
-use Rattle.std.specs.Prelude.{◌≡◌, ℕ, List, [], ◌∷◌, Option, Some, None, ◌&&◌, ◌==◌}
+use Rattle.std.specs.Prelude.{◌≡◌, ◌≤◌, ℕ, List, [], ◌∷◌, Option, Some, None, ◌&&◌, ◌==◌}
 use Rattle.std.specs.Prelude.{if◌then◌else◌, length, sum_by, map, filter}
+use Rattle.std.specs.List.{AllByRecursion}
 use Rattle.std.specs.Option.{option_map}
 use Rattle.clear_account.specs.declared.entries.Charge.{Charge}
 use Rattle.clear_account.specs.declared.entries.Credit.{Credit}
@@ -16,6 +17,7 @@ use Rattle.clear_book.specs.Book.{Book, Entry, Member, rates_of, ledger_day}
 use Rattle.clear_book.specs.Book.{member_of, employer_count, latest_lines, reported_version}
 use Rattle.clear_book.specs.Calls.{command_bytes}
 use Rattle.clear_values.specs.Keyed.{find_row, with_row, AreInOrder}
+use Rattle.clear_values.specs.Limits.{most_base, most_weight}
 use Rattle.clear_book.specs.Lines.{lines_standing, credits_made, serial_count}
 use Rattle.clear_book.specs.Reminders.{reminders_of, runs_of}
 use Rattle.clear_book.specs.Workers.{claims_of, entitlement_for, lists_of}
@@ -23,7 +25,8 @@ pub use Rattle.clear_values.specs.Tables.{RequestRow, Tables, employer_key, repo
 pub use Rattle.clear_values.specs.Tables.{wage_key, charge_key, bank_key, claim_key, list_key}
 pub use Rattle.clear_values.specs.Tables.{piece_key, run_key}
 pub use Rattle.clear_values.specs.Tables.{reminder_key, request_key, member_in, wage_row, wage_rows}
-pub use Rattle.clear_values.specs.Tables.{is_wage_key_of, with_wages, with_pieces, changed, dated}
+pub use Rattle.clear_values.specs.Tables.{is_wage_key_of, with_wages, with_pieces, corrected}
+pub use Rattle.clear_values.specs.Tables.{keeps_contribution, changed, dated}
 
 -- ---- look-ups
 
@@ -73,8 +76,12 @@ requests_of xs = map request_row xs
 
 -- ---- the tables of a book, row by row
 
--- the tables are those of the book, the pieces aside: each look-up says what the book says, and the
--- keys rise strictly, so that there is no further row
+-- what is open of a kept contribution, and its weight so far, are in their ranges
+abbrev pub IsPaidInRange : KeptCharge → Type 0
+IsPaidInRange row = (row.left ≤ most_base) × (row.weight ≤ most_weight)
+
+-- the tables are those of the book, the pieces aside, and what is open of the contributions: each
+-- look-up says what the book says, and the keys rise strictly, so that there is no further row
 pub record Stands (b : Book) (t : Tables) : Type 0 where
   pub rates : t.rates ≡ rates_of b
   pub day : t.day ≡ ledger_day b.entries
@@ -88,6 +95,7 @@ pub record Stands (b : Book) (t : Tables) : Type 0 where
   pub wages_in_order : AreInOrder wage_key t.wages
   pub charges : (e m : ℕ) → charge_at t.charges e m ≡ book_charge b e m
   pub charges_in_order : AreInOrder charge_key t.charges
+  pub charges_paid : AllByRecursion IsPaidInRange t.charges
   pub bank : (reference : List ℕ) → find_row bank_key t.bank reference
       ≡ find_row bank_key (lines_standing b.entries) reference
   pub bank_in_order : AreInOrder bank_key t.bank

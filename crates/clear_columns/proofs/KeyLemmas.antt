@@ -1,5 +1,5 @@
 -- Rows by their keys: the order of the database is that of the tables.
-use Rattle.std.proofs.Common.{◌≡◌, ℕ, ℤ, Bool, true, false, not, ◌&&◌, ◌||◌, ◌==◌, nat_lt, cond, List, [], ◌∷◌, Option, None, Some, IsSome, is_some, filter, map, length, ◌≤◌, refl, sym, ap, ap₂, subst, ◌∙◌, arith, Ordering, Less, Equal, Greater, is_eq, is_lt, is_gt, int_cmp, int_eq, nat_cmp, slice_get, true≢false}
+use Rattle.std.proofs.Common.{◌≡◌, ℕ, ℤ, Bool, true, false, not, ◌&&◌, ◌||◌, ◌==◌, nat_lt, cond, List, [], ◌∷◌, Option, None, Some, IsSome, is_some, filter, map, length, ◌≤◌, refl, sym, ap, ap₂, subst, ◌∙◌, arith, Ordering, Less, Equal, Greater, is_eq, is_lt, is_gt, int_cmp, int_eq, map-id, nat_cmp, slice_get, true≢false}
 use Rattle.std.proofs.lemmas.Bool.Decides.{nat_tests}
 use Rattle.std.specs.Cmp.{IsTotalOrder}
 use Rattle.std.specs.Cmp.Lexicographic.{slice_cmp, on_texts, nat_list_cmp_total}
@@ -247,6 +247,43 @@ module _ {X : Type 0} (key : X → List ℕ) where
       told : (o : Option X) → find_row key xs (key new) ≡ o → update_where (λ x. is_key (key x) (key new)) (λ x. new) xs ≡ cond (is_some (find_row key xs (key new))) (put_row key xs new) xs
       told (Some x) e = replaced_is xs new up (subst IsSome (sym e) refl) ∙ sym (ap (λ o. cond (is_some o) (put_row key xs new) xs) e)
       told None e = none_replaced (λ x. is_key (key x) (key new)) (λ x. new) xs (none_of_key xs (key new) e) ∙ sym (ap (λ o. cond (is_some o) (put_row key xs new) xs) e)
+
+  -- an update of the row of a key to a row that has it, unless the row may stay
+  pub corrects : (xs : List X) (new : X) (stays : X → Bool) (f : X → X) → ((x : X) → key (f x) ≡ key x) → ((x : X) → is_key (key x) (key new) ≡ true → f x ≡ new) → IsAscending (λ a b. by_key key a b ≡ Less) xs
+      → update_where (λ x. is_key (key x) (key new) && not (stays x)) f xs ≡ cond (option_map_or stays (find_row key xs (key new)) true) xs (put_row key xs new)
+  corrects xs new stays f keeps to up = told (find_row key xs (key new)) refl
+    where
+      here : X → Bool
+      here x = is_key (key x) (key new)
+
+      -- what a row becomes
+      after : X → X
+      after x = cond (here x && not (stays x)) (f x) x
+
+      kept : (x : X) → key (after x) ≡ key x
+      kept x = elim (here x && not (stays x)) as (λ b. key (cond b (f x) x) ≡ key x) [ true ↦ keeps x | false ↦ refl ]
+
+      passed_over : (x : X) → here x ≡ false → after x ≡ x
+      passed_over x other = ap (λ b. cond (b && not (stays x)) (f x) x) other
+
+      one : (x : X) → find_row key xs (key new) ≡ Some x → (b : Bool) → stays x ≡ b → map after xs ≡ cond b xs (put_row key xs new)
+      one x found true stay =
+          let is : key x ≡ key new = found_key key xs (key new) x found in
+          let same = put_row-map key (λ y. y) (λ y. refl) xs (key new) x x (in_order_if_rising xs up) found is refl (λ y other. refl) in
+          sym (put_row-map key after kept xs (key new) x x (in_order_if_rising xs up) found is (leaves (here x) (stays x) stay) passed_over) ∙ same ∙ map-id xs
+        where
+          leaves : (a b : Bool) → b ≡ true → cond (a && not b) (f x) x ≡ x
+          leaves true b e = ap (λ c. cond (not c) (f x) x) e
+          leaves false b e = refl
+      one x found false stay =
+          let is : key x ≡ key new = found_key key xs (key new) x found in
+          let passes : here x ≡ true = subst (λ (l : List ℕ). is_key l (key new) ≡ true) (sym is) (is_key-refl (key new)) in
+          let turns : after x ≡ new = ap₂ (λ a b. cond (a && not b) (f x) x) passes stay ∙ to x passes in
+          sym (put_row-map key after kept xs (key new) x new (in_order_if_rising xs up) found refl turns passed_over)
+
+      told : (o : Option X) → find_row key xs (key new) ≡ o → map after xs ≡ cond (option_map_or stays o true) xs (put_row key xs new)
+      told None none = none_replaced (λ x. here x && not (stays x)) f xs (all_weaker (λ x. here x ≡ false) (λ x. (here x && not (stays x)) ≡ false) (λ x no. ap (λ b. b && not (stays x)) no) xs (none_of_key xs (key new) none))
+      told (Some x) found = one x found (stays x) refl
 
   -- an update of the row of a key to another row that has it
   pub changes : (xs : List X) (k : List ℕ) (f : X → X) → ((x : X) → key (f x) ≡ key x) → IsAscending (λ a b. by_key key a b ≡ Less) xs → update_where (λ x. is_key (key x) k) f xs ≡ changed_at key k f xs

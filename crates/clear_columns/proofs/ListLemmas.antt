@@ -4,7 +4,7 @@ use Rattle.std.specs.List.{AllByRecursion}
 use Rattle.std.proofs.lemmas.Int.{ints}
 use Rattle.sqlite_keyed.specs.Keyed.{IsKeyedBy}
 use Rattle.sqlite_keyed.specs.Lists.{update_where}
-use Rattle.sqlite_keyed.proofs.ListLemmas.{all-filter, filter_none, all_weaker, map_same}
+use Rattle.sqlite_keyed.proofs.ListLemmas.{all-filter, filter_none, all_weaker}
 
 module _ {X : Type 0} (p : X → Bool) where
   -- where none passes, each fails
@@ -74,12 +74,3 @@ module _ {X : Type 0} (p q : X → Bool) where
       told true true fewer = omega (arith, fewer)
       told true false fewer = omega (arith, fewer)
       told false b fewer = fewer
-
-  -- an update may leave out a row that would stay as it is
-  pub updates_same : (f : X → X) → ((x : X) → q x ≡ false → f x ≡ x) → (xs : List X) → update_where (λ x. p x && q x) f xs ≡ update_where p f xs
-  updates_same f stays xs = map_same _ _ (λ x. told x (p x) (q x) refl) xs
-    where
-      told : (x : X) (a b : Bool) → q x ≡ b → cond (a && b) (f x) x ≡ cond a (f x) x
-      told x true true e = refl
-      told x true false e = sym (stays x e)
-      told x false b e = refl

@@ -4,7 +4,7 @@ pub use Rattle.clear_values.specs.declared.lines.Purpose.TheVariants.{Contributi
 pub use Rattle.clear_values.specs.Credits.{credit_key}
 pub use Rattle.clear_values.specs.Keyed.{find_row, is_key, with_row}
 pub use Rattle.clear_values.specs.Credits.{is_credit_of, is_in_suspense}
-pub use Rattle.clear_values.specs.Tables.{RequestRow, Tables, bank_key, charge_key, employer_key, is_piece_key_from, is_wage_key_of, list_key, piece_key, report_key, run_key, wage_key}
+pub use Rattle.clear_values.specs.Tables.{RequestRow, Tables, bank_key, charge_key, corrected, employer_key, is_piece_key_from, is_wage_key_of, keeps_contribution, list_key, piece_key, report_key, run_key, wage_key}
 pub use Rattle.clear_values.specs.declared.rows.BankRow.{BankRow}
 pub use Rattle.clear_values.specs.declared.rows.ClaimRow.{ClaimRow}
 pub use Rattle.clear_values.specs.declared.rows.ClaimState.{ClaimState}

@@ -9,7 +9,7 @@ ghost use Rattle.clear_money.specs.Rates.{IsDayOfEachMonth};
 ghost use Rattle.clear_values.specs.Texts.{is_note, is_reference};
 ghost use Rattle.clear_values.specs.declared.lines.Purpose.{Purpose};
 ghost use Rattle.clear_values.specs.Limits.{most_base, most_entries, most_gross, most_serials};
-ghost use Rattle.clear_values.specs.Limits.{most_versions};
+ghost use Rattle.clear_values.specs.Limits.{most_versions, most_weight};
 ghost use Rattle.clear_values.specs.Numbers.{IsClaimNo, IsListNo};
 ghost use Rattle.clear_values.specs.RowRanges.{IsSerial};
 ghost use Rattle.clear_values.specs.Texts.{IsCreditReference, IsName};
@@ -18,7 +18,7 @@ ghost use Rattle.clear_columns.specs.Columns.{ReadsColumn};
 
 use crate::ranges::{
     is_contribution, is_entry_count, is_gross, is_list_no, is_month_count, is_serial,
-    is_serial_count, is_version,
+    is_serial_count, is_version, is_weight,
 };
 use clear_money::days::Day;
 use clear_money::months::Month;
@@ -189,7 +189,7 @@ pub fn gross_at(row: &Row, at: usize) -> Result<u64, Fault>
     Ok(gross)
 }
 
-/// The contribution of a month in a column, in cents, at most 5,000,000,000.
+/// The contribution of a month in a column, or what is open of it, in cents, at most 5,000,000,000.
 pub fn contribution_at(row: &Row, at: usize) -> Result<u64, Fault>
     ensures reads { ReadsColumn row.now at result stored.number (λ c. c ≤ most_base) }
 {
@@ -198,6 +198,18 @@ pub fn contribution_at(row: &Row, at: usize) -> Result<u64, Fault>
         return Err(Fault::Store(StoreCause::Row));
     }
     Ok(contribution)
+}
+
+/// The weight of a contribution in a column: cents, each once for each month begun until it was paid,
+/// at most 12,060,000,000,000.
+pub fn weight_at(row: &Row, at: usize) -> Result<u64, Fault>
+    ensures reads { ReadsColumn row.now at result stored.number (λ w. w ≤ most_weight) }
+{
+    let weight: u64 = value_at(row, at)?;
+    if !is_weight(weight) {
+        return Err(Fault::Store(StoreCause::Row));
+    }
+    Ok(weight)
 }
 
 /// The serial of a bank line or a release in a column, 1 to 500,000,000,000.

@@ -3,12 +3,12 @@ ghost use Rattle.std.specs.Prelude.{◌≡◌, ◌≤◌, ◌↔◌, length, tru
 ghost use Rattle.clear_money.specs.Calendar.{months};
 ghost use Rattle.clear_values.specs.Limits.{most_base, most_charged, most_claimed, most_employers};
 ghost use Rattle.clear_values.specs.Limits.{most_entries, most_gross, most_interest};
-ghost use Rattle.clear_values.specs.Limits.{most_serials, most_versions};
+ghost use Rattle.clear_values.specs.Limits.{most_serials, most_versions, most_weight};
 ghost use Rattle.clear_values.specs.Numbers.{IsListNo, IsRunNo};
 ghost use Rattle.clear_values.specs.RowRanges.{IsSerial};
 
 use clear_values::limits::{
-    MAX_BASE, MAX_EMPLOYERS, MAX_ENTRIES, MAX_GROSS, MAX_SERIALS, MAX_VERSIONS,
+    MAX_BASE, MAX_EMPLOYERS, MAX_ENTRIES, MAX_GROSS, MAX_SERIALS, MAX_VERSIONS, MAX_WEIGHT,
 };
 
 // All claims, in cents: 50,000,000 claims of 100,000,000,000 cents.
@@ -42,6 +42,13 @@ pub fn is_contribution(cents: u64) -> bool
     ensures { (result ≡ true) ↔ (cents ≤ most_base) }
 {
     cents <= MAX_BASE
+}
+
+/// Whether the weight of a contribution can be this, at most 12,060,000,000,000 cents.
+pub fn is_weight(cents: u64) -> bool
+    ensures { (result ≡ true) ↔ (cents ≤ most_weight) }
+{
+    cents <= MAX_WEIGHT
 }
 
 /// Whether a bank line or a release can have this serial, 1 to 500,000,000,000.

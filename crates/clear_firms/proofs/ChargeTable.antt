@@ -1,5 +1,5 @@
 -- The contributions that are kept: under their firms and months.
-use Rattle.clear_columns.proofs.Words.{◌≡◌, ◌==◌, ℤ, pos, ℕ, Bool, true, false, not, ◌&&◌, ◌||◌, List, [], ◌∷◌, Less, map, filter, refl, sym, arith, nat_tests, inl, inr, is_eq, codes, cast_row, Binary, Insert, Update, Database, Row, Values, Ghosts, Term, lit, col, op2, Null, automatic, agree, Compare, Eq, Ne, Or, Key, is_key, Tables, KeptCharge, charge_key, meets, output_cmp, plain_program, plain_query, content, HasTables, by_key, charges_table, charge_values, month, month_number, number, cast_int, cast_null, equal_months, equal_numbers, key_is, months_compare, numbers_compare, others_differ, AnswersJust}
+use Rattle.clear_columns.proofs.Words.{◌≡◌, ◌==◌, ℤ, pos, ℕ, Bool, true, false, not, ◌&&◌, ◌||◌, List, [], ◌∷◌, Less, map, filter, refl, sym, arith, nat_tests, inl, inr, is_eq, codes, cast_row, Binary, Insert, Update, Database, Row, Values, Ghosts, Term, lit, col, op2, Null, automatic, agree, Compare, Eq, Ne, Or, Key, is_key, Tables, KeptCharge, charge_key, keeps_contribution, meets, output_cmp, plain_program, plain_query, content, HasTables, by_key, charges_table, charge_values, month, month_number, number, cast_int, cast_null, equal_months, equal_numbers, key_is, months_compare, numbers_compare, others_differ, AnswersJust}
 use Rattle.sqlite_tied.specs.Compute.{everything}
 use Rattle.sqlite_value.specs.Keys.{ascending, first_key, plain}
 use Rattle.clear_values.proofs.KeyedLemmas.{is_key-true}
@@ -14,10 +14,10 @@ unfolding first_key
 keys_agree a b = rw (equal_numbers (content a).employer (content b).employer, equal_months (content a).month (content b).month) (key_is charge_key (content b) (content a))
 
 pub stored : (x : KeptCharge) → cast_row charges_table (Null ∷ charge_shown x) ≡ Null ∷ charge_shown x
-stored x = rw (cast_null, cast_int (pos x.employer), cast_int (month_number x.month), cast_int (pos x.due), cast_int (pos x.cents))
+stored x = rw (cast_null, cast_int (pos x.employer), cast_int (month_number x.month), cast_int (pos x.due), cast_int (pos x.cents), cast_int (pos x.left), cast_int (pos x.weight))
 
 pub stored_beside : (y : ℤ × KeptCharge) → cast_row charges_table (charge_values y) ≡ charge_values y
-stored_beside y = rw (cast_int y.0, cast_int (pos y.1.employer), cast_int (month_number y.1.month), cast_int (pos y.1.due), cast_int (pos y.1.cents))
+stored_beside y = rw (cast_int y.0, cast_int (pos y.1.employer), cast_int (month_number y.1.month), cast_int (pos y.1.due), cast_int (pos y.1.cents), cast_int (pos y.1.left), cast_int (pos y.1.weight))
 
 abbrev pub charges : KeyedTable KeptCharge
 charges = record {
@@ -50,9 +50,9 @@ charges = record {
 -- ---- the texts
 
 abbrev pub insert_terms : List Term
-insert_terms = lit Null ∷ col 0 0 ∷ col 0 1 ∷ col 0 2 ∷ col 0 3 ∷ []
+insert_terms = lit Null ∷ col 0 0 ∷ col 0 1 ∷ col 0 2 ∷ col 0 3 ∷ col 0 4 ∷ col 0 5 ∷ []
 
-pub insert_says : Says (codes "INSERT INTO charges (employer, month, due, cents) VALUES (?1, ?2, ?3, ?4)") (Insert 12 (Values insert_terms 5))
+pub insert_says : Says (codes "INSERT INTO charges (employer, month, due, cents, open, weight) VALUES (?1, ?2, ?3, ?4, ?5, ?6)") (Insert 12 (Values insert_terms 7))
 unfolding everything
 insert_says = record { said = (refl, refl, refl) }
 
@@ -60,21 +60,25 @@ abbrev pub by_month : List Term
 by_month = op2 (Compare Eq Binary) (col 1 1) (col 0 0) ∷ op2 (Compare Eq Binary) (col 1 2) (col 0 1) ∷ []
 
 abbrev pub update_terms : List Term
-update_terms = col 1 0 ∷ col 1 0 ∷ col 1 1 ∷ col 1 2 ∷ col 0 2 ∷ col 0 3 ∷ []
+update_terms = col 1 0 ∷ col 1 0 ∷ col 1 1 ∷ col 1 2 ∷ col 0 2 ∷ col 0 3 ∷ col 0 4 ∷ col 0 5 ∷ []
 
 -- where the day or the cents are others
 abbrev pub where_other : List Term
 where_other = op2 (Compare Eq Binary) (col 1 1) (col 0 0) ∷ op2 (Compare Eq Binary) (col 1 2) (col 0 1) ∷ op2 Or (op2 (Compare Ne Binary) (col 1 3) (col 0 2)) (op2 (Compare Ne Binary) (col 1 4) (col 0 3)) ∷ []
 
-pub update_says : Says (codes "UPDATE charges SET due = ?3, cents = ?4 WHERE employer = ?1 AND month = ?2 AND (due <> ?3 OR cents <> ?4)") (Update 12 (plain_program 19 where_other update_terms []))
+pub correct_says : Says (codes "UPDATE charges SET due = ?3, cents = ?4, open = ?5, weight = ?6 WHERE employer = ?1 AND month = ?2 AND (due <> ?3 OR cents <> ?4)") (Update 12 (plain_program 19 where_other update_terms []))
 unfolding everything
-update_says = record { said = (refl, refl, refl) }
+correct_says = record { said = (refl, refl, refl) }
+
+pub settle_says : Says (codes "UPDATE charges SET due = ?3, cents = ?4, open = ?5, weight = ?6 WHERE employer = ?1 AND month = ?2") (Update 12 (plain_program 19 by_month update_terms []))
+unfolding everything
+settle_says = record { said = (refl, refl, refl) }
 
 abbrev columns : List Term
-columns = col 1 1 ∷ col 1 2 ∷ col 1 3 ∷ col 1 4 ∷ []
+columns = col 1 1 ∷ col 1 2 ∷ col 1 3 ∷ col 1 4 ∷ col 1 5 ∷ col 1 6 ∷ []
 
 abbrev pub get : List ℕ
-get = codes "SELECT employer, month, due, cents FROM charges WHERE employer = ?1 AND month = ?2"
+get = codes "SELECT employer, month, due, cents, open, weight FROM charges WHERE employer = ?1 AND month = ?2"
 
 get_says : SaysQuery get (plain_program 19 by_month columns [])
 unfolding everything
@@ -87,7 +91,7 @@ abbrev order : List (Term × Key)
 order = (col 1 1, ascending Binary) ∷ (col 1 2, ascending Binary) ∷ []
 
 abbrev pub list : List ℕ
-list = codes "SELECT employer, month, due, cents FROM charges WHERE employer = ?1 ORDER BY employer, month"
+list = codes "SELECT employer, month, due, cents, open, weight FROM charges WHERE employer = ?1 ORDER BY employer, month"
 
 list_says : SaysQuery list (plain_program 19 by_firm columns order)
 unfolding everything
@@ -102,43 +106,33 @@ is_of e m row = is_key (charge_key row) (e ∷ m ∷ [])
 pub of_month : (e m : ℕ) (rest : Row) (y : ℤ × KeptCharge) → meets by_month (number e ∷ month m ∷ rest) (charge_values y) ≡ is_of e m (content y)
 of_month e m rest y = rw (equal_numbers (content y).employer e, equal_months (content y).month m) refl
 
--- the day or the cents of a row are others
-abbrev pub is_other : ℕ → ℕ → KeptCharge → Bool
-is_other due cents row = not (row.due == due) || not (row.cents == cents)
-
--- the row of a key, if its day or its cents are others than those of this one
+-- the row of a key, unless it keeps the contribution of this one
 abbrev pub is_to_change : KeptCharge → KeptCharge → Bool
-is_to_change row x = is_of row.employer row.month x && is_other row.due row.cents x
+is_to_change row x = is_of row.employer row.month x && not (keeps_contribution row x)
 
 pub of_other : (row : KeptCharge) (y : ℤ × KeptCharge) → meets where_other (charge_shown row) (charge_values y) ≡ is_to_change row (content y)
 of_other row y =
     rw (equal_numbers (content y).employer row.employer, equal_months (content y).month row.month, others_differ (content y).due row.due (content y).cents row.cents)
-    (together ((content y).employer == row.employer) ((content y).month == row.month) (is_other row.due row.cents (content y)))
+    (together ((content y).employer == row.employer) ((content y).month == row.month) ((content y).due == row.due) ((content y).cents == row.cents))
   where
-    together : (a b c : Bool) → (a && (b && (c && true))) ≡ ((a && (b && true)) && c)
-    together true true true = refl
-    together true true false = refl
-    together true false c = refl
-    together false b c = refl
+    together : (a b c d : Bool) → (a && (b && ((not c || not d) && true))) ≡ ((a && (b && true)) && not (c && d))
+    together true true true true = refl
+    together true true true false = refl
+    together true true false d = refl
+    together true false c d = refl
+    together false b c d = refl
 
--- the row with another day and other cents
-abbrev pub with_amount : ℕ → ℕ → KeptCharge → KeptCharge
-with_amount due cents row = record row { due = due; cents = cents }
+-- the row with the day and the amounts of another
+abbrev pub with_amounts : KeptCharge → KeptCharge → KeptCharge
+with_amounts row x = record x { due = row.due; cents = row.cents; left = row.left; weight = row.weight }
 
--- the row of a key, with the day and the cents of another of this key, is that
-pub is_that : (row x : KeptCharge) → is_key (charge_key x) (charge_key row) ≡ true → with_amount row.due row.cents x ≡ row
+-- the row of a key, with the day and the amounts of another of this key, is that
+pub is_that : (row x : KeptCharge) → is_key (charge_key x) (charge_key row) ≡ true → with_amounts row x ≡ row
 is_that row x e =
     let same : charge_key x ≡ charge_key row = is_key-true (charge_key x) (charge_key row) e in
     let employer_is : x.employer ≡ row.employer = cc in
     let month_is : x.month ≡ row.month = cc in
-    (λ i. record { employer = employer_is i; month = month_is i; due = row.due; cents = row.cents })
-
--- a row that has this day and these cents is that already
-pub is_already : (due cents : ℕ) (x : KeptCharge) → is_other due cents x ≡ false → with_amount due cents x ≡ x
-is_already due cents x same =
-    let due_is : x.due ≡ due = grind (arith, nat_tests) in
-    let cents_are : x.cents ≡ cents = grind (arith, nat_tests) in
-    sym (λ i. record x { due = due_is i; cents = cents_are i })
+    (λ i. record row { employer = employer_is i; month = month_is i })
 
 -- the row is of a firm
 abbrev pub is_by : ℕ → KeptCharge → Bool

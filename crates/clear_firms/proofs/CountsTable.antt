@@ -17,7 +17,7 @@ abbrev pub meta_row : Counts → Row
 meta_row = meta_values this_schema
 
 pub stored : (c : Counts) → cast_row meta_table (meta_row c) ≡ meta_row c
-stored c = rw (cast_int (pos 1), cast_null, cast_int (pos 0), cast_maybe c.day, cast_int (pos c.entries), cast_int (pos c.serial), cast_int (pos c.claims), cast_int (pos c.lists), cast_int (pos c.runs))
+stored c = rw (cast_int (pos 1), cast_null, cast_maybe c.day, cast_int (pos c.entries), cast_int (pos c.serial), cast_int (pos c.claims), cast_int (pos c.lists), cast_int (pos c.runs))
 
 pub typed : (db : Trees) (c : Counts) → passes Datatype store_schema db meta_table (meta_row c) ≡ true
 typed db c = rw (maybe_typed c.day)

@@ -1,3 +1,4 @@
+pub mod Amounts
 pub mod Counts
 pub mod Shown
 pub use Rattle.clear_columns.specs.Keys

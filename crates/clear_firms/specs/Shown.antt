@@ -32,7 +32,8 @@ wage_shown row =
 
 abbrev pub charge_shown : KeptCharge → Row
 charge_shown row =
-    number row.employer ∷ month row.month ∷ number row.due ∷ number row.cents ∷ []
+    number row.employer ∷ month row.month ∷ number row.due ∷ number row.cents ∷ number row.left
+    ∷ number row.weight ∷ []
 
 -- what a query is given of an employer and a month
 abbrev pub month_given : ℕ → ℕ → Row

@@ -1,19 +1,20 @@
-//! The table of charges: the contribution for each month's latest report.
-ghost use Rattle.std.specs.Prelude.{◌≡◌, ◌≤◌, ◌==◌, [], ◌∷◌, false, filter};
+//! The table of charges: the contribution for each month's latest report, with what is open of it and
+//! its weight so far.
+ghost use Rattle.std.specs.Prelude.{◌≡◌, ◌↔◌, ◌==◌, [], ◌∷◌, false, filter, true};
 ghost use Rattle.sqlite.specs.Values.{bound};
 ghost use Rattle.clear_values.specs.Keyed.{find_row, with_row};
-ghost use Rattle.clear_values.specs.Limits.{most_base};
 ghost use Rattle.clear_values.specs.RowRanges.{IsKeptCharge};
-ghost use Rattle.clear_values.specs.Tables.{charge_key};
+ghost use Rattle.clear_values.specs.Tables.{charge_key, corrected};
 ghost use Rattle.clear_schema.specs.Frame.{Finds, Lists, Writes};
 ghost use Rattle.clear_columns.specs.Keys.{is_held, replaced};
+ghost use Rattle.clear_firms.specs.Amounts.{AreInRange};
 ghost use Rattle.clear_firms.specs.Shown.{charge_shown};
 
 use crate::parameters::month_values;
-use clear_columns::columns::{contribution_at, day_at, employer_at, month_at};
+use clear_columns::columns::{contribution_at, day_at, employer_at, month_at, weight_at};
 use clear_columns::parameters::{day, employer};
 use clear_columns::queries::{find, list};
-use clear_columns::ranges::is_contribution;
+use clear_columns::ranges::{is_contribution, is_weight};
 use clear_columns::rows::StoredTable;
 use clear_money::months::Month;
 use clear_money::numbers::EmployerNo;
@@ -25,39 +26,62 @@ use clear_values::rows::KeptCharge;
 use sqlite::{Alter, Row, Transaction};
 use sqlite_value::value::ValueRef;
 
-/// Adds the contribution for the first report of a month. One above 5,000,000,000 cents is refused
-/// with `Fault::Store(StoreCause::Row)`, and nothing is done.
+/// Adds the contribution for the first report of a month. One of which the cents, what is open or the
+/// weight are more than a contribution can have is refused with `Fault::Store(StoreCause::Row)`, and
+/// nothing is done.
 pub fn insert_charge<S: Alter>(tx: &mut Transaction<'_, S>, row: KeptCharge) -> Result<(), Fault>
     ensures same_reference { tx.new.conn.ghost_name ≡ tx.old.conn.ghost_name }
     ensures writes { Writes S.Store tx.old.conn.now tx.new.conn.now result
-        (¬ (row.cents ≤ most_base)) (λ t. is_held charge_key row t.charges)
+        (¬ AreInRange row) (λ t. is_held charge_key row t.charges)
         (λ t. record t { charges = with_row charge_key t.charges row }) }
 {
-    if !is_contribution(row.cents) {
+    if !are_in_range(&row) {
         return Err(Fault::Store(StoreCause::Row));
     }
     put(
         tx,
-        "INSERT INTO charges (employer, month, due, cents) VALUES (?1, ?2, ?3, ?4)",
+        "INSERT INTO charges (employer, month, due, cents, open, weight) \
+         VALUES (?1, ?2, ?3, ?4, ?5, ?6)",
         &charge_values(&row),
     )
 }
 
-/// Writes the contribution for a later report of a month. Where none is kept of the month, or just
-/// this one, nothing is written. One above 5,000,000,000 cents is refused as by `insert_charge`.
-pub fn replace_charge<S: Alter>(tx: &mut Transaction<'_, S>, row: KeptCharge) -> Result<(), Fault>
+/// Writes the contribution for a later report of a month. Where none is kept of the month, or one of
+/// the same cents due on the same day, nothing is written: that one stays with what is paid of it. One
+/// that can't be is refused as by `insert_charge`.
+pub fn correct_charge<S: Alter>(tx: &mut Transaction<'_, S>, row: KeptCharge) -> Result<(), Fault>
     ensures same_reference { tx.new.conn.ghost_name ≡ tx.old.conn.ghost_name }
     ensures writes { Writes S.Store tx.old.conn.now tx.new.conn.now result
-        (¬ (row.cents ≤ most_base)) (λ _. false)
-        (λ t. record t { charges = replaced charge_key row t.charges }) }
+        (¬ AreInRange row) (λ _. false)
+        (λ t. record t { charges = corrected row t.charges }) }
 {
-    if !is_contribution(row.cents) {
+    if !are_in_range(&row) {
         return Err(Fault::Store(StoreCause::Row));
     }
     put(
         tx,
-        "UPDATE charges SET due = ?3, cents = ?4 \
+        "UPDATE charges SET due = ?3, cents = ?4, open = ?5, weight = ?6 \
          WHERE employer = ?1 AND month = ?2 AND (due <> ?3 OR cents <> ?4)",
+        &charge_values(&row),
+    )
+}
+
+/// Writes a contribution in the place of the one of its month, with what is open of it and its weight
+/// as they are now. Where none is kept of the month, nothing is written. One that can't be is refused
+/// as by `insert_charge`.
+pub fn settle_charge<S: Alter>(tx: &mut Transaction<'_, S>, row: KeptCharge) -> Result<(), Fault>
+    ensures same_reference { tx.new.conn.ghost_name ≡ tx.old.conn.ghost_name }
+    ensures writes { Writes S.Store tx.old.conn.now tx.new.conn.now result
+        (¬ AreInRange row) (λ _. false)
+        (λ t. record t { charges = replaced charge_key row t.charges }) }
+{
+    if !are_in_range(&row) {
+        return Err(Fault::Store(StoreCause::Row));
+    }
+    put(
+        tx,
+        "UPDATE charges SET due = ?3, cents = ?4, open = ?5, weight = ?6 \
+         WHERE employer = ?1 AND month = ?2",
         &charge_values(&row),
     )
 }
@@ -74,7 +98,8 @@ pub fn find_charge<S: Alter>(
 {
     find::<S, Charges>(
         tx,
-        "SELECT employer, month, due, cents FROM charges WHERE employer = ?1 AND month = ?2",
+        "SELECT employer, month, due, cents, open, weight FROM charges \
+         WHERE employer = ?1 AND month = ?2",
         &month_values(no, at),
     )
 }
@@ -90,7 +115,7 @@ pub fn charges_of<S: Alter>(
 {
     list::<S, Charges>(
         tx,
-        "SELECT employer, month, due, cents FROM charges WHERE employer = ?1 \
+        "SELECT employer, month, due, cents, open, weight FROM charges WHERE employer = ?1 \
          ORDER BY employer, month",
         &[employer(no)],
     )
@@ -115,13 +140,22 @@ impl StoredTable for Charges {
             month: month_at(row, 1)?,
             due: day_at(row, 2)?,
             cents: contribution_at(row, 3)?,
+            left: contribution_at(row, 4)?,
+            weight: weight_at(row, 5)?,
         })
     }
 }
 
+// Whether the amounts of a contribution lie in their ranges.
+fn are_in_range(row: &KeptCharge) -> bool
+    ensures { (result ≡ true) ↔ AreInRange row.now }
+{
+    is_contribution(row.cents) && is_contribution(row.left) && is_weight(row.weight)
+}
+
 // What a statement is given of a row.
-fn charge_values(row: &KeptCharge) -> [ValueRef<'static>; 4]
-    requires { row.now.cents ≤ most_base }
+fn charge_values(row: &KeptCharge) -> [ValueRef<'static>; 6]
+    requires { AreInRange row.now }
     ensures { bound result ≡ charge_shown row.now }
 {
     [
@@ -129,5 +163,7 @@ fn charge_values(row: &KeptCharge) -> [ValueRef<'static>; 4]
         month(row.month),
         day(row.due),
         number(row.cents),
+        number(row.left),
+        number(row.weight),
     ]
 }

@@ -1,11 +1,16 @@
 -- What a refusal tells, and results that are passed on.
-use Rattle.std.proofs.Common.{◌≡◌, ℕ, Result, Ok, Err, IfOk, IfErr, refl}
+use Rattle.std.proofs.Common.{◌≡◌, inl, inr, ℕ, None, IfSome, Result, Ok, Err, IfOk, IfErr, refl, sym, subst}
 use Rattle.std.proofs.lemmas.Option.{IfSome_then}
 use Rattle.sqlite.specs.Store as store
-use Rattle.clear_schema.specs.Faults.{IsWrong}
+use Rattle.sqlite.specs.Held.{state}
+use Rattle.sqlite.specs.State.{HasCleanDisk}
+use Rattle.clear_schema.specs.Faults.{IsWrong, other_layout}
+use Rattle.clear_schema.specs.declared.fault.Fault.TheVariants.{Memory, Store}
+use Rattle.clear_book.specs.declared.rules.StoreCause.TheVariants.{Constraint, Row, Other}
+use Rattle.clear_migrate.specs.Answered.{AnswersOrFails}
 use Rattle.clear_schema.specs.declared.fault.OpenFault.{OpenFault}
 use Rattle.clear_schema.specs.declared.fault.OpenFault.TheVariants.{WrongVersion, Failed}
-use Rattle.clear_host.specs.Contents.{IfRefused, TellsNone, TellsOnly}
+use Rattle.clear_host.specs.Contents.{IfRefused, TellsNone, TellsOnly, TellsOther}
 use Rattle.clear_host.specs.declared.offices.NotOpened.{NotOpened}
 
 pub tells_only : (number : ℕ) (fault : OpenFault) → ((told : ℕ) → fault ≡ WrongVersion told → told ≡ number) → TellsOnly number fault
@@ -33,3 +38,25 @@ refused_weaker g P Q then (Err refused) h = IfSome_then refused.connection h (λ
 pub if_ok_both : {A E : Type 0} (r : Result A E) (P Q R : A → Type 0) → ((x : A) → P x → Q x → R x) → IfOk r P → IfOk r Q → IfOk r R
 if_ok_both (Ok x) P Q R then p q = then x p q
 if_ok_both (Err e) P Q R then p q = tt
+
+-- where there is no connection, nothing is said of the fault
+pub unconnected : {S : Type 0} (g : store.Ghosts S) (P : OpenFault → Type 0) (refused : NotOpened S) → refused.connection ≡ None → IfRefused g P refused
+unconnected g P refused none = subst (λ at. IfSome at (λ conn. HasCleanDisk (state g conn) → P refused.fault)) (sym none) tt
+
+-- ---- what is answered of a database that is brought to this program's schema
+
+pub never_so : {A : Type 0} (right : OpenFault) (it : A) → AnswersOrFails (Err right) (Ok it) → ⊥
+never_so right it (inl same) = cc
+never_so right it (inr (why, disk, same)) = cc
+
+pub only_so : {A : Type 0} (number : ℕ) (fault : OpenFault) → AnswersOrFails {A = A} (Err (WrongVersion number)) (Err fault) → TellsOnly number fault
+only_so number (WrongVersion told) (inl same) = cc
+only_so number (WrongVersion told) (inr (why, disk, same)) = absurd cc
+only_so number (Failed fault) answers = tt
+
+pub other_so : {A : Type 0} (fault : OpenFault) → AnswersOrFails {A = A} (Err other_layout) (Err fault) → TellsOther fault
+other_so fault (inl same) some = cc
+other_so fault (inr (Memory, disk, same)) some = absurd (some cc)
+other_so fault (inr (Store Constraint, disk, same)) some = absurd (disk.0 refl)
+other_so fault (inr (Store Row, disk, same)) some = absurd (disk.1 refl)
+other_so fault (inr (Store Other, disk, same)) some = cc

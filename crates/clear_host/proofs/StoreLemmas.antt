@@ -7,9 +7,9 @@ use Rattle.sqlite.specs.Files.{IsNothing}
 use Rattle.sqlite.specs.State.{State}
 use Rattle.sqlite.proofs.ListingLemmas.{empty_is_sound}
 use Rattle.clear_book.specs.Tables.{Tables}
-use Rattle.clear_schema.specs.Held.{StandsFor, StandsOtherwise, TellsAs, TellsSchema}
+use Rattle.clear_schema.specs.Held.{HasOtherLayout, HasTables, StandsFor, StandsOtherwise, TellsAs, TellsSchema}
 use Rattle.clear_schema.specs.Schema.{no_schema, this_layout}
-use Rattle.clear_schema.proofs.OpenLemmas.{tells_seen}
+use Rattle.clear_schema.proofs.OpenLemmas.{is_seen, other_seen, tells_seen}
 use Rattle.clear_host.specs.Contents.{HoldsOtherLayout, HoldsSchema, HoldsStore}
 use Rattle.clear_host.specs.Seen.{SeesIn}
 use Rattle.clear_host.proofs.BlankLemmas.{none_found}
@@ -18,6 +18,9 @@ module _ (image : Image) (s : State) (seen : SeesIn image s) where
   -- the store that the files hold
   pub store_seen : (t : Tables) → HoldsStore this_layout t image → StandsFor t s.committed.trees
   store_seen t (trees, holds, stands) = subst (StandsFor t) (sym (seen.1.holds trees holds)) stands
+
+  pub tables_seen : (t : Tables) → HoldsStore this_layout t image → HasTables t s.now
+  tables_seen t holds = is_seen (HasTables t) (λ _ it. it.sound) s seen.0.0.clean seen.0.1 seen.0.0.is_open (store_seen t holds)
 
   -- or the number that their database tells
   pub told_seen : (number : ℕ) → HoldsSchema number image → TellsAs number s.committed.trees × TellsSchema number s.now
@@ -28,6 +31,9 @@ module _ (image : Image) (s : State) (seen : SeesIn image s) where
   -- or a database of another layout
   pub other_is_seen : HoldsOtherLayout image → StandsOtherwise s.committed.trees
   other_is_seen (trees, holds, stands) = subst StandsOtherwise (sym (seen.1.holds trees holds)) stands
+
+  pub other_layout_seen : HoldsOtherLayout image → HasOtherLayout s.now
+  other_layout_seen holds = other_seen s seen.0.0.clean seen.0.1 seen.0.0.is_open (other_is_seen holds)
 
   -- or no table, where they hold no database yet
   pub nothing_seen : IsNothing image → s.now.schema ≡ no_schema

@@ -16,6 +16,7 @@ ghost use Rattle.clear_schema.specs.Schema.{this_layout};
 ghost use Rattle.clear_office.specs.Office.{Holds, IsHonest, Keeps};
 ghost use Rattle.clear_host.specs.Contents.{HoldsBook, HoldsOtherLayout, HoldsSchema};
 ghost use Rattle.clear_host.specs.Contents.{HoldsStore, IfRefused, TellsNone, TellsOnly, TellsOther};
+ghost use Rattle.clear_host.specs.Seen.{Sees};
 
 use crate::hindrance::{Hindrance, hindrance_of};
 use crate::offices::{NotOpened, Opened, find_office, new_office};
@@ -108,6 +109,23 @@ pub fn open_office<S: Start>(
     ensures empty { IsNothing (image_at S.Start)
         → IfErr result (IfRefused over_files (TellsOnly 0)) }
 {
+    match open_at(rt, path, start) {
+        Ok(connection) => find_office(rt.alloc(), connection),
+        Err(refused) => Err(refused),
+    }
+}
+
+/// Opens the database in the file at a path. Where no file is, none is made. A file that is empty
+/// gets an empty database, which is no store.
+pub(crate) fn open_at<S: Start>(
+    rt: &HostRuntime,
+    path: &str,
+    start: S,
+) -> Result<Connection<FileStore<FileFrom<S>>>, NotOpened<FileStore<FileFrom<S>>>>
+    ensures mode { IfOk result (λ connection. connection.in_transaction ≡ false) }
+    ensures sees { IfOk result (Sees over_files (image_at S.Start)) }
+    ensures none { IfErr result (λ refused. refused.connection ≡ None) }
+{
     if let Err(error) = fs::metadata(rt, path) {
         return Err(NotOpened {
             fault: OpenFault::Failed(fault_of_file(&error)),
@@ -115,9 +133,8 @@ pub fn open_office<S: Start>(
             connection: None,
         });
     }
-    // A file that is empty gets an empty database, which is no store.
     match Connection::open_from(rt, path, false, start) {
-        Ok(connection) => find_office(rt.alloc(), connection),
+        Ok(connection) => Ok(connection),
         Err((error, _left)) => {
             let hindrance = hindrance_of(&error);
             Err(NotOpened {

@@ -9,17 +9,12 @@ use Rattle.clear_account.specs.declared.entries.Credit.{Credit}
 use Rattle.clear_account.specs.Account.{credited}
 use Rattle.clear_account.specs.Arrears.{charged_before}
 use Rattle.clear_account.proofs.PlaceLemmas.{AllPairs-head, AllPairs-tail}
-use Rattle.clear_account.proofs.StretchLemmas.{sums_from-overlap}
 use Rattle.clear_kept.specs.declared.rows.WeighedCharge.{WeighedCharge}
 use Rattle.clear_kept.specs.Weighed.{ArrearsFromRows}
-use Rattle.clear_kept.proofs.WeighedLemmas.{paid_from, row_between, rows_walk, weighed_charges-walk}
+use Rattle.clear_kept.proofs.WeighedLemmas.{left_is, row_between, rows_walk, weighed_charges-walk}
 
 abbrev open_before : ℕ → List WeighedCharge → ℕ
 open_before day rows = sum_by (λ (r : WeighedCharge). r.left) (filter (λ r. nat_lt r.due day) rows)
-
--- what is open of a charge from s on
-left_is : (s : ℕ) (c : Charge) (ks : List Credit) → c.cents - paid_from s (s + c.cents) 0 ks ≡ (s + c.cents - credited ks) - (s - credited ks)
-left_is s c ks = omega (arith, sums_from-overlap (λ (k : Credit). k.cents) s (s + c.cents) 0 ks (omega arith))
 
 none_due : (day s : ℕ) (cs : List Charge) (ks : List Credit) → All (λ c. day ≤ c.due) cs → (open_before day (rows_walk s cs ks) ≡ 0) × (charged_before cs day ≡ 0)
 none_due day s [] ks all = (refl, refl)

@@ -7,3 +7,4 @@ pub mod PutLemmas
 pub mod ToldLemmas
 pub mod DatedLemmas
 pub mod ArrearsLemmas
+pub mod OwingLemmas

@@ -13,7 +13,7 @@ use Rattle.clear_account.proofs.GridLemmas.{parts_from-append}
 use Rattle.clear_account.proofs.LawLemmas.{late_shares-walk}
 use Rattle.clear_account.proofs.OpenLemmas.{late_from}
 use Rattle.clear_account.proofs.ShareLemmas.{paid_of-walk}
-use Rattle.clear_account.proofs.StretchLemmas.{parts_from, sums_from, flat_map-range}
+use Rattle.clear_account.proofs.StretchLemmas.{parts_from, sums_from, sums_from-overlap, flat_map-range}
 use Rattle.clear_kept.specs.declared.rows.WeighedCharge.{WeighedCharge}
 use Rattle.clear_kept.specs.Weighed.{weighed_charge, weighed_charges}
 
@@ -30,6 +30,10 @@ row_between s e c ks = record {
   left = c.cents - paid_from s e 0 ks;
   weight = late_from s e c.due 0 ks;
 }
+
+-- what is open of a charge from s on
+pub left_is : (s : ℕ) (c : Charge) (ks : List Credit) → c.cents - paid_from s (s + c.cents) 0 ks ≡ (s + c.cents - credited ks) - (s - credited ks)
+left_is s c ks = omega (arith, sums_from-overlap (λ (k : Credit). k.cents) s (s + c.cents) 0 ks (omega arith))
 
 weighed_charge-walk : (cs : List Charge) (ks : List Credit) (i : ℕ) → weighed_charge cs ks i ≡ row_between (charged_up_to cs i) (charged_up_to cs (i + 1)) (charge_at cs i) ks
 unfolding open_part
@@ -73,7 +77,7 @@ weighed_charges-walk cs ks =
     ∙ sym (flat_map_single (λ i. row_between (charged_up_to cs i) (charged_up_to cs (i + 1)) (charge_at cs i) ks) (range_with_len 0 (length cs)))
     ∙ flat_map-range (λ c. c.cents) (record { month = 0; due = 0; cents = 0 }) (λ s e c. row_between s e c ks ∷ []) cs
 
-length-rows_walk : (s : ℕ) (cs : List Charge) (ks : List Credit) → length (rows_walk s cs ks) ≡ length cs
+pub length-rows_walk : (s : ℕ) (cs : List Charge) (ks : List Credit) → length (rows_walk s cs ks) ≡ length cs
 length-rows_walk s [] ks = refl
 length-rows_walk s (c ∷ cs) ks = omega (arith, length-rows_walk (s + c.cents) cs ks)
 

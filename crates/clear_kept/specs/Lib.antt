@@ -2,3 +2,4 @@ pub mod Dated
 pub mod Weighed
 pub mod Changes
 pub mod Start
+pub mod Owing

@@ -5,6 +5,8 @@ ghost use Rattle.clear_kept.specs.Changes.{ChargeRowsStand, CreditPut, CreditRow
 ghost use Rattle.clear_kept.specs.Changes.{CreditTaken, CreditsLeaveAll, CreditsRewrite};
 ghost use Rattle.clear_kept.specs.Changes.{RemovedReachBeyond};
 ghost use Rattle.clear_kept.specs.Dated.{DatedRows, NamesPayments, RowsTellPieces};
+ghost use Rattle.clear_kept.specs.Owing.{ChargedFromRows, CreditedFromRows, InterestFromRows};
+ghost use Rattle.clear_kept.specs.Owing.{OpenFromRows, RowsInRange};
 ghost use Rattle.clear_kept.specs.Weighed.{ArrearsFromRows, ToldByRows, WeightFromRow};
 
 /// A changed charge: the rows of its month or later, of the first payment beyond its place or
@@ -88,4 +90,30 @@ pub fn names_payments()
 /// What is open of the charges due before a day is the arrears.
 pub fn arrears_from_rows()
     ensures { ArrearsFromRows }
+{}
+
+/// The rows of an account lie in their ranges.
+pub fn rows_in_range()
+    ensures { RowsInRange }
+{}
+
+/// They tell what is charged.
+pub fn charged_from_rows()
+    ensures { ChargedFromRows }
+{}
+
+/// What is open in all is what is charged, less all payments.
+pub fn open_from_rows()
+    ensures { OpenFromRows }
+{}
+
+/// Where some part is open, the payments are what is charged less what is open, and nothing is
+/// prepaid.
+pub fn credited_from_rows()
+    ensures { CreditedFromRows }
+{}
+
+/// The interest of all charges on a day that no payment comes after is told by their rows.
+pub fn interest_from_rows()
+    ensures { InterestFromRows }
 {}

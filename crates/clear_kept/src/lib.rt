@@ -5,11 +5,12 @@
 //! walk along all that it ever paid. A change of a charge or of payments has a place in cents. The
 //! laws say that the rows which end at or below it stand, that those beyond it are the pieces of
 //! one `refill`, and which rows are to be removed for them; `start` finds the place, `date_pieces`
-//! and `settle_from` give the rows to write.
+//! and `settle_from` give the rows to write, and `owing` tells from rows what a firm owes.
 #![tactic(auto)]
 
 pub mod dated;
 pub mod laws;
+pub mod owing;
 pub mod rows;
 pub mod settled;
 pub mod start;

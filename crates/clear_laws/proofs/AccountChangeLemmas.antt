@@ -1,5 +1,5 @@
 -- What a decision's change makes of the contributions and of the credits that the tables keep of each firm.
-use Rattle.std.proofs.Common.{◌≡◌, ◌≢◌, ℕ, ◌<◌, List, [], ◌∷◌, length, get_or, map, filter, Option, Some, None, Bool, true, false, cond, ◌&&◌, ◌==◌, nat_lt, refl, sym, ap, ◌∙◌, subst, arith}
+use Rattle.std.proofs.Common.{◌≡◌, ◌≢◌, ℕ, ◌<◌, List, [], ◌∷◌, length, get_or, map, filter, Some, None, Bool, true, false, cond, ◌&&◌, ◌==◌, nat_lt, refl, sym, ap, ◌∙◌, subst, arith}
 use Rattle.std.proofs.lemmas.Bool.Decides.{nat_tests}
 use Rattle.std.proofs.lemmas.List.{get_or-map, length-map}
 use Rattle.std.proofs.lemmas.List.Elements.{All-contains, All-contains_itself, All-filter, All-from_recursion, All-get_or, filter_passes, recursion_from_All}
@@ -10,7 +10,7 @@ use Rattle.clear_account.specs.declared.entries.Charge.{Charge}
 use Rattle.clear_account.specs.declared.entries.Credit.{Credit}
 use Rattle.clear_kept.specs.Changes.{charges_before, credits_before}
 use Rattle.clear_values.specs.Credits.{credit_key, credits_of_lines, rank_of, set_offs_of}
-use Rattle.clear_values.specs.Keyed.{is_held, is_key, find_row, AreInOrder, put_row, replaced, with_row, with_rows, without_rows}
+use Rattle.clear_values.specs.Keyed.{is_held, is_key, find_row, AreInOrder, put_row, with_row, with_rows, without_rows}
 use Rattle.clear_values.specs.declared.lines.Purpose.TheVariants.{Contribution}
 use Rattle.clear_values.specs.declared.rows.BankRow.{BankRow}
 use Rattle.clear_values.specs.declared.rows.Change.{Change}
@@ -20,15 +20,15 @@ use Rattle.clear_values.specs.declared.rows.CreditRow.{CreditRow}
 use Rattle.clear_values.specs.declared.rows.KeptCharge.{KeptCharge}
 use Rattle.clear_values.specs.declared.rows.ReportRow.{ReportRow}
 use Rattle.clear_values.specs.declared.texts.WageLine.{WageLine}
-use Rattle.clear_values.proofs.KeyedChangesLemmas.{AreInOrder-put_row, find_row-put_row, keys_differ}
-use Rattle.clear_values.proofs.KeyedLemmas.{found_key, find_row-with_row, is_key-refl, is_key-true}
-use Rattle.clear_values.proofs.KeyedRowsLemmas.{AreNew, same_rows}
+use Rattle.clear_values.proofs.KeyedChangesLemmas.{find_row-put_row, keys_differ}
+use Rattle.clear_values.proofs.KeyedLemmas.{find_row-with_row, is_key-refl, is_key-true}
+use Rattle.clear_values.proofs.KeyedRowsLemmas.{AreNew}
 use Rattle.clear_book.specs.Accounts.{row_credit}
 use Rattle.clear_book.specs.Allocated.{FirstCredit, FirstMonth, contribution_rows, kept_charges}
 use Rattle.clear_book.specs.Lines.{is_credit_of}
-use Rattle.clear_book.specs.Tables.{Tables, changed, charge_at, charge_in, charge_key, table_credits}
+use Rattle.clear_book.specs.Tables.{Tables, changed, charge_at, charge_in, charge_key, corrected, table_credits}
+use Rattle.clear_laws.proofs.CorrectedLemmas.{corrected-other, corrected-same, stays}
 use Rattle.clear_laws.proofs.KeyedFilterLemmas.{all_before_rows, filter-shown, filter-with_row_other, filter-with_rows, filter-with_rows_other, filter-without_rows_other, filter_swap, in_order-before, in_order-new}
-use Rattle.clear_laws.proofs.OneTableLemmas.{whole_charge}
 use Rattle.clear_laws.proofs.TableAccountLemmas.{own_credit}
 
 -- a change by which no account changes
@@ -40,13 +40,13 @@ LeavesAccounts (AssignLine row) = ⊥
 LeavesAccounts (ReleaseClaim claim serial) = ⊥
 LeavesAccounts change = Unit {0}
 
-pub accounts_left : (change : Change) → LeavesAccounts change → (t : Tables) (e : ℕ) → (kept_charges (changed change t) e ≡ kept_charges t e) × (contribution_rows (changed change t) e ≡ contribution_rows t e)
-accounts_left (AddReport row lines charge) left t e = absurd left
-accounts_left (ReplaceReport row lines charge) left t e = absurd left
-accounts_left (AddBankLines rows) left t e = absurd left
-accounts_left (AssignLine row) left t e = absurd left
-accounts_left (ReleaseClaim claim serial) left t e = absurd left
-accounts_left change left t e = (refl, refl)
+pub accounts_left : (change : Change) → LeavesAccounts change → (t : Tables) → ((changed change t).charges ≡ t.charges) × ((changed change t).credits ≡ t.credits)
+accounts_left (AddReport row lines charge) left t = absurd left
+accounts_left (ReplaceReport row lines charge) left t = absurd left
+accounts_left (AddBankLines rows) left t = absurd left
+accounts_left (AssignLine row) left t = absurd left
+accounts_left (ReleaseClaim claim serial) left t = absurd left
+accounts_left change left t = (refl, refl)
 
 -- the pieces stay until they are put
 pub pieces_changed : (change : Change) (t : Tables) → (changed change t).pieces ≡ t.pieces
@@ -55,11 +55,26 @@ pieces_changed change t = refl
 
 -- ---- the contribution of a month
 
--- of a firm's contributions those of earlier months stay, and all credits and the contributions of other firms
+-- the kept contributions of a firm, with what is open of them
+abbrev pub firm_rows : Tables → ℕ → List KeptCharge
+firm_rows t e = filter (λ row. row.employer == e) t.charges
+
+-- of a firm's contributions those of earlier months stay, with what is open of them, and all credits and the contributions
+-- of other firms
 pub record ChangesCharge (t v : Tables) (e m : ℕ) : Type 0 where
   pub rows : (f : ℕ) → contribution_rows v f ≡ contribution_rows t f
   pub earlier : charges_before m (kept_charges t e) ≡ charges_before m (kept_charges v e)
-  pub others : (f : ℕ) → (f == e) ≡ false → kept_charges v f ≡ kept_charges t f
+  pub front : filter (λ row. nat_lt row.month m) (firm_rows v e) ≡ filter (λ row. nat_lt row.month m) (firm_rows t e)
+  pub others : (f : ℕ) → (f == e) ≡ false → firm_rows v f ≡ firm_rows t f
+
+-- it is so of tables with the same contributions and credits
+pub changes_as : (t u v : Tables) (e m : ℕ) → ChangesCharge t u e m → v.charges ≡ u.charges → v.credits ≡ u.credits → ChangesCharge t v e m
+changes_as t u v e m changes charges credits = record {
+  rows = λ f. ap (λ (rows : List CreditRow). filter (is_credit_of f Contribution) rows) credits ∙ changes.rows f;
+  earlier = changes.earlier ∙ ap (λ (rows : List KeptCharge). charges_before m (map charge_in (filter (λ row. row.employer == e) rows))) (sym charges);
+  front = ap (λ (rows : List KeptCharge). filter (λ row. nat_lt row.month m) (filter (λ row. row.employer == e) rows)) charges ∙ changes.front;
+  others = λ f apart. ap (λ (rows : List KeptCharge). filter (λ row. row.employer == f) rows) charges ∙ changes.others f apart;
+}
 
 -- what is kept of a month is found among a firm's contributions
 pub charge_found : (rows : List KeptCharge) (e m : ℕ) → find (λ c. c.month == m) (map charge_in (filter (λ row. row.employer == e) rows)) ≡ charge_at rows e m
@@ -106,6 +121,9 @@ module _ (t : Tables) (charge : KeptCharge) (e m : ℕ) (employer : charge.emplo
   same_earlier : (rows new : List KeptCharge) → filter is_earlier new ≡ filter is_earlier rows → charges_before m (map charge_in (filter (of_firm e) rows)) ≡ charges_before m (map charge_in (filter (of_firm e) new))
   same_earlier rows new same = earlier_are rows ∙ ap (λ xs. map charge_in (filter (of_firm e) xs)) (sym same) ∙ sym (earlier_are new)
 
+  front_is : (rows new : List KeptCharge) → filter is_earlier new ≡ filter is_earlier rows → filter is_earlier (filter (of_firm e) new) ≡ filter is_earlier (filter (of_firm e) rows)
+  front_is rows new same = filter_swap is_earlier (of_firm e) new ∙ ap (filter (of_firm e)) same ∙ sym (filter_swap is_earlier (of_firm e) rows)
+
   put_beside : (p : KeptCharge → Bool) → p charge ≡ false → ((row : KeptCharge) → row.employer ≡ charge.employer → row.month ≡ charge.month → p row ≡ p charge) → filter p (put_row charge_key t.charges charge) ≡ filter p t.charges
   put_beside p is alike =
       filter-with_row_other charge_key p (without_rows charge_key (λ k. is_key k (charge_key charge)) t.charges) charge is
@@ -116,7 +134,8 @@ module _ (t : Tables) (charge : KeptCharge) (e m : ℕ) (employer : charge.emplo
   report_added row lines = record {
     rows = λ f. refl;
     earlier = same_earlier t.charges (with_row charge_key t.charges charge) (filter-with_row_other charge_key is_earlier t.charges charge not_earlier);
-    others = λ f apart. ap (map charge_in) (filter-with_row_other charge_key (of_firm f) t.charges charge (other_firm f apart));
+    front = front_is t.charges (with_row charge_key t.charges charge) (filter-with_row_other charge_key is_earlier t.charges charge not_earlier);
+    others = λ f apart. filter-with_row_other charge_key (of_firm f) t.charges charge (other_firm f apart);
   }
 
   -- its contribution is new
@@ -133,20 +152,22 @@ module _ (t : Tables) (charge : KeptCharge) (e m : ℕ) (employer : charge.emplo
         λ same. absurd (cc (sym none ∙ sym (charge_found t.charges e m) ∙ same ∙ charge_found (with_row charge_key t.charges charge) e m ∙ some)),
       )
 
-  replaced_beside : (p : KeptCharge → Bool) → p charge ≡ false → ((row : KeptCharge) → row.employer ≡ charge.employer → row.month ≡ charge.month → p row ≡ p charge) → filter p (replaced charge_key charge t.charges) ≡ filter p t.charges
-  replaced_beside p is alike = told (is_held charge_key charge t.charges)
+  corrected_beside : (p : KeptCharge → Bool) → p charge ≡ false → ((row : KeptCharge) → row.employer ≡ charge.employer → row.month ≡ charge.month → p row ≡ p charge) → filter p (corrected charge t.charges) ≡ filter p t.charges
+  corrected_beside p is alike = told (stays charge t.charges)
     where
-      told : (b : Bool) → filter p (cond b (put_row charge_key t.charges charge) t.charges) ≡ filter p t.charges
-      told true = put_beside p is alike
-      told false = refl
+      told : (b : Bool) → filter p (cond b t.charges (put_row charge_key t.charges charge)) ≡ filter p t.charges
+      told true = refl
+      told false = put_beside p is alike
 
   -- a correction
   pub report_replaced : (row : ReportRow) (lines : List WageLine) → ChangesCharge t (changed (ReplaceReport row lines charge) t) e m
-  report_replaced row lines = record {
-    rows = λ f. refl;
-    earlier = same_earlier t.charges (replaced charge_key charge t.charges) (replaced_beside is_earlier not_earlier (λ r firm here. ap (λ k. nat_lt k m) here));
-    others = λ f apart. ap (map charge_in) (replaced_beside (of_firm f) (other_firm f apart) (λ r firm here. ap (λ k. k == f) firm));
-  }
+  report_replaced row lines =
+      let sooner = corrected_beside is_earlier not_earlier (λ r firm here. ap (λ k. nat_lt k m) here) in record {
+        rows = λ f. refl;
+        earlier = same_earlier t.charges (corrected charge t.charges) sooner;
+        front = front_is t.charges (corrected charge t.charges) sooner;
+        others = λ f apart. corrected_beside (of_firm f) (other_firm f apart) (λ r firm here. ap (λ k. k == f) firm);
+      }
 
   put_found : charge_at (put_row charge_key t.charges charge) e m ≡ Some (charge_in charge)
   put_found =
@@ -154,42 +175,22 @@ module _ (t : Tables) (charge : KeptCharge) (e m : ℕ) (employer : charge.emplo
       ap (λ k. option_map charge_in (find_row charge_key (put_row charge_key t.charges charge) k)) (sym key)
       ∙ ap (option_map charge_in) (find_row-put_row charge_key t.charges charge (charge_key charge) ∙ ap (λ b. cond b (Some charge) (find_row charge_key t.charges (charge_key charge))) (is_key-refl (charge_key charge)))
 
+  at_key : (rows : List KeptCharge) → charge_at rows e m ≡ option_map charge_in (find_row charge_key rows (charge_key charge))
+  at_key rows = ap (λ k. option_map charge_in (find_row charge_key rows k)) (λ i. sym employer i ∷ sym month i ∷ [])
+
   -- its contribution is another one than before
   pub report_replaced-first : (row : ReportRow) (lines : List WageLine) → is_held charge_key charge t.charges ≡ true → charge_at t.charges e m ≢ Some (charge_in charge)
       → FirstMonth (kept_charges t e) (kept_charges (changed (ReplaceReport row lines charge) t) e) m
   report_replaced-first row lines held differs = (
     (report_replaced row lines).earlier,
-    λ same. differs (sym (charge_found t.charges e m) ∙ same ∙ charge_found (replaced charge_key charge t.charges) e m
-        ∙ ap (λ b. charge_at (cond b (put_row charge_key t.charges charge) t.charges) e m) held ∙ put_found),
+    λ same. differs (sym (charge_found t.charges e m) ∙ same ∙ charge_found (corrected charge t.charges) e m
+        ∙ ap (λ rows. charge_at rows e m) (corrected-other charge t.charges held (λ stands. differs (at_key t.charges ∙ stands))) ∙ put_found),
   )
 
-  -- or it is that which stood
-  pub report_replaced-same : (row : ReportRow) (lines : List WageLine) → AreInOrder charge_key t.charges → charge_at t.charges e m ≡ Some (charge_in charge)
-      → (f : ℕ) → kept_charges (changed (ReplaceReport row lines charge) t) f ≡ kept_charges t f
-  report_replaced-same row lines order stood f = ap (λ (rows : List KeptCharge). map charge_in (filter (of_firm f) rows)) (either (is_held charge_key charge t.charges))
-    where
-      found : find_row charge_key t.charges (charge_key charge) ≡ Some charge
-      found = told (find_row charge_key t.charges (charge_key charge)) refl
-          (ap (λ k. option_map charge_in (find_row charge_key t.charges k)) (λ i. employer i ∷ month i ∷ []) ∙ stood)
-        where
-          told : (o : Option KeptCharge) → find_row charge_key t.charges (charge_key charge) ≡ o → option_map charge_in o ≡ Some (charge_in charge) → o ≡ Some charge
-          told None is here = absurd (cc here)
-          told (Some old) is here =
-              let one : charge_in old ≡ charge_in charge = cc in
-              ap Some (whole_charge old charge (found_key charge_key t.charges (charge_key charge) old is) one)
-
-      all_stand : put_row charge_key t.charges charge ≡ t.charges
-      all_stand =
-          same_rows charge_key (put_row charge_key t.charges charge) t.charges (AreInOrder-put_row charge_key t.charges charge order) order
-          (λ k. find_row-put_row charge_key t.charges charge k ∙ here k (is_key (charge_key charge) k) refl)
-        where
-          here : (k : List ℕ) (b : Bool) → is_key (charge_key charge) k ≡ b → cond b (Some charge) (find_row charge_key t.charges k) ≡ find_row charge_key t.charges k
-          here k true is = sym found ∙ ap (find_row charge_key t.charges) (is_key-true (charge_key charge) k is)
-          here k false is = refl
-
-      either : (b : Bool) → cond b (put_row charge_key t.charges charge) t.charges ≡ t.charges
-      either true = all_stand
-      either false = refl
+  -- or it is that which stood: then nothing changes
+  pub report_replaced-same : (row : ReportRow) (lines : List WageLine) → charge_at t.charges e m ≡ Some (charge_in charge)
+      → (changed (ReplaceReport row lines charge) t).charges ≡ t.charges
+  report_replaced-same row lines stood = corrected-same charge t.charges (sym (at_key t.charges) ∙ stood)
 
 -- ---- new credits
 
@@ -199,6 +200,7 @@ contributions_in e rows = filter (is_credit_of e Contribution) rows
 
 -- all contributions stay, and all credits; there are new ones, for contributions and for other things
 pub record AddsCredits (t v : Tables) (news : List CreditRow) : Type 0 where
+  pub same : v.charges ≡ t.charges
   pub charges : (e : ℕ) → kept_charges v e ≡ kept_charges t e
   pub rows : (e : ℕ) → contribution_rows v e ≡ with_rows credit_key (contribution_rows t e) (contributions_in e news)
   pub free : AreNew credit_key t.credits news
@@ -209,6 +211,7 @@ module _ (t v : Tables) (news : List CreditRow) (charges : v.charges ≡ t.charg
 
   pub adds_credits : AddsCredits t v news
   adds_credits = record {
+    same = charges;
     charges = λ e. ap (λ (rows : List KeptCharge). map charge_in (filter (λ row. row.employer == e) rows)) charges;
     rows = λ e. ap (contributions_in e) credits ∙ filter-with_rows credit_key (is_credit_of e Contribution) t.credits news in_order;
     free = in_order-new credit_key t.credits news in_order;

@@ -133,6 +133,7 @@ module _ (b : Book) (t : Tables) (stands : Stands b t) (caller : Caller) (number
     wages_in_order = stands.wages_in_order;
     charges = charges_left b t stands assignment refl refl;
     charges_in_order = stands.charges_in_order;
+    charges_paid = stands.charges_paid;
     bank = bank_found;
     bank_in_order = AreInOrder-put_row bank_key t.bank row stands.bank_in_order;
     credits = credits_found;

@@ -70,6 +70,7 @@ module _ (b : Book) (t : Tables) (stands : Stands b t) (x : Entry) (of_claims : 
     wages_in_order = stands.wages_in_order;
     charges = charges_left b t stands x of_claims.no_report of_claims.no_rates;
     charges_in_order = stands.charges_in_order;
+    charges_paid = stands.charges_paid;
     bank = bank_left b t stands x of_claims.no_move of_claims.no_rows;
     bank_in_order = stands.bank_in_order;
     credits = credits_are;

@@ -20,6 +20,7 @@ first_stands rates = record {
   wages_in_order = tt;
   charges = λ e m. refl;
   charges_in_order = tt;
+  charges_paid = tt;
   bank = λ reference. refl;
   bank_in_order = tt;
   credits = λ k. refl;

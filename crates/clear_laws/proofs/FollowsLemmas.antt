@@ -1,29 +1,31 @@
 -- The pieces follow a change of the tables, firm by firm.
-use Rattle.std.proofs.Common.{◌≡◌, ℕ, ◌<◌, ◌≤◌, List, [], ◌∷◌, length, filter, Bool, true, false, ◌==◌, refl, sym, ap, ◌∙◌, subst}
+use Rattle.std.proofs.Common.{◌≡◌, ℕ, ◌<◌, ◌≤◌, List, [], ◌∷◌, length, filter, map, Bool, true, false, ◌==◌, refl, sym, ap, ◌∙◌, subst}
 use Rattle.std.proofs.lemmas.Bool.{eq-eqb, eqb-true, or_from, or_left, or_parts, or_right}
-use Rattle.std.specs.List.{All, AllByRecursion, Contains, list_any}
+use Rattle.std.specs.List.{All, AllByRecursion, Contains}
 use Rattle.clear_account.specs.Account.{IsAccount, charge_at, charged, credit_at, credited}
 use Rattle.clear_account.specs.Places.{Ends}
+use Rattle.clear_account.specs.declared.entries.Charge.{Charge}
 use Rattle.clear_account.specs.declared.entries.Credit.{Credit}
 use Rattle.clear_kept.specs.Changes.{charges_before, credits_before}
 use Rattle.clear_values.specs.Keyed.{AreInOrder}
+use Rattle.clear_values.specs.declared.lines.Purpose.TheVariants.{Contribution}
 use Rattle.clear_values.specs.declared.rows.Change.{Change}
 use Rattle.clear_values.specs.declared.rows.CreditRow.{CreditRow}
+use Rattle.clear_values.specs.declared.rows.KeptCharge.{KeptCharge}
 use Rattle.clear_values.specs.declared.rows.PieceRow.{PieceRow}
-use Rattle.clear_book.specs.Allocated.{AreAllocated, FirstCredit, FirstMonth, Follows, IsAllocated, KeepsKeys, LeavesChanged, contribution_rows, kept_charges}
+use Rattle.clear_book.specs.Allocated.{AreAllocated, AreSameCharges, FirstCredit, FirstMonth, Follows, IsAllocated, KeepsKeys, LeavesChange, LeavesChanged, contribution_rows, kept_charges}
 use Rattle.clear_book.specs.Book.{Entry}
-use Rattle.clear_book.specs.Tables.{Tables, changed, noted, piece_key, table_credits}
+use Rattle.clear_book.specs.Lines.{is_credit_of}
+use Rattle.clear_book.specs.Tables.{Tables, changed, charge_in, noted, piece_key, table_credits}
 use Rattle.clear_laws.proofs.AccountChangeLemmas.{AddsCredits, ChangesCharge, LeavesAccounts, accounts_left, contributions_in, no_new_credit, pieces_changed}
 use Rattle.clear_laws.proofs.AllocatedLemmas.{charge_allocated, charge_left, charge_puttable, credits_allocated, credits_left, credits_puttable, leaves_before, others_left, pieces_from, pieces_from-own, pieces_in, still_allocated, with_pieces_put}
-use Rattle.clear_laws.proofs.PieceRowLemmas.{IsOf}
+use Rattle.clear_laws.proofs.PieceRowLemmas.{IsOf, pieces_for}
+use Rattle.clear_laws.proofs.SameChargesLemmas.{same_kept}
+pub use Rattle.clear_laws.proofs.WeighedFollowsLemmas.{WeighsBut, is_among, weighs_first}
 
 -- a firm's pieces follow the change
 abbrev pub FollowsAt : Tables → Tables → ℕ → Type 0
 FollowsAt t u e = (g : PieceRow → PieceRow) → KeepsKeys g → LeavesChanged g t u e → AreAllocated g t → IsAllocated g u e
-
--- the firm is one of these
-abbrev pub is_among : List ℕ → ℕ → Bool
-is_among firms f = list_any (λ e. f == e) firms
 
 -- the pieces of all firms follow the change but for those that are left, whose pieces are as before
 pub record FollowsBut (t u : Tables) (firms : List ℕ) : Type 0 where
@@ -45,17 +47,28 @@ follows_first t v firms pieces others = record {
 
 -- that is the firm of a report
 pub charge_first : (t v : Tables) (e m : ℕ) → v.pieces ≡ t.pieces → ChangesCharge t v e m → FollowsBut t v (e ∷ [])
-charge_first t v e m pieces changes = follows_first t v (e ∷ []) pieces (λ f is. (changes.others f (or_parts (f == e) false is).0, changes.rows f))
+charge_first t v e m pieces changes = follows_first t v (e ∷ []) pieces (λ f is. (ap (map charge_in) (changes.others f (or_parts (f == e) false is).0), changes.rows f))
 
 -- and the firms of new credits for contributions
 pub credits_first : (t v : Tables) (news : List CreditRow) (firms : List ℕ) → v.pieces ≡ t.pieces → AddsCredits t v news → ((f : ℕ) → is_among firms f ≡ false → contributions_in f news ≡ []) → FollowsBut t v firms
 credits_first t v news firms pieces adds none = follows_first t v firms pieces (λ f is. (adds.charges f, no_new_credit t v news adds f (none f is)))
 
+-- other parts may be paid of the contributions
+pub follows_beside : (t u : Tables) (firms : List ℕ) (charges : List KeptCharge) → FollowsBut t u firms → AreSameCharges u.charges charges → FollowsBut t (record u { charges = charges }) firms
+follows_beside t u firms charges follows same = record {
+  done = λ f is g keeps leaves allocated.
+      follows.done f is g keeps (subst (λ (cs : List Charge). LeavesChange g f (kept_charges t f) cs (table_credits t f) (table_credits u f)) (sym (same_kept u.charges charges same f)) leaves) allocated
+      ∙ ap (λ (cs : List Charge). map g (pieces_for cs (contribution_rows u f))) (same_kept u.charges charges same f);
+  as_before = follows.as_before;
+  in_order = follows.in_order;
+}
+
 -- in the end none is left
-pub follows_last : (t u : Tables) → FollowsBut t u [] → Follows t u
-follows_last t u follows g keeps leaves allocated = record {
+pub follows_last : (t u : Tables) → FollowsBut t u [] → WeighsBut t u [] → Follows t u
+follows_last t u follows weighs g keeps leaves allocated = record {
   pieces = λ e. follows.done e refl g keeps (leaves e) allocated;
   in_order = follows.in_order g keeps allocated;
+  weighed = λ e. weighs.done e refl (allocated.weighed e);
 }
 
 -- ---- the next of those that are left
@@ -141,9 +154,17 @@ module _ (e : ℕ) (firms : List ℕ) (once : is_among firms e ≡ false) (t v :
 
 -- ---- where no account changes
 
-pub accounts_left-follows : (t v : Tables) → v.pieces ≡ t.pieces → ((f : ℕ) → (kept_charges v f ≡ kept_charges t f) × (contribution_rows v f ≡ contribution_rows t f)) → Follows t v
-accounts_left-follows t v pieces same = follows_last t v (follows_first t v [] pieces (λ f is. same f))
+pub accounts_left-follows : (t v : Tables) → v.pieces ≡ t.pieces → v.charges ≡ t.charges → v.credits ≡ t.credits → Follows t v
+accounts_left-follows t v pieces charges credits =
+    follows_last t v
+    (follows_first t v [] pieces (λ f is. (ap (λ (rows : List KeptCharge). map charge_in (filter (λ row. row.employer == f) rows)) charges, rows_left f)))
+    (weighs_first t v [] charges (λ f is. rows_left f))
+  where
+    rows_left : (f : ℕ) → contribution_rows v f ≡ contribution_rows t f
+    rows_left f = ap (λ (rows : List CreditRow). filter (is_credit_of f Contribution) rows) credits
 
 -- by all changes but those of reports, credits and claims that are released
 pub other_change-follows : (change : Change) → LeavesAccounts change → (t : Tables) (x : Entry) → Follows t (noted x (changed change t))
-other_change-follows change left t x = accounts_left-follows t (noted x (changed change t)) (pieces_changed change t) (λ f. accounts_left change left t f)
+other_change-follows change left t x =
+    let same = accounts_left change left t in
+    accounts_left-follows t (noted x (changed change t)) (pieces_changed change t) same.0 same.1

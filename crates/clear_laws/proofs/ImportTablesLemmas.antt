@@ -86,6 +86,7 @@ module _ (b : Book) (t : Tables) (stands : Stands b t) (caller : Caller) (number
     wages_in_order = stands.wages_in_order;
     charges = charges_left b t stands import refl refl;
     charges_in_order = stands.charges_in_order;
+    charges_paid = stands.charges_paid;
     bank = λ reference.
         grown bank_key t.bank standing rows stands.bank new_lines_there (references_new b.entries file).0 reference
         ∙ ap (λ (all : List BankRow). find_row bank_key all reference) (sym stand_now);

@@ -5,21 +5,22 @@ use Rattle.clear_values.specs.declared.rows.KeptCharge.{KeptCharge}
 use Rattle.clear_values.specs.declared.rows.ReportRow.{ReportRow}
 use Rattle.clear_values.specs.Keyed.{is_key, find_row, AllBehind, AreInOrder}
 use Rattle.clear_book.specs.Accounts.{book_charge, charges_of}
+use Rattle.clear_book.specs.Allocated.{AreSameCharges}
 use Rattle.clear_book.specs.Book.{Book}
 use Rattle.clear_book.specs.Machine.{IsLawful}
 use Rattle.clear_book.specs.Tables.{Tables, Stands, charge_at, charge_in, charge_key, report_key, row_charge}
 use Rattle.clear_laws.proofs.ChargesLemmas.{book_charge-found, table_charges-charges_of}
-use Rattle.clear_laws.proofs.OneTableLemmas.{same_by_month}
+use Rattle.clear_laws.proofs.SameChargesLemmas.{same_by_month, same_kept}
 
 -- the row that is found for a month keeps its contribution
 pub charge_of_row : (b : Book) (t : Tables) → Stands b t → (e m : ℕ) (row : KeptCharge) → find_row charge_key t.charges (e ∷ m ∷ []) ≡ Some row → book_charge b e m ≡ Some (charge_in row)
 charge_of_row b t stands e m row found = sym (stands.charges e m) ∙ ap (option_map charge_in) found
 
--- ---- the rows of reports, each with its contribution
+-- ---- the rows of reports, each with its contribution, of which nothing is paid
 
 module _ (t : Tables) where
   abbrev kept_row : ReportRow → KeptCharge
-  kept_row row = record { employer = row.employer; month = row.month; due = (row_charge t row).due; cents = (row_charge t row).cents }
+  kept_row row = record { employer = row.employer; month = row.month; due = (row_charge t row).due; cents = (row_charge t row).cents; left = (row_charge t row).cents; weight = 0 }
 
   abbrev kept_rows : List ReportRow → List KeptCharge
   kept_rows rows = map kept_row rows
@@ -56,7 +57,7 @@ module _ (t : Tables) where
 -- ---- a lawful book
 
 module _ (b : Book) (t : Tables) (lawful : IsLawful b) (stands : Stands b t) where
-  kept_rows-are : t.charges ≡ kept_rows t t.reports
+  kept_rows-are : AreSameCharges t.charges (kept_rows t t.reports)
   kept_rows-are =
       same_by_month t.charges (kept_rows t t.reports) stands.charges_in_order (kept_in_order t t.reports stands.reports_in_order)
       (λ e m. stands.charges e m ∙ book_charge-found b t lawful stands e m ∙ sym (kept_at t e m t.reports))
@@ -64,6 +65,6 @@ module _ (b : Book) (t : Tables) (lawful : IsLawful b) (stands : Stands b t) whe
   -- the contributions that are kept of a firm are those of the book, the months rising
   pub kept_charges-charges_of : (e : ℕ) → map charge_in (filter (λ row. row.employer == e) t.charges) ≡ charges_of b e
   kept_charges-charges_of e =
-      ap (λ (rows : List KeptCharge). map charge_in (filter (λ row. row.employer == e) rows)) kept_rows-are
+      same_kept t.charges (kept_rows t t.reports) kept_rows-are e
       ∙ kept_of t e t.reports
       ∙ table_charges-charges_of b t lawful stands e

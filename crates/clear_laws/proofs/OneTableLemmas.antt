@@ -1,21 +1,27 @@
 -- The tables that stand for a book are one.
-use Rattle.std.proofs.Common.{◌≡◌, ℕ, List, Option, Some, None, filter, map, ◌==◌, refl, sym, ap, ◌∙◌}
+use Rattle.std.proofs.Common.{◌≡◌, ℕ, List, [], ◌∷◌, Option, Some, None, filter, map, ◌==◌, refl, sym, ap, ◌∙◌}
 use Rattle.std.proofs.lemmas.Bool.{eq-eqb}
+use Rattle.std.specs.List.{AllByRecursion}
 use Rattle.std.specs.Option.{option_map}
+use Rattle.clear_account.specs.declared.entries.Charge.{Charge}
+use Rattle.clear_kept.specs.Weighed.{weighed_charges}
+use Rattle.clear_values.specs.declared.lines.Purpose.TheVariants.{Contribution}
+use Rattle.clear_values.specs.declared.rows.CreditRow.{CreditRow}
 use Rattle.clear_values.specs.declared.rows.EmployerRow.{EmployerRow}
 use Rattle.clear_values.specs.declared.rows.KeptCharge.{KeptCharge}
 use Rattle.clear_values.specs.declared.rows.PieceRow.{PieceRow}
 use Rattle.clear_values.specs.declared.rows.ReportRow.{ReportRow}
 use Rattle.clear_values.specs.declared.rows.WageRow.{WageRow}
-use Rattle.clear_book.specs.Accounts.{credit_key}
-use Rattle.clear_book.specs.Allocated.{AreAllocated, table_pieces}
+use Rattle.clear_book.specs.Accounts.{credit_key, credits_under}
+use Rattle.clear_book.specs.Allocated.{AreAllocated, AreSameCharges, IsWeighed, kept_charges, table_pieces, weighed_in, weighed_rows}
 use Rattle.clear_book.specs.Book.{Book}
 use Rattle.clear_values.specs.Keyed.{find_row, AreInOrder}
-use Rattle.clear_book.specs.Tables.{Tables, Stands, employer_key, report_key, wage_key, charge_key, bank_key, piece_key, request_key, charge_at, charge_in, member_in}
+use Rattle.clear_book.specs.Tables.{Tables, Stands, employer_key, report_key, wage_key, charge_key, bank_key, piece_key, request_key, member_in, table_credits}
 use Rattle.clear_values.proofs.KeyedLemmas.{found_key}
 use Rattle.clear_values.proofs.KeyedRowsLemmas.{same_rows}
 use Rattle.clear_values.proofs.KeyedChangesLemmas.{same_rows_by_key}
 use Rattle.clear_laws.proofs.KeyedFilterLemmas.{find_row-filter}
+use Rattle.clear_laws.proofs.SameChargesLemmas.{firm_own, same_by_month, same_kept}
 
 -- ---- rows told by their keys and values
 
@@ -60,16 +66,30 @@ whole_wage x y keys amounts =
     let workers : x.worker ≡ y.worker = cc in
     (λ i. record { employer = employers i; month = months i; worker = workers i; gross = amounts i })
 
--- employer, month and contribution make up the row
-pub whole_charge : (x y : KeptCharge) → charge_key x ≡ charge_key y → charge_in x ≡ charge_in y → x ≡ y
-whole_charge x y keys charges =
-    let employers : x.employer ≡ y.employer = cc in
-    (λ i. record { employer = employers i; month = (charges i).month; due = (charges i).due; cents = (charges i).cents })
+-- a contribution with what is open of it and its weight, and its employer, make up the row
+whole_weighed : (x y : KeptCharge) → x.employer ≡ y.employer → weighed_in x ≡ weighed_in y → x ≡ y
+whole_weighed x y employers weighed =
+    (λ i. record { employer = employers i; month = (weighed i).month; due = (weighed i).due; cents = (weighed i).cents; left = (weighed i).left; weight = (weighed i).weight })
 
--- kept contributions in order are one where those of each month are
-pub same_by_month : (xs ys : List KeptCharge) → AreInOrder charge_key xs → AreInOrder charge_key ys → ((e m : ℕ) → charge_at xs e m ≡ charge_at ys e m) → xs ≡ ys
-same_by_month xs ys left right same =
-    same_rows_by_value charge_key charge_in whole_charge xs ys left right (λ row. same row.employer row.month)
+-- rows of one firm are one where their contributions are, with what is open of them
+same_whole : (e : ℕ) (xs ys : List KeptCharge) → AllByRecursion (λ row. row.employer ≡ e) xs → AllByRecursion (λ row. row.employer ≡ e) ys → map weighed_in xs ≡ map weighed_in ys → xs ≡ ys
+same_whole e [] [] left right same = refl
+same_whole e [] (y ∷ ys) left right same = absurd (cc same)
+same_whole e (x ∷ xs) [] left right same = absurd (cc same)
+same_whole e (x ∷ xs) (y ∷ ys) left right same =
+    let one : weighed_in x ≡ weighed_in y = cc same in
+    let rest : map weighed_in xs ≡ map weighed_in ys = cc same in
+    let first : x ≡ y = whole_weighed x y (left.0 ∙ sym right.0) one in
+    (λ i. first i ∷ same_whole e xs ys left.1 right.1 rest i)
+
+-- kept contributions in order are one where those of each firm are
+charges_by_employer : (xs ys : List KeptCharge) → AreInOrder charge_key xs → AreInOrder charge_key ys → ((e : ℕ) → filter (λ row. row.employer == e) xs ≡ filter (λ row. row.employer == e) ys) → xs ≡ ys
+charges_by_employer xs ys left right same =
+    same_rows_by_key charge_key xs ys left right
+    (λ row. sym (found row xs) ∙ ap (λ (rows : List KeptCharge). find_row charge_key rows (charge_key row)) (same row.employer) ∙ found row ys)
+  where
+    found : (row : KeptCharge) (rows : List KeptCharge) → find_row charge_key (filter (λ r. r.employer == row.employer) rows) (charge_key row) ≡ find_row charge_key rows (charge_key row)
+    found row rows = find_row-filter charge_key (λ r. r.employer == row.employer) (charge_key row) (λ r is. let one : r.employer ≡ row.employer = cc in eq-eqb r.employer row.employer one) rows
 
 -- pieces in order are one where those of each firm are
 same_by_employer : (xs ys : List PieceRow) → AreInOrder piece_key xs → AreInOrder piece_key ys → ((e : ℕ) → filter (λ row. row.employer == e) xs ≡ filter (λ row. row.employer == e) ys) → xs ≡ ys
@@ -101,8 +121,8 @@ module _ (b : Book) (t u : Tables) (left : Stands b t) (right : Stands b u) wher
       same_rows_by_value wage_key (λ row. row.gross) whole_wage t.wages u.wages left.wages_in_order right.wages_in_order
       (λ row. left.wages row.employer row.month row.worker ∙ sym (right.wages row.employer row.month row.worker))
 
-  -- the kept contributions agree
-  same_charges : t.charges ≡ u.charges
+  -- the kept contributions are the same, of which other parts may be paid
+  pub same_charges : AreSameCharges t.charges u.charges
   same_charges =
       same_by_month t.charges u.charges left.charges_in_order right.charges_in_order (λ e m. left.charges e m ∙ sym (right.charges e m))
 
@@ -121,9 +141,10 @@ module _ (b : Book) (t u : Tables) (left : Stands b t) (right : Stands b u) wher
   same_requests =
       same_rows request_key t.requests u.requests left.requests_in_order right.requests_in_order (λ k. left.requests k ∙ sym (right.requests k))
 
-  -- and so do the numbers, and the tables that are lists of the book; so they are equal but for the pieces
-  pub same_but_pieces : record t { pieces = u.pieces } ≡ u
-  same_but_pieces =
+  -- and so do the numbers, and the tables that are lists of the book; so they are equal but for the pieces, and
+  -- what is open of the contributions
+  pub same_but_paid : record t { pieces = u.pieces; charges = u.charges } ≡ u
+  same_but_paid =
       let day : t.day ≡ u.day = left.day ∙ sym right.day in
       let rates : t.rates ≡ u.rates = left.rates ∙ sym right.rates in
       let entries : t.entries ≡ u.entries = left.entries ∙ sym right.entries in
@@ -141,7 +162,7 @@ module _ (b : Book) (t u : Tables) (left : Stands b t) (right : Stands b u) wher
         employers = same_employers i;
         reports = same_reports i;
         wages = same_wages i;
-        charges = same_charges i;
+        charges = u.charges;
         bank = same_bank i;
         credits = same_credits i;
         pieces = u.pieces;
@@ -158,12 +179,33 @@ module _ (b : Book) (t u : Tables) (left : Stands b t) (right : Stands b u) wher
         last_run = last_run i;
       })
 
+  -- where what is open of the contributions is kept of both, the contributions agree whole
+  module _ (weighed : (e : ℕ) → IsWeighed t e) (also : (e : ℕ) → IsWeighed u e) where
+    same_weighed : (e : ℕ) → weighed_rows t e ≡ weighed_rows u e
+    same_weighed e =
+        weighed e
+        ∙ ap (λ (cs : List Charge). weighed_charges cs (table_credits t e)) (same_kept t.charges u.charges same_charges e)
+        ∙ ap (λ (rows : List CreditRow). weighed_charges (kept_charges u e) (credits_under rows e Contribution)) same_credits
+        ∙ sym (also e)
+
+    same_rows_whole : t.charges ≡ u.charges
+    same_rows_whole =
+        charges_by_employer t.charges u.charges left.charges_in_order right.charges_in_order
+        (λ e. same_whole e (filter (λ row. row.employer == e) t.charges) (filter (λ row. row.employer == e) u.charges) (firm_own e t.charges) (firm_own e u.charges) (same_weighed e))
+
+    -- so then the tables are equal but for the pieces
+    pub same_but_pieces : record t { pieces = u.pieces } ≡ u
+    same_but_pieces = ap (λ (rows : List KeptCharge). record t { pieces = u.pieces; charges = rows }) same_rows_whole ∙ same_but_paid
+
   -- and where the pieces of both are those of their accounts, these agree, too
   module _ (g : PieceRow → PieceRow) (allocated : AreAllocated g t) (also : AreAllocated g u) where
+    but_pieces : record t { pieces = u.pieces } ≡ u
+    but_pieces = same_but_pieces allocated.weighed also.weighed
+
     same_pieces : t.pieces ≡ u.pieces
     same_pieces =
         same_by_employer t.pieces u.pieces allocated.in_order also.in_order
-        (λ e. allocated.pieces e ∙ ap (λ (w : Tables). map g (table_pieces w e)) same_but_pieces ∙ sym (also.pieces e))
+        (λ e. allocated.pieces e ∙ ap (λ (w : Tables). map g (table_pieces w e)) but_pieces ∙ sym (also.pieces e))
 
     pub same_tables : t ≡ u
-    same_tables = ap (λ (rows : List PieceRow). record t { pieces = rows }) same_pieces ∙ same_but_pieces
+    same_tables = ap (λ (rows : List PieceRow). record t { pieces = rows }) same_pieces ∙ but_pieces

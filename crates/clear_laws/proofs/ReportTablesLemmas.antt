@@ -1,5 +1,6 @@
 -- The tables of a book, after a report or a correction more.
 use Rattle.std.proofs.Common.{◌≡◌, ℕ, ◌+◌, List, [], ◌∷◌, length, Option, Some, None, IsSome, is_some, Bool, true, false, cond, ◌&&◌, ◌==◌, refl, sym, ap, ◌∙◌, subst, arith}
+use Rattle.std.specs.List.{AllByRecursion}
 use Rattle.std.specs.Option.{option_map}
 use Rattle.clear_money.specs.Rates.{Rate, rate_in_force}
 use Rattle.clear_book.specs.declared.calls.Call.TheVariants.{Do}
@@ -21,25 +22,28 @@ use Rattle.clear_book.specs.Accounts.{base_of, book_charge, kept_charge, month_c
 use Rattle.clear_book.specs.Book.{Book, Entry, Member, entry, entry_under, is_for, newer, member_after, member_of, is_registration, reported_by, latest_lines, is_report_of, version_of, reported_version, rates_added, rates_of}
 use Rattle.clear_book.specs.Calls.{is_remind_run}
 use Rattle.clear_book.specs.Judge.{Verdict, new_reply, judge}
-use Rattle.clear_values.specs.Keyed.{find_row, put_row}
+use Rattle.clear_values.specs.Keyed.{find_row, AreInOrder, put_row}
+use Rattle.clear_book.specs.Laws.{AreFew}
 use Rattle.clear_book.specs.Lines.{is_release, lines_seen, moved_by, rows_by}
-use Rattle.clear_book.specs.Machine.{step, after, appended}
+use Rattle.clear_book.specs.Machine.{IsLawful, step, after, appended}
 use Rattle.clear_book.specs.Own.Correct.{own_correct, correct_rules}
 use Rattle.clear_book.specs.Own.Lines.{twice_rule, worker_twice}
 use Rattle.clear_book.specs.Own.Report.{own_report, report_rules}
-use Rattle.clear_book.specs.Tables.{Tables, Stands, charge_at, charge_in, charge_key, report_key, version_at, gross_at, gross_of, reported_gross, with_wages, changed, noted}
+use Rattle.clear_book.specs.Tables.{IsPaidInRange, Tables, Stands, charge_at, charge_in, charge_key, corrected, report_key, version_at, gross_at, gross_of, reported_gross, with_wages, changed, noted}
 use Rattle.clear_book.specs.Workers.{lists_by}
 use Rattle.clear_laws.proofs.ChecksLemmas.{none_applies}
 use Rattle.clear_laws.proofs.DistinctLemmas.{AreDistinct, distinct}
 use Rattle.clear_laws.proofs.ClaimsLemmas.{LeavesClaims, claims_left}
+use Rattle.clear_laws.proofs.CorrectedLemmas.{corrected-all, corrected-found, corrected-in_order}
 use Rattle.clear_laws.proofs.JudgeLemmas.{unrefused}
-use Rattle.clear_values.proofs.KeyedChangesLemmas.{find_row-put_row, AreInOrder-put_row, put_row-new}
+use Rattle.clear_laws.proofs.LimitsLemmas.{few_charge, few_corrected, few_lines, lawful_rates}
+use Rattle.clear_values.proofs.KeyedChangesLemmas.{AllByRecursion-put_row, find_row-put_row, AreInOrder-put_row, put_row-new}
 use Rattle.clear_laws.proofs.LinesLemmas.{none_taken}
 use Rattle.clear_laws.proofs.ListNumbersLemmas.{lists_left}
 use Rattle.clear_laws.proofs.RemindersLemmas.{reminders_left, runs_left}
 use Rattle.clear_laws.proofs.RequestLemmas.{requests_found, requests_still_in_order}
 use Rattle.clear_laws.proofs.TablesLemmas.{bank_left, credits_left, employer_rows_left, employers_left, no_map, rates_left, same_charge, same_rates}
-use Rattle.clear_laws.proofs.VersionLemmas.{is_some-cond, version_of-other, version_of-more, version_of-none, unreported, corrected, reported_some, reported_none, key_is}
+use Rattle.clear_laws.proofs.VersionLemmas.{is_some-cond, version_of-other, version_of-more, version_of-none, unreported, corrected as corrected_version, reported_some, reported_none, key_is}
 use Rattle.clear_laws.proofs.WagesLemmas.{gross_at-with_wages, with_wages-in_order, with_wages-first}
 
 -- ---- the lines of an accepted report
@@ -86,7 +90,7 @@ has_lines n v (Some lines) h = refl
 abbrev version_in : ReportRow → ℕ
 version_in row = row.version
 
-module _ (b : Book) (t : Tables) (stands : Stands b t) (x : Entry) (r : WageReport) (reports : Reports b.entries x r) (version : ℕ) (next : version_of b.entries r.employer r.month + 1 ≡ version) (apart : AreDistinct r.lines) (free : entry_under b.entries x.caller x.number ≡ None) where
+module _ (b : Book) (t : Tables) (lawful : IsLawful b) (stands : Stands b t) (x : Entry) (r : WageReport) (reports : Reports b.entries x r) (version : ℕ) (next : version_of b.entries r.employer r.month + 1 ≡ version) (apart : AreDistinct r.lines) (few : AreFew r.lines) (free : entry_under b.entries x.caller x.number ≡ None) where
   abbrev row : ReportRow
   row = record { employer = r.employer; month = r.month; version = version }
 
@@ -134,9 +138,14 @@ module _ (b : Book) (t : Tables) (stands : Stands b t) (x : Entry) (r : WageRepo
       ∙ ap (λ (o : Option (List WageLine)). reported_charge b m (newer o (latest_lines b.entries e m))) (sym (reports.lines e m))
       ∙ same_charge b (appended b x) m (latest_lines (x ∷ b.entries) e m) (λ there. ap (λ (rates : List Rate). rate_in_force rates m) (same_rates b x reports.no_rates))
 
-  -- the month's row, wages and contribution in the place of what stood
-  put_tables : Stands (appended b x) (noted x (record t { reports = put_row report_key t.reports row; wages = with_wages r.employer r.month r.lines t.wages; charges = put_row charge_key t.charges charge }))
-  put_tables = record {
+  -- what is open of it, and its weight, are in their ranges
+  charge_paid : IsPaidInRange charge
+  charge_paid = (few_charge (rates_of b) r.month r.lines (lawful_rates b.opening b.entries lawful).ranges few, omega arith)
+
+  -- the month's row and wages in the place of what stood, and contributions as if its contribution stood there
+  put_tables : (kept : List KeptCharge) → ((e m : ℕ) → charge_at kept e m ≡ charge_at (put_row charge_key t.charges charge) e m) → AreInOrder charge_key kept → AllByRecursion IsPaidInRange kept
+      → Stands (appended b x) (noted x (record t { reports = put_row report_key t.reports row; wages = with_wages r.employer r.month r.lines t.wages; charges = kept }))
+  put_tables kept same order paid = record {
     rates = rates_left b t stands x reports.no_rates;
     day = refl;
     entries = omega (arith, stands.entries);
@@ -147,8 +156,9 @@ module _ (b : Book) (t : Tables) (stands : Stands b t) (x : Entry) (r : WageRepo
     reports_in_order = AreInOrder-put_row report_key t.reports row stands.reports_in_order;
     wages = gross;
     wages_in_order = with_wages-in_order r.employer r.month r.lines t.wages apart stands.wages_in_order;
-    charges = charges;
-    charges_in_order = AreInOrder-put_row charge_key t.charges charge stands.charges_in_order;
+    charges = λ e m. same e m ∙ charges e m;
+    charges_in_order = order;
+    charges_paid = paid;
     bank = bank_left b t stands x reports.no_move reports.no_rows;
     bank_in_order = stands.bank_in_order;
     credits = credits_left b t stands x reports.no_move reports.no_rows reports.no_release;
@@ -168,8 +178,9 @@ module _ (b : Book) (t : Tables) (stands : Stands b t) (x : Entry) (r : WageRepo
   -- for a month that has a report, whose contribution is kept
   pub replaced_tables : IsSome (latest_lines b.entries r.employer r.month) → Stands (appended b x) (noted x (changed (ReplaceReport row r.lines charge) t))
   replaced_tables there =
-      subst (λ (p : Bool). Stands (appended b x) (noted x (record t { reports = put_row report_key t.reports row; wages = with_wages r.employer r.month r.lines t.wages; charges = cond p (put_row charge_key t.charges charge) t.charges })))
-      (sym (is_kept b r.month (find_row charge_key t.charges (r.employer ∷ r.month ∷ [])) (latest_lines b.entries r.employer r.month) (stands.charges r.employer r.month) there)) put_tables
+      put_tables (corrected charge t.charges)
+      (λ e m. corrected-found charge t.charges (is_kept b r.month (find_row charge_key t.charges (r.employer ∷ r.month ∷ [])) (latest_lines b.entries r.employer r.month) (stands.charges r.employer r.month) there) (e ∷ m ∷ []))
+      (corrected-in_order charge t.charges stands.charges_in_order) (corrected-all IsPaidInRange charge t.charges stands.charges_paid charge_paid)
 
   -- for a month that has none, they are one more
   pub first_tables : latest_lines b.entries r.employer r.month ≡ None → Stands (appended b x) (noted x (changed (AddReport row r.lines charge) t))
@@ -179,11 +190,12 @@ module _ (b : Book) (t : Tables) (stands : Stands b t) (x : Entry) (r : WageRepo
       let no_charge = no_map charge_in (find_row charge_key t.charges (r.employer ∷ r.month ∷ [])) (stands.charges r.employer r.month ∙ ap (reported_charge b r.month) none) in
       subst (λ (p : List ReportRow × List WageRow × List KeptCharge). Stands (appended b x) (noted x (record t { reports = p.0; wages = p.1; charges = p.2 })))
       (λ i. (put_row-new report_key t.reports row no_row i, with_wages-first r.employer r.month r.lines t.wages no_wages i, put_row-new charge_key t.charges charge no_charge i))
-      put_tables
+      (put_tables (put_row charge_key t.charges charge) (λ e m. refl) (AreInOrder-put_row charge_key t.charges charge stands.charges_in_order)
+      (AllByRecursion-put_row charge_key IsPaidInRange t.charges charge stands.charges_paid charge_paid))
 
 -- ---- the two commands
 
-module _ (b : Book) (t : Tables) (stands : Stands b t) (caller : Caller) (number day : ℕ) where
+module _ (b : Book) (t : Tables) (lawful : IsLawful b) (stands : Stands b t) (caller : Caller) (number day : ℕ) where
   pub Stands-reported : (r : WageReport) (reply : Reply) → judge b (Do caller number day (Report r)) ≡ new_reply reply → (lines : List WageLine) → lines ≡ r.lines
       → (charge : KeptCharge) → charge ≡ kept_charge (rate_in_force (rates_of b) r.month) r.employer r.month r.lines
       → Stands (step b (Do caller number day (Report r))) (noted (entry caller number day (Report r) reply) (changed (AddReport (record { employer = r.employer; month = r.month; version = 1 }) lines charge) t))
@@ -193,8 +205,8 @@ module _ (b : Book) (t : Tables) (stands : Stands b t) (caller : Caller) (number
       let no_lines = reported_none b.entries r.employer r.month (unreported (member_of b.entries r.employer) (reported_version b.entries r.employer r.month) day r.month r.lines own) in
       let zero : version_of b.entries r.employer r.month ≡ 0 = version_of-none b.entries r.employer r.month no_lines in
       let x = entry caller number day (Report r) reply in
-      let there = first_tables b t stands x r (record { lines = λ e m. refl; counted = λ e m. is_some-cond (is_for e m r) r.lines; no_member = λ e old. refl; no_registration = refl; no_move = λ rows. refl; no_rows = refl; no_release = refl; no_claims = record { kept = λ claim. refl; none = λ last. refl }; no_list = refl; no_run = refl; no_rates = refl }) 1 (omega (arith, zero))
-      (report_distinct (member_of b.entries r.employer) (reported_version b.entries r.employer r.month) day r.month r.lines own) said.free no_lines in
+      let there = first_tables b t lawful stands x r (record { lines = λ e m. refl; counted = λ e m. is_some-cond (is_for e m r) r.lines; no_member = λ e old. refl; no_registration = refl; no_move = λ rows. refl; no_rows = refl; no_release = refl; no_claims = record { kept = λ claim. refl; none = λ last. refl }; no_list = refl; no_run = refl; no_rates = refl }) 1 (omega (arith, zero))
+      (report_distinct (member_of b.entries r.employer) (reported_version b.entries r.employer r.month) day r.month r.lines own) (few_lines (member_of b.entries r.employer) (reported_version b.entries r.employer r.month) day r.month r.lines own) said.free no_lines in
       subst (λ (p : Verdict × List WageLine × KeptCharge). Stands (after b (Do caller number day (Report r)) p.0) (noted x (changed (AddReport (record { employer = r.employer; month = r.month; version = 1 }) p.1 p.2) t)))
       (λ i. (sym judged i, sym same i, sym charged i)) there
 
@@ -205,11 +217,11 @@ module _ (b : Book) (t : Tables) (stands : Stands b t) (caller : Caller) (number
       let said = unrefused b caller number day (Correct c) reply judged in
       let own = said.unruled in
       let member = member_of b.entries c.report.employer in
-      let latest = corrected member (reported_version b.entries c.report.employer c.report.month) day c own in
+      let latest = corrected_version member (reported_version b.entries c.report.employer c.report.month) day c own in
       let now : version_of b.entries c.report.employer c.report.month ≡ c.version = reported_some b.entries c.report.employer c.report.month c.version latest.0 in
       let x = entry caller number day (Correct c) reply in
-      let there = replaced_tables b t stands x c.report (record { lines = λ e m. refl; counted = λ e m. is_some-cond (is_for e m c.report) c.report.lines; no_member = λ e old. refl; no_registration = refl; no_move = λ rows. refl; no_rows = refl; no_release = refl; no_claims = record { kept = λ claim. refl; none = λ last. refl }; no_list = refl; no_run = refl; no_rates = refl }) version (omega (arith, now, more))
-      (correction_distinct member (reported_version b.entries c.report.employer c.report.month) day c own) said.free
+      let there = replaced_tables b t lawful stands x c.report (record { lines = λ e m. refl; counted = λ e m. is_some-cond (is_for e m c.report) c.report.lines; no_member = λ e old. refl; no_registration = refl; no_move = λ rows. refl; no_rows = refl; no_release = refl; no_claims = record { kept = λ claim. refl; none = λ last. refl }; no_list = refl; no_run = refl; no_rates = refl }) version (omega (arith, now, more))
+      (correction_distinct member (reported_version b.entries c.report.employer c.report.month) day c own) (few_corrected member (reported_version b.entries c.report.employer c.report.month) day c own) said.free
       (has_lines _ c.version (latest_lines b.entries c.report.employer c.report.month) latest.0) in
       subst (λ (p : Verdict × List WageLine × KeptCharge). Stands (after b (Do caller number day (Correct c)) p.0) (noted x (changed (ReplaceReport (record { employer = c.report.employer; month = c.report.month; version = version }) p.1 p.2) t)))
       (λ i. (sym judged i, sym same i, sym charged i)) there

@@ -35,7 +35,7 @@ use Rattle.clear_book.specs.Calls.{IsWageLine, IsReport, IsCommand}
 use Rattle.clear_values.specs.Limits.{most_entries}
 use Rattle.clear_values.specs.Ranges.{AreRates}
 use Rattle.clear_values.specs.RowRanges.{IsSerial, IsReply, IsRequestRow, IsEmployerRow, IsReportRow, IsWageRow, IsKeptCharge, IsBankRow, IsCreditRow, AreInRange, IsClaimRow, IsListRow, IsRunRow, IsReminderRow}
-use Rattle.clear_book.specs.Tables.{RequestRow, Tables, Stands, employer_key, report_key, wage_key, charge_in, charge_key, bank_key, claim_key, request_key, request_row, requests_of, gross_of, reported_gross, member_in}
+use Rattle.clear_book.specs.Tables.{IsPaidInRange, RequestRow, Tables, Stands, employer_key, report_key, wage_key, charge_in, charge_key, bank_key, claim_key, request_key, request_row, requests_of, gross_of, reported_gross, member_in}
 use Rattle.clear_values.specs.Texts.{IsName}
 use Rattle.clear_laws.proofs.ClaimsLemmas.{claims-in-range, claims_few, room_for, settled_whole}
 use Rattle.clear_laws.proofs.CreditsLemmas.{credits-standing}
@@ -185,8 +185,8 @@ due-in-range (Some r) m month right =
     day_in-is_day (m + 1) r.due_day (omega (arith, month.0)) (omega (arith, last)) day.0 (omega (arith, day.1, length.0))
 
 -- so the row of a reported month's contribution is in range
-charge_row : (b : Book) → IsLawful b → (row : KeptCharge) → book_charge b row.employer row.month ≡ Some (charge_in row) → IsKeptCharge row
-charge_row b lawful row is = told (latest_lines b.entries row.employer row.month) refl is
+charge_row : (b : Book) → IsLawful b → (row : KeptCharge) → book_charge b row.employer row.month ≡ Some (charge_in row) → IsPaidInRange row → IsKeptCharge row
+charge_row b lawful row is paid = told (latest_lines b.entries row.employer row.month) refl is
   where
     told : (o : Option (List WageLine)) → latest_lines b.entries row.employer row.month ≡ o → reported_charge b row.month o ≡ Some (charge_in row) → IsKeptCharge row
     told None latest k = absurd (cc k)
@@ -200,6 +200,8 @@ charge_row b lawful row is = told (latest_lines b.entries row.employer row.month
           month = within.1;
           due = subst (λ (c : Charge). IsDay c.due) same (due-in-range (rate_in_force (rates_of b) row.month) row.month within.1 (λ r there. rate_right (rates_of b) row.month r rates there));
           cents = subst (λ (c : Charge). c.cents ≤ 5000000000) same (few_charge (rates_of b) row.month lines rates few);
+          left = paid.0;
+          weight = paid.1;
         }
 
 -- ---- bank lines
@@ -370,7 +372,7 @@ module _ (b : Book) (t : Tables) (lawful : IsLawful b) (stands : Stands b t) whe
   charges-in-range : AllByRecursion IsKeptCharge t.charges
   charges-in-range =
       all_from_found charge_key IsKeptCharge t.charges stands.charges_in_order
-      (λ row found. charge_row b lawful row (charge_of_row b t stands row.employer row.month row found))
+      (λ row found. charge_row b lawful row (charge_of_row b t stands row.employer row.month row found) (found_holds charge_key IsPaidInRange t.charges (charge_key row) row stands.charges_paid found))
 
   -- the bank lines
   bank-in-range : AllByRecursion IsBankRow t.bank

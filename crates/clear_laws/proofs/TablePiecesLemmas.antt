@@ -30,4 +30,4 @@ table_pieces-book b t lawful stands e =
 
 -- the first tables have none
 pub first_allocated : (rates : List Rate) (g : PieceRow → PieceRow) → AreAllocated g (first_tables rates)
-first_allocated rates g = record { pieces = λ e. refl; in_order = tt }
+first_allocated rates g = record { pieces = λ e. refl; in_order = tt; weighed = λ e. refl }

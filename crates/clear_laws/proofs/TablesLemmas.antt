@@ -131,6 +131,7 @@ module _ (b : Book) (t : Tables) (stands : Stands b t) (x : Entry) (leaves : Lea
     wages_in_order = stands.wages_in_order;
     charges = charges_are;
     charges_in_order = stands.charges_in_order;
+    charges_paid = stands.charges_paid;
     bank = bank_left b t stands x leaves.no_move leaves.no_rows;
     bank_in_order = stands.bank_in_order;
     credits = credits_left b t stands x leaves.no_move leaves.no_rows leaves.no_release;

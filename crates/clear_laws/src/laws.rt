@@ -23,7 +23,7 @@ ghost use Rattle.clear_book.specs.declared.rules.Rule.TheVariants.{Failed, Store
 ghost use Rattle.clear_values.specs.declared.causes.StoreCause.{StoreCause};
 ghost use Rattle.clear_values.specs.declared.causes.StoreCause.TheVariants.{Other};
 ghost use Rattle.clear_book.specs.Accounts.{charges_of, credit_key, credits_of, credits_standing};
-ghost use Rattle.clear_book.specs.Allocated.{AreAllocated};
+ghost use Rattle.clear_book.specs.Allocated.{AreAllocated, AreSameCharges, StandsWeighed};
 ghost use Rattle.clear_book.specs.Book.{Book, Entry, entry, first_book, latest_lines};
 ghost use Rattle.clear_book.specs.Book.{ledger_day, rates_of};
 ghost use Rattle.clear_book.specs.Conserved.{firm_cents, interest_cents, pieces_cents};
@@ -122,10 +122,14 @@ pub fn law_small()
     ensures { (b : Book) → IsLawful b → IsSmall b }
 {}
 
-/// Two tables that stand for one book are equal but for the pieces that they keep; and where these
-/// are allocated alike, they are equal.
+/// Two tables that stand for one book keep the same contributions, and are equal but for what is
+/// paid of these and for the pieces; where what is paid of them is that of the firms' accounts, they
+/// are equal but for the pieces; and where the pieces are allocated alike, too, they are equal.
 pub fn law_one_table()
-    ensures but_pieces { (b : Book) (t u : Tables) → Stands b t → Stands b u
+    ensures but_paid { (b : Book) (t u : Tables) → Stands b t → Stands b u
+        → AreSameCharges t.charges u.charges
+        × (record t { pieces = u.pieces; charges = u.charges } ≡ u) }
+    ensures but_pieces { (b : Book) (t u : Tables) → StandsWeighed b t → StandsWeighed b u
         → record t { pieces = u.pieces } ≡ u }
     ensures whole { (b : Book) (t u : Tables) (g : PieceRow → PieceRow) → Stands b t → Stands b u
         → AreAllocated g t → AreAllocated g u → t ≡ u }

@@ -1,11 +1,11 @@
 -- The pieces: under their firms and months, and the days and serials of their credits.
-use Rattle.clear_columns.proofs.Words.{◌≡◌, ◌==◌, ℤ, pos, Bool, true, false, ◌&&◌, ◌||◌, List, [], ◌∷◌, refl, ◌∙◌, inl, inr, is_eq, nat_lt, codes, cast_row, Binary, Delete, Insert, Values, Term, lit, col, op2, Null, automatic, agree, And, Compare, Eq, Ge, Gt, Or, PieceRow, is_piece_key_from, piece_key, meets, plain_program, content, by_key, pieces_table, piece_values, month_number, cast_int, cast_null, comes_from, equal_months, equal_numbers, key_is, months_from, turned_nat}
+use Rattle.clear_columns.proofs.Words.{◌≡◌, ◌==◌, ℤ, pos, Bool, true, false, ◌&&◌, ◌||◌, List, [], ◌∷◌, refl, ◌∙◌, inl, inr, is_eq, nat_lt, codes, cast_row, Binary, Delete, Insert, Values, Term, lit, col, op2, Null, automatic, agree, And, Compare, Eq, Ge, Gt, Key, Or, PieceRow, Tables, is_piece_key_from, piece_key, meets, plain_program, plain_query, content, HasTables, AnswersJust, Database, Ghosts, Row, Less, by_key, filter, map, month, number, output_cmp, pieces_table, piece_values, month_number, months_compare, cast_int, cast_null, comes_from, equal_months, equal_numbers, key_is, months_from, numbers_compare, ℕ, turned_nat}
 use Rattle.std.proofs.Common.{nat_le}
 use Rattle.sqlite_tied.specs.Compute.{everything}
-use Rattle.sqlite_value.specs.Keys.{first_key, plain}
+use Rattle.sqlite_value.specs.Keys.{ascending, first_key, plain}
 use Rattle.clear_schema.proofs.Changes.{pieces_changed}
-use Rattle.clear_columns.proofs.KeyedTable.{KeyedTable, or_false}
-use Rattle.clear_columns.proofs.Says.{Says}
+use Rattle.clear_columns.proofs.KeyedTable.{KeyedTable, lists, or_false}
+use Rattle.clear_columns.proofs.Says.{Says, SaysQuery}
 use Rattle.clear_columns.specs.Keys.{is_held}
 use Rattle.clear_ledger.specs.Shown.{first_piece_given, piece_shown}
 use Rattle.clear_ledger.specs.declared.pieces.PieceFrom.{PieceFrom}
@@ -72,6 +72,22 @@ pub delete_says : Says (codes "DELETE FROM pieces WHERE employer = ?1 AND month 
 unfolding everything
 delete_says = record { said = (refl, refl, refl) }
 
+abbrev columns : List Term
+columns = col 1 1 ∷ col 1 2 ∷ col 1 3 ∷ col 1 4 ∷ col 1 5 ∷ col 1 6 ∷ []
+
+abbrev by_employer : List Term
+by_employer = op2 (Compare Eq Binary) (col 1 1) (col 0 0) ∷ []
+
+abbrev order : List (Term × Key)
+order = (col 1 1, ascending Binary) ∷ (col 1 2, ascending Binary) ∷ (col 1 3, ascending Binary) ∷ (col 1 4, ascending Binary) ∷ []
+
+abbrev pub of_employer : List ℕ
+of_employer = codes "SELECT employer, month, day, serial, cents, ref FROM pieces WHERE employer = ?1 ORDER BY employer, month, day, serial"
+
+of_employer_says : SaysQuery of_employer (plain_program 21 by_employer columns order)
+unfolding everything
+of_employer_says = record { names = _; said = (refl, refl, refl) }
+
 -- ---- what they do
 
 -- the piece is one of these
@@ -90,3 +106,26 @@ goes_from from y =
     joined true true false = refl
     joined true false c = refl
     joined false b c = refl
+
+-- ---- what they answer
+
+-- the piece is of a firm
+abbrev pub is_of : ℕ → PieceRow → Bool
+is_of e row = row.employer == e
+
+of_firm : (e : ℕ) (y : ℤ × PieceRow) → meets by_employer (number e ∷ []) (piece_values y) ≡ is_of e (content y)
+of_firm e y = rw (equal_numbers (content y).employer e) (last _)
+  where
+    last : (b : Bool) → (b && true) ≡ b
+    last true = refl
+    last false = refl
+
+-- what ORDER BY goes by
+abbrev sorted : PieceRow → Row
+sorted x = number x.employer ∷ month x.month ∷ number x.day ∷ number x.serial ∷ []
+
+rises : (a b : PieceRow) → by_key piece_key a b ≡ Less → output_cmp (plain_query 21 by_employer columns order) (sorted a, piece_shown a) (sorted b, piece_shown b) ≡ Less
+rises a b h = rw (numbers_compare a.employer b.employer, months_compare a.month b.month, numbers_compare a.day b.day, numbers_compare a.serial b.serial) h
+
+pub answers : {S : Type 0} (g : Ghosts S) (t : Tables) (db : Database) (has : HasTables t db) (e : ℕ) → AnswersJust g of_employer (number e ∷ []) db (map piece_shown (filter (is_of e) t.pieces))
+answers g t db has e = lists pieces g t db has (number e ∷ []) piece_shown (is_of e) (of_firm e) of_employer_says sorted (λ _. refl) rises

@@ -1,10 +1,14 @@
 //! The pieces, by firm, month, day and serial: what each credit pays of each contribution.
-ghost use Rattle.std.specs.Prelude.{◌≡◌, ◌↔◌, false, true};
+ghost use Rattle.std.specs.Borrow.{sem, RestsIfErr};
+ghost use Rattle.std.specs.Prelude.{◌≡◌, ◌↔◌, ◌==◌, false, true, filter, IfOk};
+ghost use Rattle.sqlite.specs.Held.{state};
 ghost use Rattle.sqlite.specs.Values.{bound};
+ghost use Rattle.sqlite.specs.contracts.connection.Connection.{the_row};
 ghost use Rattle.clear_values.specs.Keyed.{with_row, without_rows};
 ghost use Rattle.clear_values.specs.RowRanges.{IsPieceRow, IsSerial};
 ghost use Rattle.clear_values.specs.Tables.{is_piece_key_from, piece_key};
 ghost use Rattle.clear_columns.specs.Keys.{is_held};
+ghost use Rattle.clear_columns.specs.Reading.{HasSomeTables, IsLeft, ReadsOn};
 ghost use Rattle.clear_ledger.specs.Shown.{first_piece_given, piece_shown};
 ghost use Rattle.clear_schema.specs.Frame.{Writes};
 
@@ -13,7 +17,7 @@ use clear_columns::columns::{
 };
 use clear_columns::parameters::{day, employer as firm};
 use clear_columns::ranges::{is_contribution, is_serial};
-use clear_columns::rows::StoredTable;
+use clear_columns::rows::{StoredTable, begin_rows};
 use clear_money::days::Day;
 use clear_money::months::Month;
 use clear_money::numbers::EmployerNo;
@@ -22,7 +26,7 @@ use clear_schema::statement::put;
 use clear_schema::values::{month, number, text};
 use clear_values::causes::StoreCause;
 use clear_values::rows::PieceRow;
-use sqlite::{Alter, Row, Transaction};
+use sqlite::{Alter, Connection, Error, Row, Rows, Transaction};
 use sqlite_value::value::ValueRef;
 
 /// A firm's pieces of a month or a later one, whose credit is that of a day and a serial or a later
@@ -76,6 +80,27 @@ pub fn delete_pieces<S: Alter>(tx: &mut Transaction<'_, S>, from: &PieceFrom) ->
         "DELETE FROM pieces WHERE employer = ?1 AND month >= ?2 \
          AND (day > ?3 OR (day = ?3 AND serial >= ?4))",
         &first_values(from),
+    )
+}
+
+/// The pieces of a firm, by month, then by the day and the serial of their credits: `next_row` reads
+/// one at a time.
+pub fn read_pieces<S: Alter>(
+    conn: &mut Connection<S>,
+    employer: EmployerNo,
+) -> Result<Rows<'_, S>, Error>
+    ensures* refused { sem 𝓛 (RestsIfErr (the_row S.row S.Store) conn.entry
+        (λ rows. rows.conn.ghost_name) result
+        (IsLeft S.Store conn.old (HasSomeTables (state S.Store conn.old).now) result)) }
+    ensures same_reference { IfOk result (λ rows. rows.conn.ghost_name ≡ conn.entry.ghost_name) }
+    ensures begun { IfOk result (λ rows. ReadsOn S.Store conn.old rows.conn.now piece_shown
+        (λ t. filter (λ row. row.employer == employer) t.pieces)) }
+{
+    begin_rows::<Pieces, S>(
+        conn,
+        "SELECT employer, month, day, serial, cents, ref FROM pieces WHERE employer = ?1 \
+         ORDER BY employer, month, day, serial",
+        &[firm(employer)],
     )
 }
 

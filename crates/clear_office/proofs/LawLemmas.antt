@@ -1,5 +1,5 @@
 -- A change that leads to the tables of a book.
-use Rattle.std.proofs.Common.{◌≡◌, ℕ, ◌≤◌, Bool, cond, List, [], ◌∷◌, None, sym, ap, subst, arith}
+use Rattle.std.proofs.Common.{◌≡◌, ℕ, ◌≤◌, Bool, List, [], ◌∷◌, None, sym, ap, subst, arith}
 use Rattle.std.specs.List.{AllByRecursion}
 use Rattle.clear_values.specs.declared.rows.Change.{Change}
 use Rattle.clear_values.specs.declared.rows.Change.TheVariants.{AddRate, AddEmployer, EndMembership, AddReport, ReplaceReport, AddBankLines, AssignLine, AddClaim, WithdrawClaim, ReleaseClaim, AddList, AddRun}
@@ -28,7 +28,6 @@ use Rattle.clear_schema.specs.Values.{Counts as Stored, counts_of}
 use Rattle.clear_firms.specs.declared.counts.Counts.{Counts}
 use Rattle.clear_firms.specs.Counts.{as_stored}
 use Rattle.clear_ledger.specs.Shown.{serial_key}
-use Rattle.clear_pieces.specs.Keeping.{HasCharge}
 use Rattle.clear_store.specs.Changes.{AreGross, HasRoom, IsFree, IsInRange, IsPuttable, IsThere, taken_by}
 use Rattle.clear_store.proofs.ChangeLemmas.{counted}
 use Rattle.clear_store.proofs.RateLemmas.{rising_free}
@@ -111,48 +110,45 @@ all_gross e m [] all = tt
 all_gross e m (line ∷ lines) all = (all.0.gross, all_gross e m lines all.1)
 
 -- the numbers in the rows are those of rows in their ranges
-rows_puttable : (t : Tables) (x : Entry) (change : Change) → IsThere change t → HasCharge change t → AreInRange (noted x (changed change t)) → IsInRange change
-rows_puttable t x (AddRate row) there kept within = tt
-rows_puttable t x (EndMembership row) there kept within = tt
-rows_puttable t x (AddEmployer row) there kept within = tt
-rows_puttable t x (AddReport row lines charge) there kept within =
+rows_puttable : (t : Tables) (x : Entry) (change : Change) → IsThere change t → AreInRange (noted x (changed change t)) → IsInRange change
+rows_puttable t x (AddRate row) there within = tt
+rows_puttable t x (EndMembership row) there within = tt
+rows_puttable t x (AddEmployer row) there within = tt
+rows_puttable t x (AddReport row lines charge) there within =
     let report = (all_with report_key IsReportRow t.reports row within.reports).1 in
     let wages = all_new wage_key IsWageRow t.wages (wage_rows row.employer row.month lines) within.wages in
     let kept = (all_with charge_key IsKeptCharge t.charges charge within.charges).1 in
-    (((report.some, report.few), all_gross row.employer row.month lines wages.1), kept.cents)
-rows_puttable t x (ReplaceReport row lines charge) there kept within =
+    (((report.some, report.few), all_gross row.employer row.month lines wages.1), (kept.cents, kept.left, kept.weight))
+rows_puttable t x (ReplaceReport row lines charge) there within =
     let report = (all_with report_key IsReportRow (without_rows report_key (λ k. is_key k (report_key row)) t.reports) row within.reports).1 in
     let wages = all_new wage_key IsWageRow (without_rows wage_key (is_wage_key_of row.employer row.month) t.wages) (wage_rows row.employer row.month lines) within.wages in
-    let others = without_rows charge_key (λ k. is_key k (charge_key charge)) t.charges in
-    let charges = subst (λ (held : Bool). AllByRecursion IsKeptCharge (cond held (with_row charge_key others charge) t.charges)) kept within.charges in
-    let put = (all_with charge_key IsKeptCharge others charge charges).1 in
-    (((report.some, report.few), all_gross row.employer row.month lines wages.1), put.cents)
-rows_puttable t x (AssignLine row) there kept within =
+    (((report.some, report.few), all_gross row.employer row.month lines wages.1), there.1)
+rows_puttable t x (AssignLine row) there within =
     (all_with bank_key IsBankRow (without_rows bank_key (λ k. is_key k (bank_key row)) t.bank) row within.bank).1.serial
-rows_puttable t x (AddBankLines rows) there kept within =
+rows_puttable t x (AddBankLines rows) there within =
     all_weaker IsBankRow (λ row. IsSerial row.serial) (λ row good. good.serial) rows (all_new bank_key IsBankRow t.bank rows within.bank).1
-rows_puttable t x (AddClaim row) there kept within = (all_with claim_key IsClaimRow t.claims row within.claims).1
-rows_puttable t x (WithdrawClaim row) there kept within =
+rows_puttable t x (AddClaim row) there within = (all_with claim_key IsClaimRow t.claims row within.claims).1
+rows_puttable t x (WithdrawClaim row) there within =
     (all_with claim_key IsClaimRow (without_rows claim_key (λ k. is_key k (claim_key row)) t.claims) row within.claims).1
-rows_puttable t x (ReleaseClaim row serial) there kept within = (
+rows_puttable t x (ReleaseClaim row serial) there within = (
   (all_with claim_key IsClaimRow (without_rows claim_key (λ k. is_key k (claim_key row)) t.claims) row within.claims).1,
   all_weaker IsCreditRow (λ credit. IsSerial credit.serial) (λ credit good. good.serial) (set_offs_of row serial)
       (all_new credit_key IsCreditRow t.credits (set_offs_of row serial) within.credits).1,
 )
-rows_puttable t x (AddList row claims) there kept within = (
+rows_puttable t x (AddList row claims) there within = (
   (all_with list_key IsListRow t.lists row within.lists).1,
   all_put claim_key IsClaimRow t.claims claims there.1 within.claims,
 )
-rows_puttable t x (AddRun row reminders) there kept within = (
+rows_puttable t x (AddRun row reminders) there within = (
   (all_with run_key IsRunRow t.runs row within.runs).1,
   (all_new reminder_key IsReminderRow t.reminders reminders within.reminders).1,
 )
 
 -- so the change can be put
-pub change_puttable : (next : Book) (t : Tables) (x : Entry) (change : Change) (counts : Counts) → IsLawful next → Stands next (noted x (changed change t)) → as_stored counts ≡ counts_of t → IsThere change t → HasCharge change t → IsPuttable counts change
-change_puttable next t x change counts lawful stands same there kept =
+pub change_puttable : (next : Book) (t : Tables) (x : Entry) (change : Change) (counts : Counts) → IsLawful next → Stands next (noted x (changed change t)) → as_stored counts ≡ counts_of t → IsThere change t → IsPuttable counts change
+change_puttable next t x change counts lawful stands same there =
     let within = rows_in_range next (noted x (changed change t)) lawful stands in
-    (rows_puttable t x change there kept within, room within)
+    (rows_puttable t x change there within, room within)
   where
     entries : counts.entries ≡ t.entries
     entries = ap (λ (c : Stored). c.entries) same

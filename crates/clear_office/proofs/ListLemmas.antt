@@ -16,8 +16,6 @@ use Rattle.clear_book.specs.Documents.Reminders.{reminders_text}
 use Rattle.clear_book.specs.Documents.Suspense.{suspense_text}
 use Rattle.clear_book.specs.Judge.{answer_to, own_query}
 use Rattle.clear_book.specs.Keyed.{find_row}
-use Rattle.clear_book.specs.Lines.{suspense_count}
-use Rattle.clear_values.specs.Limits.{most_suspense}
 use Rattle.clear_book.specs.Own.Payout.{own_payout}
 use Rattle.clear_book.specs.Own.Reminder.{own_reminder}
 use Rattle.clear_book.specs.Reminders.{reminders_in, run_of}
@@ -25,8 +23,7 @@ use Rattle.clear_book.specs.Tables.{Tables, Stands, list_key, run_key}
 use Rattle.clear_book.specs.Workers.{claims_on, is_on, list_of}
 use Rattle.clear_laws.proofs.SuspenseLemmas.{suspense_rows}
 use Rattle.clear_values.proofs.KeyedLemmas.{found_key}
-use Rattle.clear_office.specs.Bodies.{IsDocument, IsTellable, answer_of}
-use Rattle.clear_office.specs.declared.inquiry.RowDocument.{RowDocument}
+use Rattle.clear_office.specs.Bodies.{answer_of}
 use Rattle.clear_office.specs.declared.inquiry.Finding.TheVariants as finding
 use Rattle.clear_office.specs.declared.inquiry.RowDocument.TheVariants as rows
 
@@ -76,12 +73,6 @@ module _ (b : Book) (t : Tables) (n : ℕ) (stands : Stands b t) where
 
   pub run_unknown : find_row run_key t.runs (n ∷ []) ≡ None → own_query b (Reminder n) ≡ Some UnknownDocument
   run_unknown is = ap (λ (o : Option RunRow). own_reminder (is_some o)) (run_is ∙ is)
-
--- a document that was found can be told
-pub tellable : (t : Tables) (document : RowDocument) → IsDocument document → suspense_count t.bank ≤ most_suspense → IsTellable document t
-tellable t (rows.List list) number few = number
-tellable t (rows.Run run) number few = number
-tellable t (rows.Suspense day) number few = few
 
 -- the document of the lines in suspense is that over the lines of the book
 pub suspense_told : (b : Book) (t : Tables) → Stands b t → (day : ℕ) → answer_of t (finding.Document (rows.Suspense day)) ≡ answer_to b day Suspense

@@ -32,48 +32,17 @@ use Rattle.clear_schema.specs.Faults.{IsOfDisk}
 use Rattle.clear_schema.specs.Held.{HasTables}
 use Rattle.clear_schema.specs.Values.{counts_of}
 use Rattle.clear_store.proofs.OnceLemmas.{all_with}
-use Rattle.clear_pieces.specs.Keeping.{AreAccounts, HasCharge, IsPut, TellsStood}
+use Rattle.clear_pieces.specs.Keeping.{AreAccounts, AreFollowing, HasCharge, IsPut, TellsStood}
 use Rattle.clear_office.specs.Bodies.{HasFollowing, HasPieces, IsFitting, MayPut}
 use Rattle.clear_office.proofs.LawLemmas.{change_free, change_puttable}
 
 -- ---- tables with other pieces, and with one request more
 
--- tables stand for a book whatever their pieces are
-pub stands_with : (b : Book) (t : Tables) (pieces : List PieceRow) → Stands b t → Stands b (record t { pieces = pieces })
-stands_with b t pieces stands = record {
-  rates = stands.rates;
-  day = stands.day;
-  entries = stands.entries;
-  employers = stands.employers;
-  employer_rows = stands.employer_rows;
-  employers_in_order = stands.employers_in_order;
-  reports = stands.reports;
-  reports_in_order = stands.reports_in_order;
-  wages = stands.wages;
-  wages_in_order = stands.wages_in_order;
-  charges = stands.charges;
-  charges_in_order = stands.charges_in_order;
-  bank = stands.bank;
-  bank_in_order = stands.bank_in_order;
-  credits = stands.credits;
-  credits_in_order = stands.credits_in_order;
-  requests = stands.requests;
-  requests_in_order = stands.requests_in_order;
-  claims = stands.claims;
-  last_claim = stands.last_claim;
-  lists = stands.lists;
-  last_list = stands.last_list;
-  runs = stands.runs;
-  last_run = stands.last_run;
-  reminders = stands.reminders;
-  serial = stands.serial;
-}
-
 -- the pieces follow a change also where its request is kept
 pub follows_kept : (t v : Tables) (requests : List RequestRow) → Follows t v → Follows t (record v { requests = requests })
 follows_kept t v requests follows g keeps leaves allocated =
     let then = follows g keeps leaves allocated in
-    record { pieces = then.pieces; in_order = then.in_order }
+    record { pieces = then.pieces; in_order = then.in_order; weighed = then.weighed }
 
 -- and where nothing changes
 pub follows_still : (t : Tables) → Follows t t
@@ -182,7 +151,7 @@ module _ (b next : Book) (t : Tables) (x : Entry) (change : Change) (lawful : Is
   pub may_put : (counts : Counts) → as_stored counts ≡ counts_of t → HasPieces t → MayPut x.day counts change t
   may_put counts same pieces = record {
     free = change_free next t x change lawful_next stands_next;
-    puttable = change_puttable next t x change counts lawful_next stands_next same fits.0 (has_charge b t stands change fits);
+    puttable = change_puttable next t x change counts lawful_next stands_next same fits.0;
     before = rows_in_range b t lawful stands;
     after = in_range_after;
     put = is_put;
@@ -193,17 +162,25 @@ module _ (b next : Book) (t : Tables) (x : Entry) (change : Change) (lawful : Is
 
 -- the pieces follow that change of which it was told whether its contribution stood
 pub following : (day : ℕ) (change : Change) (t : Tables) (stood : Bool) → TellsStood change t stood → (db : Database) (result : Result (Unit {0}) Fault)
-    → OnOk result ((pieces : List PieceRow) × HasTables (record (dated day (changed change t)) { pieces = pieces }) db
-    × ((s : Tables) → IsPut change s (dated day (changed change t)) → TellsStood change s stood → Follows s (record (dated day (changed change t)) { pieces = pieces })))
+    → OnOk result ((pieces : List PieceRow) × (charges : List KeptCharge) × HasTables (record (dated day (changed change t)) { pieces = pieces; charges = charges }) db
+    × ((s : Tables) → IsPut change s (dated day (changed change t)) → TellsStood change s stood → AreFollowing s (dated day (changed change t)) pieces charges))
     → OnOk result (HasFollowing day change t (dated day (changed change t)) db)
-following day change t stood told db (Ok u) (pieces, has, follows) = (pieces, has, λ put. follows t put told)
+following day change t stood told db (Ok u) (pieces, charges, has, follows) = (pieces, charges, has, λ put. follows t put told)
 following day change t stood told db (Err fault) none = tt
 
 -- the request is kept beside pieces that follow
-pub kept_following : (day : ℕ) (change : Change) (t v : Tables) (requests : List RequestRow) (pieces : List PieceRow) → (IsPut change t (dated day (changed change t)) → Follows t (record v { pieces = pieces }))
-    → (db : Database) (result : Result (Unit {0}) Fault) → OnOk result (HasTables (record v { pieces = pieces; requests = requests }) db) → OnOk result (HasFollowing day change t (record v { requests = requests }) db)
-kept_following day change t v requests pieces follows db (Ok u) has = (pieces, has, λ put. follows_kept t (record v { pieces = pieces }) requests (follows put))
-kept_following day change t v requests pieces follows db (Err fault) none = tt
+pub kept_following : (day : ℕ) (change : Change) (t v : Tables) (requests : List RequestRow) (pieces : List PieceRow) (charges : List KeptCharge)
+    → (IsPut change t (dated day (changed change t)) → AreFollowing t v pieces charges)
+    → (db : Database) (result : Result (Unit {0}) Fault) → OnOk result (HasTables (record v { pieces = pieces; charges = charges; requests = requests }) db) → OnOk result (HasFollowing day change t (record v { requests = requests }) db)
+kept_following day change t v requests pieces charges follows db (Ok u) has = (
+  pieces,
+  charges,
+  has,
+  λ put.
+      let then = follows put in
+      record { same = then.same; paid = then.paid; follows = follows_kept t (record v { pieces = pieces; charges = charges }) requests then.follows },
+)
+kept_following day change t v requests pieces charges follows db (Err fault) none = tt
 
 -- no key and no row is to blame where all are free and in their ranges
 pub no_blame : (result : Result (Unit {0}) Fault) (P Q : Type 0) → P → Q → IfErr result (λ fault. fault ≡ Store Constraint → ¬ P) → IfErr result (λ fault. fault ≡ Store Row → ¬ Q) → IfErr result IsOfDisk

@@ -15,20 +15,17 @@ ghost use Rattle.clear_schema.specs.First.{first_tables};
 ghost use Rattle.clear_schema.specs.Values.{counts_of};
 ghost use Rattle.clear_firms.specs.declared.counts.Counts.{Counts};
 ghost use Rattle.clear_firms.specs.Counts.{as_stored};
-ghost use Rattle.clear_pieces.specs.Keeping.{HasCharge};
 ghost use Rattle.clear_store.specs.Changes.{IsFree, IsPuttable, IsThere};
 
 /// A change that takes tables to those of a lawful book finds each key that it adds free, and the
 /// number of its request, too. The numbers of the reply lie in their ranges, and so do those of its
-/// rows and the counts after it, where what the change needs is there, and a contribution is kept of
-/// the month of a correction.
+/// rows and the counts after it, where what the change needs is there.
 pub fn law_lawful_change()
     ensures free { (next : Book) (t : Tables) (x : Entry) (change : Change)
         → IsLawful next → Stands next (noted x (changed change t)) → IsFree change t }
     ensures puttable { (next : Book) (t : Tables) (x : Entry) (change : Change) (counts : Counts)
         → IsLawful next → Stands next (noted x (changed change t))
-        → as_stored counts ≡ counts_of t → IsThere change t → HasCharge change t
-        → IsPuttable counts change }
+        → as_stored counts ≡ counts_of t → IsThere change t → IsPuttable counts change }
     ensures number { (next : Book) (t : Tables) (x : Entry) (change : Change)
         → Stands next (noted x (changed change t))
         → find_row request_key t.requests (request_number x.caller x.number) ≡ None }

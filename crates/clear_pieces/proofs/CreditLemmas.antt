@@ -3,7 +3,7 @@ use Rattle.std.proofs.Common.{◌≡◌, ℕ, List, [], ◌∷◌, Option, Some,
 use Rattle.std.specs.List.{AllByRecursion}
 use Rattle.std.proofs.lemmas.List.Elements.{All-contains, All-from_recursion}
 use Rattle.sqlite_trees.proofs.ListLemmas.{all-filter}
-use Rattle.clear_account.specs.Account.{comes_before}
+use Rattle.clear_account.specs.Account.{IsAccount, comes_before}
 use Rattle.clear_account.specs.declared.entries.Credit.{Credit}
 use Rattle.clear_values.specs.Credits.{credits_of_lines, set_offs_of}
 use Rattle.clear_values.specs.RowRanges.{AreInRange, IsCreditRow, IsSerial}
@@ -12,17 +12,21 @@ use Rattle.clear_values.specs.declared.rows.BankRow.{BankRow}
 use Rattle.clear_values.specs.declared.rows.Change.TheVariants.{AddBankLines, AssignLine, ReleaseClaim}
 use Rattle.clear_values.specs.declared.rows.ClaimRow.{ClaimRow}
 use Rattle.clear_values.specs.declared.rows.CreditRow.{CreditRow}
+use Rattle.clear_values.specs.declared.rows.KeptCharge.{KeptCharge}
 use Rattle.clear_values.specs.declared.rows.PieceRow.{PieceRow}
 use Rattle.clear_book.specs.Accounts.{credit_key, row_credit}
-use Rattle.clear_book.specs.Allocated.{AreAllocated, FirstCredit, Follows, KeepsKeys}
+use Rattle.clear_book.specs.Allocated.{AreAllocated, FirstCredit, KeepsKeys, kept_charges}
 use Rattle.clear_book.specs.Lines.{is_credit_of}
 use Rattle.clear_book.specs.Tables.{Tables, table_credits}
-use Rattle.clear_laws.proofs.AccountChangeLemmas.{AddsCredits, adds_credits, contributions_in, first_credit, old_credits_stay}
-use Rattle.clear_laws.proofs.FollowsLemmas.{FollowsBut, credits_first, follows_last, is_among}
+use Rattle.clear_laws.proofs.AccountChangeLemmas.{AddsCredits, adds_credits, contributions_in, first_credit, no_new_credit, old_credits_stay}
+use Rattle.clear_laws.proofs.FollowsLemmas.{credits_first}
+use Rattle.clear_laws.proofs.WeighedFollowsLemmas.{is_among, weighs_first}
 use Rattle.clear_store.proofs.OnceLemmas.{all_new}
 use Rattle.clear_pieces.specs.Anew.{FromCredit, IsFreeFromCredit}
-use Rattle.clear_pieces.specs.Keeping.{AreCreditsPut, AreFirst, IsFirst, IsFirstOf, IsPut}
-use Rattle.clear_pieces.proofs.StepLemmas.{credit_free, credit_put}
+use Rattle.clear_pieces.specs.Firm.{KeepsAccount}
+use Rattle.clear_pieces.specs.Keeping.{AreCreditsPut, AreFirst, AreFollowing, IsFirst, IsFirstOf, IsPut}
+use Rattle.clear_pieces.proofs.RangeLemmas.{paid_in_range, same_in_range}
+use Rattle.clear_pieces.proofs.StepLemmas.{FollowSoFar, account_so_far, all_put, credit_next, credit_next-free, none_put}
 
 -- ---- which changes put credits
 
@@ -52,8 +56,12 @@ module _ (news : List CreditRow) (t v : Tables) (put : AreCreditsPut news t v) w
 
   module _ (firsts : ℕ → Option Credit) (are : AreFirst firsts news) where
     -- at first all firms with a new credit are left
-    pub firms_first : (firms : List ℕ) → ((e : ℕ) → is_among firms e ≡ false → firsts e ≡ None) → FollowsBut t v firms
-    firms_first firms others = credits_first t v news firms put.pieces adds (λ e is. subst (IsFirstOf (contributions_in e news)) (others e is) (are e))
+    pub firms_first : (firms : List ℕ) → ((e : ℕ) → is_among firms e ≡ false → firsts e ≡ None) → FollowSoFar t v firms v.pieces v.charges
+    firms_first firms others =
+        none_put t v firms (credits_first t v news firms put.pieces adds none) (weighs_first t v firms put.charges (λ e is. no_new_credit t v news adds e (none e is)))
+      where
+        none : (e : ℕ) → is_among firms e ≡ false → contributions_in e news ≡ []
+        none e is = subst (IsFirstOf (contributions_in e news)) (others e is) (are e)
 
     module _ (e : ℕ) (k : Credit) (found : firsts e ≡ Some k) where
       pub is_first : IsFirst (contributions_in e news) k
@@ -66,15 +74,27 @@ module _ (news : List CreditRow) (t v : Tables) (put : AreCreditsPut news t v) w
           (first_credit t v news adds e row is_first.there (subst (λ (l : Credit). AllByRecursion (λ other. comes_before (row_credit other) l ≡ false) (contributions_in e news)) (sym is_first.is) is_first.earliest))
 
       -- the pieces of one of them are put
-      module _ (firms : List ℕ) (once : is_among firms e ≡ false) (so_far : List PieceRow) (before : FollowsBut t (record v { pieces = so_far }) (e ∷ firms)) where
-        pub next_put : (pieces : List PieceRow) → FromCredit (record v { pieces = so_far }) e k pieces → FollowsBut t (record v { pieces = pieces }) firms
+      module _ (firms : List ℕ) (once : is_among firms e ≡ false) (so_far : List PieceRow) (rows : List KeptCharge) (before : FollowSoFar t v (e ∷ firms) so_far rows) where
+        pub next_put : (pieces : List PieceRow) (settled : List KeptCharge) → FromCredit (record v { pieces = so_far; charges = rows }) e k pieces settled → FollowSoFar t v firms pieces settled
         next_put =
-            credit_put t (record v { pieces = so_far }) e firms once before (put.before.account e) (put.after.account e) k (adds.charges e) (old_credits_stay t v news adds e) first_new
+            credit_next t v e firms once put.after.charges_in_order (put.before.account e) (put.after.account e) so_far rows before k (adds.charges e) (old_credits_stay t v news adds e) first_new
 
-        pub next_free : (g : PieceRow → PieceRow) → KeepsKeys g → AreAllocated g t → IsFreeFromCredit (record v { pieces = so_far }) e k
+        pub next_free : (g : PieceRow → PieceRow) → KeepsKeys g → AreAllocated g t → IsFreeFromCredit (record v { pieces = so_far; charges = rows }) e k
         next_free =
-            credit_free t (record v { pieces = so_far }) e firms once before (put.before.account e) (put.after.account e) k (adds.charges e) (old_credits_stay t v news adds e) first_new
+            credit_next-free t v e firms once put.after.charges_in_order (put.before.account e) (put.after.account e) so_far rows before k (adds.charges e) (old_credits_stay t v news adds e) first_new
+
+        -- its account is still that
+        pub next_account : IsAccount (kept_charges (record v { pieces = so_far; charges = rows }) e) (table_credits v e)
+        next_account = account_so_far t v e firms once put.after.charges_in_order (put.before.account e) (put.after.account e) so_far rows before
+
+        -- and its rows are in their ranges
+        pub next_keeps : AreInRange v → KeepsAccount (record v { pieces = so_far; charges = rows }) e
+        next_keeps ranges = record {
+          charges = same_in_range v.charges rows before.same ranges.charges (before.paid (paid_in_range v.charges ranges.charges));
+          credits = ranges.credits;
+          account = next_account;
+        }
 
   -- without a new credit for contributions all pieces stay
-  pub none_new : AreFirst (λ e. None) news → Follows t v
-  none_new are = follows_last t v (firms_first (λ e. None) are [] (λ e is. refl))
+  pub none_new : AreFirst (λ e. None) news → AreFollowing t v v.pieces v.charges
+  none_new are = all_put t v v.pieces v.charges (firms_first (λ e. None) are [] (λ e is. refl))

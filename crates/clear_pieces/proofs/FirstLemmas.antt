@@ -18,7 +18,7 @@ use Rattle.clear_values.specs.declared.rows.ReleasedClaim.{ReleasedClaim}
 use Rattle.clear_values.proofs.CreditRowsLemmas.{credits_of_lines-append, set_off_row}
 use Rattle.clear_book.specs.Accounts.{row_credit}
 use Rattle.clear_book.specs.Lines.{credit_of_line, is_credit_of, line_credit}
-use Rattle.clear_laws.proofs.FollowsLemmas.{is_among}
+use Rattle.clear_laws.proofs.WeighedFollowsLemmas.{is_among}
 use Rattle.clear_pieces.specs.Keeping.{AreFirst, IsFirst, IsFirstOf, credit_for, earlier}
 use Rattle.clear_pieces.specs.declared.keep.NewCredit.{NewCredit}
 

@@ -5,5 +5,6 @@ pub mod FirstLemmas
 pub mod MapLemmas
 pub mod PieceLemmas
 pub mod ProgressLemmas
+pub mod RangeLemmas
 pub mod ReportLemmas
 pub mod StepLemmas

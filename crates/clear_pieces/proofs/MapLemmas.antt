@@ -9,7 +9,7 @@ use Rattle.std.specs.declared.cmp.Ordering.TheVariants.{Less}
 use Rattle.std.proofs.lemmas.Bool.{or_parts}
 use Rattle.std.proofs.lemmas.Bool.Decides.{nat_tests}
 use Rattle.std.proofs.lemmas.Map.Keys.{sorted_head}
-use Rattle.clear_laws.proofs.FollowsLemmas.{is_among}
+use Rattle.clear_laws.proofs.WeighedFollowsLemmas.{is_among}
 
 -- a number is found at itself alone
 pub at_number : (k q : ℕ) → is_eq (nat_cmp k q) ≡ (k == q)

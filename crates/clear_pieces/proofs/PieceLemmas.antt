@@ -10,7 +10,7 @@ use Rattle.clear_account.specs.declared.entries.Charge.{Charge}
 use Rattle.clear_account.specs.declared.entries.Credit.{Credit}
 use Rattle.clear_account.specs.declared.entries.Piece.{Piece}
 use Rattle.clear_account.specs.Account.{IsCharge, charge_at, credit_at, places}
-use Rattle.clear_account.specs.Allocation.{piece_of as account_piece}
+use Rattle.clear_account.specs.Allocation.{piece_of as account_piece, share}
 use Rattle.clear_account.specs.Suffix.{pieces_behind, share_behind}
 use Rattle.clear_account.proofs.AccountLemmas.{charge_at_place}
 use Rattle.clear_account.proofs.ShareLemmas.{charged_up_to-more}
@@ -22,7 +22,7 @@ use Rattle.clear_values.specs.declared.rows.CreditRow.{CreditRow}
 use Rattle.clear_values.specs.declared.rows.PieceRow.{PieceRow}
 use Rattle.clear_book.specs.Accounts.{row_credit}
 use Rattle.clear_book.specs.Allocated.{pieces_left}
-use Rattle.clear_book.specs.Pieces.{piece_of, piece_row}
+use Rattle.clear_book.specs.Pieces.{piece_of, piece_row, pieces_of}
 use Rattle.clear_pieces.specs.Firm.{row_placed, rows_placed}
 
 -- ---- lists
@@ -143,3 +143,12 @@ left_in_range s p charges rows each in_range =
     let step = charged_up_to-more charges i (omega arith) in
     all_hold IsPieceRow _ (enumerate_from 0 rows)
     (rows_hold _ IsCreditRow (λ j row good. one_in_range (charge_at charges i) row (share_behind s p charges (map row_credit rows) i j) (charge_at_place charges i each (omega arith)) good (omega arith)) 0 rows in_range)))
+
+-- so are those of all pieces of an account
+pub all_in_range : (charges : List Charge) (rows : List CreditRow) → All IsCharge charges → AllByRecursion IsCreditRow rows → AllByRecursion IsPieceRow (flat_map (pieces_of charges rows) (places charges))
+all_in_range charges rows each in_range =
+    all_hold IsPieceRow _ (places charges)
+    (numbers_hold _ 0 (length charges) (λ i low high.
+    let step = charged_up_to-more charges i (omega arith) in
+    all_hold IsPieceRow _ (enumerate_from 0 rows)
+    (rows_hold _ IsCreditRow (λ j row good. one_in_range (charge_at charges i) row (share charges (map row_credit rows) i j) (charge_at_place charges i each (omega arith)) good (omega arith)) 0 rows in_range)))

@@ -1,4 +1,4 @@
--- The pieces of several firms are put, one firm after another.
+-- The pieces of several firms are put, and what is open of their contributions, one firm after another.
 use Rattle.std.proofs.Common.{◌≡◌, ℕ, List, [], ◌∷◌, Option, Some, None, Result, Ok, Err, false}
 use Rattle.std.specs.Prelude.{IfErr, OnErr, OnOk}
 use Rattle.std.proofs.lemmas.Result.{on_ok_weaker}
@@ -10,10 +10,11 @@ use Rattle.clear_account.specs.declared.entries.Credit.{Credit}
 use Rattle.clear_rows.proofs.Inside.{keeps_both, keeps_none, survives_both, survives_none}
 use Rattle.clear_values.specs.RowRanges.{IsSerial}
 use Rattle.clear_values.specs.declared.rows.CreditRow.{CreditRow}
+use Rattle.clear_values.specs.declared.rows.KeptCharge.{KeptCharge}
 use Rattle.clear_values.specs.declared.rows.PieceRow.{PieceRow}
 use Rattle.clear_book.specs.Allocated.{kept_charges}
 use Rattle.clear_book.specs.Tables.{Tables, table_credits}
-use Rattle.clear_laws.proofs.FollowsLemmas.{FollowsBut, follows_last, is_among}
+use Rattle.clear_laws.proofs.WeighedFollowsLemmas.{is_among}
 use Rattle.clear_schema.specs.Faults.{IsOfDisk}
 use Rattle.clear_schema.specs.Frame.{GoesOn}
 use Rattle.clear_schema.specs.Held.{HasTables}
@@ -22,14 +23,15 @@ use Rattle.clear_views.proofs.ReadLemmas.{was_clean}
 use Rattle.clear_pieces.specs.Anew.{FromCredit, IsFreeFromCredit}
 use Rattle.clear_pieces.specs.Firm.{KeepsAccount}
 use Rattle.clear_pieces.specs.Keeping.{AreCreditsPut, AreFirst, Keeps, WasRight}
-use Rattle.clear_pieces.proofs.CreditLemmas.{first_serial, firms_first, is_first, next_free, next_put}
+use Rattle.clear_pieces.proofs.CreditLemmas.{first_serial, firms_first, is_first, next_account, next_free, next_keeps, next_put}
+use Rattle.clear_pieces.proofs.StepLemmas.{FollowSoFar, all_put}
 
 module _ {S : Type 0} (g : Ghosts S) (old : Held S) (news : List CreditRow) where
-  -- the database has the tables with pieces that follow but for those of the firms that are left
+  -- the database has the tables with pieces and rows of contributions that follow but for those of the firms that are left
   abbrev HasLeft : Held S → List ℕ → Tables → Type 0
   HasLeft now left v =
-      (pieces : List PieceRow) × HasTables (record v { pieces = pieces }) (state g now).now
-      × ((t : Tables) → AreCreditsPut news t v → FollowsBut t (record v { pieces = pieces }) left)
+      (pieces : List PieceRow) × (charges : List KeptCharge) × HasTables (record v { pieces = pieces; charges = charges }) (state g now).now
+      × ((t : Tables) → AreCreditsPut news t v → FollowSoFar t v left pieces charges)
 
   -- so far the pieces were put but for those of the firms that are left
   pub record Progress (now : Held S) (left : List ℕ) : Type 0 where
@@ -41,7 +43,7 @@ module _ {S : Type 0} (g : Ghosts S) (old : Held S) (news : List CreditRow) wher
   all_done now done = record {
     keeps = λ clean v has.
         let so_far = done.put clean v has in
-        (so_far.0, so_far.1, λ t put. follows_last t (record v { pieces = so_far.0 }) (so_far.2 t put));
+        (so_far.0, so_far.1, so_far.2, λ t put. all_put t v so_far.0 so_far.1 (so_far.3 t put));
     fault = λ clean v has right. tt;
     stays = done.stays;
   }
@@ -50,7 +52,7 @@ module _ {S : Type 0} (g : Ghosts S) (old : Held S) (news : List CreditRow) wher
     -- at first all firms with a new credit are left
     pub none_done : (left : List ℕ) → ((e : ℕ) → is_among left e ≡ false → firsts e ≡ None) → Progress old left
     none_done left others = record {
-      put = λ clean v has. (v.pieces, has, λ t put. firms_first news t v put firsts are left others);
+      put = λ clean v has. (v.pieces, v.charges, has, λ t put. firms_first news t v put firsts are left others);
       stays = record {
         goes_on = λ clean v has inside. inside;
         kept = λ clean v has. keeps_none (state g old);
@@ -61,7 +63,7 @@ module _ {S : Type 0} (g : Ghosts S) (old : Held S) (news : List CreditRow) wher
     -- the next one's are put, or are not
     module _ (mid new : Held S) (e : ℕ) (k : Credit) (left : List ℕ) (found : firsts e ≡ Some k) (once : is_among left e ≡ false) (before : Progress mid (e ∷ left)) (result : Result (Unit {0}) Fault)
         (puts : HasCleanDisk (state g new) → (u : Tables) → HasTables u (state g mid).now
-        → OnOk result ((pieces : List PieceRow) × HasTables (record u { pieces = pieces }) (state g new).now × (IsAccount (kept_charges u e) (table_credits u e) → FromCredit u e k pieces)))
+        → OnOk result ((pieces : List PieceRow) × (charges : List KeptCharge) × HasTables (record u { pieces = pieces; charges = charges }) (state g new).now × (IsAccount (kept_charges u e) (table_credits u e) → FromCredit u e k pieces charges)))
         (fault : HasCleanDisk (state g new) → (u : Tables) → HasTables u (state g mid).now → KeepsAccount u e → IsFreeFromCredit u e k → IsSerial k.serial → IfErr result IsOfDisk)
         (stays : GoesOn g mid new result) where
       so_far : HasCleanDisk (state g new) → (v : Tables) → HasTables v (state g old).now → HasLeft mid (e ∷ left) v
@@ -71,25 +73,25 @@ module _ {S : Type 0} (g : Ghosts S) (old : Held S) (news : List CreditRow) wher
       next_left clean v has =
           let was = so_far clean v has in
           on_ok_weaker result
-          (λ now. (now.0, now.1, λ t put. next_put news t v put firsts are e k found left once was.0 (was.2 t put) now.0 (now.2 (put.after.account e))))
-          (puts clean (record v { pieces = was.0 }) was.1)
+          (λ now. (now.0, now.1, now.2, λ t put. next_put news t v put firsts are e k found left once was.0 was.1 (was.3 t put) now.0 now.1 (now.3 (next_account news t v put firsts are e k found left once was.0 was.1 (was.3 t put)))))
+          (puts clean (record v { pieces = was.0; charges = was.1 }) was.2)
 
       next_fault : HasCleanDisk (state g new) → (v : Tables) → HasTables v (state g old).now → WasRight (AreCreditsPut news) v → IfErr result IsOfDisk
       next_fault clean v has right =
           let was = so_far clean v has in
-          fault clean (record v { pieces = was.0 }) was.1
-          (record { charges = right.ranges.charges; credits = right.ranges.credits; account = right.put.after.account e })
-          (next_free news right.t v right.put firsts are e k found left once was.0 (was.2 right.t right.put) right.g right.keys right.allocated)
+          fault clean (record v { pieces = was.0; charges = was.1 }) was.2
+          (next_keeps news right.t v right.put firsts are e k found left once was.0 was.1 (was.3 right.t right.put) right.ranges)
+          (next_free news right.t v right.put firsts are e k found left once was.0 was.1 (was.3 right.t right.put) right.g right.keys right.allocated)
           (first_serial news right.t v right.put right.ranges e k (is_first news right.t v right.put firsts are e k found))
 
       next_stays : GoesOn g old new result
       next_stays = record {
         goes_on = λ clean v has inside.
             let was = so_far clean v has in
-            stays.goes_on clean (record v { pieces = was.0 }) was.1 (before.stays.goes_on (was_clean (state g mid) (state g new) stays.survives clean) v has inside);
+            stays.goes_on clean (record v { pieces = was.0; charges = was.1 }) was.2 (before.stays.goes_on (was_clean (state g mid) (state g new) stays.survives clean) v has inside);
         kept = λ clean v has.
             let was = so_far clean v has in
-            keeps_both (state g old) (state g mid) (state g new) (before.stays.kept (was_clean (state g mid) (state g new) stays.survives clean) v has) (stays.kept clean (record v { pieces = was.0 }) was.1);
+            keeps_both (state g old) (state g mid) (state g new) (before.stays.kept (was_clean (state g mid) (state g new) stays.survives clean) v has) (stays.kept clean (record v { pieces = was.0; charges = was.1 }) was.2);
         survives = survives_both (state g old) (state g mid) (state g new) before.stays.survives stays.survives;
       }
 

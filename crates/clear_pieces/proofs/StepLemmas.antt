@@ -1,18 +1,32 @@
--- The pieces of a firm that is left are put: then one firm less is left.
-use Rattle.std.proofs.Common.{◌≡◌, ℕ, ◌<◌, ◌≤◌, List, ◌∷◌, ◌⊎◌, inl, inr, length, false, refl, sym, subst}
-use Rattle.std.specs.List.{All, Contains}
+-- The pieces of a firm that is left are put, and what is open of its contributions: then one firm less is left.
+use Rattle.std.proofs.Common.{◌≡◌, ℕ, ◌<◌, ◌≤◌, List, [], ◌∷◌, ◌⊎◌, inl, inr, drop, length, map, false, refl, sym, subst, ◌∙◌}
+use Rattle.std.specs.List.{All, AllByRecursion, Contains}
 use Rattle.std.proofs.lemmas.Bool.{cases_lt}
 use Rattle.clear_account.specs.Account.{IsAccount, charge_at, credit_at}
+use Rattle.clear_account.specs.declared.entries.Charge.{Charge}
 use Rattle.clear_account.specs.declared.entries.Credit.{Credit}
-use Rattle.clear_values.specs.Keyed.{without_rows}
+use Rattle.clear_kept.specs.Changes.{charges_before}
+use Rattle.clear_kept.specs.Weighed.{weighed_charges}
+use Rattle.clear_kept.specs.declared.rows.WeighedCharge.{WeighedCharge}
+use Rattle.clear_values.specs.Keyed.{AreInOrder, without_rows}
 use Rattle.clear_values.specs.Tables.{is_piece_key_from}
+use Rattle.clear_values.specs.declared.rows.KeptCharge.{KeptCharge}
 use Rattle.clear_values.specs.declared.rows.PieceRow.{PieceRow}
-use Rattle.clear_book.specs.Allocated.{AreAllocated, FirstCredit, FirstMonth, KeepsKeys, contribution_rows, kept_charges}
-use Rattle.clear_book.specs.Tables.{Tables, piece_key, table_credits}
+use Rattle.clear_book.specs.Allocated.{AreAllocated, AreSameCharges, FirstCredit, FirstMonth, KeepsKeys, contribution_rows, kept_charges, weighed_in}
+use Rattle.clear_book.specs.Tables.{IsPaidInRange, Tables, charge_key, piece_key, table_credits}
+use Rattle.clear_laws.proofs.AccountChangeLemmas.{ChangesCharge}
 use Rattle.clear_laws.proofs.AllocatedLemmas.{charge_puttable, credits_puttable}
-use Rattle.clear_laws.proofs.FollowsLemmas.{FollowsBut, charge_follows, charge_follows-left, credits_follow, credits_follow-left, is_among, next_there}
+use Rattle.clear_laws.proofs.FollowsLemmas.{FollowsBut, charge_follows, charge_follows-left, credits_follow, credits_follow-left, follows_beside, follows_last, next_there}
+use Rattle.clear_laws.proofs.SameChargesLemmas.{same_in_order, same_kept}
+use Rattle.clear_laws.proofs.SettledLemmas.{settled_all}
+use Rattle.clear_laws.proofs.WeighedFollowsLemmas.{WeighsBut, charge_settled, credits_settled, is_among, settled_alike, weighs_beside}
+use Rattle.clear_laws.proofs.WeighedLemmas.{news_in_range, settled_row-own, settled_row-weighed}
 use Rattle.clear_store.proofs.OnceLemmas.{in_order_free}
-use Rattle.clear_pieces.specs.Anew.{FromCharge, FromCredit, IsFreeFromCharge, IsFreeFromCredit, credit_place, month_place, pieces_beyond}
+use Rattle.clear_pieces.specs.Anew.{FromCharge, FromCredit, IsFreeFromCharge, IsFreeFromCredit, credit_place, month_place, pieces_beyond, settled_charges}
+use Rattle.clear_pieces.specs.Firm.{settled_from}
+use Rattle.clear_pieces.specs.Keeping.{AreFollowing}
+
+-- ---- the pieces
 
 module _ (t u : Tables) (e : ℕ) (firms : List ℕ) (once : is_among firms e ≡ false) (before : FollowsBut t u (e ∷ firms))
     (old : IsAccount (kept_charges t e) (table_credits t e)) (new : IsAccount (kept_charges u e) (table_credits u e)) where
@@ -23,8 +37,8 @@ module _ (t u : Tables) (e : ℕ) (firms : List ℕ) (once : is_among firms e �
   -- ---- its contribution of a month is another one, or new
 
   module _ (m : ℕ) (rows : contribution_rows u e ≡ contribution_rows t e) (first : FirstMonth (kept_charges t e) (kept_charges u e) m) where
-    pub charge_put : (pieces : List PieceRow) → FromCharge u e m pieces → Follow pieces
-    charge_put pieces from = told (cases_lt from.b (length (table_credits u e)))
+    pub charge_put : (pieces : List PieceRow) (settled : List KeptCharge) → FromCharge u e m pieces settled → Follow pieces
+    charge_put pieces settled from = told (cases_lt from.b (length (table_credits u e)))
       where
         told : (from.b < length (table_credits u e)) ⊎ (length (table_credits u e) ≤ from.b) → Follow pieces
         told (inl within) =
@@ -45,8 +59,8 @@ module _ (t u : Tables) (e : ℕ) (firms : List ℕ) (once : is_among firms e �
 
   module _ (k : Credit) (charges : kept_charges u e ≡ kept_charges t e) (kept : All (Contains (contribution_rows u e)) (contribution_rows t e))
       (first : FirstCredit (table_credits t e) (table_credits u e) k) where
-    pub credit_put : (pieces : List PieceRow) → FromCredit u e k pieces → Follow pieces
-    credit_put pieces from = told (cases_lt from.a (length (kept_charges u e)))
+    pub credit_put : (pieces : List PieceRow) (settled : List KeptCharge) → FromCredit u e k pieces settled → Follow pieces
+    credit_put pieces settled from = told (cases_lt from.a (length (kept_charges u e)))
       where
         told : (from.a < length (kept_charges u e)) ⊎ (length (kept_charges u e) ≤ from.a) → Follow pieces
         told (inl within) =
@@ -61,3 +75,105 @@ module _ (t u : Tables) (e : ℕ) (firms : List ℕ) (once : is_among firms e �
     credit_free g keeps allocated a b ends_c ends_k within =
         in_order_free piece_key (without_rows piece_key (is_piece_key_from e (charge_at (kept_charges u e) a).month k.day k.serial) u.pieces) (pieces_beyond u e a b)
         (credits_puttable g keeps t u e (before.in_order g keeps allocated) (next_there e firms once t u before) (allocated.pieces e) old new k (credit_place u e k) a b charges kept first.0 refl ends_c ends_k within).in_order
+
+-- ---- with what is open of the contributions
+
+-- with these pieces and rows of contributions the tables follow but for the firms that are left
+pub record FollowSoFar (t v : Tables) (firms : List ℕ) (pieces : List PieceRow) (charges : List KeptCharge) : Type 0 where
+  pub follows : FollowsBut t (record v { pieces = pieces; charges = charges }) firms
+  pub weighs : WeighsBut t (record v { pieces = pieces; charges = charges }) firms
+  pub same : AreSameCharges v.charges charges
+  pub paid : AllByRecursion IsPaidInRange v.charges → AllByRecursion IsPaidInRange charges
+
+-- at first nothing is put
+pub none_put : (t v : Tables) (firms : List ℕ) → FollowsBut t v firms → WeighsBut t v firms → FollowSoFar t v firms v.pieces v.charges
+none_put t v firms follows weighs = record { follows = follows; weighs = weighs; same = refl; paid = λ all. all }
+
+-- in the end no firm is left
+pub all_put : (t v : Tables) (pieces : List PieceRow) (charges : List KeptCharge) → FollowSoFar t v [] pieces charges → AreFollowing t v pieces charges
+all_put t v pieces charges so_far = record {
+  same = so_far.same;
+  paid = so_far.paid;
+  follows = follows_last t (record v { pieces = pieces; charges = charges }) so_far.follows so_far.weighs;
+}
+
+-- the rows of a firm's contributions from one on, put in the places of those that stood
+module _ (u : Tables) (e : ℕ) (order : AreInOrder charge_key u.charges) (account : IsAccount (kept_charges u e) (table_credits u e)) (n : ℕ) where
+  abbrev rest : List WeighedCharge
+  rest = drop n (weighed_charges (kept_charges u e) (table_credits u e))
+
+  abbrev news : List KeptCharge
+  news = settled_from e (kept_charges u e) (table_credits u e) n
+
+  own : AllByRecursion (λ row. row.employer ≡ e) news
+  own = settled_row-own e rest
+
+  weighed : map weighed_in news ≡ rest
+  weighed = settled_row-weighed e rest
+
+  settled_same : AreSameCharges u.charges (settled_charges u e n)
+  settled_same = settled_alike e u order n news own weighed
+
+  settled_paid : AllByRecursion IsPaidInRange u.charges → AllByRecursion IsPaidInRange (settled_charges u e n)
+  settled_paid all = settled_all e u.charges news order own IsPaidInRange all (news_in_range n (kept_charges u e) (table_credits u e) news account weighed)
+
+-- the firm of a report
+module _ (t v : Tables) (e m : ℕ) (changes : ChangesCharge t v e m) (first : FirstMonth (kept_charges t e) (kept_charges v e) m) (sooner : AreInOrder charge_key t.charges) (rises : AreInOrder charge_key v.charges)
+    (before : FollowsBut t v (e ∷ [])) (old : IsAccount (kept_charges t e) (table_credits t e)) (new : IsAccount (kept_charges v e) (table_credits v e)) where
+  pub charge_done : (pieces : List PieceRow) (charges : List KeptCharge) → FromCharge v e m pieces charges → AreFollowing t v pieces charges
+  charge_done pieces charges from =
+      all_put t v pieces charges
+      (record {
+        follows = follows_beside t (record v { pieces = pieces }) [] charges (charge_put t v e [] refl before old new m (changes.rows e) first pieces charges from) same;
+        weighs = weighs_beside t (record v { charges = charges }) [] pieces (subst (λ (cs : List KeptCharge). WeighsBut t (record v { charges = cs }) []) (sym from.settled) settled);
+        same = same;
+        paid = λ all. subst (AllByRecursion IsPaidInRange) (sym from.settled) (settled_paid v e rises new n all);
+      })
+    where
+      n : ℕ
+      n = length (charges_before m (kept_charges v e))
+
+      same : AreSameCharges v.charges charges
+      same = subst (AreSameCharges v.charges) (sym from.settled) (settled_same v e rises new n)
+
+      settled : WeighsBut t (record v { charges = settled_charges v e n }) []
+      settled = charge_settled t v e m changes sooner rises old new (news v e rises new n) (own v e rises new n) (weighed v e rises new n)
+
+-- a firm of new credits
+module _ (t v : Tables) (e : ℕ) (firms : List ℕ) (once : is_among firms e ≡ false) (rises : AreInOrder charge_key v.charges) (old : IsAccount (kept_charges t e) (table_credits t e)) (new : IsAccount (kept_charges v e) (table_credits v e))
+    (so_far : List PieceRow) (rows : List KeptCharge) (before : FollowSoFar t v (e ∷ firms) so_far rows) where
+  abbrev u : Tables
+  u = record v { pieces = so_far; charges = rows }
+
+  kept_so_far : kept_charges v e ≡ kept_charges u e
+  kept_so_far = same_kept v.charges rows before.same e
+
+  order : AreInOrder charge_key rows
+  order = same_in_order v.charges rows before.same rises
+
+  -- its account is still that
+  pub account_so_far : IsAccount (kept_charges u e) (table_credits u e)
+  account_so_far = subst (λ (cs : List Charge). IsAccount cs (table_credits v e)) kept_so_far new
+
+  module _ (k : Credit) (charges : kept_charges v e ≡ kept_charges t e) (kept : All (Contains (contribution_rows v e)) (contribution_rows t e)) (first : FirstCredit (table_credits t e) (table_credits v e) k) where
+    charges_so_far : kept_charges u e ≡ kept_charges t e
+    charges_so_far = sym kept_so_far ∙ charges
+
+    pub credit_next : (pieces : List PieceRow) (settled : List KeptCharge) → FromCredit u e k pieces settled → FollowSoFar t v firms pieces settled
+    credit_next pieces settled from = record {
+      follows = follows_beside t (record u { pieces = pieces }) firms settled (credit_put t u e firms once before.follows old account_so_far k charges_so_far kept first pieces settled from) same;
+      weighs = weighs_beside t (record u { charges = settled }) firms pieces (subst (λ (cs : List KeptCharge). WeighsBut t (record u { charges = cs }) firms) (sym from.settled) put);
+      same = before.same ∙ same;
+      paid = λ all. subst (AllByRecursion IsPaidInRange) (sym from.settled) (settled_paid u e order account_so_far from.a (before.paid all));
+    }
+      where
+        same : AreSameCharges rows settled
+        same = subst (AreSameCharges rows) (sym from.settled) (settled_same u e order account_so_far from.a)
+
+        put : WeighsBut t (record u { charges = settled_charges u e from.a }) firms
+        put =
+            credits_settled e firms once t u before.weighs order k (credit_place u e k) from.a old account_so_far first.0 refl from.charges_end
+            (news u e order account_so_far from.a) (own u e order account_so_far from.a) (weighed u e order account_so_far from.a)
+
+    pub credit_next-free : (g : PieceRow → PieceRow) → KeepsKeys g → AreAllocated g t → IsFreeFromCredit u e k
+    credit_next-free = credit_free t u e firms once before.follows old account_so_far k charges_so_far kept first

@@ -1,16 +1,19 @@
--- The pieces of a firm, put anew from the first changed place of its account on.
+-- The pieces of a firm, and what is open of its contributions, put anew from the first changed
+-- place of its account on.
 use Rattle.std.specs.Prelude.{◌≡◌, ℕ, ◌<◌, ◌≤◌, List, drop, length}
 use Rattle.clear_account.specs.Account.{charge_at, charged, charged_up_to, credit_at}
 use Rattle.clear_account.specs.Account.{credited, credited_up_to}
 use Rattle.clear_account.specs.Places.{Ends}
 use Rattle.clear_account.specs.declared.entries.Credit.{Credit}
 use Rattle.clear_kept.specs.Changes.{charges_before, credits_before}
-use Rattle.clear_values.specs.Keyed.{without_rows}
+use Rattle.clear_values.specs.Keyed.{replaced_rows, without_rows}
 use Rattle.clear_values.specs.Tables.{is_piece_key_from}
+use Rattle.clear_values.specs.declared.rows.KeptCharge.{KeptCharge}
 use Rattle.clear_values.specs.declared.rows.PieceRow.{PieceRow}
 use Rattle.clear_book.specs.Allocated.{contribution_rows, kept_charges, pieces_left}
-use Rattle.clear_book.specs.Tables.{Tables, piece_key, table_credits, with_pieces}
+use Rattle.clear_book.specs.Tables.{Tables, charge_key, piece_key, table_credits, with_pieces}
 use Rattle.clear_store.specs.Changes.{AreFree}
+use Rattle.clear_pieces.specs.Firm.{settled_from}
 
 -- the place of the contribution of a month: the contributions of earlier months
 abbrev pub month_place : Tables → ℕ → ℕ → ℕ
@@ -26,12 +29,20 @@ pieces_beyond t e a b =
     pieces_left (charged_up_to (kept_charges t e) a) (credited_up_to (table_credits t e) b)
     (drop a (kept_charges t e)) (drop b (contribution_rows t e))
 
+-- the kept contributions, those of a firm but for its first n with what its credits pay of them
+abbrev pub settled_charges : Tables → ℕ → ℕ → List KeptCharge
+settled_charges t e n =
+    replaced_rows charge_key t.charges
+    (settled_from e (kept_charges t e) (table_credits t e) n)
+
 -- ---- after the contribution of a month was changed or put in
 
 -- a of the firm's contributions and b of its credits end at or below the place of the month; its
 -- pieces of that month or a later one, of the next credit or a later one, give way to those of its
--- other contributions and credits. Without a next credit all pieces stay
-pub record FromCharge (t : Tables) (e month : ℕ) (pieces : List PieceRow) : Type 0 where
+-- other contributions and credits. Without a next credit all pieces stay. What is open of its
+-- contributions of that month and later ones is written
+pub record FromCharge (t : Tables) (e month : ℕ) (pieces : List PieceRow)
+    (charges : List KeptCharge) : Type 0 where
   pub a : ℕ
   pub b : ℕ
   pub charges_end : Ends (λ c. c.cents) (kept_charges t e) (month_place t e month) a
@@ -40,6 +51,8 @@ pub record FromCharge (t : Tables) (e month : ℕ) (pieces : List PieceRow) : Ty
       ≡ with_pieces e month (credit_at (table_credits t e) b).day
       (credit_at (table_credits t e) b).serial (pieces_beyond t e a b) t.pieces
   pub stay : length (table_credits t e) ≤ b → pieces ≡ t.pieces
+  pub settled : charges
+      ≡ settled_charges t e (length (charges_before month (kept_charges t e)))
 
 -- the keys of the pieces that are put then are free among those that are left, and stand once
 abbrev pub IsFreeFromCharge : Tables → ℕ → ℕ → Type 0
@@ -54,10 +67,12 @@ IsFreeFromCharge t e month =
 
 -- ---- after credits were put in
 
--- a of the firm's contributions and b of its credits end at or below the place of the first new one;
--- its pieces of the next contribution or a later one, of that credit or a later one, give way to
--- those of its other contributions and credits. Without a next contribution all pieces stay
-pub record FromCredit (t : Tables) (e : ℕ) (first : Credit) (pieces : List PieceRow) : Type 0 where
+-- a of the firm's contributions and b of its credits end at or below the place of the first new
+-- one; its pieces of the next contribution or a later one, of that credit or a later one, give
+-- way to those of its other contributions and credits. Without a next contribution all pieces
+-- stay. What is open of the next contribution and of later ones is written
+pub record FromCredit (t : Tables) (e : ℕ) (first : Credit) (pieces : List PieceRow)
+    (charges : List KeptCharge) : Type 0 where
   pub a : ℕ
   pub b : ℕ
   pub charges_end : Ends (λ c. c.cents) (kept_charges t e) (credit_place t e first) a
@@ -66,6 +81,7 @@ pub record FromCredit (t : Tables) (e : ℕ) (first : Credit) (pieces : List Pie
       ≡ with_pieces e (charge_at (kept_charges t e) a).month first.day first.serial
       (pieces_beyond t e a b) t.pieces
   pub stay : length (kept_charges t e) ≤ a → pieces ≡ t.pieces
+  pub settled : charges ≡ settled_charges t e a
 
 -- the keys of the pieces that are put then are free among those that are left, and stand once
 abbrev pub IsFreeFromCredit : Tables → ℕ → Credit → Type 0

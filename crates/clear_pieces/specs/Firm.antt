@@ -1,11 +1,16 @@
 -- A firm's account as the tables keep it.
-use Rattle.std.specs.Prelude.{◌≡◌, ℕ, List, Option, slice_get}
+use Rattle.std.specs.Prelude.{◌≡◌, ℕ, List, Option, drop, map, slice_get}
 use Rattle.std.specs.List.{AllByRecursion, filter_map}
 use Rattle.std.specs.Option.{option_map}
 use Rattle.clear_account.specs.Account.{IsAccount}
+use Rattle.clear_account.specs.declared.entries.Charge.{Charge}
+use Rattle.clear_account.specs.declared.entries.Credit.{Credit}
+use Rattle.clear_kept.specs.Weighed.{weighed_charges}
 use Rattle.clear_kept.specs.declared.rows.PlacedPiece.{PlacedPiece}
+use Rattle.clear_kept.specs.declared.rows.WeighedCharge.{WeighedCharge}
 use Rattle.clear_values.specs.RowRanges.{IsCreditRow, IsKeptCharge}
 use Rattle.clear_values.specs.declared.rows.CreditRow.{CreditRow}
+use Rattle.clear_values.specs.declared.rows.KeptCharge.{KeptCharge}
 use Rattle.clear_values.specs.declared.rows.PieceRow.{PieceRow}
 use Rattle.clear_book.specs.Allocated.{contribution_rows, kept_charges}
 use Rattle.clear_book.specs.Pieces.{piece_row}
@@ -34,3 +39,18 @@ row_placed credits placed =
 -- the rows of such pieces
 abbrev pub rows_placed : List CreditRow → List PlacedPiece → List PieceRow
 rows_placed credits placed = filter_map (row_placed credits) placed
+
+-- a contribution, with what is paid of it, as a row of a firm
+abbrev pub kept_as : ℕ → WeighedCharge → KeptCharge
+kept_as e row = record {
+  employer = e;
+  month = row.month;
+  due = row.due;
+  cents = row.cents;
+  left = row.left;
+  weight = row.weight;
+}
+
+-- the rows of a firm's contributions but for the first n, with what its credits pay of them
+abbrev pub settled_from : ℕ → List Charge → List Credit → ℕ → List KeptCharge
+settled_from e charges credits n = map (kept_as e) (drop n (weighed_charges charges credits))

@@ -1,4 +1,4 @@
--- The pieces follow a change that was put into the tables.
+-- The pieces, and what is open of the contributions, follow a change that was put into the tables.
 use Rattle.std.specs.Prelude.{◌≡◌, ◌≢◌, ℕ, List, [], Bool, true, false, Option, Some, None}
 use Rattle.std.specs.Prelude.{◌==◌, IfErr, OnOk, Result, filter, if◌then◌else◌}
 use Rattle.std.specs.List.{AllByRecursion, Contains}
@@ -12,13 +12,16 @@ use Rattle.clear_values.specs.declared.lines.Purpose.TheVariants.{Contribution}
 use Rattle.clear_values.specs.declared.rows.Change.{Change}
 use Rattle.clear_values.specs.declared.rows.Change.TheVariants.{ReplaceReport}
 use Rattle.clear_values.specs.declared.rows.CreditRow.{CreditRow}
+use Rattle.clear_values.specs.declared.rows.KeptCharge.{KeptCharge}
 use Rattle.clear_values.specs.declared.rows.PieceRow.{PieceRow}
 use Rattle.clear_values.specs.Keyed.{AreInOrder, is_held, with_rows}
 use Rattle.clear_values.specs.RowRanges.{AreInRange}
 use Rattle.clear_book.specs.Accounts.{credit_key, row_credit}
-use Rattle.clear_book.specs.Allocated.{AreAllocated, Follows, KeepsKeys, kept_charges}
+use Rattle.clear_book.specs.Allocated.{AreAllocated, AreSameCharges, Follows, KeepsKeys}
+use Rattle.clear_book.specs.Allocated.{kept_charges}
 use Rattle.clear_book.specs.Lines.{is_credit_of}
-use Rattle.clear_book.specs.Tables.{Tables, changed, charge_at, charge_in, charge_key, table_credits}
+use Rattle.clear_book.specs.Tables.{IsPaidInRange, Tables, changed, charge_at, charge_in}
+use Rattle.clear_book.specs.Tables.{charge_key, table_credits}
 use Rattle.clear_schema.specs.Faults.{IsOfDisk}
 use Rattle.clear_schema.specs.Frame.{GoesOn}
 use Rattle.clear_schema.specs.Held.{HasTables}
@@ -44,8 +47,8 @@ abbrev pub HasCharge : Change → Tables → Type 0
 HasCharge (ReplaceReport row lines charge) t = is_held charge_key charge t.charges ≡ true
 HasCharge change t = Unit {0}
 
--- the change was put into the tables of accounts, and those are accounts again; the pieces are still
--- as they were
+-- the change was put into the tables of accounts, and those are accounts again; the pieces are
+-- still as they were
 pub record IsPut (change : Change) (t v : Tables) : Type 0 where
   pub before : AreAccounts t
   pub after : AreAccounts v
@@ -56,8 +59,8 @@ pub record IsPut (change : Change) (t v : Tables) : Type 0 where
 
 -- ---- credits that were put
 
--- credits were put into the tables of accounts, and those are accounts again; the pieces are still as
--- they were
+-- credits were put into the tables of accounts, and those are accounts again; the pieces are
+-- still as they were
 pub record AreCreditsPut (news : List CreditRow) (t v : Tables) : Type 0 where
   pub before : AreAccounts t
   pub after : AreAccounts v
@@ -92,16 +95,28 @@ earlier None new = new
 earlier (Some k) None = Some k
 earlier (Some k) (Some l) = if comes_before l k then Some l else Some k
 
--- ---- pieces that follow
+-- ---- what follows
+
+-- of these tables, with these pieces and these rows of contributions, pieces and what is open of
+-- the contributions follow others; the contributions are the same, and what is open stays in its
+-- range
+pub record AreFollowing (t v : Tables) (pieces : List PieceRow) (charges : List KeptCharge) : Type 0
+  where
+    pub same : AreSameCharges v.charges charges
+    pub paid : AllByRecursion IsPaidInRange v.charges → AllByRecursion IsPaidInRange charges
+    pub follows : Follows t (record v { pieces = pieces; charges = charges })
 
 module _ (IsPutInto : Tables → Tables → Type 0) (v : Tables) where
-  -- the database has these tables with pieces that follow, whatever tables were before them
+  -- the database has these tables with pieces and rows of contributions that follow, whatever
+  -- tables were before them
   abbrev pub HasFollowing : Database → Type 0
   HasFollowing db =
-      (pieces : List PieceRow) × HasTables (record v { pieces = pieces }) db
-      × ((t : Tables) → IsPutInto t v → Follows t (record v { pieces = pieces }))
+      (pieces : List PieceRow) × (charges : List KeptCharge)
+      × HasTables (record v { pieces = pieces; charges = charges }) db
+      × ((t : Tables) → IsPutInto t v → AreFollowing t v pieces charges)
 
-  -- each row is in its ranges, and the pieces before were right but for the cents of some
+  -- each row is in its ranges, and pieces and what is open were right before, but for the cents
+  -- of some pieces
   pub record WasRight : Type 0 where
     pub t : Tables
     pub put : IsPutInto t v
@@ -110,7 +125,7 @@ module _ (IsPutInto : Tables → Tables → Type 0) (v : Tables) where
     pub allocated : AreAllocated g t
     pub ranges : AreInRange v
 
--- the pieces were put that follow
+-- pieces and rows of contributions were put that follow
 pub record Keeps {S A : Type 0} (g : Ghosts S) (old new : Held S) (result : Result A Fault)
     (IsPutInto : Tables → Tables → Type 0) : Type 0 where
   pub keeps : HasCleanDisk (state g new) → (v : Tables) → HasTables v (state g old).now

@@ -1,13 +1,15 @@
-//! The pieces of a firm in the tables, allocated anew from the first changed place on.
-ghost use Rattle.std.specs.Prelude.{◌≡◌, IfErr, List, OnOk, drop, map};
+//! The pieces of a firm in the tables, allocated anew from the first changed place on, and what is
+//! open of its contributions.
+ghost use Rattle.std.specs.Prelude.{◌≡◌, ◌≤◌, IfErr, List, OnOk, drop, length, map};
 ghost use Rattle.std.specs.List.{AllByRecursion};
 ghost use Rattle.sqlite.specs.Held.{state};
 ghost use Rattle.sqlite.specs.State.{HasCleanDisk};
-ghost use Rattle.clear_account.specs.Account.{IsAccount};
+ghost use Rattle.clear_account.specs.Account.{IsAccount, charged_up_to};
 ghost use Rattle.clear_kept.specs.Start.{StartsAt};
-ghost use Rattle.clear_values.specs.Keyed.{without_rows};
-ghost use Rattle.clear_values.specs.RowRanges.{IsCreditRow, IsSerial};
-ghost use Rattle.clear_values.specs.Tables.{is_piece_key_from, piece_key, with_pieces};
+ghost use Rattle.clear_values.specs.Keyed.{replaced_rows, without_rows};
+ghost use Rattle.clear_values.specs.RowRanges.{IsCreditRow, IsKeptCharge, IsSerial};
+ghost use Rattle.clear_values.specs.Tables.{charge_key, is_piece_key_from, piece_key, with_pieces};
+ghost use Rattle.clear_values.specs.declared.rows.KeptCharge.{KeptCharge as AnyCharge};
 ghost use Rattle.clear_values.specs.declared.rows.PieceRow.{PieceRow as AnyPiece};
 ghost use Rattle.clear_book.specs.Accounts.{row_credit};
 ghost use Rattle.clear_book.specs.Allocated.{kept_charges, pieces_left};
@@ -18,26 +20,30 @@ ghost use Rattle.clear_schema.specs.Held.{HasTables};
 ghost use Rattle.clear_store.specs.Changes.{AreFree};
 ghost use Rattle.clear_pieces.specs.Anew.{FromCharge, FromCredit, IsFreeFromCharge};
 ghost use Rattle.clear_pieces.specs.Anew.{IsFreeFromCredit};
-ghost use Rattle.clear_pieces.specs.Firm.{IsFirm, KeepsAccount};
+ghost use Rattle.clear_pieces.specs.Firm.{IsFirm, KeepsAccount, settled_from};
 
+use crate::charges::charges_to_put;
 use crate::firm::{FirmAccount, read_firm};
 use crate::pieces::pieces_to_put;
 use clear_account::entries::Credit;
+use clear_account::places::Front;
 use clear_kept::start::{Start, start_of_charge, start_of_credits};
 use clear_money::months::Month;
 use clear_money::numbers::EmployerNo;
 use clear_schema::fault::Fault;
+use clear_store::charges::settle_charges;
 use clear_store::pieces::{PieceFrom, replace_pieces};
 use sqlite::{Alter, Transaction};
 use std::alloc::Global;
 
-/// Puts the pieces of a firm anew after the contribution of a month was changed or put in. The
-/// tables hold it already.
+/// Puts the pieces of a firm anew after the contribution of a month was changed or put in, and
+/// what is open of its contributions from that month on. The tables hold the contribution
+/// already.
 ///
-/// Where no credit reaches beyond the contributions of earlier months, nothing is put. A key that is
-/// not free is refused with `Fault::Store(StoreCause::Constraint)`, and rows that make up no account
-/// with `Fault::Store(StoreCause::Row)`. After an error a part may be done: the transaction is to be
-/// rolled back.
+/// Where no credit reaches beyond the contributions of earlier months, no piece is put. A key
+/// that is not free is refused with `Fault::Store(StoreCause::Constraint)`, and rows that make up
+/// no account with `Fault::Store(StoreCause::Row)`. After an error a part may be done: the
+/// transaction is to be rolled back.
 pub fn allocate_from_charge<S: Alter>(
     alloc: Global,
     tx: &mut Transaction<'_, S>,
@@ -47,10 +53,11 @@ pub fn allocate_from_charge<S: Alter>(
     ensures same_reference { tx.new.conn.ghost_name ≡ tx.old.conn.ghost_name }
     ensures puts { HasCleanDisk (state S.Store tx.new.conn.now)
         → (t : Tables) → HasTables t (state S.Store tx.old.conn.now).now
-        → OnOk result ((pieces : List AnyPiece)
-        × HasTables (record t { pieces = pieces }) (state S.Store tx.new.conn.now).now
+        → OnOk result ((pieces : List AnyPiece) × (charges : List AnyCharge)
+        × HasTables (record t { pieces = pieces; charges = charges })
+        (state S.Store tx.new.conn.now).now
         × (IsAccount (kept_charges t employer) (table_credits t employer)
-        → FromCharge t employer month pieces)) }
+        → FromCharge t employer month pieces charges)) }
     ensures fault { HasCleanDisk (state S.Store tx.new.conn.now)
         → (t : Tables) → HasTables t (state S.Store tx.old.conn.now).now
         → KeepsAccount t employer → IsFreeFromCharge t employer month
@@ -63,8 +70,9 @@ pub fn allocate_from_charge<S: Alter>(
     }
 }
 
-/// Puts the pieces of a firm anew after credits for contributions were put in, `first` the first of
-/// them by day and serial. The tables hold them already.
+/// Puts the pieces of a firm anew after credits for contributions were put in, `first` the first
+/// of them by day and serial, and what is open of the contributions that reach beyond the credits
+/// before it. The tables hold the credits already.
 ///
 /// Where no contribution reaches beyond the credits that come before `first`, nothing is put. What
 /// is refused, and what an error leaves, are as of `allocate_from_charge`.
@@ -77,10 +85,11 @@ pub fn allocate_from_credit<S: Alter>(
     ensures same_reference { tx.new.conn.ghost_name ≡ tx.old.conn.ghost_name }
     ensures puts { HasCleanDisk (state S.Store tx.new.conn.now)
         → (t : Tables) → HasTables t (state S.Store tx.old.conn.now).now
-        → OnOk result ((pieces : List AnyPiece)
-        × HasTables (record t { pieces = pieces }) (state S.Store tx.new.conn.now).now
+        → OnOk result ((pieces : List AnyPiece) × (charges : List AnyCharge)
+        × HasTables (record t { pieces = pieces; charges = charges })
+        (state S.Store tx.new.conn.now).now
         × (IsAccount (kept_charges t employer) (table_credits t employer)
-        → FromCredit t employer first.now pieces)) }
+        → FromCredit t employer first.now pieces charges)) }
     ensures fault { HasCleanDisk (state S.Store tx.new.conn.now)
         → (t : Tables) → HasTables t (state S.Store tx.old.conn.now).now
         → KeepsAccount t employer → IsFreeFromCredit t employer first.now
@@ -94,7 +103,7 @@ pub fn allocate_from_credit<S: Alter>(
 }
 
 // Puts the pieces of a firm from the contribution of a month on, where a credit reaches beyond its
-// place.
+// place, and the rows of its contributions from that month on.
 fn put_from_charge<S: Alter>(
     alloc: Global,
     tx: &mut Transaction<'_, S>,
@@ -105,9 +114,10 @@ fn put_from_charge<S: Alter>(
     ensures same_reference { tx.new.conn.ghost_name ≡ tx.old.conn.ghost_name }
     ensures puts { HasCleanDisk (state S.Store tx.new.conn.now)
         → (t : Tables) → HasTables t (state S.Store tx.old.conn.now).now
-        → OnOk result ((pieces : List AnyPiece)
-        × HasTables (record t { pieces = pieces }) (state S.Store tx.new.conn.now).now
-        × (IsFirm t employer firm.now → FromCharge t employer month pieces)) }
+        → OnOk result ((pieces : List AnyPiece) × (charges : List AnyCharge)
+        × HasTables (record t { pieces = pieces; charges = charges })
+        (state S.Store tx.new.conn.now).now
+        × (IsFirm t employer firm.now → FromCharge t employer month pieces charges)) }
     ensures fault { HasCleanDisk (state S.Store tx.new.conn.now)
         → (t : Tables) → HasTables t (state S.Store tx.old.conn.now).now
         → IsFirm t employer firm.now → KeepsAccount t employer
@@ -124,13 +134,14 @@ fn put_from_charge<S: Alter>(
                 day: credit.day,
                 serial: credit.serial,
             };
-            put_pieces(alloc, tx, firm, &start, &from)
+            put_anew(alloc, tx, firm, &start, &from)
         }
-        None => Ok(()),
+        None => put_charges(alloc, tx, firm, employer, start.rows),
     }
 }
 
-// Puts the pieces of a firm from a credit on, where a contribution reaches beyond its place.
+// Puts the pieces of a firm from a credit on, and the rows of its contributions, where one reaches
+// beyond the place of the credit.
 fn put_from_credit<S: Alter>(
     alloc: Global,
     tx: &mut Transaction<'_, S>,
@@ -141,9 +152,10 @@ fn put_from_credit<S: Alter>(
     ensures same_reference { tx.new.conn.ghost_name ≡ tx.old.conn.ghost_name }
     ensures puts { HasCleanDisk (state S.Store tx.new.conn.now)
         → (t : Tables) → HasTables t (state S.Store tx.old.conn.now).now
-        → OnOk result ((pieces : List AnyPiece)
-        × HasTables (record t { pieces = pieces }) (state S.Store tx.new.conn.now).now
-        × (IsFirm t employer firm.now → FromCredit t employer first.now pieces)) }
+        → OnOk result ((pieces : List AnyPiece) × (charges : List AnyCharge)
+        × HasTables (record t { pieces = pieces; charges = charges })
+        (state S.Store tx.new.conn.now).now
+        × (IsFirm t employer firm.now → FromCredit t employer first.now pieces charges)) }
     ensures fault { HasCleanDisk (state S.Store tx.new.conn.now)
         → (t : Tables) → HasTables t (state S.Store tx.old.conn.now).now
         → IsFirm t employer firm.now → KeepsAccount t employer
@@ -161,9 +173,52 @@ fn put_from_credit<S: Alter>(
                 day: first.day,
                 serial: first.serial,
             };
-            put_pieces(alloc, tx, firm, &start, &from)
+            put_anew(alloc, tx, firm, &start, &from)
         }
         None => Ok(()),
+    }
+}
+
+// Puts the pieces that reach beyond a start in the place of those that stand from one on, and the
+// rows of contributions from the start's on.
+fn put_anew<S: Alter>(
+    alloc: Global,
+    tx: &mut Transaction<'_, S>,
+    firm: &FirmAccount,
+    start: &Start,
+    from: &PieceFrom,
+) -> Result<(), Fault>
+    requires { StartsAt firm.now.account.charges firm.now.account.credits start.now }
+    ensures same_reference { tx.new.conn.ghost_name ≡ tx.old.conn.ghost_name }
+    ensures put { HasCleanDisk (state S.Store tx.new.conn.now)
+        → (t : Tables) → HasTables t (state S.Store tx.old.conn.now).now
+        → OnOk result ((rows : List AnyPiece)
+        × HasTables (record t {
+          pieces = with_pieces from.now.employer from.now.month from.now.day from.now.serial rows
+              t.pieces;
+          charges = replaced_rows charge_key t.charges (settled_from from.now.employer
+              firm.now.account.charges firm.now.account.credits start.now.rows.count);
+        }) (state S.Store tx.new.conn.now).now
+        × (firm.now.account.credits ≡ map row_credit firm.now.rows.items
+        → rows ≡ pieces_left start.now.charges.cents start.now.credits.cents
+        (drop start.now.charges.count firm.now.account.charges)
+        (drop start.now.credits.count firm.now.rows.items))) }
+    ensures fault { HasCleanDisk (state S.Store tx.new.conn.now)
+        → (t : Tables) → HasTables t (state S.Store tx.old.conn.now).now
+        → firm.now.account.credits ≡ map row_credit firm.now.rows.items
+        → AllByRecursion IsCreditRow firm.now.rows.items → IsSerial from.now.serial
+        → AreFree piece_key (without_rows piece_key
+        (is_piece_key_from from.now.employer from.now.month from.now.day from.now.serial) t.pieces)
+        (pieces_left start.now.charges.cents start.now.credits.cents
+        (drop start.now.charges.count firm.now.account.charges)
+        (drop start.now.credits.count firm.now.rows.items))
+        → AllByRecursion IsKeptCharge (settled_from from.now.employer firm.now.account.charges
+        firm.now.account.credits start.now.rows.count) → IfErr result IsOfDisk }
+    ensures stays { GoesOn S.Store tx.old.conn.now tx.new.conn.now result }
+{
+    match put_pieces(alloc, tx, firm, start, from) {
+        Ok(()) => put_charges(alloc, tx, firm, from.employer, start.rows),
+        Err(fault) => Err(fault),
     }
 }
 
@@ -201,6 +256,35 @@ fn put_pieces<S: Alter>(
 {
     match pieces_to_put(alloc, firm, start) {
         Ok(rows) => replace_pieces(tx, from, rows.as_slice()),
+        Err(fault) => Err(fault),
+    }
+}
+
+// Writes what is open of a firm's contributions behind a front, and their weights so far.
+fn put_charges<S: Alter>(
+    alloc: Global,
+    tx: &mut Transaction<'_, S>,
+    firm: &FirmAccount,
+    employer: EmployerNo,
+    front: Front,
+) -> Result<(), Fault>
+    requires within { front.count ≤ length firm.now.account.charges }
+    requires front { front.cents ≡ charged_up_to firm.now.account.charges front.count }
+    ensures same_reference { tx.new.conn.ghost_name ≡ tx.old.conn.ghost_name }
+    ensures put { HasCleanDisk (state S.Store tx.new.conn.now)
+        → (t : Tables) → HasTables t (state S.Store tx.old.conn.now).now
+        → OnOk result (HasTables (record t {
+          charges = replaced_rows charge_key t.charges (settled_from employer
+              firm.now.account.charges firm.now.account.credits front.count);
+        }) (state S.Store tx.new.conn.now).now) }
+    ensures fault { HasCleanDisk (state S.Store tx.new.conn.now)
+        → (t : Tables) → HasTables t (state S.Store tx.old.conn.now).now
+        → AllByRecursion IsKeptCharge (settled_from employer firm.now.account.charges
+        firm.now.account.credits front.count) → IfErr result IsOfDisk }
+    ensures stays { GoesOn S.Store tx.old.conn.now tx.new.conn.now result }
+{
+    match charges_to_put(alloc, firm, employer, front) {
+        Ok(rows) => settle_charges(tx, rows.as_slice()),
         Err(fault) => Err(fault),
     }
 }

@@ -1,4 +1,5 @@
-//! The pieces of all firms whose account a change changes, kept right.
+//! The pieces of all firms whose account a change changes, and what is open of their
+//! contributions, kept right.
 ghost use Rattle.std.specs.Prelude.{◌≡◌, ℕ, [], ◌∷◌, IfErr, IfOk, IsTrue, List, OnOk, true};
 ghost use Rattle.std.specs.BTreeMap.{get};
 ghost use Rattle.std.specs.List.{AllByRecursion};
@@ -8,16 +9,17 @@ ghost use Rattle.sqlite.specs.Held.{state};
 ghost use Rattle.sqlite.specs.State.{HasCleanDisk, KeepsCommit, Survives};
 ghost use Rattle.clear_account.specs.Account.{comes_before};
 ghost use Rattle.clear_values.specs.declared.rows.CreditRow.{CreditRow};
+ghost use Rattle.clear_values.specs.declared.rows.KeptCharge.{KeptCharge};
 ghost use Rattle.clear_values.specs.declared.rows.PieceRow.{PieceRow};
 ghost use Rattle.clear_values.specs.Credits.{credits_of_lines, set_offs_at, set_offs_of};
 ghost use Rattle.clear_values.specs.RowRanges.{AreInRange, IsCreditRow};
-ghost use Rattle.clear_book.specs.Allocated.{AreAllocated, Follows, KeepsKeys};
+ghost use Rattle.clear_book.specs.Allocated.{AreAllocated, KeepsKeys};
 ghost use Rattle.clear_book.specs.Tables.{Tables};
 ghost use Rattle.clear_schema.specs.Faults.{IsOfDisk};
 ghost use Rattle.clear_schema.specs.Frame.{GoesOn};
 ghost use Rattle.clear_schema.specs.Held.{HasTables};
-ghost use Rattle.clear_pieces.specs.Keeping.{AreCreditsPut, AreFirst, IsPut, Keeps, TellsStood};
-ghost use Rattle.clear_pieces.specs.Keeping.{credit_for, earlier};
+ghost use Rattle.clear_pieces.specs.Keeping.{AreCreditsPut, AreFirst, AreFollowing, IsPut, Keeps};
+ghost use Rattle.clear_pieces.specs.Keeping.{TellsStood, credit_for, earlier};
 
 use crate::allocate::{allocate_from_charge, allocate_from_credit};
 use crate::stands::charge_stands;
@@ -62,9 +64,10 @@ pub fn charge_stood<S: Alter>(tx: &mut Transaction<'_, S>, change: &Change) -> R
     }
 }
 
-/// Puts the pieces of each firm whose account a change has changed, which was put before, from the
-/// first changed place on; the other pieces stay, whatever they hold. Where the contribution of a
-/// correction stood already, nothing is read or written.
+/// Puts the pieces of each firm whose account a change has changed, which was put before, from
+/// the first changed place on; the other pieces stay, whatever they hold. What is open of the
+/// firm's contributions, and their weights so far, are written from there on, too. Where the
+/// contribution of a correction stood already, nothing is read or written.
 pub fn keep_pieces<S: Alter>(
     alloc: Global,
     tx: &mut Transaction<'_, S>,
@@ -74,10 +77,11 @@ pub fn keep_pieces<S: Alter>(
     ensures same_reference { tx.new.conn.ghost_name ≡ tx.old.conn.ghost_name }
     ensures keeps { HasCleanDisk (state S.Store tx.new.conn.now)
         → (v : Tables) → HasTables v (state S.Store tx.old.conn.now).now
-        → OnOk result ((pieces : List PieceRow)
-        × HasTables (record v { pieces = pieces }) (state S.Store tx.new.conn.now).now
+        → OnOk result ((pieces : List PieceRow) × (charges : List KeptCharge)
+        × HasTables (record v { pieces = pieces; charges = charges })
+        (state S.Store tx.new.conn.now).now
         × ((t : Tables) → IsPut change.now t v → TellsStood change.now t stood
-        → Follows t (record v { pieces = pieces }))) }
+        → AreFollowing t v pieces charges)) }
     ensures fault { HasCleanDisk (state S.Store tx.new.conn.now)
         → (v : Tables) → HasTables v (state S.Store tx.old.conn.now).now
         → (t : Tables) → IsPut change.now t v → TellsStood change.now t stood
@@ -123,7 +127,7 @@ struct NewCredit {
     credit: Credit,
 }
 
-// Puts the pieces of the firm of a credit, where there is one.
+// Keeps the firm of a credit, where there is one.
 fn keep_credit<S: Alter>(
     alloc: Global,
     tx: &mut Transaction<'_, S>,
@@ -139,7 +143,7 @@ fn keep_credit<S: Alter>(
     }
 }
 
-// Puts the pieces of the firm of a line that was assigned.
+// Keeps the firm of a line that was assigned.
 fn keep_line<S: Alter>(
     alloc: Global,
     tx: &mut Transaction<'_, S>,
@@ -173,7 +177,7 @@ fn contribution_of(row: &BankRow) -> Option<NewCredit>
     }
 }
 
-// Puts the pieces of the firm of a claim that was released.
+// Keeps the firm of a claim that was released.
 fn keep_release<S: Alter>(
     alloc: Global,
     tx: &mut Transaction<'_, S>,
@@ -234,7 +238,7 @@ fn release_set_off(
     }))
 }
 
-// Puts the pieces of each firm of new lines for contributions.
+// Keeps each firm of new lines for contributions.
 fn keep_lines<S: Alter>(
     alloc: Global,
     tx: &mut Transaction<'_, S>,
@@ -250,7 +254,7 @@ fn keep_lines<S: Alter>(
     }
 }
 
-// Puts the pieces of each firm from its first new credit on, one firm after another.
+// Keeps each firm from its first new credit on, one firm after another.
 fn keep_firms<S: Alter>(
     alloc: Global,
     tx: &mut Transaction<'_, S>,

@@ -3,9 +3,8 @@ ghost use Rattle.std.specs.Prelude.{◌≡◌, ◌↔◌, IfErr, IfOk, IsTrue, S
 ghost use Rattle.std.specs.List.{AllByRecursion};
 ghost use Rattle.sqlite.specs.Held.{state};
 ghost use Rattle.sqlite.specs.State.{HasCleanDisk};
-ghost use Rattle.clear_values.specs.Keyed.{find_row};
 ghost use Rattle.clear_values.specs.RowRanges.{IsKeptCharge};
-ghost use Rattle.clear_book.specs.Tables.{Tables, charge_key};
+ghost use Rattle.clear_book.specs.Tables.{Tables, charge_at, charge_in};
 ghost use Rattle.clear_schema.specs.Frame.{Leaves};
 ghost use Rattle.clear_schema.specs.Faults.{IsOfDisk};
 ghost use Rattle.clear_schema.specs.Held.{HasTables};
@@ -15,8 +14,8 @@ use clear_schema::fault::Fault;
 use clear_values::rows::KeptCharge;
 use sqlite::{Alter, Transaction};
 
-/// Whether just this contribution is kept of its firm and month: a correction that leaves it leaves
-/// the pieces.
+/// Whether just this contribution is kept of its firm and month, whatever is paid of it: a
+/// correction that leaves it leaves the pieces, and what is open of it.
 pub fn charge_stands<S: Alter>(
     tx: &mut Transaction<'_, S>,
     charge: &KeptCharge,
@@ -25,7 +24,8 @@ pub fn charge_stands<S: Alter>(
     ensures stands { HasCleanDisk (state S.Store tx.new.conn.now)
         → (t : Tables) → HasTables t (state S.Store tx.old.conn.now).now
         → IfOk result (λ stands. IsTrue stands
-        ↔ (find_row charge_key t.charges (charge_key charge.now) ≡ Some charge.now)) }
+        ↔ (charge_at t.charges charge.now.employer charge.now.month
+        ≡ Some (charge_in charge.now))) }
     ensures fault { HasCleanDisk (state S.Store tx.new.conn.now)
         → (t : Tables) → HasTables t (state S.Store tx.old.conn.now).now
         → AllByRecursion IsKeptCharge t.charges → IfErr result IsOfDisk }
@@ -38,12 +38,9 @@ pub fn charge_stands<S: Alter>(
     }
 }
 
-// Whether two kept contributions are one.
+// Whether two rows keep one contribution, whatever is paid of it.
 fn is_same(kept: &KeptCharge, other: &KeptCharge) -> bool
-    ensures { IsTrue result ↔ (kept.now ≡ other.now) }
+    ensures { IsTrue result ↔ (charge_in kept.now ≡ charge_in other.now) }
 {
-    kept.employer == other.employer
-        && kept.month == other.month
-        && kept.due == other.due
-        && kept.cents == other.cents
+    kept.month == other.month && kept.due == other.due && kept.cents == other.cents
 }

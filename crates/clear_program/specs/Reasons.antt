@@ -26,11 +26,11 @@ schema_reason number =
 
 -- what a fault says
 abbrev pub fault_reason : OpenFault → List ℕ
-fault_reason (WrongVersion zero) = codes "this database is no store of this program\n"
+fault_reason (WrongVersion zero) = codes "this database is no store of this program, or one of schema 0\n"
 fault_reason (WrongVersion (suc n)) = schema_reason (suc n)
 fault_reason (Failed fault.Memory) = codes "there was no memory\n"
 fault_reason (Failed (fault.Store cause)) =
-    codes "its tables can't be read, or an earlier build of this program made them\n"
+    codes "its tables can't be read, or are others than this program's\n"
 
 -- what stood in the way of a connection says, else the fault
 abbrev pub hindrance_reason : Hindrance → OpenFault → List ℕ

@@ -7,6 +7,7 @@
 #![tactic(auto)]
 
 mod look;
+mod migrate;
 pub mod ready;
 pub mod reasons;
 pub mod run;

@@ -62,14 +62,15 @@ fn fault_reason(alloc: Global, fault: &OpenFault) -> Result<String, AllocError>
     ensures { IfOk result (λ text. string_bytes text ≡ fault_reason fault.now) }
 {
     match fault {
-        OpenFault::WrongVersion(0) => {
-            String::from_str(alloc, "this database is no store of this program\n")
-        }
+        OpenFault::WrongVersion(0) => String::from_str(
+            alloc,
+            "this database is no store of this program, or one of schema 0\n",
+        ),
         OpenFault::WrongVersion(number) => schema_reason(alloc, *number),
         OpenFault::Failed(Fault::Memory) => String::from_str(alloc, "there was no memory\n"),
         OpenFault::Failed(Fault::Store(_)) => String::from_str(
             alloc,
-            "its tables can't be read, or an earlier build of this program made them\n",
+            "its tables can't be read, or are others than this program's\n",
         ),
     }
 }

@@ -2,6 +2,7 @@
 ghost use Rattle.std.specs.Prelude.{◌≡◌, ◌≤◌, IfOk};
 
 use crate::look::look_at;
+use crate::migrate::migrate_at;
 use crate::stop::{Stop, tell};
 use crate::tasks::{Task, Work, read_task, words_of};
 use crate::work::{say, serve_stream, work_on};
@@ -52,6 +53,10 @@ fn do_task(rt: &HostRuntime) -> Result<u8, Stop>
             Err(stop) => Err(stop),
         },
         Task::Look { store } => look_at(rt, store, Unknown, Unknown),
+        Task::Migrate { store } => {
+            let said = migrate_at(rt, store, Unknown)?;
+            end_by(rt, said.as_str(), 0)
+        }
         Task::OnStore { store, work } => {
             let said = work_at(rt, store, work, Unknown, Unknown)?;
             end_by(rt, said.as_str(), 0)

@@ -39,6 +39,10 @@ pub enum Task<'a> {
     Look {
         store: &'a str,
     },
+    /// Brings the store at a path to the current schema.
+    Migrate {
+        store: &'a str,
+    },
     /// Works on the store at a path.
     OnStore {
         store: &'a str,
@@ -163,8 +167,7 @@ fn prepare<'a>(rt: &HostRuntime, words: Words<'a>) -> Result<Task<'a>, Stop> {
             let work = Work::Statement { day, employer };
             Ok(Task::OnStore { store, work })
         }
-        // There is one schema so far, so that no store can be migrated.
-        Words::Migrate { store: _ } => Err(Stop::Line),
+        Words::Migrate { store } => Ok(Task::Migrate { store }),
         Words::Look { store } => Ok(Task::Look { store }),
         Words::Check { kind, file } => {
             let bytes = read_file(rt, file)?;

@@ -12,7 +12,7 @@ use Rattle.clear_rows.proofs.Inside.{keeps_both, keeps_none, survives_both, surv
 use Rattle.clear_columns.specs.Reading.{Advances, HasToGive}
 use Rattle.clear_schema.specs.declared.fault.Fault.{Fault}
 use Rattle.clear_schema.specs.Faults.{IsOfDisk}
-use Rattle.clear_texts.specs.Rows.{IsCutOff, IsCutOffAdding}
+use Rattle.clear_texts.specs.Rows.{IsCutOff, IsCutOffAdding, IsCutOffUnless}
 use Rattle.clear_texts.specs.declared.rows.RowFault.{RowFault}
 use Rattle.clear_texts.specs.declared.rows.RowFault.TheVariants.{Memory}
 use Rattle.clear_reading.specs.Faults.{fault_told}
@@ -156,6 +156,33 @@ module _ {S T X : Type 0} (g : Ghosts S) (show : X → Row) (P : X → Type 0) w
             let sum = ap (sum_by amount) got.1 ∙ sum_by-append amount given got.0 in
             let small = right.1 in
             absurd (omega (arith, much, sum, small));
+      }
+
+  -- and so are those that are right besides
+  pub stopped_unless : (IsRight : List X → Type 0) (old new : StoredRows S T g) (why : RowFault) → IsCutOffUnless (Gives g show P) (Refuses g show P) IsRight old why new
+      → Stopped (λ rows. AllByRecursion P rows × IsRight rows) old why new
+  stopped_unless IsRight old new why (inl cut) =
+      let all = stopped old new why cut in
+      record { name = all.name; mode = all.mode; survives = all.survives; kept = all.kept; disk = λ clean rest to_give right. all.disk clean rest to_give right.0 }
+  stopped_unless IsRight old new why (inr (is, (given, inl (run, wrong)))) =
+      let all = ran old new given run in
+      record {
+        name = all.name;
+        mode = all.mode;
+        survives = all.survives;
+        kept = all.kept;
+        disk = λ clean rest to_give right.
+            let got = all.left clean rest to_give in
+            absurd (wrong got.0 (subst IsRight got.1 right.1));
+      }
+  stopped_unless IsRight old new why (inr (is, (given, inr (run, wrong)))) =
+      let all = done old new given run in
+      record {
+        name = all.name;
+        mode = all.mode;
+        survives = all.survives;
+        kept = λ clean. unchanged_keeps (state g (conn_of old)) (state g (conn_of new)) (all.same clean);
+        disk = λ clean rest to_give right. absurd (wrong (subst IsRight (sym (all.is clean rest to_give)) right.1));
       }
 
   -- what is told of the rows that a reader gave up to its end, and what was refused

@@ -4,3 +4,4 @@ pub mod LookParts
 pub mod Payout
 pub mod Reader
 pub mod Source
+pub mod Paid

@@ -15,6 +15,7 @@ pub mod look;
 pub mod payout;
 pub mod reminders;
 mod row_counts;
+pub mod statement;
 pub mod stored;
 pub mod suspense;
 mod telling;

@@ -3,3 +3,4 @@ pub mod FilterMapLemmas
 pub mod ImportBankLemmas
 pub mod RemindLemmas
 pub mod ReportLemmas
+pub mod ReleaseLemmas

@@ -27,7 +27,7 @@ more_layout = record this_layout {
 
 -- or one of its own
 abbrev pub later_layout : Layout
-later_layout = record more_layout { number = 1 }
+later_layout = record more_layout { number = 2 }
 
 abbrev pub later_schema : Schema
 later_schema = schema_of later_layout

@@ -21,7 +21,7 @@ pub fn law_tells_schema()
 /// kept ours, another layout.
 pub fn law_later_layout()
     ensures number { (t : Tables) (db : Database) → IsStore later_layout t db
-        → TellsSchema 1 db }
+        → TellsSchema 2 db }
     ensures layout { (t : Tables) (db : Database) → IsStore more_layout t db → HasOtherLayout db }
     ensures ours { (t : Tables) (db : Database) → HasTables t db → ¬ HasOtherLayout db }
 {}

@@ -171,7 +171,14 @@ const TABLES: &'static [TableLayout] = &[
         key: None,
         primary: &[1, 2],
         uniques: &[KeyLayout(&[1, 2])],
-        columns: &[Int("employer"), Int("month"), Int("due"), Int("cents")],
+        columns: &[
+            Int("employer"),
+            Int("month"),
+            Int("due"),
+            Int("cents"),
+            Int("open"),
+            Int("weight"),
+        ],
     },
     TableLayout {
         name: "pieces",

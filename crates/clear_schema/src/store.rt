@@ -25,7 +25,7 @@ use clear_money::rates::RateTable;
 use sqlite::{Alter, Connection};
 
 /// The number of this program's schema.
-pub const SCHEMA: u64 = 0;
+pub const SCHEMA: u64 = 1;
 
 /// A connection on a database that is a store.
 #[derive(Drop)]

@@ -2,27 +2,18 @@
 use Rattle.std.proofs.Common.{◌≡◌, ℕ, ◌+◌, ◌<◌, List, [], ◌∷◌, ◌++◌, length, get_or, take, Some, is_some, IsSome, Bool, true, false, cond, refl, sym, ap, ◌∙◌}
 use Rattle.std.proofs.lemmas.List.{take_more}
 use Rattle.std.specs.List.{AllByRecursion}
-use Rattle.clear_values.specs.Keyed.{is_key, find_row, put_row, put_rows}
+use Rattle.clear_values.specs.Keyed.{is_key, find_row, put_row, put_rows, replaced, replaced_rows}
 use Rattle.clear_values.proofs.KeyedChangesLemmas.{find_row-put_row}
 
 module _ {Row : Type 0} (key : Row → List ℕ) where
-  -- the rows and a new one in place of the row with its key, where there is one
-  abbrev replaced : List Row → Row → List Row
-  replaced rows new = cond (is_some (find_row key rows (key new))) (put_row key rows new) rows
-
-  -- the same of several new rows, one after another
-  abbrev pub replaced_rows : List Row → List Row → List Row
-  replaced_rows rows [] = rows
-  replaced_rows rows (new ∷ news) = replaced_rows (replaced rows new) news
-
-  replaced_last : (rows news : List Row) (new : Row) → replaced_rows rows (news ++ new ∷ []) ≡ replaced (replaced_rows rows news) new
+  replaced_last : (rows news : List Row) (new : Row) → replaced_rows key rows (news ++ new ∷ []) ≡ replaced key new (replaced_rows key rows news)
   replaced_last rows [] new = refl
-  replaced_last rows (first ∷ news) new = replaced_last (replaced rows first) news new
+  replaced_last rows (first ∷ news) new = replaced_last (replaced key first rows) news new
 
   -- one row more of the new ones
-  pub replaced_next : (rows news : List Row) (i : ℕ) (new : Row) → i < length news → new ≡ get_or news i new → replaced_rows rows (take (i + 1) news) ≡ replaced (replaced_rows rows (take i news)) new
+  pub replaced_next : (rows news : List Row) (i : ℕ) (new : Row) → i < length news → new ≡ get_or news i new → replaced_rows key rows (take (i + 1) news) ≡ replaced key new (replaced_rows key rows (take i news))
   replaced_next rows news i new h is =
-      ap (replaced_rows rows) (take_more news i new h) ∙ replaced_last rows (take i news) (get_or news i new) ∙ ap (replaced (replaced_rows rows (take i news))) (sym is)
+      ap (replaced_rows key rows) (take_more news i new h) ∙ replaced_last rows (take i news) (get_or news i new) ∙ ap (λ row. replaced key row (replaced_rows key rows (take i news))) (sym is)
 
   -- a key that is there stays
   there_still : (rows : List Row) (new : Row) (k : List ℕ) → IsSome (find_row key rows k) → IsSome (find_row key (put_row key rows new) k)
@@ -37,7 +28,7 @@ module _ {Row : Type 0} (key : Row → List ℕ) where
   all_still rows new (row ∷ news) all = (there_still rows new (key row) all.0, all_still rows new news all.1)
 
   -- each takes the place of a row, where its key is there
-  pub replaced_there : (rows news : List Row) → AllByRecursion (λ row. IsSome (find_row key rows (key row))) news → replaced_rows rows news ≡ put_rows key rows news
+  pub replaced_there : (rows news : List Row) → AllByRecursion (λ row. IsSome (find_row key rows (key row))) news → replaced_rows key rows news ≡ put_rows key rows news
   replaced_there rows [] all = refl
   replaced_there rows (new ∷ news) all =
-      ap (λ b. replaced_rows (cond b (put_row key rows new) rows) news) all.0 ∙ replaced_there (put_row key rows new) news (all_still rows new news all.1)
+      ap (λ b. replaced_rows key (cond b (put_row key rows new) rows) news) all.0 ∙ replaced_there (put_row key rows new) news (all_still rows new news all.1)

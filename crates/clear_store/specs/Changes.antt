@@ -21,8 +21,7 @@ use Rattle.clear_values.specs.declared.rows.EmployerRow.{EmployerRow}
 use Rattle.clear_values.specs.declared.rows.ReportRow.{ReportRow}
 use Rattle.clear_values.specs.declared.texts.WageLine.{WageLine}
 use Rattle.clear_values.specs.Keyed.{find_row, with_row, without_rows, AreOnce}
-use Rattle.clear_values.specs.Limits.{most_base, most_entries, most_gross, most_serials}
-use Rattle.clear_values.specs.Limits.{most_versions}
+use Rattle.clear_values.specs.Limits.{most_entries, most_gross, most_serials, most_versions}
 use Rattle.clear_values.specs.RowRanges.{IsClaimRow, IsListRow, IsReminderRow, IsRunRow, IsSerial}
 use Rattle.clear_values.specs.Tables.{Tables, bank_key, claim_key, employer_key, report_key}
 use Rattle.clear_values.specs.Tables.{wage_key, charge_key, list_key, run_key, reminder_key}
@@ -33,6 +32,7 @@ use Rattle.clear_schema.specs.declared.fault.Fault.{Fault}
 use Rattle.clear_schema.specs.declared.fault.Fault.TheVariants.{Store}
 use Rattle.clear_schema.specs.Values.{Counts as Stored}
 use Rattle.clear_firms.specs.declared.counts.Counts.{Counts}
+use Rattle.clear_firms.specs.Amounts.{AreInRange}
 use Rattle.clear_firms.specs.Shown.{rate_key}
 use Rattle.clear_ledger.specs.Shown.{for_firm, serial_key}
 use Rattle.clear_store.specs.declared.changes.Taken.{Taken}
@@ -93,7 +93,7 @@ IsThere (AddEmployer row) t = Unit {0}
 IsThere (EndMembership row) t = IsEmployerThere row t
 IsThere (AddReport row lines charge) t = Unit {0}
 IsThere (ReplaceReport row lines charge) t =
-    IsReportThere row t × (charge.cents ≤ most_base)
+    IsReportThere row t × AreInRange charge
 IsThere (AddBankLines rows) t = Unit {0}
 IsThere (AssignLine row) t = IsLineThere row t
 IsThere (AddClaim row) t = Unit {0}
@@ -158,10 +158,8 @@ abbrev pub IsInRange : Change → Type 0
 IsInRange (AddRate row) = Unit {0}
 IsInRange (AddEmployer row) = Unit {0}
 IsInRange (EndMembership row) = Unit {0}
-IsInRange (AddReport row lines charge) =
-    IsMonthInRange row lines × (charge.cents ≤ most_base)
-IsInRange (ReplaceReport row lines charge) =
-    IsMonthInRange row lines × (charge.cents ≤ most_base)
+IsInRange (AddReport row lines charge) = IsMonthInRange row lines × AreInRange charge
+IsInRange (ReplaceReport row lines charge) = IsMonthInRange row lines × AreInRange charge
 IsInRange (AddBankLines rows) = AreSerials rows
 IsInRange (AssignLine row) = IsSerial row.serial
 IsInRange (AddClaim row) = IsClaimRow row

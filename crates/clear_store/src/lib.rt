@@ -4,6 +4,7 @@
 
 mod bank_file;
 pub mod changes;
+pub mod charges;
 mod claims;
 mod firms;
 mod lists;
@@ -12,6 +13,6 @@ pub mod pieces;
 mod runs;
 mod suspense;
 
-pub use clear_firms::{charges, counts, employers, rates, reports, wages};
+pub use clear_firms::{counts, employers, rates, reports, wages};
 pub use clear_ledger::{bank, credits, requests};
 pub use clear_schema::{body, fault, files, store};

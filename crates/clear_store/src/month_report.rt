@@ -7,7 +7,7 @@ ghost use Rattle.clear_store.specs.Changes.{AreFree, AreGross, AreLinesFree, IsF
 ghost use Rattle.clear_store.specs.Changes.{IsMonthFree, IsMonthInRange, IsReportThere, IsThere};
 ghost use Rattle.clear_store.specs.Changes.{Puts};
 
-use clear_firms::charges::{insert_charge, replace_charge};
+use clear_firms::charges::{correct_charge, insert_charge};
 use clear_firms::reports::{insert_report, replace_report};
 use clear_firms::wages::{delete_wages, insert_wage};
 use clear_money::months::Month;
@@ -36,7 +36,8 @@ pub(crate) fn add_report<S: Alter>(
     }
 }
 
-// Puts a correction and the contribution for it in the place of a month's report and contribution.
+// Puts a correction and the contribution for it in the place of a month's report and contribution. One
+// of the same cents due on the same day stays with what is paid of it.
 pub(crate) fn put_report<S: Alter>(
     tx: &mut Transaction<'_, S>,
     row: &ReportRow,
@@ -50,7 +51,7 @@ pub(crate) fn put_report<S: Alter>(
         (IsInRange (Change.ReplaceReport row.now lines.now charge.now))
         (changed (Change.ReplaceReport row.now lines.now charge.now)) }
 {
-    match replace_charge(tx, *charge) {
+    match correct_charge(tx, *charge) {
         Ok(()) => replace_month(tx, row, lines),
         Err(fault) => Err(fault),
     }

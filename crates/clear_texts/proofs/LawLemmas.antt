@@ -1,7 +1,6 @@
 -- The laws.
-use Rattle.std.proofs.Common.{◌≡◌, ℕ, true, false, List, [], ◌∷◌, ◌++◌, refl, arith, sym, ◌∙◌, subst, append_assoc}
+use Rattle.std.proofs.Common.{◌≡◌, ℕ, true, false, List, [], ◌∷◌, ◌++◌, refl, arith, sym, ◌∙◌, append_assoc}
 use Rattle.std.specs.Prelude.{Option, None, Some, ◌==◌, map, codes}
-use Rattle.std.specs.Iterator.{Yields}
 use Rattle.std.specs.List.{flat_map}
 use Rattle.std.proofs.lemmas.List.Concat.{flat_map-cons}
 use Rattle.clear_texts.specs.Charges.{charge_lines}
@@ -10,7 +9,6 @@ use Rattle.clear_book.specs.Documents.Statement.{PaidCharge, Statement, charge_t
 use Rattle.clear_texts.specs.Text.{text_of_rows}
 use Rattle.clear_book.specs.Documents.Lines.{charge_line, payment_line}
 use Rattle.clear_texts.specs.RowSteps.{is_month_of}
-use Rattle.clear_texts.specs.Rows.{GivesFirst}
 use Rattle.clear_texts.specs.declared.rows.ChargeRow.{ChargeRow}
 use Rattle.clear_book.specs.declared.documents.Payment.{Payment}
 use Rattle.clear_texts.proofs.RowLemmas.{lines_after, charge_lines_is}
@@ -53,16 +51,6 @@ starts (charge ∷ charges) = refl
 
 pub charges_law : (charges : List PaidCharge) → IsRising charges → charge_lines (flat_map rows_of charges) ≡ flat_map charge_text charges
 charges_law charges rising = sym (charge_lines_is (flat_map rows_of charges)) ∙ lines_of_charges None charges (starts charges) rising
-
--- listed rows are given all
-pub listed_law : (rows given left : List ChargeRow) (last : List ChargeRow) → Yields GivesFirst rows given last → GivesFirst last None left → given ≡ rows
-listed_law [] [] left last run end = refl
-listed_law [] (x ∷ given) left last run end = absurd (cc (run.1.0))
-listed_law (row ∷ rows) [] left last run end = absurd (cc (subst (λ s. GivesFirst s None left) (sym run) end).0)
-listed_law (row ∷ rows) (x ∷ given) left last (j, step, run) end =
-    let same : x ≡ row = cc step.0 in
-    let rest : given ≡ rows = listed_law rows given left last (subst (λ s. Yields GivesFirst s given last) step.1 run) end in
-    λ i. same i ∷ rest i
 
 pub statement_law : (s : Statement) → IsRising s.charges → text_of_rows s.firm s.interest_credits s.missing (flat_map rows_of s.charges) ≡ statement_text s
 unfolding text_of_rows statement_text

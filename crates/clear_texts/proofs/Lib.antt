@@ -1,13 +1,12 @@
 pub mod AmountLemmas
-pub mod ChargeLemmas
 pub mod LawLemmas
 pub mod LineLemmas
+pub mod PaidBookLemmas
+pub mod PaidLemmas
 pub mod PartLemmas
 pub mod RangeLemmas
 pub mod RecordLemmas
 pub mod RowLemmas
-pub mod ShareLemmas
 pub mod SuspenseLemmas
-pub mod TextLemmas
 pub mod VersionLemmas
 pub mod WorkerLemmas

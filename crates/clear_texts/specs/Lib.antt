@@ -1,8 +1,11 @@
 pub mod Adding
 pub mod Charges
 pub mod Earned
+pub mod Found
 pub mod Laws
 pub mod Look
+pub mod Paid
+pub mod PaidSteps
 pub mod Records
 pub mod RowSteps
 pub mod Rows

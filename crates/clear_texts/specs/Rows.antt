@@ -1,20 +1,14 @@
 -- What a source of rows gives, call by call, and why a document over its rows is refused.
-use Rattle.std.specs.Prelude.{◌≡◌, ◌⊎◌, ◌+◌, ◌^◌, ◌≤◌, ℕ, List, [], ◌∷◌, length, sum_by}
-use Rattle.std.specs.Prelude.{Option, None, Some}
+use Rattle.std.specs.Prelude.{◌≡◌, ◌⊎◌, ◌+◌, ◌++◌, ◌^◌, ◌≤◌, ℕ, List, length, sum_by}
+use Rattle.std.specs.Prelude.{Option, None}
 use Rattle.std.specs.Iterator.{Yields, YieldsThen}
 use Rattle.clear_book.specs.declared.rules.StoreCause.TheVariants.{Row as row_cause}
-use Rattle.clear_texts.specs.declared.rows.ChargeRow.{ChargeRow}
 use Rattle.clear_texts.specs.declared.rows.RowFault.{RowFault}
 use Rattle.clear_texts.specs.declared.rows.RowFault.TheVariants.{Memory, Store}
 
 -- the rows of an account: 100,000 credits, and twice 2,400 months
 abbrev pub most_rows : ℕ
 most_rows = 104800
-
--- a list gives its first row, and is left without it; an empty one gives none
-abbrev pub GivesFirst : List ChargeRow → Option ChargeRow → List ChargeRow → Type 0
-GivesFirst [] found rest = (found ≡ None) × (rest ≡ [])
-GivesFirst (row ∷ rows) found rest = (found ≡ Some row) × (rest ≡ rows)
 
 module _ {S Row : Type 0} (gives : S → Option Row → S → Type 0) where
   -- the calls from the first source to the second gave rows, and perhaps told their end
@@ -31,6 +25,12 @@ module _ {S Row : Type 0} (gives : S → Option Row → S → Type 0) where
   abbrev pub GivesTooMuch : (Row → ℕ) → S → S → Type 0
   GivesTooMuch amount old new = (given : List Row) × Yields gives old given new
       × (2 ^ 64 ≤ sum_by amount given)
+
+  -- the calls gave rows that no further ones make right, or all rows, and these aren't right
+  abbrev pub GivesWrong : (List Row → Type 0) → S → S → Type 0
+  GivesWrong IsRight old new = (given : List Row)
+      × ((Yields gives old given new × ((more : List Row) → ¬ IsRight (given ++ more)))
+      ⊎ (YieldsThen gives old given None new × ¬ IsRight given))
 
   module _ (refuses : S → RowFault → S → Type 0) where
     -- the calls gave rows, and the last one was refused for this
@@ -54,3 +54,9 @@ module _ {S Row : Type 0} (gives : S → Option Row → S → Type 0) where
     abbrev pub IsCutOffAdding : (Row → ℕ) → S → RowFault → S → Type 0
     IsCutOffAdding amount old fault new = IsCutOff old fault new
         ⊎ ((fault ≡ Store row_cause) × GivesTooMuch amount old new)
+
+    -- why a document over rows without limit, which must be right, is refused: as one without
+    -- limit, or the rows aren't right
+    abbrev pub IsCutOffUnless : (List Row → Type 0) → S → RowFault → S → Type 0
+    IsCutOffUnless IsRight old fault new = IsCutOff old fault new
+        ⊎ ((fault ≡ Store row_cause) × GivesWrong IsRight old new)

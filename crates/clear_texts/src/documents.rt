@@ -1,77 +1,57 @@
-//! Documents, made from records: a firm's statement on a day, and a worker's.
-ghost use Rattle.std.specs.Prelude.{◌≡◌, ◌≤◌, ℕ, None, IfErr, IfOk, length};
-ghost use Rattle.clear_book.specs.Book.{Book, ledger_day};
+//! Documents, made from records: a firm's statement on a day, but for the pieces that pay its charges,
+//! and a worker's.
+ghost use Rattle.std.specs.Prelude.{◌≡◌, ℕ, IfErr, IfOk};
+ghost use Rattle.clear_book.specs.Book.{Book};
 ghost use Rattle.clear_book.specs.Documents.Worker.{worker_text};
-ghost use Rattle.clear_book.specs.Judge.{day_back, statement_on};
 ghost use Rattle.clear_book.specs.Machine.{IsLawful};
 ghost use Rattle.clear_book.specs.Own.Worker.{worker_on};
-ghost use Rattle.clear_texts.specs.Rows.{most_rows};
-ghost use Rattle.clear_texts.specs.Text.{text_of_rows};
-ghost use Rattle.clear_texts.specs.Records.{AreRecords, AreWorkerRecords};
+ghost use Rattle.clear_texts.specs.Records.{AreStatementRecords, AreWorkerRecords, IsHead};
 
 use crate::account::worker_account;
 use crate::arrears::interest_arrears;
-use crate::charges::tell_charges;
+use crate::charges::charge_states;
 use crate::firm::{firm_account, whole_payments};
 use crate::missing::missing_months;
-use crate::records::{FirmRecords, WorkerRecords};
-use crate::rows::{ChargeRow, ListedRows, RowFault};
-use crate::statement::append_statement;
+use crate::records::{StatementHead, StatementRecords, WorkerRecords};
+use crate::rows::RowFault;
 use crate::worker::append_worker;
-use clear_book::documents::{Document, FirmAccount, Payment};
+use clear_book::documents::Document;
+use clear_book::rules::StoreCause;
 use clear_money::days::Day;
-use clear_money::months::Month;
 use clear_money::numbers::WorkerNo;
 use std::alloc::Global;
 
-/// The statement of a firm on a day, by its records. Records that no book has are refused with
-/// `StoreCause::Row`: a credit for contributions after the day, more credits than an account has.
-pub fn firm_statement(alloc: Global, records: &FirmRecords, day: Day) -> Result<Document, RowFault>
-    ensures text { (b : Book) (e : ℕ) → AreRecords b e records.now
-        → IfOk result (λ document. document ≡ statement_on b day e) }
-    ensures fault { (b : Book) (e : ℕ) → IsLawful b → AreRecords b e records.now
-        → day_back (ledger_day b.entries) day ≡ None
-        → IfErr result (λ fault. fault ≡ RowFault.Memory) }
-{
-    let interest = match interest_arrears(alloc, records, day) {
-        Ok(interest) => interest,
-        Err(fault) => return Err(fault),
-    };
-    let rows = match tell_charges(alloc, records, day) {
-        Ok(rows) => rows,
-        Err(fault) => return Err(fault),
-    };
-    let firm = firm_account(records, day, interest)?;
-    let interest_credits = whole_payments(alloc, records.interest_credits.as_slice())?;
-    let missing = missing_months(alloc, records, day)?;
-    make_document(alloc, &firm, &interest_credits, &missing, rows)
-}
-
-// Makes the document with these parts.
-fn make_document(
+/// What the statement of a firm tells on a day, by its records, but for the pieces that pay its
+/// charges. Records that no book has are refused with `StoreCause::Row`: more credits for interest
+/// than an account has.
+pub fn statement_head(
     alloc: Global,
-    firm: &FirmAccount,
-    interest_credits: &Vec<Payment>,
-    missing: &Vec<Month>,
-    rows: Vec<ChargeRow>,
-) -> Result<Document, RowFault>
-    ensures text { IfOk result (λ document. document
-        ≡ text_of_rows firm.now interest_credits.now.items missing.now.items rows.items) }
-    ensures fault { length rows.items ≤ most_rows
+    records: &StatementRecords,
+    day: Day,
+) -> Result<StatementHead, RowFault>
+    ensures head { (b : Book) (e : ℕ) → AreStatementRecords b e day records.now
+        → IfOk result (IsHead b e day) }
+    ensures fault { (b : Book) (e : ℕ) → AreStatementRecords b e day records.now
         → IfErr result (λ fault. fault ≡ RowFault.Memory) }
 {
-    let mut source = ListedRows::new(rows);
-    let mut text = String::new(alloc);
-    match append_statement(
-        &mut text,
-        firm,
-        interest_credits.as_slice(),
-        missing.as_slice(),
-        &mut source,
-    ) {
-        Ok(()) => Ok(Document::new(text)),
-        Err(fault) => Err(fault),
-    }
+    let credits = records.interest_credits.as_slice();
+    let interest = match interest_arrears(&records.rates, &records.charges, credits, day) {
+        Some(interest) => interest,
+        None => return Err(RowFault::Store(StoreCause::Row)),
+    };
+    let rows = records.charges.rows();
+    let missing = missing_months(alloc, &records.member, &records.rates, rows, day)?;
+    let charges = match charge_states(alloc, records, day) {
+        Ok(charges) => charges,
+        Err(fault) => return Err(fault),
+    };
+    let interest_credits = whole_payments(alloc, credits)?;
+    Ok(StatementHead {
+        firm: firm_account(records, day, interest)?,
+        charges,
+        interest_credits,
+        missing,
+    })
 }
 
 /// What the records of a worker say of it on a day: what it has earned, by firm, then month, the

@@ -1,17 +1,10 @@
 //! What a statement tells of a firm beside its charges and months.
-ghost use Rattle.std.specs.Prelude.{◌≡◌, ◌≤◌, IfErr, IfOk, IfSome, IsSome, length, map};
-ghost use Rattle.clear_account.specs.Account.{credited};
-ghost use Rattle.clear_account.specs.Allocation.{prepaid};
-ghost use Rattle.clear_account.specs.Arrears.{arrears_on};
-ghost use Rattle.clear_book.specs.Accounts.{row_credit};
-ghost use Rattle.clear_book.specs.Limits.{most_credits};
+ghost use Rattle.std.specs.Prelude.{◌≡◌, ◌++◌, ◌∷◌, [], IfErr, IfOk, OnOk, map};
+ghost use Rattle.clear_kept.specs.Owing.{arrears_in};
 ghost use Rattle.clear_book.specs.Own.Statement.{whole_payment};
 
-use crate::charges::add_payment;
-use crate::records::FirmRecords;
+use crate::records::StatementRecords;
 use crate::rows::RowFault;
-use clear_account::keeper::Keeper;
-use clear_account::owed::arrears;
 use clear_book::documents::{FirmAccount, Payment};
 use clear_book::rows::CreditRow;
 use clear_money::days::Day;
@@ -19,7 +12,7 @@ use std::alloc::{AllocError, Global};
 
 /// What is told of a firm on a day, where this interest, in cents, is in arrears.
 pub(crate) fn firm_account(
-    records: &FirmRecords,
+    records: &StatementRecords,
     day: Day,
     interest: u64,
 ) -> Result<FirmAccount, AllocError>
@@ -29,8 +22,8 @@ pub(crate) fn firm_account(
       name = records.now.member.name;
       start = records.now.member.start;
       last = records.now.member.last;
-      prepaid = prepaid records.now.account.charges records.now.account.credits;
-      arrears = arrears_on records.now.account.charges records.now.account.credits day;
+      prepaid = records.now.prepaid;
+      arrears = arrears_in records.now.charges day;
       interest = interest;
     }) }
 {
@@ -40,25 +33,10 @@ pub(crate) fn firm_account(
         name: records.member.name.copied()?,
         start: records.member.start,
         last: records.member.last,
-        prepaid: records.account.prepaid(),
-        arrears: arrears(&records.account, day),
+        prepaid: records.prepaid,
+        arrears: records.charges.arrears(day),
         interest,
     })
-}
-
-/// The sum of credits, in cents. None of a sum that the credits of an account don't reach.
-pub(crate) fn add_credits(credits: &[CreditRow]) -> Option<u64>
-    ensures some { length credits.now ≤ most_credits → IsSome result }
-    ensures value { IfSome result (λ sum. sum ≡ credited (map row_credit credits.now)) }
-{
-    let mut sum = 0;
-    for credit in credits {
-        if sum > 10_000_000_000_000_000 {
-            return None;
-        }
-        sum += credit.cents.cents();
-    }
-    Some(sum)
 }
 
 /// Whole credits.
@@ -69,7 +47,31 @@ pub(crate) fn whole_payments(alloc: Global, credits: &[CreditRow]) -> Result<Vec
 {
     let mut payments = Vec::new(alloc);
     for credit in credits {
-        add_payment(&mut payments, credit, credit.cents.cents())?;
+        add_payment(&mut payments, credit)?;
     }
     Ok(payments)
+}
+
+// Adds a whole credit.
+fn add_payment(payments: &mut Vec<Payment>, row: &CreditRow) -> Result<(), RowFault>
+    ensures payment { OnOk result (payments.new.items
+        ≡ payments.old.items ++ whole_payment row.now ∷ []) }
+    ensures fault { IfErr result (λ fault. fault ≡ RowFault.Memory) }
+{
+    let payment = whole_payment(row)?;
+    match payments.push(payment) {
+        Ok(()) => Ok(()),
+        Err(_) => Err(RowFault::Memory),
+    }
+}
+
+// A whole credit.
+fn whole_payment(row: &CreditRow) -> Result<Payment, AllocError>
+    ensures { IfOk result (λ payment. payment ≡ whole_payment row.now) }
+{
+    Ok(Payment {
+        day: row.day,
+        cents: row.cents.cents(),
+        reference: row.reference.copied()?,
+    })
 }

@@ -1,16 +1,21 @@
 //! Laws: what follows from the definitions alone. A law has no parameters and no effect; its
 //! contract is the law.
-ghost use Rattle.std.specs.Prelude.{◌≡◌, List, None};
-ghost use Rattle.std.specs.Iterator.{YieldsThen};
+ghost use Rattle.std.specs.Prelude.{◌≡◌, ◌==◌, ℕ, List, filter};
 ghost use Rattle.std.specs.List.{flat_map};
 ghost use Rattle.clear_book.specs.declared.documents.FirmAccount.{FirmAccount};
 ghost use Rattle.clear_book.specs.declared.documents.Payment.{Payment};
 ghost use Rattle.clear_book.specs.Documents.Statement.{Statement, PaidCharge, charge_text};
 ghost use Rattle.clear_book.specs.Documents.Statement.{statement_text};
-ghost use Rattle.clear_texts.specs.declared.rows.ChargeRow.{ChargeRow};
+ghost use Rattle.clear_book.specs.Allocated.{Represents};
+ghost use Rattle.clear_book.specs.Book.{Book};
+ghost use Rattle.clear_book.specs.Judge.{statement_on};
+ghost use Rattle.clear_book.specs.Machine.{IsLawful};
+ghost use Rattle.clear_book.specs.Tables.{Tables};
+ghost use Rattle.clear_texts.specs.declared.records.StatementHead.{StatementHead};
 ghost use Rattle.clear_texts.specs.Charges.{charge_lines};
 ghost use Rattle.clear_texts.specs.Laws.{IsRising, rows_of};
-ghost use Rattle.clear_texts.specs.Rows.{GivesFirst};
+ghost use Rattle.clear_texts.specs.Paid.{ArePiecesOf, statement_paid};
+ghost use Rattle.clear_texts.specs.Records.{IsHead};
 ghost use Rattle.clear_texts.specs.Text.{text_of_rows};
 
 /// Where the rows are those of charges with rising months, the lines are those of the charges: for
@@ -28,8 +33,15 @@ pub fn law_statement()
         ≡ statement_text s }
 {}
 
-/// Listed rows are given all, in their order.
-pub fn law_listed_rows()
-    ensures { (rows given left : List ChargeRow)
-        → YieldsThen GivesFirst rows given None left → given ≡ rows }
+/// The pieces that the tables of a lawful book keep of a firm are those of its statement's charges,
+/// and the statement over them is the one that the judge answers.
+pub fn law_paid_statement()
+    ensures text { (b : Book) (t : Tables) (e day : ℕ) (head : StatementHead) → IsLawful b
+        → Represents b t → IsHead b e day head
+        → statement_paid head
+        (filter (λ row. row.employer == head.firm.employer) t.pieces) ≡ statement_on b day e }
+    ensures pieces { (b : Book) (t : Tables) (e day : ℕ) (head : StatementHead) → IsLawful b
+        → Represents b t → IsHead b e day head
+        → ArePiecesOf head
+        (filter (λ row. row.employer == head.firm.employer) t.pieces) }
 {}

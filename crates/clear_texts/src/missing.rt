@@ -1,28 +1,34 @@
 //! The months without a report.
 ghost use Rattle.std.specs.Prelude.{◌≡◌, ◌≤◌, ◌++◌, ◌∷◌, [], IfOk, OnOk, filter};
 ghost use Rattle.clear_book.specs.Accounts.{is_overdue, months};
-ghost use Rattle.clear_texts.specs.Records.{MonthsRise};
+ghost use Rattle.clear_texts.specs.Records.{ChargesRise};
 ghost use Rattle.clear_texts.specs.Told.{is_missing_in};
 
-use crate::records::FirmRecords;
-use crate::versions::find_version;
+use crate::versions::has_charge;
+use clear_book::rows::EmployerRow;
+use clear_kept::rows::WeighedCharge;
 use clear_money::days::{Day, report_day};
 use clear_money::months::Month;
 use clear_money::rates::RateTable;
 use std::alloc::{AllocError, Global};
 
-/// The months of the membership without a report whose report was to be in before the day, rising.
+/// The months of a membership without a charge, which are those without a report, whose report was
+/// to be in before the day, rising. It takes a step for each month that there is, and for each that
+/// is overdue a search among the charges.
 pub fn missing_months(
     alloc: Global,
-    records: &FirmRecords,
+    member: &EmployerRow,
+    rates: &RateTable,
+    charges: &[WeighedCharge],
     day: Day,
 ) -> Result<Vec<Month>, AllocError>
-    ensures { MonthsRise records.now.reports.items → IfOk result (λ found. found.items
-        ≡ filter (is_missing_in records.now day) months) }
+    ensures { ChargesRise charges.now → IfOk result (λ found. found.items
+        ≡ filter (is_missing_in member.now rates.now charges.now day) months) }
 {
     let mut missing = Vec::new(alloc);
     for number in 24_000..26_400 {
-        add_missing(&mut missing, records, day, month_of(number))?;
+        let month = month_of(number);
+        add_missing(&mut missing, member, rates, charges, day, month)?;
     }
     Ok(missing)
 }
@@ -41,27 +47,33 @@ fn month_of(number: u16) -> Month
 // Adds a month, if it is missing on the day.
 fn add_missing(
     missing: &mut Vec<Month>,
-    records: &FirmRecords,
+    member: &EmployerRow,
+    rates: &RateTable,
+    charges: &[WeighedCharge],
     day: Day,
     month: Month,
 ) -> Result<(), AllocError>
-    ensures { MonthsRise records.now.reports.items → OnOk result (missing.new.items
-        ≡ missing.old.items ++ filter (is_missing_in records.now day) (month ∷ [])) }
+    ensures { ChargesRise charges.now → OnOk result (missing.new.items ≡ missing.old.items
+        ++ filter (is_missing_in member.now rates.now charges.now day) (month ∷ [])) }
 {
-    if is_missing(records, day, month) {
+    if is_missing(member, rates, charges, day, month) {
         missing.push(month)?;
     }
     Ok(())
 }
 
 // Whether a month is missing on the day.
-fn is_missing(records: &FirmRecords, day: Day, month: Month) -> bool
-    ensures { MonthsRise records.now.reports.items
-        → result ≡ is_missing_in records.now day month }
+fn is_missing(
+    member: &EmployerRow,
+    rates: &RateTable,
+    charges: &[WeighedCharge],
+    day: Day,
+    month: Month,
+) -> bool
+    ensures { ChargesRise charges.now
+        → result ≡ is_missing_in member.now rates.now charges.now day month }
 {
-    records.member.is_member_in(month)
-        && is_overdue(&records.rates, day, month)
-        && find_version(records.reports.as_slice(), month).is_none()
+    member.is_member_in(month) && is_overdue(rates, day, month) && !has_charge(charges, month)
 }
 
 // Whether the report of a month was to be in before the day.

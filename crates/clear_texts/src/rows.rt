@@ -1,12 +1,9 @@
 //! The rows of documents, one at a time.
-ghost use Rattle.std.specs.Prelude.{◌≡◌, List, IfErr, IfOk, Option};
-ghost use Rattle.clear_texts.specs.Rows.{GivesFirst};
+ghost use Rattle.std.specs.Prelude.{◌≡◌, IfErr, IfOk};
 
 use clear_book::documents::{ChargeState, Payment};
 use clear_book::rules::StoreCause;
 use std::alloc::AllocError;
-use std::marker::Model;
-use std::vec::IntoIter;
 
 /// The rows of an account: 100,000 credits, and twice 2,400 months.
 pub const MAX_ROWS: u32 = 104_800;
@@ -56,45 +53,4 @@ pub trait RowSource {
     fn next(&mut self) -> Result<Option<Self::Row>, RowFault>
         ensures gives { IfOk result (λ found. next_gives self.old found self.new) }
         ensures refuses { IfErr result (λ fault. next_refuses self.old fault self.new) };
-}
-
-/// Rows in the order of a list. A contract sees those that are still to come.
-#[derive(Drop)]
-pub struct ListedRows {
-    rows: IntoIter<ChargeRow>,
-}
-
-impl Model for ListedRows {
-    ghost use Rattle.std.specs.Prelude.{List};
-    ghost use Rattle.std.specs.Vec.Iter.{into_iter_items};
-    ghost use Rattle.clear_texts.specs.declared.rows.ChargeRow.{ChargeRow};
-
-    ghost Value = { List ChargeRow };
-
-    ghost view = { λ a. into_iter_items a.rows };
-}
-
-impl ListedRows {
-    /// All of these are still to come.
-    pub fn new(rows: Vec<ChargeRow>) -> ListedRows
-        ensures { result ≡ rows.items }
-    {
-        ListedRows {
-            rows: rows.into_iter(),
-        }
-    }
-}
-
-impl RowSource for ListedRows {
-    ghost use Rattle.clear_texts.specs.Rows.{GivesFirst};
-
-    type Row = ChargeRow;
-
-    ghost next_gives = { GivesFirst };
-
-    ghost next_refuses = { λ _ _ _. ⊥ };
-
-    fn next(&mut self) -> Result<Option<ChargeRow>, RowFault> {
-        Ok(self.rows.next())
-    }
 }

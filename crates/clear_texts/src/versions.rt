@@ -1,8 +1,9 @@
-//! The versions of a firm's reports.
+//! The versions of a firm's reports, and the months of its charges.
 ghost use Rattle.std.specs.Prelude.{◌≡◌, ◌<◌, ◌≤◌, All, drop, length, take};
-ghost use Rattle.clear_texts.specs.Records.{MonthsRise, version_in};
+ghost use Rattle.clear_texts.specs.Records.{ChargesRise, MonthsRise, has_charge, version_in};
 
 use clear_book::rows::ReportRow;
+use clear_kept::rows::WeighedCharge;
 use clear_money::months::Month;
 
 /// The version of a month's report, found by a search among reports whose months rise.
@@ -25,4 +26,26 @@ fn months_before(reports: &[ReportRow], month: Month) -> usize
         → All (λ row. month ≤ row.month) (drop result reports.now) }
 {
     reports.partition_point(|row| row.month < month)
+}
+
+/// Whether there is a charge for a month, found by a search among charges whose months rise.
+pub(crate) fn has_charge(charges: &[WeighedCharge], month: Month) -> bool
+    ensures { ChargesRise charges.now → result ≡ has_charge charges.now month }
+{
+    let place = charges_before(charges, month);
+    if place < charges.len() && charges[place].month == month {
+        return true;
+    }
+    false
+}
+
+// How many charges are for earlier months.
+fn charges_before(charges: &[WeighedCharge], month: Month) -> usize
+    ensures bound { result ≤ length charges.now }
+    ensures before { ChargesRise charges.now
+        → All (λ row. row.month < month) (take result charges.now) }
+    ensures from { ChargesRise charges.now
+        → All (λ row. month ≤ row.month) (drop result charges.now) }
+{
+    charges.partition_point(|row| row.month < month)
 }

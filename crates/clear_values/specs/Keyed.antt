@@ -68,6 +68,11 @@ module _ {Row : Type 0} (key : Row → List ℕ) where
   abbrev pub replaced : Row → List Row → List Row
   replaced row rows = if is_held row rows then put_row rows row else rows
 
+  -- the rows, these in the place of those with their keys, where there are such, one after another
+  abbrev pub replaced_rows : List Row → List Row → List Row
+  replaced_rows rows [] = rows
+  replaced_rows rows (new ∷ news) = replaced_rows (replaced new rows) news
+
   -- the rows and several new ones, each in place of the row with its key, one after another
   abbrev pub put_rows : List Row → List Row → List Row
   put_rows rows [] = rows

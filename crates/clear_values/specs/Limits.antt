@@ -61,6 +61,10 @@ most_credited = 10000000000000000
 abbrev pub most_interest : ℕ
 most_interest = 2894400000000000
 
+-- the weight of a contribution, in cents: the greatest base, once for each of 2,412 begun months
+abbrev pub most_weight : ℕ
+most_weight = 12060000000000
+
 -- all that a worker has earned, in cents: one line of the greatest gross amount in each of 2,400
 -- months at each of 10,000 employers, at 100 percent
 abbrev pub most_entitled : ℕ

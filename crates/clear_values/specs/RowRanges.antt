@@ -25,7 +25,7 @@ use Rattle.clear_values.specs.declared.rows.RunRow.{RunRow}
 use Rattle.clear_values.specs.declared.rows.WageRow.{WageRow}
 use Rattle.clear_values.specs.Limits.{most_base, most_charged, most_claimed, most_employers}
 use Rattle.clear_values.specs.Limits.{most_entries, most_gross, most_interest, most_records}
-use Rattle.clear_values.specs.Limits.{most_serials, most_versions}
+use Rattle.clear_values.specs.Limits.{most_serials, most_versions, most_weight}
 use Rattle.clear_values.specs.Numbers.{IsClaimNo, IsListNo, IsRequestNo, IsRunNo}
 use Rattle.clear_values.specs.Tables.{RequestRow, Tables}
 use Rattle.clear_values.specs.Texts.{IsName, IsCreditReference}
@@ -57,6 +57,8 @@ pub record IsKeptCharge (row : KeptCharge) : Type 0 where
   pub month : IsMonth row.month
   pub due : IsDay row.due
   pub cents : row.cents ≤ most_base
+  pub left : row.left ≤ most_base
+  pub weight : row.weight ≤ most_weight
 
 pub record IsBankRow (row : BankRow) : Type 0 where
   pub line : IsBankLine row.line

@@ -1,6 +1,7 @@
 -- The tables: rows by their keys.
 use Rattle.std.specs.Prelude.{ℕ, ◌+◌, List, [], ◌∷◌, Option, Some, Bool, false, ◌&&◌, ◌||◌, ◌==◌}
-use Rattle.std.specs.Prelude.{◌++◌, length, map, nat_le, nat_lt}
+use Rattle.std.specs.Prelude.{◌++◌, if◌then◌else◌, length, map, nat_le, nat_lt, true}
+use Rattle.std.specs.Option.{option_map_or}
 use Rattle.clear_money.specs.Rates.{Rate}
 use Rattle.clear_values.specs.declared.callers.Caller.{Caller}
 use Rattle.clear_values.specs.declared.callers.Caller.TheVariants.{Firm, Clerk}
@@ -25,7 +26,7 @@ use Rattle.clear_values.specs.declared.rows.RunRow.{RunRow}
 use Rattle.clear_values.specs.declared.rows.WageRow.{WageRow}
 use Rattle.clear_values.specs.declared.texts.WageLine.{WageLine}
 use Rattle.clear_values.specs.Credits.{credit_key, credits_of_lines, set_offs_of}
-use Rattle.clear_values.specs.Keyed.{with_row, with_rows, put_row, put_rows, replaced}
+use Rattle.clear_values.specs.Keyed.{find_row, with_row, with_rows, put_row, put_rows}
 use Rattle.clear_values.specs.Keyed.{without_rows}
 use Rattle.clear_values.specs.Members.{Member}
 
@@ -153,7 +154,20 @@ abbrev pub with_pieces : ℕ → ℕ → ℕ → ℕ → List PieceRow → List 
 with_pieces e m day serial news rows =
     with_rows piece_key (without_rows piece_key (is_piece_key_from e m day serial) rows) news
 
--- what a decision changes; the pieces follow from what it leaves
+-- whether a row keeps this contribution: the same cents, due on the same day
+abbrev pub keeps_contribution : KeptCharge → KeptCharge → Bool
+keeps_contribution charge row = (row.due == charge.due) && (row.cents == charge.cents)
+
+-- the kept contributions after a correction: that of its month gives way to the new one, unless it is
+-- the same; then it stays with what is paid of it
+abbrev pub corrected : KeptCharge → List KeptCharge → List KeptCharge
+corrected charge rows =
+    if option_map_or (keeps_contribution charge) (find_row charge_key rows (charge_key charge)) true
+    then rows
+    else put_row charge_key rows charge
+
+-- what a decision changes; the pieces, and what is open of the contributions, follow from what it
+-- leaves
 abbrev pub changed : Change → Tables → Tables
 changed (AddRate row) t = record t { rates = t.rates ++ row ∷ [] }
 changed (AddEmployer row) t = record t { employers = with_row employer_key t.employers row }
@@ -168,7 +182,7 @@ changed (ReplaceReport row lines charge) t =
     record t {
       reports = put_row report_key t.reports row;
       wages = with_wages row.employer row.month lines t.wages;
-      charges = replaced charge_key charge t.charges;
+      charges = corrected charge t.charges;
     }
 changed (AddBankLines rows) t =
     record t {

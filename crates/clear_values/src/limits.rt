@@ -15,6 +15,9 @@ pub const MAX_GROSS: u64 = 10_000_000;
 /// The base of a month, which its contribution doesn't exceed, in cents.
 pub const MAX_BASE: u64 = 5_000_000_000;
 
+/// The weight of a contribution, in cents: the greatest base, once for each of 2,412 begun months.
+pub const MAX_WEIGHT: u64 = 12_060_000_000_000;
+
 /// The versions of a month's report.
 pub const MAX_VERSIONS: u32 = 10_000;
 

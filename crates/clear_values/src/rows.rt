@@ -63,6 +63,11 @@ pub struct KeptCharge {
     pub due: Day,
     /// Cents.
     pub cents: u64,
+    /// What is open of it: its cents less those of its pieces.
+    pub left: u64,
+    /// Its weight so far: the cents of its pieces, each once for each month begun from the due day
+    /// until it was paid.
+    pub weight: u64,
 }
 
 /// A bank line that came in, and counts.

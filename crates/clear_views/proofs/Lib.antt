@@ -5,12 +5,13 @@ pub mod FillLemmas
 pub mod FirmLemmas
 pub mod FoundLemmas
 pub mod ImportLemmas
+pub mod MissingLemmas
 pub mod OverdueLemmas
 pub mod OwedLemmas
 pub mod ReadLemmas
 pub mod ReleaseLemmas
 pub mod RemindLemmas
 pub mod SerialLemmas
-pub mod StatementLemmas
 pub mod StillLemmas
 pub mod ViewLemmas
+pub mod StatementLemmas

@@ -1,19 +1,33 @@
--- What the records of a firm say of what it has overdue is what the book says.
-use Rattle.std.proofs.Common.{◌≡◌, ◌≤◌, ◌∙◌, ℕ, List, [], ◌∷◌, length, refl, sym, ap, subst, arith}
+-- What is kept of a firm says of what it has overdue what the book says.
+use Rattle.std.proofs.Common.{◌≡◌, ◌≤◌, ◌-◌, ◌∙◌, ℕ, List, [], ◌∷◌, None, length, map, refl, sym, ap, subst, arith}
 use Rattle.std.proofs.lemmas.List.FromFn.{length-range_with_len}
 use Rattle.std.proofs.lemmas.List.Sums.{count_by-le-length, length-filter}
-use Rattle.std.specs.List.{slice_get}
-use Rattle.clear_account.specs.Arrears.{arrears_on}
-use Rattle.clear_book.specs.Accounts.{is_missing, missing, months}
-use Rattle.clear_book.specs.Book.{Book}
+use Rattle.std.specs.List.{filter, slice_get}
+use Rattle.clear_account.specs.Account.{credited}
+use Rattle.clear_kept.specs.Owing.{arrears_in, interest_in}
+use Rattle.clear_kept.specs.declared.rows.WeighedCharge.{WeighedCharge}
+use Rattle.clear_kept.proofs.ArrearsLemmas.{arrears_from_rows}
+use Rattle.clear_kept.proofs.OwingLemmas.{interest_from_rows}
+use Rattle.clear_money.specs.Rates.{Rate}
+use Rattle.clear_bank.specs.declared.lines.Purpose.TheVariants.{Interest}
+use Rattle.clear_book.specs.Accounts.{charges_of, credits_of, interest_arrears, interest_credits_of, is_missing, missing, months, row_credit}
+use Rattle.clear_book.specs.Allocated.{StandsWeighed, weighed_rows}
+use Rattle.clear_book.specs.Book.{Book, rates_of}
+use Rattle.clear_book.specs.Judge.{day_back}
+use Rattle.clear_book.specs.Lines.{is_credit_of}
+use Rattle.clear_book.specs.Machine.{IsLawful}
 use Rattle.clear_book.specs.Reminders.{first_of_months}
+use Rattle.clear_book.specs.Tables.{Tables}
+use Rattle.clear_book.specs.declared.rows.CreditRow.{CreditRow}
+use Rattle.clear_book.specs.declared.rows.EmployerRow.{EmployerRow}
+use Rattle.clear_laws.proofs.CreditsLemmas.{credits-standing}
 use Rattle.clear_laws.proofs.LimitsLemmas.{months_are}
-use Rattle.clear_texts.proofs.RecordLemmas.{interest_of_book}
-use Rattle.clear_texts.specs.Records.{AreRecords}
-use Rattle.clear_texts.specs.Told.{interest_arrears_in}
-use Rattle.clear_texts.specs.declared.records.FirmRecords.{FirmRecords}
-use Rattle.clear_views.specs.Overdue.{overdue_told}
+use Rattle.clear_texts.specs.Records.{ChargesRise}
+use Rattle.clear_texts.specs.Told.{interest_owed, is_missing_in}
+use Rattle.clear_views.specs.Overdue.{AreKept, IsFirm, overdue_told}
 use Rattle.clear_views.specs.declared.overdue.Overdue.{Overdue}
+use Rattle.clear_views.proofs.MissingLemmas.{missing_of_book, rows_rise}
+use Rattle.clear_views.proofs.OwedLemmas.{book_account, book_days, book_dues, few_interest, rows_are}
 
 first_of : (ms : List ℕ) → slice_get ms 0 ≡ first_of_months ms
 first_of [] = refl
@@ -26,13 +40,47 @@ months_counted n is = ap length (months_are n is) ∙ length-range_with_len 2400
 few_missing : (b : Book) (e t : ℕ) → length (missing b e t) ≤ 2400
 few_missing b e t = omega (arith, months_counted 2400 refl, length-filter (is_missing b e t) months, count_by-le-length (is_missing b e t) months)
 
-pub overdue_is : (b : Book) (e : ℕ) (r : FirmRecords) → AreRecords b e r → (day : ℕ) (overdue : Overdue) (ms : List ℕ) → ms ≡ missing b e day → (length ms ≤ 2400 → overdue.missing ≡ length ms)
-    → overdue.first ≡ slice_get ms 0 → overdue.arrears ≡ arrears_on r.account.charges r.account.credits day → overdue.interest ≡ interest_arrears_in r day → overdue ≡ overdue_told b day e
-overdue_is b e r are day overdue ms months_are many first owed interest =
-    let few : length ms ≤ 2400 = subst (λ (ms : List ℕ). length ms ≤ 2400) (sym months_are) (few_missing b e day) in
-    λ i. record {
-      missing = (many few ∙ ap length months_are) i;
-      first = (first ∙ first_of ms ∙ ap first_of_months months_are) i;
-      arrears = (owed ∙ (λ j. arrears_on (are.charges j) (are.paid j) day)) i;
-      interest = (interest ∙ interest_of_book b e r are day) i;
-    }
+module _ (b : Book) (day : ℕ) (rates : List Rate) (firm : EmployerRow) (charges : List WeighedCharge) (credits : List CreditRow) (are : AreKept b day rates firm charges credits) where
+  pub interest_is : interest_owed rates charges credits day ≡ interest_arrears b firm.employer day
+  interest_is =
+      (λ i. interest_in (are.rates_are i) (are.charges_are i) day - credited (map row_credit (are.credits_are i)))
+      ∙ ap (λ n. n - credited (interest_credits_of b firm.employer)) (interest_from_rows (rates_of b) (charges_of b firm.employer) (credits_of b firm.employer) day are.account are.days)
+
+  -- the months that are found missing
+  pub months_found : (rows : List WeighedCharge) (ms : List ℕ) → rows ≡ charges → (ChargesRise rows → ms ≡ filter (is_missing_in firm rates rows day) months) → ms ≡ missing b firm.employer day
+  months_found rows ms same found =
+      let whole = same ∙ are.charges_are in
+      found (subst ChargesRise (sym whole) (rows_rise (charges_of b firm.employer) (credits_of b firm.employer) are.account.months_rise))
+      ∙ missing_of_book b firm.employer firm rates rows are.firm_is are.rates_are whole day
+
+  pub overdue_is : (overdue : Overdue) (ms : List ℕ) → ms ≡ missing b firm.employer day → (length ms ≤ 2400 → overdue.missing ≡ length ms)
+      → overdue.first ≡ slice_get ms 0 → overdue.arrears ≡ arrears_in charges day → overdue.interest ≡ interest_owed rates charges credits day → overdue.interest_count ≡ length credits
+      → overdue ≡ overdue_told b day firm.employer
+  overdue_is overdue ms months_are many first owed interest count =
+      let few : length ms ≤ 2400 = subst (λ (ms : List ℕ). length ms ≤ 2400) (sym months_are) (few_missing b firm.employer day) in
+      λ i. record {
+        missing = (many few ∙ ap length months_are) i;
+        first = (first ∙ first_of ms ∙ ap first_of_months months_are) i;
+        arrears = (owed ∙ ap (λ (rows : List WeighedCharge). arrears_in rows day) are.charges_are ∙ arrears_from_rows (charges_of b firm.employer) (credits_of b firm.employer) day are.dues_rise) i;
+        interest = (interest ∙ interest_is) i;
+        interest_count = (count ∙ ap length are.credits_are) i;
+      }
+
+module _ (b : Book) (t : Tables) (lawful : IsLawful b) (weighed : StandsWeighed b t) where
+  -- what is read of a firm is what is kept of it
+  pub kept_found : (day : ℕ) → day_back t.day day ≡ None → (rates : List Rate) (firm : EmployerRow) (charges : List WeighedCharge) (credits : List CreditRow) → rates ≡ rates_of b → IsFirm b firm
+      → charges ≡ weighed_rows t firm.employer → credits ≡ filter (is_credit_of firm.employer Interest) t.credits → AreKept b day rates firm charges credits
+  kept_found day back rates firm charges credits rated registered found paid = record {
+    rates_are = rated;
+    firm_is = registered;
+    charges_are = found ∙ rows_are b t lawful weighed firm.employer;
+    credits_are = paid ∙ ap (filter (is_credit_of firm.employer Interest)) (credits-standing b t weighed.stands);
+    account = book_account b t lawful weighed firm.employer;
+    dues_rise = book_dues b t lawful weighed firm.employer;
+    days = book_days b t lawful weighed firm.employer day back;
+  }
+
+  -- and it has no more credits for interest than an account
+  pub few_found : (e : ℕ) (credits : List CreditRow) → credits ≡ filter (is_credit_of e Interest) t.credits → length credits ≤ 100000
+  few_found e credits paid =
+      omega (arith, ap length (paid ∙ ap (filter (is_credit_of e Interest)) (credits-standing b t weighed.stands)), few_interest b t lawful weighed e)

@@ -1,23 +1,25 @@
 -- The firms of a reminder run, and the last reminder of each, as the tables have them.
-use Rattle.std.proofs.Common.{◌≡◌, ℕ, ◌+◌, ◌<◌, List, [], ◌∷◌, ◌++◌, length, map, take, get_or, Option, None, Some, is_some, Bool, true, false, cond, ◌&&◌, ◌==◌, drop, refl, sym, ap, ◌∙◌}
-use Rattle.std.proofs.lemmas.List.{map-append, take-append-drop, take_more}
+use Rattle.std.proofs.Common.{◌≡◌, ℕ, ◌+◌, ◌<◌, List, [], ◌∷◌, ◌++◌, length, map, take, get_or, Option, None, Some, is_some, Bool, true, false, cond, ◌&&◌, ◌==◌, refl, sym, ap, subst, ◌∙◌}
+use Rattle.std.proofs.lemmas.List.{map-append, take_more}
+use Rattle.std.proofs.lemmas.List.Elements.{All-from_recursion}
+use Rattle.std.specs.List.{All}
 use Rattle.std.specs.Option.{option_map}
 use Rattle.sqlite_keyed.proofs.SliceLemmas.{is_some-map}
 use Rattle.sqlite_trees.proofs.ListLemmas.{map-map}
 use Rattle.clear_book.specs.Book.{Book, member_of}
-use Rattle.clear_book.specs.Keyed.{AllBehind, AreInOrder, find_row, is_key, newer}
+use Rattle.clear_book.specs.Keyed.{AllBehind, AreInOrder, find_row, is_key}
 use Rattle.clear_book.specs.Machine.{IsLawful}
 use Rattle.clear_book.specs.Reminders.{last_among, last_reminder}
 use Rattle.clear_book.specs.Tables.{Tables, Stands, employer_key, member_in}
 use Rattle.clear_book.specs.Workers.{employers_of, number_key}
 use Rattle.clear_book.specs.declared.rows.EmployerRow.{EmployerRow}
+use Rattle.clear_laws.proofs.KeyedChangesLemmas.{all_from_found}
 use Rattle.clear_laws.proofs.KeyedLemmas.{found_key}
-use Rattle.clear_laws.proofs.KeyedRowsLemmas.{find_row-append, found_first, same_rows}
+use Rattle.clear_laws.proofs.KeyedRowsLemmas.{same_rows}
 use Rattle.clear_laws.proofs.WorkersLemmas.{employers_right}
 use Rattle.clear_rules.specs.Views.RemindRun.{firm_on_day, last_viewed}
 use Rattle.clear_rules.specs.declared.decide.remind.LastReminder.{LastReminder}
-use Rattle.clear_views.proofs.SerialLemmas.{drop_more}
-use Rattle.clear_views.specs.Overdue.{overdue_told}
+use Rattle.clear_views.specs.Overdue.{IsFirm, overdue_told}
 use Rattle.clear_views.specs.declared.overdue.Overdue.{Overdue}
 
 -- ---- the numbers of the firms
@@ -74,19 +76,6 @@ module _ (xs ys : List ℕ) (same : (e : ℕ) → is_some (find_row number_key x
   same_found (e ∷ []) = same_at e
   same_found (n ∷ m ∷ k) = none_at_more xs n m k ∙ sym (none_at_more ys n m k)
 
--- a row of a list is found in it
-found_itself : {Row : Type 0} (key : Row → List ℕ) (rows : List Row) (i : ℕ) (row : Row) → i < length rows → row ≡ get_or rows i row → is_some (find_row key rows (key row)) ≡ true
-found_itself {Row} key rows i row inside at =
-    let parts : rows ≡ take i rows ++ row ∷ drop (i + 1) rows = sym (take-append-drop i rows) ∙ ap (λ rest. take i rows ++ rest) (drop_more rows i row inside at) in
-    ap (λ (all : List Row). is_some (find_row key all (key row))) parts
-    ∙ ap is_some (find_row-append key (take i rows) (row ∷ drop (i + 1) rows) (key row))
-    ∙ ap (λ (found : Option Row). is_some (newer (find_row key (take i rows) (key row)) found)) (found_first key row (drop (i + 1) rows))
-    ∙ told (find_row key (take i rows) (key row))
-  where
-    told : (before : Option Row) → is_some (newer before (Some row)) ≡ true
-    told None = refl
-    told (Some first) = refl
-
 -- who stands in the table is registered
 module _ (b : Book) (t : Tables) (stands : Stands b t) where
   registered_at : (e : ℕ) → is_some (find_row employer_key t.employers (e ∷ [])) ≡ is_some (member_of b.entries e)
@@ -104,11 +93,12 @@ module _ (b : Book) (t : Tables) (stands : Stands b t) where
       sym (map-map (firm_on_day b day) (λ (row : EmployerRow). row.employer) t.employers)
       ∙ ap (map (firm_on_day b day)) (numbers_are lawful)
 
-  pub registered : (rows : List EmployerRow) → rows ≡ t.employers → (i : ℕ) (row : EmployerRow) → i < length rows → row ≡ get_or rows i row → is_some (member_of b.entries row.employer) ≡ true
-  registered rows are i row inside at =
-      sym (registered_at row.employer)
-      ∙ ap (λ (all : List EmployerRow). is_some (find_row employer_key all (employer_key row))) (sym are)
-      ∙ found_itself employer_key rows i row inside at
+  -- each row is that of one of its firms
+  pub firms_are : (rows : List EmployerRow) → rows ≡ t.employers → All (IsFirm b) rows
+  firms_are rows are =
+      subst (All (IsFirm b)) (sym are)
+      (All-from_recursion (IsFirm b) t.employers
+      (all_from_found employer_key (IsFirm b) t.employers stands.employers_in_order (λ row found. sym (stands.employers row.employer) ∙ ap (option_map member_in) found)))
 
   -- what is told of a firm is what the book says of it
   pub firm_is : (day e : ℕ) (overdue : Overdue) → overdue ≡ overdue_told b day e → (last : Option LastReminder) → last ≡ option_map last_viewed (last_among t.runs t.reminders e)

@@ -1,26 +1,35 @@
 -- What is read of a firm for its statement is what a lawful book says of it.
-use Rattle.std.proofs.Common.{◌≡◌, ℕ, ◌<◌, List, [], ◌∷◌, filter, Some, Bool, true, false, cond, ◌&&◌, ◌||◌, ◌==◌, nat_lt, refl, sym, ap, ◌∙◌, subst, arith}
+use Rattle.std.proofs.Common.{◌≡◌, ℕ, ◌<◌, ◌-◌, List, [], ◌∷◌, filter, None, Some, Bool, true, false, cond, ◌&&◌, ◌||◌, ◌==◌, nat_lt, refl, sym, ap, ◌∙◌, subst, arith}
 use Rattle.std.proofs.lemmas.Bool.Decides.{nat_tests}
 use Rattle.std.proofs.lemmas.List.Elements.{All-cons, All-nil}
 use Rattle.std.proofs.lemmas.List.Kept.{AllPairs-cons}
 use Rattle.std.specs.List.{All, find}
 use Rattle.std.specs.Option.{option_map}
-use Rattle.clear_bank.specs.declared.lines.Purpose.{Purpose}
-use Rattle.clear_bank.specs.declared.lines.Purpose.TheVariants.{Contribution, Interest}
+use Rattle.clear_account.specs.Account.{credited}
+use Rattle.clear_account.specs.Allocation.{prepaid as prepaid_cents}
+use Rattle.clear_kept.specs.Owing.{arrears_in, charged_in}
+use Rattle.clear_kept.specs.declared.rows.WeighedCharge.{WeighedCharge}
+use Rattle.clear_kept.proofs.ArrearsLemmas.{arrears_from_rows}
+use Rattle.clear_kept.proofs.OwingLemmas.{charged_from_rows}
+use Rattle.clear_bank.specs.declared.lines.Purpose.TheVariants.{Interest}
+use Rattle.clear_book.specs.declared.rows.CreditRow.{CreditRow}
 use Rattle.clear_book.specs.declared.rows.EmployerRow.{EmployerRow}
 use Rattle.clear_book.specs.declared.rows.ReportRow.{ReportRow}
-use Rattle.clear_book.specs.Accounts.{credit_rows_of}
+use Rattle.clear_book.specs.Accounts.{charges_of, credits_of}
+use Rattle.clear_book.specs.Allocated.{StandsWeighed}
 use Rattle.clear_book.specs.Book.{Book, member_of, reported_version}
+use Rattle.clear_book.specs.Judge.{day_back}
 use Rattle.clear_book.specs.Keyed.{find_row, AllBehind, AreInOrder}
-use Rattle.clear_book.specs.Lines.{is_credit_of}
 use Rattle.clear_book.specs.Machine.{IsLawful}
-use Rattle.clear_book.specs.Tables.{Tables, Stands, employer_key, report_key, table_charges, table_credits}
-use Rattle.clear_laws.proofs.CreditsLemmas.{credits-standing}
+use Rattle.clear_book.specs.Tables.{Tables, Stands, employer_key, member_in, report_key}
 use Rattle.clear_laws.proofs.KeyedLemmas.{found_key}
-use Rattle.clear_texts.specs.Records.{AreRecords, MonthsRise, member_in, version_in}
-use Rattle.clear_texts.specs.declared.records.FirmRecords.{FirmRecords}
-use Rattle.clear_views.specs.Owed.{with_charges, with_credits}
-use Rattle.clear_views.proofs.OwedLemmas.{charges_read, credits_read}
+use Rattle.clear_texts.specs.Records.{AreStatementRecords, ChargesRise, MonthsRise, version_in}
+use Rattle.clear_texts.specs.declared.records.StatementRecords.{StatementRecords}
+use Rattle.clear_views.specs.Overdue.{AreKept}
+use Rattle.clear_views.specs.Statement.{AreRead}
+use Rattle.clear_views.proofs.MissingLemmas.{missing_of_book, rows_rise}
+use Rattle.clear_views.proofs.OverdueLemmas.{few_found, interest_is, kept_found}
+use Rattle.clear_views.proofs.OwedLemmas.{book_account, book_days, book_dues, rows_are}
 
 -- ---- the reports of one employer
 
@@ -74,7 +83,7 @@ module _ (e : ℕ) where
 -- ---- a lawful book
 
 module _ (b : Book) (t : Tables) (stands : Stands b t) (e : ℕ) where
-  member_found : (row : EmployerRow) → find_row employer_key t.employers (e ∷ []) ≡ Some row → (row.employer ≡ e) × (member_of b.entries e ≡ Some (member_in row))
+  pub member_found : (row : EmployerRow) → find_row employer_key t.employers (e ∷ []) ≡ Some row → (row.employer ≡ e) × (member_of b.entries e ≡ Some (member_in row))
   member_found row is =
       let same : row.employer ∷ [] ≡ e ∷ [] = found_key employer_key t.employers (e ∷ []) row is in
       (cc, sym (stands.employers e) ∙ ap (option_map member_in) is)
@@ -82,23 +91,54 @@ module _ (b : Book) (t : Tables) (stands : Stands b t) (e : ℕ) where
   version_found : (m : ℕ) → version_in (filter (λ row. row.employer == e) t.reports) m ≡ reported_version b.entries e m
   version_found m = ap (option_map (λ (row : ReportRow). row.version)) (month_found e m t.reports) ∙ stands.reports e m
 
-  credits_found : (purpose : Purpose) → filter (is_credit_of e purpose) t.credits ≡ credit_rows_of b e purpose
-  credits_found purpose = ap (filter (is_credit_of e purpose)) (credits-standing b t stands)
+-- ---- the records
 
-  pub records_found : IsLawful b → (r : FirmRecords) → Some r.member ≡ find_row employer_key t.employers (e ∷ []) → r.rates ≡ t.rates
-      → r.reports.items ≡ filter (λ row. row.employer == e) t.reports → r.account.charges ≡ with_charges (table_charges t e) []
-      → r.account.credits ≡ with_credits (table_credits t e) [] → r.credits.items ≡ filter (is_credit_of e Contribution) t.credits
-      → r.interest_credits.items ≡ filter (is_credit_of e Interest) t.credits → AreRecords b e r
-  records_found lawful r found rates reports charges paid credits interest =
-      let member = member_found r.member (sym found) in
-      record {
-        employer = member.0;
-        member = member.1;
-        rates = rates ∙ stands.rates;
-        versions = λ m. ap (λ (rows : List ReportRow). version_in rows m) reports ∙ version_found m;
-        months = subst MonthsRise (sym reports) (months_rise e t.reports stands.reports_in_order);
-        charges = charges ∙ charges_read b t lawful stands e;
-        paid = paid ∙ credits_read b t lawful stands e;
-        credits = credits ∙ credits_found Contribution;
-        interest_credits = interest ∙ credits_found Interest;
-      }
+module _ (b : Book) (t : Tables) (lawful : IsLawful b) (weighed : StandsWeighed b t) (e day : ℕ) (back : day_back t.day day ≡ None) (row : EmployerRow) (found : find_row employer_key t.employers (e ∷ []) ≡ Some row) (r : StatementRecords) (read : AreRead b t row r) where
+  number : row.employer ≡ e
+  number = (member_found b t weighed.stands e row found).0
+
+  registered : member_of b.entries e ≡ Some (member_in r.member)
+  registered = (member_found b t weighed.stands e row found).1 ∙ ap (λ (m : EmployerRow). Some (member_in m)) (sym read.member_is)
+
+  kept : AreKept b day r.rates r.member r.charges r.interest_credits.items
+  kept =
+      subst (λ (m : EmployerRow). AreKept b day r.rates m r.charges r.interest_credits.items) (sym read.member_is)
+      (kept_found b t lawful weighed day back r.rates row r.charges r.interest_credits.items (read.rates_are ∙ weighed.stands.rates)
+      (ap (member_of b.entries) number ∙ (member_found b t weighed.stands e row found).1)
+      (read.charges_are ∙ sym (rows_are b t lawful weighed row.employer)) read.interest_are)
+
+  member_no : r.member.employer ≡ e
+  member_no = ap (λ (m : EmployerRow). m.employer) read.member_is ∙ number
+
+  pub records_found : AreStatementRecords b e day r
+  records_found =
+      subst (λ (k : ℕ). AreStatementRecords b k day r) member_no
+      (record {
+        employer = refl;
+        member = kept.firm_is;
+        rates = kept.rates_are;
+        versions = λ m. ap (λ (rows : List ReportRow). version_in rows m) reports_are ∙ version_found b t weighed.stands r.member.employer m;
+        months_rise = subst MonthsRise (sym reports_are) (months_rise r.member.employer t.reports weighed.stands.reports_in_order);
+        charges = kept.charges_are;
+        charges_rise = subst ChargesRise (sym kept.charges_are) (rows_rise (charges_of b r.member.employer) (credits_of b r.member.employer) kept.account.months_rise);
+        interest_credits = kept.credits_are;
+        few_credits = few_found b t lawful weighed row.employer r.interest_credits.items read.interest_are;
+        account = kept.account;
+        days = kept.days;
+        prepaid_is = prepaid;
+        arrears_are = ap (λ (rows : List WeighedCharge). arrears_in rows day) kept.charges_are ∙ arrears_from_rows (charges_of b r.member.employer) (credits_of b r.member.employer) day kept.dues_rise;
+        interest_is = interest_is b day r.rates r.member r.charges r.interest_credits.items kept;
+        missing_are = missing_of_book b r.member.employer r.member r.rates r.charges kept.firm_is kept.rates_are kept.charges_are day;
+      })
+    where
+      own : row.employer ≡ r.member.employer
+      own = ap (λ (m : EmployerRow). m.employer) (sym read.member_is)
+
+      reports_are : r.reports.items ≡ filter (λ (report : ReportRow). report.employer == r.member.employer) t.reports
+      reports_are = read.reports_are ∙ ap (λ (n : ℕ). filter (λ (report : ReportRow). report.employer == n) t.reports) own
+
+      prepaid : r.prepaid ≡ prepaid_cents (charges_of b r.member.employer) (credits_of b r.member.employer)
+      prepaid =
+          read.prepaid_is
+          ∙ (λ i. credited (credits_of b (own i)) - charged_in (kept.charges_are i))
+          ∙ ap (λ (n : ℕ). credited (credits_of b r.member.employer) - n) (charged_from_rows (charges_of b r.member.employer) (credits_of b r.member.employer))

@@ -3,5 +3,6 @@ pub mod Ends
 pub mod Imports
 pub mod Overdue
 pub mod Owed
+pub mod Owing
 pub mod Reads
 pub mod Statement

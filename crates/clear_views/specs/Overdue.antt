@@ -1,8 +1,20 @@
 -- What is told of what a firm has overdue.
-use Rattle.std.specs.Prelude.{ℕ, length}
-use Rattle.clear_book.specs.Accounts.{arrears, interest_arrears, missing}
-use Rattle.clear_book.specs.Book.{Book}
+use Rattle.std.specs.Prelude.{◌≡◌, ◌≤◌, ℕ, List, All, AllPairs, Some, if◌then◌else◌, length}
+use Rattle.std.specs.Prelude.{nat_lt}
+use Rattle.clear_account.specs.Account.{IsAccount}
+use Rattle.clear_bank.specs.declared.lines.Purpose.TheVariants.{Contribution, Interest}
+use Rattle.clear_book.specs.Accounts.{arrears, charges_of, credit_rows_of, credits_of}
+use Rattle.clear_book.specs.Accounts.{interest_arrears, missing}
+use Rattle.clear_book.specs.Book.{Book, member_of, rates_of}
+use Rattle.clear_book.specs.Limits.{most_credits}
+use Rattle.clear_book.specs.Lines.{credit_count}
 use Rattle.clear_book.specs.Reminders.{first_of_months}
+use Rattle.clear_book.specs.Tables.{Tables, member_in}
+use Rattle.clear_book.specs.declared.rows.CreditRow.{CreditRow}
+use Rattle.clear_book.specs.declared.rows.EmployerRow.{EmployerRow}
+use Rattle.clear_kept.specs.declared.rows.WeighedCharge.{WeighedCharge}
+use Rattle.clear_kept.specs.Weighed.{weighed_charges}
+use Rattle.clear_money.specs.Rates.{Rate}
 use Rattle.clear_views.specs.declared.overdue.Overdue.{Overdue}
 
 -- what the book has overdue of a firm on a day
@@ -13,4 +25,29 @@ overdue_told b t e =
       first = first_of_months (missing b e t);
       arrears = arrears b e t;
       interest = interest_arrears b e t;
+      interest_count = length (credit_rows_of b e Interest);
     }
+
+-- the row is that of a firm of the book
+abbrev pub IsFirm : Book → EmployerRow → Type 0
+IsFirm b row = member_of b.entries row.employer ≡ Some (member_in row)
+
+-- these are the rates of the book, the row of one of its firms, and what is kept of that: its
+-- contributions and its credits for interest. It is an account, its contributions are due in the
+-- order of their months, and no payment comes after the day
+pub record AreKept (b : Book) (day : ℕ) (rates : List Rate) (firm : EmployerRow)
+    (charges : List WeighedCharge) (interest_credits : List CreditRow) : Type 0 where
+  pub rates_are : rates ≡ rates_of b
+  pub firm_is : IsFirm b firm
+  pub charges_are : charges ≡ weighed_charges (charges_of b firm.employer)
+      (credits_of b firm.employer)
+  pub credits_are : interest_credits ≡ credit_rows_of b firm.employer Interest
+  pub account : IsAccount (charges_of b firm.employer) (credits_of b firm.employer)
+  pub dues_rise : AllPairs (λ c d. c.due ≤ d.due) (charges_of b firm.employer)
+  pub days : All (λ k. k.day ≤ day) (credits_of b firm.employer)
+
+-- a number that serves for that of a firm's credits for contributions, where one more comes: so
+-- many serials, while they are fewer than the credits that it may have; else the number itself
+abbrev pub contributions_viewed : ℕ → Tables → ℕ → ℕ
+contributions_viewed serials t e =
+    if nat_lt serials most_credits then serials else credit_count t.credits e Contribution

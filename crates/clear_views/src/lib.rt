@@ -17,6 +17,7 @@ mod lookups;
 pub mod member;
 mod overdue;
 pub mod owed;
+pub mod owing;
 pub mod register;
 pub mod release;
 pub mod remind;

@@ -1,20 +1,31 @@
-//! What a firm has overdue on a day, by its records.
-ghost use Rattle.std.specs.Prelude.{◌≡◌, ◌≤◌, ℕ, IfErr, IfOk, None, length};
-ghost use Rattle.clear_book.specs.Book.{Book, ledger_day};
+//! What a firm has overdue on a day, by what is kept of it.
+ghost use Rattle.std.specs.Prelude.{◌≡◌, ◌≤◌, IfErr, IfOk, None, length};
+ghost use Rattle.sqlite.specs.Held.{state};
+ghost use Rattle.sqlite.specs.State.{HasCleanDisk};
+ghost use Rattle.clear_book.specs.Allocated.{StandsWeighed};
+ghost use Rattle.clear_book.specs.Book.{Book, rates_of};
 ghost use Rattle.clear_book.specs.Judge.{day_back};
+ghost use Rattle.clear_book.specs.Limits.{most_credits};
 ghost use Rattle.clear_book.specs.Machine.{IsLawful};
+ghost use Rattle.clear_book.specs.Tables.{Tables};
+ghost use Rattle.clear_schema.specs.Frame.{Leaves};
 ghost use Rattle.clear_schema.specs.Faults.{IsOfDisk};
-ghost use Rattle.clear_texts.specs.Records.{AreRecords};
-ghost use Rattle.clear_views.specs.Overdue.{overdue_told};
+ghost use Rattle.clear_schema.specs.Held.{HasTables};
+ghost use Rattle.clear_views.specs.Overdue.{AreKept, IsFirm, overdue_told};
 
-use crate::statement::fault_of;
-use clear_account::owed::arrears;
+use crate::owing::find_charges;
+use clear_bank::lines::Purpose;
+use clear_book::rows::{CreditRow, EmployerRow};
+use clear_book::rules::StoreCause;
+use clear_kept::owing::WeighedCharges;
+use clear_ledger::credits::credits_of;
 use clear_money::days::Day;
 use clear_money::months::Month;
+use clear_money::rates::RateTable;
 use clear_schema::fault::Fault;
 use clear_texts::arrears::interest_arrears;
 use clear_texts::missing::missing_months;
-use clear_texts::records::FirmRecords;
+use sqlite::{Alter, Transaction};
 use std::alloc::Global;
 
 // What a firm has overdue on a day.
@@ -28,29 +39,68 @@ pub(crate) struct Overdue {
     pub(crate) arrears: u64,
     // What is in arrears of interest, in cents.
     pub(crate) interest: u64,
+    // How many credits it has for interest.
+    pub(crate) interest_count: u64,
 }
 
-// What a firm has overdue on a day by its records: one step for each month that there is, and for
-// each of its charges and credits.
-pub(crate) fn overdue_on(alloc: Global, records: &FirmRecords, day: Day) -> Result<Overdue, Fault>
-    ensures overdue { (b : Book) (e : ℕ) → AreRecords b e records.now
-        → IfOk result (λ overdue. overdue ≡ overdue_told b day e) }
-    ensures fault { (b : Book) (e : ℕ) → IsLawful b → AreRecords b e records.now
-        → day_back (ledger_day b.entries) day ≡ None → IfErr result IsOfDisk }
+// What a firm has overdue on a day that is not before the ledger day, at these rates. It reads each
+// contribution that is kept of the firm and each of its credits for interest once, and takes one
+// step for each of these, for each month that there is, and for each rate.
+pub(crate) fn read_overdue<S: Alter>(
+    alloc: Global,
+    tx: &mut Transaction<'_, S>,
+    rates: &RateTable,
+    member: &EmployerRow,
+    day: Day,
+) -> Result<Overdue, Fault>
+    ensures same_reference { tx.new.conn.ghost_name ≡ tx.old.conn.ghost_name }
+    ensures overdue { HasCleanDisk (state S.Store tx.new.conn.now)
+        → (t : Tables) → HasTables t (state S.Store tx.old.conn.now).now
+        → (b : Book) → IsLawful b → StandsWeighed b t → day_back t.day day ≡ None
+        → rates.now ≡ rates_of b → IsFirm b member.now
+        → IfOk result (λ overdue. overdue ≡ overdue_told b day member.now.employer) }
+    ensures fault { HasCleanDisk (state S.Store tx.new.conn.now)
+        → (t : Tables) → HasTables t (state S.Store tx.old.conn.now).now
+        → (b : Book) → IsLawful b → StandsWeighed b t → IfErr result IsOfDisk }
+    ensures leaves { Leaves S.Store tx.old.conn.now tx.new.conn.now result }
 {
-    let interest = match interest_arrears(alloc, records, day) {
-        Ok(cents) => cents,
-        Err(fault) => return Err(fault_of(fault)),
+    let charges = match find_charges(alloc, tx, member.employer) {
+        Ok(charges) => charges,
+        Err(fault) => return Err(fault),
     };
-    let months = match missing_months(alloc, records, day) {
+    let credits = match credits_of(tx, member.employer, Purpose::Interest) {
+        Ok(credits) => credits,
+        Err(fault) => return Err(fault),
+    };
+    overdue_on(alloc, rates, member, &charges, credits.as_slice(), day)
+}
+
+// What a firm has overdue on a day by its contributions and its credits for interest.
+fn overdue_on(
+    alloc: Global,
+    rates: &RateTable,
+    member: &EmployerRow,
+    charges: &WeighedCharges,
+    credits: &[CreditRow],
+    day: Day,
+) -> Result<Overdue, Fault>
+    ensures overdue { (b : Book) → AreKept b day rates.now member.now charges.now credits.now
+        → IfOk result (λ overdue. overdue ≡ overdue_told b day member.now.employer) }
+    ensures fault { length credits.now ≤ most_credits → IfErr result IsOfDisk }
+{
+    let Some(interest) = interest_arrears(rates, charges, credits, day) else {
+        return Err(Fault::Store(StoreCause::Row));
+    };
+    let months = match missing_months(alloc, member, rates, charges.rows(), day) {
         Ok(months) => months,
         Err(_) => return Err(Fault::Memory),
     };
     Ok(Overdue {
         missing: month_count(&months),
         first: months.first().copied(),
-        arrears: arrears(&records.account, day),
+        arrears: charges.arrears(day),
         interest,
+        interest_count: credits.len() as u64,
     })
 }
 

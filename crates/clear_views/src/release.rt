@@ -1,33 +1,39 @@
 //! What a release is judged by.
-ghost use Rattle.std.specs.Prelude.{◌≡◌, ◌∷◌, ℕ, [], None, IfErr, IfOk, IfSome, IsSome};
+ghost use Rattle.std.specs.Prelude.{◌≡◌, ◌∷◌, [], None, IfErr, IfOk, IfSome, IsSome, IsTrue};
+ghost use Rattle.std.specs.Prelude.{OnOk};
 ghost use Rattle.std.specs.Option.{option_map};
 ghost use Rattle.sqlite.specs.Held.{state};
-ghost use Rattle.sqlite.specs.State.{HasCleanDisk};
-ghost use Rattle.clear_book.specs.Book.{Book, ledger_day, member_of};
+ghost use Rattle.sqlite.specs.State.{HasCleanDisk, IsUnchanged, KeepsCommit, Survives};
+ghost use Rattle.clear_book.specs.Allocated.{StandsWeighed};
+ghost use Rattle.clear_book.specs.Book.{Book, member_of};
 ghost use Rattle.clear_book.specs.Judge.{day_back};
 ghost use Rattle.clear_book.specs.Keyed.{find_row};
 ghost use Rattle.clear_book.specs.Machine.{IsLawful};
 ghost use Rattle.clear_book.specs.Own.Release.{debts_of};
-ghost use Rattle.clear_book.specs.Tables.{Stands, Tables, claim_key};
+ghost use Rattle.clear_book.specs.RowRanges.{AreInRange};
+ghost use Rattle.clear_book.specs.Tables.{Tables, claim_key};
 ghost use Rattle.clear_firms.specs.Counts.{as_stored};
 ghost use Rattle.clear_rules.specs.Views.Release.{AreDebts, IsReleaseView};
 ghost use Rattle.clear_schema.specs.Frame.{Leaves};
 ghost use Rattle.clear_schema.specs.Faults.{IsOfDisk};
 ghost use Rattle.clear_schema.specs.Held.{HasTables};
 ghost use Rattle.clear_schema.specs.Values.{counts_of};
-ghost use Rattle.clear_texts.specs.Records.{AreRecords};
+ghost use Rattle.clear_views.specs.Overdue.{contributions_viewed, overdue_told};
 
-use crate::lookups::claim_under;
-use crate::overdue::overdue_on;
-use crate::statement::firm_records;
+use crate::lookups::{claim_under, is_day_back};
+use crate::overdue::{Overdue, read_overdue};
+use clear_bank::lines::Purpose;
+use clear_book::limits::MAX_CREDITS;
 use clear_book::numbers::{ClaimNo, SerialCount};
 use clear_book::rules::StoreCause;
 use clear_firms::counts::Counts;
+use clear_firms::employers::find_employer;
+use clear_firms::rates::rate_table;
+use clear_ledger::credits::credits_of;
 use clear_money::days::Day;
 use clear_money::numbers::EmployerNo;
 use clear_rules::decide::release::{FirmDebts, OwingClaim, ReleaseView};
 use clear_schema::fault::Fault;
-use clear_texts::records::FirmRecords;
 use sqlite::{Alter, Transaction};
 use std::alloc::Global;
 
@@ -35,10 +41,13 @@ use std::alloc::Global;
 /// there is one, with what its firm owes on the day and how many credits it has, however the claim
 /// stands; and how many serials were given.
 ///
-/// It takes one search for the claim, and then what the firm's statement takes without its text.
-/// What no book holds is refused with `Fault::Store(StoreCause::Row)`: what `firm_records` refuses,
-/// a claim of a firm that isn't registered, and more serials than an office gives; so is a day
-/// before that of a credit of the firm for contributions.
+/// It takes one search for the claim and one for its firm, reads the rates, each contribution that
+/// is kept of the firm and each of its credits for interest once, and takes one step for each month
+/// that there is. The firm's credits for contributions are read only once 100,000 serials were
+/// given: while there are fewer, their number serves for that of the credits. What no book holds is
+/// refused with `Fault::Store(StoreCause::Row)`: a value out of its range, more contributions or
+/// credits than an account has, a claim of a firm that isn't registered, and more serials than an
+/// office gives; so is a day before the ledger day.
 pub fn release_view<S: Alter>(
     alloc: Global,
     tx: &mut Transaction<'_, S>,
@@ -53,28 +62,33 @@ pub fn release_view<S: Alter>(
         ≡ find_row claim_key t.claims (claim ∷ [])) }
     ensures view { HasCleanDisk (state S.Store tx.new.conn.now)
         → (t : Tables) → HasTables t (state S.Store tx.old.conn.now).now
-        → as_stored counts.now ≡ counts_of t → (b : Book) → IsLawful b → Stands b t
+        → as_stored counts.now ≡ counts_of t → (b : Book) → IsLawful b → StandsWeighed b t
         → IfOk result (IsReleaseView b day claim) }
     // On a day that isn't before the ledger day, as it is judged to be before.
     ensures fault { HasCleanDisk (state S.Store tx.new.conn.now)
         → (t : Tables) → HasTables t (state S.Store tx.old.conn.now).now
         → as_stored counts.now ≡ counts_of t → day_back t.day day ≡ None
-        → (b : Book) → IsLawful b → Stands b t → IfErr result IsOfDisk }
+        → (b : Book) → IsLawful b → StandsWeighed b t → IfErr result IsOfDisk }
     ensures leaves { Leaves S.Store tx.old.conn.now tx.new.conn.now result }
 {
+    if is_day_back(counts, day) {
+        return Err(Fault::Store(StoreCause::Row));
+    }
     let Some(serials) = SerialCount::new(counts.serial) else {
         return Err(Fault::Store(StoreCause::Row));
     };
-    match find_owing(alloc, tx, day, claim) {
+    match find_owing(alloc, tx, counts.serial, day, claim) {
         Ok(found) => Ok(ReleaseView { found, serials }),
         Err(fault) => Err(fault),
     }
 }
 
-// The claim of a number, if there is one, and what its firm owes on a day.
+// The claim of a number, if there is one, and what its firm owes on a day that is not before the
+// ledger day, where so many serials were given.
 fn find_owing<S: Alter>(
     alloc: Global,
     tx: &mut Transaction<'_, S>,
+    serials: u64,
     day: Day,
     claim: ClaimNo,
 ) -> Result<Option<OwingClaim>, Fault>
@@ -85,13 +99,13 @@ fn find_owing<S: Alter>(
         ≡ find_row claim_key t.claims (claim ∷ [])) }
     ensures debts { HasCleanDisk (state S.Store tx.new.conn.now)
         → (t : Tables) → HasTables t (state S.Store tx.old.conn.now).now
-        → (b : Book) → IsLawful b → Stands b t
+        → serials ≡ t.serial → day_back t.day day ≡ None
+        → (b : Book) → IsLawful b → StandsWeighed b t
         → IfOk result (λ found. IfSome found (λ owing.
         AreDebts (debts_of b day owing.claim.employer) owing.debts)) }
     ensures fault { HasCleanDisk (state S.Store tx.new.conn.now)
         → (t : Tables) → HasTables t (state S.Store tx.old.conn.now).now
-        → day_back t.day day ≡ None → (b : Book) → IsLawful b → Stands b t
-        → IfErr result IsOfDisk }
+        → (b : Book) → IsLawful b → StandsWeighed b t → IfErr result IsOfDisk }
     ensures leaves { Leaves S.Store tx.old.conn.now tx.new.conn.now result }
 {
     let row = match claim_under(tx, claim) {
@@ -99,52 +113,109 @@ fn find_owing<S: Alter>(
         Ok(None) => return Ok(None),
         Err(fault) => return Err(fault),
     };
-    match firm_debts(alloc, tx, day, row.employer) {
+    match firm_debts(alloc, tx, serials, day, row.employer) {
         Ok(debts) => Ok(Some(OwingClaim { claim: row, debts })),
         Err(fault) => Err(fault),
     }
 }
 
-// What a firm owes on a day, and how many credits it has.
+// What a firm owes on a day that is not before the ledger day, and how many credits it has, where
+// so many serials were given.
 fn firm_debts<S: Alter>(
     alloc: Global,
     tx: &mut Transaction<'_, S>,
+    serials: u64,
     day: Day,
     employer: EmployerNo,
 ) -> Result<FirmDebts, Fault>
     ensures same_reference { tx.new.conn.ghost_name ≡ tx.old.conn.ghost_name }
     ensures debts { HasCleanDisk (state S.Store tx.new.conn.now)
         → (t : Tables) → HasTables t (state S.Store tx.old.conn.now).now
-        → (b : Book) → IsLawful b → Stands b t
+        → serials ≡ t.serial → day_back t.day day ≡ None
+        → (b : Book) → IsLawful b → StandsWeighed b t
         → IfOk result (AreDebts (debts_of b day employer)) }
     ensures fault { HasCleanDisk (state S.Store tx.new.conn.now)
         → (t : Tables) → HasTables t (state S.Store tx.old.conn.now).now
-        → day_back t.day day ≡ None → (b : Book) → IsLawful b → Stands b t
+        → (b : Book) → IsLawful b → StandsWeighed b t
         → IsSome (member_of b.entries employer) → IfErr result IsOfDisk }
     ensures leaves { Leaves S.Store tx.old.conn.now tx.new.conn.now result }
 {
-    match firm_records(alloc, tx, employer) {
-        Ok(Some(records)) => debts_on(alloc, &records, day),
-        Ok(None) => Err(Fault::Store(StoreCause::Row)),
+    let overdue = match find_overdue(alloc, tx, day, employer) {
+        Ok(overdue) => overdue,
+        Err(fault) => return Err(fault),
+    };
+    match count_contributions(tx, serials, employer) {
+        Ok(contribution_count) => Ok(FirmDebts {
+            missing: overdue.first,
+            arrears: overdue.arrears,
+            interest_arrears: overdue.interest,
+            contribution_count,
+            interest_count: overdue.interest_count,
+        }),
         Err(fault) => Err(fault),
     }
 }
 
-// What a firm owes on a day by its records, and how many credits it has.
-fn debts_on(alloc: Global, records: &FirmRecords, day: Day) -> Result<FirmDebts, Fault>
-    ensures debts { (b : Book) (e : ℕ) → AreRecords b e records.now
-        → IfOk result (AreDebts (debts_of b day e)) }
-    ensures fault { (b : Book) (e : ℕ) → IsLawful b → AreRecords b e records.now
-        → day_back (ledger_day b.entries) day ≡ None → IfErr result IsOfDisk }
+// What a firm has overdue on a day that is not before the ledger day.
+fn find_overdue<S: Alter>(
+    alloc: Global,
+    tx: &mut Transaction<'_, S>,
+    day: Day,
+    employer: EmployerNo,
+) -> Result<Overdue, Fault>
+    ensures same_reference { tx.new.conn.ghost_name ≡ tx.old.conn.ghost_name }
+    ensures overdue { HasCleanDisk (state S.Store tx.new.conn.now)
+        → (t : Tables) → HasTables t (state S.Store tx.old.conn.now).now
+        → day_back t.day day ≡ None → (b : Book) → IsLawful b → StandsWeighed b t
+        → IfOk result (λ overdue. overdue ≡ overdue_told b day employer) }
+    ensures fault { HasCleanDisk (state S.Store tx.new.conn.now)
+        → (t : Tables) → HasTables t (state S.Store tx.old.conn.now).now
+        → (b : Book) → IsLawful b → StandsWeighed b t
+        → IsSome (member_of b.entries employer) → IfErr result IsOfDisk }
+    ensures leaves { Leaves S.Store tx.old.conn.now tx.new.conn.now result }
 {
-    match overdue_on(alloc, records, day) {
-        Ok(overdue) => Ok(FirmDebts {
-            missing: overdue.first,
-            arrears: overdue.arrears,
-            interest_arrears: overdue.interest,
-            contribution_count: records.credits.len() as u64,
-            interest_count: records.interest_credits.len() as u64,
-        }),
+    let member = match find_employer(tx, employer) {
+        Ok(Some(member)) => member,
+        Ok(None) => return Err(Fault::Store(StoreCause::Row)),
+        Err(fault) => return Err(fault),
+    };
+    let rates = match rate_table(tx) {
+        Ok(rates) => rates,
+        Err(fault) => return Err(fault),
+    };
+    read_overdue(alloc, tx, &rates, &member, day)
+}
+
+// A number that serves for that of a firm's credits for contributions, where so many serials were
+// given: these, while they are fewer than the credits that a firm may have. Then nothing is read.
+fn count_contributions<S: Alter>(
+    tx: &mut Transaction<'_, S>,
+    serials: u64,
+    employer: EmployerNo,
+) -> Result<u64, Fault>
+    ensures same_reference { tx.new.conn.ghost_name ≡ tx.old.conn.ghost_name }
+    ensures count { HasCleanDisk (state S.Store tx.new.conn.now)
+        → (t : Tables) → HasTables t (state S.Store tx.old.conn.now).now
+        → IfOk result (λ count. count ≡ contributions_viewed serials t employer) }
+    ensures fault { HasCleanDisk (state S.Store tx.new.conn.now)
+        → (t : Tables) → HasTables t (state S.Store tx.old.conn.now).now
+        → AreInRange t → IfErr result IsOfDisk }
+    ensures same { HasCleanDisk (state S.Store tx.new.conn.now)
+        → (t : Tables) → HasTables t (state S.Store tx.old.conn.now).now
+        → IsTrue (state S.Store tx.old.conn.now).is_open
+        → OnOk result (IsUnchanged (state S.Store tx.old.conn.now)
+        (state S.Store tx.new.conn.now)) }
+    ensures kept { HasCleanDisk (state S.Store tx.new.conn.now)
+        → (t : Tables) → HasTables t (state S.Store tx.old.conn.now).now
+        → KeepsCommit (state S.Store tx.old.conn.now) (state S.Store tx.new.conn.now) }
+    ensures survives { Survives (state S.Store tx.old.conn.now) (state S.Store tx.new.conn.now)
+        (λ _. ⊥) }
+{
+    if serials < MAX_CREDITS {
+        return Ok(serials);
+    }
+    match credits_of(tx, employer, Purpose::Contribution) {
+        Ok(credits) => Ok(credits.len() as u64),
         Err(fault) => Err(fault),
     }
 }

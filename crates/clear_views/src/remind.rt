@@ -1,14 +1,15 @@
 //! What a reminder run is judged by.
-ghost use Rattle.std.specs.Prelude.{◌≡◌, IfErr, IfOk, IsSome, None, map};
+ghost use Rattle.std.specs.Prelude.{◌≡◌, IfErr, IfOk, None, map};
 ghost use Rattle.std.specs.Option.{option_map};
 ghost use Rattle.sqlite.specs.Held.{state};
 ghost use Rattle.sqlite.specs.State.{HasCleanDisk};
-ghost use Rattle.clear_book.specs.Book.{Book, member_of};
+ghost use Rattle.clear_book.specs.Allocated.{StandsWeighed};
+ghost use Rattle.clear_book.specs.Book.{Book, rates_of};
 ghost use Rattle.clear_book.specs.Judge.{day_back};
 ghost use Rattle.clear_book.specs.Machine.{IsLawful};
 ghost use Rattle.clear_book.specs.Reminders.{as_last, last_among};
 ghost use Rattle.clear_book.specs.RowRanges.{AreInRange, IsReminderRow};
-ghost use Rattle.clear_book.specs.Tables.{Stands, Tables};
+ghost use Rattle.clear_book.specs.Tables.{Tables};
 ghost use Rattle.clear_book.specs.Workers.{employers_of};
 ghost use Rattle.clear_firms.specs.Counts.{as_stored};
 ghost use Rattle.clear_rules.specs.Views.RemindRun.{IsRemindView, firm_on_day, last_viewed};
@@ -16,19 +17,21 @@ ghost use Rattle.clear_schema.specs.Frame.{Leaves};
 ghost use Rattle.clear_schema.specs.Faults.{IsOfDisk};
 ghost use Rattle.clear_schema.specs.Held.{HasTables};
 ghost use Rattle.clear_schema.specs.Values.{counts_of};
-ghost use Rattle.clear_views.specs.Overdue.{overdue_told};
+ghost use Rattle.clear_views.specs.Overdue.{IsFirm};
 
-use crate::overdue::{Overdue, overdue_on};
-use crate::statement::firm_records;
+use crate::lookups::is_day_back;
+use crate::overdue::read_overdue;
 use clear_book::numbers::RunNo;
-use clear_book::rows::ReminderRow;
+use clear_book::rows::{EmployerRow, ReminderRow};
 use clear_book::rules::StoreCause;
 use clear_firms::counts::Counts;
 use clear_firms::employers::all_employers;
+use clear_firms::rates::rate_table;
 use clear_ledger::reminders::last_reminder;
 use clear_ledger::runs::find_run;
 use clear_money::days::Day;
 use clear_money::numbers::EmployerNo;
+use clear_money::rates::RateTable;
 use clear_rules::decide::remind::{LastReminder, OverdueFirm, RemindView};
 use clear_schema::fault::Fault;
 use sqlite::{Alter, Transaction};
@@ -38,11 +41,11 @@ use std::alloc::Global;
 /// overdue on the day and with its last reminder, by the firms' numbers, and the number that the
 /// run is to have.
 ///
-/// It reads all firms once, and then of each firm what its statement takes without its text, its
-/// last reminder and the run of that, by a search each: so it takes about as long as the statements
-/// of all firms together. What no book holds is refused with `Fault::Store(StoreCause::Row)`: what
-/// `firm_records` refuses, and more runs than can be counted; so is a day before that of a credit
-/// of a firm for contributions.
+/// It reads the rates and all firms once, and then each contribution that is kept of a firm and
+/// each of its credits for interest once, its last reminder and the run of that, by a search each;
+/// of each firm it takes one step for each month that there is. What no book holds is refused with
+/// `Fault::Store(StoreCause::Row)`: a value out of its range, more contributions or credits than an
+/// account has, and more runs than can be counted; so is a day before the ledger day.
 pub fn remind_view<S: Alter>(
     alloc: Global,
     tx: &mut Transaction<'_, S>,
@@ -52,39 +55,48 @@ pub fn remind_view<S: Alter>(
     ensures same_reference { tx.new.conn.ghost_name ≡ tx.old.conn.ghost_name }
     ensures view { HasCleanDisk (state S.Store tx.new.conn.now)
         → (t : Tables) → HasTables t (state S.Store tx.old.conn.now).now
-        → as_stored counts.now ≡ counts_of t → (b : Book) → IsLawful b → Stands b t
+        → as_stored counts.now ≡ counts_of t → (b : Book) → IsLawful b → StandsWeighed b t
         → IfOk result (IsRemindView b day) }
     // On a day that isn't before the ledger day, as it is judged to be before.
     ensures fault { HasCleanDisk (state S.Store tx.new.conn.now)
         → (t : Tables) → HasTables t (state S.Store tx.old.conn.now).now
         → as_stored counts.now ≡ counts_of t → day_back t.day day ≡ None
-        → (b : Book) → IsLawful b → Stands b t → IfErr result IsOfDisk }
+        → (b : Book) → IsLawful b → StandsWeighed b t → IfErr result IsOfDisk }
     ensures leaves { Leaves S.Store tx.old.conn.now tx.new.conn.now result }
 {
+    if is_day_back(counts, day) {
+        return Err(Fault::Store(StoreCause::Row));
+    }
     let Some(next) = counts.runs.checked_add(1) else {
         return Err(Fault::Store(StoreCause::Row));
     };
-    match overdue_firms(alloc, tx, day) {
+    let rates = match rate_table(tx) {
+        Ok(rates) => rates,
+        Err(fault) => return Err(fault),
+    };
+    match overdue_firms(alloc, tx, &rates, day) {
         Ok(firms) => Ok(RemindView { firms, next }),
         Err(fault) => Err(fault),
     }
 }
 
-// All firms, with what each has overdue on a day and with its last reminder, by their numbers.
+// All firms, with what each has overdue on a day that is not before the ledger day, at these rates,
+// and with its last reminder, by their numbers.
 fn overdue_firms<S: Alter>(
     alloc: Global,
     tx: &mut Transaction<'_, S>,
+    rates: &RateTable,
     day: Day,
 ) -> Result<Vec<OverdueFirm>, Fault>
     ensures same_reference { tx.new.conn.ghost_name ≡ tx.old.conn.ghost_name }
     ensures firms { HasCleanDisk (state S.Store tx.new.conn.now)
         → (t : Tables) → HasTables t (state S.Store tx.old.conn.now).now
-        → (b : Book) → IsLawful b → Stands b t
+        → day_back t.day day ≡ None → (b : Book) → IsLawful b → StandsWeighed b t
+        → rates.now ≡ rates_of b
         → IfOk result (λ firms. firms.items ≡ map (firm_on_day b day) (employers_of b.entries)) }
     ensures fault { HasCleanDisk (state S.Store tx.new.conn.now)
         → (t : Tables) → HasTables t (state S.Store tx.old.conn.now).now
-        → day_back t.day day ≡ None → (b : Book) → IsLawful b → Stands b t
-        → IfErr result IsOfDisk }
+        → (b : Book) → IsLawful b → StandsWeighed b t → IfErr result IsOfDisk }
     ensures leaves { Leaves S.Store tx.old.conn.now tx.new.conn.now result }
 {
     let members = match all_employers(tx) {
@@ -93,7 +105,7 @@ fn overdue_firms<S: Alter>(
     };
     let mut firms = Vec::new(alloc);
     for member in &members {
-        let firm = match overdue_firm(alloc, tx, day, member.employer) {
+        let firm = match overdue_firm(alloc, tx, rates, member, day) {
             Ok(firm) => firm,
             Err(fault) => return Err(fault),
         };
@@ -105,65 +117,42 @@ fn overdue_firms<S: Alter>(
     Ok(firms)
 }
 
-// A firm, with what it has overdue on a day and with its last reminder.
+// A firm, with what it has overdue on a day that is not before the ledger day, at these rates, and
+// with its last reminder.
 fn overdue_firm<S: Alter>(
     alloc: Global,
     tx: &mut Transaction<'_, S>,
+    rates: &RateTable,
+    member: &EmployerRow,
     day: Day,
-    employer: EmployerNo,
 ) -> Result<OverdueFirm, Fault>
     ensures same_reference { tx.new.conn.ghost_name ≡ tx.old.conn.ghost_name }
     ensures firm { HasCleanDisk (state S.Store tx.new.conn.now)
         → (t : Tables) → HasTables t (state S.Store tx.old.conn.now).now
-        → (b : Book) → IsLawful b → Stands b t
-        → IfOk result (λ firm. firm ≡ firm_on_day b day employer) }
+        → day_back t.day day ≡ None → (b : Book) → IsLawful b → StandsWeighed b t
+        → rates.now ≡ rates_of b → IsFirm b member.now
+        → IfOk result (λ firm. firm ≡ firm_on_day b day member.now.employer) }
     ensures fault { HasCleanDisk (state S.Store tx.new.conn.now)
         → (t : Tables) → HasTables t (state S.Store tx.old.conn.now).now
-        → day_back t.day day ≡ None → (b : Book) → IsLawful b → Stands b t
-        → IsSome (member_of b.entries employer) → IfErr result IsOfDisk }
+        → (b : Book) → IsLawful b → StandsWeighed b t → IfErr result IsOfDisk }
     ensures leaves { Leaves S.Store tx.old.conn.now tx.new.conn.now result }
 {
-    let overdue = match read_overdue(alloc, tx, day, employer) {
+    let overdue = match read_overdue(alloc, tx, rates, member, day) {
         Ok(overdue) => overdue,
         Err(fault) => return Err(fault),
     };
-    let last = match read_last(tx, employer) {
+    let last = match read_last(tx, member.employer) {
         Ok(last) => last,
         Err(fault) => return Err(fault),
     };
     Ok(OverdueFirm {
-        employer,
+        employer: member.employer,
         missing: overdue.missing,
         first: overdue.first,
         arrears: overdue.arrears,
         interest: overdue.interest,
         last,
     })
-}
-
-// What a firm has overdue on a day.
-fn read_overdue<S: Alter>(
-    alloc: Global,
-    tx: &mut Transaction<'_, S>,
-    day: Day,
-    employer: EmployerNo,
-) -> Result<Overdue, Fault>
-    ensures same_reference { tx.new.conn.ghost_name ≡ tx.old.conn.ghost_name }
-    ensures overdue { HasCleanDisk (state S.Store tx.new.conn.now)
-        → (t : Tables) → HasTables t (state S.Store tx.old.conn.now).now
-        → (b : Book) → IsLawful b → Stands b t
-        → IfOk result (λ overdue. overdue ≡ overdue_told b day employer) }
-    ensures fault { HasCleanDisk (state S.Store tx.new.conn.now)
-        → (t : Tables) → HasTables t (state S.Store tx.old.conn.now).now
-        → day_back t.day day ≡ None → (b : Book) → IsLawful b → Stands b t
-        → IsSome (member_of b.entries employer) → IfErr result IsOfDisk }
-    ensures leaves { Leaves S.Store tx.old.conn.now tx.new.conn.now result }
-{
-    match firm_records(alloc, tx, employer) {
-        Ok(Some(records)) => overdue_on(alloc, &records, day),
-        Ok(None) => Err(Fault::Store(StoreCause::Row)),
-        Err(fault) => Err(fault),
-    }
 }
 
 // The last reminder of a firm, if it had one.

@@ -1,68 +1,152 @@
-//! The records of a firm's statement.
-ghost use Rattle.std.specs.Prelude.{◌≡◌, IfErr, IfOk};
+//! What a firm's statement tells, but for the pieces that pay its charges.
+ghost use Rattle.std.specs.Prelude.{◌≡◌, IfErr, IfOk, None};
 ghost use Rattle.sqlite.specs.Held.{state};
 ghost use Rattle.sqlite.specs.State.{HasCleanDisk};
+ghost use Rattle.clear_book.specs.Allocated.{StandsWeighed};
 ghost use Rattle.clear_book.specs.Book.{Book};
+ghost use Rattle.clear_book.specs.Judge.{day_back};
 ghost use Rattle.clear_book.specs.Machine.{IsLawful};
-ghost use Rattle.clear_book.specs.Tables.{Stands, Tables};
+ghost use Rattle.clear_book.specs.Tables.{Tables};
 ghost use Rattle.clear_schema.specs.Frame.{Leaves};
 ghost use Rattle.clear_schema.specs.Faults.{IsOfDisk};
 ghost use Rattle.clear_schema.specs.Held.{HasTables};
-ghost use Rattle.clear_views.specs.Statement.{AreFound};
+ghost use Rattle.clear_texts.specs.Records.{AreStatementRecords};
+ghost use Rattle.clear_views.specs.Statement.{AreFound, AreRead, IsFound, IsHeadOf};
 
-use crate::account::read_account;
+use crate::owing::find_account;
 use clear_bank::lines::Purpose;
+use clear_book::rows::EmployerRow;
 use clear_firms::employers::find_employer;
+use clear_firms::rates::rate_table;
+use clear_firms::reports::reports_of;
 use clear_ledger::credits::credits_of;
+use clear_money::days::Day;
 use clear_money::numbers::EmployerNo;
 use clear_schema::fault::Fault;
-use clear_texts::records::FirmRecords;
+use clear_texts::documents::statement_head;
+use clear_texts::records::{StatementHead, StatementRecords};
 use clear_texts::rows::RowFault;
 use sqlite::{Alter, Transaction};
 use std::alloc::Global;
 
-/// The records of a firm's statement: its row, the rates, its latest reports, its account, and its
-/// credits for contributions and for interest. None where the firm isn't registered.
+/// What the statement of a firm tells on a day, but for the pieces that pay its charges. None where
+/// the firm isn't registered.
 ///
-/// What no book holds is refused as by `owed`, with `Fault::Store(StoreCause::Row)`. It takes one
-/// search for the firm and one for each of its reported months, and reads the rates and each of the
-/// firm's rows once.
-pub fn firm_records<S: Alter>(
+/// It takes one search for the firm, reads the rates, and reads each latest report, each kept
+/// contribution and each credit for interest of the firm once; where nothing is open, its credits for
+/// contributions, too. What no book holds is refused with `Fault::Store(StoreCause::Row)`.
+pub fn firm_head<S: Alter>(
     alloc: Global,
     tx: &mut Transaction<'_, S>,
+    day: Day,
     employer: EmployerNo,
-) -> Result<Option<FirmRecords>, Fault>
+) -> Result<Option<StatementHead>, Fault>
+    ensures same_reference { tx.new.conn.ghost_name ≡ tx.old.conn.ghost_name }
+    ensures head { HasCleanDisk (state S.Store tx.new.conn.now)
+        → (t : Tables) → HasTables t (state S.Store tx.old.conn.now).now
+        → day_back t.day day ≡ None → (b : Book) → IsLawful b → StandsWeighed b t
+        → IfOk result (IsFound b employer day) }
+    // On a day that isn't before the ledger day, as it is judged to be before.
+    ensures fault { HasCleanDisk (state S.Store tx.new.conn.now)
+        → (t : Tables) → HasTables t (state S.Store tx.old.conn.now).now
+        → day_back t.day day ≡ None → (b : Book) → IsLawful b → StandsWeighed b t
+        → IfErr result IsOfDisk }
+    ensures leaves { Leaves S.Store tx.old.conn.now tx.new.conn.now result }
+{
+    match find_records(alloc, tx, day, employer) {
+        Ok(Some(records)) => make_head(alloc, &records, day),
+        Ok(None) => Ok(None),
+        Err(fault) => Err(fault),
+    }
+}
+
+// What the statement tells that these records make.
+fn make_head(
+    alloc: Global,
+    records: &StatementRecords,
+    day: Day,
+) -> Result<Option<StatementHead>, Fault>
+    ensures head { (b : Book) (e : _) → AreStatementRecords b e day records.now
+        → IfOk result (IsHeadOf b e day) }
+    ensures fault { (b : Book) (e : _) → AreStatementRecords b e day records.now
+        → IfErr result IsOfDisk }
+{
+    match statement_head(alloc, records, day) {
+        Ok(head) => Ok(Some(head)),
+        Err(fault) => Err(fault_of(fault)),
+    }
+}
+
+// The records of a firm's statement on a day. None where the firm isn't registered.
+fn find_records<S: Alter>(
+    alloc: Global,
+    tx: &mut Transaction<'_, S>,
+    day: Day,
+    employer: EmployerNo,
+) -> Result<Option<StatementRecords>, Fault>
     ensures same_reference { tx.new.conn.ghost_name ≡ tx.old.conn.ghost_name }
     ensures records { HasCleanDisk (state S.Store tx.new.conn.now)
         → (t : Tables) → HasTables t (state S.Store tx.old.conn.now).now
-        → (b : Book) → IsLawful b → Stands b t
-        → IfOk result (λ found. AreFound b employer found) }
+        → day_back t.day day ≡ None → (b : Book) → IsLawful b → StandsWeighed b t
+        → IfOk result (AreFound b employer day) }
     ensures fault { HasCleanDisk (state S.Store tx.new.conn.now)
         → (t : Tables) → HasTables t (state S.Store tx.old.conn.now).now
-        → (b : Book) → IsLawful b → Stands b t → IfErr result IsOfDisk }
+        → (b : Book) → IsLawful b → StandsWeighed b t → IfErr result IsOfDisk }
     ensures leaves { Leaves S.Store tx.old.conn.now tx.new.conn.now result }
 {
+    // The day of the records is a proof's: what is read doesn't depend on it.
+    let _day = day;
     let member = match find_employer(tx, employer) {
         Ok(Some(member)) => member,
         Ok(None) => return Ok(None),
         Err(fault) => return Err(fault),
     };
-    let firm = match read_account(alloc, tx, employer) {
-        Ok(firm) => firm,
+    match read_records(alloc, tx, member) {
+        Ok(records) => Ok(Some(records)),
+        Err(fault) => Err(fault),
+    }
+}
+
+// The records of the statement of this firm.
+fn read_records<S: Alter>(
+    alloc: Global,
+    tx: &mut Transaction<'_, S>,
+    member: EmployerRow,
+) -> Result<StatementRecords, Fault>
+    ensures same_reference { tx.new.conn.ghost_name ≡ tx.old.conn.ghost_name }
+    ensures read { HasCleanDisk (state S.Store tx.new.conn.now)
+        → (t : Tables) → HasTables t (state S.Store tx.old.conn.now).now
+        → (b : Book) → IsLawful b → StandsWeighed b t → IfOk result (AreRead b t member) }
+    ensures fault { HasCleanDisk (state S.Store tx.new.conn.now)
+        → (t : Tables) → HasTables t (state S.Store tx.old.conn.now).now
+        → (b : Book) → IsLawful b → StandsWeighed b t → IfErr result IsOfDisk }
+    ensures leaves { Leaves S.Store tx.old.conn.now tx.new.conn.now result }
+{
+    let rates = match rate_table(tx) {
+        Ok(rates) => rates,
         Err(fault) => return Err(fault),
     };
-    let interest_credits = match credits_of(tx, employer, Purpose::Interest) {
-        Ok(rows) => rows,
+    let reports = match reports_of(tx, member.employer) {
+        Ok(reports) => reports,
         Err(fault) => return Err(fault),
     };
-    Ok(Some(FirmRecords {
+    let account = match find_account(alloc, tx, member.employer) {
+        Ok(account) => account,
+        Err(fault) => return Err(fault),
+    };
+    let interest_credits = match credits_of(tx, member.employer, Purpose::Interest) {
+        Ok(credits) => credits,
+        Err(fault) => return Err(fault),
+    };
+    let prepaid = account.credited.saturating_sub(account.charges.charged());
+    Ok(StatementRecords {
         member,
-        rates: firm.rates,
-        reports: firm.reports,
-        account: firm.account,
-        credits: firm.credits,
+        rates,
+        reports,
+        charges: account.charges,
         interest_credits,
-    }))
+        prepaid,
+    })
 }
 
 /// The fault that kept a document, or a part of it, from being made.

@@ -34,13 +34,13 @@ enum Try {
     Open,
 }
 
-// The connection on a store that is made or opened, and on a database that is refused as one of
-// schema 0, as is wanted.
+// The connection on a store that is made or opened, or on a database that is refused as one of this
+// schema, as is wanted.
 fn tried<S: Alter + Drop>(
     alloc: Global,
     conn: Connection<S>,
     how: Try,
-    is_refused: bool,
+    refused: Option<u64>,
 ) -> Option<Connection<S>> {
     if !conn.is_autocommit() {
         return None;
@@ -50,15 +50,18 @@ fn tried<S: Alter + Drop>(
         Try::Open => Store::open(conn),
     };
     match tried {
-        Ok(store) => {
-            if is_refused {
-                None
-            } else {
-                Some(store.into_connection())
-            }
-        }
+        Ok(store) => match refused {
+            None => Some(store.into_connection()),
+            Some(_) => None,
+        },
         Err(Refusal { fault, connection }) => match fault {
-            OpenFault::WrongVersion(0) => { if is_refused { Some(connection) } else { None } }
+            OpenFault::WrongVersion(found) => {
+                if refused == Some(found) {
+                    Some(connection)
+                } else {
+                    None
+                }
+            }
             _ => None,
         },
     }
@@ -66,10 +69,10 @@ fn tried<S: Alter + Drop>(
 
 // A store that is made in an empty database, which is no store, and not made again.
 fn made_once<S: Alter + Drop>(alloc: Global, conn: Connection<S>) -> Option<Connection<S>> {
-    let conn = tried(alloc, conn, Try::Open, true)?;
-    let conn = tried(alloc, conn, Try::Make, false)?;
-    let conn = tried(alloc, conn, Try::Make, true)?;
-    tried(alloc, conn, Try::Open, false)
+    let conn = tried(alloc, conn, Try::Open, Some(0))?;
+    let conn = tried(alloc, conn, Try::Make, None)?;
+    let conn = tried(alloc, conn, Try::Make, Some(1))?;
+    tried(alloc, conn, Try::Open, None)
 }
 
 // The contribution rate in the store.

@@ -8,10 +8,12 @@ use Rattle.clear_book.specs.declared.rows.Change.TheVariants.{ReleaseClaim}
 use Rattle.clear_book.specs.declared.rules.Rule.{Rule}
 use Rattle.clear_book.specs.declared.rules.Rule.TheVariants.{UnknownClaim}
 use Rattle.clear_book.specs.Book.{Book}
+use Rattle.clear_book.specs.Limits.{most_credits}
 use Rattle.clear_book.specs.Lines.{serial_count}
 use Rattle.clear_book.specs.Own.Release.{Debts, debts_of, own_release, settlement_of}
 use Rattle.clear_book.specs.Reminders.{first_of_months}
 use Rattle.clear_book.specs.Workers.{claim_of, released}
+use Rattle.clear_rules.specs.Views.Serves.{Serves}
 use Rattle.clear_rules.specs.declared.decide.release.FirmDebts.{FirmDebts}
 use Rattle.clear_rules.specs.declared.decide.release.OwingClaim.{OwingClaim}
 use Rattle.clear_rules.specs.declared.decide.release.ReleaseView.{ReleaseView}
@@ -19,12 +21,13 @@ use Rattle.clear_values.specs.declared.lines.Purpose.{Purpose}
 use Rattle.clear_values.specs.declared.lines.Purpose.TheVariants.{Contribution, Interest}
 use Rattle.clear_values.specs.declared.replies.Settlement.{Settlement}
 
--- the numbers are what a firm owes
+-- the numbers are what a firm owes; for its credits for contributions, a number that serves where one
+-- more comes
 pub record AreDebts (d : Debts) (f : FirmDebts) : Type 0 where
   pub missing_is : f.missing ≡ first_of_months d.months
   pub arrears_is : f.arrears ≡ d.owed
   pub interest_is : f.interest_arrears ≡ d.interest
-  pub contributions_are : f.contribution_count ≡ d.count Contribution
+  pub contributions_serve : Serves f.contribution_count (d.count Contribution) 1 most_credits
   pub interest_count_is : f.interest_count ≡ d.count Interest
 
 -- the view is what the book says of a claim on a day, and of what its firm owes then

@@ -22,8 +22,8 @@ use std::alloc::{AllocError, Global};
 use std::collections::BTreeSet;
 
 /// The contribution for lines within the limits of an employer's month, at the rate row in force
-/// for it, as it is kept. Without a rate row, which no reported month of a lawful book lacks, it is
-/// 0 cents, due on 2000-01-01.
+/// for it, as it is kept while nothing is paid of it. Without a rate row, which no reported month of
+/// a lawful book lacks, it is 0 cents, due on 2000-01-01.
 pub fn kept_charge(
     row: Option<RateRow>,
     employer: EmployerNo,
@@ -35,11 +35,14 @@ pub fn kept_charge(
     ensures value { result ≡ kept_charge row employer month lines.now }
     ensures bound { result.cents ≤ most_base }
 {
+    let cents = charge(row, lines);
     KeptCharge {
         employer,
         month,
         due: due_by(&row, month),
-        cents: charge(row, lines),
+        cents,
+        left: cents,
+        weight: 0,
     }
 }
 

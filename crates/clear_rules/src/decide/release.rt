@@ -27,7 +27,8 @@ pub struct FirmDebts {
     pub arrears: u64,
     /// What is in arrears of interest, in cents.
     pub interest_arrears: u64,
-    /// The number of its credits for contributions, not their cents.
+    /// The number of its credits for contributions, not their cents; or a number that is no less,
+    /// and below 100,000.
     pub contribution_count: u64,
     /// The number of its credits for interest.
     pub interest_count: u64,

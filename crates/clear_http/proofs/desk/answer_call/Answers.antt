@@ -25,3 +25,8 @@ pub returns-in-Err-ask-clause-undone : goal.returns-in-Err-ask-clause-undone
 returns-in-Err-ask-clause-undone g c none =
     let told = returns-in-Err-ask-clause-said g c in
     goes_on_undone g.S.Store _ _ c.args.call.now told.0 (ap was_done (sym told.1) ∙ none) told.2
+
+pub returns-in-Ok-ask-clause-undone : goal.returns-in-Ok-ask-clause-undone
+returns-in-Ok-ask-clause-undone g c none =
+    let told = returns-in-Ok-ask-clause-said g c in
+    goes_on_undone g.S.Store _ _ c.args.call.now told.0 (ap was_done (sym told.1) ∙ none) told.2

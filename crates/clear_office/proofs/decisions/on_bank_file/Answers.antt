@@ -22,5 +22,5 @@ returns-in-Ok-import_view-clause-decided g c clean t has counts =
     (λ b lawful stands. decided.change b file handed_on (c.in-Ok-import_view.ensures.view clean t has counts b lawful stands file (c.as_slice.ensures.value ∙ lines_read file lines reads))))
 
 pub returns-clause-decided : goal.returns-clause-decided
-returns-clause-decided g c clean t has counts b lawful stands =
-    c.in-Err-import_view.ensures.fault clean t has counts (rows_in_range b t lawful stands)
+returns-clause-decided g c clean t has counts b lawful weighed =
+    c.in-Err-import_view.ensures.fault clean t has counts (rows_in_range b t lawful weighed.stands)

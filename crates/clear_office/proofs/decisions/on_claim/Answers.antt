@@ -16,5 +16,6 @@ returns-in-Ok-clause-decided g c clean t has counts =
     (λ b lawful stands. decided.change b (c.in-Ok.ensures.view clean t has counts b lawful stands)))
 
 pub returns-in-Err-clause-decided : goal.returns-in-Err-clause-decided
-returns-in-Err-clause-decided g c clean t has counts b lawful stands =
+returns-in-Err-clause-decided g c clean t has counts b lawful weighed =
+    let stands = weighed.stands in
     c.in-Err.ensures.fault clean t has counts b lawful stands

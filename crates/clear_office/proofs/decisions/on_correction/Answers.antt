@@ -18,10 +18,11 @@ returns-in-Ok-clause-decided g c clean t has =
     let viewed = λ (b : Book) (stands : Stands b t). report_viewed b t stands correction.report c.in-Ok.view (view.member clean t has) (view.version clean t has) (view.row clean t has) in
     subst (Decides c.args.day (Correct correction) t) (sym c.or_stop.ensures)
     (decides c.args.day (Correct correction) t c.decide_correct.result
-    (correction_there t c.args.day correction (option_map member_in c.in-Ok.view.member) c.in-Ok.view.version (view.version clean t has) (charge_for correction.report c.in-Ok.view) refl c.decide_correct.result decided.bound decided.rule decided.made)
+    (correction_there t c.args.day correction (option_map member_in c.in-Ok.view.member) c.in-Ok.view.version (view.version clean t has) (charge_for correction.report c.in-Ok.view) refl refl refl c.decide_correct.result decided.bound decided.rule decided.made)
     (λ b lawful stands. decided.judged b (viewed b stands))
     (λ b lawful stands. decided.change b (viewed b stands)))
 
 pub returns-in-Err-clause-decided : goal.returns-in-Err-clause-decided
-returns-in-Err-clause-decided g c clean t has b lawful stands =
+returns-in-Err-clause-decided g c clean t has b lawful weighed =
+    let stands = weighed.stands in
     c.in-Err.ensures.fault clean t has (rows_in_range b t lawful stands)

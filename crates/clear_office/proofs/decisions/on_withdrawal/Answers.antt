@@ -15,5 +15,6 @@ returns-in-Ok-clause-decided g c clean t has =
     (λ b lawful stands. decided.change b c.args.day (c.in-Ok.ensures.view clean t has b lawful stands)))
 
 pub returns-in-Err-clause-decided : goal.returns-in-Err-clause-decided
-returns-in-Err-clause-decided g c clean t has b lawful stands =
+returns-in-Err-clause-decided g c clean t has b lawful weighed =
+    let stands = weighed.stands in
     c.in-Err.ensures.fault clean t has b lawful stands

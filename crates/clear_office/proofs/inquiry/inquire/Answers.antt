@@ -6,6 +6,8 @@ use Rattle.clear_book.specs.declared.calls.Caller.{Caller}
 use Rattle.clear_book.specs.declared.outcomes.Answer.{Answer}
 use Rattle.clear_book.specs.Calls.{may_query}
 use Rattle.clear_book.specs.Tables.{Tables}
+use Rattle.std.proofs.lemmas.Result.{IfErr-weaker}
+use Rattle.clear_laws.proofs.WeighedLemmas.{stands_weighed}
 use Rattle.clear_schema.specs.Held.{HasTables, StandsFor}
 use Rattle.clear_office.specs.Bodies.{IsTold, Tells, answer_of}
 use Rattle.clear_office.specs.declared.inquiry.Finding.{Finding}
@@ -16,7 +18,7 @@ use Rattle.clear_office.proofs.inquiry.inquire.Goals as goal
 pub returns-in-Ok-Answer-clause-crash : goal.returns-in-Ok-Answer-clause-crash
 returns-in-Ok-Answer-clause-crash g c clean t has trees may =
     leaves_tables g.S.Store c.args.conn.now c.within.new.conn t
-    (λ (u : Tables) (found : Finding). (u ≡ t) × IsTold found × ((caller : Caller) → may_query caller c.args.query.now ≡ true → Tells (Ask caller c.args.day c.args.query.now) t (answer_of t found)))
+    (λ (u : Tables) (found : Finding). (u ≡ t) × IsTold found t × ((caller : Caller) → may_query caller c.args.query.now ≡ true → Tells (Ask caller c.args.day c.args.query.now) t (answer_of t found)))
     (λ u found does. does.0) (c.within.ensures.crash t has) clean trees may
 
 pub returns-in-Ok-Document-clause-told : goal.returns-in-Ok-Document-clause-told
@@ -43,7 +45,19 @@ returns-in-Ok-Document-clause-crash g c clean t has trees may =
     let now : HasTables t (state g.S.Store mid).now = subst (λ (u : Tables). HasTables u (state g.S.Store mid).now) done.1.0 done.2 in
     elim ((c.tell_document.ensures.survives t now).crash clean trees may) [
       | inl then ↦ leaves_tables g.S.Store c.args.conn.now mid t
-          (λ (u : Tables) (found : Finding). (u ≡ t) × IsTold found × ((caller : Caller) → may_query caller c.args.query.now ≡ true → Tells (Ask caller c.args.day c.args.query.now) t (answer_of t found)))
+          (λ (u : Tables) (found : Finding). (u ≡ t) × IsTold found t × ((caller : Caller) → may_query caller c.args.query.now ≡ true → Tells (Ask caller c.args.day c.args.query.now) t (answer_of t found)))
           (λ u found does. does.0) (c.within.ensures.crash t has) before trees then
       | inr none ↦ absurd none
     ]
+
+pub returns-in-Ok-Document-clause-failed : goal.returns-in-Ok-Document-clause-failed
+returns-in-Ok-Document-clause-failed g c clean t has =
+    let mid = c.within.new.conn in
+    let done = c.in-Ok-Document.ensures.done (c.tell_document.ensures.clean clean) t has in
+    let now : HasTables t (state g.S.Store mid).now = subst (λ (u : Tables). HasTables u (state g.S.Store mid).now) done.1.0 done.2 in
+    let told : IsTold (finding.Document c.in-Ok-Document.document) t = subst (λ (found : Finding). IsTold found t) c.in-Ok-Document.field-0-is done.1.1 in
+    IfErr-weaker c.tell_document.result _ _ (λ stop fails fault is. inl (fails fault is)) (c.tell_document.ensures.failed clean t now told)
+
+pub returns-in-Err-clause-failed : goal.returns-in-Err-clause-failed
+returns-in-Err-clause-failed g c clean t has fault is =
+    elim (c.in-Err.ensures.failed clean t has fault is) [ inl fails ↦ inl (λ b lawful represents. fails b lawful (stands_weighed (λ row. row) b t represents)) | inr disk ↦ inr disk ]

@@ -3,6 +3,7 @@ use Rattle.clear_book.specs.declared.calls.Query.{Query}
 use Rattle.clear_office.specs.Bodies.{Replies}
 use Rattle.clear_office.specs.declared.inquiry.Finding.TheVariants as finding
 use Rattle.clear_office.specs.declared.inquiry.RowDocument.TheVariants as rows
+use Rattle.clear_office.proofs.LawLemmas.{suspense_few}
 use Rattle.clear_office.proofs.ListLemmas.{suspense_told}
 use Rattle.clear_office.proofs.inquiry.tell.Goals as goal
 
@@ -17,4 +18,4 @@ returns-in-Reminder-clause-told g c clean t has back =
 pub returns-in-Suspense-clause-told : goal.returns-in-Suspense-clause-told
 returns-in-Suspense-clause-told g c clean t has back =
     subst (λ (query : Query). Replies c.args.day query t (Ok (finding.Document (rows.Suspense c.args.day)))) (sym c.in-Suspense.is)
-    (tt, λ b lawful stands. (refl, suspense_told b t stands c.args.day))
+    (λ b lawful represents. suspense_few b t lawful represents.stands, λ b lawful represents. (refl, suspense_told b t represents.stands c.args.day))

@@ -1,8 +1,6 @@
 use Rattle.std.proofs.Common.{◌∙◌, sym, subst, rules}
 use Rattle.clear_laws.proofs.RowRangeLemmas.{rows_in_range}
 use Rattle.clear_schema.specs.Faults.{IsOfDisk}
-use Rattle.clear_office.proofs.LawLemmas.{suspense_few}
-use Rattle.clear_office.proofs.ListLemmas.{tellable}
 use Rattle.clear_office.proofs.inquiry.tell_document.Goals as goal
 
 pub returns-in-Ok-clause-still : goal.returns-in-Ok-clause-still
@@ -22,5 +20,5 @@ returns-in-Err-clause-still g c clean t has on =
     record { was_open = before; now_is = last ∙ kept.committed on ∙ sym first; committed_is = kept.committed on; settled = last }
 
 pub returns-in-Err-clause-failed : goal.returns-in-Err-clause-failed
-returns-in-Err-clause-failed g c clean t has number fault is b lawful stands =
-    subst IsOfDisk (cc is) (c.in-Err.ensures.tells.cause clean t has (rows_in_range b t lawful stands) (tellable t c.args.document number (suspense_few b t lawful stands)))
+returns-in-Err-clause-failed g c clean t has told fault is b lawful represents =
+    subst IsOfDisk (cc is) (c.in-Err.ensures.tells.cause clean t has (rows_in_range b t lawful represents.stands) (told b lawful represents))

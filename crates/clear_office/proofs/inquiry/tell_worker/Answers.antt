@@ -3,6 +3,6 @@ use Rattle.clear_schema.specs.declared.fault.Fault.TheVariants.{Memory}
 use Rattle.clear_office.proofs.inquiry.tell_worker.Goals as goal
 
 pub returns-clause-told : goal.returns-clause-told
-returns-clause-told g c clean t has b lawful stands =
-    let told : c.fault_of.result ≡ Memory = c.fault_of.ensures.memory (c.in-Err-worker_document.ensures.fault b lawful (c.in-Ok.ensures.records clean t has b lawful stands)) in
+returns-clause-told g c clean t has b lawful weighed =
+    let told : c.fault_of.result ≡ Memory = c.fault_of.ensures.memory (c.in-Err-worker_document.ensures.fault b lawful (c.in-Ok.ensures.records clean t has b lawful weighed.stands)) in
     (λ is. absurd (cc (sym told ∙ is)), λ is. absurd (cc (sym told ∙ is)))

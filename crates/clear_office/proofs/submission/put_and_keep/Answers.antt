@@ -16,8 +16,8 @@ returns-in-Ok-clause-put g c clean t has counts there =
     let decision = c.args.decision.now in
     let v = dated origin.day (changed decision.change t) in
     let put = c.in-Ok.ensures.put before t has counts there in
-    kept_following origin.day decision.change t v (with_row request_key v.requests (request_row (entry_of origin c.args.command.now decision.reply))) put.0 put.2 _ c.keep.result
-    (c.keep.ensures.put clean (record v { pieces = put.0 }) put.1)
+    kept_following origin.day decision.change t v (with_row request_key v.requests (request_row (entry_of origin c.args.command.now decision.reply))) put.0 put.1 put.3 _ c.keep.result
+    (c.keep.ensures.put clean (record v { pieces = put.0; charges = put.1 }) put.2)
 
 pub returns-in-Ok-clause-fault : goal.returns-in-Ok-clause-fault
 returns-in-Ok-clause-fault g c clean t has counts there may unused reply =
@@ -28,7 +28,7 @@ returns-in-Ok-clause-fault g c clean t has counts there may unused reply =
     let v = dated origin.day (changed change t) in
     let put = c.in-Ok.ensures.put before t has counts there in
     no_blame c.keep.result _ _ (unused_with origin.caller origin.number origin.day t change unused) reply
-    (c.keep.ensures.cause clean (record v { pieces = put.0 }) put.1) c.keep.ensures.range
+    (c.keep.ensures.cause clean (record v { pieces = put.0; charges = put.1 }) put.2) c.keep.ensures.range
 
 pub returns-in-Ok-clause-stays : goal.returns-in-Ok-clause-stays
 returns-in-Ok-clause-stays g c =

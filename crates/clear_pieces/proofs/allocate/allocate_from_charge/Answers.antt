@@ -10,7 +10,7 @@ returns-in-Ok-clause-puts g c clean t has =
     let before = was_clean (state g.S.Store mid) (state g.S.Store c.put_from_charge.new.tx.conn.now) c.put_from_charge.ensures.stays.survives clean in
     let read = c.in-Ok.ensures in
     on_ok_weaker c.put_from_charge.result
-    (λ put. (put.0, put.1, λ account. put.2 (firm_read t c.args.employer c.in-Ok.firm account (read.charges before t has) (read.credits before t has) (read.rows before t has))))
+    (λ put. (put.0, put.1, put.2, λ account. put.3 (firm_read t c.args.employer c.in-Ok.firm account (read.charges before t has) (read.credits before t has) (read.rows before t has))))
     (c.put_from_charge.ensures.puts clean t (left_has g.S.Store c.args.tx.now.conn.now mid mid c.in-Ok.firm read.leaves before t has))
 
 pub returns-in-Ok-clause-fault : goal.returns-in-Ok-clause-fault

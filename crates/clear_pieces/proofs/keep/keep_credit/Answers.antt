@@ -2,10 +2,10 @@ use Rattle.std.proofs.Common.{[], ◌∷◌, Some, None, refl, subst}
 use Rattle.std.proofs.lemmas.Result.{on_ok_weaker}
 use Rattle.clear_rows.proofs.Inside.{keeps_none, survives_none}
 use Rattle.sqlite.specs.Held.{state}
-use Rattle.clear_laws.proofs.FollowsLemmas.{follows_last}
 use Rattle.clear_pieces.specs.Keeping.{AreFirst, credit_for}
 use Rattle.clear_pieces.proofs.CreditLemmas.{first_serial, is_first, firms_first, next_free, next_put, none_new}
 use Rattle.clear_pieces.proofs.ReportLemmas.{keeps_account}
+use Rattle.clear_pieces.proofs.StepLemmas.{all_put}
 use Rattle.clear_pieces.proofs.FirstLemmas.{found_itself, none_else}
 use Rattle.clear_pieces.proofs.keep.keep_credit.Goals as goal
 
@@ -19,11 +19,11 @@ returns-in-Some-clause-keeps g c news first =
     record {
       keeps = λ clean v has.
           on_ok_weaker c.allocate_from_credit.result
-          (λ put. (put.0, put.1, λ t is. follows_last t (record v { pieces = put.0 }) (next_put news t v is (credit_for (Some new)) are e k found [] refl v.pieces (firms_first news t v is (credit_for (Some new)) are (e ∷ []) (none_else new)) put.0 (put.2 (is.after.account e)))))
+          (λ put. (put.0, put.1, put.2, λ t is. all_put t v put.0 put.1 (next_put news t v is (credit_for (Some new)) are e k found [] refl v.pieces v.charges (firms_first news t v is (credit_for (Some new)) are (e ∷ []) (none_else new)) put.0 put.1 (put.3 (is.after.account e)))))
           (c.allocate_from_credit.ensures.puts clean v has);
       fault = λ clean v has right.
           c.allocate_from_credit.ensures.fault clean v has (keeps_account v e right.put.after right.ranges)
-          (next_free news right.t v right.put (credit_for (Some new)) are e k found [] refl v.pieces (firms_first news right.t v right.put (credit_for (Some new)) are (e ∷ []) (none_else new)) right.g right.keys right.allocated)
+          (next_free news right.t v right.put (credit_for (Some new)) are e k found [] refl v.pieces v.charges (firms_first news right.t v right.put (credit_for (Some new)) are (e ∷ []) (none_else new)) right.g right.keys right.allocated)
           (first_serial news right.t v right.put right.ranges e k (is_first news right.t v right.put (credit_for (Some new)) are e k found));
       stays = c.allocate_from_credit.ensures.stays;
     }
@@ -33,7 +33,7 @@ returns-in-None-clause-keeps g c news first =
     let are : AreFirst (λ e. None) news = subst (λ o. AreFirst (credit_for o) news) c.in-None.is first in
     let now = state g.S.Store c.args.tx.now.conn.now in
     record {
-      keeps = λ clean v has. (v.pieces, has, λ t is. none_new news t v is are);
+      keeps = λ clean v has. (v.pieces, v.charges, has, λ t is. none_new news t v is are);
       fault = λ clean v has right. tt;
       stays = record {
         goes_on = λ clean v has inside. inside;

@@ -7,7 +7,7 @@ use Rattle.std.specs.Ordering.{nat_cmp}
 use Rattle.std.proofs.lemmas.List.Elements.{All-head, All-tail}
 use Rattle.std.proofs.lemmas.Map.Keys.{sorted_tail}
 use Rattle.clear_account.specs.declared.entries.Credit.{Credit}
-use Rattle.clear_laws.proofs.FollowsLemmas.{is_among}
+use Rattle.clear_laws.proofs.WeighedFollowsLemmas.{is_among}
 use Rattle.clear_pieces.specs.Keeping.{AreCreditsPut, Keeps}
 use Rattle.clear_pieces.proofs.MapLemmas.{not_found, stands_once}
 use Rattle.clear_pieces.proofs.ProgressLemmas.{Progress, all_done, none_done, one_done, one_failed}

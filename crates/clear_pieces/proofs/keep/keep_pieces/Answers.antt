@@ -9,7 +9,7 @@ returns-in-AddReport-clause-keeps g c =
     rw at.is
     (λ clean v has.
     on_ok_weaker c.allocate_from_charge.result
-    (λ kept. (kept.0, kept.1, λ t put told. report_follows at.field-0 at.field-1 at.charge t v put kept.0 (kept.2 (put.after.account at.charge.employer))))
+    (λ kept. (kept.0, kept.1, kept.2, λ t put told. report_follows at.field-0 at.field-1 at.charge t v put kept.0 kept.1 (kept.3 (put.after.account at.charge.employer))))
     (c.allocate_from_charge.ensures.puts clean v has))
 
 pub returns-in-AddReport-clause-fault : goal.returns-in-AddReport-clause-fault
@@ -22,7 +22,7 @@ returns-in-AddReport-clause-fault g c =
 pub returns-then-stood-clause-keeps : goal.returns-then-stood-clause-keeps
 returns-then-stood-clause-keeps g c =
     let at = c.in-ReplaceReport in
-    rw (at.is, c.if-stood.true) (λ clean v has. (v.pieces, has, λ t put stood. correction_stays at.field-0 at.field-1 at.charge t v put stood))
+    rw (at.is, c.if-stood.true) (λ clean v has. (v.pieces, v.charges, has, λ t put stood. correction_stays at.field-0 at.field-1 at.charge t v put stood))
 
 pub returns-else-stood-clause-keeps : goal.returns-else-stood-clause-keeps
 returns-else-stood-clause-keeps g c =
@@ -31,7 +31,7 @@ returns-else-stood-clause-keeps g c =
     rw (at.is, c.if-stood.false)
     (λ clean v has.
     on_ok_weaker call.result
-    (λ kept. (kept.0, kept.1, λ t put differs. correction_follows at.field-0 at.field-1 at.charge t v put differs kept.0 (kept.2 (put.after.account at.charge.employer))))
+    (λ kept. (kept.0, kept.1, kept.2, λ t put differs. correction_follows at.field-0 at.field-1 at.charge t v put differs kept.0 kept.1 (kept.3 (put.after.account at.charge.employer))))
     (call.ensures.puts clean v has))
 
 pub returns-else-stood-clause-fault : goal.returns-else-stood-clause-fault
@@ -46,14 +46,14 @@ pub returns-in-AssignLine-clause-keeps : goal.returns-in-AssignLine-clause-keeps
 returns-in-AssignLine-clause-keeps g c =
     rw c.in-AssignLine.is
     (λ clean v has.
-    on_ok_weaker c.keep_line.result (λ kept. (kept.0, kept.1, λ t put told. kept.2 t (line_put c.in-AssignLine.row t v put)))
+    on_ok_weaker c.keep_line.result (λ kept. (kept.0, kept.1, kept.2, λ t put told. kept.3 t (line_put c.in-AssignLine.row t v put)))
     (c.keep_line.ensures.keeps.keeps clean v has))
 
 pub returns-in-ReleaseClaim-clause-keeps : goal.returns-in-ReleaseClaim-clause-keeps
 returns-in-ReleaseClaim-clause-keeps g c =
     rw c.in-ReleaseClaim.is
     (λ clean v has.
-    on_ok_weaker c.keep_release.result (λ kept. (kept.0, kept.1, λ t put told. kept.2 t (release_put c.in-ReleaseClaim.claim c.in-ReleaseClaim.serial t v put)))
+    on_ok_weaker c.keep_release.result (λ kept. (kept.0, kept.1, kept.2, λ t put told. kept.3 t (release_put c.in-ReleaseClaim.claim c.in-ReleaseClaim.serial t v put)))
     (c.keep_release.ensures.keeps.keeps clean v has))
 
 pub returns-in-AddBankLines-clause-keeps : goal.returns-in-AddBankLines-clause-keeps
@@ -61,5 +61,5 @@ returns-in-AddBankLines-clause-keeps g c =
     let call = rw c.as_slice.ensures at c.keep_lines.ensures.keeps in
     rw c.in-AddBankLines.is
     (λ clean v has.
-    on_ok_weaker c.keep_lines.result (λ kept. (kept.0, kept.1, λ t put told. kept.2 t (lines_put c.in-AddBankLines.rows t v put)))
+    on_ok_weaker c.keep_lines.result (λ kept. (kept.0, kept.1, kept.2, λ t put told. kept.3 t (lines_put c.in-AddBankLines.rows t v put)))
     (call.keeps clean v has))

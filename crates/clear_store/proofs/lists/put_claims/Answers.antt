@@ -1,10 +1,11 @@
 use Rattle.std.proofs.Common.{◌∙◌, List, Ok, ap, arith, refl, sym}
 use Rattle.std.proofs.lemmas.List.{take_all}
+use Rattle.clear_values.specs.Keyed.{replaced_rows}
 use Rattle.clear_values.specs.RowRanges.{IsClaimRow}
 use Rattle.clear_values.specs.Tables.{claim_key}
 use Rattle.clear_values.specs.declared.rows.ClaimRow.{ClaimRow}
 use Rattle.clear_store.proofs.JoinLemmas.{Always, more_failed, put_more, put_none, put_then}
-use Rattle.clear_store.proofs.PutLemmas.{replaced_next, replaced_rows, replaced_there}
+use Rattle.clear_store.proofs.PutLemmas.{replaced_next, replaced_there}
 use Rattle.clear_store.proofs.RowLemmas.{at_place}
 use Rattle.clear_store.proofs.lists.put_claims.Goals as goal
 

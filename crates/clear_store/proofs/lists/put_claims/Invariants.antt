@@ -1,8 +1,8 @@
 use Rattle.std.proofs.Common.{◌≡◌, Ok, take}
+use Rattle.clear_values.specs.Keyed.{replaced_rows}
 use Rattle.clear_values.specs.Tables.{claim_key}
 use Rattle.clear_store.specs.Changes.{Puts}
 use Rattle.clear_store.proofs.JoinLemmas.{Always}
-use Rattle.clear_store.proofs.PutLemmas.{replaced_rows}
 use Rattle.clear_store.proofs.lists.put_claims.Given as goal
 
 abbrev pub invariant-loop-claim : goal.invariant-loop-claim

@@ -1,7 +1,25 @@
-use Rattle.std.proofs.Common.{subst}
-use Rattle.clear_views.specs.Statement.{AreFound}
+use Rattle.std.proofs.Common.{refl}
+use Rattle.sqlite.specs.Held.{state}
+use Rattle.clear_laws.proofs.RowRangeLemmas.{rows_in_range}
+use Rattle.clear_views.proofs.ReadLemmas.{was_clean, still}
+use Rattle.clear_views.proofs.ReleaseLemmas.{debts_are}
 use Rattle.clear_views.proofs.release.firm_debts.Goals as goal
 
-pub returns-in-Ok-Some-clause-debts : goal.returns-in-Ok-Some-clause-debts
-returns-in-Ok-Some-clause-debts g c clean t has b lawful stands =
-    c.debts_on.ensures.debts b c.args.employer (subst (AreFound b c.args.employer) c.in-Ok-Some.field-0-is (c.in-Ok-Some.ensures.records clean t has b lawful stands))
+pub returns-in-Ok-count_contributions-clause-debts : goal.returns-in-Ok-count_contributions-clause-debts
+returns-in-Ok-count_contributions-clause-debts g c clean t has given back b lawful stands =
+    let old = state g.S.Store c.args.tx.now.conn.now in
+    let one = state g.S.Store c.find_overdue.new.tx.conn.now in
+    let end = state g.S.Store c.count_contributions.new.tx.conn.now in
+    let clean_one = was_clean one end c.count_contributions.ensures.survives clean in
+    let has_one = still t old one (c.in-Ok.ensures.leaves.same clean_one t has) has in
+    debts_are b t stands.stands c.args.employer c.args.day c.args.serials given c.in-Ok.overdue (c.in-Ok.ensures.overdue clean_one t has back b lawful stands) _ refl refl refl
+    (c.in-Ok-count_contributions.ensures.count clean t has_one) refl
+
+pub returns-in-Err-count_contributions-clause-fault : goal.returns-in-Err-count_contributions-clause-fault
+returns-in-Err-count_contributions-clause-fault g c clean t has b lawful stands there =
+    let old = state g.S.Store c.args.tx.now.conn.now in
+    let one = state g.S.Store c.find_overdue.new.tx.conn.now in
+    let end = state g.S.Store c.count_contributions.new.tx.conn.now in
+    let clean_one = was_clean one end c.count_contributions.ensures.survives clean in
+    let has_one = still t old one (c.in-Ok.ensures.leaves.same clean_one t has) has in
+    c.in-Err-count_contributions.ensures.fault clean t has_one (rows_in_range b t lawful stands.stands)

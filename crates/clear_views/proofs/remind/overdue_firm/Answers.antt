@@ -5,19 +5,19 @@ use Rattle.clear_views.proofs.RemindLemmas.{firm_is}
 use Rattle.clear_views.proofs.remind.overdue_firm.Goals as goal
 
 pub returns-in-Err-read_last-clause-fault : goal.returns-in-Err-read_last-clause-fault
-returns-in-Err-read_last-clause-fault g c clean t has back b lawful stands there =
+returns-in-Err-read_last-clause-fault g c clean t has b lawful stands =
     let old = state g.S.Store c.args.tx.now.conn.now in
     let one = state g.S.Store c.read_overdue.new.tx.conn.now in
     let end = state g.S.Store c.read_last.new.tx.conn.now in
     let clean_one = was_clean one end c.read_last.ensures.leaves.survives clean in
     let has_one = still t old one (c.in-Ok.ensures.leaves.same clean_one t has) has in
-    c.in-Err-read_last.ensures.fault clean t has_one (rows_in_range b t lawful stands)
+    c.in-Err-read_last.ensures.fault clean t has_one (rows_in_range b t lawful stands.stands)
 
 pub returns-clause-firm : goal.returns-clause-firm
-returns-clause-firm g c clean t has b lawful stands =
+returns-clause-firm g c clean t has back b lawful stands rated firm =
     let old = state g.S.Store c.args.tx.now.conn.now in
     let one = state g.S.Store c.read_overdue.new.tx.conn.now in
     let end = state g.S.Store c.read_last.new.tx.conn.now in
     let clean_one = was_clean one end c.read_last.ensures.leaves.survives clean in
     let has_one = still t old one (c.in-Ok.ensures.leaves.same clean_one t has) has in
-    firm_is b t stands c.args.day c.args.employer c.in-Ok.overdue (c.in-Ok.ensures.overdue clean_one t has b lawful stands) c.in-Ok-read_last.last (c.in-Ok-read_last.ensures.last clean t has_one)
+    firm_is b t stands.stands c.args.day c.args.member.now.employer c.in-Ok.overdue (c.in-Ok.ensures.overdue clean_one t has b lawful stands back rated firm) c.in-Ok-read_last.last (c.in-Ok-read_last.ensures.last clean t has_one)

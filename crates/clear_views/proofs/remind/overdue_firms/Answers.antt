@@ -1,38 +1,37 @@
 use Rattle.std.proofs.Common.{◌∙◌, Ok, map, ap}
 use Rattle.std.proofs.lemmas.List.{take_all}
 use Rattle.sqlite.specs.Held.{state}
+use Rattle.clear_account.proofs.AccountLemmas.{All-read}
 use Rattle.clear_book.specs.declared.rows.EmployerRow.{EmployerRow}
 use Rattle.clear_laws.proofs.RowRangeLemmas.{rows_in_range}
 use Rattle.clear_rows.proofs.Inside.{survives_both, survives_none}
 use Rattle.clear_rules.specs.Views.RemindRun.{firm_on_day}
 use Rattle.clear_views.proofs.ReadLemmas.{was_clean, left_has, leaves_both, leaves_else}
-use Rattle.clear_views.proofs.RemindLemmas.{firm_more, firms_of_book, registered}
+use Rattle.clear_views.proofs.RemindLemmas.{firm_more, firms_are, firms_of_book}
+use Rattle.clear_views.specs.Overdue.{IsFirm}
 use Rattle.clear_views.proofs.remind.overdue_firms.Goals as goal
 
 pub returns-in-Err-clause-fault : goal.returns-in-Err-clause-fault
-returns-in-Err-clause-fault g c clean t has back b lawful stands = (
+returns-in-Err-clause-fault g c clean t has b lawful stands = (
   c.in-Err.ensures.looks.cause clean t has,
-  λ told. c.in-Err.ensures.looks.range clean t has told (rows_in_range b t lawful stands).employers,
+  λ told. c.in-Err.ensures.looks.range clean t has told (rows_in_range b t lawful stands.stands).employers,
 )
 
 pub loop-member-init : goal.loop-member-init
 loop-member-init g c = record {
   same_reference = c.all_employers.ensures.same_reference;
-  found = λ clean t has b lawful stands. c.new-firms.ensures.items;
+  found = λ clean t has back b lawful stands rated. c.new-firms.ensures.items;
   leaves = record { same = c.in-Ok.ensures.looks.same; kept = c.in-Ok.ensures.looks.kept; survives = c.in-Ok.ensures.looks.survives };
   since = survives_none (state g.S.Store c.all_employers.new.tx.conn.now);
 }
 
 pub returns-in-Err-overdue_firm-clause-fault : goal.returns-in-Err-overdue_firm-clause-fault
-returns-in-Err-overdue_firm-clause-fault g c clean t has back b lawful stands =
-    let one = state g.S.Store c.all_employers.new.tx.conn.now in
+returns-in-Err-overdue_firm-clause-fault g c clean t has b lawful stands =
     let mid = state g.S.Store c.loop-member.tx.conn.now in
     let last = state g.S.Store c.overdue_firm.new.tx.conn.now in
     let clean_mid = was_clean mid last c.overdue_firm.ensures.leaves.survives clean in
-    let clean_one = was_clean one mid c.loop-member.invariant.since clean_mid in
     let has_mid = left_has g.S.Store c.args.tx.now.conn.now c.loop-member.tx.conn.now c.overdue_firm.new.tx.conn.now c.loop-member.firms c.loop-member.invariant.leaves clean_mid t has in
-    c.in-Err-overdue_firm.ensures.fault clean t has_mid back b lawful stands
-    (registered b t stands c.deref-member-items.result.now (c.deref-member-items.ensures.value ∙ c.in-Ok.ensures.looks.found clean_one t has) c.loop-member.member-index c.member-item.result c.loop-member-test.true c.member-item.is)
+    c.in-Err-overdue_firm.ensures.fault clean t has_mid b lawful stands
 
 pub loop-member-preserved : goal.loop-member-preserved
 loop-member-preserved g c =
@@ -41,12 +40,16 @@ loop-member-preserved g c =
     let last = c.overdue_firm.new.tx.conn.now in
     record {
       same_reference = c.overdue_firm.ensures.same_reference ∙ c.loop-member.invariant.same_reference;
-      found = λ clean t has b lawful stands.
+      found = λ clean t has back b lawful stands rated.
           let clean_mid = was_clean (state g.S.Store mid) (state g.S.Store last) c.overdue_firm.ensures.leaves.survives clean in
+          let clean_one = was_clean (state g.S.Store c.all_employers.new.tx.conn.now) (state g.S.Store mid) c.loop-member.invariant.since clean_mid in
           let has_mid = left_has g.S.Store first mid last c.loop-member.firms c.loop-member.invariant.leaves clean_mid t has in
+          let of_book = firms_are b t stands.stands c.deref-member-items.result.now (c.deref-member-items.ensures.value ∙ c.in-Ok.ensures.looks.found clean_one t has) in
           firm_more (λ (row : EmployerRow). firm_on_day b c.args.day row.employer) c.deref-member-items.result.now c.loop-member.member-index c.member-item.result
           c.loop-member.firms.items c.push.new.self.items c.in-Ok-overdue_firm.firm c.loop-member-test.true c.member-item.is
-          (c.loop-member.invariant.found clean_mid t has b lawful stands) (c.in-Ok-overdue_firm.ensures.firm clean t has_mid b lawful stands) c.in-Ok-push.ensures.items;
+          (c.loop-member.invariant.found clean_mid t has back b lawful stands rated)
+          (c.in-Ok-overdue_firm.ensures.firm clean t has_mid back b lawful stands rated (All-read (IsFirm b) c.deref-member-items.result.now c.loop-member.member-index c.member-item.result of_book c.loop-member-test.true c.member-item.is))
+          c.in-Ok-push.ensures.items;
       leaves =
           leaves_else g.S.Store first last c.in-Ok-overdue_firm.firm c.push.new.self
           (leaves_both g.S.Store first mid last c.loop-member.firms (Ok c.in-Ok-overdue_firm.firm) c.loop-member.invariant.leaves c.in-Ok-overdue_firm.ensures.leaves);
@@ -54,11 +57,11 @@ loop-member-preserved g c =
     }
 
 pub returns-clause-firms : goal.returns-clause-firms
-returns-clause-firms g c clean t has b lawful stands =
+returns-clause-firms g c clean t has back b lawful stands rated =
     let one = state g.S.Store c.all_employers.new.tx.conn.now in
     let mid = state g.S.Store c.loop-member.tx.conn.now in
     let clean_one = was_clean one mid c.loop-member.invariant.since clean in
     let firm = λ (row : EmployerRow). firm_on_day b c.args.day row.employer in
-    c.loop-member.invariant.found clean t has b lawful stands
+    c.loop-member.invariant.found clean t has back b lawful stands rated
     ∙ ap (map firm) (take_all c.loop-member.member-index c.deref-member-items.result.now c.loop-member-test.false ∙ c.deref-member-items.ensures.value ∙ c.in-Ok.ensures.looks.found clean_one t has)
-    ∙ firms_of_book b t stands lawful c.args.day
+    ∙ firms_of_book b t stands.stands lawful c.args.day

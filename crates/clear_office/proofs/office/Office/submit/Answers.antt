@@ -3,7 +3,9 @@ use Rattle.clear_book.specs.declared.calls.Call.TheVariants.{Do}
 use Rattle.clear_book.specs.declared.outcomes.Outcome.TheVariants.{Replied, Refused}
 use Rattle.clear_book.specs.Machine.{after, step}
 use Rattle.clear_book.specs.Judge.{judge, outcome_of}
+use Rattle.clear_book.specs.Allocated.{KeepsKeys}
 use Rattle.clear_laws.proofs.LimitsLemmas.{takes_lawful}
+use Rattle.clear_laws.proofs.WeighedLemmas.{stands_weighed}
 use Rattle.clear_schema.specs.declared.fault.Fault.TheVariants as fault
 use Rattle.clear_office.specs.Bodies.{IsAdmitted}
 use Rattle.clear_office.specs.Office.{HasSame, LeavesNoMore, MayLeave, Steps, StepsBut}
@@ -52,7 +54,8 @@ returns-in-Err-clause-step g c =
     (λ b lawful. takes_lawful b call (outcome_of (judge b call)) (step b call) (inl (refl, refl)) admitted.0 lawful)
     c.end.ensures.clean
     (λ clean t has why is. let said = c.in-Err.ensures.refused clean t has why is in (said.0 admitted, said.1))
-    (λ clean t has cause is. elim (c.in-Err.ensures.failed clean t has (fault.Store cause) is) [ inl fails ↦ inl (fails admitted) | inr disk ↦ inr disk ])
+    KeepsKeys keeps_plain
+    (λ blur keeps clean b lawful t represents has cause is. elim (c.in-Err.ensures.failed clean t has (fault.Store cause) is) [ inl fails ↦ fails admitted (blur, keeps, represents.pieces) b lawful (stands_weighed blur b t represents) | inr disk ↦ disk ])
     (λ clean t has on. rolled_back_stays g.S.Store inside.store.conn c.within.new.conn t (c.in-Err.ensures.stays clean t has) (c.in-Err.ensures.was_open clean t has) (c.is_autocommit-outside.ensures.settled (search rules)) has on)
     (λ blur keeps clean b lawful places t represents has trees may. elim ((c.within.ensures.crash t has).crash clean trees may) [
       | inl before ↦ inl before
@@ -73,7 +76,8 @@ returns-in-Err-clause-blurred g c blur keeps =
     (λ b lawful. takes_lawful b call (outcome_of (judge b call)) (step b call) (inl (refl, refl)) admitted.0 lawful)
     c.end.ensures.clean
     (λ clean t has why is. let said = c.in-Err.ensures.refused clean t has why is in (said.0 admitted, said.1))
-    (λ clean t has cause is. elim (c.in-Err.ensures.failed clean t has (fault.Store cause) is) [ inl fails ↦ inl (fails admitted) | inr disk ↦ inr disk ])
+    KeepsKeys keeps_plain
+    (λ blur keeps clean b lawful t represents has cause is. elim (c.in-Err.ensures.failed clean t has (fault.Store cause) is) [ inl fails ↦ fails admitted (blur, keeps, represents.pieces) b lawful (stands_weighed blur b t represents) | inr disk ↦ disk ])
     (λ clean t has on. rolled_back_stays g.S.Store inside.store.conn c.within.new.conn t (c.in-Err.ensures.stays clean t has) (c.in-Err.ensures.was_open clean t has) (c.is_autocommit-outside.ensures.settled (search rules)) has on)
     (λ blur keeps clean b lawful places t represents has trees may. elim ((c.within.ensures.crash t has).crash clean trees may) [
       | inl before ↦ inl before
@@ -94,7 +98,8 @@ returns-in-Err-clause-crash g c =
     (λ b lawful. takes_lawful b call (outcome_of (judge b call)) (step b call) (inl (refl, refl)) admitted.0 lawful)
     c.end.ensures.clean
     (λ clean t has why is. let said = c.in-Err.ensures.refused clean t has why is in (said.0 admitted, said.1))
-    (λ clean t has cause is. elim (c.in-Err.ensures.failed clean t has (fault.Store cause) is) [ inl fails ↦ inl (fails admitted) | inr disk ↦ inr disk ])
+    KeepsKeys keeps_plain
+    (λ blur keeps clean b lawful t represents has cause is. elim (c.in-Err.ensures.failed clean t has (fault.Store cause) is) [ inl fails ↦ fails admitted (blur, keeps, represents.pieces) b lawful (stands_weighed blur b t represents) | inr disk ↦ disk ])
     (λ clean t has on. rolled_back_stays g.S.Store inside.store.conn c.within.new.conn t (c.in-Err.ensures.stays clean t has) (c.in-Err.ensures.was_open clean t has) (c.is_autocommit-outside.ensures.settled (search rules)) has on)
     (λ blur keeps clean b lawful places t represents has trees may. elim ((c.within.ensures.crash t has).crash clean trees may) [
       | inl before ↦ inl before

@@ -71,5 +71,5 @@ returns-in-Ok-None-clause-failed g c clean t has =
     (c.accept.ensures.did clean t (still t _ mid (c.in-Ok-None.ensures.looks.same before t has) has) unused)
 
 pub returns-in-Err-clause-failed : goal.returns-in-Err-clause-failed
-returns-in-Err-clause-failed g c clean t has fault is admitted pieces b lawful stands =
-    request_fails c.args.self.origin.now.caller c.args.self.origin.now.number t c.in-Err.fault fault is (c.in-Err.ensures.looks.cause clean t has) (c.in-Err.ensures.looks.range clean t has) (rows_in_range b t lawful stands)
+returns-in-Err-clause-failed g c clean t has fault is admitted pieces b lawful weighed =
+    request_fails c.args.self.origin.now.caller c.args.self.origin.now.number t c.in-Err.fault fault is (c.in-Err.ensures.looks.cause clean t has) (c.in-Err.ensures.looks.range clean t has) (rows_in_range b t lawful weighed.stands)

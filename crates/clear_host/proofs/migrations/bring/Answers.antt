@@ -1,0 +1,41 @@
+use Rattle.std.proofs.Common.{inl, subst, sym}
+use Rattle.sqlite.specs.Held.{state}
+use Rattle.clear_schema.specs.Held.{HasTables}
+use Rattle.clear_schema.specs.Schema.{this_layout}
+use Rattle.clear_schema.proofs.OpenLemmas.{store_tells}
+use Rattle.clear_host.proofs.RefusalLemmas.{never_so, only_so, other_so}
+use Rattle.clear_host.proofs.StoreLemmas.{nothing_seen, other_layout_seen, tables_seen, told_seen}
+use Rattle.clear_host.proofs.migrations.bring.Goals as goal
+
+pub returns-in-Ok-clause-found : goal.returns-in-Ok-clause-found
+returns-in-Ok-clause-found g c image sees clean t holds =
+    let old = state g.S.Store c.args.connection in
+    let has = tables_seen image old (sees (c.in-Ok.ensures.clean clean)) t holds in
+    let known = inl (store_tells this_layout t old.now has).meta in
+    let still = c.in-Ok.ensures.still clean known (c.in-Ok.ensures.open clean known) in
+    let here = subst (HasTables t) (sym still.now_is) has in
+    (here, subst (HasTables t) still.settled here)
+
+pub returns-in-Ok-clause-only_this : goal.returns-in-Ok-clause-only_this
+returns-in-Ok-clause-only_this g c image sees clean number holds =
+    c.in-Ok.ensures.only_this clean number (told_seen image (state g.S.Store c.args.connection) (sees (c.in-Ok.ensures.clean clean)) number holds).1
+
+pub returns-in-Ok-clause-not_other : goal.returns-in-Ok-clause-not_other
+returns-in-Ok-clause-not_other g c image sees clean holds =
+    never_so _ c.in-Ok.migration (c.in-Ok.ensures.other clean (other_layout_seen image (state g.S.Store c.args.connection) (sees (c.in-Ok.ensures.clean clean)) holds))
+
+pub returns-in-Ok-clause-only_stores : goal.returns-in-Ok-clause-only_stores
+returns-in-Ok-clause-only_stores g c image sees clean nothing =
+    never_so _ c.in-Ok.migration (c.in-Ok.ensures.empty clean (nothing_seen image (state g.S.Store c.args.connection) (sees (c.in-Ok.ensures.clean clean)) nothing))
+
+pub returns-in-Err-clause-version : goal.returns-in-Err-clause-version
+returns-in-Err-clause-version g c image sees number holds clean =
+    c.in-Err.ensures.version clean number (told_seen image (state g.S.Store c.args.connection) (sees (c.in-Err.ensures.clean clean)) number holds).1
+
+pub returns-in-Err-clause-other : goal.returns-in-Err-clause-other
+returns-in-Err-clause-other g c image sees holds clean =
+    other_so c.in-Err.fault (c.in-Err.ensures.other clean (other_layout_seen image (state g.S.Store c.args.connection) (sees (c.in-Err.ensures.clean clean)) holds))
+
+pub returns-in-Err-clause-empty : goal.returns-in-Err-clause-empty
+returns-in-Err-clause-empty g c image sees nothing clean =
+    only_so 0 c.in-Err.fault (c.in-Err.ensures.empty clean (nothing_seen image (state g.S.Store c.args.connection) (sees (c.in-Err.ensures.clean clean)) nothing))

@@ -1,0 +1,103 @@
+//! Stores in files, brought to this program's schema.
+ghost use Rattle.std.specs.Prelude.{◌≡◌, false, ℕ, IfErr, IfOk};
+ghost use Rattle.sqlite.specs.Files.{over_files, IsNothing};
+ghost use Rattle.sqlite.specs.Held.{state};
+ghost use Rattle.sqlite.specs.State.{HasCleanDisk};
+ghost use Rattle.sqlite_wal.specs.Files.{image_at};
+ghost use Rattle.sqlite_wal.specs.Recovery.{Image};
+ghost use Rattle.clear_book.specs.Tables.{Tables};
+ghost use Rattle.clear_schema.specs.Faults.{IsWrong};
+ghost use Rattle.clear_schema.specs.Held.{HasTables, this_schema};
+ghost use Rattle.clear_schema.specs.Schema.{this_layout};
+ghost use Rattle.clear_host.specs.Contents.{HoldsOtherLayout, HoldsSchema, HoldsStore};
+ghost use Rattle.clear_host.specs.Contents.{IfRefused, TellsOnly, TellsOther};
+ghost use Rattle.clear_host.specs.Seen.{Sees};
+
+use crate::hindrance::Hindrance;
+use crate::offices::NotOpened;
+use crate::stores::open_at;
+use clear_migrate::schemas::{Migration, to_current};
+use sqlite::{Alter, Connection, FileStore};
+use sqlite_disk::Start;
+use sqlite_std_file::FileFrom;
+
+/// What was done to a store, so that it is one of this program, and its connection, which is still to
+/// be closed.
+#[derive(Drop)]
+pub struct Brought<S: Alter> {
+    pub migration: Migration,
+    pub connection: Connection<S>,
+}
+
+/// Brings the store in the file at a path to this program's schema. Where no file is, none is made.
+/// No schema is brought over yet, so the store is current already, and nothing in it changes. Where
+/// the file holds no store of this program, `WrongVersion` with the number of its schema, 0 without
+/// one; where that is our number, but its tables or indexes are others than ours, `Store(Other)`.
+pub fn bring_to_current<S: Start>(
+    rt: &HostRuntime,
+    path: &str,
+    start: S,
+) -> Result<Brought<FileStore<FileFrom<S>>>, NotOpened<FileStore<FileFrom<S>>>>
+    ensures current { IfOk result (λ brought. brought.migration ≡ Migration.AlreadyCurrent) }
+    ensures found { IfOk result (λ brought. HasCleanDisk (state over_files brought.connection)
+        → (t : Tables) → HoldsStore this_layout t (image_at S.Start)
+        → HasTables t (state over_files brought.connection).now
+        × HasTables t (state over_files brought.connection).committed) }
+    ensures only_this { IfOk result (λ brought. HasCleanDisk (state over_files brought.connection)
+        → (number : ℕ) → HoldsSchema number (image_at S.Start) → number ≡ this_schema) }
+    ensures not_other { IfOk result (λ brought. HasCleanDisk (state over_files brought.connection)
+        → ¬ HoldsOtherLayout (image_at S.Start)) }
+    ensures only_stores { IfOk result (λ brought.
+        HasCleanDisk (state over_files brought.connection) → ¬ IsNothing (image_at S.Start)) }
+    ensures version { (number : ℕ) → HoldsSchema number (image_at S.Start)
+        → IfErr result (IfRefused over_files (IsWrong this_schema number)) }
+    ensures other { HoldsOtherLayout (image_at S.Start)
+        → IfErr result (IfRefused over_files TellsOther) }
+    ensures empty { IsNothing (image_at S.Start)
+        → IfErr result (IfRefused over_files (TellsOnly 0)) }
+{
+    match open_at(rt, path, start) {
+        Ok(connection) => bring(connection),
+        Err(refused) => Err(refused),
+    }
+}
+
+// Brings the store of a connection that was just opened to this program's schema.
+fn bring<S: Alter>(connection: Connection<S>) -> Result<Brought<S>, NotOpened<S>>
+    requires { connection.in_transaction ≡ false }
+    ensures current { IfOk result (λ brought. brought.migration ≡ Migration.AlreadyCurrent) }
+    ensures found { (image : Image) → Sees S.Store image connection
+        → IfOk result (λ brought. HasCleanDisk (state S.Store brought.connection)
+        → (t : Tables) → HoldsStore this_layout t image
+        → HasTables t (state S.Store brought.connection).now
+        × HasTables t (state S.Store brought.connection).committed) }
+    ensures only_this { (image : Image) → Sees S.Store image connection
+        → IfOk result (λ brought. HasCleanDisk (state S.Store brought.connection)
+        → (number : ℕ) → HoldsSchema number image → number ≡ this_schema) }
+    ensures not_other { (image : Image) → Sees S.Store image connection
+        → IfOk result (λ brought. HasCleanDisk (state S.Store brought.connection)
+        → ¬ HoldsOtherLayout image) }
+    ensures only_stores { (image : Image) → Sees S.Store image connection
+        → IfOk result (λ brought. HasCleanDisk (state S.Store brought.connection)
+        → ¬ IsNothing image) }
+    ensures version { (image : Image) → Sees S.Store image connection
+        → (number : ℕ) → HoldsSchema number image
+        → IfErr result (IfRefused S.Store (IsWrong this_schema number)) }
+    ensures other { (image : Image) → Sees S.Store image connection → HoldsOtherLayout image
+        → IfErr result (IfRefused S.Store TellsOther) }
+    ensures empty { (image : Image) → Sees S.Store image connection → IsNothing image
+        → IfErr result (IfRefused S.Store (TellsOnly 0)) }
+{
+    let mut connection = connection;
+    match to_current(&mut connection) {
+        Ok(migration) => Ok(Brought {
+            migration,
+            connection,
+        }),
+        Err(fault) => Err(NotOpened {
+            fault,
+            hindrance: Hindrance::None,
+            connection: Some(connection),
+        }),
+    }
+}

@@ -1,0 +1,36 @@
+-- What follows from the number that a database tells.
+use Rattle.std.proofs.Common.{◌≡◌, inl, inr, ℕ, Bool, true, false, Some, Result, Ok, Err, OnOk, IsTrue, refl, ap}
+use Rattle.clear_schema.specs.Faults.{IsWrong}
+use Rattle.clear_schema.specs.declared.fault.OpenFault.{OpenFault}
+use Rattle.clear_schema.specs.declared.fault.OpenFault.TheVariants.{Failed, WrongVersion}
+use Rattle.clear_migrate.specs.Answered.{AnswersOrFails}
+
+-- the number that is found is answered
+pub answers : {A : Type 0} (n number : A) → Some n ≡ Some number → AnswersOrFails (Ok number) (Ok n)
+answers n number same = inl (let is : n ≡ number = cc in ap Ok is)
+
+-- a number that is answered is the one that is told
+pub told_is : (n number : ℕ) → AnswersOrFails (Ok number) (Ok n) → n ≡ number
+told_is n number (inl same) = cc
+told_is n number (inr (fault, disk, same)) = absurd cc
+
+-- where a number is told, an error is a fault of memory or of the disk, whatever is right above it
+pub fails_so : {A B : Type 0} (number : A) (right : Result B OpenFault) (fault : OpenFault) → AnswersOrFails (Ok number) (Err fault) → AnswersOrFails right (Err fault)
+fails_so number right fault (inl same) = absurd cc
+fails_so number right fault (inr (why, disk, same)) = inr (why, disk, let is : fault ≡ Failed why = cc in ap Err is)
+
+-- so it tells no number
+pub fails_untold : {A : Type 0} (number : A) (this found : ℕ) (fault : OpenFault) → AnswersOrFails (Ok number) (Err fault) → IsWrong this found fault
+fails_untold number this found (WrongVersion told) (inl same) = absurd cc
+fails_untold number this found (WrongVersion told) (inr (why, disk, same)) = absurd cc
+fails_untold number this found (Failed why) answers = tt
+
+-- what holds where there is an answer, and what follows from that
+pub on_ok_so : {A E : Type 0} (r : Result A E) (X Y : Type 0) → (X → Y) → OnOk r X → OnOk r Y
+on_ok_so (Ok a) X Y then x = then x
+on_ok_so (Err e) X Y then x = tt
+
+-- a test that doesn't hold
+pub not_true : (b : Bool) → (IsTrue b → ⊥) → b ≡ false
+not_true true never = absurd (never refl)
+not_true false never = refl

@@ -1,0 +1,11 @@
+use Rattle.std.proofs.Common.{◌∙◌, sym}
+use Rattle.clear_migrate.proofs.AnswerLemmas.{answers}
+use Rattle.clear_migrate.proofs.schemas.version.Goals as goal
+
+pub returns-in-Ok-Some-clause-told : goal.returns-in-Ok-Some-clause-told
+returns-in-Ok-Some-clause-told g c clean number has =
+    answers c.in-Ok-Some.number number (sym c.in-Ok-Some.field-0-is ∙ c.in-Ok-Some.ensures.found clean number has)
+
+pub returns-in-Ok-None-clause-told : goal.returns-in-Ok-None-clause-told
+returns-in-Ok-None-clause-told g c clean number has =
+    absurd (let none = sym c.in-Ok-None.field-0-is ∙ c.in-Ok-None.ensures.found clean number has in cc)

@@ -1,0 +1,30 @@
+//! A store brought to the current schema.
+
+use crate::reasons::refused_path;
+use crate::stop::Stop;
+use clear_host::migrations::bring_to_current;
+use clear_host::paths::path_kind;
+use clear_migrate::schemas::Migration;
+use clear_schema::store::SCHEMA;
+use sqlite_disk::Start;
+
+/// Brings the store at a path to the current schema, closes it, and says which that is. A path that
+/// can hold no store is refused before it is opened, so that an empty file stays empty.
+pub(crate) fn migrate_at<S: Start>(
+    rt: &HostRuntime,
+    store: &str,
+    start: S,
+) -> Result<String, Stop> {
+    if let Some(fault) = refused_path(path_kind(rt, store)) {
+        return Err(Stop::from(fault));
+    }
+    match bring_to_current(rt, store, start) {
+        Ok(brought) => {
+            let _ = brought.connection.close();
+            match brought.migration {
+                Migration::AlreadyCurrent => Ok(format!(in rt.alloc(); "schema {SCHEMA}\n")?),
+            }
+        }
+        Err(refused) => Err(Stop::from(refused.fault)),
+    }
+}

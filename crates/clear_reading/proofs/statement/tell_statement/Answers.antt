@@ -1,0 +1,9 @@
+use Rattle.std.proofs.Common.{rules}
+use Rattle.clear_ledger.specs.Shown.{piece_shown}
+use Rattle.clear_reading.proofs.TellingLemmas.{tells_tables}
+use Rattle.clear_reading.proofs.statement.tell_statement.Goals as goal
+
+pub returns-clause-tells : goal.returns-clause-tells
+returns-clause-tells g c =
+    tells_tables g.S.Store _ piece_shown c.args.conn.now c.in-Ok.rows.conn.now c.tell_pieces.new.rows.conn.now _ _ _ _ _ c.tell_pieces.result (search rules) c.in-Ok.ensures.begun c.tell_pieces.ensures.tells
+    (λ t ranges right. right)

@@ -1,0 +1,177 @@
+//! What is kept of a firm's contributions, and what it paid of them.
+ghost use Rattle.std.specs.Prelude.{◌≡◌, ◌≤◌, IfErr, IfOk, IsTrue, OnOk, length, map};
+ghost use Rattle.sqlite.specs.Held.{state};
+ghost use Rattle.sqlite.specs.State.{HasCleanDisk, IsUnchanged, KeepsCommit, Survives};
+ghost use Rattle.clear_account.specs.Account.{credited};
+ghost use Rattle.clear_book.specs.Accounts.{charges_of, credits_of};
+ghost use Rattle.clear_book.specs.Allocated.{StandsWeighed, weighed_in, weighed_rows};
+ghost use Rattle.clear_book.specs.Book.{Book};
+ghost use Rattle.clear_book.specs.Limits.{most_credits};
+ghost use Rattle.clear_book.specs.Machine.{IsLawful};
+ghost use Rattle.clear_book.specs.RowRanges.{AreInRange};
+ghost use Rattle.clear_book.specs.Tables.{Tables, table_credits};
+ghost use Rattle.clear_kept.specs.Owing.{AreWeighed};
+ghost use Rattle.clear_kept.specs.Weighed.{weighed_charges};
+ghost use Rattle.clear_schema.specs.Frame.{Leaves};
+ghost use Rattle.clear_schema.specs.Faults.{IsOfDisk};
+ghost use Rattle.clear_schema.specs.Held.{HasTables};
+ghost use Rattle.clear_views.specs.Owing.{credited_by, HasKept};
+
+use clear_bank::lines::Purpose;
+use clear_book::rows::KeptCharge;
+use clear_book::rules::StoreCause;
+use clear_firms::charges::charges_of;
+use clear_kept::owing::WeighedCharges;
+use clear_kept::rows::WeighedCharge;
+use clear_ledger::credits::credits_of;
+use clear_money::numbers::EmployerNo;
+use clear_schema::fault::Fault;
+use clear_texts::arrears::add_credits;
+use sqlite::{Alter, Transaction};
+use std::alloc::Global;
+
+/// A firm's contributions, and what it paid of them.
+#[derive(Drop)]
+pub struct KeptAccount {
+    /// The contributions with what is open of them, the months rising.
+    pub charges: WeighedCharges,
+    /// All payments of contributions, in cents.
+    pub credited: u64,
+}
+
+/// The contributions of a firm as they are kept, and what it paid of them.
+///
+/// It reads the firm's contributions, at most 2,400, once. Where a part of one is open, the
+/// payments are what is charged less what is open; only where none is, the firm's credits for
+/// contributions are read, too, each once. What no book holds is refused with
+/// `Fault::Store(StoreCause::Row)`: a value out of its range, and more contributions or credits
+/// than an account has.
+pub fn find_account<S: Alter>(
+    alloc: Global,
+    tx: &mut Transaction<'_, S>,
+    employer: EmployerNo,
+) -> Result<KeptAccount, Fault>
+    ensures same_reference { tx.new.conn.ghost_name ≡ tx.old.conn.ghost_name }
+    ensures account { HasCleanDisk (state S.Store tx.new.conn.now)
+        → (t : Tables) → HasTables t (state S.Store tx.old.conn.now).now
+        → (b : Book) → IsLawful b → StandsWeighed b t → IfOk result (λ found.
+        (found.charges ≡ weighed_charges (charges_of b employer) (credits_of b employer))
+        × (found.credited ≡ credited (credits_of b employer))) }
+    ensures fault { HasCleanDisk (state S.Store tx.new.conn.now)
+        → (t : Tables) → HasTables t (state S.Store tx.old.conn.now).now
+        → (b : Book) → IsLawful b → StandsWeighed b t → IfErr result IsOfDisk }
+    ensures leaves { Leaves S.Store tx.old.conn.now tx.new.conn.now result }
+{
+    let charges = match find_charges(alloc, tx, employer) {
+        Ok(charges) => charges,
+        Err(fault) => return Err(fault),
+    };
+    match find_credited(tx, &charges, employer) {
+        Ok(credited) => Ok(KeptAccount { charges, credited }),
+        Err(fault) => Err(fault),
+    }
+}
+
+/// The contributions of a firm as they are kept, the months rising. It reads each of them once.
+pub(crate) fn find_charges<S: Alter>(
+    alloc: Global,
+    tx: &mut Transaction<'_, S>,
+    employer: EmployerNo,
+) -> Result<WeighedCharges, Fault>
+    ensures same_reference { tx.new.conn.ghost_name ≡ tx.old.conn.ghost_name }
+    ensures charges { HasCleanDisk (state S.Store tx.new.conn.now)
+        → (t : Tables) → HasTables t (state S.Store tx.old.conn.now).now
+        → IfOk result (λ charges. charges ≡ weighed_rows t employer) }
+    ensures fault { HasCleanDisk (state S.Store tx.new.conn.now)
+        → (t : Tables) → HasTables t (state S.Store tx.old.conn.now).now
+        → HasKept t employer → IfErr result IsOfDisk }
+    ensures leaves { Leaves S.Store tx.old.conn.now tx.new.conn.now result }
+{
+    match charges_of(tx, employer) {
+        Ok(rows) => weigh_rows(alloc, rows.as_slice()),
+        Err(fault) => Err(fault),
+    }
+}
+
+// Kept contributions, each with what is open of it.
+fn weigh_rows(alloc: Global, rows: &[KeptCharge]) -> Result<WeighedCharges, Fault>
+    ensures charges { IfOk result (λ charges. charges ≡ map weighed_in rows.now) }
+    ensures fault { AreWeighed (map weighed_in rows.now) → IfErr result IsOfDisk }
+{
+    let mut weighed = Vec::new(alloc);
+    for row in rows {
+        match weighed.push(weighed_in(row)) {
+            Ok(()) => {}
+            Err(_) => return Err(Fault::Memory),
+        }
+    }
+    match WeighedCharges::new(weighed) {
+        Some(charges) => Ok(charges),
+        None => Err(Fault::Store(StoreCause::Row)),
+    }
+}
+
+// A kept contribution with what is open of it.
+fn weighed_in(row: &KeptCharge) -> WeighedCharge
+    ensures { result ≡ weighed_in row.now }
+{
+    WeighedCharge {
+        month: row.month,
+        due: row.due,
+        cents: row.cents,
+        left: row.left,
+        weight: row.weight,
+    }
+}
+
+// What a firm paid of these contributions, in cents. Where a part of one is open, nothing is read.
+fn find_credited<S: Alter>(
+    tx: &mut Transaction<'_, S>,
+    charges: &WeighedCharges,
+    employer: EmployerNo,
+) -> Result<u64, Fault>
+    ensures same_reference { tx.new.conn.ghost_name ≡ tx.old.conn.ghost_name }
+    ensures credited { HasCleanDisk (state S.Store tx.new.conn.now)
+        → (t : Tables) → HasTables t (state S.Store tx.old.conn.now).now
+        → IfOk result (λ cents. cents ≡ credited_by charges.now (table_credits t employer)) }
+    ensures fault { HasCleanDisk (state S.Store tx.new.conn.now)
+        → (t : Tables) → HasTables t (state S.Store tx.old.conn.now).now
+        → HasKept t employer → IfErr result IsOfDisk }
+    ensures same { HasCleanDisk (state S.Store tx.new.conn.now)
+        → (t : Tables) → HasTables t (state S.Store tx.old.conn.now).now
+        → IsTrue (state S.Store tx.old.conn.now).is_open
+        → OnOk result (IsUnchanged (state S.Store tx.old.conn.now)
+        (state S.Store tx.new.conn.now)) }
+    ensures kept { HasCleanDisk (state S.Store tx.new.conn.now)
+        → (t : Tables) → HasTables t (state S.Store tx.old.conn.now).now
+        → KeepsCommit (state S.Store tx.old.conn.now) (state S.Store tx.new.conn.now) }
+    ensures survives { Survives (state S.Store tx.old.conn.now) (state S.Store tx.new.conn.now)
+        (λ _. ⊥) }
+{
+    let open = charges.open();
+    if open > 0 {
+        return Ok(charges.charged().saturating_sub(open));
+    }
+    add_paid(tx, employer)
+}
+
+// The credits of a firm for contributions, in cents.
+fn add_paid<S: Alter>(tx: &mut Transaction<'_, S>, employer: EmployerNo) -> Result<u64, Fault>
+    ensures same_reference { tx.new.conn.ghost_name ≡ tx.old.conn.ghost_name }
+    ensures paid { HasCleanDisk (state S.Store tx.new.conn.now)
+        → (t : Tables) → HasTables t (state S.Store tx.old.conn.now).now
+        → IfOk result (λ cents. cents ≡ credited (table_credits t employer)) }
+    ensures fault { HasCleanDisk (state S.Store tx.new.conn.now)
+        → (t : Tables) → HasTables t (state S.Store tx.old.conn.now).now
+        → HasKept t employer → IfErr result IsOfDisk }
+    ensures leaves { Leaves S.Store tx.old.conn.now tx.new.conn.now result }
+{
+    let rows = match credits_of(tx, employer, Purpose::Contribution) {
+        Ok(rows) => rows,
+        Err(fault) => return Err(fault),
+    };
+    match add_credits(rows.as_slice()) {
+        Some(cents) => Ok(cents),
+        None => Err(Fault::Store(StoreCause::Row)),
+    }
+}

@@ -1,0 +1,77 @@
+-- What a store keeps of each account, beside what its other tables come to:
+--
+--     sqlite3 copy.db < examples/recompute.sql
+--
+-- Nothing is told where they are equal. Else a line has what it is of, the firm, the month or the
+-- day, whether it is kept or recomputed, and its values. Contributions are set beside the latest
+-- reports and the rates, payments beside the bank lines that have a firm and the set-offs of
+-- releases, pieces beside contributions and payments, and what is open of a contribution, with its
+-- weight, beside the pieces.
+
+SELECT 'contribution', employer, printf('%d-%02d', 2000 + month / 12, month % 12 + 1),
+  CASE WHEN sum(side) > 0 THEN 'kept' ELSE 'recomputed' END, date(due * 86400, 'unixepoch'), cents
+FROM (
+  SELECT employer, month, due, cents, 1 AS side FROM charges
+  UNION ALL
+  SELECT reported.employer, reported.month,
+    strftime('%s', printf('%d-%02d-%02d', 2000 + (reported.month + 1) / 12,
+      (reported.month + 1) % 12 + 1, rate.due_day)) / 86400,
+    (coalesce((SELECT sum(line.gross) FROM wages AS line
+      WHERE line.employer = reported.employer AND line.month = reported.month), 0)
+      * rate.contribution + 5000) / 10000,
+    -1
+  FROM reports AS reported
+  JOIN rates AS rate ON rate.first = (SELECT max(first) FROM rates WHERE first <= reported.month))
+GROUP BY employer, month, due, cents HAVING sum(side) <> 0;
+
+SELECT 'payment', employer, date(day * 86400, 'unixepoch'),
+  CASE WHEN sum(side) > 0 THEN 'kept' ELSE 'recomputed' END, purpose, cents, ref
+FROM (
+  -- The serial of a release stands in no other table.
+  SELECT employer, purpose, day, CASE WHEN ref LIKE 'set-off %' THEN 0 ELSE serial END AS serial,
+    cents, ref, 1 AS side FROM credits
+  UNION ALL
+  SELECT employer, purpose, value, serial, cents, reference, -1 FROM bank WHERE employer IS NOT NULL
+  UNION ALL
+  SELECT employer, 'C', released, 0, to_contributions, 'set-off ' || no, -1 FROM claims
+    WHERE to_contributions > 0
+  UNION ALL
+  SELECT employer, 'I', released, 0, to_interest, 'set-off ' || no, -1 FROM claims WHERE to_interest > 0)
+GROUP BY employer, purpose, day, serial, cents, ref HAVING sum(side) <> 0;
+
+SELECT 'piece', employer, printf('%d-%02d', 2000 + month / 12, month % 12 + 1),
+  CASE WHEN sum(side) > 0 THEN 'kept' ELSE 'recomputed' END, date(day * 86400, 'unixepoch'), cents, ref
+FROM (
+  SELECT employer, month, day, serial, cents, ref, 1 AS side FROM pieces
+  UNION ALL
+  -- Payments in order pay contributions in order, cent by cent.
+  SELECT owed.employer, owed.month, paid.day, paid.serial,
+    min(owed.till, paid.till) - max(owed.till - owed.cents, paid.till - paid.cents), paid.ref, -1
+  FROM (
+    SELECT employer, month, cents, sum(cents) OVER (PARTITION BY employer ORDER BY month) AS till
+    FROM charges) AS owed
+  JOIN (
+    SELECT employer, day, serial, cents, ref,
+      sum(cents) OVER (PARTITION BY employer ORDER BY day, serial) AS till
+    FROM credits WHERE purpose = 'C') AS paid
+  ON paid.employer = owed.employer AND paid.till > owed.till - owed.cents
+    AND owed.till > paid.till - paid.cents
+  WHERE owed.cents > 0)
+GROUP BY employer, month, day, serial, cents, ref HAVING sum(side) <> 0;
+
+SELECT 'paid', employer, printf('%d-%02d', 2000 + month / 12, month % 12 + 1),
+  CASE WHEN sum(side) > 0 THEN 'kept' ELSE 'recomputed' END, open, weight
+FROM (
+  SELECT employer, month, open, weight, 1 AS side FROM charges
+  UNION ALL
+  -- The months begun from the due day, which is a 28th at most, until the day of the payment.
+  SELECT owed.employer, owed.month, owed.cents - coalesce(sum(piece.cents), 0),
+    coalesce(sum(piece.cents * max(0,
+      12 * (strftime('%Y', piece.day * 86400, 'unixepoch') - strftime('%Y', owed.due * 86400, 'unixepoch'))
+      + strftime('%m', piece.day * 86400, 'unixepoch') - strftime('%m', owed.due * 86400, 'unixepoch')
+      + (strftime('%d', piece.day * 86400, 'unixepoch') > strftime('%d', owed.due * 86400, 'unixepoch')))), 0),
+    -1
+  FROM charges AS owed
+  LEFT JOIN pieces AS piece ON piece.employer = owed.employer AND piece.month = owed.month
+  GROUP BY owed.employer, owed.month)
+GROUP BY employer, month, open, weight HAVING sum(side) <> 0;
