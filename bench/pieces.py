@@ -19,10 +19,11 @@ that no piece is written under the rowid of one that was deleted; and it adds to
 so that a row which is written is told from one that isn't. Then one request of each kind is served, and
 `pieces` and `charges` are compared by rowids with what was there. The script ends where a firm's pieces
 aren't those of its charges and credits, where others were deleted or written than those that reach beyond
-the first changed place, or where nothing reaches beyond it and there was a DELETE; and where what is open
-of a charge, or its weight, isn't that of its pieces, or a charge was written that ends at or below the place
-and isn't the changed one. Rows read are not measured but counted from the tables, as the sources read them:
-the firm's charges and its credits for contributions, and before a correction the month's charge.
+the first changed place, or where nothing reaches beyond it and there was a DELETE, or there was one though
+all new credits come behind the others; and where what is open of a charge, or its weight, isn't that of its
+pieces, or a charge was written that ends at or below the place and isn't the changed one. Rows read are not
+measured but counted from the tables, as the sources look at them: the firm's charges, and its credits for
+contributions or the new ones alone, and before a correction the month's charge.
 
 Then each kind (or those that --kinds names) is measured on fresh copies of all stores, by --each requests (a
 tenth as many bank files), each of another firm, and so at most half as many as the smallest book has firms.
@@ -343,8 +344,20 @@ class Account:
         ends = zip(self.charges, accumulate(self.charges.values()))
         return {month for month, end in ends if end > place}
 
-    def is_read(self, before):
-        return self.charges != before.charges or self.credits != before.credits
+    def has_new_last(self, before):
+        """Whether credits are new, and all new ones come behind the others, and no charge has changed."""
+        new = self.credits.keys() - before.credits.keys()
+        return bool(new) and self.charges == before.charges and all(key in new for key in self.credits if key >= min(new))
+
+    def read(self, before):
+        """How many charges and credits are looked at, as the account was before: of credits, where all new ones come
+        behind the others, those alone, and else all besides those from the first new one on."""
+        new = self.credits.keys() - before.credits.keys()
+        if self.has_new_last(before):
+            return len(self.charges) + len(new)
+        if self.charges != before.charges:
+            return len(self.charges) + len(self.credits)
+        return len(self.charges) + len(self.credits) + sum(key >= min(new) for key in self.credits) if new else 0
 
 
 def read_accounts(store):
@@ -395,18 +408,18 @@ class Rows:
         self.firms += 1
         self.charges += len(after.charges)
         self.credits += len(after.credits)
-        if after.is_read(before):
-            self.read += len(after.charges) + len(after.credits)
+        self.read += after.read(before)
         self.deleted += len(deleted)
         self.written += len(written)
         self.left += len(after.kept()) - len(written)
         self.deletes += was_deleted
-        self.charges_written += len(written_charges(after))
+        self.charges_written += len(written_charges(before, after))
 
 
-def written_charges(after):
-    """The months whose charges were written: their weights have nothing added."""
-    return {month for month, (*_, weight) in after.rows.items() if weight < PROBE_WEIGHT}
+def written_charges(before, after):
+    """The months whose charges were written anew: what is open of them is another part, or their weights, which
+    have nothing added where they were reckoned whole."""
+    return {month for month, row in after.rows.items() if row != before.rows.get(month)}
 
 
 def check_charges(kind, no, before, after):
@@ -415,7 +428,7 @@ def check_charges(kind, no, before, after):
     for account in (before, after):
         kept = {month: (left, weight % PROBE_WEIGHT) for month, (_, _, left, weight) in account.rows.items()}
         expect(kept == account.settled(), kind, no, "has", kept, "due", account.settled())
-    written, may_be = written_charges(after), after.may_be_written(before)
+    written, may_be = written_charges(before, after), after.may_be_written(before)
     expect(written <= may_be, kind, no, "wrote charges of", written - may_be)
     for month in before.rows:
         same = before.rows[month][:2] == after.rows[month][:2]
@@ -436,7 +449,8 @@ def rows_of_firm(kind, no, before, after, last):
     due = [set(filter(test, account.allocated())) if test else set() for account in (before, after)]
     expect(gone - {PROBE} == due[0], kind, no, "deleted", gone, "due", due[0])
     expect(written == due[1], kind, no, "wrote", written, "due", due[1])
-    expect((PROBE in gone) == (test is not None), kind, no, "DELETE:", PROBE in gone)
+    deletes = test is not None and not after.has_new_last(before)
+    expect((PROBE in gone) == deletes, kind, no, "DELETE:", PROBE in gone)
     check_charges(kind, no, before, after)
     return due[0], due[1], PROBE in gone
 

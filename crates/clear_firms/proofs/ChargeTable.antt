@@ -1,8 +1,14 @@
 -- The contributions that are kept: under their firms and months.
-use Rattle.clear_columns.proofs.Words.{◌≡◌, ◌==◌, ℤ, pos, ℕ, Bool, true, false, not, ◌&&◌, ◌||◌, List, [], ◌∷◌, Less, map, filter, refl, sym, arith, nat_tests, inl, inr, is_eq, codes, cast_row, Binary, Insert, Update, Database, Row, Values, Ghosts, Term, lit, col, op2, Null, automatic, agree, Compare, Eq, Ne, Or, Key, is_key, Tables, KeptCharge, charge_key, keeps_contribution, meets, output_cmp, plain_program, plain_query, content, HasTables, by_key, charges_table, charge_values, month, month_number, number, cast_int, cast_null, equal_months, equal_numbers, key_is, months_compare, numbers_compare, others_differ, AnswersJust}
+use Rattle.clear_columns.proofs.Words.{◌≡◌, ◌==◌, ℤ, pos, ℕ, Bool, true, false, not, ◌&&◌, ◌||◌, List, [], ◌∷◌, Less, map, filter, refl, arith, nat_tests, inl, inr, is_eq, codes, cast_row, Binary, Insert, Update, Database, Row, Values, Ghosts, Term, lit, col, op2, Null, automatic, agree, Compare, Eq, Ne, Or, Key, is_key, Tables, KeptCharge, charge_key, keeps_contribution, meets, output_cmp, plain_program, plain_query, content, HasTables, by_key, charges_table, charge_values, month, month_number, number, cast_int, cast_null, equal_months, equal_numbers, key_is, months_compare, numbers_compare, others_differ, AnswersJust, ◌∙◌, ap, nat_lt, Gt, Some}
+use Rattle.std.proofs.Common.{is_lt, nat_cmp}
+use Rattle.std.specs.List.{AllByRecursion}
+use Rattle.sqlite.specs.Tree.{IsAscending}
+use Rattle.sqlite.specs.Ops.{binary, from_truth, is_true, test}
 use Rattle.sqlite_tied.specs.Compute.{everything}
 use Rattle.sqlite_value.specs.Keys.{ascending, first_key, plain}
+use Rattle.clear_values.specs.Keyed.{AllBehind, AreInOrder}
 use Rattle.clear_values.proofs.KeyedLemmas.{is_key-true}
+use Rattle.clear_columns.proofs.KeyLemmas.{before_is}
 use Rattle.clear_schema.proofs.Changes.{charges_changed}
 use Rattle.clear_columns.proofs.KeyedTable.{KeyedTable, few, finds, lists, or_false}
 use Rattle.clear_columns.proofs.Says.{Says, SaysQuery}
@@ -46,6 +52,18 @@ charges = record {
   has = λ t db has. has.charges;
   changed = λ t old new has schema sound. charges_changed t old new has schema sound;
 }
+
+-- they stand in the order of their keys
+pub charges_in_order : (t : Tables) (db : Database) → HasTables t db → AreInOrder charge_key t.charges
+charges_in_order t db has = rising t.charges has.charges.rises
+  where
+    behind : (row : KeptCharge) (rows : List KeptCharge) → AllByRecursion (λ r. by_key charge_key row r ≡ Less) rows → AllBehind charge_key (charge_key row) rows
+    behind row [] all = tt
+    behind row (r ∷ rows) all = (before_is (charge_key row) (charge_key r) ∙ ap is_lt all.0, behind row rows all.1)
+
+    rising : (rows : List KeptCharge) → IsAscending (λ a b. by_key charge_key a b ≡ Less) rows → AreInOrder charge_key rows
+    rising [] up = tt
+    rising (row ∷ rows) up = (behind row rows up.0, rising rows up.1)
 
 -- ---- the texts
 
@@ -97,6 +115,17 @@ list_says : SaysQuery list (plain_program 19 by_firm columns order)
 unfolding everything
 list_says = record { names = _; said = (refl, refl, refl) }
 
+-- `col 1 5` is what is open
+abbrev by_open : List Term
+by_open = op2 (Compare Eq Binary) (col 1 1) (col 0 0) ∷ op2 (Compare Gt Binary) (col 1 5) (lit (number 0)) ∷ []
+
+abbrev pub list_open : List ℕ
+list_open = codes "SELECT employer, month, due, cents, open, weight FROM charges WHERE employer = ?1 AND open > 0 ORDER BY employer, month"
+
+list_open_says : SaysQuery list_open (plain_program 19 by_open columns order)
+unfolding everything
+list_open_says = record { names = _; said = (refl, refl, refl) }
+
 -- ---- what they do
 
 -- the row of a firm's month
@@ -145,16 +174,43 @@ of_firm e y = rw (equal_numbers (content y).employer e) (last ((content y).emplo
     last true = refl
     last false = refl
 
+-- whether a number is more than 0
+is_more : (n : ℕ) → is_true (binary (Compare Gt Binary) (number n) (number 0)) ≡ nat_lt 0 n
+unfolding binary
+is_more n = told _ ∙ ap (test Gt) (numbers_compare n 0) ∙ greater n
+  where
+    told : (b : Bool) → is_true (from_truth (Some b)) ≡ b
+    told true = refl
+    told false = refl
+
+    greater : (n : ℕ) → test Gt (nat_cmp n 0) ≡ nat_lt 0 n
+    greater n = grind (arith, nat_tests)
+
+-- a part of the row is open, and it is of a firm
+abbrev pub is_open_by : ℕ → KeptCharge → Bool
+is_open_by e row = (row.employer == e) && nat_lt 0 row.left
+
+open_of_firm : (e : ℕ) (y : ℤ × KeptCharge) → meets by_open (number e ∷ []) (charge_values y) ≡ is_open_by e (content y)
+open_of_firm e y = rw (equal_numbers (content y).employer e, is_more (content y).left) (last ((content y).employer == e) (nat_lt 0 (content y).left))
+  where
+    last : (a b : Bool) → (a && (b && true)) ≡ (a && b)
+    last true true = refl
+    last true false = refl
+    last false b = refl
+
 -- what ORDER BY goes by
 abbrev sorted : KeptCharge → Row
 sorted row = number row.employer ∷ month row.month ∷ []
 
-rises : (a b : KeptCharge) → by_key charge_key a b ≡ Less → output_cmp (plain_query 19 by_firm columns order) (sorted a, charge_shown a) (sorted b, charge_shown b) ≡ Less
-rises a b less = rw (numbers_compare a.employer b.employer, months_compare a.month b.month) less
+rises : (conditions : List Term) (a b : KeptCharge) → by_key charge_key a b ≡ Less → output_cmp (plain_query 19 conditions columns order) (sorted a, charge_shown a) (sorted b, charge_shown b) ≡ Less
+rises conditions a b less = rw (numbers_compare a.employer b.employer, months_compare a.month b.month) less
 
 module _ {S : Type 0} (g : Ghosts S) (t : Tables) (db : Database) (has : HasTables t db) where
   pub answers : (e m : ℕ) → AnswersJust g get (month_given e m) db (map charge_shown (filter (is_of e m) t.charges))
   answers e m = finds charges g t db has (month_given e m) charge_shown (is_of e m) (of_month e m []) get_says (λ _. refl) (few charges t db has (e ∷ m ∷ []))
 
   pub answers_of : (e : ℕ) → AnswersJust g list (number e ∷ []) db (map charge_shown (filter (is_by e) t.charges))
-  answers_of e = lists charges g t db has (number e ∷ []) charge_shown (is_by e) (of_firm e) list_says sorted (λ _. refl) rises
+  answers_of e = lists charges g t db has (number e ∷ []) charge_shown (is_by e) (of_firm e) list_says sorted (λ _. refl) (rises by_firm)
+
+  pub answers_open : (e : ℕ) → AnswersJust g list_open (number e ∷ []) db (map charge_shown (filter (is_open_by e) t.charges))
+  answers_open e = lists charges g t db has (number e ∷ []) charge_shown (is_open_by e) (open_of_firm e) list_open_says sorted (λ _. refl) (rises by_open)

@@ -1,6 +1,6 @@
 //! The table of charges: the contribution for each month's latest report, with what is open of it and
 //! its weight so far.
-ghost use Rattle.std.specs.Prelude.{◌≡◌, ◌↔◌, ◌==◌, [], ◌∷◌, false, filter, true};
+ghost use Rattle.std.specs.Prelude.{◌≡◌, ◌↔◌, ◌==◌, ◌&&◌, [], ◌∷◌, false, filter, nat_lt, true};
 ghost use Rattle.sqlite.specs.Values.{bound};
 ghost use Rattle.clear_values.specs.Keyed.{find_row, with_row};
 ghost use Rattle.clear_values.specs.RowRanges.{IsKeptCharge};
@@ -117,6 +117,23 @@ pub fn charges_of<S: Alter>(
         tx,
         "SELECT employer, month, due, cents, open, weight FROM charges WHERE employer = ?1 \
          ORDER BY employer, month",
+        &[employer(no)],
+    )
+}
+
+/// The contributions of a firm of which a part is open, the months rising.
+pub fn open_charges_of<S: Alter>(
+    tx: &mut Transaction<'_, S>,
+    no: EmployerNo,
+) -> Result<Vec<KeptCharge>, Fault>
+    ensures same_reference { tx.new.conn.ghost_name ≡ tx.old.conn.ghost_name }
+    ensures looks { Lists S.Store tx.old.conn.now tx.new.conn.now result IsKeptCharge
+        (λ t. filter (λ row. (row.employer == no) && nat_lt 0 row.left) t.charges) }
+{
+    list::<S, Charges>(
+        tx,
+        "SELECT employer, month, due, cents, open, weight FROM charges \
+         WHERE employer = ?1 AND open > 0 ORDER BY employer, month",
         &[employer(no)],
     )
 }

@@ -1,5 +1,8 @@
 -- The credits: under their firms, purposes, days and serials.
-use Rattle.clear_columns.proofs.Words.{◌≡◌, ℤ, pos, ℕ, Bool, true, false, ◌&&◌, List, [], ◌∷◌, map, filter, refl, inl, inr, is_eq, Less, codes, cast_row, Binary, Insert, Database, Row, output_cmp, Values, Ghosts, Term, lit, col, op2, Trees, Null, automatic, agree, passes, Datatype, NotNull, Compare, Eq, Key, Purpose, Contribution, Interest, credit_key, is_credit_of, Tables, CreditRow, meets, plain_program, plain_query, content, HasTables, by_key, credits_table, store_schema, credit_values, number, purpose, cast_int, cast_null, AnswersJust, key_is, cast_purpose, purpose_typed, equal_numbers, equal_ranks, equal_purposes, numbers_compare, purposes_compare}
+use Rattle.clear_columns.proofs.Words.{◌≡◌, ℤ, pos, ℕ, Bool, true, false, ◌&&◌, List, [], ◌∷◌, map, filter, refl, inl, inr, is_eq, Less, codes, cast_row, Binary, Insert, Database, Row, output_cmp, Values, Ghosts, Term, lit, col, op2, Trees, Null, automatic, agree, passes, Datatype, NotNull, Compare, Eq, Key, Purpose, Contribution, Interest, credit_key, is_credit_of, Tables, CreditRow, meets, plain_program, plain_query, content, HasTables, by_key, credits_table, store_schema, credit_values, number, purpose, cast_int, cast_null, AnswersJust, key_is, cast_purpose, purpose_typed, equal_numbers, equal_ranks, equal_purposes, numbers_compare, purposes_compare, ◌||◌, ◌==◌, ◌∙◌, nat_lt, And, Ge, Gt, Or, Some, ap, arith, comes_from, maybe_from, nat_tests}
+use Rattle.std.proofs.Common.{nat_le}
+use Rattle.clear_values.specs.Lines.{same_purpose}
+use Rattle.clear_ledger.specs.From.{is_credit_from}
 use Rattle.clear_ledger.specs.Shown.{credit_shown}
 use Rattle.clear_columns.specs.Keys.{is_held}
 use Rattle.sqlite_tied.specs.Compute.{everything}
@@ -85,6 +88,17 @@ list_says : SaysQuery list (plain_program 10 by_purpose columns order)
 unfolding everything
 list_says = record { names = _; said = (refl, refl, refl) }
 
+-- `col 1 3` is the day, and `col 1 4` the serial; an index is sought by the test of the day alone
+abbrev by_place : List Term
+by_place = op2 (Compare Eq Binary) (col 1 1) (col 0 0) ∷ op2 (Compare Eq Binary) (col 1 2) (col 0 1) ∷ op2 (Compare Ge Binary) (col 1 3) (col 0 2) ∷ op2 Or (op2 (Compare Gt Binary) (col 1 3) (col 0 2)) (op2 And (op2 (Compare Eq Binary) (col 1 3) (col 0 2)) (op2 (Compare Ge Binary) (col 1 4) (col 0 3))) ∷ []
+
+abbrev pub list_from : List ℕ
+list_from = codes "SELECT employer, purpose, day, serial, cents, ref FROM credits WHERE employer = ?1 AND purpose = ?2 AND day >= ?3 AND (day > ?3 OR (day = ?3 AND serial >= ?4)) ORDER BY employer, purpose, day, serial"
+
+list_from_says : SaysQuery list_from (plain_program 10 by_place columns order)
+unfolding everything
+list_from_says = record { names = _; said = (refl, refl, refl) }
+
 -- ---- what they answer
 
 of_firm : (e : ℕ) (p : Purpose) (y : ℤ × CreditRow) → meets by_purpose (number e ∷ purpose p ∷ []) (credit_values y) ≡ is_credit_of e p (content y)
@@ -99,8 +113,33 @@ of_firm e p y = rw (equal_numbers (content y).employer e, equal_purposes (conten
 abbrev sorted : CreditRow → Row
 sorted x = number x.employer ∷ purpose x.purpose ∷ number x.day ∷ number x.serial ∷ []
 
-rises : (a b : CreditRow) → by_key credit_key a b ≡ Less → output_cmp (plain_query 10 by_purpose columns order) (sorted a, credit_shown a) (sorted b, credit_shown b) ≡ Less
-rises a b h = rw (numbers_compare a.employer b.employer, purposes_compare a.purpose b.purpose, numbers_compare a.day b.day, numbers_compare a.serial b.serial) h
+rises : (conditions : List Term) (a b : CreditRow) → by_key credit_key a b ≡ Less → output_cmp (plain_query 10 conditions columns order) (sorted a, credit_shown a) (sorted b, credit_shown b) ≡ Less
+rises conditions a b h = rw (numbers_compare a.employer b.employer, purposes_compare a.purpose b.purpose, numbers_compare a.day b.day, numbers_compare a.serial b.serial) h
 
 pub answers : {S : Type 0} (g : Ghosts S) (t : Tables) (db : Database) (e : ℕ) (p : Purpose) → HasTables t db → AnswersJust g list (number e ∷ purpose p ∷ []) db (map credit_shown (filter (is_credit_of e p) t.credits))
-answers g t db e p has = lists credits g t db has (number e ∷ purpose p ∷ []) credit_shown (is_credit_of e p) (of_firm e p) list_says sorted (λ _. refl) rises
+answers g t db e p has = lists credits g t db has (number e ∷ purpose p ∷ []) credit_shown (is_credit_of e p) (of_firm e p) list_says sorted (λ _. refl) (rises by_purpose)
+
+-- the parameters of a query for the credits from a place on
+abbrev pub place : ℕ → Purpose → ℕ → ℕ → Row
+place e p d n = number e ∷ purpose p ∷ number d ∷ number n ∷ []
+
+-- the test of the day alone adds nothing to that of day and serial
+from_place : (d n a b : ℕ) → (nat_le d a && (nat_lt d a || ((d == a) && nat_le n b))) ≡ (nat_lt d a || ((a == d) && nat_le n b))
+from_place d n a b = grind (arith, nat_tests)
+
+goes_from : (e : ℕ) (p : Purpose) (d n : ℕ) (y : ℤ × CreditRow) → meets by_place (place e p d n) (credit_values y) ≡ is_credit_from e p d n (content y)
+goes_from e p d n y =
+    let row = content y in
+    rw (equal_numbers row.employer e, equal_purposes row.purpose p, maybe_from (Some row.day) d, comes_from row.day row.serial d n)
+    (joined (row.employer == e) (same_purpose row.purpose p) (nat_le d row.day) (nat_lt d row.day || ((d == row.day) && nat_le n row.serial))
+    ∙ ap (λ b. is_credit_of e p row && b) (from_place d n row.day row.serial))
+  where
+    joined : (a b c d : Bool) → (a && (b && (c && (d && true)))) ≡ ((a && b) && (c && d))
+    joined true true true true = refl
+    joined true true true false = refl
+    joined true true false d = refl
+    joined true false c d = refl
+    joined false b c d = refl
+
+pub answers_from : {S : Type 0} (g : Ghosts S) (t : Tables) (db : Database) (e : ℕ) (p : Purpose) (d n : ℕ) → HasTables t db → AnswersJust g list_from (place e p d n) db (map credit_shown (filter (is_credit_from e p d n) t.credits))
+answers_from g t db e p d n has = lists credits g t db has (place e p d n) credit_shown (is_credit_from e p d n) (goes_from e p d n) list_from_says sorted (λ _. refl) (rises by_place)

@@ -1,3 +1,4 @@
+pub mod From
 pub mod Kept
 pub mod Shown
 pub use Rattle.clear_columns.specs.Keys

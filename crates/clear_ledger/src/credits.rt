@@ -1,6 +1,6 @@
 //! The credits of firms, by firm, purpose, day and serial.
 ghost use Rattle.std.specs.Borrow.{sem, RestsIfErr};
-ghost use Rattle.std.specs.Prelude.{◌≡◌, filter, IfOk};
+ghost use Rattle.std.specs.Prelude.{◌≡◌, ◌<◌, ◌^◌, filter, IfOk};
 ghost use Rattle.sqlite.specs.Held.{state};
 ghost use Rattle.sqlite.specs.Values.{bound};
 ghost use Rattle.sqlite.specs.contracts.connection.Connection.{the_row};
@@ -8,6 +8,7 @@ ghost use Rattle.clear_values.specs.Credits.{credit_key};
 ghost use Rattle.clear_values.specs.Keyed.{with_row};
 ghost use Rattle.clear_values.specs.Credits.{is_credit_of};
 ghost use Rattle.clear_values.specs.RowRanges.{IsCreditRow, IsSerial};
+ghost use Rattle.clear_ledger.specs.From.{is_credit_from};
 ghost use Rattle.clear_ledger.specs.Shown.{credit_shown};
 ghost use Rattle.clear_columns.specs.Keys.{is_held};
 ghost use Rattle.clear_columns.specs.Reading.{HasSomeTables, IsLeft, ReadsOn};
@@ -20,6 +21,7 @@ use clear_columns::parameters::{amount, day, employer as firm, purpose as paymen
 use clear_columns::queries::list;
 use clear_columns::ranges::is_serial;
 use clear_columns::rows::{StoredTable, begin_rows};
+use clear_money::days::Day;
 use clear_money::numbers::EmployerNo;
 use clear_schema::fault::Fault;
 use clear_schema::statement::put;
@@ -64,6 +66,29 @@ pub fn credits_of<S: Alter>(
         (λ t. filter (is_credit_of employer purpose) t.credits) }
 {
     list::<S, Credits>(tx, CREDITS_OF, &[firm(employer), payment(purpose)])
+}
+
+/// The credits of a firm for a purpose from a place on: those of a day and a serial, or of a later
+/// one, in the order of `credits_of`.
+pub fn credits_from<S: Alter>(
+    tx: &mut Transaction<'_, S>,
+    employer: EmployerNo,
+    purpose: Purpose,
+    from: Day,
+    serial: u64,
+) -> Result<Vec<CreditRow>, Fault>
+    requires stored { serial < 2 ^ 63 }
+    ensures same_reference { tx.new.conn.ghost_name ≡ tx.old.conn.ghost_name }
+    ensures looks { Lists S.Store tx.old.conn.now tx.new.conn.now result IsCreditRow
+        (λ t. filter (is_credit_from employer purpose from serial) t.credits) }
+{
+    list::<S, Credits>(
+        tx,
+        "SELECT employer, purpose, day, serial, cents, ref FROM credits \
+         WHERE employer = ?1 AND purpose = ?2 AND day >= ?3 \
+         AND (day > ?3 OR (day = ?3 AND serial >= ?4)) ORDER BY employer, purpose, day, serial",
+        &[firm(employer), payment(purpose), day(from), number(serial)],
+    )
 }
 
 /// The credits of a firm for a purpose, in the order of `credits_of`: `next_row` reads one at a

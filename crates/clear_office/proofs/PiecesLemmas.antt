@@ -15,7 +15,7 @@ use Rattle.clear_values.specs.RowRanges.{AreInRange, IsRequestRow}
 use Rattle.clear_book.specs.declared.calls.Call.{Call}
 use Rattle.clear_values.specs.declared.causes.StoreCause.TheVariants.{Constraint, Row}
 use Rattle.clear_book.specs.Accounts.{charges_of, credits_of, reported_charge}
-use Rattle.clear_book.specs.Allocated.{Follows, KeepsKeys, LeavesChange, LeavesChanged, LeavesPlaces, kept_charges}
+use Rattle.clear_book.specs.Allocated.{Follows, IsWeighed, KeepsKeys, LeavesChange, LeavesChanged, LeavesPlaces, kept_charges}
 use Rattle.clear_book.specs.Book.{Book, Entry, latest_lines, version_of}
 use Rattle.clear_book.specs.Machine.{IsLawful}
 use Rattle.clear_book.specs.Tables.{RequestRow, Tables, Stands, changed, charge_in, charge_key, dated, noted, report_key, request_key, request_row, table_credits}
@@ -111,12 +111,13 @@ accounts b t lawful stands = record {
   credits_in_order = stands.credits_in_order;
 }
 
-module _ (b next : Book) (t : Tables) (x : Entry) (change : Change) (lawful : IsLawful b) (stands : Stands b t) (lawful_next : IsLawful next) (stands_next : Stands next (noted x (changed change t))) (fits : IsFitting change t) where
+module _ (b next : Book) (t : Tables) (x : Entry) (change : Change) (lawful : IsLawful b) (stands : Stands b t) (lawful_next : IsLawful next) (stands_next : Stands next (noted x (changed change t))) (fits : IsFitting change t) (weighed : (e : ℕ) → IsWeighed t e) where
   pub is_put : IsPut change t (dated x.day (changed change t))
   is_put =
       let after = accounts next (noted x (changed change t)) lawful_next stands_next in
       record {
         before = accounts b t lawful stands;
+        weighed = weighed;
         after = record { account = after.account; charges_in_order = after.charges_in_order; credits_in_order = after.credits_in_order };
         has_charge = has_charge b t stands change fits;
         charges = refl;

@@ -1,5 +1,5 @@
 -- The pieces that are put from a start on, and the rows of contributions, are those of the first changed place.
-use Rattle.std.proofs.Common.{◌≡◌, ◌∙◌, ℕ, zero, suc, ◌<◌, ◌≤◌, List, [], ◌∷◌, drop, length, get_or, map, refl, sym, ap, subst, arith}
+use Rattle.std.proofs.Common.{◌≡◌, ◌∙◌, ℕ, zero, suc, ◌<◌, ◌≤◌, List, [], ◌∷◌, drop, length, get_or, inl, map, refl, sym, ap, subst, arith}
 use Rattle.std.specs.List.{All, AllByRecursion}
 use Rattle.std.proofs.lemmas.List.{get_or_read}
 use Rattle.std.proofs.lemmas.List.Elements.{All-from_recursion, All-map, All-weaker}
@@ -27,11 +27,12 @@ use Rattle.clear_book.specs.Tables.{Tables, charge_key, piece_key, table_credits
 use Rattle.clear_store.specs.Changes.{AreFree}
 use Rattle.clear_pieces.specs.Anew.{FromCharge, FromCredit, IsFreeFromCharge, IsFreeFromCredit, credit_place, month_place, pieces_beyond, settled_charges}
 use Rattle.clear_pieces.specs.Firm.{IsFirm, KeepsAccount, kept_as, settled_from}
+use Rattle.clear_pieces.specs.declared.behind.NewCredits.{NewCredits}
 use Rattle.clear_pieces.specs.declared.firm.FirmAccount.{FirmAccount}
 use Rattle.clear_pieces.proofs.RangeLemmas.{settled_in_range}
 
 -- behind all contributions no row is left
-none_settled : (e : ℕ) (charges : List Charge) (credits : List Credit) (n : ℕ) → length charges ≤ n → settled_from e charges credits n ≡ []
+pub none_settled : (e : ℕ) (charges : List Charge) (credits : List Credit) (n : ℕ) → length charges ≤ n → settled_from e charges credits n ≡ []
 none_settled e charges credits n all = ap (map (kept_as e)) (none n (weighed_charges charges credits) (omega (arith, all, length-map-range_with_len (λ i. weighed_charge charges credits i) 0 (length charges))))
   where
     none : {X : Type 0} (n : ℕ) (xs : List X) → length xs ≤ n → drop n xs ≡ []
@@ -138,7 +139,10 @@ module _ (t : Tables) (e : ℕ) (firm : FirmAccount) (is : IsFirm t e firm) wher
       }
 
     -- ---- after a credit
-    module _ (first : Credit) (at : start.place ≡ credited (credits_before first ks)) (from : start.rows ≡ start.charges) where
+    module _ (news : NewCredits) (at : start.place ≡ credited (credits_before news.first ks)) (from : start.rows ≡ start.charges) where
+      abbrev first : Credit
+      first = news.first
+
       there : start.place ≡ credit_place t e first
       there = at ∙ ap (λ xs. credited (credits_before first xs)) paid
 
@@ -151,13 +155,13 @@ module _ (t : Tables) (e : ℕ) (firm : FirmAccount) (is : IsFirm t e firm) wher
             let charge = get_or_read cs start.charges.count c within found (record { month = 0; due = 0; cents = 0 }) ∙ ap (λ xs. charge_at xs start.charges.count) kept in
             (λ i. (charge i, left_beyond i))
 
-        pub credit_anew : (rows : List PieceRow) → rows ≡ left → FromCredit t e first (with_pieces e c.month first.day first.serial rows t.pieces) written
+        pub credit_anew : (rows : List PieceRow) → rows ≡ left → FromCredit t e news (with_pieces e c.month first.day first.serial rows t.pieces) written
         credit_anew rows put = record {
           a = start.charges.count;
           b = start.credits.count;
           charges_end = charges_end (credit_place t e first) there;
           credits_end = credits_end (credit_place t e first) there;
-          anew = λ _. ap (λ rs. with_pieces e c.month first.day first.serial rs t.pieces) put ∙ ap (λ (p : Charge × List PieceRow). with_pieces e p.0.month first.day first.serial p.1 t.pieces) with_month;
+          anew = λ _. inl (ap (λ rs. with_pieces e c.month first.day first.serial rs t.pieces) put ∙ ap (λ (p : Charge × List PieceRow). with_pieces e p.0.month first.day first.serial p.1 t.pieces) with_month);
           stay = λ all. absurd (omega (arith, reached, all));
           settled = written_from start.charges.count (ap (λ (f : Front). f.count) from);
         }
@@ -167,7 +171,7 @@ module _ (t : Tables) (e : ℕ) (firm : FirmAccount) (is : IsFirm t e firm) wher
             subst (λ (p : Charge × List PieceRow). AreFree piece_key (without_rows piece_key (is_piece_key_from e p.0.month first.day first.serial) t.pieces) p.1) (sym with_month)
             (free start.charges.count start.credits.count (charges_end (credit_place t e first) there) (credits_end (credit_place t e first) there) reached)
 
-      pub credit_stays : length cs ≤ start.charges.count → FromCredit t e first t.pieces t.charges
+      pub credit_stays : length cs ≤ start.charges.count → FromCredit t e news t.pieces t.charges
       credit_stays none = record {
         a = start.charges.count;
         b = start.credits.count;

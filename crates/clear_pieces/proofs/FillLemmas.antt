@@ -52,11 +52,11 @@ module _ {X : Type 0} (lt : X → X → Bool) (R : X → X → Type 0) (less : (
   all_after x [] all = tt
   all_after x (y ∷ ys) all = (less x y (All-head (R x) y ys all), all_after x ys (All-tail (R x) y ys all))
 
-  rises : (xs : List X) → AllPairs R xs → Rise lt xs
+  pub rises : (xs : List X) → AllPairs R xs → Rise lt xs
   rises [] pairs = tt
   rises (x ∷ xs) pairs = (all_after x xs (AllPairs-head R x xs pairs), rises xs (AllPairs-tail R x xs pairs))
 
-not_after : (k l : Credit) → comes_before k l ≡ true → comes_before l k ≡ false
+pub not_after : (k l : Credit) → comes_before k l ≡ true → comes_before l k ≡ false
 not_after k l h = grind (arith, nat_tests)
 
 module _ (charges : List Charge) (credits : List Credit) (account : IsAccount charges credits) where

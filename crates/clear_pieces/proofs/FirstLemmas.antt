@@ -1,10 +1,9 @@
 -- Which credit is the first of a firm's new ones.
 use Rattle.std.proofs.Common.{◌≡◌, ◌≢◌, ℕ, ◌+◌, ◌<◌, List, [], ◌∷◌, ◌++◌, length, take, get_or, Option, Some, None, Bool, true, false, cond, ◌&&◌, ◌==◌, nat_lt, filter, refl, sym, ap, ◌∙◌, subst, arith}
 use Rattle.std.specs.List.{AllByRecursion, cons_option}
-use Rattle.std.specs.Option.{option_map_or}
 use Rattle.std.proofs.lemmas.Bool.{eq-eqb, eqb-true, or_parts}
 use Rattle.std.proofs.lemmas.Bool.Decides.{nat_tests}
-use Rattle.std.proofs.lemmas.List.{append-nil, take_more}
+use Rattle.std.proofs.lemmas.List.{append-nil, length-append, take_more}
 use Rattle.std.proofs.lemmas.List.Elements.{Contains-append_left, Contains-append_right, filter-append}
 use Rattle.clear_account.specs.Account.{comes_before}
 use Rattle.clear_account.specs.declared.entries.Credit.{Credit}
@@ -19,18 +18,19 @@ use Rattle.clear_values.proofs.CreditRowsLemmas.{credits_of_lines-append, set_of
 use Rattle.clear_book.specs.Accounts.{row_credit}
 use Rattle.clear_book.specs.Lines.{credit_of_line, is_credit_of, line_credit}
 use Rattle.clear_laws.proofs.WeighedFollowsLemmas.{is_among}
-use Rattle.clear_pieces.specs.Keeping.{AreFirst, IsFirst, IsFirstOf, credit_for, earlier}
+use Rattle.clear_pieces.specs.Keeping.{AreFirst, AreTogether, IsFirst, IsFirstOf, alone, credit_for, earlier}
+use Rattle.clear_pieces.specs.declared.behind.NewCredits.{NewCredits}
 use Rattle.clear_pieces.specs.declared.keep.NewCredit.{NewCredit}
 
 -- ---- where one credit is new
 
 -- it is its firm's
-pub found_itself : (new : NewCredit) → credit_for (Some new) new.employer ≡ Some new.credit
-found_itself new = ap (λ b. cond b (Some new.credit) None) (eq-eqb new.employer new.employer refl)
+pub found_itself : (new : NewCredit) → credit_for (Some new) new.employer ≡ Some (alone new.credit)
+found_itself new = ap (λ b. cond b (Some (alone new.credit)) None) (eq-eqb new.employer new.employer refl)
 
 -- and no other firm's
 pub none_else : (new : NewCredit) (e : ℕ) → is_among (new.employer ∷ []) e ≡ false → credit_for (Some new) e ≡ None
-none_else new e is = ap (λ b. cond b (Some new.credit) None) (other e new.employer (or_parts (e == new.employer) false is).0)
+none_else new e is = ap (λ b. cond b (Some (alone new.credit)) None) (other e new.employer (or_parts (e == new.employer) false is).0)
   where
     other : (m n : ℕ) → (m == n) ≡ false → (n == m) ≡ false
     other m n apart = grind (arith, nat_tests)
@@ -47,18 +47,16 @@ credit_in row = record { employer = row.employer; credit = row_credit row }
 pub alone_first : (row : CreditRow) → row.purpose ≡ Contribution → AreFirst (credit_for (Some (credit_in row))) (row ∷ [])
 alone_first row is e = told (row.employer == e) (same_purpose row.purpose Contribution) (ap (λ p. same_purpose p Contribution) is)
   where
-    told : (own for_it : Bool) → for_it ≡ true → IsFirstOf (cond (own && for_it) (row ∷ []) []) (cond own (Some (row_credit row)) None)
-    told true true on = record {
-      row = row;
-      there = (0, omega arith, refl);
-      is = refl;
-      earliest = (not_before_itself (row_credit row), tt);
-    }
+    told : (own for_it : Bool) → for_it ≡ true → IsFirstOf (cond (own && for_it) (row ∷ []) []) (cond own (Some (alone (row_credit row))) None)
+    told true true on = (
+      record { row = row; there = (0, omega arith, refl); is = refl; earliest = (not_before_itself (row_credit row), tt) },
+      omega arith,
+    )
     told true false on = absurd (cc on)
     told false for_it on = refl
 
 -- what is for other things changes nothing
-pub first_aside : (firsts : ℕ → Option Credit) (rows rest : List CreditRow) → ((e : ℕ) → filter (is_credit_of e Contribution) rest ≡ []) → AreFirst firsts rows → AreFirst firsts (rows ++ rest)
+pub first_aside : (firsts : ℕ → Option NewCredits) (rows rest : List CreditRow) → ((e : ℕ) → filter (is_credit_of e Contribution) rest ≡ []) → AreFirst firsts rows → AreFirst firsts (rows ++ rest)
 first_aside firsts rows rest none are e =
     let own : List CreditRow = filter (is_credit_of e Contribution) rows in
     let same : filter (is_credit_of e Contribution) (rows ++ rest) ≡ own =
@@ -108,9 +106,10 @@ release_first claim serial release cents is some =
 
 -- ---- the first of more credits
 
-pub earlier-none : (o : Option Credit) → earlier o None ≡ o
-earlier-none None = refl
-earlier-none (Some k) = refl
+-- none are put to some
+pub together-none : (o : Option NewCredits) → AreTogether o None o
+together-none None = refl
+together-none (Some some) = refl
 
 -- what comes neither before a credit nor before one that does
 before_neither : (r k l : Credit) → comes_before l k ≡ true → comes_before r k ≡ false → comes_before r l ≡ false
@@ -128,12 +127,10 @@ all_both P [] more all later = later
 all_both P (row ∷ rows) more all later = (all.0, all_both P rows more all.1 later)
 
 -- the first credit of rows and more rows
-first_of_both : (rows more : List CreditRow) (a b : Option Credit) → IsFirstOf rows a → IsFirstOf more b → IsFirstOf (rows ++ more) (earlier a b)
-first_of_both rows more None b none first = subst (λ (xs : List CreditRow). IsFirstOf (xs ++ more) b) (sym none) first
-first_of_both rows more (Some k) None first none = subst (λ (xs : List CreditRow). IsFirst xs k) (sym (ap (λ xs. rows ++ xs) none ∙ append-nil rows)) first
-first_of_both rows more (Some k) (Some l) one two = told (comes_before l k) refl
+first_of_both : (rows more : List CreditRow) (k l : Credit) → IsFirst rows k → IsFirst more l → IsFirst (rows ++ more) (earlier k l)
+first_of_both rows more k l one two = told (comes_before l k) refl
   where
-    told : (b : Bool) → comes_before l k ≡ b → IsFirstOf (rows ++ more) (cond b (Some l) (Some k))
+    told : (b : Bool) → comes_before l k ≡ b → IsFirst (rows ++ more) (cond b l k)
     told true sooner = record {
       row = two.row;
       there = Contains-append_right rows more two.row two.there;
@@ -147,43 +144,36 @@ first_of_both rows more (Some k) (Some l) one two = told (comes_before l k) refl
       earliest = all_both (λ r. comes_before (row_credit r) k ≡ false) rows more one.earliest (all_weaker (λ r. before_former (row_credit r) k l later) more two.earliest);
     }
 
+-- with how many they are, or fewer
+first_of_all : (rows more : List CreditRow) (a b all : Option NewCredits) → AreTogether a b all → IsFirstOf rows a → IsFirstOf more b → IsFirstOf (rows ++ more) all
+first_of_all rows more None b all is none first = subst (λ (o : Option NewCredits). IsFirstOf (rows ++ more) o) (sym is) (subst (λ (xs : List CreditRow). IsFirstOf (xs ++ more) b) (sym none) first)
+first_of_all rows more (Some some) None all is first none =
+    subst (λ (o : Option NewCredits). IsFirstOf (rows ++ more) o) (sym is)
+    (subst (λ (xs : List CreditRow). IsFirstOf xs (Some some)) (sym (ap (λ xs. rows ++ xs) none ∙ append-nil rows)) first)
+first_of_all rows more (Some some) (Some others) None is one two = absurd is
+first_of_all rows more (Some some) (Some others) (Some all) is one two = (
+  subst (λ (k : Credit). IsFirst (rows ++ more) k) (sym is.0) (first_of_both rows more some.first others.first one.0 two.0),
+  omega (arith, is.1, one.1, two.1, length-append rows more),
+)
+
 -- of each firm
-pub first_of_more : (firsts more_firsts now : ℕ → Option Credit) (rows more : List CreditRow) → AreFirst firsts rows → AreFirst more_firsts more
-    → ((e : ℕ) → now e ≡ earlier (firsts e) (more_firsts e)) → AreFirst now (rows ++ more)
+pub first_of_more : (firsts more_firsts now : ℕ → Option NewCredits) (rows more : List CreditRow) → AreFirst firsts rows → AreFirst more_firsts more
+    → ((e : ℕ) → AreTogether (firsts e) (more_firsts e) (now e)) → AreFirst now (rows ++ more)
 first_of_more firsts more_firsts now rows more are more_are is e =
     let own = is_credit_of e Contribution in
-    subst (λ (o : Option Credit). IsFirstOf (filter own (rows ++ more)) o) (sym (is e))
-    (subst (λ (xs : List CreditRow). IsFirstOf xs (earlier (firsts e) (more_firsts e))) (sym (filter-append own rows more))
-    (first_of_both (filter own rows) (filter own more) (firsts e) (more_firsts e) (are e) (more_are e)))
+    subst (λ (xs : List CreditRow). IsFirstOf xs (now e)) (sym (filter-append own rows more))
+    (first_of_all (filter own rows) (filter own more) (firsts e) (more_firsts e) (now e) (is e) (are e) (more_are e))
 
 -- ---- one credit more is entered
 
-module _ (old : ℕ → Option Credit) (new : NewCredit) where
-  firm_is : (e : ℕ) → (new.employer == e) ≡ true → old new.employer ≡ old e
-  firm_is e is = ap old (eqb-true new.employer e is)
-
-  -- it comes first
-  pub entered : (now : ℕ → Option Credit) → option_map_or (comes_before new.credit) (old new.employer) true ≡ true
-      → ((e : ℕ) → now e ≡ cond (new.employer == e) (Some new.credit) (old e)) → (e : ℕ) → now e ≡ earlier (old e) (credit_for (Some new) e)
-  entered now sooner grown e = grown e ∙ told (new.employer == e) refl (old e) refl
-    where
-      told : (b : Bool) → (new.employer == e) ≡ b → (o : Option Credit) → old e ≡ o → cond b (Some new.credit) (old e) ≡ earlier (old e) (cond b (Some new.credit) None)
-      told false other o is = sym (earlier-none (old e))
-      told true own None is = ap (λ p. earlier p (Some new.credit)) (sym is)
-      told true own (Some k) is =
-          let before : comes_before new.credit k ≡ true = ap (λ p. option_map_or (comes_before new.credit) p true) (sym is ∙ sym (firm_is e own)) ∙ sooner in
-          sym (ap (λ b. cond b (Some new.credit) (Some k)) before) ∙ ap (λ p. earlier p (Some new.credit)) (sym is)
-
-  -- or an earlier one stands
-  pub left_out : option_map_or (comes_before new.credit) (old new.employer) true ≡ false → (e : ℕ) → old e ≡ earlier (old e) (credit_for (Some new) e)
-  left_out later e = told (new.employer == e) refl (old e) refl
-    where
-      told : (b : Bool) → (new.employer == e) ≡ b → (o : Option Credit) → old e ≡ o → old e ≡ earlier (old e) (cond b (Some new.credit) None)
-      told false other o is = sym (earlier-none (old e))
-      told true own None is = absurd (cc (sym (ap (λ p. option_map_or (comes_before new.credit) p true) (firm_is e own ∙ is)) ∙ later))
-      told true own (Some k) is =
-          let behind : comes_before new.credit k ≡ false = ap (λ p. option_map_or (comes_before new.credit) p true) (sym is ∙ sym (firm_is e own)) ∙ later in
-          is ∙ sym (ap (λ b. cond b (Some new.credit) (Some k)) behind) ∙ ap (λ p. earlier p (Some new.credit)) (sym is)
+pub entered : (old : ℕ → Option NewCredits) (new : NewCredit) (all : NewCredits) (now : ℕ → Option NewCredits) → AreTogether (old new.employer) (Some (alone new.credit)) (Some all)
+    → ((e : ℕ) → now e ≡ cond (new.employer == e) (Some all) (old e)) → (e : ℕ) → AreTogether (old e) (credit_for (Some new) e) (now e)
+entered old new all now are grown e =
+    subst (λ (o : Option NewCredits). AreTogether (old e) (credit_for (Some new) e) o) (sym (grown e)) (told (new.employer == e) refl)
+  where
+    told : (b : Bool) → (new.employer == e) ≡ b → AreTogether (old e) (cond b (Some (alone new.credit)) None) (cond b (Some all) (old e))
+    told true own = subst (λ (k : ℕ). AreTogether (old k) (Some (alone new.credit)) (Some all)) (eqb-true new.employer e own) are
+    told false other = together-none (old e)
 
 -- ---- the lines of a file, one after another
 

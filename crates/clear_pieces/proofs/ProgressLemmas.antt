@@ -6,7 +6,6 @@ use Rattle.sqlite.specs.Held.{Held, state}
 use Rattle.sqlite.specs.State.{HasCleanDisk}
 use Rattle.sqlite.specs.Store.{Ghosts}
 use Rattle.clear_account.specs.Account.{IsAccount}
-use Rattle.clear_account.specs.declared.entries.Credit.{Credit}
 use Rattle.clear_rows.proofs.Inside.{keeps_both, keeps_none, survives_both, survives_none}
 use Rattle.clear_values.specs.RowRanges.{IsSerial}
 use Rattle.clear_values.specs.declared.rows.CreditRow.{CreditRow}
@@ -20,10 +19,12 @@ use Rattle.clear_schema.specs.Frame.{GoesOn}
 use Rattle.clear_schema.specs.Held.{HasTables}
 use Rattle.clear_schema.specs.declared.fault.Fault.{Fault}
 use Rattle.clear_views.proofs.ReadLemmas.{was_clean}
-use Rattle.clear_pieces.specs.Anew.{FromCredit, IsFreeFromCredit}
+use Rattle.clear_pieces.specs.Anew.{FromCredit, IsFreeBehind, IsFreeFromCredit}
+use Rattle.clear_pieces.specs.Behind.{IsWeighedBefore}
 use Rattle.clear_pieces.specs.Firm.{KeepsAccount}
 use Rattle.clear_pieces.specs.Keeping.{AreCreditsPut, AreFirst, Keeps, WasRight}
-use Rattle.clear_pieces.proofs.CreditLemmas.{first_serial, firms_first, is_first, next_account, next_free, next_keeps, next_put}
+use Rattle.clear_pieces.specs.declared.behind.NewCredits.{NewCredits}
+use Rattle.clear_pieces.proofs.CreditLemmas.{first_serial, firms_first, is_first, next_account, next_free, next_free-behind, next_keeps, next_put, next_weighed}
 use Rattle.clear_pieces.proofs.StepLemmas.{FollowSoFar, all_put}
 
 module _ {S : Type 0} (g : Ghosts S) (old : Held S) (news : List CreditRow) where
@@ -48,7 +49,7 @@ module _ {S : Type 0} (g : Ghosts S) (old : Held S) (news : List CreditRow) wher
     stays = done.stays;
   }
 
-  module _ (firsts : ℕ → Option Credit) (are : AreFirst firsts news) where
+  module _ (firsts : ℕ → Option NewCredits) (are : AreFirst firsts news) where
     -- at first all firms with a new credit are left
     pub none_done : (left : List ℕ) → ((e : ℕ) → is_among left e ≡ false → firsts e ≡ None) → Progress old left
     none_done left others = record {
@@ -61,10 +62,10 @@ module _ {S : Type 0} (g : Ghosts S) (old : Held S) (news : List CreditRow) wher
     }
 
     -- the next one's are put, or are not
-    module _ (mid new : Held S) (e : ℕ) (k : Credit) (left : List ℕ) (found : firsts e ≡ Some k) (once : is_among left e ≡ false) (before : Progress mid (e ∷ left)) (result : Result (Unit {0}) Fault)
+    module _ (mid new : Held S) (e : ℕ) (credits : NewCredits) (left : List ℕ) (found : firsts e ≡ Some credits) (once : is_among left e ≡ false) (before : Progress mid (e ∷ left)) (result : Result (Unit {0}) Fault)
         (puts : HasCleanDisk (state g new) → (u : Tables) → HasTables u (state g mid).now
-        → OnOk result ((pieces : List PieceRow) × (charges : List KeptCharge) × HasTables (record u { pieces = pieces; charges = charges }) (state g new).now × (IsAccount (kept_charges u e) (table_credits u e) → FromCredit u e k pieces charges)))
-        (fault : HasCleanDisk (state g new) → (u : Tables) → HasTables u (state g mid).now → KeepsAccount u e → IsFreeFromCredit u e k → IsSerial k.serial → IfErr result IsOfDisk)
+        → OnOk result ((pieces : List PieceRow) × (charges : List KeptCharge) × HasTables (record u { pieces = pieces; charges = charges }) (state g new).now × (IsAccount (kept_charges u e) (table_credits u e) → IsWeighedBefore u e credits → FromCredit u e credits pieces charges)))
+        (fault : HasCleanDisk (state g new) → (u : Tables) → HasTables u (state g mid).now → KeepsAccount u e → IsWeighedBefore u e credits → IsFreeFromCredit u e credits.first → IsFreeBehind u e credits → IsSerial credits.first.serial → IfErr result IsOfDisk)
         (stays : GoesOn g mid new result) where
       so_far : HasCleanDisk (state g new) → (v : Tables) → HasTables v (state g old).now → HasLeft mid (e ∷ left) v
       so_far clean v has = before.put (was_clean (state g mid) (state g new) stays.survives clean) v has
@@ -73,16 +74,18 @@ module _ {S : Type 0} (g : Ghosts S) (old : Held S) (news : List CreditRow) wher
       next_left clean v has =
           let was = so_far clean v has in
           on_ok_weaker result
-          (λ now. (now.0, now.1, now.2, λ t put. next_put news t v put firsts are e k found left once was.0 was.1 (was.3 t put) now.0 now.1 (now.3 (next_account news t v put firsts are e k found left once was.0 was.1 (was.3 t put)))))
+          (λ now. (now.0, now.1, now.2, λ t put. next_put news t v put firsts are e credits found left once was.0 was.1 (was.3 t put) now.0 now.1 (now.3 (next_account news t v put firsts are e credits found left once was.0 was.1 (was.3 t put)) (next_weighed news t v put firsts are e credits found left once was.0 was.1 (was.3 t put)))))
           (puts clean (record v { pieces = was.0; charges = was.1 }) was.2)
 
       next_fault : HasCleanDisk (state g new) → (v : Tables) → HasTables v (state g old).now → WasRight (AreCreditsPut news) v → IfErr result IsOfDisk
       next_fault clean v has right =
           let was = so_far clean v has in
           fault clean (record v { pieces = was.0; charges = was.1 }) was.2
-          (next_keeps news right.t v right.put firsts are e k found left once was.0 was.1 (was.3 right.t right.put) right.ranges)
-          (next_free news right.t v right.put firsts are e k found left once was.0 was.1 (was.3 right.t right.put) right.g right.keys right.allocated)
-          (first_serial news right.t v right.put right.ranges e k (is_first news right.t v right.put firsts are e k found))
+          (next_keeps news right.t v right.put firsts are e credits found left once was.0 was.1 (was.3 right.t right.put) right.ranges)
+          (next_weighed news right.t v right.put firsts are e credits found left once was.0 was.1 (was.3 right.t right.put))
+          (next_free news right.t v right.put firsts are e credits found left once was.0 was.1 (was.3 right.t right.put) right.g right.keys right.allocated)
+          (next_free-behind news right.t v right.put firsts are e credits found left once was.0 was.1 (was.3 right.t right.put) right.g right.keys right.allocated)
+          (first_serial news right.t v right.put right.ranges e credits.first (is_first news right.t v right.put firsts are e credits found))
 
       next_stays : GoesOn g old new result
       next_stays = record {

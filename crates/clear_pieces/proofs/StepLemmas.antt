@@ -1,30 +1,35 @@
 -- The pieces of a firm that is left are put, and what is open of its contributions: then one firm less is left.
-use Rattle.std.proofs.Common.{◌≡◌, ℕ, ◌<◌, ◌≤◌, List, [], ◌∷◌, ◌⊎◌, inl, inr, drop, length, map, false, refl, sym, subst, ◌∙◌}
+use Rattle.std.proofs.Common.{◌≡◌, ℕ, ◌<◌, ◌≤◌, List, [], ◌∷◌, ◌⊎◌, inl, inr, ◌==◌, drop, length, map, false, refl, sym, ap, subst, ◌∙◌}
 use Rattle.std.specs.List.{All, AllByRecursion, Contains}
-use Rattle.std.proofs.lemmas.Bool.{cases_lt}
+use Rattle.std.proofs.lemmas.Bool.{cases_lt, or_right}
 use Rattle.clear_account.specs.Account.{IsAccount, charge_at, credit_at}
+use Rattle.clear_account.specs.Places.{Ends}
 use Rattle.clear_account.specs.declared.entries.Charge.{Charge}
 use Rattle.clear_account.specs.declared.entries.Credit.{Credit}
-use Rattle.clear_kept.specs.Changes.{charges_before}
+use Rattle.clear_kept.specs.Changes.{charges_before, credits_before}
 use Rattle.clear_kept.specs.Weighed.{weighed_charges}
 use Rattle.clear_kept.specs.declared.rows.WeighedCharge.{WeighedCharge}
-use Rattle.clear_values.specs.Keyed.{AreInOrder, without_rows}
+use Rattle.clear_values.specs.Keyed.{AreInOrder, with_rows, without_rows}
 use Rattle.clear_values.specs.Tables.{is_piece_key_from}
 use Rattle.clear_values.specs.declared.rows.KeptCharge.{KeptCharge}
 use Rattle.clear_values.specs.declared.rows.PieceRow.{PieceRow}
 use Rattle.clear_book.specs.Allocated.{AreAllocated, AreSameCharges, FirstCredit, FirstMonth, KeepsKeys, contribution_rows, kept_charges, weighed_in}
-use Rattle.clear_book.specs.Tables.{IsPaidInRange, Tables, charge_key, piece_key, table_credits}
+use Rattle.clear_book.specs.Tables.{IsPaidInRange, Tables, charge_key, piece_key, table_credits, with_pieces}
 use Rattle.clear_laws.proofs.AccountChangeLemmas.{ChangesCharge}
-use Rattle.clear_laws.proofs.AllocatedLemmas.{charge_puttable, credits_puttable}
-use Rattle.clear_laws.proofs.FollowsLemmas.{FollowsBut, charge_follows, charge_follows-left, credits_follow, credits_follow-left, follows_beside, follows_last, next_there}
+use Rattle.clear_laws.proofs.AllocatedLemmas.{charge_puttable, credits_puttable, pieces_from-own}
+use Rattle.clear_laws.proofs.FollowsLemmas.{FollowsAt, FollowsBut, charge_follows, charge_follows-left, credits_follow, credits_follow-left, follows_beside, follows_last, next_there}
 use Rattle.clear_laws.proofs.SameChargesLemmas.{same_in_order, same_kept}
 use Rattle.clear_laws.proofs.SettledLemmas.{settled_all}
 use Rattle.clear_laws.proofs.WeighedFollowsLemmas.{WeighsBut, charge_settled, credits_settled, is_among, settled_alike, weighs_beside}
 use Rattle.clear_laws.proofs.WeighedLemmas.{news_in_range, settled_row-own, settled_row-weighed}
 use Rattle.clear_store.proofs.OnceLemmas.{in_order_free}
-use Rattle.clear_pieces.specs.Anew.{FromCharge, FromCredit, IsFreeFromCharge, IsFreeFromCredit, credit_place, month_place, pieces_beyond, settled_charges}
+use Rattle.clear_store.specs.Changes.{AreFree}
+use Rattle.clear_pieces.specs.Anew.{ArePut, FromCharge, FromCredit, IsFreeBehind, IsFreeFromCharge, IsFreeFromCredit, credit_place, month_place, pieces_beyond, settled_charges}
+use Rattle.clear_pieces.specs.Behind.{AreLast}
 use Rattle.clear_pieces.specs.Firm.{settled_from}
 use Rattle.clear_pieces.specs.Keeping.{AreFollowing}
+use Rattle.clear_pieces.specs.declared.behind.NewCredits.{NewCredits}
+use Rattle.clear_pieces.proofs.SoonerLemmas.{none_taken, others_stay}
 
 -- ---- the pieces
 
@@ -57,15 +62,50 @@ module _ (t u : Tables) (e : ℕ) (firms : List ℕ) (once : is_among firms e �
 
   -- ---- credits were put in
 
-  module _ (k : Credit) (charges : kept_charges u e ≡ kept_charges t e) (kept : All (Contains (contribution_rows u e)) (contribution_rows t e))
-      (first : FirstCredit (table_credits t e) (table_credits u e) k) where
-    pub credit_put : (pieces : List PieceRow) (settled : List KeptCharge) → FromCredit u e k pieces settled → Follow pieces
+  module _ (credits : NewCredits) (charges : kept_charges u e ≡ kept_charges t e) (kept : All (Contains (contribution_rows u e)) (contribution_rows t e))
+      (first : FirstCredit (table_credits t e) (table_credits u e) credits.first) (sooner : AreLast u e credits → credits_before credits.first (table_credits t e) ≡ table_credits t e) where
+    abbrev k : Credit
+    k = credits.first
+
+    -- no piece stands from the first new credit on
+    none_there : AreLast u e credits → (month : ℕ) (g : PieceRow → PieceRow) → KeepsKeys g → AreAllocated g t → without_rows piece_key (is_piece_key_from e month k.day k.serial) u.pieces ≡ u.pieces
+    none_there last month g keeps allocated =
+        none_taken e month k g keeps (kept_charges t e) (contribution_rows t e) (sooner last) u.pieces (next_there e firms once t u before ∙ allocated.pieces e)
+
+    -- its pieces come to those that stand
+    module _ (last : AreLast u e credits) (a b : ℕ) (ends_c : Ends (λ c. c.cents) (kept_charges u e) (credit_place u e k) a) (ends_k : Ends (λ l. l.cents) (table_credits u e) (credit_place u e k) b)
+        (within : a < length (kept_charges u e)) where
+      abbrev added : List PieceRow
+      added = with_rows piece_key u.pieces (pieces_beyond u e a b)
+
+      abbrev month : ℕ
+      month = (charge_at (kept_charges u e) a).month
+
+      put_anew : Follow (with_pieces e month k.day k.serial (pieces_beyond u e a b) u.pieces)
+      put_anew = credits_follow e firms once t u before old new k (credit_place u e k) a b charges kept first refl ends_c ends_k within
+
+      same_put : (g : PieceRow → PieceRow) → KeepsKeys g → AreAllocated g t → with_pieces e month k.day k.serial (pieces_beyond u e a b) u.pieces ≡ added
+      same_put g keeps allocated = ap (λ rows. with_rows piece_key rows (pieces_beyond u e a b)) (none_there last month g keeps allocated)
+
+      credit_added : Follow added
+      credit_added = record {
+        done = λ f is g keeps leaves allocated.
+            subst (λ (rows : List PieceRow). FollowsAt t (record u { pieces = rows }) f) (same_put g keeps allocated) (put_anew.done f is) g keeps leaves allocated;
+        as_before = λ f is. others_stay e firms once f is u.pieces (pieces_beyond u e a b) (pieces_from-own u e a b) ∙ before.as_before f (or_right (f == e) (is_among firms f) is);
+        in_order = λ g keeps allocated. subst (AreInOrder piece_key) (same_put g keeps allocated) (put_anew.in_order g keeps allocated);
+      }
+
+    pub credit_put : (pieces : List PieceRow) (settled : List KeptCharge) → FromCredit u e credits pieces settled → Follow pieces
     credit_put pieces settled from = told (cases_lt from.a (length (kept_charges u e)))
       where
-        told : (from.a < length (kept_charges u e)) ⊎ (length (kept_charges u e) ≤ from.a) → Follow pieces
-        told (inl within) =
-            subst Follow (sym (from.anew within))
+        put : from.a < length (kept_charges u e) → ArePut u e credits from.a from.b pieces → Follow pieces
+        put within (inl is) =
+            subst Follow (sym is)
             (credits_follow e firms once t u before old new k (credit_place u e k) from.a from.b charges kept first refl from.charges_end from.credits_end within)
+        put within (inr added) = subst Follow (sym added.1) (credit_added added.0 from.a from.b from.charges_end from.credits_end within)
+
+        told : (from.a < length (kept_charges u e)) ⊎ (length (kept_charges u e) ≤ from.a) → Follow pieces
+        told (inl within) = put within (from.anew within)
         told (inr past) =
             subst Follow (sym (from.stay past))
             (credits_follow-left e firms once t u before old new k (credit_place u e k) from.a from.b charges kept first refl from.charges_end from.credits_end past)
@@ -75,6 +115,12 @@ module _ (t u : Tables) (e : ℕ) (firms : List ℕ) (once : is_among firms e �
     credit_free g keeps allocated a b ends_c ends_k within =
         in_order_free piece_key (without_rows piece_key (is_piece_key_from e (charge_at (kept_charges u e) a).month k.day k.serial) u.pieces) (pieces_beyond u e a b)
         (credits_puttable g keeps t u e (before.in_order g keeps allocated) (next_there e firms once t u before) (allocated.pieces e) old new k (credit_place u e k) a b charges kept first.0 refl ends_c ends_k within).in_order
+
+    -- also among all that stand
+    pub credit_free-behind : (g : PieceRow → PieceRow) → KeepsKeys g → AreAllocated g t → IsFreeBehind u e credits
+    credit_free-behind g keeps allocated last a b ends_c ends_k within =
+        subst (λ (rows : List PieceRow). AreFree piece_key rows (pieces_beyond u e a b)) (none_there last (charge_at (kept_charges u e) a).month g keeps allocated)
+        (credit_free g keeps allocated a b ends_c ends_k within)
 
 -- ---- with what is open of the contributions
 
@@ -155,13 +201,14 @@ module _ (t v : Tables) (e : ℕ) (firms : List ℕ) (once : is_among firms e �
   pub account_so_far : IsAccount (kept_charges u e) (table_credits u e)
   account_so_far = subst (λ (cs : List Charge). IsAccount cs (table_credits v e)) kept_so_far new
 
-  module _ (k : Credit) (charges : kept_charges v e ≡ kept_charges t e) (kept : All (Contains (contribution_rows v e)) (contribution_rows t e)) (first : FirstCredit (table_credits t e) (table_credits v e) k) where
+  module _ (credits : NewCredits) (charges : kept_charges v e ≡ kept_charges t e) (kept : All (Contains (contribution_rows v e)) (contribution_rows t e)) (first : FirstCredit (table_credits t e) (table_credits v e) credits.first)
+      (sooner : AreLast v e credits → credits_before credits.first (table_credits t e) ≡ table_credits t e) where
     charges_so_far : kept_charges u e ≡ kept_charges t e
     charges_so_far = sym kept_so_far ∙ charges
 
-    pub credit_next : (pieces : List PieceRow) (settled : List KeptCharge) → FromCredit u e k pieces settled → FollowSoFar t v firms pieces settled
+    pub credit_next : (pieces : List PieceRow) (settled : List KeptCharge) → FromCredit u e credits pieces settled → FollowSoFar t v firms pieces settled
     credit_next pieces settled from = record {
-      follows = follows_beside t (record u { pieces = pieces }) firms settled (credit_put t u e firms once before.follows old account_so_far k charges_so_far kept first pieces settled from) same;
+      follows = follows_beside t (record u { pieces = pieces }) firms settled (credit_put t u e firms once before.follows old account_so_far credits charges_so_far kept first sooner pieces settled from) same;
       weighs = weighs_beside t (record u { charges = settled }) firms pieces (subst (λ (cs : List KeptCharge). WeighsBut t (record u { charges = cs }) firms) (sym from.settled) put);
       same = before.same ∙ same;
       paid = λ all. subst (AllByRecursion IsPaidInRange) (sym from.settled) (settled_paid u e order account_so_far from.a (before.paid all));
@@ -172,8 +219,11 @@ module _ (t v : Tables) (e : ℕ) (firms : List ℕ) (once : is_among firms e �
 
         put : WeighsBut t (record u { charges = settled_charges u e from.a }) firms
         put =
-            credits_settled e firms once t u before.weighs order k (credit_place u e k) from.a old account_so_far first.0 refl from.charges_end
+            credits_settled e firms once t u before.weighs order credits.first (credit_place u e credits.first) from.a old account_so_far first.0 refl from.charges_end
             (news u e order account_so_far from.a) (own u e order account_so_far from.a) (weighed u e order account_so_far from.a)
 
-    pub credit_next-free : (g : PieceRow → PieceRow) → KeepsKeys g → AreAllocated g t → IsFreeFromCredit u e k
-    credit_next-free = credit_free t u e firms once before.follows old account_so_far k charges_so_far kept first
+    pub credit_next-free : (g : PieceRow → PieceRow) → KeepsKeys g → AreAllocated g t → IsFreeFromCredit u e credits.first
+    credit_next-free = credit_free t u e firms once before.follows old account_so_far credits charges_so_far kept first sooner
+
+    pub credit_next-free_behind : (g : PieceRow → PieceRow) → KeepsKeys g → AreAllocated g t → IsFreeBehind u e credits
+    credit_next-free_behind = credit_free-behind t u e firms once before.follows old account_so_far credits charges_so_far kept first sooner

@@ -1,19 +1,21 @@
 -- The pieces of a firm, and what is open of its contributions, put anew from the first changed
 -- place of its account on.
-use Rattle.std.specs.Prelude.{◌≡◌, ℕ, ◌<◌, ◌≤◌, List, drop, length}
+use Rattle.std.specs.Prelude.{◌≡◌, ℕ, ◌<◌, ◌≤◌, ◌⊎◌, List, drop, length}
 use Rattle.clear_account.specs.Account.{charge_at, charged, charged_up_to, credit_at}
 use Rattle.clear_account.specs.Account.{credited, credited_up_to}
 use Rattle.clear_account.specs.Places.{Ends}
 use Rattle.clear_account.specs.declared.entries.Credit.{Credit}
 use Rattle.clear_kept.specs.Changes.{charges_before, credits_before}
-use Rattle.clear_values.specs.Keyed.{replaced_rows, without_rows}
+use Rattle.clear_values.specs.Keyed.{replaced_rows, with_rows, without_rows}
 use Rattle.clear_values.specs.Tables.{is_piece_key_from}
 use Rattle.clear_values.specs.declared.rows.KeptCharge.{KeptCharge}
 use Rattle.clear_values.specs.declared.rows.PieceRow.{PieceRow}
 use Rattle.clear_book.specs.Allocated.{contribution_rows, kept_charges, pieces_left}
 use Rattle.clear_book.specs.Tables.{Tables, charge_key, piece_key, table_credits, with_pieces}
 use Rattle.clear_store.specs.Changes.{AreFree}
+use Rattle.clear_pieces.specs.Behind.{AreLast}
 use Rattle.clear_pieces.specs.Firm.{settled_from}
+use Rattle.clear_pieces.specs.declared.behind.NewCredits.{NewCredits}
 
 -- the place of the contribution of a month: the contributions of earlier months
 abbrev pub month_place : Tables → ℕ → ℕ → ℕ
@@ -67,19 +69,26 @@ IsFreeFromCharge t e month =
 
 -- ---- after credits were put in
 
+-- the pieces of a firm's contributions but for the first a, of its credits but for the first b,
+-- are put: in the place of those of the next contribution or a later one, of the first new credit
+-- or a later one; or, where the new credits are the last, beside all that stand
+abbrev pub ArePut : Tables → ℕ → NewCredits → ℕ → ℕ → List PieceRow → Type 0
+ArePut t e news a b pieces =
+    (pieces
+    ≡ with_pieces e (charge_at (kept_charges t e) a).month news.first.day news.first.serial
+    (pieces_beyond t e a b) t.pieces)
+    ⊎ (AreLast t e news × (pieces ≡ with_rows piece_key t.pieces (pieces_beyond t e a b)))
+
 -- a of the firm's contributions and b of its credits end at or below the place of the first new
--- one; its pieces of the next contribution or a later one, of that credit or a later one, give
--- way to those of its other contributions and credits. Without a next contribution all pieces
--- stay. What is open of the next contribution and of later ones is written
-pub record FromCredit (t : Tables) (e : ℕ) (first : Credit) (pieces : List PieceRow)
+-- one; the pieces of its other contributions and credits are put. Without a next contribution all
+-- pieces stay. What is open of the next contribution and of later ones is written
+pub record FromCredit (t : Tables) (e : ℕ) (news : NewCredits) (pieces : List PieceRow)
     (charges : List KeptCharge) : Type 0 where
   pub a : ℕ
   pub b : ℕ
-  pub charges_end : Ends (λ c. c.cents) (kept_charges t e) (credit_place t e first) a
-  pub credits_end : Ends (λ k. k.cents) (table_credits t e) (credit_place t e first) b
-  pub anew : a < length (kept_charges t e) → pieces
-      ≡ with_pieces e (charge_at (kept_charges t e) a).month first.day first.serial
-      (pieces_beyond t e a b) t.pieces
+  pub charges_end : Ends (λ c. c.cents) (kept_charges t e) (credit_place t e news.first) a
+  pub credits_end : Ends (λ k. k.cents) (table_credits t e) (credit_place t e news.first) b
+  pub anew : a < length (kept_charges t e) → ArePut t e news a b pieces
   pub stay : length (kept_charges t e) ≤ a → pieces ≡ t.pieces
   pub settled : charges ≡ settled_charges t e a
 
@@ -93,3 +102,11 @@ IsFreeFromCredit t e first =
     (without_rows piece_key
     (is_piece_key_from e (charge_at (kept_charges t e) a).month first.day first.serial) t.pieces)
     (pieces_beyond t e a b)
+
+-- where the new credits are the last, those keys are free among all pieces, and stand once
+abbrev pub IsFreeBehind : Tables → ℕ → NewCredits → Type 0
+IsFreeBehind t e news =
+    AreLast t e news
+    → (a b : ℕ) → Ends (λ c. c.cents) (kept_charges t e) (credit_place t e news.first) a
+    → Ends (λ k. k.cents) (table_credits t e) (credit_place t e news.first) b
+    → a < length (kept_charges t e) → AreFree piece_key t.pieces (pieces_beyond t e a b)

@@ -1,6 +1,6 @@
 -- The pieces, and what is open of the contributions, follow a change that was put into the tables.
-use Rattle.std.specs.Prelude.{◌≡◌, ◌≢◌, ℕ, List, [], Bool, true, false, Option, Some, None}
-use Rattle.std.specs.Prelude.{◌==◌, IfErr, OnOk, Result, filter, if◌then◌else◌}
+use Rattle.std.specs.Prelude.{◌≡◌, ◌≢◌, ◌≤◌, ◌+◌, ℕ, List, [], Bool, true, false, Option, Some, None}
+use Rattle.std.specs.Prelude.{◌==◌, IfErr, OnOk, Result, filter, if◌then◌else◌, length}
 use Rattle.std.specs.List.{AllByRecursion, Contains}
 use Rattle.sqlite.specs.Effect.{Database}
 use Rattle.sqlite.specs.Held.{Held, state}
@@ -17,8 +17,8 @@ use Rattle.clear_values.specs.declared.rows.PieceRow.{PieceRow}
 use Rattle.clear_values.specs.Keyed.{AreInOrder, is_held, with_rows}
 use Rattle.clear_values.specs.RowRanges.{AreInRange}
 use Rattle.clear_book.specs.Accounts.{credit_key, row_credit}
-use Rattle.clear_book.specs.Allocated.{AreAllocated, AreSameCharges, Follows, KeepsKeys}
-use Rattle.clear_book.specs.Allocated.{kept_charges}
+use Rattle.clear_book.specs.Allocated.{AreAllocated, AreSameCharges, Follows, IsWeighed}
+use Rattle.clear_book.specs.Allocated.{KeepsKeys, kept_charges}
 use Rattle.clear_book.specs.Lines.{is_credit_of}
 use Rattle.clear_book.specs.Tables.{IsPaidInRange, Tables, changed, charge_at, charge_in}
 use Rattle.clear_book.specs.Tables.{charge_key, table_credits}
@@ -26,6 +26,7 @@ use Rattle.clear_schema.specs.Faults.{IsOfDisk}
 use Rattle.clear_schema.specs.Frame.{GoesOn}
 use Rattle.clear_schema.specs.Held.{HasTables}
 use Rattle.clear_schema.specs.declared.fault.Fault.{Fault}
+use Rattle.clear_pieces.specs.declared.behind.NewCredits.{NewCredits}
 use Rattle.clear_pieces.specs.declared.keep.NewCredit.{NewCredit}
 
 -- what the tables keep of each firm is an account, in the order of its keys
@@ -47,10 +48,11 @@ abbrev pub HasCharge : Change → Tables → Type 0
 HasCharge (ReplaceReport row lines charge) t = is_held charge_key charge t.charges ≡ true
 HasCharge change t = Unit {0}
 
--- the change was put into the tables of accounts, and those are accounts again; the pieces are
--- still as they were
+-- the change was put into the tables of accounts, whose contributions had what is open of them, and
+-- those are accounts again; the pieces are still as they were
 pub record IsPut (change : Change) (t v : Tables) : Type 0 where
   pub before : AreAccounts t
+  pub weighed : (e : ℕ) → IsWeighed t e
   pub after : AreAccounts v
   pub has_charge : HasCharge change t
   pub charges : v.charges ≡ (changed change t).charges
@@ -59,10 +61,11 @@ pub record IsPut (change : Change) (t v : Tables) : Type 0 where
 
 -- ---- credits that were put
 
--- credits were put into the tables of accounts, and those are accounts again; the pieces are
--- still as they were
+-- credits were put into the tables of accounts, whose contributions had what is open of them, and
+-- those are accounts again; the pieces are still as they were
 pub record AreCreditsPut (news : List CreditRow) (t v : Tables) : Type 0 where
   pub before : AreAccounts t
+  pub weighed : (e : ℕ) → IsWeighed t e
   pub after : AreAccounts v
   pub charges : v.charges ≡ t.charges
   pub credits : v.credits ≡ with_rows credit_key t.credits news
@@ -75,25 +78,35 @@ pub record IsFirst (rows : List CreditRow) (k : Credit) : Type 0 where
   pub is : row_credit row ≡ k
   pub earliest : AllByRecursion (λ other. comes_before (row_credit other) k ≡ false) rows
 
--- the first credit of rows, and none where there is no row
-abbrev pub IsFirstOf : List CreditRow → Option Credit → Type 0
+-- the first credit of rows and how many they are, or fewer, and none where there is no row
+abbrev pub IsFirstOf : List CreditRow → Option NewCredits → Type 0
 IsFirstOf rows None = rows ≡ []
-IsFirstOf rows (Some k) = IsFirst rows k
+IsFirstOf rows (Some new) = IsFirst rows new.first × new.count ≤ length rows
 
--- of each firm the first of its new credits for contributions
-abbrev pub AreFirst : (ℕ → Option Credit) → List CreditRow → Type 0
-AreFirst firsts news = (e : ℕ) → IsFirstOf (filter (is_credit_of e Contribution) news) (firsts e)
+-- of each firm the first of its new credits for contributions, and how many they are, or fewer
+abbrev pub AreFirst : (ℕ → Option NewCredits) → List CreditRow → Type 0
+AreFirst firms news = (e : ℕ) → IsFirstOf (filter (is_credit_of e Contribution) news) (firms e)
+
+-- a credit alone
+abbrev pub alone : Credit → NewCredits
+alone k = record { first = k; count = 1 }
 
 -- the firm's credit, if the one that is new is its
-abbrev pub credit_for : Option NewCredit → ℕ → Option Credit
+abbrev pub credit_for : Option NewCredit → ℕ → Option NewCredits
 credit_for None e = None
-credit_for (Some new) e = if new.employer == e then Some new.credit else None
+credit_for (Some new) e = if new.employer == e then Some (alone new.credit) else None
 
 -- of two credits the one that comes first, and the former where neither does
-abbrev pub earlier : Option Credit → Option Credit → Option Credit
-earlier None new = new
-earlier (Some k) None = Some k
-earlier (Some k) (Some l) = if comes_before l k then Some l else Some k
+abbrev pub earlier : Credit → Credit → Credit
+earlier k l = if comes_before l k then l else k
+
+-- some credits and more of them: the first of all, and how many all are, or fewer
+abbrev pub AreTogether : Option NewCredits → Option NewCredits → Option NewCredits → Type 0
+AreTogether None more all = all ≡ more
+AreTogether (Some some) None all = all ≡ Some some
+AreTogether (Some some) (Some more) None = ⊥
+AreTogether (Some some) (Some more) (Some all) =
+    (all.first ≡ earlier some.first more.first) × all.count ≤ some.count + more.count
 
 -- ---- what follows
 

@@ -1,3 +1,4 @@
 pub mod Firm
+pub mod Behind
 pub mod Anew
 pub mod Keeping

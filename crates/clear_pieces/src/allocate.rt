@@ -18,23 +18,30 @@ ghost use Rattle.clear_schema.specs.Frame.{GoesOn};
 ghost use Rattle.clear_schema.specs.Faults.{IsOfDisk};
 ghost use Rattle.clear_schema.specs.Held.{HasTables};
 ghost use Rattle.clear_store.specs.Changes.{AreFree};
+ghost use Rattle.clear_pieces.specs.Behind.{IsWeighedBefore, rows_from};
 ghost use Rattle.clear_pieces.specs.Anew.{FromCharge, FromCredit, IsFreeFromCharge};
-ghost use Rattle.clear_pieces.specs.Anew.{IsFreeFromCredit};
+ghost use Rattle.clear_pieces.specs.Anew.{IsFreeBehind, IsFreeFromCredit};
 ghost use Rattle.clear_pieces.specs.Firm.{IsFirm, KeepsAccount, settled_from};
 
+use crate::behind::{NewCredits, allocate_behind};
 use crate::charges::charges_to_put;
 use crate::firm::{FirmAccount, read_firm};
 use crate::pieces::pieces_to_put;
-use clear_account::entries::Credit;
 use clear_account::places::Front;
 use clear_kept::start::{Start, start_of_charge, start_of_credits};
+use clear_ledger::credits::credits_from;
 use clear_money::months::Month;
 use clear_money::numbers::EmployerNo;
 use clear_schema::fault::Fault;
 use clear_store::charges::settle_charges;
 use clear_store::pieces::{PieceFrom, replace_pieces};
+use clear_values::lines::Purpose;
+use clear_values::rows::CreditRow;
 use sqlite::{Alter, Transaction};
 use std::alloc::Global;
+
+// The greatest number that a column can hold.
+const MOST_SERIAL: u64 = i64::MAX as u64;
 
 /// Puts the pieces of a firm anew after the contribution of a month was changed or put in, and
 /// what is open of its contributions from that month on. The tables hold the contribution
@@ -70,17 +77,19 @@ pub fn allocate_from_charge<S: Alter>(
     }
 }
 
-/// Puts the pieces of a firm anew after credits for contributions were put in, `first` the first
-/// of them by day and serial, and what is open of the contributions that reach beyond the credits
-/// before it. The tables hold the credits already.
+/// Puts the pieces of a firm anew after credits for contributions were put in, and what is open of
+/// the contributions that reach beyond the credits before the first of them. The tables hold the
+/// credits already.
 ///
-/// Where no contribution reaches beyond the credits that come before `first`, nothing is put. What
-/// is refused, and what an error leaves, are as of `allocate_from_charge`.
-pub fn allocate_from_credit<S: Alter>(
+/// Where no contribution reaches beyond the credits that come before the first, nothing is put.
+/// Where all new credits come behind all others, only what is open is read, and pieces are only
+/// added, else the whole account is read. What is refused, and what an error leaves, are as of
+/// `allocate_from_charge`.
+pub fn allocate_from_credits<S: Alter>(
     alloc: Global,
     tx: &mut Transaction<'_, S>,
     employer: EmployerNo,
-    first: &Credit,
+    news: &NewCredits,
 ) -> Result<(), Fault>
     ensures same_reference { tx.new.conn.ghost_name ≡ tx.old.conn.ghost_name }
     ensures puts { HasCleanDisk (state S.Store tx.new.conn.now)
@@ -89,15 +98,88 @@ pub fn allocate_from_credit<S: Alter>(
         × HasTables (record t { pieces = pieces; charges = charges })
         (state S.Store tx.new.conn.now).now
         × (IsAccount (kept_charges t employer) (table_credits t employer)
-        → FromCredit t employer first.now pieces charges)) }
+        → IsWeighedBefore t employer news.now
+        → FromCredit t employer news.now pieces charges)) }
     ensures fault { HasCleanDisk (state S.Store tx.new.conn.now)
         → (t : Tables) → HasTables t (state S.Store tx.old.conn.now).now
-        → KeepsAccount t employer → IsFreeFromCredit t employer first.now
-        → IsSerial first.now.serial → IfErr result IsOfDisk }
+        → KeepsAccount t employer → IsWeighedBefore t employer news.now
+        → IsFreeFromCredit t employer news.now.first → IsFreeBehind t employer news.now
+        → IsSerial news.now.first.serial → IfErr result IsOfDisk }
+    ensures stays { GoesOn S.Store tx.old.conn.now tx.new.conn.now result }
+{
+    // A greater serial stands in no table, and can't be asked for.
+    if news.first.serial > MOST_SERIAL {
+        return allocate_whole(alloc, tx, employer, news);
+    }
+    match credits_from(
+        tx,
+        employer,
+        Purpose::Contribution,
+        news.first.day,
+        news.first.serial,
+    ) {
+        Ok(behind) => allocate_read(alloc, tx, employer, news, behind),
+        Err(fault) => Err(fault),
+    }
+}
+
+// Puts them anew, `behind` being all of the firm's credits for contributions from the first new
+// one on.
+fn allocate_read<S: Alter>(
+    alloc: Global,
+    tx: &mut Transaction<'_, S>,
+    employer: EmployerNo,
+    news: &NewCredits,
+    behind: Vec<CreditRow>,
+) -> Result<(), Fault>
+    ensures same_reference { tx.new.conn.ghost_name ≡ tx.old.conn.ghost_name }
+    ensures puts { HasCleanDisk (state S.Store tx.new.conn.now)
+        → (t : Tables) → HasTables t (state S.Store tx.old.conn.now).now
+        → OnOk result ((pieces : List AnyPiece) × (charges : List AnyCharge)
+        × HasTables (record t { pieces = pieces; charges = charges })
+        (state S.Store tx.new.conn.now).now
+        × (IsAccount (kept_charges t employer) (table_credits t employer)
+        → behind.items ≡ rows_from t employer news.now.first
+        → IsWeighedBefore t employer news.now
+        → FromCredit t employer news.now pieces charges)) }
+    ensures fault { HasCleanDisk (state S.Store tx.new.conn.now)
+        → (t : Tables) → HasTables t (state S.Store tx.old.conn.now).now
+        → KeepsAccount t employer → behind.items ≡ rows_from t employer news.now.first
+        → IsWeighedBefore t employer news.now
+        → IsFreeFromCredit t employer news.now.first → IsFreeBehind t employer news.now
+        → IsSerial news.now.first.serial → IfErr result IsOfDisk }
+    ensures stays { GoesOn S.Store tx.old.conn.now tx.new.conn.now result }
+{
+    if behind.len() as u64 == news.count {
+        allocate_behind(alloc, tx, employer, news, behind)
+    } else {
+        allocate_whole(alloc, tx, employer, news)
+    }
+}
+
+// Puts them anew from the whole account.
+fn allocate_whole<S: Alter>(
+    alloc: Global,
+    tx: &mut Transaction<'_, S>,
+    employer: EmployerNo,
+    news: &NewCredits,
+) -> Result<(), Fault>
+    ensures same_reference { tx.new.conn.ghost_name ≡ tx.old.conn.ghost_name }
+    ensures puts { HasCleanDisk (state S.Store tx.new.conn.now)
+        → (t : Tables) → HasTables t (state S.Store tx.old.conn.now).now
+        → OnOk result ((pieces : List AnyPiece) × (charges : List AnyCharge)
+        × HasTables (record t { pieces = pieces; charges = charges })
+        (state S.Store tx.new.conn.now).now
+        × (IsAccount (kept_charges t employer) (table_credits t employer)
+        → FromCredit t employer news.now pieces charges)) }
+    ensures fault { HasCleanDisk (state S.Store tx.new.conn.now)
+        → (t : Tables) → HasTables t (state S.Store tx.old.conn.now).now
+        → KeepsAccount t employer → IsFreeFromCredit t employer news.now.first
+        → IsSerial news.now.first.serial → IfErr result IsOfDisk }
     ensures stays { GoesOn S.Store tx.old.conn.now tx.new.conn.now result }
 {
     match read_firm(alloc, tx, employer) {
-        Ok(firm) => put_from_credit(alloc, tx, &firm, employer, first),
+        Ok(firm) => put_from_credit(alloc, tx, &firm, employer, news),
         Err(fault) => Err(fault),
     }
 }
@@ -147,7 +229,7 @@ fn put_from_credit<S: Alter>(
     tx: &mut Transaction<'_, S>,
     firm: &FirmAccount,
     employer: EmployerNo,
-    first: &Credit,
+    news: &NewCredits,
 ) -> Result<(), Fault>
     ensures same_reference { tx.new.conn.ghost_name ≡ tx.old.conn.ghost_name }
     ensures puts { HasCleanDisk (state S.Store tx.new.conn.now)
@@ -155,23 +237,23 @@ fn put_from_credit<S: Alter>(
         → OnOk result ((pieces : List AnyPiece) × (charges : List AnyCharge)
         × HasTables (record t { pieces = pieces; charges = charges })
         (state S.Store tx.new.conn.now).now
-        × (IsFirm t employer firm.now → FromCredit t employer first.now pieces charges)) }
+        × (IsFirm t employer firm.now → FromCredit t employer news.now pieces charges)) }
     ensures fault { HasCleanDisk (state S.Store tx.new.conn.now)
         → (t : Tables) → HasTables t (state S.Store tx.old.conn.now).now
         → IsFirm t employer firm.now → KeepsAccount t employer
-        → IsFreeFromCredit t employer first.now → IsSerial first.now.serial
+        → IsFreeFromCredit t employer news.now.first → IsSerial news.now.first.serial
         → IfErr result IsOfDisk }
     ensures stays { GoesOn S.Store tx.old.conn.now tx.new.conn.now result }
 {
     let charges = firm.account.all_charges();
-    let start = start_of_credits(charges, firm.account.all_credits(), first);
+    let start = start_of_credits(charges, firm.account.all_credits(), &news.first);
     match charges.get(start.charges.count) {
         Some(charge) => {
             let from = PieceFrom {
                 employer,
                 month: charge.month,
-                day: first.day,
-                serial: first.serial,
+                day: news.first.day,
+                serial: news.first.serial,
             };
             put_anew(alloc, tx, firm, &start, &from)
         }

@@ -127,7 +127,7 @@ fn read_credits<S: Alter>(
 }
 
 // Adds contributions to an account.
-fn add_charges(account: &mut Plain, rows: &[KeptCharge]) -> Result<(), Fault>
+pub fn add_charges(account: &mut Plain, rows: &[KeptCharge]) -> Result<(), Fault>
     ensures charges { OnOk result (account.new.charges
         ≡ with_charges (map charge_in rows.now) account.old.charges) }
     ensures credits { account.new.credits ≡ account.old.credits }

@@ -1,13 +1,11 @@
 //! The pieces of all firms whose account a change changes, and what is open of their
 //! contributions, kept right.
-ghost use Rattle.std.specs.Prelude.{◌≡◌, ℕ, [], ◌∷◌, IfErr, IfOk, IsTrue, List, OnOk, true};
+ghost use Rattle.std.specs.Prelude.{◌≡◌, ℕ, [], ◌∷◌, IfErr, IfOk, IsTrue, List, OnOk, Some};
 ghost use Rattle.std.specs.BTreeMap.{get};
 ghost use Rattle.std.specs.List.{AllByRecursion};
-ghost use Rattle.std.specs.Option.{option_map_or};
 ghost use Rattle.std.specs.Ordering.{nat_cmp};
 ghost use Rattle.sqlite.specs.Held.{state};
 ghost use Rattle.sqlite.specs.State.{HasCleanDisk, KeepsCommit, Survives};
-ghost use Rattle.clear_account.specs.Account.{comes_before};
 ghost use Rattle.clear_values.specs.declared.rows.CreditRow.{CreditRow};
 ghost use Rattle.clear_values.specs.declared.rows.KeptCharge.{KeptCharge};
 ghost use Rattle.clear_values.specs.declared.rows.PieceRow.{PieceRow};
@@ -19,9 +17,11 @@ ghost use Rattle.clear_schema.specs.Faults.{IsOfDisk};
 ghost use Rattle.clear_schema.specs.Frame.{GoesOn};
 ghost use Rattle.clear_schema.specs.Held.{HasTables};
 ghost use Rattle.clear_pieces.specs.Keeping.{AreCreditsPut, AreFirst, AreFollowing, IsPut, Keeps};
-ghost use Rattle.clear_pieces.specs.Keeping.{TellsStood, credit_for, earlier};
+ghost use Rattle.clear_pieces.specs.Keeping.{AreTogether, TellsStood, credit_for};
+ghost use Rattle.clear_pieces.specs.Keeping.{alone as alone_credit, earlier as earlier_credit};
 
-use crate::allocate::{allocate_from_charge, allocate_from_credit};
+use crate::allocate::{allocate_from_charge, allocate_from_credits};
+use crate::behind::NewCredits;
 use crate::stands::charge_stands;
 use clear_account::entries::Credit;
 use clear_money::numbers::{Amount, EmployerNo};
@@ -138,7 +138,10 @@ fn keep_credit<S: Alter>(
         → Keeps S.Store tx.old.conn.now tx.new.conn.now result (AreCreditsPut news) }
 {
     match new {
-        Some(new) => allocate_from_credit(alloc, tx, new.employer, &new.credit),
+        Some(new) => {
+            let credits = alone(new.credit);
+            allocate_from_credits(alloc, tx, new.employer, &credits)
+        }
         None => Ok(()),
     }
 }
@@ -248,8 +251,8 @@ fn keep_lines<S: Alter>(
     ensures keeps { Keeps S.Store tx.old.conn.now tx.new.conn.now result
         (AreCreditsPut (credits_of_lines rows.now)) }
 {
-    match first_credits(alloc, rows) {
-        Ok(firsts) => keep_firms(alloc, tx, &firsts),
+    match new_credits(alloc, rows) {
+        Ok(firms) => keep_firms(alloc, tx, &firms),
         Err(_) => Err(Fault::Memory),
     }
 }
@@ -258,14 +261,14 @@ fn keep_lines<S: Alter>(
 fn keep_firms<S: Alter>(
     alloc: Global,
     tx: &mut Transaction<'_, S>,
-    firsts: &BTreeMap<EmployerNo, Credit>,
+    firms: &BTreeMap<EmployerNo, NewCredits>,
 ) -> Result<(), Fault>
     ensures same_reference { tx.new.conn.ghost_name ≡ tx.old.conn.ghost_name }
-    ensures keeps { (news : List CreditRow) → AreFirst (get nat_cmp firsts.now) news
+    ensures keeps { (news : List CreditRow) → AreFirst (get nat_cmp firms.now) news
         → Keeps S.Store tx.old.conn.now tx.new.conn.now result (AreCreditsPut news) }
 {
-    for (employer, first) in firsts {
-        match allocate_from_credit(alloc, tx, *employer, first) {
+    for (employer, credits) in firms {
+        match allocate_from_credits(alloc, tx, *employer, credits) {
             Ok(()) => {}
             Err(fault) => return Err(fault),
         }
@@ -273,45 +276,68 @@ fn keep_firms<S: Alter>(
     Ok(())
 }
 
-// Of each firm the first of the credits for contributions that lines are.
-fn first_credits(
+// Of each firm the credits for contributions that lines are.
+fn new_credits(
     alloc: Global,
     rows: &[BankRow],
-) -> Result<BTreeMap<EmployerNo, Credit>, AllocError>
-    ensures { IfOk result (λ firsts. AreFirst (get nat_cmp firsts) (credits_of_lines rows.now)) }
+) -> Result<BTreeMap<EmployerNo, NewCredits>, AllocError>
+    ensures { IfOk result (λ firms. AreFirst (get nat_cmp firms) (credits_of_lines rows.now)) }
 {
-    let mut firsts = BTreeMap::new(alloc);
+    let mut firms = BTreeMap::new(alloc);
     for row in rows {
         let new = contribution_of(row);
-        enter(&mut firsts, new)?;
+        enter(&mut firms, new)?;
     }
-    Ok(firsts)
+    Ok(firms)
 }
 
-// Enters a new credit as the first of its firm, unless one stands that it doesn't come before.
+// Enters a new credit among those of its firm.
 fn enter(
-    firsts: &mut BTreeMap<EmployerNo, Credit>,
+    firms: &mut BTreeMap<EmployerNo, NewCredits>,
     new: Option<NewCredit>,
 ) -> Result<(), AllocError>
-    ensures { OnOk result ((e : ℕ) → get nat_cmp firsts.new e
-        ≡ earlier (get nat_cmp firsts.old e) (credit_for new e)) }
+    ensures { OnOk result ((e : ℕ) → AreTogether (get nat_cmp firms.old e) (credit_for new e)
+        (get nat_cmp firms.new e)) }
 {
     let Some(new) = new else {
         return Ok(());
     };
-    if comes_first(firsts, &new) {
-        firsts.insert(new.employer, new.credit)?;
-    }
+    let credits = with_new(firms, &new);
+    firms.insert(new.employer, credits)?;
     Ok(())
 }
 
-// Whether a credit comes before the one that stands as the first of its firm, if one stands.
-fn comes_first(firsts: &BTreeMap<EmployerNo, Credit>, new: &NewCredit) -> bool
-    ensures { result ≡ option_map_or (comes_before new.now.credit)
-        (get nat_cmp firsts.now new.now.employer) true }
+// The new credits of a firm and one more.
+fn with_new(firms: &BTreeMap<EmployerNo, NewCredits>, new: &NewCredit) -> NewCredits
+    ensures { AreTogether (get nat_cmp firms.now new.now.employer)
+        (Some (alone_credit new.now.credit)) (Some result) }
 {
-    match firsts.get(&new.employer) {
-        Some(first) => new.credit.is_before(first),
-        None => true,
+    match firms.get(&new.employer) {
+        Some(credits) => NewCredits {
+            first: earlier(&credits.first, &new.credit),
+            count: credits.count.saturating_add(1),
+        },
+        None => alone(new.credit),
+    }
+}
+
+// Of two credits the one that comes first.
+fn earlier(former: &Credit, other: &Credit) -> Credit
+    ensures { result ≡ earlier_credit former.now other.now }
+{
+    if other.is_before(former) {
+        *other
+    } else {
+        *former
+    }
+}
+
+// One credit, alone.
+fn alone(credit: Credit) -> NewCredits
+    ensures { result ≡ alone_credit credit }
+{
+    NewCredits {
+        first: credit,
+        count: 1,
     }
 }

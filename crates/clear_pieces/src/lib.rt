@@ -9,6 +9,7 @@
 #![tactic(auto)]
 
 pub mod allocate;
+pub mod behind;
 pub mod charges;
 pub mod firm;
 pub mod keep;

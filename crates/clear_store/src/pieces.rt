@@ -41,8 +41,10 @@ pub fn replace_pieces<S: Alter>(
     }
 }
 
-// Adds pieces, one after another.
-fn insert_pieces<S: Alter>(tx: &mut Transaction<'_, S>, rows: &[PieceRow]) -> Result<(), Fault>
+/// Adds pieces, one after another. All that stand stay, whatever they hold.
+///
+/// What is refused, and what an error leaves, are as of `replace_pieces`.
+pub fn insert_pieces<S: Alter>(tx: &mut Transaction<'_, S>, rows: &[PieceRow]) -> Result<(), Fault>
     ensures same_reference { tx.new.conn.ghost_name ≡ tx.old.conn.ghost_name }
     ensures puts { Puts S.Store tx.old.conn.now tx.new.conn.now result (λ _. Unit {0})
         (λ t. AreFree piece_key t.pieces rows.now) (AllByRecursion IsPieceRow rows.now)

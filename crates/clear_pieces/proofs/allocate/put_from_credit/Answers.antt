@@ -11,7 +11,7 @@ returns-in-Some-clause-puts g c clean t has =
     let start = c.start_of_credits-start in
     let look = c.in-Some.ensures.lookup in
     on_ok_weaker c.put_anew.result
-    (λ put. (with_pieces e c.in-Some.charge.now.month c.args.first.now.day c.args.first.now.serial put.0 t.pieces, _, put.1, λ is. credit_anew t e firm is c.all_charges-charges.result.now c.all_credits.result.now c.all_charges-charges.ensures.value c.all_credits.ensures start.result start.ensures.start c.args.first.now start.ensures.place start.ensures.rows c.in-Some.charge.now look.3.0 look.1 put.0 (put.2 (rows_credits t e firm is))))
+    (λ put. (with_pieces e c.in-Some.charge.now.month c.args.news.now.first.day c.args.news.now.first.serial put.0 t.pieces, _, put.1, λ is. credit_anew t e firm is c.all_charges-charges.result.now c.all_credits.result.now c.all_charges-charges.ensures.value c.all_credits.ensures start.result start.ensures.start c.args.news.now start.ensures.place start.ensures.rows c.in-Some.charge.now look.3.0 look.1 put.0 (put.2 (rows_credits t e firm is))))
     (c.put_anew.ensures.put clean t has)
 
 pub returns-in-Some-clause-fault : goal.returns-in-Some-clause-fault
@@ -21,11 +21,11 @@ returns-in-Some-clause-fault g c clean t has is keeps free serial =
     let start = c.start_of_credits-start in
     let look = c.in-Some.ensures.lookup in
     c.put_anew.ensures.fault clean t has (rows_credits t e firm is) (rows_good t e firm is keeps) serial
-    (credit_free t e firm is c.all_charges-charges.result.now c.all_credits.result.now c.all_charges-charges.ensures.value c.all_credits.ensures start.result start.ensures.start c.args.first.now start.ensures.place start.ensures.rows c.in-Some.charge.now look.3.0 look.1 free)
+    (credit_free t e firm is c.all_charges-charges.result.now c.all_credits.result.now c.all_charges-charges.ensures.value c.all_credits.ensures start.result start.ensures.start c.args.news.now start.ensures.place start.ensures.rows c.in-Some.charge.now look.3.0 look.1 free)
     (written_good t e firm is c.all_charges-charges.result.now c.all_credits.result.now c.all_charges-charges.ensures.value c.all_credits.ensures start.result start.ensures.start keeps)
 
 pub returns-in-None-clause-puts : goal.returns-in-None-clause-puts
 returns-in-None-clause-puts g c clean t has =
     let start = c.start_of_credits-start in
     let none : length c.all_charges-charges.result.now ≤ start.result.charges.count = omega (arith, c.in-None.ensures.lookup) in
-    (t.pieces, t.charges, has, λ is. credit_stays t c.args.employer c.args.firm.now is c.all_charges-charges.result.now c.all_credits.result.now c.all_charges-charges.ensures.value c.all_credits.ensures start.result start.ensures.start c.args.first.now start.ensures.place start.ensures.rows none)
+    (t.pieces, t.charges, has, λ is. credit_stays t c.args.employer c.args.firm.now is c.all_charges-charges.result.now c.all_credits.result.now c.all_charges-charges.ensures.value c.all_credits.ensures start.result start.ensures.start c.args.news.now start.ensures.place start.ensures.rows none)

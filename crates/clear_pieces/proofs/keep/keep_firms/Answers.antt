@@ -6,9 +6,9 @@ use Rattle.std.specs.Map.{keys_of}
 use Rattle.std.specs.Ordering.{nat_cmp}
 use Rattle.std.proofs.lemmas.List.Elements.{All-head, All-tail}
 use Rattle.std.proofs.lemmas.Map.Keys.{sorted_tail}
-use Rattle.clear_account.specs.declared.entries.Credit.{Credit}
 use Rattle.clear_laws.proofs.WeighedFollowsLemmas.{is_among}
 use Rattle.clear_pieces.specs.Keeping.{AreCreditsPut, Keeps}
+use Rattle.clear_pieces.specs.declared.behind.NewCredits.{NewCredits}
 use Rattle.clear_pieces.proofs.MapLemmas.{not_found, stands_once}
 use Rattle.clear_pieces.proofs.ProgressLemmas.{Progress, all_done, none_done, one_done, one_failed}
 use Rattle.clear_pieces.proofs.keep.keep_firms.Goals as goal
@@ -18,46 +18,46 @@ loop-employer-init g c =
     let gives = c.into_iter-employer-iterator.ensures.into_iter_gives in
     record {
       same_reference = refl;
-      sorted = subst (λ (es : List (ℕ × Credit)). IsStrictlySortedBy nat_cmp (keys_of es)) (sym gives.0) gives.5;
-      found = subst (All (λ (entry : ℕ × Credit). get nat_cmp c.args.firsts.now entry.0 ≡ Some entry.1)) (sym gives.0) gives.6;
+      sorted = subst (λ (es : List (ℕ × NewCredits)). IsStrictlySortedBy nat_cmp (keys_of es)) (sym gives.0) gives.5;
+      found = subst (All (λ (entry : ℕ × NewCredits). get nat_cmp c.args.firms.now entry.0 ≡ Some entry.1)) (sym gives.0) gives.6;
       done = λ news are.
-          none_done g.S.Store c.args.tx.now.conn.now news (get nat_cmp c.args.firsts.now) are (keys_of c.into_iter-employer-iterator.result)
-          (subst (λ (es : List (ℕ × Credit)). (e : ℕ) → is_among (keys_of es) e ≡ false → get nat_cmp c.args.firsts.now e ≡ None) (sym gives.0) (λ e is. not_found c.args.firsts.now.entries e is));
+          none_done g.S.Store c.args.tx.now.conn.now news (get nat_cmp c.args.firms.now) are (keys_of c.into_iter-employer-iterator.result)
+          (subst (λ (es : List (ℕ × NewCredits)). (e : ℕ) → is_among (keys_of es) e ≡ false → get nat_cmp c.args.firms.now e ≡ None) (sym gives.0) (λ e is. not_found c.args.firms.now.entries e is));
     }
 
 pub loop-employer-preserved : goal.loop-employer-preserved
 loop-employer-preserved g c =
     let so_far = c.loop-employer.invariant in
     let e = c.in-Some.employer.now in
-    let k = c.in-Some.first.now in
+    let credits = c.in-Some.credits.now in
     let rest = c.next.new.self in
     let steps = c.in-Some.ensures.steps in
-    let sorted : IsStrictlySortedBy nat_cmp (e ∷ keys_of rest) = subst (λ (es : List (ℕ × Credit)). IsStrictlySortedBy nat_cmp (keys_of es)) steps so_far.sorted in
-    let found : All (λ (entry : ℕ × Credit). get nat_cmp c.args.firsts.now entry.0 ≡ Some entry.1) ((e, k) ∷ rest) = subst (All (λ (entry : ℕ × Credit). get nat_cmp c.args.firsts.now entry.0 ≡ Some entry.1)) steps so_far.found in
+    let sorted : IsStrictlySortedBy nat_cmp (e ∷ keys_of rest) = subst (λ (es : List (ℕ × NewCredits)). IsStrictlySortedBy nat_cmp (keys_of es)) steps so_far.sorted in
+    let found : All (λ (entry : ℕ × NewCredits). get nat_cmp c.args.firms.now entry.0 ≡ Some entry.1) ((e, credits) ∷ rest) = subst (All (λ (entry : ℕ × NewCredits). get nat_cmp c.args.firms.now entry.0 ≡ Some entry.1)) steps so_far.found in
     record {
-      same_reference = c.allocate_from_credit.ensures.same_reference ∙ so_far.same_reference;
+      same_reference = c.allocate_from_credits.ensures.same_reference ∙ so_far.same_reference;
       sorted = sorted_tail nat_cmp e (keys_of rest) sorted;
-      found = All-tail (λ (entry : ℕ × Credit). get nat_cmp c.args.firsts.now entry.0 ≡ Some entry.1) (e, k) rest found;
+      found = All-tail (λ (entry : ℕ × NewCredits). get nat_cmp c.args.firms.now entry.0 ≡ Some entry.1) (e, credits) rest found;
       done = λ news are.
-          let before : Progress g.S.Store c.args.tx.now.conn.now news c.loop-employer.tx.conn.now (e ∷ keys_of rest) = subst (λ (es : List (ℕ × Credit)). Progress g.S.Store c.args.tx.now.conn.now news c.loop-employer.tx.conn.now (keys_of es)) steps (so_far.done news are) in
-          subst (λ r. OnOk r (Progress g.S.Store c.args.tx.now.conn.now news c.allocate_from_credit.new.tx.conn.now (keys_of rest))) c.in-Ok.is
-          (one_done g.S.Store c.args.tx.now.conn.now news (get nat_cmp c.args.firsts.now) are c.loop-employer.tx.conn.now c.allocate_from_credit.new.tx.conn.now e k (keys_of rest) (All-head (λ (entry : ℕ × Credit). get nat_cmp c.args.firsts.now entry.0 ≡ Some entry.1) (e, k) rest found) (stands_once e (keys_of rest) sorted) before c.allocate_from_credit.result c.allocate_from_credit.ensures.puts c.allocate_from_credit.ensures.fault c.allocate_from_credit.ensures.stays);
+          let before : Progress g.S.Store c.args.tx.now.conn.now news c.loop-employer.tx.conn.now (e ∷ keys_of rest) = subst (λ (es : List (ℕ × NewCredits)). Progress g.S.Store c.args.tx.now.conn.now news c.loop-employer.tx.conn.now (keys_of es)) steps (so_far.done news are) in
+          subst (λ r. OnOk r (Progress g.S.Store c.args.tx.now.conn.now news c.allocate_from_credits.new.tx.conn.now (keys_of rest))) c.in-Ok.is
+          (one_done g.S.Store c.args.tx.now.conn.now news (get nat_cmp c.args.firms.now) are c.loop-employer.tx.conn.now c.allocate_from_credits.new.tx.conn.now e credits (keys_of rest) (All-head (λ (entry : ℕ × NewCredits). get nat_cmp c.args.firms.now entry.0 ≡ Some entry.1) (e, credits) rest found) (stands_once e (keys_of rest) sorted) before c.allocate_from_credits.result c.allocate_from_credits.ensures.puts c.allocate_from_credits.ensures.fault c.allocate_from_credits.ensures.stays);
     }
 
 pub returns-in-Err-clause-keeps : goal.returns-in-Err-clause-keeps
 returns-in-Err-clause-keeps g c = λ news are.
     let so_far = c.loop-employer.invariant in
     let e = c.in-Some.employer.now in
-    let k = c.in-Some.first.now in
+    let credits = c.in-Some.credits.now in
     let rest = c.next.new.self in
     let steps = c.in-Some.ensures.steps in
-    let sorted : IsStrictlySortedBy nat_cmp (e ∷ keys_of rest) = subst (λ (es : List (ℕ × Credit)). IsStrictlySortedBy nat_cmp (keys_of es)) steps so_far.sorted in
-    let found : All (λ (entry : ℕ × Credit). get nat_cmp c.args.firsts.now entry.0 ≡ Some entry.1) ((e, k) ∷ rest) = subst (All (λ (entry : ℕ × Credit). get nat_cmp c.args.firsts.now entry.0 ≡ Some entry.1)) steps so_far.found in
-    let before : Progress g.S.Store c.args.tx.now.conn.now news c.loop-employer.tx.conn.now (e ∷ keys_of rest) = subst (λ (es : List (ℕ × Credit)). Progress g.S.Store c.args.tx.now.conn.now news c.loop-employer.tx.conn.now (keys_of es)) steps (so_far.done news are) in
-    subst (λ r. OnErr r (Keeps g.S.Store c.args.tx.now.conn.now c.allocate_from_credit.new.tx.conn.now r (AreCreditsPut news))) c.in-Err.is
-    (one_failed g.S.Store c.args.tx.now.conn.now news (get nat_cmp c.args.firsts.now) are c.loop-employer.tx.conn.now c.allocate_from_credit.new.tx.conn.now e k (keys_of rest) (All-head (λ (entry : ℕ × Credit). get nat_cmp c.args.firsts.now entry.0 ≡ Some entry.1) (e, k) rest found) (stands_once e (keys_of rest) sorted) before c.allocate_from_credit.result c.allocate_from_credit.ensures.puts c.allocate_from_credit.ensures.fault c.allocate_from_credit.ensures.stays)
+    let sorted : IsStrictlySortedBy nat_cmp (e ∷ keys_of rest) = subst (λ (es : List (ℕ × NewCredits)). IsStrictlySortedBy nat_cmp (keys_of es)) steps so_far.sorted in
+    let found : All (λ (entry : ℕ × NewCredits). get nat_cmp c.args.firms.now entry.0 ≡ Some entry.1) ((e, credits) ∷ rest) = subst (All (λ (entry : ℕ × NewCredits). get nat_cmp c.args.firms.now entry.0 ≡ Some entry.1)) steps so_far.found in
+    let before : Progress g.S.Store c.args.tx.now.conn.now news c.loop-employer.tx.conn.now (e ∷ keys_of rest) = subst (λ (es : List (ℕ × NewCredits)). Progress g.S.Store c.args.tx.now.conn.now news c.loop-employer.tx.conn.now (keys_of es)) steps (so_far.done news are) in
+    subst (λ r. OnErr r (Keeps g.S.Store c.args.tx.now.conn.now c.allocate_from_credits.new.tx.conn.now r (AreCreditsPut news))) c.in-Err.is
+    (one_failed g.S.Store c.args.tx.now.conn.now news (get nat_cmp c.args.firms.now) are c.loop-employer.tx.conn.now c.allocate_from_credits.new.tx.conn.now e credits (keys_of rest) (All-head (λ (entry : ℕ × NewCredits). get nat_cmp c.args.firms.now entry.0 ≡ Some entry.1) (e, credits) rest found) (stands_once e (keys_of rest) sorted) before c.allocate_from_credits.result c.allocate_from_credits.ensures.puts c.allocate_from_credits.ensures.fault c.allocate_from_credits.ensures.stays)
 
 pub returns-clause-keeps : goal.returns-clause-keeps
 returns-clause-keeps g c = λ news are.
     all_done g.S.Store c.args.tx.now.conn.now news c.loop-employer.tx.conn.now
-    (subst (λ (es : List (ℕ × Credit)). Progress g.S.Store c.args.tx.now.conn.now news c.loop-employer.tx.conn.now (keys_of es)) c.in-None.ensures.steps.0 (c.loop-employer.invariant.done news are))
+    (subst (λ (es : List (ℕ × NewCredits)). Progress g.S.Store c.args.tx.now.conn.now news c.loop-employer.tx.conn.now (keys_of es)) c.in-None.ensures.steps.0 (c.loop-employer.invariant.done news are))

@@ -13,6 +13,6 @@ abbrev pub invariant-loop-employer : goal.invariant-loop-employer
 invariant-loop-employer g l = record {
   same_reference : l.tx.conn.ghost_name ≡ l.fn.tx.conn.ghost_name;
   sorted : IsStrictlySortedBy nat_cmp (keys_of l.employer-iterator);
-  found : All (λ entry. get nat_cmp l.firsts entry.0 ≡ Some entry.1) l.employer-iterator;
-  done : (news : List CreditRow) → AreFirst (get nat_cmp l.firsts) news → Progress g.S.Store l.fn.tx.conn.now news l.tx.conn.now (keys_of l.employer-iterator);
+  found : All (λ entry. get nat_cmp l.firms entry.0 ≡ Some entry.1) l.employer-iterator;
+  done : (news : List CreditRow) → AreFirst (get nat_cmp l.firms) news → Progress g.S.Store l.fn.tx.conn.now news l.tx.conn.now (keys_of l.employer-iterator);
 }

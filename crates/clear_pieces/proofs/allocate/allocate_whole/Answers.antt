@@ -2,7 +2,7 @@ use Rattle.std.proofs.lemmas.Result.{on_ok_weaker}
 use Rattle.sqlite.specs.Held.{state}
 use Rattle.clear_views.proofs.ReadLemmas.{left_has, was_clean}
 use Rattle.clear_pieces.proofs.FillLemmas.{firm_read}
-use Rattle.clear_pieces.proofs.allocate.allocate_from_credit.Goals as goal
+use Rattle.clear_pieces.proofs.allocate.allocate_whole.Goals as goal
 
 pub returns-in-Ok-clause-puts : goal.returns-in-Ok-clause-puts
 returns-in-Ok-clause-puts g c clean t has =

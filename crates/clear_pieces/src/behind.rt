@@ -1,0 +1,351 @@
+//! New credits of a firm that come behind all others: they pay what is open of its contributions, and
+//! neither its other credits nor the contributions that are paid in full are read.
+ghost use Rattle.std.specs.Prelude.{◌≡◌, ◌≤◌, [], All, IfErr, IfOk, List, OnOk, drop, length};
+ghost use Rattle.std.specs.Prelude.{map};
+ghost use Rattle.std.specs.List.{AllByRecursion};
+ghost use Rattle.sqlite.specs.Held.{state};
+ghost use Rattle.sqlite.specs.State.{HasCleanDisk};
+ghost use Rattle.clear_account.specs.Account.{IsAccount, IsCharge, charged_up_to};
+ghost use Rattle.clear_kept.specs.Start.{StartsAt};
+ghost use Rattle.clear_values.specs.Keyed.{AreOnce, replaced_rows, with_rows};
+ghost use Rattle.clear_values.specs.RowRanges.{IsCreditRow, IsKeptCharge};
+ghost use Rattle.clear_values.specs.Tables.{charge_key, piece_key};
+ghost use Rattle.clear_values.specs.declared.rows.KeptCharge.{KeptCharge as AnyCharge};
+ghost use Rattle.clear_values.specs.declared.rows.PieceRow.{PieceRow as AnyPiece};
+ghost use Rattle.clear_book.specs.Accounts.{row_credit};
+ghost use Rattle.clear_book.specs.Allocated.{kept_charges, pieces_left};
+ghost use Rattle.clear_book.specs.Limits.{most_credits};
+ghost use Rattle.clear_book.specs.Tables.{Tables, charge_in, table_credits};
+ghost use Rattle.clear_schema.specs.Faults.{IsOfDisk};
+ghost use Rattle.clear_schema.specs.Frame.{GoesOn, Leaves};
+ghost use Rattle.clear_schema.specs.Held.{HasTables};
+ghost use Rattle.clear_store.specs.Changes.{AreFree};
+ghost use Rattle.clear_views.specs.Owed.{credit_serial, with_charges, with_credits};
+ghost use Rattle.clear_pieces.specs.Anew.{FromCredit, IsFreeBehind};
+ghost use Rattle.clear_pieces.specs.Behind.{AreLast, IsOpenFirm, IsWeighedBefore, open_row};
+ghost use Rattle.clear_pieces.specs.Behind.{paid_charges, paid_rows, rows_from, with_paid};
+ghost use Rattle.clear_pieces.specs.Firm.{KeepsAccount};
+
+use crate::charges::charges_to_put;
+use crate::firm::{FirmAccount, add_charges};
+use crate::pieces::pieces_to_put;
+use clear_account::entries::Credit;
+use clear_account::places::Front;
+use clear_account::plain::Plain;
+use clear_firms::charges::open_charges_of;
+use clear_kept::start::{Start, start_of_credits};
+use clear_money::numbers::EmployerNo;
+use clear_schema::fault::Fault;
+use clear_store::charges::settle_charges;
+use clear_store::pieces::insert_pieces;
+use clear_values::causes::StoreCause;
+use clear_values::rows::{CreditRow, KeptCharge};
+use clear_views::account::credits::add_credits;
+use sqlite::{Alter, Transaction};
+use std::alloc::{AllocError, Global};
+
+/// The new credits of a firm for contributions.
+#[derive(Clone, Copy)]
+pub struct NewCredits {
+    /// The first of them by day and serial.
+    pub first: Credit,
+    /// How many they are.
+    pub count: u64,
+}
+
+/// What is open of a firm's contributions, and the credits that are to pay it.
+#[derive(Drop)]
+pub struct OpenFirm {
+    /// Its contributions of which a part is open, as they are kept, the months rising.
+    pub charges: Vec<KeptCharge>,
+    /// An account of what is open of each, and of these credits.
+    pub unpaid: FirmAccount,
+}
+
+/// Puts the pieces that new credits pay of what is open, and what is then open of the firm's
+/// contributions. `behind` are all of the firm's credits for contributions from the first new one
+/// on, and the tables keep what the credits before it leave open. Pieces that stand stay.
+///
+/// What is refused, and what an error leaves, are as of `allocate_from_charge`.
+pub fn allocate_behind<S: Alter>(
+    alloc: Global,
+    tx: &mut Transaction<'_, S>,
+    employer: EmployerNo,
+    news: &NewCredits,
+    behind: Vec<CreditRow>,
+) -> Result<(), Fault>
+    ensures same_reference { tx.new.conn.ghost_name ≡ tx.old.conn.ghost_name }
+    ensures puts { HasCleanDisk (state S.Store tx.new.conn.now)
+        → (t : Tables) → HasTables t (state S.Store tx.old.conn.now).now
+        → OnOk result ((pieces : List AnyPiece) × (charges : List AnyCharge)
+        × HasTables (record t { pieces = pieces; charges = charges })
+        (state S.Store tx.new.conn.now).now
+        × (IsAccount (kept_charges t employer) (table_credits t employer)
+        → behind.items ≡ rows_from t employer news.now.first
+        → AreLast t employer news.now → IsWeighedBefore t employer news.now
+        → FromCredit t employer news.now pieces charges)) }
+    ensures fault { HasCleanDisk (state S.Store tx.new.conn.now)
+        → (t : Tables) → HasTables t (state S.Store tx.old.conn.now).now
+        → KeepsAccount t employer → behind.items ≡ rows_from t employer news.now.first
+        → AreLast t employer news.now → IsWeighedBefore t employer news.now
+        → IsFreeBehind t employer news.now → IfErr result IsOfDisk }
+    ensures stays { GoesOn S.Store tx.old.conn.now tx.new.conn.now result }
+{
+    match read_open(alloc, tx, employer, behind) {
+        Ok(firm) => put_behind(alloc, tx, &firm, employer, news),
+        Err(fault) => Err(fault),
+    }
+}
+
+// What is open of a firm's contributions, with these credits.
+fn read_open<S: Alter>(
+    alloc: Global,
+    tx: &mut Transaction<'_, S>,
+    employer: EmployerNo,
+    behind: Vec<CreditRow>,
+) -> Result<OpenFirm, Fault>
+    ensures same_reference { tx.new.conn.ghost_name ≡ tx.old.conn.ghost_name }
+    ensures firm { HasCleanDisk (state S.Store tx.new.conn.now)
+        → (t : Tables) → HasTables t (state S.Store tx.old.conn.now).now → (first : Credit)
+        → IsAccount (kept_charges t employer) (table_credits t employer)
+        → behind.items ≡ rows_from t employer first
+        → IfOk result (IsOpenFirm t employer first) }
+    ensures fault { HasCleanDisk (state S.Store tx.new.conn.now)
+        → (t : Tables) → HasTables t (state S.Store tx.old.conn.now).now → (first : Credit)
+        → KeepsAccount t employer → behind.items ≡ rows_from t employer first
+        → IfErr result IsOfDisk }
+    ensures leaves { Leaves S.Store tx.old.conn.now tx.new.conn.now result }
+{
+    match open_charges_of(tx, employer) {
+        Ok(charges) => match open_account(alloc, charges.as_slice(), behind) {
+            Ok(unpaid) => Ok(OpenFirm { charges, unpaid }),
+            Err(fault) => Err(fault),
+        },
+        Err(fault) => Err(fault),
+    }
+}
+
+// An account of what is open of contributions, and of credits.
+fn open_account(
+    alloc: Global,
+    charges: &[KeptCharge],
+    behind: Vec<CreditRow>,
+) -> Result<FirmAccount, Fault>
+    ensures charges { IfOk result (λ firm. firm.account.charges
+        ≡ with_charges (map charge_in (map open_row charges.now)) []) }
+    ensures credits { IfOk result (λ firm. firm.account.credits
+        ≡ with_credits (map row_credit behind.items) []) }
+    ensures rows { IfOk result (λ firm. firm.rows.items ≡ behind.items) }
+    ensures fault { All IsCharge (map charge_in (map open_row charges.now))
+        → AreOnce credit_serial behind.items → length behind.items ≤ most_credits
+        → IfErr result IsOfDisk }
+{
+    let mut account = Plain::new(alloc);
+    let Ok(opened) = open_rows(alloc, charges) else {
+        return Err(Fault::Memory);
+    };
+    match add_charges(&mut account, opened.as_slice()) {
+        Ok(()) => {}
+        Err(fault) => return Err(fault),
+    }
+    match add_credits(alloc, &mut account, behind.as_slice()) {
+        Ok(()) => Ok(FirmAccount {
+            account,
+            rows: behind,
+        }),
+        Err(fault) => Err(fault),
+    }
+}
+
+// These contributions, each with what is open of it as its cents.
+fn open_rows(alloc: Global, rows: &[KeptCharge]) -> Result<Vec<KeptCharge>, AllocError>
+    ensures { IfOk result (λ opened. opened.items ≡ map open_row rows.now) }
+{
+    let mut opened = Vec::new(alloc);
+    for row in rows {
+        opened.push(opened_row(row))?;
+    }
+    Ok(opened)
+}
+
+// This contribution with what is open of it as its cents.
+fn opened_row(row: &KeptCharge) -> KeptCharge
+    ensures { result ≡ open_row row.now }
+{
+    KeptCharge {
+        employer: row.employer,
+        month: row.month,
+        due: row.due,
+        cents: row.left,
+        left: row.left,
+        weight: row.weight,
+    }
+}
+
+// Adds the pieces of new credits that come behind all others, and puts the rows of the firm's
+// contributions, where a part of one is open.
+fn put_behind<S: Alter>(
+    alloc: Global,
+    tx: &mut Transaction<'_, S>,
+    firm: &OpenFirm,
+    employer: EmployerNo,
+    news: &NewCredits,
+) -> Result<(), Fault>
+    ensures same_reference { tx.new.conn.ghost_name ≡ tx.old.conn.ghost_name }
+    ensures puts { HasCleanDisk (state S.Store tx.new.conn.now)
+        → (t : Tables) → HasTables t (state S.Store tx.old.conn.now).now
+        → OnOk result ((pieces : List AnyPiece) × (charges : List AnyCharge)
+        × HasTables (record t { pieces = pieces; charges = charges })
+        (state S.Store tx.new.conn.now).now
+        × (IsAccount (kept_charges t employer) (table_credits t employer)
+        → IsOpenFirm t employer news.now.first firm.now
+        → AreLast t employer news.now → IsWeighedBefore t employer news.now
+        → FromCredit t employer news.now pieces charges)) }
+    ensures fault { HasCleanDisk (state S.Store tx.new.conn.now)
+        → (t : Tables) → HasTables t (state S.Store tx.old.conn.now).now
+        → KeepsAccount t employer → IsOpenFirm t employer news.now.first firm.now
+        → AreLast t employer news.now → IsWeighedBefore t employer news.now
+        → IsFreeBehind t employer news.now → IfErr result IsOfDisk }
+    ensures stays { GoesOn S.Store tx.old.conn.now tx.new.conn.now result }
+{
+    let charges = firm.unpaid.account.all_charges();
+    let start = start_of_credits(charges, firm.unpaid.account.all_credits(), &news.first);
+    if start.charges.count >= charges.len() {
+        return Ok(());
+    }
+    match add_pieces(alloc, tx, &firm.unpaid, &start) {
+        Ok(()) => put_paid(alloc, tx, firm, employer, start.rows),
+        Err(fault) => Err(fault),
+    }
+}
+
+// Adds the pieces that reach beyond a start to those that stand.
+fn add_pieces<S: Alter>(
+    alloc: Global,
+    tx: &mut Transaction<'_, S>,
+    firm: &FirmAccount,
+    start: &Start,
+) -> Result<(), Fault>
+    requires { StartsAt firm.now.account.charges firm.now.account.credits start.now }
+    ensures same_reference { tx.new.conn.ghost_name ≡ tx.old.conn.ghost_name }
+    ensures put { HasCleanDisk (state S.Store tx.new.conn.now)
+        → (t : Tables) → HasTables t (state S.Store tx.old.conn.now).now
+        → OnOk result ((rows : List AnyPiece)
+        × HasTables (record t { pieces = with_rows piece_key t.pieces rows })
+        (state S.Store tx.new.conn.now).now
+        × (firm.now.account.credits ≡ map row_credit firm.now.rows.items
+        → rows ≡ pieces_left start.now.charges.cents start.now.credits.cents
+        (drop start.now.charges.count firm.now.account.charges)
+        (drop start.now.credits.count firm.now.rows.items))) }
+    ensures fault { HasCleanDisk (state S.Store tx.new.conn.now)
+        → (t : Tables) → HasTables t (state S.Store tx.old.conn.now).now
+        → firm.now.account.credits ≡ map row_credit firm.now.rows.items
+        → AllByRecursion IsCreditRow firm.now.rows.items
+        → AreFree piece_key t.pieces
+        (pieces_left start.now.charges.cents start.now.credits.cents
+        (drop start.now.charges.count firm.now.account.charges)
+        (drop start.now.credits.count firm.now.rows.items)) → IfErr result IsOfDisk }
+    ensures stays { GoesOn S.Store tx.old.conn.now tx.new.conn.now result }
+{
+    match pieces_to_put(alloc, firm, start) {
+        Ok(rows) => insert_pieces(tx, rows.as_slice()),
+        Err(fault) => Err(fault),
+    }
+}
+
+// Writes what more is paid of a firm's contributions behind a front, and what it weighs.
+fn put_paid<S: Alter>(
+    alloc: Global,
+    tx: &mut Transaction<'_, S>,
+    firm: &OpenFirm,
+    employer: EmployerNo,
+    front: Front,
+) -> Result<(), Fault>
+    requires within { front.count ≤ length firm.now.unpaid.account.charges }
+    requires front { front.cents ≡ charged_up_to firm.now.unpaid.account.charges front.count }
+    ensures same_reference { tx.new.conn.ghost_name ≡ tx.old.conn.ghost_name }
+    ensures put { HasCleanDisk (state S.Store tx.new.conn.now)
+        → (t : Tables) → HasTables t (state S.Store tx.old.conn.now).now
+        → OnOk result (HasTables (record t {
+          charges = replaced_rows charge_key t.charges
+              (paid_charges employer firm.now front.count);
+        }) (state S.Store tx.new.conn.now).now) }
+    ensures fault { HasCleanDisk (state S.Store tx.new.conn.now)
+        → (t : Tables) → HasTables t (state S.Store tx.old.conn.now).now
+        → length firm.now.charges.items ≡ length firm.now.unpaid.account.charges
+        → AllByRecursion IsKeptCharge (paid_charges employer firm.now front.count)
+        → IfErr result IsOfDisk }
+    ensures stays { GoesOn S.Store tx.old.conn.now tx.new.conn.now result }
+{
+    match paid_charges(alloc, firm, employer, front) {
+        Ok(rows) => settle_charges(tx, rows.as_slice()),
+        Err(fault) => Err(fault),
+    }
+}
+
+// A firm's contributions behind a front, with what more is paid of them.
+fn paid_charges(
+    alloc: Global,
+    firm: &OpenFirm,
+    employer: EmployerNo,
+    front: Front,
+) -> Result<Vec<KeptCharge>, Fault>
+    requires within { front.count ≤ length firm.now.unpaid.account.charges }
+    requires front { front.cents ≡ charged_up_to firm.now.unpaid.account.charges front.count }
+    ensures rows { IfOk result (λ rows.
+        rows.items ≡ paid_charges employer firm.now front.count) }
+    ensures fault { length firm.now.charges.items ≡ length firm.now.unpaid.account.charges
+        → AllByRecursion IsKeptCharge (paid_charges employer firm.now front.count)
+        → IfErr result IsOfDisk }
+{
+    if firm.charges.len() != firm.unpaid.account.all_charges().len() {
+        return Err(Fault::Store(StoreCause::Row));
+    }
+    match charges_to_put(alloc, &firm.unpaid, employer, front) {
+        Ok(paid) => {
+            let kept = &firm.charges.as_slice()[front.count..];
+            join(alloc, kept, paid.as_slice())
+        }
+        Err(fault) => Err(fault),
+    }
+}
+
+// These contributions, each with what more is paid of it. Weights that are too great together are
+// a fault of the row.
+fn join(alloc: Global, kept: &[KeptCharge], paid: &[KeptCharge]) -> Result<Vec<KeptCharge>, Fault>
+    requires { length kept.now ≡ length paid.now }
+    ensures rows { IfOk result (λ rows. rows.items ≡ paid_rows kept.now paid.now) }
+    ensures fault { AllByRecursion IsKeptCharge (paid_rows kept.now paid.now)
+        → IfErr result IsOfDisk }
+{
+    let mut rows = Vec::new(alloc);
+    for place in 0..kept.len() {
+        let row = match add_paid(&kept[place], &paid[place]) {
+            Ok(row) => row,
+            Err(fault) => return Err(fault),
+        };
+        match rows.push(row) {
+            Ok(()) => {}
+            Err(_) => return Err(Fault::Memory),
+        }
+    }
+    Ok(rows)
+}
+
+// This contribution with what more is paid of it.
+fn add_paid(row: &KeptCharge, paid: &KeptCharge) -> Result<KeptCharge, Fault>
+    ensures row { IfOk result (λ both. both ≡ with_paid row.now paid.now) }
+    ensures fault { IsKeptCharge (with_paid row.now paid.now) → IfErr result IsOfDisk }
+{
+    let Some(weight) = row.weight.checked_add(paid.weight) else {
+        return Err(Fault::Store(StoreCause::Row));
+    };
+    Ok(KeptCharge {
+        employer: row.employer,
+        month: row.month,
+        due: row.due,
+        cents: row.cents,
+        left: paid.left,
+        weight,
+    })
+}
