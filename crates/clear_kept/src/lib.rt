@@ -6,6 +6,9 @@
 //! laws say that the rows which end at or below it stand, that those beyond it are the pieces of
 //! one `refill`, and which rows are to be removed for them; `start` finds the place, `date_pieces`
 //! and `settle_from` give the rows to write, and `owing` tells from rows what a firm owes.
+//!
+//! `date_pieces`, `place_pieces` and `settle_from` may be refused for want of memory. No contract says
+//! that they succeed with ample memory; tests do.
 #![tactic(auto)]
 
 pub mod dated;

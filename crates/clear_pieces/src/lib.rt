@@ -5,7 +5,8 @@
 //! below it stands; what reaches beyond it is allocated by one `refill`, and its pieces are put
 //! in the place of those that stood for it. So are the rows of the contributions that reach
 //! beyond it, and that of a contribution that changes, each with what is open of it and with its
-//! weight so far. So a request allocates what it changes, and no more.
+//! weight so far. So a request allocates what it changes, and no more. New credits that come behind
+//! all others pay what is open: then nothing but that is read, and pieces are only added.
 #![tactic(auto)]
 
 pub mod allocate;
