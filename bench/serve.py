@@ -1,9 +1,11 @@
 #!/usr/bin/env python3
 """Requests a second of the program beside a peer in Python, and what a request costs as the book grows.
 
-    python3 bench/serve.py [PROGRAM] [--sizes 1000,10000,100000] [--each 100] [--folder FOLDER]
+    python3 bench/serve.py [PROGRAM] [--before PROGRAM] [--kinds owed,..] [--sizes 1000,10000,100000]
+                           [--each 100] [--folder FOLDER]
 
-The peer, bench/serve/peer.py, does the same in Python over its own sqlite3. The script starts both (the
+The peer, bench/serve/peer.py, does the same in Python over its own sqlite3; another build of the program
+takes its place where --before names one. The script starts both (the
 built program, or the one named) on new stores in a temporary folder below FOLDER (/var/tmp, which must
 lie on a disk), sends both the same requests over a keep-alive connection each, a new one after 1,000
 requests, and compares status and body of all answers; at the first difference it tells it and ends.
@@ -15,8 +17,12 @@ requests when that begins. The servers take turns of ten requests of a kind: wha
 firms drawn from the whole book (11 charges, 10 payments), the documents of such firms' workers (11 lines
 of earnings), reports of further months, registrations; then the mix, which is growth as above with a query
 after two of five commands; then claims of ten new firms that have reported every month (23 charges, 10 or
-30 payments), releases of half of them and withdrawals of the others; then bank files of 100 lines for 100
-firms. Where nearly 100,000 bank lines came in, more come until they are past that, and bank files again.
+30 payments), releases of half of them and withdrawals of the others; then, over 100 new firms that have
+reported 23 months and paid them by 30 payments, the report of the newest month of each, and bank files of
+100 lines, one for each of these firms, which pay a part of that month; then bank files of 100 lines for 100
+firms of the book, on days drawn from all its months, so that a payment moves those behind it. Where nearly
+100,000 bank lines came in, more come until they are past that, and bank files again. --kinds names those
+that are measured.
 
 A first table has requests a second, in one after another, the client's own time included; a second one
 the median milliseconds of a request by the clock; a third the processor time of the server's process,
@@ -58,7 +64,11 @@ SLICE = 10
 # Beyond so many bank lines ever the limit on lines in suspense isn't told from the serials.
 MANY_LINES = 100_000
 # In the order in which they are measured: bank files come last, since they make statements longer.
-KINDS = ("owed", "statement", "worker", "report", "register", "mix", "claim", "release", "withdraw", "import")
+KINDS = ("owed", "statement", "worker", "report", "register", "mix", "claim", "release", "withdraw",
+         "newest report", "newest payments", "import")
+# Firms whose newest month is reported and paid: so many months and payments of each before.
+NEWEST_FIRMS, NEWEST_MONTHS, NEWEST_PAYMENTS = 100, 23, 30
+NEWEST_GROSS, NEWEST_CENTS = 350_000, 1_000
 PAST = "import past 100,000 lines"
 
 
@@ -143,6 +153,34 @@ class Requests:
         no = self.claimants[place % 10]
         return self.command("withdraw", f"/employers/{no}/claims/{place + 1}/withdraw", f"k{no}", "")
 
+    def newest_report(self, no, month):
+        lines = ",".join(f'{{"gross":{NEWEST_GROSS},"worker":{no + place}}}' for place in range(LINES))
+        return self.command("newest report", f"/employers/{no}/reports/{MONTHS[month]}", f"k{no}",
+                            f'{{"lines":[{lines}]}}')
+
+    def newest_line(self, no, day, cents):
+        self.lines += 1
+        return f"N{self.lines:09},{day},{no},{cents},C,\n"
+
+    def newest_payments(self):
+        return self.command("newest payments", "/bank", "desk", HEADER + "".join(
+            self.newest_line(no, DAY, NEWEST_CENTS) for no in self.payers))
+
+    def paying(self):
+        """Commands by which new firms join, report all months but the newest, and pay them to the cent."""
+        self.payers = [self.new.pop() for _ in range(NEWEST_FIRMS)]
+        yield from (self.register(no) for no in self.payers)
+        for month in range(NEWEST_MONTHS):
+            yield from (self.newest_report(no, month) for no in self.payers)
+        # (20 % of the wages of the first twelve months, and 19 % of the others)
+        owed = LINES * NEWEST_GROSS * (12 * 20 + (NEWEST_MONTHS - 12) * 19) // 100
+        each = owed // NEWEST_PAYMENTS
+        for place in range(NEWEST_PAYMENTS):
+            day = f"{MONTHS[1 + place * NEWEST_MONTHS // NEWEST_PAYMENTS]}-21"
+            cents = each if place else owed - each * (NEWEST_PAYMENTS - 1)
+            lines = "".join(self.newest_line(no, day, cents) for no in self.payers)
+            yield self.command("newest payments", "/bank", "desk", HEADER + lines)
+
     def mix(self):
         for command in islice(self.commands(), MIX_BLOCKS * BLOCK):
             yield command
@@ -166,6 +204,10 @@ class Requests:
             return [self.release(place) for place in range(count)]
         if kind == "withdraw":
             return [self.withdraw(place) for place in range(count, 2 * count)]
+        if kind == "newest report":
+            return [self.newest_report(no, NEWEST_MONTHS) for no in self.payers]
+        if kind == "newest payments":
+            return [self.newest_payments() for _ in range(max(count // SLICE, 1))]
         if kind == "import":
             return [self.bank_file(self.random.choices(self.grown, k=100)) for _ in range(count)]
         months = self.random.sample(range(len(self.grown) * (24 - REPORTED)), count)
@@ -326,28 +368,36 @@ def grow(servers, comparison, requests, count):
 
 
 def measure(servers, comparison, requests):
-    """What each server takes for the requests, slice by slice in turns."""
+    """What each server takes for the requests, slice by slice in turns; of a few, one by one."""
     taken = [Taken() for _ in servers]
-    for begin in range(0, len(requests), SLICE):
-        part = requests[begin:begin + SLICE]
-        first = begin // SLICE % 2
+    size = SLICE if len(requests) > SLICE else 1
+    for begin in range(0, len(requests), size):
+        part = requests[begin:begin + size]
+        first = begin // size % 2
         answers = {place: taken[place].take(servers[place], part) for place in (first, 1 - first)}
         comparison.add(part, answers[0], answers[1])
     return taken
 
 
-def measure_copies(servers, comparison, requests, each, folder):
+# What is sent ahead of the first of some kinds, which isn't measured.
+AHEAD = {"claim": Requests.claiming, "newest report": Requests.paying}
+# Kinds that build on others.
+BEHIND = {"release": "claim", "withdraw": "claim", "newest payments": "newest report"}
+
+
+def measure_copies(servers, comparison, requests, options, folder):
     """By kind what each server takes on a copy of its store, and how long it took to start."""
     copies = [server.copy(os.path.join(folder, "copy-" + server.name)) for server in servers]
     grown, lines = len(requests.grown), requests.lines
     taken = {"start": [Taken([server.start()]) for server in copies]}
-    for kind in KINDS:
-        if kind == "claim":
-            send_both(copies, comparison, list(requests.claiming()))
-        taken[kind] = measure(copies, comparison, requests.of_kind(kind, each))
-    if files := requests.many_lines():
+    needed = {*options.kinds, *(BEHIND[kind] for kind in options.kinds if kind in BEHIND)}
+    for kind in (kind for kind in KINDS if kind in needed):
+        if kind in AHEAD:
+            send_both(copies, comparison, list(AHEAD[kind](requests)))
+        taken[kind] = measure(copies, comparison, requests.of_kind(kind, options.each))
+    if "import" in needed and (files := requests.many_lines()):
         send_both(copies, comparison, files)
-        taken[PAST] = measure(copies, comparison, requests.of_kind("import", each))
+        taken[PAST] = measure(copies, comparison, requests.of_kind("import", options.each))
     del requests.grown[grown:]
     requests.lines = lines
     for server in copies:
@@ -370,14 +420,14 @@ def run(servers, comparison, requests, options, folder):
         for server in servers:
             server.stop()
         count = size
-        figures[size] = measure_copies(servers, comparison, requests, options.each, folder)
+        figures[size] = measure_copies(servers, comparison, requests, options, folder)
         tell(f"measured, {comparison.equal} answers equal")
     return figures
 
 
-def check_odd_requests(program, folder):
+def check_odd_requests(options, folder):
     """Both servers judge alike, on new stores."""
-    servers = contenders(program, folder, "desk = 0\nk1 = 1\n")
+    servers = contenders(options, folder, "desk = 0\nk1 = 1\n")
     comparison = Comparison(servers)
     for server in servers:
         server.init()
@@ -389,9 +439,10 @@ def check_odd_requests(program, folder):
     tell(f"{comparison.equal} answers to odd requests equal")
 
 
-def contenders(program, folder, keys):
-    return [Server(name, str(path), os.path.join(folder, name), DAY, keys)
-            for name, path in (("program", program), ("peer", HERE / "serve/peer.py"))]
+def contenders(options, folder, keys):
+    other = ("before", options.before) if options.before else ("peer", HERE / "serve/peer.py")
+    return [Server(name, os.path.abspath(path), os.path.join(folder, name), DAY, keys)
+            for name, path in (("program", options.program), other)]
 
 
 def tell(line):
@@ -402,36 +453,36 @@ def row(*cells):
     print("| " + " | ".join(map(str, cells)) + " |")
 
 
-def print_rates(figures):
+def print_rates(names, kinds, figures):
     print("\nRequests a second\n")
-    heads = [f"{size:,}: {name}" for size in figures for name in ("program", "peer", "ratio")]
+    heads = [f"{size:,}: {name}" for size in figures for name in (*names, "ratio")]
     row("Request", *heads)
     row(*["---"] * (1 + len(heads)))
-    for kind in KINDS:
+    for kind in kinds:
         cells = []
         for taken in figures.values():
-            program, peer = (one.rate() for one in taken[kind])
-            cells += [f"{program:,.0f}", f"{peer:,.0f}", f"{program / peer:.2f}"]
+            program, other = (one.rate() for one in taken[kind])
+            cells += [f"{program:,.0f}", f"{other:,.0f}", f"{program / other:.2f}"]
         row(kind, *cells)
 
 
-def print_growth(title, figures, kinds, value):
+def print_growth(title, names, figures, kinds, value):
     """Each kind's milliseconds at each size, and their ratios to the first size."""
     print(f"\n{title}\n")
     heads = [head for size in list(figures)[1:] for head in (f"{size:,}", "ratio")]
     row("Request", "Server", f"{list(figures)[0]:,}", *heads)
     row(*["---"] * (3 + len(heads)))
     for kind in kinds:
-        for place, name in enumerate(("program", "peer")):
+        for place, name in enumerate(names):
             first, *others = (value(taken[kind][place]) for taken in figures.values())
             cells = [cell for other in others for cell in (f"{other:.2f}", f"{other / first:.2f}")]
             row(kind, name, f"{first:.2f}", *cells)
 
 
-def print_past(figures):
+def print_past(names, figures):
     """Bank files where more than 100,000 bank lines came in, beside those before them."""
     for size, taken in figures.items():
-        for place, name in enumerate(("program", "peer")):
+        for place, name in enumerate(names):
             if PAST in taken:
                 print(f"\n{name}, {size:,}: {PAST} {taken[PAST][place].milliseconds():.2f} ms, "
                       f"before {taken['import'][place].milliseconds():.2f} ms")
@@ -465,6 +516,8 @@ def print_machine(folder):
 def read_options():
     parser = argparse.ArgumentParser(description=__doc__.splitlines()[0])
     parser.add_argument("program", nargs="?", default=PROGRAM)
+    parser.add_argument("--before")
+    parser.add_argument("--kinds", default=KINDS, type=lambda text: text.split(","))
     parser.add_argument("--sizes", default=[1_000, 10_000, 100_000],
                         type=lambda text: [int(size) for size in text.split(",")])
     parser.add_argument("--each", type=int, default=100)
@@ -476,18 +529,19 @@ def main():
     options = read_options()
     print_machine(os.path.realpath(options.folder))
     with tempfile.TemporaryDirectory(dir=options.folder) as folder:
-        check_odd_requests(options.program, os.path.join(folder, "odd"))
+        check_odd_requests(options, os.path.join(folder, "odd"))
         requests = Requests()
-        servers = contenders(options.program, folder, requests.keys())
+        servers = contenders(options, folder, requests.keys())
         comparison = Comparison(servers)
         figures = run(servers, comparison, requests, options, folder)
     print(f"{comparison.equal:,} answers of both are equal.")
-    print_rates(figures)
-    print_growth("Milliseconds of a request, by the clock", figures, ("start", *KINDS),
+    names, kinds = [server.name for server in servers], [kind for kind in KINDS if kind in options.kinds]
+    print_rates(names, kinds, figures)
+    print_growth("Milliseconds of a request, by the clock", names, figures, ("start", *kinds),
                  Taken.milliseconds)
-    print_growth("Milliseconds of a request, processor time of the server", figures,
-                 KINDS, Taken.processor_milliseconds)
-    print_past(figures)
+    print_growth("Milliseconds of a request, processor time of the server", names, figures,
+                 kinds, Taken.processor_milliseconds)
+    print_past(names, figures)
 
 
 if __name__ == "__main__":
