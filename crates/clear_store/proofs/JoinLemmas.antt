@@ -47,10 +47,10 @@ module _ {S : Type 0} (g : Ghosts S) where
     survives = one.survives;
   }
 
-  -- nothing yet
-  pub put_none : {A : Type 0} (h : Held S) (x : A) (free : Tables → Type 0) (good : Type 0) → Puts {A = A} g h h (Ok x) Always free good (λ t. t)
-  put_none h x free good = record {
-    put = λ clean t has there. has;
+  -- nothing, where nothing is to be put
+  pub put_none : {A : Type 0} (h : Held S) (x : A) (there free : Tables → Type 0) (good : Type 0) (changed : Tables → Tables) → ((t : Tables) → t ≡ changed t) → Puts {A = A} g h h (Ok x) there free good changed
+  put_none h x there free good changed same = record {
+    put = λ clean t has is. subst (λ (u : Tables). HasTables u (state g h).now) (same t) has;
     cause = λ clean t has. tt;
     range = tt;
     kept = λ clean. keeps_none (state g h);
@@ -95,39 +95,6 @@ module _ {S : Type 0} (g : Ghosts S) where
     where
       before : HasCleanDisk (state g new) → HasCleanDisk (state g mid)
       before = was_clean (state g mid) (state g new) two.survives
-
-  -- one row more
-  pub put_more : {A B : Type 0} (old mid new : Held S) (x : A) (y : B) (out : Type 0) (held : Tables → Bool) (changed1 changed2 changed : Tables → Tables) → ((t : Tables) → changed2 (changed1 t) ≡ changed t)
-      → Puts g old mid (Ok x) Always Always (Unit {0}) changed1 → Writes g mid new (Ok y) out held changed2 → Puts g old new (Ok y) Always Always (Unit {0}) changed
-  put_more old mid new x y out held changed1 changed2 changed same one two =
-      put_then old mid new x (Ok y) Always Always Always Always Always (Unit {0}) (Unit {0}) (Unit {0}) changed1 changed2 changed (λ t is. tt) (λ t is. same t) (λ t is. tt) (λ is. tt) one
-      (record { put = λ clean t has there. two.put clean t has; cause = λ clean t has. tt; range = tt; kept = two.kept; goes_on = λ clean on. two.goes_on clean; survives = two.survives })
-
-  -- one row that was refused
-  pub more_failed : {A B C : Type 0} (old mid new : Held S) (x : A) (fault : Fault) (out : Type 0) (held : Tables → Bool) (there free : Tables → Type 0) (good : Type 0) (changed1 changed2 changed : Tables → Tables) → ((t : Tables) → free t → held (changed1 t) ≡ false) → (good → ¬ out)
-      → Puts g old mid (Ok x) Always Always (Unit {0}) changed1 → Writes {A = B} g mid new (Err fault) out held changed2 → Puts {A = C} g old new (Err fault) there free good changed
-  more_failed old mid new x fault out held there free good changed1 changed2 changed frees fine one two = record {
-    put = λ clean t has is. tt;
-    cause = λ clean t has told is. both_ways (held (changed1 t)) (frees t is) (two.cause clean (changed1 t) (one.put (before clean) t has tt) told);
-    range = λ told is. fine is (two.range told);
-    kept = λ clean. keeps_both (state g old) (state g mid) (state g new) (one.kept (before clean)) (two.kept clean);
-    goes_on = λ clean on. tt;
-    survives = survives_both (state g old) (state g mid) (state g new) one.survives two.survives;
-  }
-    where
-      before : HasCleanDisk (state g new) → HasCleanDisk (state g mid)
-      before = was_clean (state g mid) (state g new) two.survives
-
-  -- all of it
-  pub all_put : {A : Type 0} (old new : Held S) (x : A) (free1 there free : Tables → Type 0) (good1 good : Type 0) (changed1 changed : Tables → Tables) → ((t : Tables) → changed1 t ≡ changed t) → Puts g old new (Ok x) Always free1 good1 changed1 → Puts g old new (Ok x) there free good changed
-  all_put old new x free1 there free good1 good changed1 changed same one = record {
-    put = λ clean t has is. subst (λ (u : Tables). HasTables u (state g new).now) (same t) (one.put clean t has tt);
-    cause = λ clean t has. tt;
-    range = tt;
-    kept = one.kept;
-    goes_on = one.goes_on;
-    survives = one.survives;
-  }
 
   -- numbers that are in range for another reason
   pub finer : {A : Type 0} (old new : Held S) (r : Result A Fault) (there free : Tables → Type 0) (good other : Type 0) (changed : Tables → Tables) → (other → good) → Puts g old new r there free good changed → Puts g old new r there free other changed

@@ -1,5 +1,6 @@
 pub mod ChangeLemmas
 pub mod CreditLemmas
+pub mod EachLemmas
 pub mod JoinLemmas
 pub mod OnceLemmas
 pub mod PutLemmas
