@@ -26,7 +26,7 @@ use Rattle.clear_book.specs.Lines.{is_credit_of}
 use Rattle.clear_book.specs.Tables.{Tables, charge_key, piece_key, table_credits, with_pieces}
 use Rattle.clear_store.specs.Changes.{AreFree}
 use Rattle.clear_pieces.specs.Anew.{FromCharge, FromCredit, IsFreeFromCharge, IsFreeFromCredit, credit_place, month_place, pieces_beyond, settled_charges}
-use Rattle.clear_pieces.specs.Firm.{IsFirm, KeepsAccount, kept_as, settled_from}
+use Rattle.clear_pieces.specs.Firm.{HasItsRows, IsFirm, KeepsAccount, kept_as, pieces_from, settled_from}
 use Rattle.clear_pieces.specs.declared.behind.NewCredits.{NewCredits}
 use Rattle.clear_pieces.specs.declared.firm.FirmAccount.{FirmAccount}
 use Rattle.clear_pieces.proofs.RangeLemmas.{settled_in_range}
@@ -42,7 +42,7 @@ none_settled e charges credits n all = ap (map (kept_as e)) (none n (weighed_cha
     none (suc n) (x ∷ xs) few = none n xs (omega (arith, few))
 
 module _ (t : Tables) (e : ℕ) (firm : FirmAccount) (is : IsFirm t e firm) where
-  pub rows_credits : firm.account.credits ≡ map row_credit firm.rows.items
+  pub rows_credits : HasItsRows firm
   rows_credits = is.credits ∙ sym (ap (map row_credit) is.rows)
 
   pub rows_good : KeepsAccount t e → AllByRecursion IsCreditRow firm.rows.items
@@ -50,17 +50,13 @@ module _ (t : Tables) (e : ℕ) (firm : FirmAccount) (is : IsFirm t e firm) wher
 
   -- the account, and where it is allocated anew
   module _ (cs : List Charge) (ks : List Credit) (charges : cs ≡ firm.account.charges) (credits : ks ≡ firm.account.credits) (start : Start) (starts : StartsAt cs ks start) where
-    -- the pieces beyond the start
-    abbrev left : List PieceRow
-    left = pieces_left start.charges.cents start.credits.cents (drop start.charges.count firm.account.charges) (drop start.credits.count firm.rows.items)
-
     kept : cs ≡ kept_charges t e
     kept = charges ∙ is.charges
 
     paid : ks ≡ table_credits t e
     paid = credits ∙ is.credits
 
-    left_beyond : left ≡ pieces_beyond t e start.charges.count start.credits.count
+    left_beyond : pieces_from firm start ≡ pieces_beyond t e start.charges.count start.credits.count
     left_beyond =
         let s = starts.charges_cents ∙ ap (λ xs. charged_up_to xs start.charges.count) kept in
         let p = starts.credits_cents ∙ ap (λ xs. credited_up_to xs start.credits.count) paid in
@@ -100,12 +96,12 @@ module _ (t : Tables) (e : ℕ) (firm : FirmAccount) (is : IsFirm t e firm) wher
         few : start.credits.count < length (table_credits t e)
         few = omega (arith, within, ap length paid)
 
-        both : ◌≡◌ {A = Credit × List PieceRow} (k, left) (credit_at (table_credits t e) start.credits.count, pieces_beyond t e start.charges.count start.credits.count)
+        both : ◌≡◌ {A = Credit × List PieceRow} (k, pieces_from firm start) (credit_at (table_credits t e) start.credits.count, pieces_beyond t e start.charges.count start.credits.count)
         both =
             let credit = get_or_read ks start.credits.count k within found (record { day = 0; serial = 0; cents = 0 }) ∙ ap (λ xs. credit_at xs start.credits.count) paid in
             (λ i. (credit i, left_beyond i))
 
-        pub charge_anew : (rows : List PieceRow) → rows ≡ left → FromCharge t e month (with_pieces e month k.day k.serial rows t.pieces) written
+        pub charge_anew : (rows : List PieceRow) → rows ≡ pieces_from firm start → FromCharge t e month (with_pieces e month k.day k.serial rows t.pieces) written
         charge_anew rows put = record {
           a = start.charges.count;
           b = start.credits.count;
@@ -116,7 +112,7 @@ module _ (t : Tables) (e : ℕ) (firm : FirmAccount) (is : IsFirm t e firm) wher
           settled = month_written;
         }
 
-        pub charge_free : IsFreeFromCharge t e month → AreFree piece_key (without_rows piece_key (is_piece_key_from e month k.day k.serial) t.pieces) left
+        pub charge_free : IsFreeFromCharge t e month → AreFree piece_key (without_rows piece_key (is_piece_key_from e month k.day k.serial) t.pieces) (pieces_from firm start)
         charge_free free =
             subst (λ (p : Credit × List PieceRow). AreFree piece_key (without_rows piece_key (is_piece_key_from e month p.0.day p.0.serial) t.pieces) p.1) (sym both)
             (free start.charges.count start.credits.count (charges_end (month_place t e month) here) (credits_end (month_place t e month) here) few)
@@ -150,12 +146,12 @@ module _ (t : Tables) (e : ℕ) (firm : FirmAccount) (is : IsFirm t e firm) wher
         reached : start.charges.count < length (kept_charges t e)
         reached = omega (arith, within, ap length kept)
 
-        with_month : ◌≡◌ {A = Charge × List PieceRow} (c, left) (charge_at (kept_charges t e) start.charges.count, pieces_beyond t e start.charges.count start.credits.count)
+        with_month : ◌≡◌ {A = Charge × List PieceRow} (c, pieces_from firm start) (charge_at (kept_charges t e) start.charges.count, pieces_beyond t e start.charges.count start.credits.count)
         with_month =
             let charge = get_or_read cs start.charges.count c within found (record { month = 0; due = 0; cents = 0 }) ∙ ap (λ xs. charge_at xs start.charges.count) kept in
             (λ i. (charge i, left_beyond i))
 
-        pub credit_anew : (rows : List PieceRow) → rows ≡ left → FromCredit t e news (with_pieces e c.month first.day first.serial rows t.pieces) written
+        pub credit_anew : (rows : List PieceRow) → rows ≡ pieces_from firm start → FromCredit t e news (with_pieces e c.month first.day first.serial rows t.pieces) written
         credit_anew rows put = record {
           a = start.charges.count;
           b = start.credits.count;
@@ -166,7 +162,7 @@ module _ (t : Tables) (e : ℕ) (firm : FirmAccount) (is : IsFirm t e firm) wher
           settled = written_from start.charges.count (ap (λ (f : Front). f.count) from);
         }
 
-        pub credit_free : IsFreeFromCredit t e first → AreFree piece_key (without_rows piece_key (is_piece_key_from e c.month first.day first.serial) t.pieces) left
+        pub credit_free : IsFreeFromCredit t e first → AreFree piece_key (without_rows piece_key (is_piece_key_from e c.month first.day first.serial) t.pieces) (pieces_from firm start)
         credit_free free =
             subst (λ (p : Charge × List PieceRow). AreFree piece_key (without_rows piece_key (is_piece_key_from e p.0.month first.day first.serial) t.pieces) p.1) (sym with_month)
             (free start.charges.count start.credits.count (charges_end (credit_place t e first) there) (credits_end (credit_place t e first) there) reached)

@@ -69,8 +69,8 @@ module _ (charges : List Charge) (credits : List Credit) (account : IsAccount ch
       credits_rise credits [] (rises comes_before (λ k l. IsTrue (comes_before k l)) (λ k l h. (h, not_after k l h)) credits account.credits_rise) (precede_none comes_before credits)
 
 -- so what was read of a firm whose rows make up an account is what the tables keep of it
-pub firm_read : (t : Tables) (e : ℕ) (firm : FirmAccount) → IsAccount (kept_charges t e) (table_credits t e) → firm.account.charges ≡ with_charges (kept_charges t e) [] → firm.account.credits ≡ with_credits (table_credits t e) [] → firm.rows.items ≡ contribution_rows t e → IsFirm t e firm
-firm_read t e firm account charges credits rows = record {
+pub firm_read : (t : Tables) (e : ℕ) (firm : FirmAccount) → firm.account.charges ≡ with_charges (kept_charges t e) [] → firm.account.credits ≡ with_credits (table_credits t e) [] → firm.rows.items ≡ contribution_rows t e → IsAccount (kept_charges t e) (table_credits t e) → IsFirm t e firm
+firm_read t e firm charges credits rows account = record {
   charges = charges ∙ charges_whole (kept_charges t e) (table_credits t e) account;
   credits = credits ∙ credits_whole (kept_charges t e) (table_credits t e) account;
   rows = rows;

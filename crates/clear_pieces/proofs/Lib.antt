@@ -1,3 +1,4 @@
+pub mod AltersLemmas
 pub mod AnewLemmas
 pub mod BehindLemmas
 pub mod CreditLemmas

@@ -29,7 +29,7 @@ use Rattle.clear_laws.proofs.SameChargesLemmas.{firm_own}
 use Rattle.clear_pieces.specs.Anew.{FromCredit, IsFreeBehind, credit_place, pieces_beyond, settled_charges}
 use Rattle.clear_ledger.specs.From.{is_credit_from}
 use Rattle.clear_pieces.specs.Behind.{AreLast, IsOpenFirm, IsWeighedBefore, open_charges, open_firm_charges, open_row, paid_charges, paid_rows, rows_from}
-use Rattle.clear_pieces.specs.Firm.{KeepsAccount, settled_from}
+use Rattle.clear_pieces.specs.Firm.{HasItsRows, KeepsAccount, pieces_from, settled_from}
 use Rattle.clear_pieces.specs.declared.behind.NewCredits.{NewCredits}
 use Rattle.clear_pieces.specs.declared.behind.OpenFirm.{OpenFirm}
 use Rattle.clear_pieces.proofs.AnewLemmas.{none_settled}
@@ -39,7 +39,7 @@ use Rattle.clear_pieces.proofs.OpenRowLemmas.{closed, firm_charges, is_open, lea
 use Rattle.clear_pieces.proofs.RangeLemmas.{settled_in_range}
 
 module _ (t : Tables) (e : ℕ) (first : Credit) (firm : OpenFirm) (is : IsOpenFirm t e first firm) where
-  pub rows_credits : firm.unpaid.account.credits ≡ map row_credit firm.unpaid.rows.items
+  pub rows_credits : HasItsRows firm.unpaid
   rows_credits = is.credits ∙ sym (ap (map row_credit) is.rows)
 
   pub rows_good : KeepsAccount t e → AllByRecursion IsCreditRow firm.unpaid.rows.items
@@ -118,10 +118,6 @@ module _ (t : Tables) (e : ℕ) (news : NewCredits) (firm : OpenFirm) (is : IsOp
   first = news.first
 
   module _ (account : IsAccount (kept_charges t e) (table_credits t e)) (last : AreLast t e news) (weighed_before : IsWeighedBefore t e news) (cs : List Charge) (ks : List Credit) (charges : cs ≡ firm.unpaid.account.charges) (credits : ks ≡ firm.unpaid.account.credits) (start : Start) (starts : StartsAt cs ks start) (at : start.place ≡ credited (credits_before first ks)) (from : start.rows ≡ start.charges) where
-    -- the pieces beyond the start
-    abbrev left : List PieceRow
-    left = pieces_left start.charges.cents start.credits.cents (drop start.charges.count firm.unpaid.account.charges) (drop start.credits.count firm.unpaid.rows.items)
-
     -- the contributions, with what more is paid from the start on
     abbrev written : List KeptCharge
     written = replaced_rows charge_key t.charges (paid_charges e firm start.rows.count)
@@ -195,7 +191,7 @@ module _ (t : Tables) (e : ℕ) (news : NewCredits) (firm : OpenFirm) (is : IsOp
     credits_end : Ends (λ k. k.cents) (table_credits t e) (credit_place t e first) b
     credits_end = ends_before t e first account (subst (λ n. Ends (λ (k : Credit). k.cents) (map row_credit (rows_from t e first)) 0 n) no_credit credits_at)
 
-    left_beyond : left ≡ pieces_beyond t e a b
+    left_beyond : pieces_from firm.unpaid start ≡ pieces_beyond t e a b
     left_beyond =
         (λ i. pieces_left (no_charged i) (no_cents i) (drop (no_charge i) (open_is i)) (drop (no_credit i) (is.rows i)))
         ∙ open_pieces (rows_from t e first) all
@@ -231,7 +227,7 @@ module _ (t : Tables) (e : ℕ) (news : NewCredits) (firm : OpenFirm) (is : IsOp
       reached : a < length (kept_charges t e)
       reached = omega (arith, long, lead_within all (omega (arith, within, no_charge, many)))
 
-      pub open_anew : AreInOrder charge_key t.charges → (rows : List PieceRow) → rows ≡ left → FromCredit t e news (with_rows piece_key t.pieces rows) written
+      pub open_anew : AreInOrder charge_key t.charges → (rows : List PieceRow) → rows ≡ pieces_from firm.unpaid start → FromCredit t e news (with_rows piece_key t.pieces rows) written
       open_anew order rows put = record {
         a = a;
         b = b;
@@ -242,7 +238,7 @@ module _ (t : Tables) (e : ℕ) (news : NewCredits) (firm : OpenFirm) (is : IsOp
         settled = written_is order;
       }
 
-      pub open_free : IsFreeBehind t e news → AreFree piece_key t.pieces left
+      pub open_free : IsFreeBehind t e news → AreFree piece_key t.pieces (pieces_from firm.unpaid start)
       open_free free = subst (AreFree piece_key t.pieces) (sym left_beyond) (free last a b charges_end credits_end reached)
 
     past : length cs ≤ start.charges.count → length (kept_charges t e) ≤ a

@@ -1,21 +1,26 @@
 -- The pieces of a firm, and what is open of its contributions, put anew from the first changed
 -- place of its account on.
 use Rattle.std.specs.Prelude.{◌≡◌, ℕ, ◌<◌, ◌≤◌, ◌⊎◌, List, drop, length}
+use Rattle.std.specs.List.{AllByRecursion}
 use Rattle.clear_account.specs.Account.{charge_at, charged, charged_up_to, credit_at}
 use Rattle.clear_account.specs.Account.{credited, credited_up_to}
 use Rattle.clear_account.specs.Places.{Ends}
 use Rattle.clear_account.specs.declared.entries.Credit.{Credit}
 use Rattle.clear_kept.specs.Changes.{charges_before, credits_before}
+use Rattle.clear_kept.specs.declared.start.Start.{Start}
 use Rattle.clear_values.specs.Keyed.{replaced_rows, with_rows, without_rows}
+use Rattle.clear_values.specs.RowRanges.{IsCreditRow, IsSerial}
 use Rattle.clear_values.specs.Tables.{is_piece_key_from}
 use Rattle.clear_values.specs.declared.rows.KeptCharge.{KeptCharge}
 use Rattle.clear_values.specs.declared.rows.PieceRow.{PieceRow}
 use Rattle.clear_book.specs.Allocated.{contribution_rows, kept_charges, pieces_left}
 use Rattle.clear_book.specs.Tables.{Tables, charge_key, piece_key, table_credits, with_pieces}
+use Rattle.clear_ledger.specs.declared.pieces.PieceFrom.{PieceFrom}
 use Rattle.clear_store.specs.Changes.{AreFree}
 use Rattle.clear_pieces.specs.Behind.{AreLast}
-use Rattle.clear_pieces.specs.Firm.{settled_from}
+use Rattle.clear_pieces.specs.Firm.{HasItsRows, pieces_from, settled_from}
 use Rattle.clear_pieces.specs.declared.behind.NewCredits.{NewCredits}
+use Rattle.clear_pieces.specs.declared.firm.FirmAccount.{FirmAccount}
 
 -- the place of the contribution of a month: the contributions of earlier months
 abbrev pub month_place : Tables → ℕ → ℕ → ℕ
@@ -36,6 +41,16 @@ abbrev pub settled_charges : Tables → ℕ → ℕ → List KeptCharge
 settled_charges t e n =
     replaced_rows charge_key t.charges
     (settled_from e (kept_charges t e) (table_credits t e) n)
+
+-- the pieces beyond a start can be put in the place of those from one on: the numbers are in their
+-- ranges, and the keys are free among those that are left, and stand once
+abbrev pub ArePuttable : Tables → FirmAccount → Start → PieceFrom → Type 0
+ArePuttable t firm start from =
+    HasItsRows firm × AllByRecursion IsCreditRow firm.rows.items × IsSerial from.serial
+    × AreFree piece_key
+    (without_rows piece_key
+    (is_piece_key_from from.employer from.month from.day from.serial) t.pieces)
+    (pieces_from firm start)
 
 -- ---- after the contribution of a month was changed or put in
 

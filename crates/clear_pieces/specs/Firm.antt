@@ -8,11 +8,13 @@ use Rattle.clear_account.specs.declared.entries.Credit.{Credit}
 use Rattle.clear_kept.specs.Weighed.{weighed_charges}
 use Rattle.clear_kept.specs.declared.rows.PlacedPiece.{PlacedPiece}
 use Rattle.clear_kept.specs.declared.rows.WeighedCharge.{WeighedCharge}
+use Rattle.clear_kept.specs.declared.start.Start.{Start}
 use Rattle.clear_values.specs.RowRanges.{IsCreditRow, IsKeptCharge}
 use Rattle.clear_values.specs.declared.rows.CreditRow.{CreditRow}
 use Rattle.clear_values.specs.declared.rows.KeptCharge.{KeptCharge}
 use Rattle.clear_values.specs.declared.rows.PieceRow.{PieceRow}
-use Rattle.clear_book.specs.Allocated.{contribution_rows, kept_charges}
+use Rattle.clear_book.specs.Accounts.{row_credit}
+use Rattle.clear_book.specs.Allocated.{contribution_rows, kept_charges, pieces_left}
 use Rattle.clear_book.specs.Pieces.{piece_row}
 use Rattle.clear_book.specs.Tables.{Tables, table_credits}
 use Rattle.clear_pieces.specs.declared.firm.FirmAccount.{FirmAccount}
@@ -29,6 +31,16 @@ pub record IsFirm (t : Tables) (e : ℕ) (firm : FirmAccount) : Type 0 where
   pub charges : firm.account.charges ≡ kept_charges t e
   pub credits : firm.account.credits ≡ table_credits t e
   pub rows : firm.rows.items ≡ contribution_rows t e
+
+-- the credits of what was read of a firm are those of its rows
+abbrev pub HasItsRows : FirmAccount → Type 0
+HasItsRows firm = firm.account.credits ≡ map row_credit firm.rows.items
+
+-- its pieces beyond a start
+abbrev pub pieces_from : FirmAccount → Start → List PieceRow
+pieces_from firm start =
+    pieces_left start.charges.cents start.credits.cents
+    (drop start.charges.count firm.account.charges) (drop start.credits.count firm.rows.items)
 
 -- the row of a piece whose credit has its place among these
 abbrev pub row_placed : List CreditRow → PlacedPiece → Option PieceRow

@@ -1,10 +1,8 @@
 -- The pieces, and what is open of the contributions, follow a change that was put into the tables.
 use Rattle.std.specs.Prelude.{◌≡◌, ◌≢◌, ◌≤◌, ◌+◌, ℕ, List, [], Bool, true, false, Option, Some, None}
-use Rattle.std.specs.Prelude.{◌==◌, IfErr, OnOk, Result, filter, if◌then◌else◌, length}
+use Rattle.std.specs.Prelude.{◌==◌, Result, filter, if◌then◌else◌, length}
 use Rattle.std.specs.List.{AllByRecursion, Contains}
-use Rattle.sqlite.specs.Effect.{Database}
-use Rattle.sqlite.specs.Held.{Held, state}
-use Rattle.sqlite.specs.State.{HasCleanDisk}
+use Rattle.sqlite.specs.Held.{Held}
 use Rattle.sqlite.specs.Store.{Ghosts}
 use Rattle.clear_account.specs.Account.{IsAccount, comes_before}
 use Rattle.clear_account.specs.declared.entries.Credit.{Credit}
@@ -22,10 +20,8 @@ use Rattle.clear_book.specs.Allocated.{KeepsKeys, kept_charges}
 use Rattle.clear_book.specs.Lines.{is_credit_of}
 use Rattle.clear_book.specs.Tables.{IsPaidInRange, Tables, changed, charge_at, charge_in}
 use Rattle.clear_book.specs.Tables.{charge_key, table_credits}
-use Rattle.clear_schema.specs.Faults.{IsOfDisk}
-use Rattle.clear_schema.specs.Frame.{GoesOn}
-use Rattle.clear_schema.specs.Held.{HasTables}
 use Rattle.clear_schema.specs.declared.fault.Fault.{Fault}
+use Rattle.clear_pieces.specs.Allocates.{Allocates}
 use Rattle.clear_pieces.specs.declared.behind.NewCredits.{NewCredits}
 use Rattle.clear_pieces.specs.declared.keep.NewCredit.{NewCredit}
 
@@ -119,30 +115,20 @@ pub record AreFollowing (t v : Tables) (pieces : List PieceRow) (charges : List 
     pub paid : AllByRecursion IsPaidInRange v.charges → AllByRecursion IsPaidInRange charges
     pub follows : Follows t (record v { pieces = pieces; charges = charges })
 
-module _ (IsPutInto : Tables → Tables → Type 0) (v : Tables) where
-  -- the database has these tables with pieces and rows of contributions that follow, whatever
-  -- tables were before them
-  abbrev pub HasFollowing : Database → Type 0
-  HasFollowing db =
-      (pieces : List PieceRow) × (charges : List KeptCharge)
-      × HasTables (record v { pieces = pieces; charges = charges }) db
-      × ((t : Tables) → IsPutInto t v → AreFollowing t v pieces charges)
+-- each row is in its ranges, and pieces and what is open were right before, but for the cents of
+-- some pieces
+pub record WasRight (IsPutInto : Tables → Tables → Type 0) (v : Tables) : Type 0 where
+  pub t : Tables
+  pub put : IsPutInto t v
+  pub g : PieceRow → PieceRow
+  pub keys : KeepsKeys g
+  pub allocated : AreAllocated g t
+  pub ranges : AreInRange v
 
-  -- each row is in its ranges, and pieces and what is open were right before, but for the cents
-  -- of some pieces
-  pub record WasRight : Type 0 where
-    pub t : Tables
-    pub put : IsPutInto t v
-    pub g : PieceRow → PieceRow
-    pub keys : KeepsKeys g
-    pub allocated : AreAllocated g t
-    pub ranges : AreInRange v
-
--- pieces and rows of contributions were put that follow
-pub record Keeps {S A : Type 0} (g : Ghosts S) (old new : Held S) (result : Result A Fault)
-    (IsPutInto : Tables → Tables → Type 0) : Type 0 where
-  pub keeps : HasCleanDisk (state g new) → (v : Tables) → HasTables v (state g old).now
-      → OnOk result (HasFollowing IsPutInto v (state g new).now)
-  pub fault : HasCleanDisk (state g new) → (v : Tables) → HasTables v (state g old).now
-      → WasRight IsPutInto v → IfErr result IsOfDisk
-  pub stays : GoesOn g old new result
+module _ {S A : Type 0} (g : Ghosts S) (old new : Held S) (result : Result A Fault) where
+  -- pieces and rows of contributions were put that follow, whatever tables were before
+  abbrev pub Keeps : (Tables → Tables → Type 0) → Type 0
+  Keeps IsPutInto =
+      Allocates g old new result
+      (λ v pieces charges. (t : Tables) → IsPutInto t v → AreFollowing t v pieces charges)
+      (WasRight IsPutInto)

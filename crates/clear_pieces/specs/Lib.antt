@@ -1,4 +1,5 @@
 pub mod Firm
 pub mod Behind
+pub mod Allocates
 pub mod Anew
 pub mod Keeping

@@ -1,27 +1,20 @@
 //! The pieces of a firm in the tables, allocated anew from the first changed place on, and what is
 //! open of its contributions.
-ghost use Rattle.std.specs.Prelude.{◌≡◌, ◌≤◌, IfErr, List, OnOk, drop, length, map};
+ghost use Rattle.std.specs.Prelude.{◌≡◌, ◌≤◌, length};
 ghost use Rattle.std.specs.List.{AllByRecursion};
-ghost use Rattle.sqlite.specs.Held.{state};
-ghost use Rattle.sqlite.specs.State.{HasCleanDisk};
 ghost use Rattle.clear_account.specs.Account.{IsAccount, charged_up_to};
 ghost use Rattle.clear_kept.specs.Start.{StartsAt};
-ghost use Rattle.clear_values.specs.Keyed.{replaced_rows, without_rows};
-ghost use Rattle.clear_values.specs.RowRanges.{IsCreditRow, IsKeptCharge, IsSerial};
-ghost use Rattle.clear_values.specs.Tables.{charge_key, is_piece_key_from, piece_key, with_pieces};
-ghost use Rattle.clear_values.specs.declared.rows.KeptCharge.{KeptCharge as AnyCharge};
-ghost use Rattle.clear_values.specs.declared.rows.PieceRow.{PieceRow as AnyPiece};
-ghost use Rattle.clear_book.specs.Accounts.{row_credit};
-ghost use Rattle.clear_book.specs.Allocated.{kept_charges, pieces_left};
-ghost use Rattle.clear_book.specs.Tables.{Tables, table_credits};
-ghost use Rattle.clear_schema.specs.Frame.{GoesOn};
-ghost use Rattle.clear_schema.specs.Faults.{IsOfDisk};
-ghost use Rattle.clear_schema.specs.Held.{HasTables};
-ghost use Rattle.clear_store.specs.Changes.{AreFree};
+ghost use Rattle.clear_values.specs.Keyed.{replaced_rows};
+ghost use Rattle.clear_values.specs.RowRanges.{IsKeptCharge, IsSerial};
+ghost use Rattle.clear_values.specs.Tables.{charge_key, with_pieces};
+ghost use Rattle.clear_book.specs.Allocated.{kept_charges};
+ghost use Rattle.clear_book.specs.Tables.{table_credits};
+ghost use Rattle.clear_pieces.specs.Allocates.{Allocates, Alters, Settles};
 ghost use Rattle.clear_pieces.specs.Behind.{IsWeighedBefore, rows_from};
-ghost use Rattle.clear_pieces.specs.Anew.{FromCharge, FromCredit, IsFreeFromCharge};
-ghost use Rattle.clear_pieces.specs.Anew.{IsFreeBehind, IsFreeFromCredit};
-ghost use Rattle.clear_pieces.specs.Firm.{IsFirm, KeepsAccount, settled_from};
+ghost use Rattle.clear_pieces.specs.Anew.{ArePuttable, FromCharge, FromCredit};
+ghost use Rattle.clear_pieces.specs.Anew.{IsFreeBehind, IsFreeFromCharge, IsFreeFromCredit};
+ghost use Rattle.clear_pieces.specs.Firm.{HasItsRows, IsFirm, KeepsAccount, pieces_from};
+ghost use Rattle.clear_pieces.specs.Firm.{settled_from};
 
 use crate::behind::{NewCredits, allocate_behind};
 use crate::charges::charges_to_put;
@@ -58,18 +51,10 @@ pub fn allocate_from_charge<S: Alter>(
     month: Month,
 ) -> Result<(), Fault>
     ensures same_reference { tx.new.conn.ghost_name ≡ tx.old.conn.ghost_name }
-    ensures puts { HasCleanDisk (state S.Store tx.new.conn.now)
-        → (t : Tables) → HasTables t (state S.Store tx.old.conn.now).now
-        → OnOk result ((pieces : List AnyPiece) × (charges : List AnyCharge)
-        × HasTables (record t { pieces = pieces; charges = charges })
-        (state S.Store tx.new.conn.now).now
-        × (IsAccount (kept_charges t employer) (table_credits t employer)
-        → FromCharge t employer month pieces charges)) }
-    ensures fault { HasCleanDisk (state S.Store tx.new.conn.now)
-        → (t : Tables) → HasTables t (state S.Store tx.old.conn.now).now
-        → KeepsAccount t employer → IsFreeFromCharge t employer month
-        → IfErr result IsOfDisk }
-    ensures stays { GoesOn S.Store tx.old.conn.now tx.new.conn.now result }
+    ensures allocates { Allocates S.Store tx.old.conn.now tx.new.conn.now result
+        (λ t pieces charges. IsAccount (kept_charges t employer) (table_credits t employer)
+        → FromCharge t employer month pieces charges)
+        (λ t. KeepsAccount t employer × IsFreeFromCharge t employer month) }
 {
     match read_firm(alloc, tx, employer) {
         Ok(firm) => put_from_charge(alloc, tx, &firm, employer, month),
@@ -92,20 +77,12 @@ pub fn allocate_from_credits<S: Alter>(
     news: &NewCredits,
 ) -> Result<(), Fault>
     ensures same_reference { tx.new.conn.ghost_name ≡ tx.old.conn.ghost_name }
-    ensures puts { HasCleanDisk (state S.Store tx.new.conn.now)
-        → (t : Tables) → HasTables t (state S.Store tx.old.conn.now).now
-        → OnOk result ((pieces : List AnyPiece) × (charges : List AnyCharge)
-        × HasTables (record t { pieces = pieces; charges = charges })
-        (state S.Store tx.new.conn.now).now
-        × (IsAccount (kept_charges t employer) (table_credits t employer)
-        → IsWeighedBefore t employer news.now
-        → FromCredit t employer news.now pieces charges)) }
-    ensures fault { HasCleanDisk (state S.Store tx.new.conn.now)
-        → (t : Tables) → HasTables t (state S.Store tx.old.conn.now).now
-        → KeepsAccount t employer → IsWeighedBefore t employer news.now
-        → IsFreeFromCredit t employer news.now.first → IsFreeBehind t employer news.now
-        → IsSerial news.now.first.serial → IfErr result IsOfDisk }
-    ensures stays { GoesOn S.Store tx.old.conn.now tx.new.conn.now result }
+    ensures allocates { Allocates S.Store tx.old.conn.now tx.new.conn.now result
+        (λ t pieces charges. IsAccount (kept_charges t employer) (table_credits t employer)
+        → IsWeighedBefore t employer news.now → FromCredit t employer news.now pieces charges)
+        (λ t. KeepsAccount t employer × IsWeighedBefore t employer news.now
+        × IsFreeFromCredit t employer news.now.first × IsFreeBehind t employer news.now
+        × IsSerial news.now.first.serial) }
 {
     // A greater serial stands in no table, and can't be asked for.
     if news.first.serial > MOST_SERIAL {
@@ -133,22 +110,13 @@ fn allocate_read<S: Alter>(
     behind: Vec<CreditRow>,
 ) -> Result<(), Fault>
     ensures same_reference { tx.new.conn.ghost_name ≡ tx.old.conn.ghost_name }
-    ensures puts { HasCleanDisk (state S.Store tx.new.conn.now)
-        → (t : Tables) → HasTables t (state S.Store tx.old.conn.now).now
-        → OnOk result ((pieces : List AnyPiece) × (charges : List AnyCharge)
-        × HasTables (record t { pieces = pieces; charges = charges })
-        (state S.Store tx.new.conn.now).now
-        × (IsAccount (kept_charges t employer) (table_credits t employer)
-        → behind.items ≡ rows_from t employer news.now.first
-        → IsWeighedBefore t employer news.now
-        → FromCredit t employer news.now pieces charges)) }
-    ensures fault { HasCleanDisk (state S.Store tx.new.conn.now)
-        → (t : Tables) → HasTables t (state S.Store tx.old.conn.now).now
-        → KeepsAccount t employer → behind.items ≡ rows_from t employer news.now.first
-        → IsWeighedBefore t employer news.now
-        → IsFreeFromCredit t employer news.now.first → IsFreeBehind t employer news.now
-        → IsSerial news.now.first.serial → IfErr result IsOfDisk }
-    ensures stays { GoesOn S.Store tx.old.conn.now tx.new.conn.now result }
+    ensures allocates { Allocates S.Store tx.old.conn.now tx.new.conn.now result
+        (λ t pieces charges. IsAccount (kept_charges t employer) (table_credits t employer)
+        → behind.items ≡ rows_from t employer news.now.first → IsWeighedBefore t employer news.now
+        → FromCredit t employer news.now pieces charges)
+        (λ t. KeepsAccount t employer × (behind.items ≡ rows_from t employer news.now.first)
+        × IsWeighedBefore t employer news.now × IsFreeFromCredit t employer news.now.first
+        × IsFreeBehind t employer news.now × IsSerial news.now.first.serial) }
 {
     if behind.len() as u64 == news.count {
         allocate_behind(alloc, tx, employer, news, behind)
@@ -165,18 +133,11 @@ fn allocate_whole<S: Alter>(
     news: &NewCredits,
 ) -> Result<(), Fault>
     ensures same_reference { tx.new.conn.ghost_name ≡ tx.old.conn.ghost_name }
-    ensures puts { HasCleanDisk (state S.Store tx.new.conn.now)
-        → (t : Tables) → HasTables t (state S.Store tx.old.conn.now).now
-        → OnOk result ((pieces : List AnyPiece) × (charges : List AnyCharge)
-        × HasTables (record t { pieces = pieces; charges = charges })
-        (state S.Store tx.new.conn.now).now
-        × (IsAccount (kept_charges t employer) (table_credits t employer)
-        → FromCredit t employer news.now pieces charges)) }
-    ensures fault { HasCleanDisk (state S.Store tx.new.conn.now)
-        → (t : Tables) → HasTables t (state S.Store tx.old.conn.now).now
-        → KeepsAccount t employer → IsFreeFromCredit t employer news.now.first
-        → IsSerial news.now.first.serial → IfErr result IsOfDisk }
-    ensures stays { GoesOn S.Store tx.old.conn.now tx.new.conn.now result }
+    ensures allocates { Allocates S.Store tx.old.conn.now tx.new.conn.now result
+        (λ t pieces charges. IsAccount (kept_charges t employer) (table_credits t employer)
+        → FromCredit t employer news.now pieces charges)
+        (λ t. KeepsAccount t employer × IsFreeFromCredit t employer news.now.first
+        × IsSerial news.now.first.serial) }
 {
     match read_firm(alloc, tx, employer) {
         Ok(firm) => put_from_credit(alloc, tx, &firm, employer, news),
@@ -194,17 +155,11 @@ fn put_from_charge<S: Alter>(
     month: Month,
 ) -> Result<(), Fault>
     ensures same_reference { tx.new.conn.ghost_name ≡ tx.old.conn.ghost_name }
-    ensures puts { HasCleanDisk (state S.Store tx.new.conn.now)
-        → (t : Tables) → HasTables t (state S.Store tx.old.conn.now).now
-        → OnOk result ((pieces : List AnyPiece) × (charges : List AnyCharge)
-        × HasTables (record t { pieces = pieces; charges = charges })
-        (state S.Store tx.new.conn.now).now
-        × (IsFirm t employer firm.now → FromCharge t employer month pieces charges)) }
-    ensures fault { HasCleanDisk (state S.Store tx.new.conn.now)
-        → (t : Tables) → HasTables t (state S.Store tx.old.conn.now).now
-        → IsFirm t employer firm.now → KeepsAccount t employer
-        → IsFreeFromCharge t employer month → IfErr result IsOfDisk }
-    ensures stays { GoesOn S.Store tx.old.conn.now tx.new.conn.now result }
+    ensures allocates { Allocates S.Store tx.old.conn.now tx.new.conn.now result
+        (λ t pieces charges. IsFirm t employer firm.now
+        → FromCharge t employer month pieces charges)
+        (λ t. IsFirm t employer firm.now × KeepsAccount t employer
+        × IsFreeFromCharge t employer month) }
 {
     let credits = firm.account.all_credits();
     let start = start_of_charge(firm.account.all_charges(), credits, month);
@@ -232,18 +187,11 @@ fn put_from_credit<S: Alter>(
     news: &NewCredits,
 ) -> Result<(), Fault>
     ensures same_reference { tx.new.conn.ghost_name ≡ tx.old.conn.ghost_name }
-    ensures puts { HasCleanDisk (state S.Store tx.new.conn.now)
-        → (t : Tables) → HasTables t (state S.Store tx.old.conn.now).now
-        → OnOk result ((pieces : List AnyPiece) × (charges : List AnyCharge)
-        × HasTables (record t { pieces = pieces; charges = charges })
-        (state S.Store tx.new.conn.now).now
-        × (IsFirm t employer firm.now → FromCredit t employer news.now pieces charges)) }
-    ensures fault { HasCleanDisk (state S.Store tx.new.conn.now)
-        → (t : Tables) → HasTables t (state S.Store tx.old.conn.now).now
-        → IsFirm t employer firm.now → KeepsAccount t employer
-        → IsFreeFromCredit t employer news.now.first → IsSerial news.now.first.serial
-        → IfErr result IsOfDisk }
-    ensures stays { GoesOn S.Store tx.old.conn.now tx.new.conn.now result }
+    ensures allocates { Allocates S.Store tx.old.conn.now tx.new.conn.now result
+        (λ t pieces charges. IsFirm t employer firm.now
+        → FromCredit t employer news.now pieces charges)
+        (λ t. IsFirm t employer firm.now × KeepsAccount t employer
+        × IsFreeFromCredit t employer news.now.first × IsSerial news.now.first.serial) }
 {
     let charges = firm.account.all_charges();
     let start = start_of_credits(charges, firm.account.all_credits(), &news.first);
@@ -272,31 +220,17 @@ fn put_anew<S: Alter>(
 ) -> Result<(), Fault>
     requires { StartsAt firm.now.account.charges firm.now.account.credits start.now }
     ensures same_reference { tx.new.conn.ghost_name ≡ tx.old.conn.ghost_name }
-    ensures put { HasCleanDisk (state S.Store tx.new.conn.now)
-        → (t : Tables) → HasTables t (state S.Store tx.old.conn.now).now
-        → OnOk result ((rows : List AnyPiece)
-        × HasTables (record t {
+    ensures alters { Alters S.Store tx.old.conn.now tx.new.conn.now result
+        (λ t rows. record t {
           pieces = with_pieces from.now.employer from.now.month from.now.day from.now.serial rows
               t.pieces;
           charges = replaced_rows charge_key t.charges (settled_from from.now.employer
               firm.now.account.charges firm.now.account.credits start.now.rows.count);
-        }) (state S.Store tx.new.conn.now).now
-        × (firm.now.account.credits ≡ map row_credit firm.now.rows.items
-        → rows ≡ pieces_left start.now.charges.cents start.now.credits.cents
-        (drop start.now.charges.count firm.now.account.charges)
-        (drop start.now.credits.count firm.now.rows.items))) }
-    ensures fault { HasCleanDisk (state S.Store tx.new.conn.now)
-        → (t : Tables) → HasTables t (state S.Store tx.old.conn.now).now
-        → firm.now.account.credits ≡ map row_credit firm.now.rows.items
-        → AllByRecursion IsCreditRow firm.now.rows.items → IsSerial from.now.serial
-        → AreFree piece_key (without_rows piece_key
-        (is_piece_key_from from.now.employer from.now.month from.now.day from.now.serial) t.pieces)
-        (pieces_left start.now.charges.cents start.now.credits.cents
-        (drop start.now.charges.count firm.now.account.charges)
-        (drop start.now.credits.count firm.now.rows.items))
-        → AllByRecursion IsKeptCharge (settled_from from.now.employer firm.now.account.charges
-        firm.now.account.credits start.now.rows.count) → IfErr result IsOfDisk }
-    ensures stays { GoesOn S.Store tx.old.conn.now tx.new.conn.now result }
+        })
+        (λ t rows. HasItsRows firm.now → rows ≡ pieces_from firm.now start.now)
+        (λ t. ArePuttable t firm.now start.now from.now
+        × AllByRecursion IsKeptCharge (settled_from from.now.employer firm.now.account.charges
+        firm.now.account.credits start.now.rows.count)) }
 {
     match put_pieces(alloc, tx, firm, start, from) {
         Ok(()) => put_charges(alloc, tx, firm, from.employer, start.rows),
@@ -314,27 +248,13 @@ fn put_pieces<S: Alter>(
 ) -> Result<(), Fault>
     requires { StartsAt firm.now.account.charges firm.now.account.credits start.now }
     ensures same_reference { tx.new.conn.ghost_name ≡ tx.old.conn.ghost_name }
-    ensures put { HasCleanDisk (state S.Store tx.new.conn.now)
-        → (t : Tables) → HasTables t (state S.Store tx.old.conn.now).now
-        → OnOk result ((rows : List AnyPiece)
-        × HasTables (record t {
+    ensures alters { Alters S.Store tx.old.conn.now tx.new.conn.now result
+        (λ t rows. record t {
           pieces = with_pieces from.now.employer from.now.month from.now.day from.now.serial rows
               t.pieces;
-        }) (state S.Store tx.new.conn.now).now
-        × (firm.now.account.credits ≡ map row_credit firm.now.rows.items
-        → rows ≡ pieces_left start.now.charges.cents start.now.credits.cents
-        (drop start.now.charges.count firm.now.account.charges)
-        (drop start.now.credits.count firm.now.rows.items))) }
-    ensures fault { HasCleanDisk (state S.Store tx.new.conn.now)
-        → (t : Tables) → HasTables t (state S.Store tx.old.conn.now).now
-        → firm.now.account.credits ≡ map row_credit firm.now.rows.items
-        → AllByRecursion IsCreditRow firm.now.rows.items → IsSerial from.now.serial
-        → AreFree piece_key (without_rows piece_key
-        (is_piece_key_from from.now.employer from.now.month from.now.day from.now.serial) t.pieces)
-        (pieces_left start.now.charges.cents start.now.credits.cents
-        (drop start.now.charges.count firm.now.account.charges)
-        (drop start.now.credits.count firm.now.rows.items)) → IfErr result IsOfDisk }
-    ensures stays { GoesOn S.Store tx.old.conn.now tx.new.conn.now result }
+        })
+        (λ t rows. HasItsRows firm.now → rows ≡ pieces_from firm.now start.now)
+        (λ t. ArePuttable t firm.now start.now from.now) }
 {
     match pieces_to_put(alloc, firm, start) {
         Ok(rows) => replace_pieces(tx, from, rows.as_slice()),
@@ -353,17 +273,9 @@ fn put_charges<S: Alter>(
     requires within { front.count ≤ length firm.now.account.charges }
     requires front { front.cents ≡ charged_up_to firm.now.account.charges front.count }
     ensures same_reference { tx.new.conn.ghost_name ≡ tx.old.conn.ghost_name }
-    ensures put { HasCleanDisk (state S.Store tx.new.conn.now)
-        → (t : Tables) → HasTables t (state S.Store tx.old.conn.now).now
-        → OnOk result (HasTables (record t {
-          charges = replaced_rows charge_key t.charges (settled_from employer
-              firm.now.account.charges firm.now.account.credits front.count);
-        }) (state S.Store tx.new.conn.now).now) }
-    ensures fault { HasCleanDisk (state S.Store tx.new.conn.now)
-        → (t : Tables) → HasTables t (state S.Store tx.old.conn.now).now
-        → AllByRecursion IsKeptCharge (settled_from employer firm.now.account.charges
-        firm.now.account.credits front.count) → IfErr result IsOfDisk }
-    ensures stays { GoesOn S.Store tx.old.conn.now tx.new.conn.now result }
+    ensures settles { Settles S.Store tx.old.conn.now tx.new.conn.now result
+        (settled_from employer firm.now.account.charges firm.now.account.credits front.count)
+        (Unit {0}) }
 {
     match charges_to_put(alloc, firm, employer, front) {
         Ok(rows) => settle_charges(tx, rows.as_slice()),

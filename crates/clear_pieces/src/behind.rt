@@ -1,30 +1,28 @@
 //! New credits of a firm that come behind all others: they pay what is open of its contributions, and
 //! neither its other credits nor the contributions that are paid in full are read.
-ghost use Rattle.std.specs.Prelude.{◌≡◌, ◌≤◌, [], All, IfErr, IfOk, List, OnOk, drop, length};
-ghost use Rattle.std.specs.Prelude.{map};
+ghost use Rattle.std.specs.Prelude.{◌≡◌, ◌≤◌, [], All, IfErr, IfOk, length, map};
 ghost use Rattle.std.specs.List.{AllByRecursion};
 ghost use Rattle.sqlite.specs.Held.{state};
 ghost use Rattle.sqlite.specs.State.{HasCleanDisk};
 ghost use Rattle.clear_account.specs.Account.{IsAccount, IsCharge, charged_up_to};
 ghost use Rattle.clear_kept.specs.Start.{StartsAt};
-ghost use Rattle.clear_values.specs.Keyed.{AreOnce, replaced_rows, with_rows};
+ghost use Rattle.clear_values.specs.Keyed.{AreOnce, with_rows};
 ghost use Rattle.clear_values.specs.RowRanges.{IsCreditRow, IsKeptCharge};
-ghost use Rattle.clear_values.specs.Tables.{charge_key, piece_key};
-ghost use Rattle.clear_values.specs.declared.rows.KeptCharge.{KeptCharge as AnyCharge};
-ghost use Rattle.clear_values.specs.declared.rows.PieceRow.{PieceRow as AnyPiece};
+ghost use Rattle.clear_values.specs.Tables.{piece_key};
 ghost use Rattle.clear_book.specs.Accounts.{row_credit};
-ghost use Rattle.clear_book.specs.Allocated.{kept_charges, pieces_left};
+ghost use Rattle.clear_book.specs.Allocated.{kept_charges};
 ghost use Rattle.clear_book.specs.Limits.{most_credits};
 ghost use Rattle.clear_book.specs.Tables.{Tables, charge_in, table_credits};
 ghost use Rattle.clear_schema.specs.Faults.{IsOfDisk};
-ghost use Rattle.clear_schema.specs.Frame.{GoesOn, Leaves};
+ghost use Rattle.clear_schema.specs.Frame.{Leaves};
 ghost use Rattle.clear_schema.specs.Held.{HasTables};
 ghost use Rattle.clear_store.specs.Changes.{AreFree};
 ghost use Rattle.clear_views.specs.Owed.{credit_serial, with_charges, with_credits};
+ghost use Rattle.clear_pieces.specs.Allocates.{Allocates, Alters, Settles};
 ghost use Rattle.clear_pieces.specs.Anew.{FromCredit, IsFreeBehind};
 ghost use Rattle.clear_pieces.specs.Behind.{AreLast, IsOpenFirm, IsWeighedBefore, open_row};
 ghost use Rattle.clear_pieces.specs.Behind.{paid_charges, paid_rows, rows_from, with_paid};
-ghost use Rattle.clear_pieces.specs.Firm.{KeepsAccount};
+ghost use Rattle.clear_pieces.specs.Firm.{HasItsRows, KeepsAccount, pieces_from};
 
 use crate::charges::charges_to_put;
 use crate::firm::{FirmAccount, add_charges};
@@ -75,21 +73,13 @@ pub fn allocate_behind<S: Alter>(
     behind: Vec<CreditRow>,
 ) -> Result<(), Fault>
     ensures same_reference { tx.new.conn.ghost_name ≡ tx.old.conn.ghost_name }
-    ensures puts { HasCleanDisk (state S.Store tx.new.conn.now)
-        → (t : Tables) → HasTables t (state S.Store tx.old.conn.now).now
-        → OnOk result ((pieces : List AnyPiece) × (charges : List AnyCharge)
-        × HasTables (record t { pieces = pieces; charges = charges })
-        (state S.Store tx.new.conn.now).now
-        × (IsAccount (kept_charges t employer) (table_credits t employer)
-        → behind.items ≡ rows_from t employer news.now.first
-        → AreLast t employer news.now → IsWeighedBefore t employer news.now
-        → FromCredit t employer news.now pieces charges)) }
-    ensures fault { HasCleanDisk (state S.Store tx.new.conn.now)
-        → (t : Tables) → HasTables t (state S.Store tx.old.conn.now).now
-        → KeepsAccount t employer → behind.items ≡ rows_from t employer news.now.first
-        → AreLast t employer news.now → IsWeighedBefore t employer news.now
-        → IsFreeBehind t employer news.now → IfErr result IsOfDisk }
-    ensures stays { GoesOn S.Store tx.old.conn.now tx.new.conn.now result }
+    ensures allocates { Allocates S.Store tx.old.conn.now tx.new.conn.now result
+        (λ t pieces charges. IsAccount (kept_charges t employer) (table_credits t employer)
+        → behind.items ≡ rows_from t employer news.now.first → AreLast t employer news.now
+        → IsWeighedBefore t employer news.now → FromCredit t employer news.now pieces charges)
+        (λ t. KeepsAccount t employer × (behind.items ≡ rows_from t employer news.now.first)
+        × AreLast t employer news.now × IsWeighedBefore t employer news.now
+        × IsFreeBehind t employer news.now) }
 {
     match read_open(alloc, tx, employer, behind) {
         Ok(firm) => put_behind(alloc, tx, &firm, employer, news),
@@ -192,21 +182,13 @@ fn put_behind<S: Alter>(
     news: &NewCredits,
 ) -> Result<(), Fault>
     ensures same_reference { tx.new.conn.ghost_name ≡ tx.old.conn.ghost_name }
-    ensures puts { HasCleanDisk (state S.Store tx.new.conn.now)
-        → (t : Tables) → HasTables t (state S.Store tx.old.conn.now).now
-        → OnOk result ((pieces : List AnyPiece) × (charges : List AnyCharge)
-        × HasTables (record t { pieces = pieces; charges = charges })
-        (state S.Store tx.new.conn.now).now
-        × (IsAccount (kept_charges t employer) (table_credits t employer)
-        → IsOpenFirm t employer news.now.first firm.now
-        → AreLast t employer news.now → IsWeighedBefore t employer news.now
-        → FromCredit t employer news.now pieces charges)) }
-    ensures fault { HasCleanDisk (state S.Store tx.new.conn.now)
-        → (t : Tables) → HasTables t (state S.Store tx.old.conn.now).now
-        → KeepsAccount t employer → IsOpenFirm t employer news.now.first firm.now
-        → AreLast t employer news.now → IsWeighedBefore t employer news.now
-        → IsFreeBehind t employer news.now → IfErr result IsOfDisk }
-    ensures stays { GoesOn S.Store tx.old.conn.now tx.new.conn.now result }
+    ensures allocates { Allocates S.Store tx.old.conn.now tx.new.conn.now result
+        (λ t pieces charges. IsAccount (kept_charges t employer) (table_credits t employer)
+        → IsOpenFirm t employer news.now.first firm.now → AreLast t employer news.now
+        → IsWeighedBefore t employer news.now → FromCredit t employer news.now pieces charges)
+        (λ t. KeepsAccount t employer × IsOpenFirm t employer news.now.first firm.now
+        × AreLast t employer news.now × IsWeighedBefore t employer news.now
+        × IsFreeBehind t employer news.now) }
 {
     let charges = firm.unpaid.account.all_charges();
     let start = start_of_credits(charges, firm.unpaid.account.all_credits(), &news.first);
@@ -228,24 +210,11 @@ fn add_pieces<S: Alter>(
 ) -> Result<(), Fault>
     requires { StartsAt firm.now.account.charges firm.now.account.credits start.now }
     ensures same_reference { tx.new.conn.ghost_name ≡ tx.old.conn.ghost_name }
-    ensures put { HasCleanDisk (state S.Store tx.new.conn.now)
-        → (t : Tables) → HasTables t (state S.Store tx.old.conn.now).now
-        → OnOk result ((rows : List AnyPiece)
-        × HasTables (record t { pieces = with_rows piece_key t.pieces rows })
-        (state S.Store tx.new.conn.now).now
-        × (firm.now.account.credits ≡ map row_credit firm.now.rows.items
-        → rows ≡ pieces_left start.now.charges.cents start.now.credits.cents
-        (drop start.now.charges.count firm.now.account.charges)
-        (drop start.now.credits.count firm.now.rows.items))) }
-    ensures fault { HasCleanDisk (state S.Store tx.new.conn.now)
-        → (t : Tables) → HasTables t (state S.Store tx.old.conn.now).now
-        → firm.now.account.credits ≡ map row_credit firm.now.rows.items
-        → AllByRecursion IsCreditRow firm.now.rows.items
-        → AreFree piece_key t.pieces
-        (pieces_left start.now.charges.cents start.now.credits.cents
-        (drop start.now.charges.count firm.now.account.charges)
-        (drop start.now.credits.count firm.now.rows.items)) → IfErr result IsOfDisk }
-    ensures stays { GoesOn S.Store tx.old.conn.now tx.new.conn.now result }
+    ensures alters { Alters S.Store tx.old.conn.now tx.new.conn.now result
+        (λ t rows. record t { pieces = with_rows piece_key t.pieces rows })
+        (λ t rows. HasItsRows firm.now → rows ≡ pieces_from firm.now start.now)
+        (λ t. HasItsRows firm.now × AllByRecursion IsCreditRow firm.now.rows.items
+        × AreFree piece_key t.pieces (pieces_from firm.now start.now)) }
 {
     match pieces_to_put(alloc, firm, start) {
         Ok(rows) => insert_pieces(tx, rows.as_slice()),
@@ -264,18 +233,9 @@ fn put_paid<S: Alter>(
     requires within { front.count ≤ length firm.now.unpaid.account.charges }
     requires front { front.cents ≡ charged_up_to firm.now.unpaid.account.charges front.count }
     ensures same_reference { tx.new.conn.ghost_name ≡ tx.old.conn.ghost_name }
-    ensures put { HasCleanDisk (state S.Store tx.new.conn.now)
-        → (t : Tables) → HasTables t (state S.Store tx.old.conn.now).now
-        → OnOk result (HasTables (record t {
-          charges = replaced_rows charge_key t.charges
-              (paid_charges employer firm.now front.count);
-        }) (state S.Store tx.new.conn.now).now) }
-    ensures fault { HasCleanDisk (state S.Store tx.new.conn.now)
-        → (t : Tables) → HasTables t (state S.Store tx.old.conn.now).now
-        → length firm.now.charges.items ≡ length firm.now.unpaid.account.charges
-        → AllByRecursion IsKeptCharge (paid_charges employer firm.now front.count)
-        → IfErr result IsOfDisk }
-    ensures stays { GoesOn S.Store tx.old.conn.now tx.new.conn.now result }
+    ensures settles { Settles S.Store tx.old.conn.now tx.new.conn.now result
+        (paid_charges employer firm.now front.count)
+        (length firm.now.charges.items ≡ length firm.now.unpaid.account.charges) }
 {
     match paid_charges(alloc, firm, employer, front) {
         Ok(rows) => settle_charges(tx, rows.as_slice()),

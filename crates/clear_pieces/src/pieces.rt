@@ -6,10 +6,8 @@ ghost use Rattle.clear_account.specs.Suffix.{pieces_behind};
 ghost use Rattle.clear_kept.specs.Dated.{placed};
 ghost use Rattle.clear_kept.specs.Start.{StartsAt};
 ghost use Rattle.clear_values.specs.RowRanges.{IsCreditRow, IsPieceRow};
-ghost use Rattle.clear_book.specs.Accounts.{row_credit};
-ghost use Rattle.clear_book.specs.Allocated.{pieces_left};
 ghost use Rattle.clear_book.specs.Pieces.{piece_row};
-ghost use Rattle.clear_pieces.specs.Firm.{rows_placed};
+ghost use Rattle.clear_pieces.specs.Firm.{HasItsRows, pieces_from, rows_placed};
 
 use crate::firm::FirmAccount;
 use clear_account::entries::{Charge, Credit};
@@ -33,16 +31,11 @@ pub fn pieces_to_put(
     start: &Start,
 ) -> Result<Vec<PieceRow>, Fault>
     requires { StartsAt firm.now.account.charges firm.now.account.credits start.now }
-    ensures rows { firm.now.account.credits ≡ map row_credit firm.now.rows.items
-        → IfOk result (λ rows. rows.items
-        ≡ pieces_left start.now.charges.cents start.now.credits.cents
-        (drop start.now.charges.count firm.now.account.charges)
-        (drop start.now.credits.count firm.now.rows.items)) }
-    ensures ranges { firm.now.account.credits ≡ map row_credit firm.now.rows.items
-        → AllByRecursion IsCreditRow firm.now.rows.items
+    ensures rows { HasItsRows firm.now
+        → IfOk result (λ rows. rows.items ≡ pieces_from firm.now start.now) }
+    ensures ranges { HasItsRows firm.now → AllByRecursion IsCreditRow firm.now.rows.items
         → IfOk result (λ rows. AllByRecursion IsPieceRow rows.items) }
-    ensures err { firm.now.account.credits ≡ map row_credit firm.now.rows.items
-        → IfErr result (λ fault. fault ≡ Fault.Memory) }
+    ensures err { HasItsRows firm.now → IfErr result (λ fault. fault ≡ Fault.Memory) }
 {
     let credits = firm.account.all_credits();
     if firm.rows.len() != credits.len() {

@@ -1,21 +1,21 @@
-use Rattle.std.proofs.Common.{◌≡◌, length, ap, arith}
-use Rattle.std.proofs.lemmas.Result.{on_ok_weaker}
-use Rattle.clear_pieces.specs.Behind.{rows_from}
+use Rattle.std.proofs.Common.{◌≡◌, List, length, ap, arith}
+use Rattle.clear_values.specs.declared.rows.CreditRow.{CreditRow}
+use Rattle.clear_pieces.specs.Behind.{AreLast, rows_from}
+use Rattle.clear_pieces.proofs.AltersLemmas.{alters_so}
 use Rattle.clear_pieces.proofs.allocate.allocate_read.Goals as goal
 
-pub returns-then-len-news-clause-puts : goal.returns-then-len-news-clause-puts
-returns-then-len-news-clause-puts g c clean t has =
-    on_ok_weaker c.allocate_behind.result
-    (λ put. (
-      put.0,
-      put.1,
-      put.2,
-      λ account behind weighed.
-          let all : length (rows_from t c.args.employer c.args.news.now.first) ≡ c.args.news.now.count = omega (arith, c.if-len-news.true, c.len.ensures, ap length behind) in
-          put.3 account behind all weighed,
+pub returns-then-len-news-clause-allocates : goal.returns-then-len-news-clause-allocates
+returns-then-len-news-clause-allocates g c =
+    alters_so g.S.Store c.args.tx.now.conn.now c.allocate_behind.new.tx.conn.now c.allocate_behind.result c.allocate_behind.ensures.allocates
+    (λ t has.
+    let all = λ (behind : c.args.behind.items ≡ rows_from t c.args.employer c.args.news.now.first).
+    let last : AreLast t c.args.employer c.args.news.now = omega (arith, c.if-len-news.true, c.len.ensures, ap (λ (rows : List CreditRow). length rows) behind) in
+    last in (
+      (λ put. (put.0, put.1, λ account behind weighed. put.2 account behind (all behind) weighed)),
+      (λ sound. (sound.0, sound.1, all sound.1, sound.2, sound.4)),
     ))
-    (c.allocate_behind.ensures.puts clean t has)
 
-pub returns-else-len-news-clause-puts : goal.returns-else-len-news-clause-puts
-returns-else-len-news-clause-puts g c clean t has =
-    on_ok_weaker c.allocate_whole.result (λ put. (put.0, put.1, put.2, λ account behind weighed. put.3 account)) (c.allocate_whole.ensures.puts clean t has)
+pub returns-else-len-news-clause-allocates : goal.returns-else-len-news-clause-allocates
+returns-else-len-news-clause-allocates g c =
+    alters_so g.S.Store c.args.tx.now.conn.now c.allocate_whole.new.tx.conn.now c.allocate_whole.result c.allocate_whole.ensures.allocates
+    (λ t has. ((λ put. (put.0, put.1, λ account behind weighed. put.2 account)), (λ sound. (sound.0, sound.3, sound.5))))

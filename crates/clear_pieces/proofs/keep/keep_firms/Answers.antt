@@ -1,4 +1,4 @@
-use Rattle.std.proofs.Common.{◌≡◌, ◌∷◌, ◌∙◌, ℕ, List, None, OnErr, OnOk, Some, false, refl, sym, subst}
+use Rattle.std.proofs.Common.{◌≡◌, ◌∷◌, ◌∙◌, ℕ, List, Err, None, Ok, Some, false, refl, sym, subst}
 use Rattle.std.specs.BTreeMap.{get}
 use Rattle.std.specs.List.{All}
 use Rattle.std.specs.List.Sorted.{IsStrictlySortedBy}
@@ -7,7 +7,6 @@ use Rattle.std.specs.Ordering.{nat_cmp}
 use Rattle.std.proofs.lemmas.List.Elements.{All-head, All-tail}
 use Rattle.std.proofs.lemmas.Map.Keys.{sorted_tail}
 use Rattle.clear_laws.proofs.WeighedFollowsLemmas.{is_among}
-use Rattle.clear_pieces.specs.Keeping.{AreCreditsPut, Keeps}
 use Rattle.clear_pieces.specs.declared.behind.NewCredits.{NewCredits}
 use Rattle.clear_pieces.proofs.MapLemmas.{not_found, stands_once}
 use Rattle.clear_pieces.proofs.ProgressLemmas.{Progress, all_done, none_done, one_done, one_failed}
@@ -39,9 +38,8 @@ loop-employer-preserved g c =
       sorted = sorted_tail nat_cmp e (keys_of rest) sorted;
       found = All-tail (λ (entry : ℕ × NewCredits). get nat_cmp c.args.firms.now entry.0 ≡ Some entry.1) (e, credits) rest found;
       done = λ news are.
-          let before : Progress g.S.Store c.args.tx.now.conn.now news c.loop-employer.tx.conn.now (e ∷ keys_of rest) = subst (λ (es : List (ℕ × NewCredits)). Progress g.S.Store c.args.tx.now.conn.now news c.loop-employer.tx.conn.now (keys_of es)) steps (so_far.done news are) in
-          subst (λ r. OnOk r (Progress g.S.Store c.args.tx.now.conn.now news c.allocate_from_credits.new.tx.conn.now (keys_of rest))) c.in-Ok.is
-          (one_done g.S.Store c.args.tx.now.conn.now news (get nat_cmp c.args.firms.now) are c.loop-employer.tx.conn.now c.allocate_from_credits.new.tx.conn.now e credits (keys_of rest) (All-head (λ (entry : ℕ × NewCredits). get nat_cmp c.args.firms.now entry.0 ≡ Some entry.1) (e, credits) rest found) (stands_once e (keys_of rest) sorted) before c.allocate_from_credits.result c.allocate_from_credits.ensures.puts c.allocate_from_credits.ensures.fault c.allocate_from_credits.ensures.stays);
+          let before : Progress g.S.Store c.args.tx.now.conn.now news c.loop-employer.tx.conn.now (Ok tt) (e ∷ keys_of rest) = subst (λ (es : List (ℕ × NewCredits)). Progress g.S.Store c.args.tx.now.conn.now news c.loop-employer.tx.conn.now (Ok tt) (keys_of es)) steps (so_far.done news are) in
+          one_done g.S.Store c.args.tx.now.conn.now news (get nat_cmp c.args.firms.now) are c.loop-employer.tx.conn.now c.allocate_from_credits.new.tx.conn.now e credits (keys_of rest) (All-head (λ (entry : ℕ × NewCredits). get nat_cmp c.args.firms.now entry.0 ≡ Some entry.1) (e, credits) rest found) (stands_once e (keys_of rest) sorted) before (Ok tt) c.in-Ok.ensures.allocates;
     }
 
 pub returns-in-Err-clause-keeps : goal.returns-in-Err-clause-keeps
@@ -53,11 +51,11 @@ returns-in-Err-clause-keeps g c = λ news are.
     let steps = c.in-Some.ensures.steps in
     let sorted : IsStrictlySortedBy nat_cmp (e ∷ keys_of rest) = subst (λ (es : List (ℕ × NewCredits)). IsStrictlySortedBy nat_cmp (keys_of es)) steps so_far.sorted in
     let found : All (λ (entry : ℕ × NewCredits). get nat_cmp c.args.firms.now entry.0 ≡ Some entry.1) ((e, credits) ∷ rest) = subst (All (λ (entry : ℕ × NewCredits). get nat_cmp c.args.firms.now entry.0 ≡ Some entry.1)) steps so_far.found in
-    let before : Progress g.S.Store c.args.tx.now.conn.now news c.loop-employer.tx.conn.now (e ∷ keys_of rest) = subst (λ (es : List (ℕ × NewCredits)). Progress g.S.Store c.args.tx.now.conn.now news c.loop-employer.tx.conn.now (keys_of es)) steps (so_far.done news are) in
-    subst (λ r. OnErr r (Keeps g.S.Store c.args.tx.now.conn.now c.allocate_from_credits.new.tx.conn.now r (AreCreditsPut news))) c.in-Err.is
-    (one_failed g.S.Store c.args.tx.now.conn.now news (get nat_cmp c.args.firms.now) are c.loop-employer.tx.conn.now c.allocate_from_credits.new.tx.conn.now e credits (keys_of rest) (All-head (λ (entry : ℕ × NewCredits). get nat_cmp c.args.firms.now entry.0 ≡ Some entry.1) (e, credits) rest found) (stands_once e (keys_of rest) sorted) before c.allocate_from_credits.result c.allocate_from_credits.ensures.puts c.allocate_from_credits.ensures.fault c.allocate_from_credits.ensures.stays)
+    let before : Progress g.S.Store c.args.tx.now.conn.now news c.loop-employer.tx.conn.now (Ok tt) (e ∷ keys_of rest) = subst (λ (es : List (ℕ × NewCredits)). Progress g.S.Store c.args.tx.now.conn.now news c.loop-employer.tx.conn.now (Ok tt) (keys_of es)) steps (so_far.done news are) in
+    one_failed g.S.Store c.args.tx.now.conn.now news c.allocate_from_credits.new.tx.conn.now (keys_of rest) c.in-Err.fault
+    (one_done g.S.Store c.args.tx.now.conn.now news (get nat_cmp c.args.firms.now) are c.loop-employer.tx.conn.now c.allocate_from_credits.new.tx.conn.now e credits (keys_of rest) (All-head (λ (entry : ℕ × NewCredits). get nat_cmp c.args.firms.now entry.0 ≡ Some entry.1) (e, credits) rest found) (stands_once e (keys_of rest) sorted) before (Err c.in-Err.fault) c.in-Err.ensures.allocates)
 
 pub returns-clause-keeps : goal.returns-clause-keeps
 returns-clause-keeps g c = λ news are.
-    all_done g.S.Store c.args.tx.now.conn.now news c.loop-employer.tx.conn.now
-    (subst (λ (es : List (ℕ × NewCredits)). Progress g.S.Store c.args.tx.now.conn.now news c.loop-employer.tx.conn.now (keys_of es)) c.in-None.ensures.steps.0 (c.loop-employer.invariant.done news are))
+    all_done g.S.Store c.args.tx.now.conn.now news c.loop-employer.tx.conn.now (Ok tt)
+    (subst (λ (es : List (ℕ × NewCredits)). Progress g.S.Store c.args.tx.now.conn.now news c.loop-employer.tx.conn.now (Ok tt) (keys_of es)) c.in-None.ensures.steps.0 (c.loop-employer.invariant.done news are))

@@ -1,4 +1,4 @@
-use Rattle.std.proofs.Common.{◌≡◌, List, Some}
+use Rattle.std.proofs.Common.{◌≡◌, List, Ok, Some}
 use Rattle.std.specs.BTreeMap.{get}
 use Rattle.std.specs.List.{All}
 use Rattle.std.specs.List.Sorted.{IsStrictlySortedBy}
@@ -14,5 +14,5 @@ invariant-loop-employer g l = record {
   same_reference : l.tx.conn.ghost_name ≡ l.fn.tx.conn.ghost_name;
   sorted : IsStrictlySortedBy nat_cmp (keys_of l.employer-iterator);
   found : All (λ entry. get nat_cmp l.firms entry.0 ≡ Some entry.1) l.employer-iterator;
-  done : (news : List CreditRow) → AreFirst (get nat_cmp l.firms) news → Progress g.S.Store l.fn.tx.conn.now news l.tx.conn.now (keys_of l.employer-iterator);
+  done : (news : List CreditRow) → AreFirst (get nat_cmp l.firms) news → Progress g.S.Store l.fn.tx.conn.now news l.tx.conn.now (Ok tt) (keys_of l.employer-iterator);
 }

@@ -9,15 +9,15 @@ returns-in-AddReport-clause-keeps g c =
     rw at.is
     (λ clean v has.
     on_ok_weaker c.allocate_from_charge.result
-    (λ kept. (kept.0, kept.1, kept.2, λ t put told. report_follows at.field-0 at.field-1 at.charge t v put kept.0 kept.1 (kept.3 (put.after.account at.charge.employer))))
-    (c.allocate_from_charge.ensures.puts clean v has))
+    (λ kept. (kept.0.0, kept.0.1, kept.1, λ t put told. report_follows at.field-0 at.field-1 at.charge t v put kept.0.0 kept.0.1 (kept.2 (put.after.account at.charge.employer))))
+    (c.allocate_from_charge.ensures.allocates.put clean v has))
 
 pub returns-in-AddReport-clause-fault : goal.returns-in-AddReport-clause-fault
 returns-in-AddReport-clause-fault g c =
     let at = c.in-AddReport in
     rw at.is
     (λ clean v has t put told h keys allocated ranges.
-    c.allocate_from_charge.ensures.fault clean v has (keeps_account v at.charge.employer put.after ranges) (report_free at.field-0 at.field-1 at.charge t v put h keys allocated))
+    c.allocate_from_charge.ensures.allocates.fault clean v has (keeps_account v at.charge.employer put.after ranges, report_free at.field-0 at.field-1 at.charge t v put h keys allocated))
 
 pub returns-then-stood-clause-keeps : goal.returns-then-stood-clause-keeps
 returns-then-stood-clause-keeps g c =
@@ -31,8 +31,8 @@ returns-else-stood-clause-keeps g c =
     rw (at.is, c.if-stood.false)
     (λ clean v has.
     on_ok_weaker call.result
-    (λ kept. (kept.0, kept.1, kept.2, λ t put differs. correction_follows at.field-0 at.field-1 at.charge t v put differs kept.0 kept.1 (kept.3 (put.after.account at.charge.employer))))
-    (call.ensures.puts clean v has))
+    (λ kept. (kept.0.0, kept.0.1, kept.1, λ t put differs. correction_follows at.field-0 at.field-1 at.charge t v put differs kept.0.0 kept.0.1 (kept.2 (put.after.account at.charge.employer))))
+    (call.ensures.allocates.put clean v has))
 
 pub returns-else-stood-clause-fault : goal.returns-else-stood-clause-fault
 returns-else-stood-clause-fault g c =
@@ -40,26 +40,26 @@ returns-else-stood-clause-fault g c =
     let call = c.allocate_from_charge-in-ReplaceReport in
     rw (at.is, c.if-stood.false)
     (λ clean v has t put differs h keys allocated ranges.
-    call.ensures.fault clean v has (keeps_account v at.charge.employer put.after ranges) (correction_free at.field-0 at.field-1 at.charge t v put differs h keys allocated))
+    call.ensures.allocates.fault clean v has (keeps_account v at.charge.employer put.after ranges, correction_free at.field-0 at.field-1 at.charge t v put differs h keys allocated))
 
 pub returns-in-AssignLine-clause-keeps : goal.returns-in-AssignLine-clause-keeps
 returns-in-AssignLine-clause-keeps g c =
     rw c.in-AssignLine.is
     (λ clean v has.
-    on_ok_weaker c.keep_line.result (λ kept. (kept.0, kept.1, kept.2, λ t put told. kept.3 t (line_put c.in-AssignLine.row t v put)))
-    (c.keep_line.ensures.keeps.keeps clean v has))
+    on_ok_weaker c.keep_line.result (λ kept. (kept.0.0, kept.0.1, kept.1, λ t put told. kept.2 t (line_put c.in-AssignLine.row t v put)))
+    (c.keep_line.ensures.keeps.put clean v has))
 
 pub returns-in-ReleaseClaim-clause-keeps : goal.returns-in-ReleaseClaim-clause-keeps
 returns-in-ReleaseClaim-clause-keeps g c =
     rw c.in-ReleaseClaim.is
     (λ clean v has.
-    on_ok_weaker c.keep_release.result (λ kept. (kept.0, kept.1, kept.2, λ t put told. kept.3 t (release_put c.in-ReleaseClaim.claim c.in-ReleaseClaim.serial t v put)))
-    (c.keep_release.ensures.keeps.keeps clean v has))
+    on_ok_weaker c.keep_release.result (λ kept. (kept.0.0, kept.0.1, kept.1, λ t put told. kept.2 t (release_put c.in-ReleaseClaim.claim c.in-ReleaseClaim.serial t v put)))
+    (c.keep_release.ensures.keeps.put clean v has))
 
 pub returns-in-AddBankLines-clause-keeps : goal.returns-in-AddBankLines-clause-keeps
 returns-in-AddBankLines-clause-keeps g c =
     let call = rw c.as_slice.ensures at c.keep_lines.ensures.keeps in
     rw c.in-AddBankLines.is
     (λ clean v has.
-    on_ok_weaker c.keep_lines.result (λ kept. (kept.0, kept.1, kept.2, λ t put told. kept.3 t (lines_put c.in-AddBankLines.rows t v put)))
-    (call.keeps clean v has))
+    on_ok_weaker c.keep_lines.result (λ kept. (kept.0.0, kept.0.1, kept.1, λ t put told. kept.2 t (lines_put c.in-AddBankLines.rows t v put)))
+    (call.put clean v has))

@@ -6,16 +6,11 @@ use Rattle.clear_account.specs.Account.{IsCharge}
 use Rattle.clear_account.specs.Suffix.{pieces_behind}
 use Rattle.clear_kept.specs.Dated.{placed}
 use Rattle.clear_values.specs.RowRanges.{IsCreditRow, IsPieceRow}
-use Rattle.clear_book.specs.Accounts.{row_credit}
-use Rattle.clear_book.specs.Allocated.{pieces_left}
-use Rattle.clear_pieces.specs.Firm.{rows_placed}
+use Rattle.clear_pieces.specs.Firm.{HasItsRows, pieces_from, rows_placed}
 use Rattle.clear_pieces.proofs.PieceLemmas.{all_behind, left_in_range, rows_behind}
 use Rattle.clear_pieces.proofs.pieces.pieces_to_put.Goals as goal
 
-rows_are : (c : goal.After-drop-placed) → c.args.firm.now.account.credits ≡ map row_credit c.args.firm.now.rows.items
-    → let firm = c.args.firm.now in
-    let start = c.args.start.now in
-    c.in-Ok-rows_of.rows.items ≡ pieces_left start.charges.cents start.credits.cents (drop start.charges.count firm.account.charges) (drop start.credits.count firm.rows.items)
+rows_are : (c : goal.After-drop-placed) → HasItsRows c.args.firm.now → c.in-Ok-rows_of.rows.items ≡ pieces_from c.args.firm.now c.args.start.now
 rows_are c same =
     let firm = c.args.firm.now in
     let start = c.args.start.now in
