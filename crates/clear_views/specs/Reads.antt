@@ -1,5 +1,5 @@
 -- What a read inside of a transaction leaves, whether it calls the store or not.
-use Rattle.std.specs.Prelude.{◌≡◌, ◌⊎◌, Result, IfErr, IfOk, OnOk}
+use Rattle.std.specs.Prelude.{◌≡◌, ◌⊎◌, Result, IfErr, IfOk, IsTrue, OnOk}
 use Rattle.sqlite.specs.Held.{Held, state}
 use Rattle.sqlite.specs.State.{HasCleanDisk, IsUnchanged, KeepsCommit, Survives}
 use Rattle.sqlite.specs.Store.{Ghosts}
@@ -27,3 +27,12 @@ pub record Reads {S A : Type 0} (g : Ghosts S) (uncalled : Type 0) (old new : He
   pub each : HasCleanDisk (state g new) → (t : Tables) → HasTables t (state g old).now
       → ReadsOf g t uncalled old new result (is_found t)
   pub survives : Survives (state g old) (state g new) (λ _. ⊥)
+
+-- a read that may be left out: an open database stays as it is, whether it was called or not
+pub record LeavesOpen {S A E : Type 0} (g : Ghosts S) (old new : Held S) (result : Result A E) : Type 0
+  where
+    pub same : HasCleanDisk (state g new) → (t : Tables) → HasTables t (state g old).now
+        → IsTrue (state g old).is_open → OnOk result (IsUnchanged (state g old) (state g new))
+    pub kept : HasCleanDisk (state g new) → (t : Tables) → HasTables t (state g old).now
+        → KeepsCommit (state g old) (state g new)
+    pub survives : Survives (state g old) (state g new) (λ _. ⊥)

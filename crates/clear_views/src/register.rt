@@ -1,8 +1,7 @@
 //! What a registration is judged by.
-ghost use Rattle.std.specs.Prelude.{◌≡◌, if◌then◌else◌, length, nat_lt, IfErr, IfOk, IsTrue};
-ghost use Rattle.std.specs.Prelude.{OnOk};
+ghost use Rattle.std.specs.Prelude.{◌≡◌, if◌then◌else◌, length, nat_lt, IfErr, IfOk};
 ghost use Rattle.sqlite.specs.Held.{state};
-ghost use Rattle.sqlite.specs.State.{HasCleanDisk, IsUnchanged, KeepsCommit, Survives};
+ghost use Rattle.sqlite.specs.State.{HasCleanDisk};
 ghost use Rattle.clear_book.specs.Book.{Book};
 ghost use Rattle.clear_book.specs.Limits.{most_employers};
 ghost use Rattle.clear_book.specs.RowRanges.{AreInRange};
@@ -13,6 +12,7 @@ ghost use Rattle.clear_schema.specs.Held.{HasTables};
 ghost use Rattle.clear_schema.specs.Values.{counts_of};
 ghost use Rattle.clear_firms.specs.Counts.{as_stored};
 ghost use Rattle.clear_rules.specs.Views.Register.{IsRegisterView};
+ghost use Rattle.clear_views.specs.Reads.{LeavesOpen};
 
 use crate::lookups::rate_for;
 use crate::member::find_member;
@@ -74,16 +74,7 @@ fn count_employers<S: Alter>(tx: &mut Transaction<'_, S>, entries: u64) -> Resul
     ensures fault { HasCleanDisk (state S.Store tx.new.conn.now)
         → (t : Tables) → HasTables t (state S.Store tx.old.conn.now).now
         → AreInRange t → IfErr result IsOfDisk }
-    ensures same { HasCleanDisk (state S.Store tx.new.conn.now)
-        → (t : Tables) → HasTables t (state S.Store tx.old.conn.now).now
-        → IsTrue (state S.Store tx.old.conn.now).is_open
-        → OnOk result (IsUnchanged (state S.Store tx.old.conn.now)
-        (state S.Store tx.new.conn.now)) }
-    ensures kept { HasCleanDisk (state S.Store tx.new.conn.now)
-        → (t : Tables) → HasTables t (state S.Store tx.old.conn.now).now
-        → KeepsCommit (state S.Store tx.old.conn.now) (state S.Store tx.new.conn.now) }
-    ensures survives { Survives (state S.Store tx.old.conn.now) (state S.Store tx.new.conn.now)
-        (λ _. ⊥) }
+    ensures leaves { LeavesOpen S.Store tx.old.conn.now tx.new.conn.now result }
 {
     if entries < MAX_EMPLOYERS {
         return Ok(entries);

@@ -1,9 +1,8 @@
 //! What a release is judged by.
-ghost use Rattle.std.specs.Prelude.{◌≡◌, ◌∷◌, [], None, IfErr, IfOk, IfSome, IsSome, IsTrue};
-ghost use Rattle.std.specs.Prelude.{OnOk};
+ghost use Rattle.std.specs.Prelude.{◌≡◌, ◌∷◌, [], None, IfErr, IfOk, IfSome, IsSome};
 ghost use Rattle.std.specs.Option.{option_map};
 ghost use Rattle.sqlite.specs.Held.{state};
-ghost use Rattle.sqlite.specs.State.{HasCleanDisk, IsUnchanged, KeepsCommit, Survives};
+ghost use Rattle.sqlite.specs.State.{HasCleanDisk};
 ghost use Rattle.clear_book.specs.Allocated.{StandsWeighed};
 ghost use Rattle.clear_book.specs.Book.{Book, member_of};
 ghost use Rattle.clear_book.specs.Judge.{day_back};
@@ -19,6 +18,7 @@ ghost use Rattle.clear_schema.specs.Faults.{IsOfDisk};
 ghost use Rattle.clear_schema.specs.Held.{HasTables};
 ghost use Rattle.clear_schema.specs.Values.{counts_of};
 ghost use Rattle.clear_views.specs.Overdue.{contributions_viewed, overdue_told};
+ghost use Rattle.clear_views.specs.Reads.{LeavesOpen};
 
 use crate::lookups::{claim_under, is_day_back};
 use crate::overdue::{Overdue, read_overdue};
@@ -200,16 +200,7 @@ fn count_contributions<S: Alter>(
     ensures fault { HasCleanDisk (state S.Store tx.new.conn.now)
         → (t : Tables) → HasTables t (state S.Store tx.old.conn.now).now
         → AreInRange t → IfErr result IsOfDisk }
-    ensures same { HasCleanDisk (state S.Store tx.new.conn.now)
-        → (t : Tables) → HasTables t (state S.Store tx.old.conn.now).now
-        → IsTrue (state S.Store tx.old.conn.now).is_open
-        → OnOk result (IsUnchanged (state S.Store tx.old.conn.now)
-        (state S.Store tx.new.conn.now)) }
-    ensures kept { HasCleanDisk (state S.Store tx.new.conn.now)
-        → (t : Tables) → HasTables t (state S.Store tx.old.conn.now).now
-        → KeepsCommit (state S.Store tx.old.conn.now) (state S.Store tx.new.conn.now) }
-    ensures survives { Survives (state S.Store tx.old.conn.now) (state S.Store tx.new.conn.now)
-        (λ _. ⊥) }
+    ensures leaves { LeavesOpen S.Store tx.old.conn.now tx.new.conn.now result }
 {
     if serials < MAX_CREDITS {
         return Ok(serials);

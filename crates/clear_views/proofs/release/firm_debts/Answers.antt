@@ -10,7 +10,7 @@ returns-in-Ok-count_contributions-clause-debts g c clean t has given back b lawf
     let old = state g.S.Store c.args.tx.now.conn.now in
     let one = state g.S.Store c.find_overdue.new.tx.conn.now in
     let end = state g.S.Store c.count_contributions.new.tx.conn.now in
-    let clean_one = was_clean one end c.count_contributions.ensures.survives clean in
+    let clean_one = was_clean one end c.count_contributions.ensures.leaves.survives clean in
     let has_one = still t old one (c.in-Ok.ensures.leaves.same clean_one t has) has in
     debts_are b t stands.stands c.args.employer c.args.day c.args.serials given c.in-Ok.overdue (c.in-Ok.ensures.overdue clean_one t has back b lawful stands) _ refl refl refl
     (c.in-Ok-count_contributions.ensures.count clean t has_one) refl
@@ -20,6 +20,6 @@ returns-in-Err-count_contributions-clause-fault g c clean t has b lawful stands 
     let old = state g.S.Store c.args.tx.now.conn.now in
     let one = state g.S.Store c.find_overdue.new.tx.conn.now in
     let end = state g.S.Store c.count_contributions.new.tx.conn.now in
-    let clean_one = was_clean one end c.count_contributions.ensures.survives clean in
+    let clean_one = was_clean one end c.count_contributions.ensures.leaves.survives clean in
     let has_one = still t old one (c.in-Ok.ensures.leaves.same clean_one t has) has in
     c.in-Err-count_contributions.ensures.fault clean t has_one (rows_in_range b t lawful stands.stands)
