@@ -18,11 +18,11 @@ firms drawn from the whole book (11 charges, 10 payments), the documents of such
 of earnings), reports of further months, registrations; then the mix, which is growth as above with a query
 after two of five commands; then claims of ten new firms that have reported every month (23 charges, 10 or
 30 payments), releases of half of them and withdrawals of the others; then, over 100 new firms that have
-reported 23 months and paid them by 30 payments, the report of the newest month of each, and bank files of
-100 lines, one for each of these firms, which pay a part of that month; then bank files of 100 lines for 100
-firms of the book, on days drawn from all its months, so that a payment moves those behind it. Where nearly
-100,000 bank lines came in, more come until they are past that, and bank files again. --kinds names those
-that are measured.
+reported 23 months and paid them by 30 payments, the report of the newest month of each, bank files of 100
+lines, one for each of these firms, which pay a part of that month, and such files of interest, of which no
+pieces are kept; then bank files of 100 lines for 100 firms of the book, on days drawn from all its months,
+so that a payment moves those behind it. Where nearly 100,000 bank lines came in, more come until they are
+past that, and bank files again. --kinds names those that are measured.
 
 A first table has requests a second, in one after another, the client's own time included; a second one
 the median milliseconds of a request by the clock; a third the processor time of the server's process,
@@ -65,7 +65,7 @@ SLICE = 10
 MANY_LINES = 100_000
 # In the order in which they are measured: bank files come last, since they make statements longer.
 KINDS = ("owed", "statement", "worker", "report", "register", "mix", "claim", "release", "withdraw",
-         "newest report", "newest payments", "import")
+         "newest report", "newest payments", "newest interest", "import")
 # Firms whose newest month is reported and paid: so many months and payments of each before.
 NEWEST_FIRMS, NEWEST_MONTHS, NEWEST_PAYMENTS = 100, 23, 30
 NEWEST_GROSS, NEWEST_CENTS = 350_000, 1_000
@@ -158,13 +158,13 @@ class Requests:
         return self.command("newest report", f"/employers/{no}/reports/{MONTHS[month]}", f"k{no}",
                             f'{{"lines":[{lines}]}}')
 
-    def newest_line(self, no, day, cents):
+    def newest_line(self, no, day, cents, purpose="C"):
         self.lines += 1
-        return f"N{self.lines:09},{day},{no},{cents},C,\n"
+        return f"N{self.lines:09},{day},{no},{cents},{purpose},\n"
 
-    def newest_payments(self):
-        return self.command("newest payments", "/bank", "desk", HEADER + "".join(
-            self.newest_line(no, DAY, NEWEST_CENTS) for no in self.payers))
+    def newest_file(self, kind, purpose):
+        return self.command(kind, "/bank", "desk", HEADER + "".join(
+            self.newest_line(no, DAY, NEWEST_CENTS, purpose) for no in self.payers))
 
     def paying(self):
         """Commands by which new firms join, report all months but the newest, and pay them to the cent."""
@@ -206,8 +206,9 @@ class Requests:
             return [self.withdraw(place) for place in range(count, 2 * count)]
         if kind == "newest report":
             return [self.newest_report(no, NEWEST_MONTHS) for no in self.payers]
-        if kind == "newest payments":
-            return [self.newest_payments() for _ in range(max(count // SLICE, 1))]
+        if kind in ("newest payments", "newest interest"):
+            purpose = "C" if kind == "newest payments" else "I"
+            return [self.newest_file(kind, purpose) for _ in range(max(count // SLICE, 1))]
         if kind == "import":
             return [self.bank_file(self.random.choices(self.grown, k=100)) for _ in range(count)]
         months = self.random.sample(range(len(self.grown) * (24 - REPORTED)), count)
@@ -382,7 +383,8 @@ def measure(servers, comparison, requests):
 # What is sent ahead of the first of some kinds, which isn't measured.
 AHEAD = {"claim": Requests.claiming, "newest report": Requests.paying}
 # Kinds that build on others.
-BEHIND = {"release": "claim", "withdraw": "claim", "newest payments": "newest report"}
+BEHIND = {"release": "claim", "withdraw": "claim", "newest payments": "newest report",
+          "newest interest": "newest report"}
 
 
 def measure_copies(servers, comparison, requests, options, folder):
