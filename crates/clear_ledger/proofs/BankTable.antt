@@ -7,9 +7,10 @@ use Rattle.sqlite_tied.specs.Compute.{everything}
 use Rattle.sqlite_value.specs.Keys.{ascending, first_key, plain}
 use Rattle.sqlite_value.specs.Order.{value_cmp}
 use Rattle.clear_values.specs.Keyed.{in_key_order}
-use Rattle.clear_columns.proofs.KeyedTable.{KeyedTable, finds, few, lists, lists_all}
+use Rattle.clear_columns.proofs.KeyedTable.{KeyedTable, finds, few, lists_all}
 use Rattle.clear_columns.proofs.OrderLemmas.{lists_by}
 use Rattle.clear_columns.proofs.Says.{Says, SaysQuery}
+use Rattle.clear_ledger.proofs.CountLemmas.{counts, one, one_shown}
 use Rattle.clear_schema.proofs.Changes.{bank_changed}
 
 pub last : (b : Bool) → (b && true) ≡ b
@@ -108,12 +109,12 @@ without_firm = op2 (Is Binary) (col 1 5) (lit Null) ∷ []
 abbrev order : List (Term × Key)
 order = (col 1 1, ascending Binary) ∷ []
 
-abbrev pub suspense : List ℕ
-suspense = codes "SELECT reference, serial, value, named, employer, cents, purpose, note FROM bank WHERE employer IS NULL ORDER BY reference"
+abbrev pub count : List ℕ
+count = codes "SELECT 1 FROM bank WHERE employer IS NULL"
 
-suspense_says : SaysQuery suspense (plain_program 7 without_firm columns order)
+count_says : SaysQuery count (plain_program 7 without_firm (one ∷ []) [])
 unfolding everything
-suspense_says = record { names = _; said = (refl, refl, refl) }
+count_says = record { names = _; said = (refl, refl, refl) }
 
 abbrev serial_order : List (Term × Key)
 serial_order = (col 1 2, ascending Binary) ∷ []
@@ -166,8 +167,8 @@ module _ {S : Type 0} (g : Ghosts S) (t : Tables) (db : Database) (has : HasTabl
   pub answers : (k : List ℕ) → AnswersJust g get (Text k ∷ []) db (map bank_shown (filter (is_of k) t.bank))
   answers k = finds bank g t db has (Text k ∷ []) bank_shown (is_of k) (of_reference k []) get_says (λ _. refl) (few bank t db has k)
 
-  pub answers_suspense : AnswersJust g suspense [] db (map bank_shown (filter is_in_suspense t.bank))
-  answers_suspense = lists bank g t db has [] bank_shown is_in_suspense no_firm suspense_says by (λ _. refl) rises
+  pub answers_count : AnswersJust g count [] db (map one_shown (filter is_in_suspense t.bank))
+  answers_count = counts bank g t db has [] is_in_suspense no_firm count_says
 
   pub answers_all : AnswersJust g all [] db (map bank_shown t.bank)
   answers_all = lists_all bank g t db has [] bank_shown (λ _. refl) all_says by (λ _. refl) rises

@@ -1,14 +1,16 @@
 -- The credits: under their firms, purposes, days and serials.
-use Rattle.clear_columns.proofs.Words.{◌≡◌, ℤ, pos, ℕ, Bool, true, false, ◌&&◌, List, [], ◌∷◌, map, filter, refl, inl, inr, is_eq, Less, codes, cast_row, Binary, Insert, Database, Row, output_cmp, Values, Ghosts, Term, lit, col, op2, Trees, Null, automatic, agree, passes, Datatype, NotNull, Compare, Eq, Key, Purpose, Contribution, Interest, credit_key, is_credit_of, Tables, CreditRow, meets, plain_program, plain_query, content, HasTables, by_key, credits_table, store_schema, credit_values, number, purpose, cast_int, cast_null, AnswersJust, key_is, cast_purpose, purpose_typed, equal_numbers, equal_ranks, equal_purposes, numbers_compare, purposes_compare, ◌||◌, ◌==◌, ◌∙◌, nat_lt, And, Ge, Gt, Or, Some, ap, arith, comes_from, maybe_from, nat_tests}
+use Rattle.clear_columns.proofs.Words.{◌≡◌, ℤ, pos, ℕ, Bool, true, false, ◌&&◌, List, [], ◌∷◌, map, filter, refl, inl, inr, is_eq, Less, codes, cast_row, Binary, Insert, Database, Row, output_cmp, Values, Ghosts, Term, lit, col, op2, Trees, Null, automatic, agree, passes, Datatype, NotNull, Compare, Eq, Key, Purpose, Contribution, Interest, credit_key, is_credit_of, Tables, CreditRow, meets, plain_program, plain_query, content, HasTables, by_key, credits_table, store_schema, credit_values, number, purpose, cast_int, cast_null, AnswersJust, key_is, cast_purpose, purpose_typed, equal_numbers, equal_ranks, equal_purposes, numbers_compare, purposes_compare, ◌||◌, ◌==◌, ◌∙◌, nat_lt, And, Ge, Gt, Or, Some, ap, arith, comes_from, maybe_from, nat_tests, subst, sym}
 use Rattle.std.proofs.Common.{nat_le}
+use Rattle.std.proofs.lemmas.Simd.{map-map}
 use Rattle.clear_values.specs.Lines.{same_purpose}
 use Rattle.clear_ledger.specs.From.{is_credit_from}
-use Rattle.clear_ledger.specs.Shown.{credit_shown}
+use Rattle.clear_ledger.specs.Shown.{credit_shown, number_shown}
 use Rattle.clear_columns.specs.Keys.{is_held}
 use Rattle.sqlite_tied.specs.Compute.{everything}
 use Rattle.sqlite_value.specs.Keys.{ascending, first_key, plain}
 use Rattle.clear_columns.proofs.KeyedTable.{KeyedTable, lists, or_false}
 use Rattle.clear_columns.proofs.Says.{Says, SaysQuery}
+use Rattle.clear_ledger.proofs.CountLemmas.{counts, one, one_shown}
 use Rattle.clear_schema.proofs.Changes.{credits_changed}
 
 pub keys_agree : (a b : ℤ × CreditRow) → agree plain (1 ∷ 2 ∷ 3 ∷ 4 ∷ []) (credit_values a) (1 ∷ 2 ∷ 3 ∷ 4 ∷ []) (credit_values b) ≡ is_eq (by_key credit_key (content b) (content a))
@@ -88,6 +90,23 @@ list_says : SaysQuery list (plain_program 10 by_purpose columns order)
 unfolding everything
 list_says = record { names = _; said = (refl, refl, refl) }
 
+abbrev amount_column : List Term
+amount_column = col 1 5 ∷ []
+
+abbrev pub list_amounts : List ℕ
+list_amounts = codes "SELECT cents FROM credits WHERE employer = ?1 AND purpose = ?2 ORDER BY employer, purpose, day, serial"
+
+list_amounts_says : SaysQuery list_amounts (plain_program 10 by_purpose amount_column order)
+unfolding everything
+list_amounts_says = record { names = _; said = (refl, refl, refl) }
+
+abbrev pub count : List ℕ
+count = codes "SELECT 1 FROM credits WHERE employer = ?1 AND purpose = ?2"
+
+count_says : SaysQuery count (plain_program 10 by_purpose (one ∷ []) [])
+unfolding everything
+count_says = record { names = _; said = (refl, refl, refl) }
+
 -- `col 1 3` is the day, and `col 1 4` the serial; an index is sought by the test of the day alone
 abbrev by_place : List Term
 by_place = op2 (Compare Eq Binary) (col 1 1) (col 0 0) ∷ op2 (Compare Eq Binary) (col 1 2) (col 0 1) ∷ op2 (Compare Ge Binary) (col 1 3) (col 0 2) ∷ op2 Or (op2 (Compare Gt Binary) (col 1 3) (col 0 2)) (op2 And (op2 (Compare Eq Binary) (col 1 3) (col 0 2)) (op2 (Compare Ge Binary) (col 1 4) (col 0 3))) ∷ []
@@ -118,6 +137,17 @@ rises conditions a b h = rw (numbers_compare a.employer b.employer, purposes_com
 
 pub answers : {S : Type 0} (g : Ghosts S) (t : Tables) (db : Database) (e : ℕ) (p : Purpose) → HasTables t db → AnswersJust g list (number e ∷ purpose p ∷ []) db (map credit_shown (filter (is_credit_of e p) t.credits))
 answers g t db e p has = lists credits g t db has (number e ∷ purpose p ∷ []) credit_shown (is_credit_of e p) (of_firm e p) list_says sorted (λ _. refl) (rises by_purpose)
+
+amounts_rise : (a b : CreditRow) → by_key credit_key a b ≡ Less → output_cmp (plain_query 10 by_purpose amount_column order) (sorted a, number_shown a.cents) (sorted b, number_shown b.cents) ≡ Less
+amounts_rise a b h = rw (numbers_compare a.employer b.employer, purposes_compare a.purpose b.purpose, numbers_compare a.day b.day, numbers_compare a.serial b.serial) h
+
+pub answers_amounts : {S : Type 0} (g : Ghosts S) (t : Tables) (db : Database) (e : ℕ) (p : Purpose) → HasTables t db → AnswersJust g list_amounts (number e ∷ purpose p ∷ []) db (map number_shown (map (λ (row : CreditRow). row.cents) (filter (is_credit_of e p) t.credits)))
+answers_amounts g t db e p has =
+    subst (AnswersJust g list_amounts (number e ∷ purpose p ∷ []) db) (sym (map-map number_shown (λ (row : CreditRow). row.cents) (filter (is_credit_of e p) t.credits)))
+    (lists credits g t db has (number e ∷ purpose p ∷ []) (λ (row : CreditRow). number_shown row.cents) (is_credit_of e p) (of_firm e p) list_amounts_says sorted (λ _. refl) amounts_rise)
+
+pub answers_count : {S : Type 0} (g : Ghosts S) (t : Tables) (db : Database) (e : ℕ) (p : Purpose) → HasTables t db → AnswersJust g count (number e ∷ purpose p ∷ []) db (map one_shown (filter (is_credit_of e p) t.credits))
+answers_count g t db e p has = counts credits g t db has (number e ∷ purpose p ∷ []) (is_credit_of e p) (of_firm e p) count_says
 
 -- the parameters of a query for the credits from a place on
 abbrev pub place : ℕ → Purpose → ℕ → ℕ → Row

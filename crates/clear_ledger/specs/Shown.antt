@@ -147,6 +147,6 @@ kept_shown row = number row.day ∷ Blob row.command ∷ numbers_shown (numbers_
 abbrev pub request_shown : RequestRow → Row
 request_shown row = number (caller_number row.caller) ∷ number row.number ∷ kept_shown row
 
--- the number of a request alone
+-- a number alone: that of a request, or the amount of a credit
 abbrev pub number_shown : ℕ → Row
 number_shown n = number n ∷ []

@@ -1,6 +1,6 @@
 //! The bank lines, by their references.
 ghost use Rattle.std.specs.Borrow.{sem, RestsIfErr};
-ghost use Rattle.std.specs.Prelude.{◌≡◌, false, filter, IfOk};
+ghost use Rattle.std.specs.Prelude.{◌≡◌, ⊤, count_by, false, filter, IfOk};
 ghost use Rattle.sqlite.specs.Held.{state};
 ghost use Rattle.sqlite.specs.Values.{bound};
 ghost use Rattle.sqlite.specs.contracts.connection.Connection.{the_row};
@@ -12,17 +12,17 @@ ghost use Rattle.clear_ledger.specs.Shown.{assignment_given, bank_shown, for_fir
 ghost use Rattle.clear_ledger.specs.Shown.{serial_key};
 ghost use Rattle.clear_columns.specs.Keys.{changed_at};
 ghost use Rattle.clear_columns.specs.Reading.{HasSomeTables, IsLeft, ReadsOn};
-ghost use Rattle.clear_schema.specs.Frame.{Finds, Lists, Writes};
+ghost use Rattle.clear_schema.specs.Frame.{Finds, LooksUp, Writes};
 
 use clear_columns::columns::{
     amount_at, day_at, maybe_employer_at, note_at, purpose_at, reference_at, serial_at,
 };
 use clear_columns::parameters::{amount, day, maybe_employer, purpose};
-use clear_columns::queries::{find, list};
+use clear_columns::queries::find;
 use clear_columns::ranges::is_serial;
 use clear_columns::rows::{StoredTable, begin_rows};
 use clear_schema::fault::Fault;
-use clear_schema::statement::put;
+use clear_schema::statement::{look, put};
 use clear_schema::values::{number, text};
 use clear_values::causes::StoreCause;
 use clear_values::lines::BankLine;
@@ -83,18 +83,16 @@ pub fn find_line<S: Alter>(
     )
 }
 
-/// The lines without a firm, in the order of their references. This is one pass over all lines.
-pub fn lines_in_suspense<S: Alter>(tx: &mut Transaction<'_, S>) -> Result<Vec<BankRow>, Fault>
+/// How many lines have no firm. This is one pass over all lines.
+pub fn suspense_count<S: Alter>(tx: &mut Transaction<'_, S>) -> Result<u64, Fault>
     ensures same_reference { tx.new.conn.ghost_name ≡ tx.old.conn.ghost_name }
-    ensures looks { Lists S.Store tx.old.conn.now tx.new.conn.now result IsBankRow
-        (λ t. filter is_in_suspense t.bank) }
+    ensures looks { LooksUp S.Store tx.old.conn.now tx.new.conn.now result
+        (λ t count. count ≡ count_by is_in_suspense t.bank) (λ _. ⊤) (λ _. ⊥) }
 {
-    list::<S, Bank>(
-        tx,
-        "SELECT reference, serial, value, named, employer, cents, purpose, note \
-         FROM bank WHERE employer IS NULL ORDER BY reference",
-        &[],
-    )
+    match look(tx, "SELECT 1 FROM bank WHERE employer IS NULL", &[]) {
+        Ok(rows) => Ok(rows.len() as u64),
+        Err(fault) => Err(fault),
+    }
 }
 
 /// All lines in the order of their references: `next_row` reads one at a time.

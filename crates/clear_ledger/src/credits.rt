@@ -1,9 +1,10 @@
 //! The credits of firms, by firm, purpose, day and serial.
 ghost use Rattle.std.specs.Borrow.{sem, RestsIfErr};
-ghost use Rattle.std.specs.Prelude.{◌≡◌, ◌<◌, ◌^◌, filter, IfOk};
+ghost use Rattle.std.specs.Prelude.{◌≡◌, ◌<◌, ◌^◌, ⊤, count_by, filter, map, IfOk};
 ghost use Rattle.sqlite.specs.Held.{state};
 ghost use Rattle.sqlite.specs.Values.{bound};
 ghost use Rattle.sqlite.specs.contracts.connection.Connection.{the_row};
+ghost use Rattle.clear_money.specs.Numbers.{IsAmount};
 ghost use Rattle.clear_values.specs.Credits.{credit_key};
 ghost use Rattle.clear_values.specs.Keyed.{with_row};
 ghost use Rattle.clear_values.specs.Credits.{is_credit_of};
@@ -12,7 +13,7 @@ ghost use Rattle.clear_ledger.specs.From.{is_credit_from};
 ghost use Rattle.clear_ledger.specs.Shown.{credit_shown};
 ghost use Rattle.clear_columns.specs.Keys.{is_held};
 ghost use Rattle.clear_columns.specs.Reading.{HasSomeTables, IsLeft, ReadsOn};
-ghost use Rattle.clear_schema.specs.Frame.{Lists, Writes};
+ghost use Rattle.clear_schema.specs.Frame.{Lists, LooksUp, Writes};
 
 use clear_columns::columns::{
     amount_at, credit_reference_at, day_at, employer_at, purpose_at, serial_at,
@@ -22,9 +23,9 @@ use clear_columns::queries::list;
 use clear_columns::ranges::is_serial;
 use clear_columns::rows::{StoredTable, begin_rows};
 use clear_money::days::Day;
-use clear_money::numbers::EmployerNo;
+use clear_money::numbers::{Amount, EmployerNo};
 use clear_schema::fault::Fault;
-use clear_schema::statement::put;
+use clear_schema::statement::{look, put};
 use clear_schema::values::{number, text};
 use clear_values::causes::StoreCause;
 use clear_values::lines::Purpose;
@@ -91,6 +92,45 @@ pub fn credits_from<S: Alter>(
     )
 }
 
+/// The amounts of a firm's credits for a purpose, in the order of `credits_of`.
+pub fn credit_amounts<S: Alter>(
+    tx: &mut Transaction<'_, S>,
+    employer: EmployerNo,
+    purpose: Purpose,
+) -> Result<Vec<Amount>, Fault>
+    ensures same_reference { tx.new.conn.ghost_name ≡ tx.old.conn.ghost_name }
+    ensures looks { Lists S.Store tx.old.conn.now tx.new.conn.now result IsAmount
+        (λ t. map (λ row. row.cents) (filter (is_credit_of employer purpose) t.credits)) }
+{
+    list::<S, CreditAmounts>(
+        tx,
+        "SELECT cents FROM credits WHERE employer = ?1 AND purpose = ?2 \
+         ORDER BY employer, purpose, day, serial",
+        &[firm(employer), payment(purpose)],
+    )
+}
+
+/// How many credits a firm has for a purpose. Of their columns those of the key alone are read.
+pub fn credit_count<S: Alter>(
+    tx: &mut Transaction<'_, S>,
+    employer: EmployerNo,
+    purpose: Purpose,
+) -> Result<u64, Fault>
+    ensures same_reference { tx.new.conn.ghost_name ≡ tx.old.conn.ghost_name }
+    ensures looks { LooksUp S.Store tx.old.conn.now tx.new.conn.now result
+        (λ t count. count ≡ count_by (is_credit_of employer purpose) t.credits)
+        (λ _. ⊤) (λ _. ⊥) }
+{
+    match look(
+        tx,
+        "SELECT 1 FROM credits WHERE employer = ?1 AND purpose = ?2",
+        &[firm(employer), payment(purpose)],
+    ) {
+        Ok(rows) => Ok(rows.len() as u64),
+        Err(fault) => Err(fault),
+    }
+}
+
 /// The credits of a firm for a purpose, in the order of `credits_of`: `next_row` reads one at a
 /// time.
 pub fn read_credits<S: Alter>(
@@ -134,6 +174,24 @@ impl StoredTable for Credits {
             cents: amount_at(row, 4)?,
             reference,
         })
+    }
+}
+
+/// The table of credits, of which a query shows the amounts alone.
+pub struct CreditAmounts;
+
+impl StoredTable for CreditAmounts {
+    ghost use Rattle.clear_ledger.specs.Shown.{number_shown};
+    ghost use Rattle.clear_money.specs.Numbers.{IsAmount};
+
+    type Row = Amount;
+
+    ghost shown = { number_shown };
+
+    ghost is_in_range = { IsAmount };
+
+    fn read(row: &Row) -> Result<Amount, Fault> {
+        amount_at(row, 0)
     }
 }
 

@@ -1,5 +1,8 @@
 //! The store: how it is made and opened, its transactions, the rows of its tables, and the changes
 //! that decisions make of them.
+//!
+//! Any change may be refused for want of memory or for a fault of the store, whatever the tables hold:
+//! so a body that only refuses meets the contract of each, and tests show that changes succeed.
 #![tactic(auto)]
 
 mod bank_file;

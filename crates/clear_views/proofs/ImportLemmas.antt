@@ -1,7 +1,10 @@
 -- What an import reads is what its file is judged by.
-use Rattle.std.proofs.Common.{◌≡◌, ◌⊎◌, inl, inr, ℕ, ◌+◌, ◌≤◌, List, [], ◌∷◌, length, filter, count_by, Option, None, Some, is_some, Bool, true, false, cond, refl, sym, ap, subst, ◌∙◌, arith}
+use Rattle.std.proofs.Common.{◌≡◌, ◌⊎◌, inl, inr, ℕ, ◌+◌, ◌≤◌, List, [], ◌∷◌, length, count_by, Option, None, Some, is_some, Bool, true, false, cond, refl, sym, ap, subst, ◌∙◌, arith}
 use Rattle.std.proofs.lemmas.List.Sums.{length-filter}
-use Rattle.std.specs.Prelude.{unwrap_or}
+use Rattle.std.proofs.lemmas.Result.{IfOk-weaker}
+use Rattle.std.specs.Prelude.{⊤, Result, unwrap_or}
+use Rattle.sqlite.specs.Held.{Held}
+use Rattle.sqlite.specs.Store.{Ghosts}
 use Rattle.std.proofs.lemmas.Bool.{false≢true}
 use Rattle.std.proofs.lemmas.List.FromFn.{length-enumerate_from}
 use Rattle.std.proofs.lemmas.List.Sums.{count_by-le-length}
@@ -34,15 +37,22 @@ use Rattle.clear_rules.specs.Views.ImportBank.{IsEmployerViewed, IsImportView, c
 use Rattle.clear_rules.specs.Views.Serves.{Serves, ServesAfter}
 use Rattle.clear_rules.specs.declared.decide.import.EmployerCredits.{EmployerCredits}
 use Rattle.clear_rules.specs.declared.decide.import.ImportView.{ImportView}
+use Rattle.clear_schema.specs.Frame.{LooksUp}
 use Rattle.clear_schema.specs.Values.{counts_of}
+use Rattle.clear_schema.specs.declared.fault.Fault.{Fault}
 use Rattle.clear_views.proofs.FoundLemmas.{each_found}
+use Rattle.clear_views.proofs.StillLemmas.{reads_query}
 use Rattle.clear_views.proofs.ViewLemmas.{credits_counted}
 use Rattle.clear_views.specs.Imports.{IsImportRead, IsServing, counted_firm, credits_viewed, firm_viewed, line_found}
+use Rattle.clear_views.specs.Reads.{Reads}
 
--- where no number serves, those that are found are counted
-pub counted_if_none : {A : Type 0} (serving : Option ℕ) (test : A → Bool) (rows found : List A) (n : ℕ) → serving ≡ None → found ≡ filter test rows → n ≡ length found → n ≡ unwrap_or serving (count_by test rows)
-counted_if_none serving test rows found n none is counted =
-    counted ∙ ap length is ∙ length-filter test rows ∙ ap (λ o. unwrap_or o (count_by test rows)) (sym none)
+-- where no number serves, the rows are counted
+pub reads_count : {S : Type 0} (g : Ghosts S) (old new : Held S) (r : Result ℕ Fault) (serving : Option ℕ) (count : Tables → ℕ) → serving ≡ None → LooksUp g old new r (λ t n. n ≡ count t) (λ _. ⊤) (λ _. ⊥) → Reads g ⊤ old new r (λ t n. n ≡ unwrap_or serving (count t))
+reads_count g old new r serving count none looks = record {
+  each = λ clean t has.
+      reads_query g t ⊤ ⊥ old new r _ (IfOk-weaker r _ _ (λ n is. is ∙ ap (λ o. unwrap_or o (count t)) (sym none)) (looks.found clean t has)) (looks.cause clean t has) (looks.range clean t has) (λ _ no. no) (looks.same clean t has) (looks.kept clean t has);
+  survives = looks.survives;
+}
 
 -- the counts of tables in their ranges are in theirs
 pub counts_in_range : (t : Tables) → AreInRange t → AreCounts (counts_of t)

@@ -5,6 +5,7 @@ use Rattle.std.proofs.lemmas.Bool.{ltb-true}
 use Rattle.std.proofs.lemmas.Bool.Decides.{nat_tests}
 use Rattle.std.proofs.lemmas.List.{length-map}
 use Rattle.std.proofs.lemmas.List.Elements.{All-filter, All-from_recursion, All-map}
+use Rattle.sqlite_trees.proofs.ListLemmas.{all-filter, all-map}
 use Rattle.clear_account.specs.declared.entries.Charge.{Charge}
 use Rattle.clear_account.specs.declared.entries.Credit.{Credit}
 use Rattle.clear_account.specs.Account.{IsAccount, credited}
@@ -14,6 +15,7 @@ use Rattle.clear_kept.specs.Weighed.{weighed_charges}
 use Rattle.clear_kept.proofs.ArrearsLemmas.{arrears_from_rows}
 use Rattle.clear_kept.proofs.OwingLemmas.{charged_from_rows, credited_from_rows}
 use Rattle.clear_kept.proofs.OwingLemmas.{rows_in_range as kept_in_range}
+use Rattle.clear_money.specs.Numbers.{IsAmount}
 use Rattle.clear_bank.specs.declared.lines.Purpose.TheVariants.{Contribution, Interest}
 use Rattle.clear_book.specs.declared.outcomes.Answer.TheVariants.{Owed}
 use Rattle.clear_book.specs.declared.rows.CreditRow.{CreditRow}
@@ -27,6 +29,7 @@ use Rattle.clear_book.specs.Laws.{IsBy}
 use Rattle.clear_book.specs.Lines.{is_credit_of}
 use Rattle.clear_book.specs.Machine.{IsLawful}
 use Rattle.clear_book.specs.Own.Owed.{owed_by}
+use Rattle.clear_book.specs.RowRanges.{IsCreditRow}
 use Rattle.clear_book.specs.Tables.{Tables, table_credits}
 use Rattle.clear_laws.proofs.CreditsLemmas.{table_credits-credits_of}
 use Rattle.clear_laws.proofs.DueLemmas.{dues_rise}
@@ -36,6 +39,16 @@ use Rattle.clear_laws.proofs.RowRangeLemmas.{rows_in_range}
 use Rattle.clear_laws.proofs.TableAccountLemmas.{account_of_tables}
 use Rattle.clear_laws.proofs.ListLemmas.{each}
 use Rattle.clear_views.specs.Owing.{HasKept, credited_by}
+
+-- ---- the amounts of credits
+
+-- they are amounts
+pub all_amounts : (f : CreditRow → Bool) (rows : List CreditRow) → AllByRecursion IsCreditRow rows → AllByRecursion IsAmount (map (λ (row : CreditRow). row.cents) (filter f rows))
+all_amounts f rows within =
+    all-map IsAmount (λ (row : CreditRow). row.cents) (filter f rows)
+    (each IsCreditRow (λ row. IsAmount row.cents) (λ row is. is.cents) (filter f rows) (all-filter IsCreditRow f rows within))
+
+-- ---- what is kept
 
 -- where a part is open, the payments are what is charged less what is open
 credited_kept : (cs : List Charge) (ks : List Credit) → credited_by (weighed_charges cs ks) ks ≡ credited ks

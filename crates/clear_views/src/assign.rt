@@ -24,7 +24,7 @@ use clear_book::calls::Assignment;
 use clear_book::limits::MAX_CREDITS;
 use clear_book::rows::BankRow;
 use clear_firms::counts::Counts;
-use clear_ledger::credits::credits_of;
+use clear_ledger::credits::credit_count;
 use clear_money::numbers::EmployerNo;
 use clear_rules::decide::assign::AssignView;
 use clear_schema::fault::Fault;
@@ -120,8 +120,8 @@ fn has_all_credits<S: Alter>(
         → AreInRange t → IfErr result IsOfDisk }
     ensures leaves { Leaves S.Store tx.old.conn.now tx.new.conn.now result }
 {
-    match credits_of(tx, employer, purpose) {
-        Ok(credits) => Ok(credits.len() as u64 >= MAX_CREDITS),
+    match credit_count(tx, employer, purpose) {
+        Ok(count) => Ok(count >= MAX_CREDITS),
         Err(fault) => Err(fault),
     }
 }

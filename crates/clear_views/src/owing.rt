@@ -1,5 +1,6 @@
 //! What is kept of a firm's contributions, and what it paid of them.
-ghost use Rattle.std.specs.Prelude.{◌≡◌, ◌≤◌, IfErr, IfOk, length, map};
+ghost use Rattle.std.specs.Prelude.{◌≡◌, ◌≤◌, IfErr, IfOk, IfSome, IsSome, length, map};
+ghost use Rattle.std.specs.List.{sum};
 ghost use Rattle.sqlite.specs.Held.{state};
 ghost use Rattle.sqlite.specs.State.{HasCleanDisk};
 ghost use Rattle.clear_account.specs.Account.{credited};
@@ -24,10 +25,9 @@ use clear_book::rules::StoreCause;
 use clear_firms::charges::charges_of;
 use clear_kept::owing::WeighedCharges;
 use clear_kept::rows::WeighedCharge;
-use clear_ledger::credits::credits_of;
-use clear_money::numbers::EmployerNo;
+use clear_ledger::credits::credit_amounts;
+use clear_money::numbers::{Amount, EmployerNo};
 use clear_schema::fault::Fault;
-use clear_texts::arrears::add_credits;
 use sqlite::{Alter, Transaction};
 use std::alloc::Global;
 
@@ -43,8 +43,8 @@ pub struct KeptAccount {
 /// The contributions of a firm as they are kept, and what it paid of them.
 ///
 /// It reads the firm's contributions, at most 2,400, once. Where a part of one is open, the
-/// payments are what is charged less what is open; only where none is, the firm's credits for
-/// contributions are read, too, each once. What no book holds is refused with
+/// payments are what is charged less what is open; only where none is, the amounts of the firm's
+/// credits for contributions are read, too, each once. What no book holds is refused with
 /// `Fault::Store(StoreCause::Row)`: a value out of its range, and more contributions or credits
 /// than an account has.
 pub fn find_account<S: Alter>(
@@ -158,12 +158,27 @@ fn add_paid<S: Alter>(tx: &mut Transaction<'_, S>, employer: EmployerNo) -> Resu
         → HasKept t employer → IfErr result IsOfDisk }
     ensures leaves { Leaves S.Store tx.old.conn.now tx.new.conn.now result }
 {
-    let rows = match credits_of(tx, employer, Purpose::Contribution) {
-        Ok(rows) => rows,
+    let amounts = match credit_amounts(tx, employer, Purpose::Contribution) {
+        Ok(amounts) => amounts,
         Err(fault) => return Err(fault),
     };
-    match add_credits(rows.as_slice()) {
+    match add_amounts(amounts.as_slice()) {
         Some(cents) => Ok(cents),
         None => Err(Fault::Store(StoreCause::Row)),
     }
+}
+
+// The sum of amounts, in cents. None of a sum that the credits of an account don't reach.
+fn add_amounts(amounts: &[Amount]) -> Option<u64>
+    ensures some { length amounts.now ≤ most_credits → IsSome result }
+    ensures value { IfSome result (λ cents. cents ≡ sum amounts.now) }
+{
+    let mut sum = 0;
+    for amount in amounts {
+        if sum > 10_000_000_000_000_000 {
+            return None;
+        }
+        sum += amount.cents();
+    }
+    Some(sum)
 }

@@ -29,7 +29,7 @@ use clear_book::rules::StoreCause;
 use clear_firms::counts::Counts;
 use clear_firms::employers::find_employer;
 use clear_firms::rates::rate_table;
-use clear_ledger::credits::credits_of;
+use clear_ledger::credits::credit_count;
 use clear_money::days::Day;
 use clear_money::numbers::EmployerNo;
 use clear_rules::decide::release::{FirmDebts, OwingClaim, ReleaseView};
@@ -205,8 +205,5 @@ fn count_contributions<S: Alter>(
     if serials < MAX_CREDITS {
         return Ok(serials);
     }
-    match credits_of(tx, employer, Purpose::Contribution) {
-        Ok(credits) => Ok(credits.len() as u64),
-        Err(fault) => Err(fault),
-    }
+    credit_count(tx, employer, Purpose::Contribution)
 }

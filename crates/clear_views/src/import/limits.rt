@@ -6,8 +6,8 @@ ghost use Rattle.clear_views.specs.Reads.{Reads};
 
 use clear_bank::lines::{BankLine, Purpose};
 use clear_book::numbers::SerialCount;
-use clear_ledger::bank::lines_in_suspense;
-use clear_ledger::credits::credits_of;
+use clear_ledger::bank::suspense_count;
+use clear_ledger::credits::credit_count;
 use clear_money::numbers::EmployerNo;
 use clear_schema::fault::Fault;
 use sqlite::{Alter, Transaction};
@@ -38,10 +38,7 @@ pub(super) fn count_suspense<S: Alter>(
     if let Some(number) = serving {
         return Ok(number);
     }
-    match lines_in_suspense(tx) {
-        Ok(lines) => Ok(lines.len() as u64),
-        Err(fault) => Err(fault),
-    }
+    suspense_count(tx)
 }
 
 /// The number that serves for the credits of a firm for a purpose, or else how many there are.
@@ -58,8 +55,5 @@ pub(super) fn count_credits<S: Alter>(
     if let Some(number) = serving {
         return Ok(number);
     }
-    match credits_of(tx, no, purpose) {
-        Ok(credits) => Ok(credits.len() as u64),
-        Err(fault) => Err(fault),
-    }
+    credit_count(tx, no, purpose)
 }

@@ -1,0 +1,67 @@
+-- How many rows of a table pass: a query shows 1 for each of them, so in whatever order they come, its
+-- answer is the same.
+use Rattle.clear_columns.proofs.Words.{◌≡◌, ◌≢◌, IsPermutation-filter, IsPermutation-map, ℤ, ℕ, Bool, List, [], ◌∷◌, pos, length, map, filter, refl, sym, ap, ◌∙◌, IsPermutation, length-map, Row, Term, lit, Int, Tables, Database, Answers, Ghosts, HasTables, store_schema, meets, plain_program, content, shown_in_some_order, answers_just, AnswersJust, Held, state, Fault}
+use Rattle.std.proofs.Common.{Ok, Err, arith}
+use Rattle.std.proofs.lemmas.List.Elements.{All-from_recursion, recursion_from_All}
+use Rattle.std.proofs.lemmas.List.Sorted.{All-permutation, IsPermutation-sym, IsPermutation-trans, length_permutation}
+use Rattle.std.specs.List.{AllByRecursion}
+use Rattle.std.specs.Prelude.{⊤}
+use Rattle.sqlite.specs.State.{HasCleanDisk, KeepsCommit, Shown, Survives}
+use Rattle.clear_schema.proofs.FrameLemmas.{looks_as, looks_failed, looks_read}
+use Rattle.clear_schema.specs.Frame.{LooksUp}
+use Rattle.clear_schema.specs.Runs.{IsBrokenQuery}
+use Rattle.clear_values.specs.declared.causes.StoreCause.TheVariants.{Constraint, Row as OutOfRange}
+use Rattle.clear_schema.specs.declared.fault.Fault.TheVariants.{Store}
+use Rattle.clear_schema.specs.Frame.{Answers as AnswersRows}
+use Rattle.clear_columns.proofs.KeyedTable.{KeyedTable}
+use Rattle.clear_columns.proofs.Says.{SaysQuery, is_query, plain_query_text, unlisted_query}
+
+-- what is shown of each row
+abbrev pub one : Term
+one = lit (Int (pos 1))
+
+abbrev pub one_shown : {X : Type 0} → X → Row
+one_shown x = Int (pos 1) ∷ []
+
+-- lists of one length whose elements are all the same are the same
+same_ones : (xs ys : List Row) (r : Row) → length ys ≡ length xs → AllByRecursion (λ x. x ≡ r) xs → AllByRecursion (λ y. y ≡ r) ys → ys ≡ xs
+same_ones [] [] r long these those = refl
+same_ones [] (y ∷ ys) r long these those = absurd cc
+same_ones (x ∷ xs) [] r long these those = absurd cc
+same_ones (x ∷ xs) (y ∷ ys) r long these those = (λ i. (those.0 ∙ sym these.0) i ∷ same_ones xs ys r (omega (arith, long)) these.1 those.1 i)
+
+all_ones : {X : Type 0} (xs : List X) → AllByRecursion (λ (r : Row). r ≡ Int (pos 1) ∷ []) (map one_shown xs)
+all_ones [] = tt
+all_ones (x ∷ xs) = (refl, all_ones xs)
+
+in_any_order : {X : Type 0} (xs : List X) (rows : List Row) → IsPermutation (map one_shown xs) rows → rows ≡ map one_shown xs
+in_any_order xs rows some =
+    let is_one = λ (r : Row). r ≡ Int (pos 1) ∷ [] in
+    same_ones (map one_shown xs) rows (Int (pos 1) ∷ []) (length_permutation (map one_shown xs) rows some) (all_ones xs)
+    (recursion_from_All is_one rows (All-permutation is_one (map one_shown xs) rows some (All-from_recursion is_one (map one_shown xs) (all_ones xs))))
+
+-- a query of a table that shows 1 of each row that passes
+pub counts : {X : Type 0} (it : KeyedTable X) {S : Type 0} (g : Ghosts S) (t : Tables) (db : Database) (has : HasTables t db) {sql : List ℕ} {conditions : List Term} (params : Row) (p : X → Bool) → ((y : ℤ × X) → meets conditions params (it.to_row y) ≡ p (content y)) → SaysQuery sql (plain_program it.table.tree conditions (one ∷ []) [])
+    → AnswersJust g sql params db (map one_shown (filter p (it.rows t)))
+counts it g t db has {sql} {conditions} params p tests says =
+    answers_just g says.names sql params store_schema (is_query says) (plain_query_text says) (unlisted_query says) db has.schema _ (λ rows answer. whole rows answer)
+  where
+    whole : (rows : List Row) → Answers db (plain_program it.table.tree conditions (one ∷ []) []) params rows → rows ≡ map one_shown (filter p (it.rows t))
+    whole rows answer =
+        let kept = it.has t db has in
+        in_any_order (filter p (it.rows t)) rows
+        (IsPermutation-trans _ _ _ (IsPermutation-sym _ _ (IsPermutation-map one_shown _ _ (IsPermutation-filter p _ _ kept.same)))
+        (shown_in_some_order it.table.tree conditions (one ∷ []) [] params it.to_row content p tests (λ x. ([], one_shown x)) (λ _. refl) db.schema db.trees kept.numbered kept.stored.is rows answer))
+
+module _ {S X : Type 0} (g : Ghosts S) (old new : Held S) (sql : List ℕ) (params : Row) (rows : Tables → List X) (just : (t : Tables) → HasTables t (state g old).now → AnswersJust g sql params (state g old).now (map one_shown (rows t))) (count : Tables → ℕ) (counted : (t : Tables) → length (rows t) ≡ count t) where
+  -- so the rows that it shows tell how many there are
+  pub told : (n : ℕ) (shown : List Row) → n ≡ length shown → (HasCleanDisk (state g new) → Shown sql params (state g old) (state g new) shown) → Survives (state g old) (state g new) (λ _. ⊥) → LooksUp g old new (Ok n) (λ t found. found ≡ count t) (λ _. ⊤) (λ _. ⊥)
+  told n shown is ran survives =
+      looks_as g old new (AnswersRows g old new one_shown (λ _. ⊤) sql params) (λ t. HasTables t (state g old).now) rows just _ _ _ _ _ _ (λ t found same. same ∙ counted t) (λ t out. out)
+      (looks_read g old new one_shown (λ _. ⊤) sql params (Ok n) shown (λ xs found. found ≡ length xs) (λ _. ⊤) (λ _. ⊥) ran survives (λ xs same. is ∙ ap length same ∙ length-map xs one_shown) tt tt tt)
+
+  pub failed : (fault : Fault) → fault ≢ Store OutOfRange → (HasCleanDisk (state g new) → fault ≡ Store Constraint → IsBrokenQuery sql params (state g old) (state g new)) → (HasCleanDisk (state g new) → KeepsCommit (state g old) (state g new)) → Survives (state g old) (state g new) (λ _. ⊥)
+      → LooksUp g old new (Err fault) (λ t (found : ℕ). found ≡ count t) (λ _. ⊤) (λ _. ⊥)
+  failed fault no_row broke kept survives =
+      looks_as g old new (AnswersRows g old new one_shown (λ _. ⊤) sql params) (λ t. HasTables t (state g old).now) rows just _ _ _ _ _ _ (λ t found same. same ∙ counted t) (λ t out. out)
+      (looks_failed g old new one_shown (λ _. ⊤) sql params fault (λ xs (found : ℕ). found ≡ length xs) (λ _. ⊤) (λ _. ⊥) no_row broke kept survives)
