@@ -1,8 +1,8 @@
 -- The firms that the lines of a file name, each once, and what is found of them.
-use Rattle.std.proofs.Common.{◌≡◌, ℕ, ◌+◌, ◌<◌, ◌≤◌, ◌==◌, List, [], ◌∷◌, ◌++◌, length, take, get_or, Option, None, Some, Bool, true, false, not, cond, ◌&&◌, ◌||◌, refl, sym, ap, subst, ◌∙◌}
+use Rattle.std.proofs.Common.{◌≡◌, ℕ, ◌+◌, ◌<◌, ◌≤◌, ◌==◌, List, [], ◌∷◌, ◌++◌, length, take, get_or, Option, None, Some, Bool, true, false, not, cond, ◌&&◌, ◌||◌, is_some, refl, sym, ap, subst, ◌∙◌, arith}
 use Rattle.std.proofs.lemmas.List.{take_all}
 use Rattle.std.proofs.lemmas.List.Folds.{list_any_more, list_any-append}
-use Rattle.std.specs.List.{AllByRecursion, filter_map, list_any}
+use Rattle.std.specs.List.{AllByRecursion, cons_option, filter_map, list_any}
 use Rattle.std.specs.Option.{option_map, option_map_or}
 use Rattle.std.specs.Ordering.{nat_cmp, is_eq}
 use Rattle.std.specs.Prelude.{IfSome}
@@ -123,6 +123,45 @@ new_once seen firms has firm number same added is new once after grown =
 
 -- ---- each firm that is named is found as it is viewed
 
+-- what holds of each firm that lines name
+each_named : (P : ℕ → Type 0) (lines : List BankLine) → ((e : ℕ) → list_any (names e) lines ≡ true → P e) → AllByRecursion (λ line. IfSome line.employer P) lines
+each_named P [] all = tt
+each_named P (line ∷ lines) all = (told line.employer (λ e here. all e (ap (λ b. b || list_any (names e) lines) here)), each_named P lines (λ e later. all e (later_too e (names e line) later)))
+  where
+    later_too : (e : ℕ) (b : Bool) → list_any (names e) lines ≡ true → (b || list_any (names e) lines) ≡ true
+    later_too e true later = refl
+    later_too e false later = later
+
+    told : (o : Option ℕ) → ((e : ℕ) → option_map_or (λ named. named == e) o false ≡ true → P e) → IfSome o P
+    told None all = tt
+    told (Some e) all = all e (itself e)
+
+-- what holds of each of these firms
+one_of : (P : ℕ → Type 0) (e : ℕ) (firms : List ℕ) → AllByRecursion P firms → is_among e firms ≡ true → P e
+one_of P e [] all among = absurd cc
+one_of P e (n ∷ firms) all among = told (n == e) refl among (one_of P e firms all.1)
+  where
+    told : (b : Bool) → (n == e) ≡ b → (b || is_among e firms) ≡ true → (is_among e firms ≡ true → P e) → P e
+    told true same among rest = subst P (same_worker n e same) all.0
+    told false same among rest = rest among
+
+few_some : {X Y : Type 0} (f : X → Option Y) (xs : List X) → length (filter_map f xs) ≤ length xs
+few_some f [] = omega arith
+few_some {Y = Y} f (x ∷ xs) = told (f x) (few_some f xs)
+  where
+    told : (o : Option Y) → length (filter_map f xs) ≤ length xs → length (cons_option o (filter_map f xs)) ≤ length (x ∷ xs)
+    told None few = omega (arith, few)
+    told (Some y) few = omega (arith, few)
+
+-- where something comes of as many as there are, it comes of each
+all_some : {X Y : Type 0} (f : X → Option Y) (xs : List X) → length (filter_map f xs) ≡ length xs → AllByRecursion (λ x. is_some (f x) ≡ true) xs
+all_some f [] as_many = tt
+all_some {Y = Y} f (x ∷ xs) as_many = told (f x) as_many (all_some f xs)
+  where
+    told : (o : Option Y) → length (cons_option o (filter_map f xs)) ≡ length (x ∷ xs) → (length (filter_map f xs) ≡ length xs → AllByRecursion (λ x. is_some (f x) ≡ true) xs) → (is_some o ≡ true) × AllByRecursion (λ x. is_some (f x) ≡ true) xs
+    told None as_many rest = absurd (omega (arith, as_many, few_some f xs))
+    told (Some y) as_many rest = (refl, rest (omega (arith, as_many)))
+
 module _ (t : Tables) (serving : Option ℕ) where
   its_number : (n e : ℕ) (credits : EmployerCredits) → firm_viewed serving t n ≡ Some credits → (credits.employer == e) ≡ (n == e)
   its_number n e credits is = told (find_row employer_key t.employers (n ∷ [])) is
@@ -134,20 +173,15 @@ module _ (t : Tables) (serving : Option ℕ) where
   found_among : (e : ℕ) (firms : List ℕ) → is_among e firms ≡ true → employer_under (filter_map (firm_viewed serving t) firms) e ≡ firm_viewed serving t e
   found_among e firms among = found_there (λ n. n) (firm_viewed serving t) (λ e (credits : EmployerCredits). credits.employer == e) (λ n e. n == e) its_number same_worker itself e firms among
 
-  module _ (found : List EmployerCredits) (firms : List ℕ) (is : found ≡ filter_map (firm_viewed serving t) firms) where
-    each_found : (lines : List BankLine) → ((e : ℕ) → list_any (names e) lines ≡ true → is_among e firms ≡ true)
-        → AllByRecursion (λ line. IfSome line.employer (λ e. employer_under found e ≡ firm_viewed serving t e)) lines
-    each_found [] all = tt
-    each_found (line ∷ lines) all = (told line.employer (λ e here. all e (ap (λ b. b || list_any (names e) lines) here)), each_found lines (λ e later. all e (later_too e (names e line) later)))
-      where
-        later_too : (e : ℕ) (b : Bool) → list_any (names e) lines ≡ true → (b || list_any (names e) lines) ≡ true
-        later_too e true later = refl
-        later_too e false later = later
+  module _ (found : List EmployerCredits) (firms : List ℕ) (is : found ≡ filter_map (firm_viewed serving t) firms) (lines : List BankLine) (named : (e : ℕ) → is_among e firms ≡ list_any (names e) lines) where
+    found_as : (e : ℕ) → list_any (names e) lines ≡ true → employer_under found e ≡ firm_viewed serving t e
+    found_as e there = ap (λ (rows : List EmployerCredits). employer_under rows e) is ∙ found_among e firms (named e ∙ there)
 
-        told : (o : Option ℕ) → ((e : ℕ) → option_map_or (λ named. named == e) o false ≡ true → is_among e firms ≡ true) → IfSome o (λ e. employer_under found e ≡ firm_viewed serving t e)
-        told None all = tt
-        told (Some e) all = ap (λ (rows : List EmployerCredits). employer_under rows e) is ∙ found_among e firms (all e (itself e))
+    pub named_found : AllByRecursion (λ line. IfSome line.employer (λ e. employer_under found e ≡ firm_viewed serving t e)) lines
+    named_found = each_named (λ e. employer_under found e ≡ firm_viewed serving t e) lines found_as
 
-    pub named_found : (lines : List BankLine) → ((e : ℕ) → is_among e firms ≡ list_any (names e) lines)
-        → AllByRecursion (λ line. IfSome line.employer (λ e. employer_under found e ≡ firm_viewed serving t e)) lines
-    named_found lines named = each_found lines (λ e there. named e ∙ there)
+    -- as many as were named: so each is registered
+    pub named_registered : length found ≡ length firms → AllByRecursion (λ line. IfSome line.employer (λ e. is_some (employer_under found e) ≡ true)) lines
+    named_registered as_many =
+        let all = all_some (firm_viewed serving t) firms (ap length (sym is) ∙ as_many) in
+        each_named (λ e. is_some (employer_under found e) ≡ true) lines (λ e there. ap is_some (found_as e there) ∙ one_of (λ e. is_some (firm_viewed serving t e) ≡ true) e firms all (named e ∙ there))

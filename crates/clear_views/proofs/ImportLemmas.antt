@@ -1,5 +1,5 @@
 -- What an import reads is what its file is judged by.
-use Rattle.std.proofs.Common.{◌≡◌, ◌⊎◌, inl, inr, ℕ, ◌+◌, ◌≤◌, List, [], ◌∷◌, length, count_by, Option, None, Some, is_some, Bool, true, false, cond, refl, sym, ap, subst, ◌∙◌, arith}
+use Rattle.std.proofs.Common.{◌≡◌, ◌⊎◌, inl, inr, ℕ, ◌+◌, ◌≤◌, List, [], ◌∷◌, length, filter, map, count_by, Option, None, Some, is_none, is_some, Bool, true, false, cond, ◌&&◌, refl, sym, ap, subst, ◌∙◌, arith}
 use Rattle.std.proofs.lemmas.List.Sums.{length-filter}
 use Rattle.std.proofs.lemmas.Result.{IfOk-weaker}
 use Rattle.std.specs.Prelude.{⊤, Result, unwrap_or}
@@ -8,8 +8,8 @@ use Rattle.sqlite.specs.Store.{Ghosts}
 use Rattle.std.proofs.lemmas.Bool.{false≢true}
 use Rattle.std.proofs.lemmas.List.FromFn.{length-enumerate_from}
 use Rattle.std.proofs.lemmas.List.Sums.{count_by-le-length}
-use Rattle.std.specs.List.{AllByRecursion, enumerate_from, filter_map}
-use Rattle.std.specs.Option.{option_map, option_map_or}
+use Rattle.std.specs.List.{AllByRecursion, enumerate_from, filter_map, list_all}
+use Rattle.std.specs.Option.{option_and_then, option_map, option_map_or}
 use Rattle.std.specs.Prelude.{IfSome}
 use Rattle.std.specs.Str.{bytes_eq}
 use Rattle.sqlite_keyed.proofs.ListLemmas.{all_weaker}
@@ -26,7 +26,7 @@ use Rattle.clear_laws.proofs.KeyedLemmas.{is_key-refl, is_key-true}
 use Rattle.clear_book.specs.Book.{Book, member_of}
 use Rattle.clear_book.specs.Keyed.{find_row, is_key}
 use Rattle.clear_book.specs.Limits.{most_credits, most_suspense}
-use Rattle.clear_book.specs.Lines.{credit_count, credits_after, credits_made, lines_after, credits_of_lines, serial_count, is_in_suspense, lines_in, lines_of_rows, lines_seen, lines_standing, new_lines, suspense_count}
+use Rattle.clear_book.specs.Lines.{credit_count, credits_after, credits_made, employer_of_line, lines_after, credits_of_lines, row_of_line, serial_count, is_in_suspense, lines_in, lines_of_rows, lines_seen, lines_standing, new_lines, suspense_count}
 use Rattle.clear_book.specs.Machine.{IsLawful}
 use Rattle.clear_book.specs.RowRanges.{AreInRange}
 use Rattle.clear_book.specs.Tables.{Stands, Tables, bank_key, employer_key}
@@ -41,18 +41,30 @@ use Rattle.clear_schema.specs.Frame.{LooksUp}
 use Rattle.clear_schema.specs.Values.{counts_of}
 use Rattle.clear_schema.specs.declared.fault.Fault.{Fault}
 use Rattle.clear_views.proofs.FoundLemmas.{each_found}
-use Rattle.clear_views.proofs.StillLemmas.{reads_query}
+use Rattle.clear_views.proofs.StillLemmas.{all_of_kept, reads_query}
 use Rattle.clear_views.proofs.ViewLemmas.{credits_counted}
-use Rattle.clear_views.specs.Imports.{IsImportRead, IsServing, counted_firm, credits_viewed, firm_viewed, line_found}
+use Rattle.clear_views.specs.Imports.{AreNamed, IsImportRead, IsServing, IsSuspenseViewed, counted_firm, credits_viewed, firm_viewed, is_placed, line_found}
 use Rattle.clear_views.specs.Reads.{Reads}
+use Rattle.clear_views.specs.declared.import.firms.NamedFirms.{NamedFirms}
 
--- where no number serves, the rows are counted
-pub reads_count : {S : Type 0} (g : Ghosts S) (old new : Held S) (r : Result ℕ Fault) (serving : Option ℕ) (count : Tables → ℕ) → serving ≡ None → LooksUp g old new r (λ t n. n ≡ count t) (λ _. ⊤) (λ _. ⊥) → Reads g ⊤ old new r (λ t n. n ≡ unwrap_or serving (count t))
-reads_count g old new r serving count none looks = record {
-  each = λ clean t has.
-      reads_query g t ⊤ ⊥ old new r _ (IfOk-weaker r _ _ (λ n is. is ∙ ap (λ o. unwrap_or o (count t)) (sym none)) (looks.found clean t has)) (looks.cause clean t has) (looks.range clean t has) (λ _ no. no) (looks.same clean t has) (looks.kept clean t has);
-  survives = looks.survives;
-}
+module _ {S : Type 0} (g : Ghosts S) (old new : Held S) (r : Result ℕ Fault) (count : Tables → ℕ) (looks : LooksUp g old new r (λ t n. n ≡ count t) (λ _. ⊤) (λ _. ⊥)) where
+  -- a count is a read
+  reads_count : (F : Tables → ℕ → Type 0) → ((t : Tables) (n : ℕ) → n ≡ count t → F t n) → Reads g ⊤ old new r F
+  reads_count F is_so = record {
+    each = λ clean t has.
+        reads_query g t ⊤ ⊥ old new r (F t) (IfOk-weaker r _ _ (is_so t) (looks.found clean t has)) (looks.cause clean t has) (looks.range clean t has) (λ _ no. no) (looks.same clean t has) (looks.kept clean t has);
+    survives = looks.survives;
+  }
+
+  -- so it is where no number serves
+  pub reads_if_none : (serving : Option ℕ) → serving ≡ None → Reads g ⊤ old new r (λ t n. n ≡ unwrap_or serving (count t))
+  reads_if_none serving none = reads_count (λ t n. n ≡ unwrap_or serving (count t)) (λ t n is. is ∙ ap (λ o. unwrap_or o (count t)) (sym none))
+
+-- so it is of the lines in suspense
+pub reads_suspense : {S : Type 0} (g : Ghosts S) (old new : Held S) (r : Result ℕ Fault) (serials : ℕ) (lines : List BankLine) (all : Bool) → LooksUp g old new r (λ t n. n ≡ count_by is_in_suspense t.bank) (λ _. ⊤) (λ _. ⊥)
+    → Reads g ⊤ old new r (λ t n. IsSuspenseViewed t serials lines all n)
+reads_suspense g old new r serials lines all looks =
+    reads_count g old new r (λ t. count_by is_in_suspense t.bank) looks (λ t n. IsSuspenseViewed t serials lines all n) (λ t n is. inl is)
 
 -- the counts of tables in their ranges are in theirs
 pub counts_in_range : (t : Tables) → AreInRange t → AreCounts (counts_of t)
@@ -62,11 +74,24 @@ counts_in_range t within =
     let run = within.last_run in
     record { day = within.day; entries = within.entries; serial = within.serial; claims = omega (arith, claim); lists = omega (arith, list); runs = omega (arith, run) }
 
--- the number that serves for a count, or else the count
-pub suspense_read : (serials more limit count : ℕ) (n : ℕ) {X : Type 0} (serving : Option ℕ) → IfSome serving (IsServing serials more limit) → n ≡ unwrap_or serving count
-    → (n ≡ count) ⊎ IsServing serials more limit n ⊎ X
-suspense_read serials more limit count n None serves is = inl is
-suspense_read serials more limit count n (Some m) serves is = inr (inl (subst (IsServing serials more limit) (sym is) serves))
+-- each line that names a firm that is registered is placed
+all_placed : (registered : List EmployerCredits) (lines : List BankLine) → AllByRecursion (λ line. IfSome line.employer (λ e. is_some (employer_under registered e) ≡ true)) lines → list_all (λ line. is_some line.employer) lines ≡ true
+    → AllByRecursion (λ line. is_placed registered line ≡ true) lines
+all_placed registered [] firms named = tt
+all_placed registered (line ∷ lines) firms named = told line.employer firms.0 named (all_placed registered lines firms.1)
+  where
+    told : (o : Option ℕ) → IfSome o (λ e. is_some (employer_under registered e) ≡ true) → (is_some o && list_all (λ line. is_some line.employer) lines) ≡ true
+        → (list_all (λ line. is_some line.employer) lines ≡ true → AllByRecursion (λ line. is_placed registered line ≡ true) lines)
+        → (option_map_or (λ e. is_some (employer_under registered e)) o false ≡ true) × AllByRecursion (λ line. is_placed registered line ≡ true) lines
+    told None firm named rest = absurd cc
+    told (Some e) firm named rest = (firm, rest named)
+
+-- what is viewed of the lines in suspense, where the firms that lines name were viewed
+pub suspense_read : (t : Tables) (serials : ℕ) (lines : List BankLine) (serving : Option ℕ) (found : NamedFirms) (n : ℕ) → AreNamed serving t lines found → IsSuspenseViewed t serials lines found.all n
+    → (n ≡ count_by is_in_suspense t.bank) ⊎ IsServing serials (length lines) most_suspense n ⊎ ((n ≡ most_suspense) × AllByRecursion (λ line. is_placed found.registered.items line ≡ true) lines)
+suspense_read t serials lines serving found n named (inl counted) = inl counted
+suspense_read t serials lines serving found n named (inr (inl serves)) = inr (inl serves)
+suspense_read t serials lines serving found n named (inr (inr (most, all, each))) = inr (inr (most, all_placed found.registered.items lines (named.registered all) each))
 
 -- ---- the lines under the references of a file
 
@@ -103,6 +128,31 @@ file_few : (b : Book) (file : List ℕ) → length (rows_of_file b file) ≤ len
 file_few b file =
     omega (arith, length-rows_from (λ e. is_some (member_of b.entries e)) (serial_count b.entries) (new_lines (lines_of_rows (lines_seen b.entries)) (lines_in file)), new_few (lines_of_rows (lines_seen b.entries)) (lines_in file))
 
+-- lines of which each finds its firm bring none into suspense
+none_from : (is_registered : ℕ → Bool) (n : ℕ) (new : List (ℕ × BankLine)) → AllByRecursion (λ p. is_some (employer_of_line is_registered p.1) ≡ true) new → filter is_in_suspense (map (λ numbered. row_of_line is_registered numbered.1.1 numbered.0) (enumerate_from n new)) ≡ []
+none_from is_registered n [] firms = refl
+none_from is_registered n (p ∷ new) firms = told (employer_of_line is_registered p.1) firms.0 ∙ none_from is_registered (n + 1) new firms.1
+  where
+    others : List BankRow
+    others = filter is_in_suspense (map (λ numbered. row_of_line is_registered numbered.1.1 numbered.0) (enumerate_from (n + 1) new))
+
+    told : (o : Option ℕ) → is_some o ≡ true → cond (is_none o) (row_of_line is_registered p.1 n ∷ others) others ≡ others
+    told None firm = absurd cc
+    told (Some e) firm = refl
+
+each_numbered : (P : BankLine → Type 0) (n : ℕ) (lines : List BankLine) → AllByRecursion P lines → AllByRecursion (λ (p : ℕ × BankLine). P p.1) (enumerate_from n lines)
+each_numbered P n [] all = tt
+each_numbered P n (line ∷ lines) all = (all.0, each_numbered P (n + 1) lines all.1)
+
+none_brought : (b : Book) (file : List ℕ) → AllByRecursion (λ line. is_some (employer_of_line (λ e. is_some (member_of b.entries e)) line) ≡ true) (lines_in file) → suspense_count (rows_of_file b file) ≡ 0
+none_brought b file firms =
+    let known = lines_of_rows (lines_seen b.entries) in
+    let registered = λ (e : ℕ). is_some (member_of b.entries e) in
+    sym (length-filter is_in_suspense (rows_of_file b file))
+    ∙ ap length
+    (none_from registered (serial_count b.entries + 1) (new_lines known (lines_in file))
+    (all_of_kept (λ (p : ℕ × BankLine). is_some (employer_of_line registered p.1) ≡ true) (is_new known (lines_in file)) (enumerate_from 0 (lines_in file)) (each_numbered (λ line. is_some (employer_of_line registered line) ≡ true) 0 (lines_in file) firms)))
+
 -- the serials serve for a count that is no more
 serials_serve : (serials more limit n count new : ℕ) → IsServing serials more limit n → count ≤ serials → new ≤ more → Serves n count new limit
 serials_serve serials more limit n count new serves few small =
@@ -130,18 +180,34 @@ module _ (b : Book) (t : Tables) (lawful : IsLawful b) (stands : Stands b t) (fi
   suspense_counted : count_by is_in_suspense t.bank ≡ suspense_count (lines_standing b.entries)
   suspense_counted = count_by-ordered bank_key is_in_suspense t.bank (lines_standing b.entries) stands.bank_in_order (references_standing b.entries) stands.bank
 
-  suspense_serves : (view.suspense ≡ count_by is_in_suspense t.bank) ⊎ IsServing t.serial (length (lines_in file)) most_suspense view.suspense ⊎ ((view.suspense ≡ most_suspense) × (lines_in file ≡ []))
+  registered-at : (e : ℕ) → is_some (find_row employer_key t.employers (e ∷ [])) ≡ is_some (member_of b.entries e)
+  registered-at e = sym (is_some-map (λ (row : EmployerRow). record { name = row.name; start = row.start; last = row.last }) (find_row employer_key t.employers (e ∷ []))) ∙ ap is_some (stands.employers e)
+
+  -- a line that is placed finds its firm registered
+  finds_firm : (lines : List BankLine) → AllByRecursion (λ line. IfSome line.employer (λ e. employer_under view.employers.items e ≡ firm_viewed read.serving t e)) lines → AllByRecursion (λ line. is_placed view.employers.items line ≡ true) lines
+      → AllByRecursion (λ line. is_some (employer_of_line (λ e. is_some (member_of b.entries e)) line) ≡ true) lines
+  finds_firm [] firms placed = tt
+  finds_firm (line ∷ lines) firms placed = (told line.employer firms.0 placed.0, finds_firm lines firms.1 placed.1)
+    where
+      told : (o : Option ℕ) → IfSome o (λ e. employer_under view.employers.items e ≡ firm_viewed read.serving t e) → option_map_or (λ e. is_some (employer_under view.employers.items e)) o false ≡ true
+          → is_some (option_and_then (λ e. cond (is_some (member_of b.entries e)) (Some e) None) o) ≡ true
+      told None firm placed = absurd cc
+      told (Some e) firm placed =
+          ap (λ c. is_some (cond c (Some e) None))
+          (sym (registered-at e) ∙ sym (is_some-map (λ (row : EmployerRow). counted_firm read.serving t e) (find_row employer_key t.employers (e ∷ []))) ∙ sym (ap is_some firm) ∙ placed)
+
+  suspense_serves : (view.suspense ≡ count_by is_in_suspense t.bank) ⊎ IsServing t.serial (length (lines_in file)) most_suspense view.suspense
+      ⊎ ((view.suspense ≡ most_suspense) × AllByRecursion (λ line. is_placed view.employers.items line ≡ true) (lines_in file))
       → Serves view.suspense (suspense_count (lines_standing b.entries)) (suspense_count (rows_of_file b file)) most_suspense
   suspense_serves (inl counted) = inl (counted ∙ suspense_counted)
   suspense_serves (inr (inl serves)) =
       serials_serve t.serial (length (lines_in file)) most_suspense view.suspense _ _ serves
       (omega (arith, count_by-le-length is_in_suspense (lines_standing b.entries), lines_given))
       (omega (arith, count_by-le-length is_in_suspense (rows_of_file b file), file_few b file))
-  suspense_serves (inr (inr none)) =
-      let most = none.0 in
+  suspense_serves (inr (inr (most, placed))) =
       let few = (lawful_small b lawful).suspense in
-      let no_lines : length (lines_in file) ≡ 0 = ap length none.1 in
-      inr (omega (arith, most, few), omega (arith, most, count_by-le-length is_in_suspense (rows_of_file b file), file_few b file, no_lines))
+      let none : suspense_count (rows_of_file b file) ≡ 0 = none_brought b file (finds_firm (lines_in file) read.employers placed) in
+      inr (omega (arith, most, few), omega (arith, most, none))
 
   credits_serve : (e : ℕ) (p : Purpose) (serving : Option ℕ) → IfSome serving (IsServing t.serial (length (lines_in file)) most_credits)
       → Serves (credits_viewed serving t e p) (credit_count (credits_made b.entries) e p) (credit_count (credits_of_lines (rows_of_file b file)) e p) most_credits
@@ -154,9 +220,6 @@ module _ (b : Book) (t : Tables) (lawful : IsLawful b) (stands : Stands b t) (fi
   counted-for : (e : ℕ) (p : Purpose) → count_for p (counted_firm read.serving t e) ≡ credits_viewed read.serving t e p
   counted-for e Contribution = refl
   counted-for e Interest = refl
-
-  registered-at : (e : ℕ) → is_some (find_row employer_key t.employers (e ∷ [])) ≡ is_some (member_of b.entries e)
-  registered-at e = sym (is_some-map (λ (row : EmployerRow). record { name = row.name; start = row.start; last = row.last }) (find_row employer_key t.employers (e ∷ []))) ∙ ap is_some (stands.employers e)
 
   count_found : (e : ℕ) (p : Purpose) (o : Option EmployerRow) → is_some o ≡ true
       → option_map_or (count_for p) (option_map (λ (row : EmployerRow). counted_firm read.serving t e) o) 0 ≡ credits_viewed read.serving t e p

@@ -1,7 +1,7 @@
 -- What an import reads of the tables.
-use Rattle.std.specs.Prelude.{◌≡◌, ◌≤◌, ◌⊎◌, ℕ, ◌+◌, ◌==◌, List, Option, Bool, false}
-use Rattle.std.specs.Prelude.{[], ◌∷◌, IfSome, count_by, length, unwrap_or}
-use Rattle.std.specs.List.{AllByRecursion, filter_map, list_any}
+use Rattle.std.specs.Prelude.{◌≡◌, ◌≤◌, ◌⊎◌, ℕ, ◌+◌, ◌==◌, List, Option, Bool, false, true}
+use Rattle.std.specs.Prelude.{[], ◌∷◌, IfSome, count_by, is_some, length, unwrap_or}
+use Rattle.std.specs.List.{AllByRecursion, filter_map, list_all, list_any}
 use Rattle.std.specs.Option.{option_map, option_map_or}
 use Rattle.clear_bank.specs.declared.lines.BankLine.{BankLine}
 use Rattle.clear_bank.specs.declared.lines.Purpose.{Purpose}
@@ -13,6 +13,7 @@ use Rattle.clear_book.specs.Tables.{Tables, bank_key, employer_key}
 use Rattle.clear_rules.specs.Views.ImportBank.{employer_under}
 use Rattle.clear_rules.specs.declared.decide.import.EmployerCredits.{EmployerCredits}
 use Rattle.clear_rules.specs.declared.decide.import.ImportView.{ImportView}
+use Rattle.clear_views.specs.declared.import.firms.NamedFirms.{NamedFirms}
 
 -- what stands under the reference of a line
 abbrev pub line_found : Tables → BankLine → Option BankLine
@@ -54,6 +55,29 @@ firm_viewed serving t e =
 abbrev pub IsServing : ℕ → ℕ → ℕ → ℕ → Type 0
 IsServing serials more limit n = (n ≡ serials) × (n + more ≤ limit)
 
+-- each firm that these lines name is found as it is viewed; and where all were found to be registered,
+-- each of them is
+pub record AreNamed (serving : Option ℕ) (t : Tables) (lines : List BankLine)
+    (found : NamedFirms) : Type 0 where
+  pub viewed : AllByRecursion (λ line. IfSome line.employer (λ e.
+      employer_under found.registered.items e ≡ firm_viewed serving t e)) lines
+  pub registered : found.all ≡ true → AllByRecursion (λ line. IfSome line.employer (λ e.
+      is_some (employer_under found.registered.items e) ≡ true)) lines
+
+-- the line names a firm, which is among the registered ones
+abbrev pub is_placed : List EmployerCredits → BankLine → Bool
+is_placed registered line =
+    option_map_or (λ e. is_some (employer_under registered e)) line.employer false
+
+-- a number for the lines in suspense, where these come in: their count; or the serials; or the limit,
+-- where each line names a firm, and all of these are registered
+abbrev pub IsSuspenseViewed : Tables → ℕ → List BankLine → Bool → ℕ → Type 0
+IsSuspenseViewed t serials lines all n =
+    (n ≡ count_by is_in_suspense t.bank)
+    ⊎ IsServing serials (length lines) most_suspense n
+    ⊎ ((n ≡ most_suspense) × (all ≡ true)
+    × (list_all (λ line. is_some line.employer) lines ≡ true))
+
 -- what was read for these lines: under each of their references what stands there, each firm that
 -- they name, and a number for the lines in suspense
 pub record IsImportRead (t : Tables) (serials : ℕ) (lines : List BankLine)
@@ -65,5 +89,6 @@ pub record IsImportRead (t : Tables) (serials : ℕ) (lines : List BankLine)
       employer_under view.employers.items e ≡ firm_viewed serving t e)) lines
   pub suspense : (view.suspense ≡ count_by is_in_suspense t.bank)
       ⊎ IsServing serials (length lines) most_suspense view.suspense
-      ⊎ ((view.suspense ≡ most_suspense) × (lines ≡ []))
+      ⊎ ((view.suspense ≡ most_suspense)
+      × AllByRecursion (λ line. is_placed view.employers.items line ≡ true) lines)
   pub serials_is : view.serials ≡ serials

@@ -30,18 +30,20 @@ use clear_rules::decide::import::ImportView;
 use clear_schema::fault::Fault;
 use firms::view_firms;
 use known::known_lines;
-use limits::{count_suspense, serving};
+use limits::{serving, view_suspense};
 use sqlite::{Alter, Transaction};
 use std::alloc::Global;
 
 /// What the lines of a bank file are judged by, where these counts stand: the lines under their
 /// references, the firms that they name, and numbers for the credits of these and for the lines in
 /// suspense. While no more than 100,000 serials were given, one for each line of the file among
-/// them, these serve for the numbers, and nothing is counted.
+/// them, these serve for the numbers, and nothing is counted. Where each line names a registered firm,
+/// the lines in suspense aren't counted later either.
 ///
 /// It costs n log n steps for n lines of the file, and one search for each of its references and
 /// for each firm that it names; once 100,000 serials were given, also each credit of these firms,
-/// and one pass over all lines. More serials than an office gives are a fault of the store.
+/// and, where a line stays without a firm, one pass over all lines. More serials than an office gives
+/// are a fault of the store.
 pub fn import_view<S: Alter>(
     alloc: Global,
     tx: &mut Transaction<'_, S>,
@@ -121,17 +123,17 @@ fn read_lines<S: Alter>(
         Ok(known) => known,
         Err(fault) => return Err(fault),
     };
-    let employers = match view_firms(alloc, tx, serving(serials, lines, MAX_CREDITS), lines) {
-        Ok(employers) => employers,
+    let firms = match view_firms(alloc, tx, serving(serials, lines, MAX_CREDITS), lines) {
+        Ok(firms) => firms,
         Err(fault) => return Err(fault),
     };
-    let suspense = match count_suspense(tx, serving(serials, lines, MAX_SUSPENSE)) {
+    let suspense = match view_suspense(tx, serials, lines, firms.all) {
         Ok(suspense) => suspense,
         Err(fault) => return Err(fault),
     };
     Ok(ImportView {
         known,
-        employers,
+        employers: firms.registered,
         suspense,
         serials,
     })

@@ -1,9 +1,9 @@
 //! The firms that a file names.
-ghost use Rattle.std.specs.Prelude.{◌≡◌, ℕ, ⊤, IfOk, IfSome};
-ghost use Rattle.std.specs.List.{AllByRecursion, filter_map, list_any};
+ghost use Rattle.std.specs.Prelude.{◌≡◌, ℕ, ⊤, IfOk};
+ghost use Rattle.std.specs.List.{filter_map, list_any};
 ghost use Rattle.clear_book.specs.Keyed.{AreOnce};
-ghost use Rattle.clear_rules.specs.Views.ImportBank.{employer_under};
-ghost use Rattle.clear_views.specs.Imports.{counted_firm, firm_key, firm_viewed, is_among, names};
+ghost use Rattle.clear_views.specs.Imports.{AreNamed, counted_firm, firm_key, firm_viewed, is_among};
+ghost use Rattle.clear_views.specs.Imports.{names};
 ghost use Rattle.clear_views.specs.Reads.{Reads};
 
 use super::limits::count_credits;
@@ -17,21 +17,36 @@ use sqlite::{Alter, Transaction};
 use std::alloc::{AllocError, Global};
 use std::collections::BTreeSet;
 
-/// The registered ones of the firms that these lines name, each once.
+/// The firms that lines name.
+#[derive(Drop)]
+pub(super) struct NamedFirms {
+    /// The registered ones, each once.
+    pub(super) registered: Vec<EmployerCredits>,
+    /// Whether all of them are registered.
+    pub(super) all: bool,
+}
+
+/// The firms that these lines name.
 pub(super) fn view_firms<S: Alter>(
     alloc: Global,
     tx: &mut Transaction<'_, S>,
     serving: Option<u64>,
     lines: &[BankLine],
-) -> Result<Vec<EmployerCredits>, Fault>
+) -> Result<NamedFirms, Fault>
     ensures same_reference { tx.new.conn.ghost_name ≡ tx.old.conn.ghost_name }
     ensures reads { Reads S.Store ⊤ tx.old.conn.now tx.new.conn.now result
-        (λ t firms. AllByRecursion (λ line. IfSome line.employer (λ e.
-        employer_under firms.items e ≡ firm_viewed serving t e)) lines.now) }
+        (λ t found. AreNamed serving t lines.now found) }
 {
-    match named_firms(alloc, lines) {
-        Ok(firms) => registered_firms(alloc, tx, serving, firms.as_slice()),
-        Err(_) => Err(Fault::Memory),
+    let firms = match named_firms(alloc, lines) {
+        Ok(firms) => firms,
+        Err(_) => return Err(Fault::Memory),
+    };
+    match registered_firms(alloc, tx, serving, firms.as_slice()) {
+        Ok(registered) => {
+            let all = registered.len() == firms.len();
+            Ok(NamedFirms { registered, all })
+        }
+        Err(fault) => Err(fault),
     }
 }
 

@@ -1,10 +1,11 @@
 //! How many lines are in suspense and how many credits a firm has, as far as they are counted.
-ghost use Rattle.std.specs.Prelude.{◌≡◌, IfSome, ⊤, count_by, length, unwrap_or};
-ghost use Rattle.clear_book.specs.Lines.{is_in_suspense};
-ghost use Rattle.clear_views.specs.Imports.{IsServing, credits_viewed};
+ghost use Rattle.std.specs.List.{list_all};
+ghost use Rattle.std.specs.Prelude.{◌≡◌, IfSome, ⊤, is_some, length};
+ghost use Rattle.clear_views.specs.Imports.{IsServing, IsSuspenseViewed, credits_viewed};
 ghost use Rattle.clear_views.specs.Reads.{Reads};
 
 use clear_bank::lines::{BankLine, Purpose};
+use clear_book::limits::MAX_SUSPENSE;
 use clear_book::numbers::SerialCount;
 use clear_ledger::bank::suspense_count;
 use clear_ledger::credits::credit_count;
@@ -26,19 +27,32 @@ pub(super) fn serving(serials: SerialCount, lines: &[BankLine], limit: u64) -> O
     }
 }
 
-/// The number that serves for the lines in suspense, or else how many there are.
-pub(super) fn count_suspense<S: Alter>(
+/// A number that serves for the lines in suspense where these lines come in: the serials, or the
+/// limit where no line stays without a firm; or else how many there are.
+pub(super) fn view_suspense<S: Alter>(
     tx: &mut Transaction<'_, S>,
-    serving: Option<u64>,
+    serials: SerialCount,
+    lines: &[BankLine],
+    all_registered: bool,
 ) -> Result<u64, Fault>
     ensures same_reference { tx.new.conn.ghost_name ≡ tx.old.conn.ghost_name }
     ensures reads { Reads S.Store ⊤ tx.old.conn.now tx.new.conn.now result
-        (λ t count. count ≡ unwrap_or serving (count_by is_in_suspense t.bank)) }
+        (λ t count. IsSuspenseViewed t serials lines.now all_registered count) }
 {
-    if let Some(number) = serving {
+    if let Some(number) = serving(serials, lines, MAX_SUSPENSE) {
         return Ok(number);
     }
+    if all_registered && name_firms(lines) {
+        return Ok(MAX_SUSPENSE);
+    }
     suspense_count(tx)
+}
+
+// Whether each of these lines names a firm.
+fn name_firms(lines: &[BankLine]) -> bool
+    ensures { result ≡ list_all (λ line. is_some line.employer) lines.now }
+{
+    lines.iter().all(|line| line.employer.is_some())
 }
 
 /// The number that serves for the credits of a firm for a purpose, or else how many there are.
