@@ -7,9 +7,10 @@ PROGRAM is the built program where none is named. For each size a new store gets
 10,000 through the office, and the others, for quickness, into its tables by Python's own sqlite3 while it doesn't run, as
 further files would have brought them. 1,000 of them are in suspense, or so many as are asked for by --suspense, the others
 of 100 firms in turns. Then
-each request is sent so many times, in batches of 20 that go to the stores in turns, since a machine's speed changes: the list of the lines in suspense (a tenth as often); a bank file of
-one new line; assignments of lines in suspense; ends of the memberships of firms with one report; rows of rates. Of each the
-table has the mean milliseconds of a request by the processor time of the server's process.
+each request is sent so many times, in batches of 20 that go to the stores in turns, since a machine's speed changes: the list of
+the lines in suspense (a tenth as often); a bank file of one new line for a firm, and of one without a firm; assignments of lines
+in suspense; ends of the memberships of firms with one report; rows of rates. Of each the table has the mean milliseconds of a
+request by the processor time of the server's process.
 
 The files lie below FOLDER, /dev/shm where there is one, so that the figures are the program's and not the disk's.
 """
@@ -34,7 +35,7 @@ FILE = 10_000
 BATCH = 20
 FIRMS = 100
 FIRST = 1_001
-KINDS = ("suspense", "import", "assign", "end", "rates")
+KINDS = ("suspense", "import", "waiting", "assign", "end", "rates")
 
 
 class Desk:
@@ -109,6 +110,7 @@ def prepare(options, lines, folder):
     sends = {
         "suspense": lambda _: desk.take(request("GET", "/suspense", "desk")),
         "import": lambda place: desk.post("/bank", HEADER + records(lines + place, 1, lambda _: FIRST)),
+        "waiting": lambda place: desk.post("/bank", HEADER + records(lines + repeats + place, 1, lambda _: "")),
         "assign": lambda place: desk.post("/assign", f'{{"employer":{FIRST + place % FIRMS},"reference":"L{place}"}}'),
         "end": lambda place: desk.post(f"/employers/{FIRST + FIRMS + place}/end", '{"last":"2024-06"}'),
         "rates": lambda place: desk.post(
