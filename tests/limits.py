@@ -1,4 +1,5 @@
-"""Bank files and assignments at the limits of 100,000, on stores that are filled up to these by another SQLite.
+"""Bank files and assignments at the limits of 100,000, registrations at that of 10,000, on stores that are filled up to
+these by another SQLite.
 
     python3 tests/limits.py [PROGRAM]
 
@@ -16,6 +17,7 @@ from program_under_test import ProgramUnderTest, run_tests  # noqa: E402
 from stores import HEADER, OTHER, REGISTRATION, request  # noqa: E402
 
 MOST = 100_000
+MOST_FIRMS = 10_000
 # 2024-02-25 as a day number.
 VALUE = 19_778
 DONE = '{"done":true}'
@@ -82,6 +84,28 @@ class Limits(ProgramUnderTest):
             (self.file(unknown), over("suspense")),
             (request("/employers/1001/owed", 0, method="GET").replace(b"Request-Number: 0\r\n", b""),
              '{"arrears":0,"charged":0,"credited":200,"prepaid":200}')])
+
+    def joins(self, employer):
+        return self.posted("/employers", f'{{"employer":{employer},"name":"Bau {employer}","start":"2024-01"}}')
+
+    def fill_firms(self, count, entries):
+        """Puts so many firms beside the two into the store, and says how many requests were accepted."""
+        with contextlib.closing(sqlite3.connect(self.folder / "fund.db")) as store, store:
+            store.executemany("INSERT INTO employers SELECT ?1, name, start, last FROM employers WHERE no = 1001",
+                              [(10_000 + place,) for place in range(count)])
+            store.execute("UPDATE meta SET entries = ?1", [entries])
+
+    def test_firms(self):
+        self.fill_firms(MOST_FIRMS - 3, 2 * MOST_FIRMS)
+        self.says([
+            (self.joins(2001), DONE),
+            (self.joins(2002), over("employers")),
+            (self.joins(2001), '{"detail":"","name":"EmployerExists","rule":12}'),
+            (self.joins(2003), over("employers"))])
+
+    def test_few_firms_after_many_requests(self):
+        self.fill_firms(1, MOST_FIRMS - 1)
+        self.says([(self.joins(2001), DONE), (self.joins(2002), DONE), (self.joins(2003), DONE)])
 
     def test_credits_of_a_firm(self):
         self.fill(MOST - 1, 1001, "I")

@@ -3,6 +3,7 @@ use Rattle.clear_columns.proofs.Words.{◌≡◌, pos, ℕ, Bool, true, List, []
 use Rattle.sqlite_tied.specs.Compute.{everything}
 use Rattle.clear_values.proofs.KeyedLemmas.{is_key-true}
 use Rattle.clear_schema.proofs.Changes.{employers_changed}
+use Rattle.clear_columns.proofs.CountLemmas.{counts_all, one, one_shown}
 use Rattle.clear_columns.proofs.NumberedTable.{NumberedTable, by_number, few, finds, lists_all}
 use Rattle.clear_columns.proofs.Says.{Says, SaysQuery}
 use Rattle.clear_firms.specs.Shown.{employer_shown}
@@ -74,6 +75,13 @@ all_says : SaysQuery all (plain_program 2 [] columns by_number)
 unfolding everything
 all_says = record { names = _; said = (refl, refl, refl) }
 
+abbrev pub count : List ℕ
+count = codes "SELECT 1 FROM employers"
+
+count_says : SaysQuery count (plain_program 2 [] (one ∷ []) [])
+unfolding everything
+count_says = record { names = _; said = (refl, refl, refl) }
+
 -- ---- what they do
 
 -- the firm has a number
@@ -100,3 +108,6 @@ module _ {S : Type 0} (g : Ghosts S) (t : Tables) (db : Database) (has : HasTabl
 
   pub answers_all : AnswersJust g all [] db (map employer_shown t.employers)
   answers_all = lists_all employers g t db has [] employer_shown (λ _. refl) all_says (λ _. refl)
+
+  pub answers_count : AnswersJust g count [] db (map one_shown t.employers)
+  answers_count = counts_all employers g t db has count_says

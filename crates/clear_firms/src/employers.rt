@@ -1,13 +1,13 @@
 //! The table of employers.
 ghost use Rattle.std.specs.Borrow.{sem, RestsIfErr};
-ghost use Rattle.std.specs.Prelude.{◌≡◌, [], ◌∷◌, false, IfOk};
+ghost use Rattle.std.specs.Prelude.{◌≡◌, [], ◌∷◌, ⊤, false, length, IfOk};
 ghost use Rattle.sqlite.specs.Held.{state};
 ghost use Rattle.sqlite.specs.Values.{bound};
 ghost use Rattle.sqlite.specs.contracts.connection.Connection.{the_row};
 ghost use Rattle.clear_values.specs.Keyed.{find_row, with_row};
 ghost use Rattle.clear_values.specs.RowRanges.{IsEmployerRow};
 ghost use Rattle.clear_values.specs.Tables.{employer_key};
-ghost use Rattle.clear_schema.specs.Frame.{Finds, Lists, Writes};
+ghost use Rattle.clear_schema.specs.Frame.{Finds, Lists, LooksUp, Writes};
 ghost use Rattle.clear_columns.specs.Keys.{is_held, replaced};
 ghost use Rattle.clear_columns.specs.Reading.{HasSomeTables, IsLeft, ReadsOn};
 ghost use Rattle.clear_firms.specs.Shown.{employer_shown};
@@ -18,7 +18,7 @@ use clear_columns::queries::{find, list};
 use clear_columns::rows::{StoredTable, begin_rows};
 use clear_money::numbers::EmployerNo;
 use clear_schema::fault::Fault;
-use clear_schema::statement::put;
+use clear_schema::statement::{look, put};
 use clear_schema::values::{month, text};
 use clear_values::rows::EmployerRow;
 use sqlite::{Alter, Connection, Error, Row, Rows, Transaction};
@@ -84,6 +84,18 @@ pub fn all_employers<S: Alter>(tx: &mut Transaction<'_, S>) -> Result<Vec<Employ
         (λ t. t.employers) }
 {
     list::<S, Employers>(tx, ALL_EMPLOYERS, &[])
+}
+
+/// How many firms there are. This is one pass over all firms, of whom nothing is read.
+pub fn employer_count<S: Alter>(tx: &mut Transaction<'_, S>) -> Result<u64, Fault>
+    ensures same_reference { tx.new.conn.ghost_name ≡ tx.old.conn.ghost_name }
+    ensures looks { LooksUp S.Store tx.old.conn.now tx.new.conn.now result
+        (λ t count. count ≡ length t.employers) (λ _. ⊤) (λ _. ⊥) }
+{
+    match look(tx, "SELECT 1 FROM employers", &[]) {
+        Ok(rows) => Ok(rows.len() as u64),
+        Err(fault) => Err(fault),
+    }
 }
 
 /// All firms, their numbers rising: `next_row` reads one at a time.

@@ -10,7 +10,7 @@ use Rattle.clear_values.specs.Keyed.{in_key_order}
 use Rattle.clear_columns.proofs.KeyedTable.{KeyedTable, finds, few, lists_all}
 use Rattle.clear_columns.proofs.OrderLemmas.{lists_by}
 use Rattle.clear_columns.proofs.Says.{Says, SaysQuery}
-use Rattle.clear_ledger.proofs.CountLemmas.{counts, one, one_shown}
+use Rattle.clear_columns.proofs.CountLemmas.{counts, one, one_shown}
 use Rattle.clear_schema.proofs.Changes.{bank_changed}
 
 pub last : (b : Bool) → (b && true) ≡ b

@@ -10,7 +10,7 @@ use Rattle.sqlite_tied.specs.Compute.{everything}
 use Rattle.sqlite_value.specs.Keys.{ascending, first_key, plain}
 use Rattle.clear_columns.proofs.KeyedTable.{KeyedTable, lists, or_false}
 use Rattle.clear_columns.proofs.Says.{Says, SaysQuery}
-use Rattle.clear_ledger.proofs.CountLemmas.{counts, one, one_shown}
+use Rattle.clear_columns.proofs.CountLemmas.{counts, one, one_shown}
 use Rattle.clear_schema.proofs.Changes.{credits_changed}
 
 pub keys_agree : (a b : ℤ × CreditRow) → agree plain (1 ∷ 2 ∷ 3 ∷ 4 ∷ []) (credit_values a) (1 ∷ 2 ∷ 3 ∷ 4 ∷ []) (credit_values b) ≡ is_eq (by_key credit_key (content b) (content a))

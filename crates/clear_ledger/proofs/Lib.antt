@@ -1,6 +1,5 @@
 pub mod BankTable
 pub mod ClaimTable
-pub mod CountLemmas
 pub mod CreditTable
 pub mod GreatestLemmas
 pub mod ListTable

@@ -19,7 +19,7 @@ use crate::member::find_member;
 use clear_book::calls::Registration;
 use clear_book::limits::MAX_EMPLOYERS;
 use clear_firms::counts::Counts;
-use clear_firms::employers::all_employers;
+use clear_firms::employers::employer_count;
 use clear_rules::decide::register::RegisterView;
 use clear_schema::fault::Fault;
 use sqlite::{Alter, Transaction};
@@ -27,7 +27,7 @@ use sqlite::{Alter, Transaction};
 /// What a registration is judged by: whether the firm is registered, whether a rate row is in force
 /// for its first member month, and how many firms there are, `counts` being the counts that stand.
 /// While there are fewer than 10,000 entries, their number serves, since each firm is one of them;
-/// else all firms are read. Where the rows lie in their ranges, no fault is one of a key or of a
+/// else the firms are counted. Where the rows lie in their ranges, no fault is one of a key or of a
 /// row.
 pub fn register_view<S: Alter>(
     tx: &mut Transaction<'_, S>,
@@ -79,8 +79,5 @@ fn count_employers<S: Alter>(tx: &mut Transaction<'_, S>, entries: u64) -> Resul
     if entries < MAX_EMPLOYERS {
         return Ok(entries);
     }
-    match all_employers(tx) {
-        Ok(rows) => Ok(rows.len() as u64),
-        Err(fault) => Err(fault),
-    }
+    employer_count(tx)
 }

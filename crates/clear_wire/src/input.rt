@@ -58,12 +58,16 @@ fn empty_chunk() -> [u8; CHUNK]
     [0; CHUNK]
 }
 
-/// Drops bytes from the front.
+/// Drops bytes from the front. Where none stay, or all do, no byte is moved.
 fn drop_front(bytes: &mut Vec<u8>, count: usize)
     requires { count ≤ length bytes.old.items }
     ensures { bytes.new.items ≡ drop count bytes.old.items }
 {
-    bytes.drain(..count);
+    if count == bytes.len() {
+        bytes.clear();
+    } else if count > 0 {
+        bytes.drain(..count);
+    }
 }
 
 /// Takes bytes from the front, without a copy of these.

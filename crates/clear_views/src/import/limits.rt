@@ -42,14 +42,14 @@ pub(super) fn view_suspense<S: Alter>(
     if let Some(number) = serving(serials, lines, MAX_SUSPENSE) {
         return Ok(number);
     }
-    if all_registered && name_firms(lines) {
+    if all_registered && each_names_a_firm(lines) {
         return Ok(MAX_SUSPENSE);
     }
     suspense_count(tx)
 }
 
 // Whether each of these lines names a firm.
-fn name_firms(lines: &[BankLine]) -> bool
+fn each_names_a_firm(lines: &[BankLine]) -> bool
     ensures { result ≡ list_all (λ line. is_some line.employer) lines.now }
 {
     lines.iter().all(|line| line.employer.is_some())

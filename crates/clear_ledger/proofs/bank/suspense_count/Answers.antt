@@ -2,7 +2,7 @@ use Rattle.std.proofs.Common.{◌∙◌, [], count_by, filter}
 use Rattle.std.proofs.lemmas.List.Sums.{length-filter}
 use Rattle.clear_values.specs.Credits.{is_in_suspense}
 use Rattle.clear_ledger.proofs.BankTable.{answers_count, count}
-use Rattle.clear_ledger.proofs.CountLemmas.{failed, told}
+use Rattle.clear_columns.proofs.CountLemmas.{failed, told}
 use Rattle.clear_ledger.proofs.bank.suspense_count.Goals as goal
 
 pub returns-in-Ok-clause-looks : goal.returns-in-Ok-clause-looks

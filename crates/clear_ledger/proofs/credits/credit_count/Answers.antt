@@ -2,7 +2,7 @@ use Rattle.std.proofs.Common.{◌∙◌, [], ◌∷◌, count_by, filter}
 use Rattle.std.proofs.lemmas.List.Sums.{length-filter}
 use Rattle.clear_values.specs.Credits.{is_credit_of}
 use Rattle.clear_schema.specs.Values.{number, purpose}
-use Rattle.clear_ledger.proofs.CountLemmas.{failed, told}
+use Rattle.clear_columns.proofs.CountLemmas.{failed, told}
 use Rattle.clear_ledger.proofs.CreditTable.{answers_count, count}
 use Rattle.clear_ledger.proofs.credits.credit_count.Goals as goal
 

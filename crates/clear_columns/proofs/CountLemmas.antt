@@ -1,11 +1,12 @@
 -- How many rows of a table pass: a query shows 1 for each of them, so in whatever order they come, its
 -- answer is the same.
-use Rattle.clear_columns.proofs.Words.{◌≡◌, ◌≢◌, IsPermutation-filter, IsPermutation-map, ℤ, ℕ, Bool, List, [], ◌∷◌, pos, length, map, filter, refl, sym, ap, ◌∙◌, IsPermutation, length-map, Row, Term, lit, Int, Tables, Database, Answers, Ghosts, HasTables, store_schema, meets, plain_program, content, shown_in_some_order, answers_just, AnswersJust, Held, state, Fault}
+use Rattle.clear_columns.proofs.Words.{◌≡◌, ◌≢◌, IsPermutation-filter, IsPermutation-map, ℤ, ℕ, Bool, List, [], ◌∷◌, pos, length, map, filter, refl, sym, ap, ◌∙◌, IsPermutation, length-map, map-id, all_pass, subst, true, Row, Term, lit, Int, Tables, Database, Answers, Ghosts, HasTables, store_schema, meets, plain_program, content, shown_in_some_order, answers_just, AnswersJust, Held, state, Fault}
 use Rattle.std.proofs.Common.{Ok, Err, arith}
 use Rattle.std.proofs.lemmas.List.Elements.{All-from_recursion, recursion_from_All}
 use Rattle.std.proofs.lemmas.List.Sorted.{All-permutation, IsPermutation-sym, IsPermutation-trans, length_permutation}
 use Rattle.std.specs.List.{AllByRecursion}
 use Rattle.std.specs.Prelude.{⊤}
+use Rattle.sqlite_keyed.proofs.ListLemmas.{IsPermutation-same}
 use Rattle.sqlite.specs.State.{HasCleanDisk, KeepsCommit, Shown, Survives}
 use Rattle.clear_schema.proofs.FrameLemmas.{looks_as, looks_failed, looks_read}
 use Rattle.clear_schema.specs.Frame.{LooksUp}
@@ -14,6 +15,7 @@ use Rattle.clear_values.specs.declared.causes.StoreCause.TheVariants.{Constraint
 use Rattle.clear_schema.specs.declared.fault.Fault.TheVariants.{Store}
 use Rattle.clear_schema.specs.Frame.{Answers as AnswersRows}
 use Rattle.clear_columns.proofs.KeyedTable.{KeyedTable}
+use Rattle.clear_columns.proofs.NumberedTable.{NumberedTable}
 use Rattle.clear_columns.proofs.Says.{SaysQuery, is_query, plain_query_text, unlisted_query}
 
 -- what is shown of each row
@@ -40,18 +42,29 @@ in_any_order xs rows some =
     same_ones (map one_shown xs) rows (Int (pos 1) ∷ []) (length_permutation (map one_shown xs) rows some) (all_ones xs)
     (recursion_from_All is_one rows (All-permutation is_one (map one_shown xs) rows some (All-from_recursion is_one (map one_shown xs) (all_ones xs))))
 
--- a query of a table that shows 1 of each row that passes
+-- a query of a tree that has these rows, however they lie in it, shows 1 of each row that passes
+module _ {X Y : Type 0} {S : Type 0} (g : Ghosts S) (db : Database) (of_ours : db.schema ≡ store_schema) {tree : ℕ} {conditions : List Term} (params : Row) (to_row : Y → Row) (get : Y → X) (p : X → Bool) (tests : (y : Y) → meets conditions params (to_row y) ≡ p (get y)) (ys : List Y) (xs : List X) (stored : db.trees tree ≡ map to_row ys) (same : IsPermutation (map get ys) xs) where
+  counts_of : {sql : List ℕ} → SaysQuery sql (plain_program tree conditions (one ∷ []) []) → AnswersJust g sql params db (map one_shown (filter p xs))
+  counts_of {sql} says = answers_just g says.names sql params store_schema (is_query says) (plain_query_text says) (unlisted_query says) db of_ours _ whole
+    where
+      whole : (rows : List Row) → Answers db (plain_program tree conditions (one ∷ []) []) params rows → rows ≡ map one_shown (filter p xs)
+      whole rows answer =
+          in_any_order (filter p xs) rows
+          (IsPermutation-trans _ _ _ (IsPermutation-sym _ _ (IsPermutation-map one_shown _ _ (IsPermutation-filter p _ _ same)))
+          (shown_in_some_order tree conditions (one ∷ []) [] params to_row get p tests (λ x. ([], one_shown x)) (λ _. refl) db.schema db.trees ys stored rows answer))
+
+-- so a query of a table whose rows stand under keys
 pub counts : {X : Type 0} (it : KeyedTable X) {S : Type 0} (g : Ghosts S) (t : Tables) (db : Database) (has : HasTables t db) {sql : List ℕ} {conditions : List Term} (params : Row) (p : X → Bool) → ((y : ℤ × X) → meets conditions params (it.to_row y) ≡ p (content y)) → SaysQuery sql (plain_program it.table.tree conditions (one ∷ []) [])
     → AnswersJust g sql params db (map one_shown (filter p (it.rows t)))
-counts it g t db has {sql} {conditions} params p tests says =
-    answers_just g says.names sql params store_schema (is_query says) (plain_query_text says) (unlisted_query says) db has.schema _ (λ rows answer. whole rows answer)
-  where
-    whole : (rows : List Row) → Answers db (plain_program it.table.tree conditions (one ∷ []) []) params rows → rows ≡ map one_shown (filter p (it.rows t))
-    whole rows answer =
-        let kept = it.has t db has in
-        in_any_order (filter p (it.rows t)) rows
-        (IsPermutation-trans _ _ _ (IsPermutation-sym _ _ (IsPermutation-map one_shown _ _ (IsPermutation-filter p _ _ kept.same)))
-        (shown_in_some_order it.table.tree conditions (one ∷ []) [] params it.to_row content p tests (λ x. ([], one_shown x)) (λ _. refl) db.schema db.trees kept.numbered kept.stored.is rows answer))
+counts it g t db has params p tests says =
+    let kept = it.has t db has in
+    counts_of g db has.schema params it.to_row content p tests kept.numbered (it.rows t) kept.stored.is kept.same says
+
+-- and one of all rows of a table whose rows stand under a number
+pub counts_all : {X : Type 0} (it : NumberedTable X) {S : Type 0} (g : Ghosts S) (t : Tables) (db : Database) (has : HasTables t db) {sql : List ℕ} → SaysQuery sql (plain_program it.table.tree [] (one ∷ []) []) → AnswersJust g sql [] db (map one_shown (it.rows t))
+counts_all it g t db has {sql} says =
+    subst (λ l. AnswersJust g sql [] db (map one_shown l)) (all_pass (it.rows t))
+    (counts_of g db has.schema [] it.to_row (λ x. x) (λ _. true) (λ _. refl) (it.rows t) (it.rows t) (it.has t db has).is (IsPermutation-same _ _ (map-id (it.rows t))) says)
 
 module _ {S X : Type 0} (g : Ghosts S) (old new : Held S) (sql : List ℕ) (params : Row) (rows : Tables → List X) (just : (t : Tables) → HasTables t (state g old).now → AnswersJust g sql params (state g old).now (map one_shown (rows t))) (count : Tables → ℕ) (counted : (t : Tables) → length (rows t) ≡ count t) where
   -- so the rows that it shows tell how many there are
