@@ -434,6 +434,27 @@ class Stops(program.Program):
                 server.send_signal(ended)
                 self.assertEqual(self.ended(server), (-ended, "", ""), number)
 
+    def test_a_stopped_program_goes_on(self):
+        self.init()
+        server = self.serving(1)
+        with self.connect(server) as peer:
+            self.stop_a_while(server)
+            self.assertIn(b'{"done":true}', ask(peer, REGISTRATION))
+            self.stop_a_while(server)
+            self.assertIn(b'"version":1', ask(peer, JANUARY))
+            # Inside of a request the system breaks the read off: it is made again.
+            peer.sendall(FEBRUARY[:20])
+            time.sleep(0.2)
+            self.stop_a_while(server)
+            self.assertIn(b'"version":1', ask(peer, FEBRUARY[20:]))
+        self.assertEqual(self.ended(server), (0, "served 1\n", ""))
+
+    def stop_a_while(self, server):
+        """Stops the program, as Ctrl-Z does, and lets it go on."""
+        server.send_signal(signal.SIGSTOP)
+        time.sleep(0.2)
+        server.send_signal(signal.SIGCONT)
+
     def test_the_same_port_again(self):
         self.init()
         server = self.serving(9)

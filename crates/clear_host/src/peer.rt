@@ -23,7 +23,8 @@ const FIRST_TIME: u64 = 1;
 // How many milliseconds pass between two looks for others that wait.
 const TURN: u64 = 10;
 
-// How many looks are made at most: after as many the time is over, whatever the clock says.
+// How many looks, and tries of one read, are made at most: after as many the time is over, whatever
+// the clock says.
 const TURNS: u64 = 1_000 * IDLE_TIME / TURN;
 
 // How many seconds a peer that was answered may go on sending before its connection is closed.
@@ -81,7 +82,7 @@ impl<'a> Peer<'a> {
         let start = Instant::now(self.rt)?;
         for _ in 0..TURNS {
             match read_within(self.stream, Duration::from_millis(TURN), buf) {
-                Err(error) if error.kind() == ErrorKind::WouldBlock => {}
+                Err(error) if has_nothing(&error) => {}
                 Ok(count) => {
                     self.spoke = true;
                     self.idle = false;
@@ -110,7 +111,8 @@ impl<'a> Peer<'a> {
         self.next.is_some()
     }
 
-    // Reads what goes on with a request.
+    // Reads what goes on with a request. A read that a stop of the program broke off is made again,
+    // in the time that is left.
     fn read_rest(&mut self, buf: &mut [u8]) -> io::Result<usize>
         ensures { ReadsAtMost result buf.new }
     {
@@ -119,8 +121,14 @@ impl<'a> Peer<'a> {
             None => Instant::now(self.rt)?,
         };
         self.since = Some(since);
-        let left = Duration::from_secs(REQUEST_TIME).saturating_sub(since.elapsed(self.rt)?);
-        read_within(self.stream, left.min(Duration::from_secs(PATIENCE)), buf)
+        for _ in 0..TURNS {
+            let left = Duration::from_secs(REQUEST_TIME).saturating_sub(since.elapsed(self.rt)?);
+            match read_within(self.stream, left.min(Duration::from_secs(PATIENCE)), buf) {
+                Err(error) if error.kind() == ErrorKind::Interrupted => {}
+                read => return read,
+            }
+        }
+        Err(ErrorKind::TimedOut.into())
     }
 }
 
@@ -138,6 +146,11 @@ impl RequestRead for Peer<'_> {
         self.idle = !begun;
         self.since = None;
     }
+}
+
+// Nothing came in the time of a read, or a stop of the program broke it off.
+fn has_nothing(error: &io::Error) -> bool {
+    matches!(error.kind(), ErrorKind::WouldBlock | ErrorKind::Interrupted)
 }
 
 // Reads what comes within a time.
