@@ -449,6 +449,21 @@ class Stops(program.Program):
             self.assertIn(b'"version":1', ask(peer, FEBRUARY[20:]))
         self.assertEqual(self.ended(server), (0, "served 1\n", ""))
 
+    def test_a_program_that_is_stopped_while_it_answers(self):
+        """The answers are larger than the system's own buffers, so that a write waits for the peer: it is made again."""
+        self.init()
+        server = self.serving(1, day="2200-12-31")
+        with socket.socket() as peer:
+            peer.setsockopt(socket.SOL_SOCKET, socket.SO_RCVBUF, 65_536)
+            peer.connect(("127.0.0.1", server.port))
+            peer.sendall(REGISTRATION + OWED.replace(b"/owed", b"/statement") * 300)
+            time.sleep(3)
+            self.stop_a_while(server)
+            peer.shutdown(socket.SHUT_WR)
+            answers = self.read_all(peer)
+        self.assertEqual(answers.count(b"statement 1001 2200-12-31\n"), 300)
+        self.assertEqual(self.ended(server), (0, "served 1\n", ""))
+
     def stop_a_while(self, server):
         """Stops the program, as Ctrl-Z does, and lets it go on."""
         server.send_signal(signal.SIGSTOP)

@@ -18,7 +18,7 @@ ghost use Rattle.clear_http.specs.Desk.{MayServe};
 ghost use Rattle.clear_host.specs.Talks.{AreServed};
 ghost use Rattle.clear_host.specs.Told.{AreTold, end_lines, failing_lines, text_of};
 
-use crate::peer::{Peer, part};
+use crate::peer::{Peer, Taker, part};
 use clear_callers::directory::Directory;
 use clear_http::desk::serve;
 use clear_http::serve::Fault;
@@ -165,7 +165,7 @@ fn broken() -> Talked {
     }
 }
 
-// Serves a stream. Its reader and its writer are two shared references to it.
+// Serves a stream. Its reader and its writer have two shared references to it.
 fn talk<S: Alter>(
     rt: &HostRuntime,
     stream: &TcpStream,
@@ -177,12 +177,13 @@ fn talk<S: Alter>(
     ensures said { MayServe S.Store directory.now day office.old office.new }
     ensures failed { office.old.failed ≡ true → office.new ≡ office.old }
 {
-    let mut peer = match Peer::new(rt, stream, others) {
-        Ok(peer) => peer,
+    let taker = match Taker::new(stream) {
+        Ok(taker) => taker,
         Err(_) => return broken(),
     };
+    let mut peer = Peer::new(rt, stream, others);
     let mut reader = Counted::new(&mut peer);
-    let mut writer = Counted::new(stream);
+    let mut writer = Counted::new(taker);
     let served = serve(rt.alloc(), office, directory, day, &mut reader, &mut writer);
     let next = peer.into_next();
     match served {

@@ -4,7 +4,7 @@ ghost use Rattle.std.specs.Io.{ReadsAtMost};
 
 use clear_wire::counted::RequestRead;
 use std::io;
-use std::io::{ErrorKind, Read};
+use std::io::{ErrorKind, Read, Write};
 use std::net::{Shutdown, TcpListener, TcpStream};
 use std::time::{Duration, Instant};
 
@@ -52,14 +52,13 @@ pub(crate) struct Peer<'a> {
 }
 
 impl<'a> Peer<'a> {
-    /// A peer that has sent nothing so far. It may take nothing for 10 seconds: then a write fails.
+    /// A peer that has sent nothing so far.
     pub(crate) fn new(
         rt: &'a HostRuntime,
         stream: &'a TcpStream,
         others: Option<&'a TcpListener>,
-    ) -> io::Result<Peer<'a>> {
-        stream.set_write_timeout(Some(Duration::from_secs(PATIENCE)))?;
-        Ok(Peer {
+    ) -> Peer<'a> {
+        Peer {
             rt,
             stream,
             others,
@@ -67,7 +66,7 @@ impl<'a> Peer<'a> {
             spoke: false,
             idle: true,
             since: None,
-        })
+        }
     }
 
     /// The connection for which this one was ended.
@@ -162,6 +161,37 @@ fn read_within(mut stream: &TcpStream, time: Duration, buf: &mut [u8]) -> io::Re
     }
     stream.set_read_timeout(Some(time))?;
     stream.read(buf)
+}
+
+/// What a peer takes. It may take nothing for 10 seconds: then a write fails. A write that a stop of
+/// the program broke off, before the peer took a byte of it, is made again.
+#[derive(Drop)]
+pub(crate) struct Taker<'a> {
+    stream: &'a TcpStream,
+}
+
+impl<'a> Taker<'a> {
+    pub(crate) fn new(stream: &'a TcpStream) -> io::Result<Taker<'a>> {
+        stream.set_write_timeout(Some(Duration::from_secs(PATIENCE)))?;
+        Ok(Taker { stream })
+    }
+}
+
+impl Write for Taker<'_> {
+    fn write(&mut self, buf: &[u8]) -> io::Result<usize> {
+        let mut stream = self.stream;
+        for _ in 0..TURNS {
+            match stream.write(buf) {
+                Err(error) if error.kind() == ErrorKind::Interrupted => {}
+                written => return written,
+            }
+        }
+        Err(ErrorKind::TimedOut.into())
+    }
+
+    fn flush(&mut self) -> io::Result<()> {
+        Ok(())
+    }
 }
 
 // Takes the connection that waits, if one does.
