@@ -49,6 +49,12 @@ def ask(peer, request):
     return read_answer(peer)
 
 
+def connect_when_ready(peer, server):
+    while peer.connect_ex(("127.0.0.1", server.port)) != 0:
+        assert server.poll() is None
+        time.sleep(0.02)
+
+
 def trickle(peer, pieces, pause):
     """Sends a piece, waits for an answer or so long, and so on. It is over once the other side ends the connection,
     after 40 seconds, or with the last piece, behind which this side ends."""
@@ -313,9 +319,7 @@ class Slow(program.Program):
         with socket.socket() as peer:
             peer.setsockopt(socket.SOL_SOCKET, socket.SO_RCVBUF, 2_048)
             peer.setsockopt(socket.IPPROTO_TCP, socket.TCP_MAXSEG, 536)
-            while peer.connect_ex(("127.0.0.1", server.port)) != 0:
-                self.assertIsNone(server.poll())
-                time.sleep(0.02)
+            connect_when_ready(peer, server)
             peer.sendall(REGISTRATION)
             asked = OWED.replace(b"/owed", b"/statement")
             threading.Thread(target=go_on, args=(peer, asked * 100, 0), daemon=True).start()
@@ -455,10 +459,13 @@ class Stops(program.Program):
         server = self.serving(1, day="2200-12-31")
         with socket.socket() as peer:
             peer.setsockopt(socket.SOL_SOCKET, socket.SO_RCVBUF, 65_536)
-            peer.connect(("127.0.0.1", server.port))
+            connect_when_ready(peer, server)
             peer.sendall(REGISTRATION + OWED.replace(b"/owed", b"/statement") * 300)
             time.sleep(3)
-            self.stop_a_while(server)
+            # A write that took a part ends with that at a stop, and the next one waits with all of the rest.
+            for _ in range(4):
+                self.stop_a_while(server)
+                time.sleep(0.2)
             peer.shutdown(socket.SHUT_WR)
             answers = self.read_all(peer)
         self.assertEqual(answers.count(b"statement 1001 2200-12-31\n"), 300)
