@@ -1,5 +1,5 @@
-"""Bank files and assignments at the limits of 100,000, registrations at that of 10,000, on stores that are filled up to
-these by another SQLite.
+"""Bank files and assignments at the limits of 100,000, and registrations at that of 10,000, on stores that another
+SQLite fills up to these.
 
     python3 tests/limits.py [PROGRAM]
 
