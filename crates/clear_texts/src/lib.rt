@@ -46,4 +46,5 @@ pub mod rows;
 pub mod statement;
 pub mod suspense;
 mod versions;
+mod whole;
 pub mod worker;

@@ -12,6 +12,7 @@ use crate::amounts::append_amount;
 use crate::line_rows::{LineRow, append_lines};
 use crate::lines::{append_day, append_number};
 use crate::rows::{RowFault, RowSource};
+use crate::whole::append_whole;
 use clear_book::rows::{ClaimRow, ClaimState, ListRow};
 use std::alloc::{AllocError, Global};
 
@@ -32,7 +33,7 @@ pub fn payout_text<R: RowSource<Row = ClaimRow>>(
 {
     let mut written = String::new(alloc);
     append_payout(&mut written, list, rows)?;
-    text.push_str(written.as_str())?;
+    append_whole(text, written)?;
     Ok(())
 }
 

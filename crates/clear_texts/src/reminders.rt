@@ -11,6 +11,7 @@ use crate::amounts::append_amount;
 use crate::line_rows::{LineRow, append_lines};
 use crate::lines::{append_day, append_month_or_dash, append_number};
 use crate::rows::{RowFault, RowSource};
+use crate::whole::append_whole;
 use clear_book::rows::{ReminderRow, RunRow};
 use std::alloc::{AllocError, Global};
 
@@ -32,7 +33,7 @@ pub fn remind_text<R: RowSource<Row = ReminderRow>>(
 {
     let mut written = String::new(alloc);
     append_run(&mut written, run, rows)?;
-    text.push_str(written.as_str())?;
+    append_whole(text, written)?;
     Ok(())
 }
 

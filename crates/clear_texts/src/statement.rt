@@ -17,6 +17,7 @@ use crate::lines::{
     append_number, append_row,
 };
 use crate::rows::{ChargeRow, MAX_ROWS, RowFault, RowSource};
+use crate::whole::append_whole;
 use clear_book::documents::{FirmAccount, Payment};
 use clear_book::rules::StoreCause;
 use clear_money::months::Month;
@@ -45,7 +46,7 @@ pub fn statement<R: RowSource<Row = ChargeRow>>(
 {
     let mut written = String::new(alloc);
     append_statement(&mut written, firm, interest_credits, missing, rows)?;
-    text.push_str(written.as_str())?;
+    append_whole(text, written)?;
     Ok(())
 }
 

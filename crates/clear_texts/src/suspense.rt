@@ -13,6 +13,7 @@ use crate::amounts::append_amount;
 use crate::line_rows::{LineRow, append_lines};
 use crate::lines::{append_day, append_number};
 use crate::rows::{RowFault, RowSource};
+use crate::whole::append_whole;
 use clear_bank::lines::Purpose;
 use clear_book::rows::BankRow;
 use clear_book::rules::StoreCause;
@@ -38,7 +39,7 @@ pub fn suspense_text<R: RowSource<Row = BankRow>>(
 {
     let mut written = String::new(alloc);
     append_suspense(&mut written, day, rows)?;
-    text.push_str(written.as_str())?;
+    append_whole(text, written)?;
     Ok(())
 }
 

@@ -6,6 +6,7 @@ ghost use Rattle.clear_book.specs.Documents.Worker.{state_word, worker_line, wor
 
 use crate::amounts::append_amount;
 use crate::lines::{append_day, append_month, append_number};
+use crate::whole::append_whole;
 use clear_book::documents::EarnedLine;
 use clear_book::rows::{ClaimRow, ClaimState};
 use clear_money::days::Day;
@@ -52,7 +53,7 @@ pub fn worker_text(
 {
     let mut written = String::new(alloc);
     append_worker(&mut written, account)?;
-    text.push_str(written.as_str())
+    append_whole(text, written)
 }
 
 /// Appends the document, as `worker_text` does, but for a refusal: it may leave a part.
