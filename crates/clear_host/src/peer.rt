@@ -23,8 +23,8 @@ const FIRST_TIME: u64 = 1;
 // How many milliseconds pass between two looks for others that wait.
 const TURN: u64 = 10;
 
-// How many looks, and tries of one read, are made at most: after as many the time is over, whatever
-// the clock says.
+// How many looks, and tries of one read or of one write, are made at most: after as many the time is
+// over, whatever the clock says.
 const TURNS: u64 = 1_000 * IDLE_TIME / TURN;
 
 // How many seconds a peer that was answered may go on sending before its connection is closed.
@@ -171,6 +171,7 @@ pub(crate) struct Taker<'a> {
 }
 
 impl<'a> Taker<'a> {
+    /// Of a connection, each of whose writes fails from now on where its peer takes nothing in time.
     pub(crate) fn new(stream: &'a TcpStream) -> io::Result<Taker<'a>> {
         stream.set_write_timeout(Some(Duration::from_secs(PATIENCE)))?;
         Ok(Taker { stream })

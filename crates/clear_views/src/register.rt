@@ -52,7 +52,7 @@ pub fn register_view<S: Alter>(
         Ok(row) => row.is_some(),
         Err(fault) => return Err(fault),
     };
-    let employer_count = match count_employers(tx, counts.entries) {
+    let employer_count = match employer_bound(tx, counts.entries) {
         Ok(count) => count,
         Err(fault) => return Err(fault),
     };
@@ -65,7 +65,7 @@ pub fn register_view<S: Alter>(
 
 // The number of entries, while one more firm than that stays within the limit; else how many firms
 // there are.
-fn count_employers<S: Alter>(tx: &mut Transaction<'_, S>, entries: u64) -> Result<u64, Fault>
+fn employer_bound<S: Alter>(tx: &mut Transaction<'_, S>, entries: u64) -> Result<u64, Fault>
     ensures same_reference { tx.new.conn.ghost_name ≡ tx.old.conn.ghost_name }
     ensures count { HasCleanDisk (state S.Store tx.new.conn.now)
         → (t : Tables) → HasTables t (state S.Store tx.old.conn.now).now

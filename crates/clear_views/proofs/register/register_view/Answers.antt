@@ -10,12 +10,12 @@ returns-clause-view g c clean t has same b stands =
     let old = state g.S.Store c.args.tx.now.conn.now in
     let one = state g.S.Store c.find_member.new.tx.conn.now in
     let two = state g.S.Store c.rate_for.new.tx.conn.now in
-    let end = state g.S.Store c.count_employers.new.tx.conn.now in
-    let clean_two = was_clean two end c.count_employers.ensures.leaves.survives clean in
+    let end = state g.S.Store c.employer_bound.new.tx.conn.now in
+    let clean_two = was_clean two end c.employer_bound.ensures.leaves.survives clean in
     let clean_one = was_clean one two c.rate_for.ensures.leaves.survives clean_two in
     let has_one = still t old one (c.in-Ok.ensures.leaves.same clean_one t has) has in
     let has_two = still t one two (c.in-Ok-rate_for.ensures.leaves.same clean_two t has_one) has_one in
     register_viewed b t stands c.args.registration.now _ c.args.counts.now.entries (ap (λ (x : Counts). x.entries) same)
     c.in-Ok.member c.is_some-registered.ensures (c.in-Ok.ensures.member clean_one t has)
     (c.is_some-has_rate.ensures ∙ ap is_some (c.in-Ok-rate_for.ensures.row clean_two t has_one))
-    (c.in-Ok-count_employers.ensures.count clean t has_two)
+    (c.in-Ok-employer_bound.ensures.count clean t has_two)
