@@ -6,9 +6,9 @@
 PROGRAM is the built program where none is named. It serves a new store, and is sent one request after another:
 800 reports of 200 firms, once each firm with 500 workers of its own, whose numbers follow one another, and once all
 firms with the same 500, so that each line goes to another place of the index by workers; and nine imports of 10,000
-lines each, half of them for a firm and half for nobody. Each figure is the processor time of the server: the median of ten requests, but
-for the imports, which stand for themselves. The status is 1 where a report costs more than twice the 10th, or an
-import more than twice the first.
+lines each, half of them for a firm and half for nobody. Each figure is the processor time of the server: the median
+of ten requests, but for the imports, which stand for themselves. The status is 1 where a report costs more than twice
+the 10th, or an import more than twice the first.
 
 The files lie below FOLDER, /dev/shm where there is one, so that the figures are the program's and not the disk's.
 """
