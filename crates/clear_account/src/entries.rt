@@ -2,6 +2,7 @@
 use clear_money::days::Day;
 use clear_money::months::Month;
 use clear_money::numbers::Amount;
+use std::alloc::AllocError;
 
 /// The contribution that a firm owes for a month.
 #[derive(Clone, Copy)]
@@ -55,4 +56,15 @@ pub enum AccountFault {
     /// It has `MAX_CREDITS` payments.
     OverLimit,
     Memory,
+}
+
+impl From<AllocError> for AccountFault {
+    ghost use Rattle.std.specs.Prelude.{◌≡◌};
+    ghost use Rattle.clear_account.specs.declared.entries.AccountFault.TheVariants.{Memory};
+
+    ghost from_gives = { λ _ fault. fault ≡ Memory };
+
+    fn from(_error: AllocError) -> AccountFault {
+        AccountFault::Memory
+    }
 }

@@ -90,23 +90,17 @@ impl Keeper for Kept {
             keep,
             mut pieces,
             turns,
-        } = match rework_charge(
+        } = rework_charge(
             alloc,
             self.account.all_charges(),
             self.account.all_credits(),
             self.pieces.as_slice(),
             &charge,
-        ) {
-            Ok(fresh) => fresh,
-            Err(_) => return Err(AccountFault::Memory),
-        };
+        )?;
         if self.pieces.reserve(pieces.len()).is_err() {
             return Err(AccountFault::Memory);
         }
-        match self.account.set_charge(charge) {
-            Ok(()) => (),
-            Err(_) => return Err(AccountFault::Memory),
-        }
+        self.account.set_charge(charge)?;
         replace(&mut self.pieces, keep, &mut pieces);
         self.turns = turns;
         Ok(())
@@ -132,23 +126,17 @@ impl Keeper for Kept {
             keep,
             mut pieces,
             turns,
-        } = match rework_credit(
+        } = rework_credit(
             alloc,
             self.account.all_charges(),
             self.account.all_credits(),
             self.pieces.as_slice(),
             &credit,
-        ) {
-            Ok(fresh) => fresh,
-            Err(_) => return Err(AccountFault::Memory),
-        };
+        )?;
         if self.pieces.reserve(pieces.len()).is_err() {
             return Err(AccountFault::Memory);
         }
-        match self.account.add_credit(credit) {
-            Ok(()) => (),
-            Err(_) => return Err(AccountFault::Memory),
-        }
+        self.account.add_credit(credit)?;
         replace(&mut self.pieces, keep, &mut pieces);
         self.turns = turns;
         Ok(())
@@ -160,10 +148,8 @@ impl Keeper for Kept {
 
     fn pieces(&self, alloc: Global) -> Result<Vec<Piece>, AccountFault> {
         let mut pieces = Vec::new(alloc);
-        match pieces.extend_from_slice(self.pieces.as_slice()) {
-            Ok(()) => Ok(pieces),
-            Err(_) => Err(AccountFault::Memory),
-        }
+        pieces.extend_from_slice(self.pieces.as_slice())?;
+        Ok(pieces)
     }
 
     fn open_of(&self, month: Month) -> Option<u64> {

@@ -70,10 +70,7 @@ impl Plain {
         ensures range { IfOk result (λ all. All (λ s. s.weight ≤ 12_060_000_000_000) all.items) }
         ensures err { IfErr result (λ fault. fault ≡ AccountFault.Memory) }
     {
-        match settle_all(alloc, self.charges.as_slice(), self.credits.as_slice(), day) {
-            Ok(all) => Ok(all),
-            Err(_) => Err(AccountFault::Memory),
-        }
+        Ok(settle_all(alloc, self.charges.as_slice(), self.credits.as_slice(), day)?)
     }
 }
 
@@ -84,10 +81,8 @@ impl Keeper for Plain {
 
     fn set_charge(&mut self, charge: Charge) -> Result<(), AccountFault> {
         let _number = charge.month.number();
-        match put_charge(&mut self.charges, charge) {
-            Ok(()) => Ok(()),
-            Err(_) => Err(AccountFault::Memory),
-        }
+        put_charge(&mut self.charges, charge)?;
+        Ok(())
     }
 
     fn add_credit(&mut self, credit: Credit) -> Result<(), AccountFault> {
@@ -95,10 +90,8 @@ impl Keeper for Plain {
         if self.credits.len() >= MAX_CREDITS {
             return Err(AccountFault::OverLimit);
         }
-        match put_credit(&mut self.credits, credit) {
-            Ok(()) => Ok(()),
-            Err(_) => Err(AccountFault::Memory),
-        }
+        put_credit(&mut self.credits, credit)?;
+        Ok(())
     }
 
     fn holds(&self, serial: u64) -> bool {

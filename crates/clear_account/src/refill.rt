@@ -36,10 +36,7 @@ pub fn refill(
         length pieces.items < length charges.now + length credits.now) }
     ensures err { IfErr result (λ fault. fault ≡ AccountFault.Memory) }
 {
-    match walk(alloc, charged, credited, charges, credits, turns) {
-        Ok(pieces) => Ok(pieces),
-        Err(_) => Err(AccountFault::Memory),
-    }
+    Ok(walk(alloc, charged, credited, charges, credits, turns)?)
 }
 
 // The charge and the payment at the front of their queues meet; the one that ends first makes room

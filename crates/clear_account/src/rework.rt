@@ -42,30 +42,25 @@ pub(crate) fn rework_charge(
     ensures err { IfErr result (λ fault. fault ≡ AccountFault.Memory) }
 {
     let before = charges_before(charges, charge.month);
-    let owed = match owed_from(alloc, charges, charge) {
-        Ok(owed) => owed,
-        Err(_) => return Err(AccountFault::Memory),
-    };
+    let owed = owed_from(alloc, charges, charge)?;
     let nothing = charges_ended(owed.as_slice(), 0);
     let paid = credits_ended(credits, before.cents);
     let kept = pieces_ended(pieces, before.cents);
     let mut turns = Turns::new();
     let owed = &owed.as_slice()[nothing.count..];
-    match refill(
+    let fresh = refill(
         alloc,
         before.cents,
         paid.cents,
         owed,
         &credits[paid.count..],
         &mut turns,
-    ) {
-        Ok(fresh) => Ok(Fresh {
-            keep: kept.count,
-            pieces: fresh,
-            turns,
-        }),
-        Err(fault) => Err(fault),
-    }
+    )?;
+    Ok(Fresh {
+        keep: kept.count,
+        pieces: fresh,
+        turns,
+    })
 }
 
 /// The pieces of an account with one payment more.
@@ -87,30 +82,25 @@ pub(crate) fn rework_credit(
     ensures err { IfErr result (λ fault. fault ≡ AccountFault.Memory) }
 {
     let before = credits_before(credits, credit);
-    let paid = match paid_from(alloc, credits, credit) {
-        Ok(paid) => paid,
-        Err(_) => return Err(AccountFault::Memory),
-    };
+    let paid = paid_from(alloc, credits, credit)?;
     let nothing = credits_ended(paid.as_slice(), 0);
     let owed = charges_ended(charges, before.cents);
     let kept = pieces_ended(pieces, before.cents);
     let mut turns = Turns::new();
     let paid = &paid.as_slice()[nothing.count..];
-    match refill(
+    let fresh = refill(
         alloc,
         owed.cents,
         before.cents,
         &charges[owed.count..],
         paid,
         &mut turns,
-    ) {
-        Ok(fresh) => Ok(Fresh {
-            keep: kept.count,
-            pieces: fresh,
-            turns,
-        }),
-        Err(fault) => Err(fault),
-    }
+    )?;
+    Ok(Fresh {
+        keep: kept.count,
+        pieces: fresh,
+        turns,
+    })
 }
 
 // A charge, and the charges of later months.

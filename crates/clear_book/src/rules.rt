@@ -7,6 +7,7 @@ use clear_money::days::Day;
 use clear_money::months::Month;
 use clear_money::numbers::WorkerNo;
 pub use clear_values::causes::StoreCause;
+use std::alloc::AllocError;
 
 /// What a limit is set on.
 #[derive(Clone, Copy)]
@@ -143,6 +144,16 @@ struct RuleEntry {
     number: u8,
     name: &'static str,
     carried: Carried,
+}
+
+impl From<AllocError> for Rule {
+    ghost use Rattle.clear_book.specs.declared.rules.Rule.TheVariants.{Memory};
+
+    ghost from_gives = { λ _ rule. rule ≡ Memory };
+
+    fn from(_error: AllocError) -> Rule {
+        Rule::Memory
+    }
 }
 
 impl Rule {

@@ -80,10 +80,7 @@ pub fn purpose_at(row: &Row, at: usize) -> Result<Purpose, Fault>
     ensures range { IfErr result (λ fault. fault ≡ Fault.Store StoreCause.Row → at < length row.now
         → (p : Purpose) → column row.now at ≢ stored.purpose p) }
 {
-    let text: String = match value_at(row, at) {
-        Ok(text) => text,
-        Err(fault) => return Err(fault),
-    };
+    let text: String = value_at(row, at)?;
     match text.as_str().as_bytes() {
         [b'C'] => Ok(Purpose::Contribution),
         [b'I'] => Ok(Purpose::Interest),
@@ -95,10 +92,7 @@ pub fn purpose_at(row: &Row, at: usize) -> Result<Purpose, Fault>
 pub fn reference_at(row: &Row, at: usize) -> Result<Reference, Fault>
     ensures reads { ReadsColumn row.now at result Text (λ r. IsTrue (is_reference r)) }
 {
-    let text = match value_at(row, at) {
-        Ok(text) => text,
-        Err(fault) => return Err(fault),
-    };
+    let text = value_at(row, at)?;
     Reference::of_text(text).ok_or(Fault::Store(StoreCause::Row))
 }
 
@@ -106,10 +100,7 @@ pub fn reference_at(row: &Row, at: usize) -> Result<Reference, Fault>
 pub fn note_at(row: &Row, at: usize) -> Result<Note, Fault>
     ensures reads { ReadsColumn row.now at result Text (λ n. IsTrue (is_note n)) }
 {
-    let text = match value_at(row, at) {
-        Ok(text) => text,
-        Err(fault) => return Err(fault),
-    };
+    let text = value_at(row, at)?;
     Note::of_text(text).ok_or(Fault::Store(StoreCause::Row))
 }
 
@@ -117,10 +108,7 @@ pub fn note_at(row: &Row, at: usize) -> Result<Note, Fault>
 pub fn credit_reference_at(row: &Row, at: usize) -> Result<CreditReference, Fault>
     ensures reads { ReadsColumn row.now at result Text IsCreditReference }
 {
-    let text = match value_at(row, at) {
-        Ok(text) => text,
-        Err(fault) => return Err(fault),
-    };
+    let text = value_at(row, at)?;
     CreditReference::new(text).ok_or(Fault::Store(StoreCause::Row))
 }
 
@@ -317,10 +305,7 @@ pub fn level_at(row: &Row, at: usize) -> Result<u8, Fault>
 pub fn month_count_at(row: &Row, at: usize) -> Result<u32, Fault>
     ensures reads { ReadsColumn row.now at result stored.number (λ n. n ≤ length months) }
 {
-    let count: u32 = match value_at(row, at) {
-        Ok(count) => count,
-        Err(fault) => return Err(fault),
-    };
+    let count: u32 = value_at(row, at)?;
     if !is_month_count(count) {
         return Err(Fault::Store(StoreCause::Row));
     }

@@ -19,10 +19,7 @@ pub fn find<S: Alter, T: StoredTable>(
     ensures looks { FindsFirst S.Store tx.old.conn.now tx.new.conn.now T.shown T.is_in_range
         sql.now (bound values.now) result }
 {
-    let rows = match look(tx, sql, values) {
-        Ok(rows) => rows,
-        Err(fault) => return Err(fault),
-    };
+    let rows = look(tx, sql, values)?;
     first_row::<T>(&rows)
 }
 
@@ -36,9 +33,6 @@ pub fn list<S: Alter, T: StoredTable>(
     ensures looks { ListsAll S.Store tx.old.conn.now tx.new.conn.now T.shown T.is_in_range
         sql.now (bound values.now) result }
 {
-    let rows = match look(tx, sql, values) {
-        Ok(rows) => rows,
-        Err(fault) => return Err(fault),
-    };
+    let rows = look(tx, sql, values)?;
     all_rows::<T>(*rows.allocator(), &rows)
 }

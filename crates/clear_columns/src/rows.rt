@@ -11,7 +11,7 @@ ghost use Rattle.sqlite.specs.contracts.connection.Connection.{the_row};
 ghost use Rattle.clear_schema.specs.Frame.{AnswersJust};
 ghost use Rattle.clear_columns.specs.Reading.{Advances, Begun, IsLeft};
 
-use clear_schema::fault::{Fault, fault_of};
+use clear_schema::fault::Fault;
 use clear_values::causes::StoreCause;
 use sqlite::{Alter, Connection, Error, Row, Rows};
 use sqlite_value::value::ValueRef;
@@ -52,10 +52,7 @@ pub fn first_row<T: StoredTable>(rows: &[Row]) -> Result<Option<T::Row>, Fault>
         → (x : T.Row) × (slice_get xs 0 ≡ Some x) × ¬ T.is_in_range x) }
 {
     match rows.first() {
-        Some(row) => match T::read(row) {
-            Ok(found) => Ok(Some(found)),
-            Err(fault) => Err(fault),
-        },
+        Some(row) => Ok(Some(T::read(row)?)),
         None => Ok(None),
     }
 }
@@ -71,14 +68,8 @@ pub fn all_rows<T: StoredTable>(alloc: Global, rows: &[Row]) -> Result<Vec<T::Ro
 {
     let mut found = Vec::new(alloc);
     for row in rows {
-        let read = match T::read(row) {
-            Ok(read) => read,
-            Err(fault) => return Err(fault),
-        };
-        match found.push(read) {
-            Ok(()) => {}
-            Err(_) => return Err(Fault::Memory),
-        }
+        let read = T::read(row)?;
+        found.push(read)?;
     }
     Ok(found)
 }
@@ -107,15 +98,9 @@ pub fn next_row<T: StoredTable, S: Alter>(rows: &mut Rows<'_, S>) -> Result<Opti
     ensures advances { Advances S.Store rows.old.conn.now rows.new.conn.now T.shown T.is_in_range
         result }
 {
-    match rows.advance() {
-        Ok(()) => {}
-        Err(error) => return Err(fault_of(error)),
-    }
+    rows.advance()?;
     match rows.get() {
-        Some(row) => match T::read(row) {
-            Ok(found) => Ok(Some(found)),
-            Err(fault) => Err(fault),
-        },
+        Some(row) => Ok(Some(T::read(row)?)),
         None => Ok(None),
     }
 }

@@ -46,10 +46,7 @@ pub fn find_counts<S: Alter>(tx: &mut Transaction<'_, S>) -> Result<Counts, Faul
         (λ t found. as_stored found ≡ counts_of t) (λ found. AreCounts (as_stored found))
         (λ t. ¬ AreCounts (counts_of t)) }
 {
-    let rows = match look(tx, COUNTS, &[]) {
-        Ok(rows) => rows,
-        Err(fault) => return Err(fault),
-    };
+    let rows = look(tx, COUNTS, &[])?;
     first_counts(&rows)
 }
 
@@ -63,10 +60,7 @@ fn first_counts(rows: &[Row]) -> Result<Counts, Fault>
         → (c : Stored) → rows.now ≡ counts_given c ∷ [] → ¬ AreCounts c) }
 {
     match rows.first() {
-        Some(row) => match shown_counts(row) {
-            Ok(found) => Ok(found),
-            Err(fault) => Err(fault),
-        },
+        Some(row) => shown_counts(row),
         None => Err(Fault::Store(StoreCause::Other)),
     }
 }

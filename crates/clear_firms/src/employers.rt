@@ -92,10 +92,8 @@ pub fn employer_count<S: Alter>(tx: &mut Transaction<'_, S>) -> Result<u64, Faul
     ensures looks { LooksUp S.Store tx.old.conn.now tx.new.conn.now result
         (λ t count. count ≡ length t.employers) (λ _. ⊤) (λ _. ⊥) }
 {
-    match look(tx, "SELECT 1 FROM employers", &[]) {
-        Ok(rows) => Ok(rows.len() as u64),
-        Err(fault) => Err(fault),
-    }
+    let rows = look(tx, "SELECT 1 FROM employers", &[])?;
+    Ok(rows.len() as u64)
 }
 
 /// All firms, their numbers rising: `next_row` reads one at a time.

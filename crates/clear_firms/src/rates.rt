@@ -56,10 +56,7 @@ pub fn rate_table<S: Alter>(tx: &mut Transaction<'_, S>) -> Result<RateTable, Fa
     ensures looks { LooksUp S.Store tx.old.conn.now tx.new.conn.now result
         (λ t table. table ≡ t.rates) AreRates (λ t. ¬ AreRates t.rates) }
 {
-    let rows = match all_rates(tx) {
-        Ok(rows) => rows,
-        Err(fault) => return Err(fault),
-    };
+    let rows = all_rates(tx)?;
     table_of(*rows.allocator(), rows.as_slice())
 }
 
@@ -74,10 +71,7 @@ fn table_of(alloc: Global, rows: &[RateRow]) -> Result<RateTable, Fault>
         Some(parts) => parts,
         None => return Err(Fault::Store(StoreCause::Row)),
     };
-    let mut table = match RateTable::first(alloc, *first) {
-        Ok(table) => table,
-        Err(_) => return Err(Fault::Memory),
-    };
+    let mut table = RateTable::first(alloc, *first)?;
     for row in rest {
         match table.push(*row) {
             Ok(()) => {}

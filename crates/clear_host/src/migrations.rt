@@ -56,10 +56,8 @@ pub fn bring_to_current<S: Start>(
     ensures empty { IsNothing (image_at S.Start)
         → IfErr result (IfRefused over_files (TellsOnly 0)) }
 {
-    match open_at(rt, path, start) {
-        Ok(connection) => bring(connection),
-        Err(refused) => Err(refused),
-    }
+    let connection = open_at(rt, path, start)?;
+    bring(connection)
 }
 
 // Brings the store of a connection that was just opened to this program's schema.

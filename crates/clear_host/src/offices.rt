@@ -131,10 +131,8 @@ pub(crate) fn find_office<S: Alter>(
     ensures empty { (image : Image) → Sees S.Store image connection → IsNothing image
         → IfErr result (IfRefused S.Store (TellsOnly 0)) }
 {
-    match find_store(connection) {
-        Ok(store) => office_over(alloc, store),
-        Err(refused) => Err(refused),
-    }
+    let store = find_store(connection)?;
+    office_over(alloc, store)
 }
 
 // The store in a database, once it is known to stand.

@@ -109,10 +109,8 @@ pub fn open_office<S: Start>(
     ensures empty { IsNothing (image_at S.Start)
         → IfErr result (IfRefused over_files (TellsOnly 0)) }
 {
-    match open_at(rt, path, start) {
-        Ok(connection) => find_office(rt.alloc(), connection),
-        Err(refused) => Err(refused),
-    }
+    let connection = open_at(rt, path, start)?;
+    find_office(rt.alloc(), connection)
 }
 
 /// Opens the database in the file at a path. Where no file is, none is made. A file that is empty

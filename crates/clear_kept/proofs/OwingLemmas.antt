@@ -1,12 +1,12 @@
 -- What a firm owes, from the rows of its charges.
-use Rattle.std.proofs.Common.{◌≡◌, ℕ, ◌+◌, ◌-◌, ◌*◌, ◌/◌, ◌<◌, ◌≤◌, List, [], ◌∷◌, get_or, length, map, take, zero, suc, refl, ap, ◌∙◌, subst, sym, arith}
+use Rattle.std.proofs.Common.{◌≡◌, ℕ, ◌+◌, ◌-◌, ◌*◌, ◌/◌, ◌<◌, List, [], ◌∷◌, get_or, length, map, take, zero, suc, refl, ap, ◌∙◌, subst, sym, arith}
 use Rattle.std.specs.List.{All, range_with_len, sum_by}
 use Rattle.std.proofs.lemmas.List.Elements.{All-cons, All-head, All-tail}
 use Rattle.std.proofs.lemmas.List.Sums.{sum_by-cons, sum_by-le, sum_by_more}
 use Rattle.clear_money.specs.Rates.{Rate}
 use Rattle.clear_account.specs.declared.entries.Charge.{Charge}
 use Rattle.clear_account.specs.declared.entries.Credit.{Credit}
-use Rattle.clear_account.specs.Account.{IsAccount, IsCharge, charge_at, charged, credited}
+use Rattle.clear_account.specs.Account.{IsCharge, charge_at, charged, credited}
 use Rattle.clear_account.specs.Interest.{interest_on, interest_rate}
 use Rattle.clear_account.proofs.AccountLemmas.{few_charges}
 use Rattle.clear_account.proofs.OpenLemmas.{late_from-le}

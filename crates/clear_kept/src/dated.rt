@@ -21,10 +21,7 @@ pub fn date_pieces(
     ensures rows { IfOk result (λ rows. rows.items ≡ map (dated credits.now) pieces.now) }
     ensures err { IfErr result (λ fault. fault ≡ AccountFault.Memory) }
 {
-    match date_all(alloc, pieces, credits) {
-        Ok(rows) => Ok(rows),
-        Err(_) => Err(AccountFault::Memory),
-    }
+    Ok(date_all(alloc, pieces, credits)?)
 }
 
 /// The same rows, each with the place of its payment in the list: what else is known of a payment
@@ -42,10 +39,7 @@ pub fn place_pieces(
         All (λ r. (credit_at credits.now r.place).serial ≡ r.piece.serial) rows.items) }
     ensures err { IfErr result (λ fault. fault ≡ AccountFault.Memory) }
 {
-    match place_all(alloc, pieces, credits) {
-        Ok(rows) => Ok(rows),
-        Err(_) => Err(AccountFault::Memory),
-    }
+    Ok(place_all(alloc, pieces, credits)?)
 }
 
 fn date_all(

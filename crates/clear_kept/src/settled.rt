@@ -27,10 +27,7 @@ pub fn settle_from(
         rows.items ≡ drop front.count (weighed_charges charges.now credits.now)) }
     ensures err { IfErr result (λ fault. fault ≡ AccountFault.Memory) }
 {
-    match settle_all(alloc, charges, credits, front) {
-        Ok(rows) => Ok(rows),
-        Err(_) => Err(AccountFault::Memory),
-    }
+    Ok(settle_all(alloc, charges, credits, front)?)
 }
 
 fn settle_all(

@@ -89,10 +89,8 @@ pub fn suspense_count<S: Alter>(tx: &mut Transaction<'_, S>) -> Result<u64, Faul
     ensures looks { LooksUp S.Store tx.old.conn.now tx.new.conn.now result
         (λ t count. count ≡ count_by is_in_suspense t.bank) (λ _. ⊤) (λ _. ⊥) }
 {
-    match look(tx, "SELECT 1 FROM bank WHERE employer IS NULL", &[]) {
-        Ok(rows) => Ok(rows.len() as u64),
-        Err(fault) => Err(fault),
-    }
+    let rows = look(tx, "SELECT 1 FROM bank WHERE employer IS NULL", &[])?;
+    Ok(rows.len() as u64)
 }
 
 /// All lines in the order of their references: `next_row` reads one at a time.

@@ -174,14 +174,8 @@ impl StoredTable for Claims {
     ghost is_in_range = { IsClaimRow };
 
     fn read(row: &Row) -> Result<ClaimRow, Fault> {
-        let cents = match amount_at(row, 3) {
-            Ok(cents) => cents,
-            Err(fault) => return Err(fault),
-        };
-        let state = match read_state(row, cents) {
-            Ok(state) => state,
-            Err(fault) => return Err(fault),
-        };
+        let cents = amount_at(row, 3)?;
+        let state = read_state(row, cents)?;
         Ok(ClaimRow {
             claim: claim_at(row, 0)?,
             employer: employer_at(row, 1)?,
@@ -202,10 +196,7 @@ fn read_state(row: &Row, cents: Amount) -> Result<ClaimState, Fault>
     ensures range { IfErr result (λ fault. fault ≡ Fault.Store StoreCause.Row
         → (x : Claim) → row.now ≡ claim_shown x → ¬ IsClaimState cents x.state) }
 {
-    let columns = match read_columns(row) {
-        Ok(columns) => columns,
-        Err(fault) => return Err(fault),
-    };
+    let columns = read_columns(row)?;
     match state_of(cents, &columns) {
         Some(state) => Ok(state),
         None => Err(Fault::Store(StoreCause::Row)),
@@ -220,10 +211,7 @@ fn read_columns(row: &Row) -> Result<StateColumns, Fault>
     ensures range { IfErr result (λ fault. fault ≡ Fault.Store StoreCause.Row
         → (x : Claim) → row.now ≡ claim_shown x → (cents : ℕ) → ¬ IsClaimState cents x.state) }
 {
-    let settlement = match read_settlement(row) {
-        Ok(settlement) => settlement,
-        Err(fault) => return Err(fault),
-    };
+    let settlement = read_settlement(row)?;
     Ok(StateColumns {
         code: number_at(row, 4)?,
         released: maybe_day_at(row, 6)?,

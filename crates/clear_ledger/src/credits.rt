@@ -121,14 +121,12 @@ pub fn credit_count<S: Alter>(
         (λ t count. count ≡ count_by (is_credit_of employer purpose) t.credits)
         (λ _. ⊤) (λ _. ⊥) }
 {
-    match look(
+    let rows = look(
         tx,
         "SELECT 1 FROM credits WHERE employer = ?1 AND purpose = ?2",
         &[firm(employer), payment(purpose)],
-    ) {
-        Ok(rows) => Ok(rows.len() as u64),
-        Err(fault) => Err(fault),
-    }
+    )?;
+    Ok(rows.len() as u64)
 }
 
 /// The credits of a firm for a purpose, in the order of `credits_of`: `next_row` reads one at a
@@ -162,10 +160,7 @@ impl StoredTable for Credits {
     ghost is_in_range = { IsCreditRow };
 
     fn read(row: &Row) -> Result<CreditRow, Fault> {
-        let reference = match credit_reference_at(row, 5) {
-            Ok(reference) => reference,
-            Err(fault) => return Err(fault),
-        };
+        let reference = credit_reference_at(row, 5)?;
         Ok(CreditRow {
             employer: employer_at(row, 0)?,
             purpose: purpose_at(row, 1)?,

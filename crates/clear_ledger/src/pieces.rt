@@ -118,10 +118,7 @@ impl StoredTable for Pieces {
     ghost is_in_range = { IsPieceRow };
 
     fn read(row: &Row) -> Result<PieceRow, Fault> {
-        let reference = match credit_reference_at(row, 5) {
-            Ok(reference) => reference,
-            Err(fault) => return Err(fault),
-        };
+        let reference = credit_reference_at(row, 5)?;
         Ok(PieceRow {
             employer: employer_at(row, 0)?,
             month: month_at(row, 1)?,

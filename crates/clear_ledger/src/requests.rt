@@ -93,14 +93,11 @@ pub fn find_request<S: Alter>(
         (λ t. IsOut (λ row. IsKept (kept_of row))
         (find_row request_key t.requests (request_number caller number))) }
 {
-    let rows = match look(
+    let rows = look(
         tx,
         "SELECT day, command, kind, a, b, c FROM requests WHERE caller = ?1 AND number = ?2",
         &[calling(caller), request_no(number)],
-    ) {
-        Ok(rows) => rows,
-        Err(fault) => return Err(fault),
-    };
+    )?;
     first_request(&rows)
 }
 
@@ -160,10 +157,7 @@ fn first_request(rows: &[Row]) -> Result<Option<KeptRequest>, Fault>
         → (x : RequestRow) × (slice_get xs 0 ≡ Some x) × ¬ IsKept (kept_of x)) }
 {
     match rows.first() {
-        Some(row) => match read_request(row) {
-            Ok(request) => Ok(Some(request)),
-            Err(fault) => Err(fault),
-        },
+        Some(row) => Ok(Some(read_request(row)?)),
         None => Ok(None),
     }
 }
@@ -177,10 +171,7 @@ fn read_request(row: &Row) -> Result<KeptRequest, Fault>
     ensures range { IfErr result (λ fault. fault ≡ Fault.Store StoreCause.Row
         → (x : RequestRow) → row.now ≡ kept_shown x → ¬ IsKept (kept_of x)) }
 {
-    let reply = match read_reply(row) {
-        Ok(reply) => reply,
-        Err(fault) => return Err(fault),
-    };
+    let reply = read_reply(row)?;
     Ok(KeptRequest {
         day: day_at(row, 0)?,
         command: bytes_at(row, 1)?,
@@ -197,10 +188,7 @@ fn read_reply(row: &Row) -> Result<Reply, Fault>
     ensures range { IfErr result (λ fault. fault ≡ Fault.Store StoreCause.Row
         → (x : RequestRow) → row.now ≡ kept_shown x → ¬ IsReply x.reply) }
 {
-    let numbers = match read_numbers(row) {
-        Ok(numbers) => numbers,
-        Err(fault) => return Err(fault),
-    };
+    let numbers = read_numbers(row)?;
     match reply_of(numbers) {
         Some(reply) => Ok(reply),
         None => Err(Fault::Store(StoreCause::Row)),

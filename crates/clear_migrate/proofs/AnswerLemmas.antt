@@ -19,6 +19,11 @@ pub fails_so : {A B : Type 0} (number : A) (right : Result B OpenFault) (fault :
 fails_so number right fault (inl same) = absurd cc
 fails_so number right fault (inr (why, disk, same)) = inr (why, disk, let is : fault ≡ Failed why = cc in ap Err is)
 
+-- an error is the same in the place of an answer of another type
+pub other_error : {A B : Type 0} (right fault : OpenFault) → AnswersOrFails {A = A} (Err right) (Err fault) → AnswersOrFails {A = B} (Err right) (Err fault)
+other_error right fault (inl same) = inl (let is : fault ≡ right = cc in ap Err is)
+other_error right fault (inr (why, disk, same)) = inr (why, disk, let is : fault ≡ Failed why = cc in ap Err is)
+
 -- so it tells no number
 pub fails_untold : {A : Type 0} (number : A) (this found : ℕ) (fault : OpenFault) → AnswersOrFails (Ok number) (Err fault) → IsWrong this found fault
 fails_untold number this found (WrongVersion told) (inl same) = absurd cc

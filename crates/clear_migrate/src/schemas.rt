@@ -95,10 +95,8 @@ pub fn to_current<S: Alter>(conn: &mut Connection<S>) -> Result<Migration, OpenF
     ensures clean { HasCleanDisk (state S.Store conn.new) → HasCleanDisk (state S.Store conn.old) }
 {
     let ours = has_this_layout(conn.schema());
-    match version(conn) {
-        Ok(number) => current_if(number, ours),
-        Err(fault) => Err(fault),
-    }
+    let number = version(conn)?;
+    current_if(number, ours)
 }
 
 // A database of this number is current where it is our number, and its layout is ours.

@@ -1,5 +1,5 @@
 -- A change that leads to the tables of a book.
-use Rattle.std.proofs.Common.{◌≡◌, ℕ, ◌≤◌, Bool, List, [], ◌∷◌, None, sym, ap, subst, arith}
+use Rattle.std.proofs.Common.{◌≡◌, ℕ, ◌≤◌, List, [], ◌∷◌, None, sym, ap, subst, arith}
 use Rattle.std.specs.List.{AllByRecursion}
 use Rattle.clear_values.specs.declared.rows.Change.{Change}
 use Rattle.clear_values.specs.declared.rows.Change.TheVariants.{AddRate, AddEmployer, EndMembership, AddReport, ReplaceReport, AddBankLines, AssignLine, AddClaim, WithdrawClaim, ReleaseClaim, AddList, AddRun}
@@ -7,7 +7,7 @@ use Rattle.clear_values.specs.declared.texts.WageLine.{WageLine}
 use Rattle.clear_values.specs.Credits.{credit_key}
 use Rattle.clear_values.specs.Tables.{request_number}
 use Rattle.clear_book.specs.Book.{Book, Entry}
-use Rattle.clear_values.specs.Keyed.{is_key, find_row, with_row, without_rows, AreInOrder, AreOnce}
+use Rattle.clear_values.specs.Keyed.{is_key, find_row, without_rows, AreInOrder, AreOnce}
 use Rattle.clear_values.specs.Credits.{credits_of_lines, set_offs_of}
 use Rattle.clear_book.specs.Lines.{is_in_suspense, lines_standing, suspense_count}
 use Rattle.clear_values.specs.Limits.{most_suspense}

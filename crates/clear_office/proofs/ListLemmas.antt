@@ -1,6 +1,6 @@
 -- A payout list or a reminder run that is found and the lines in suspense are answered by their
 -- documents.
-use Rattle.std.proofs.Common.{◌≡◌, ◌≤◌, ◌==◌, ℕ, List, [], ◌∷◌, Option, Some, None, filter, is_some, sym, ap, ◌∙◌}
+use Rattle.std.proofs.Common.{◌≡◌, ◌==◌, ℕ, List, [], ◌∷◌, Option, Some, None, filter, is_some, sym, ap, ◌∙◌}
 use Rattle.std.specs.Option.{option_map_or}
 use Rattle.clear_book.specs.declared.calls.Query.TheVariants.{Payout, Reminder, Suspense}
 use Rattle.clear_book.specs.declared.outcomes.Answer.TheVariants.{Text}

@@ -1,5 +1,5 @@
 -- A statement that is told over the pieces of a firm.
-use Rattle.std.proofs.Common.{◌≡◌, ◌∙◌, ℕ, ◌==◌, List, Option, Some, None, filter, is_some, sym, ap, subst}
+use Rattle.std.proofs.Common.{◌≡◌, ◌∙◌, ℕ, ◌==◌, Option, Some, None, filter, is_some, sym, ap, subst}
 use Rattle.std.specs.List.{AllByRecursion}
 use Rattle.std.proofs.lemmas.List.{map-id}
 use Rattle.sqlite_keyed.proofs.ListLemmas.{all-filter}

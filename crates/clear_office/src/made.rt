@@ -44,8 +44,6 @@ pub fn make_office<S: Alter>(
         → (state S.Store connection).now.schema ≡ no_schema
         → (told : ℕ) → left.fault ≢ WrongVersion told) }
 {
-    match Store::create(connection, rates) {
-        Ok(store) => Ok(Office::open(alloc, store)),
-        Err(refusal) => Err(refusal),
-    }
+    let store = Store::create(connection, rates)?;
+    Ok(Office::open(alloc, store))
 }

@@ -56,10 +56,8 @@ pub fn allocate_from_charge<S: Alter>(
         → FromCharge t employer month pieces charges)
         (λ t. KeepsAccount t employer × IsFreeFromCharge t employer month) }
 {
-    match read_firm(alloc, tx, employer) {
-        Ok(firm) => put_from_charge(alloc, tx, &firm, employer, month),
-        Err(fault) => Err(fault),
-    }
+    let firm = read_firm(alloc, tx, employer)?;
+    put_from_charge(alloc, tx, &firm, employer, month)
 }
 
 /// Puts the pieces of a firm anew after credits for contributions were put in, and what is open of
@@ -88,16 +86,14 @@ pub fn allocate_from_credits<S: Alter>(
     if news.first.serial > MOST_SERIAL {
         return allocate_whole(alloc, tx, employer, news);
     }
-    match credits_from(
+    let behind = credits_from(
         tx,
         employer,
         Purpose::Contribution,
         news.first.day,
         news.first.serial,
-    ) {
-        Ok(behind) => allocate_read(alloc, tx, employer, news, behind),
-        Err(fault) => Err(fault),
-    }
+    )?;
+    allocate_read(alloc, tx, employer, news, behind)
 }
 
 // Puts them anew, `behind` being all of the firm's credits for contributions from the first new
@@ -139,10 +135,8 @@ fn allocate_whole<S: Alter>(
         (λ t. KeepsAccount t employer × IsFreeFromCredit t employer news.now.first
         × IsSerial news.now.first.serial) }
 {
-    match read_firm(alloc, tx, employer) {
-        Ok(firm) => put_from_credit(alloc, tx, &firm, employer, news),
-        Err(fault) => Err(fault),
-    }
+    let firm = read_firm(alloc, tx, employer)?;
+    put_from_credit(alloc, tx, &firm, employer, news)
 }
 
 // Puts the pieces of a firm from the contribution of a month on, where a credit reaches beyond its
@@ -232,10 +226,8 @@ fn put_anew<S: Alter>(
         × AllByRecursion IsKeptCharge (settled_from from.now.employer firm.now.account.charges
         firm.now.account.credits start.now.rows.count)) }
 {
-    match put_pieces(alloc, tx, firm, start, from) {
-        Ok(()) => put_charges(alloc, tx, firm, from.employer, start.rows),
-        Err(fault) => Err(fault),
-    }
+    put_pieces(alloc, tx, firm, start, from)?;
+    put_charges(alloc, tx, firm, from.employer, start.rows)
 }
 
 // Puts the pieces that reach beyond a start in the place of those that stand from one on.
@@ -256,10 +248,8 @@ fn put_pieces<S: Alter>(
         (λ t rows. HasItsRows firm.now → rows ≡ pieces_from firm.now start.now)
         (λ t. ArePuttable t firm.now start.now from.now) }
 {
-    match pieces_to_put(alloc, firm, start) {
-        Ok(rows) => replace_pieces(tx, from, rows.as_slice()),
-        Err(fault) => Err(fault),
-    }
+    let rows = pieces_to_put(alloc, firm, start)?;
+    replace_pieces(tx, from, rows.as_slice())
 }
 
 // Writes what is open of a firm's contributions behind a front, and their weights so far.
@@ -277,8 +267,6 @@ fn put_charges<S: Alter>(
         (settled_from employer firm.now.account.charges firm.now.account.credits front.count)
         (Unit {0}) }
 {
-    match charges_to_put(alloc, firm, employer, front) {
-        Ok(rows) => settle_charges(tx, rows.as_slice()),
-        Err(fault) => Err(fault),
-    }
+    let rows = charges_to_put(alloc, firm, employer, front)?;
+    settle_charges(tx, rows.as_slice())
 }

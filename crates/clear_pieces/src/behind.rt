@@ -81,10 +81,8 @@ pub fn allocate_behind<S: Alter>(
         × AreLast t employer news.now × IsWeighedBefore t employer news.now
         × IsFreeBehind t employer news.now) }
 {
-    match read_open(alloc, tx, employer, behind) {
-        Ok(firm) => put_behind(alloc, tx, &firm, employer, news),
-        Err(fault) => Err(fault),
-    }
+    let firm = read_open(alloc, tx, employer, behind)?;
+    put_behind(alloc, tx, &firm, employer, news)
 }
 
 // What is open of a firm's contributions, with these credits.
@@ -106,13 +104,9 @@ fn read_open<S: Alter>(
         → IfErr result IsOfDisk }
     ensures leaves { Leaves S.Store tx.old.conn.now tx.new.conn.now result }
 {
-    match open_charges_of(tx, employer) {
-        Ok(charges) => match open_account(alloc, charges.as_slice(), behind) {
-            Ok(unpaid) => Ok(OpenFirm { charges, unpaid }),
-            Err(fault) => Err(fault),
-        },
-        Err(fault) => Err(fault),
-    }
+    let charges = open_charges_of(tx, employer)?;
+    let unpaid = open_account(alloc, charges.as_slice(), behind)?;
+    Ok(OpenFirm { charges, unpaid })
 }
 
 // An account of what is open of contributions, and of credits.
@@ -134,17 +128,12 @@ fn open_account(
     let Ok(opened) = open_rows(alloc, charges) else {
         return Err(Fault::Memory);
     };
-    match add_charges(&mut account, opened.as_slice()) {
-        Ok(()) => {}
-        Err(fault) => return Err(fault),
-    }
-    match add_credits(alloc, &mut account, behind.as_slice()) {
-        Ok(()) => Ok(FirmAccount {
-            account,
-            rows: behind,
-        }),
-        Err(fault) => Err(fault),
-    }
+    add_charges(&mut account, opened.as_slice())?;
+    add_credits(alloc, &mut account, behind.as_slice())?;
+    Ok(FirmAccount {
+        account,
+        rows: behind,
+    })
 }
 
 // These contributions, each with what is open of it as its cents.
@@ -195,10 +184,8 @@ fn put_behind<S: Alter>(
     if start.charges.count >= charges.len() {
         return Ok(());
     }
-    match add_pieces(alloc, tx, &firm.unpaid, &start) {
-        Ok(()) => put_paid(alloc, tx, firm, employer, start.rows),
-        Err(fault) => Err(fault),
-    }
+    add_pieces(alloc, tx, &firm.unpaid, &start)?;
+    put_paid(alloc, tx, firm, employer, start.rows)
 }
 
 // Adds the pieces that reach beyond a start to those that stand.
@@ -216,10 +203,8 @@ fn add_pieces<S: Alter>(
         (λ t. HasItsRows firm.now × AllByRecursion IsCreditRow firm.now.rows.items
         × AreFree piece_key t.pieces (pieces_from firm.now start.now)) }
 {
-    match pieces_to_put(alloc, firm, start) {
-        Ok(rows) => insert_pieces(tx, rows.as_slice()),
-        Err(fault) => Err(fault),
-    }
+    let rows = pieces_to_put(alloc, firm, start)?;
+    insert_pieces(tx, rows.as_slice())
 }
 
 // Writes what more is paid of a firm's contributions behind a front, and what it weighs.
@@ -237,10 +222,8 @@ fn put_paid<S: Alter>(
         (paid_charges employer firm.now front.count)
         (length firm.now.charges.items ≡ length firm.now.unpaid.account.charges) }
 {
-    match paid_charges(alloc, firm, employer, front) {
-        Ok(rows) => settle_charges(tx, rows.as_slice()),
-        Err(fault) => Err(fault),
-    }
+    let rows = paid_charges(alloc, firm, employer, front)?;
+    settle_charges(tx, rows.as_slice())
 }
 
 // A firm's contributions behind a front, with what more is paid of them.
@@ -261,13 +244,9 @@ fn paid_charges(
     if firm.charges.len() != firm.unpaid.account.all_charges().len() {
         return Err(Fault::Store(StoreCause::Row));
     }
-    match charges_to_put(alloc, &firm.unpaid, employer, front) {
-        Ok(paid) => {
-            let kept = &firm.charges.as_slice()[front.count..];
-            join(alloc, kept, paid.as_slice())
-        }
-        Err(fault) => Err(fault),
-    }
+    let paid = charges_to_put(alloc, &firm.unpaid, employer, front)?;
+    let kept = &firm.charges.as_slice()[front.count..];
+    join(alloc, kept, paid.as_slice())
 }
 
 // These contributions, each with what more is paid of it. Weights that are too great together are
@@ -280,10 +259,7 @@ fn join(alloc: Global, kept: &[KeptCharge], paid: &[KeptCharge]) -> Result<Vec<K
 {
     let mut rows = Vec::new(alloc);
     for place in 0..kept.len() {
-        let row = match add_paid(&kept[place], &paid[place]) {
-            Ok(row) => row,
-            Err(fault) => return Err(fault),
-        };
+        let row = add_paid(&kept[place], &paid[place])?;
         match rows.push(row) {
             Ok(()) => {}
             Err(_) => return Err(Fault::Memory),

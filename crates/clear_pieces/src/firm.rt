@@ -61,14 +61,9 @@ pub fn read_firm<S: Alter>(
     ensures leaves { Leaves S.Store tx.old.conn.now tx.new.conn.now result }
 {
     let mut account = Plain::new(alloc);
-    match read_charges(tx, &mut account, employer) {
-        Ok(()) => {}
-        Err(fault) => return Err(fault),
-    }
-    match read_credits(alloc, tx, &mut account, employer) {
-        Ok(rows) => Ok(FirmAccount { account, rows }),
-        Err(fault) => Err(fault),
-    }
+    read_charges(tx, &mut account, employer)?;
+    let rows = read_credits(alloc, tx, &mut account, employer)?;
+    Ok(FirmAccount { account, rows })
 }
 
 // Adds the contributions that are kept of a firm to an account.
@@ -88,10 +83,8 @@ fn read_charges<S: Alter>(
         → KeepsAccount t employer → IfErr result IsOfDisk }
     ensures leaves { Leaves S.Store tx.old.conn.now tx.new.conn.now result }
 {
-    match charges_of(tx, employer) {
-        Ok(rows) => add_charges(account, rows.as_slice()),
-        Err(fault) => Err(fault),
-    }
+    let rows = charges_of(tx, employer)?;
+    add_charges(account, rows.as_slice())
 }
 
 // Adds the credits of a firm for contributions to an account, which has none yet, and gives their
@@ -117,13 +110,9 @@ fn read_credits<S: Alter>(
         → KeepsAccount t employer → IfErr result IsOfDisk }
     ensures leaves { Leaves S.Store tx.old.conn.now tx.new.conn.now result }
 {
-    match credits_of(tx, employer, Purpose::Contribution) {
-        Ok(rows) => match add_credits(alloc, account, rows.as_slice()) {
-            Ok(()) => Ok(rows),
-            Err(fault) => Err(fault),
-        },
-        Err(fault) => Err(fault),
-    }
+    let rows = credits_of(tx, employer, Purpose::Contribution)?;
+    add_credits(alloc, account, rows.as_slice())?;
+    Ok(rows)
 }
 
 // Adds contributions to an account.
@@ -134,10 +123,7 @@ pub fn add_charges(account: &mut Plain, rows: &[KeptCharge]) -> Result<(), Fault
     ensures fault { All IsCharge (map charge_in rows.now) → IfErr result IsOfDisk }
 {
     for row in rows {
-        match add_charge(account, row) {
-            Ok(()) => {}
-            Err(fault) => return Err(fault),
-        }
+        add_charge(account, row)?;
     }
     Ok(())
 }

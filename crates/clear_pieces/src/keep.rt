@@ -191,10 +191,8 @@ fn keep_release<S: Alter>(
     ensures keeps { Keeps S.Store tx.old.conn.now tx.new.conn.now result
         (AreCreditsPut (set_offs_of claim.now serial)) }
 {
-    match set_off_of(claim, serial) {
-        Ok(new) => keep_credit(alloc, tx, new),
-        Err(fault) => Err(fault),
-    }
+    let new = set_off_of(claim, serial)?;
+    keep_credit(alloc, tx, new)
 }
 
 // What of a claim is set off to contributions, if it is released and that is above 0.
@@ -268,10 +266,7 @@ fn keep_firms<S: Alter>(
         → Keeps S.Store tx.old.conn.now tx.new.conn.now result (AreCreditsPut news) }
 {
     for (employer, credits) in firms {
-        match allocate_from_credits(alloc, tx, *employer, credits) {
-            Ok(()) => {}
-            Err(fault) => return Err(fault),
-        }
+        allocate_from_credits(alloc, tx, *employer, credits)?;
     }
     Ok(())
 }

@@ -41,15 +41,11 @@ pub fn pieces_to_put(
     if firm.rows.len() != credits.len() {
         return Err(Fault::Store(StoreCause::Row));
     }
-    match refill_from(alloc, firm.account.all_charges(), credits, start) {
-        Ok(placed) => {
-            let rows = &firm.rows.as_slice()[start.credits.count..];
-            match rows_of(alloc, placed.as_slice(), rows) {
-                Ok(rows) => Ok(rows),
-                Err(_) => Err(Fault::Memory),
-            }
-        }
-        Err(fault) => Err(fault),
+    let placed = refill_from(alloc, firm.account.all_charges(), credits, start)?;
+    let rows = &firm.rows.as_slice()[start.credits.count..];
+    match rows_of(alloc, placed.as_slice(), rows) {
+        Ok(rows) => Ok(rows),
+        Err(_) => Err(Fault::Memory),
     }
 }
 

@@ -31,10 +31,9 @@ pub fn charge_stands<S: Alter>(
         → AllByRecursion IsKeptCharge t.charges → IfErr result IsOfDisk }
     ensures leaves { Leaves S.Store tx.old.conn.now tx.new.conn.now result }
 {
-    match find_charge(tx, charge.employer, charge.month) {
-        Ok(Some(kept)) => Ok(is_same(&kept, charge)),
-        Ok(None) => Ok(false),
-        Err(fault) => Err(fault),
+    match find_charge(tx, charge.employer, charge.month)? {
+        Some(kept) => Ok(is_same(&kept, charge)),
+        None => Ok(false),
     }
 }
 

@@ -100,13 +100,9 @@ fn work_at<S: Start>(
         Work::Serve { .. } | Work::Import { .. } | Work::Statement { .. } | Work::Backup { .. } =>
             open_whole(rt, store, start, again),
     };
-    match work_on(rt, opened, store, work, &mut rt.stderr()) {
-        Ok(done) => {
-            let _ = done.connection.close();
-            done.said
-        }
-        Err(stop) => Err(stop),
-    }
+    let done = work_on(rt, opened, store, work, &mut rt.stderr())?;
+    let _ = done.connection.close();
+    done.said
 }
 
 // Opens the store at a path, with all that was accepted in its own file: where its log is longer
@@ -117,10 +113,7 @@ pub(crate) fn open_whole<S: Start>(
     start: S,
     again: S,
 ) -> Result<Opened<FileStore<FileFrom<S>>>, NotOpened<FileStore<FileFrom<S>>>> {
-    let opened = match open_office(rt, store, start) {
-        Ok(opened) => opened,
-        Err(refused) => return Err(refused),
-    };
+    let opened = open_office(rt, store, start)?;
     if !has_long_log(rt, store) {
         return Ok(opened);
     }

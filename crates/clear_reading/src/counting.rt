@@ -84,15 +84,14 @@ fn count_all<T: Tally, R: RowSource<Row = <T::Table as StoredTable>::Row>>(
 {
     let mut count = T::none();
     for _turn in 0..u64::MAX {
-        match rows.next() {
-            Ok(Some(row)) => {
+        match rows.next()? {
+            Some(row) => {
                 count = match T::with(count, &row) {
                     Some(more) => more,
                     None => return Err(RowFault::Store(StoreCause::Row)),
                 }
             }
-            Ok(None) => return Ok(count),
-            Err(fault) => return Err(fault),
+            None => return Ok(count),
         }
     }
     Err(RowFault::Memory)

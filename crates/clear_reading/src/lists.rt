@@ -8,7 +8,7 @@ ghost use Rattle.clear_reading.specs.Reader.{TellsDocument};
 use crate::telling::{DocumentHead, tell_rows};
 use clear_book::documents::Document;
 use clear_ledger::claims::{Claims, read_listed};
-use clear_schema::fault::{Fault, fault_of};
+use clear_schema::fault::Fault;
 use clear_texts::payout::payout_text;
 use clear_texts::rows::{RowFault, RowSource};
 use clear_values::causes::StoreCause;
@@ -34,10 +34,7 @@ pub fn tell_list<S: Alter>(
     let Some(number) = ListNo::new(u64::from(list.list)) else {
         return Err(Fault::Store(StoreCause::Row));
     };
-    let mut rows = match read_listed(conn, number) {
-        Ok(rows) => rows,
-        Err(error) => return Err(fault_of(error)),
-    };
+    let mut rows = read_listed(conn, number)?;
     tell_rows(alloc, list, &mut rows)
 }
 

@@ -16,7 +16,7 @@ use clear_firms::counts::{Counts, Meta, read_counts};
 use clear_ledger::lists::{Lists, read_list};
 use clear_ledger::requests::{RequestNumbers, read_greatest};
 use clear_ledger::runs::{Runs, read_run};
-use clear_schema::fault::{Fault, fault_of};
+use clear_schema::fault::Fault;
 use clear_texts::look::Look;
 use clear_values::callers::Caller;
 use clear_values::causes::StoreCause;
@@ -34,14 +34,9 @@ pub fn look<S: Alter>(conn: &mut Connection<S>) -> Result<Look, Fault>
     ensures mode { conn.new.in_transaction ≡ false }
     ensures looks { TellsTables S.Store conn.old conn.new look_of AreFewSuspended result }
 {
-    let latest = match find_latest(conn) {
-        Ok(latest) => latest,
-        Err(fault) => return Err(fault),
-    };
-    match count_tables(conn) {
-        Ok(rows) => Ok(look_at(&latest, &rows)),
-        Err(fault) => Err(fault),
-    }
+    let latest = find_latest(conn)?;
+    let rows = count_tables(conn)?;
+    Ok(look_at(&latest, &rows))
 }
 
 // What these say together.
@@ -80,27 +75,16 @@ fn find_latest<S: Alter>(conn: &mut Connection<S>) -> Result<Latest, Fault>
     ensures mode { conn.new.in_transaction ≡ false }
     ensures tells { TellsTables S.Store conn.old conn.new latest_of (λ t. Unit {0}) result }
 {
-    let counts = match find_counts(conn) {
-        Ok(counts) => counts,
-        Err(fault) => return Err(fault),
-    };
-    let greatest = match find_greatest(conn) {
-        Ok(greatest) => greatest,
-        Err(fault) => return Err(fault),
-    };
-    let list = match find_list(conn, counts.lists) {
-        Ok(list) => list,
-        Err(fault) => return Err(fault),
-    };
-    match find_run(conn, counts.runs) {
-        Ok(run) => Ok(Latest {
-            counts,
-            greatest,
-            list,
-            run,
-        }),
-        Err(fault) => Err(fault),
-    }
+    let counts = find_counts(conn)?;
+    let greatest = find_greatest(conn)?;
+    let list = find_list(conn, counts.lists)?;
+    let run = find_run(conn, counts.runs)?;
+    Ok(Latest {
+        counts,
+        greatest,
+        list,
+        run,
+    })
 }
 
 fn find_counts<S: Alter>(conn: &mut Connection<S>) -> Result<Counts, Fault>
@@ -109,10 +93,9 @@ fn find_counts<S: Alter>(conn: &mut Connection<S>) -> Result<Counts, Fault>
     ensures tells { TellsTables S.Store conn.old conn.new (λ t. as_told (counts_of t))
         (λ t. Unit {0}) result }
 {
-    match first_counts(conn) {
-        Ok(Some(counts)) => Ok(counts),
-        Ok(None) => Err(Fault::Store(StoreCause::Other)),
-        Err(fault) => Err(fault),
+    match first_counts(conn)? {
+        Some(counts) => Ok(counts),
+        None => Err(Fault::Store(StoreCause::Other)),
     }
 }
 
@@ -123,10 +106,7 @@ fn first_counts<S: Alter>(conn: &mut Connection<S>) -> Result<Option<Counts>, Fa
     ensures tells { TellsTables S.Store conn.old conn.new (λ t. Some (as_told (counts_of t)))
         (λ t. Unit {0}) result }
 {
-    let mut rows = match read_counts(conn) {
-        Ok(rows) => rows,
-        Err(error) => return Err(fault_of(error)),
-    };
+    let mut rows = read_counts(conn)?;
     first_row::<Meta, S>(&mut rows)
 }
 
@@ -137,10 +117,7 @@ fn find_greatest<S: Alter>(conn: &mut Connection<S>) -> Result<Option<RequestNo>
     ensures tells { TellsTables S.Store conn.old conn.new
         (λ t. greatest_number Clerk t.requests) (λ t. Unit {0}) result }
 {
-    let mut rows = match read_greatest(conn, Caller::Clerk) {
-        Ok(rows) => rows,
-        Err(error) => return Err(fault_of(error)),
-    };
+    let mut rows = read_greatest(conn, Caller::Clerk)?;
     first_row::<RequestNumbers, S>(&mut rows)
 }
 
@@ -150,10 +127,7 @@ fn find_list<S: Alter>(conn: &mut Connection<S>, list: u32) -> Result<Option<Lis
     ensures tells { TellsTables S.Store conn.old conn.new
         (λ t. find_row list_key t.lists (list ∷ [])) (λ t. Unit {0}) result }
 {
-    let mut rows = match read_list(conn, list) {
-        Ok(rows) => rows,
-        Err(error) => return Err(fault_of(error)),
-    };
+    let mut rows = read_list(conn, list)?;
     first_row::<Lists, S>(&mut rows)
 }
 
@@ -163,9 +137,6 @@ fn find_run<S: Alter>(conn: &mut Connection<S>, run: u32) -> Result<Option<RunRo
     ensures tells { TellsTables S.Store conn.old conn.new
         (λ t. find_row run_key t.runs (run ∷ [])) (λ t. Unit {0}) result }
 {
-    let mut rows = match read_run(conn, run) {
-        Ok(rows) => rows,
-        Err(error) => return Err(fault_of(error)),
-    };
+    let mut rows = read_run(conn, run)?;
     first_row::<Runs, S>(&mut rows)
 }

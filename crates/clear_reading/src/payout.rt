@@ -83,10 +83,9 @@ fn payable_after<S: Alter>(
         → AreInRange t → length t.claims ≤ most_entries → IfErr result IsOfDisk }
     ensures leaves { Leaves S.Store tx.old.conn.now tx.new.conn.now result }
 {
-    match find_list(tx, last) {
-        Ok(Some(list)) => payable_since(tx, list.day, next),
-        Ok(None) => payable_since(tx, first_day(), next),
-        Err(fault) => Err(fault),
+    match find_list(tx, last)? {
+        Some(list) => payable_since(tx, list.day, next),
+        None => payable_since(tx, first_day(), next),
     }
 }
 
@@ -109,10 +108,8 @@ fn payable_since<S: Alter>(
         → AreInRange t → length t.claims ≤ most_entries → IfErr result IsOfDisk }
     ensures leaves { Leaves S.Store tx.old.conn.now tx.new.conn.now result }
 {
-    match claims_released_since(tx, since) {
-        Ok(rows) => view_of(rows, next),
-        Err(fault) => Err(fault),
-    }
+    let rows = claims_released_since(tx, since)?;
+    view_of(rows, next)
 }
 
 // The view of the claims among these of which something is to be paid out.

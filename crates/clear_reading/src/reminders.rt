@@ -7,7 +7,7 @@ ghost use Rattle.clear_reading.specs.Reader.{TellsDocument};
 use crate::telling::{DocumentHead, tell_rows};
 use clear_book::documents::Document;
 use clear_ledger::reminders::{Reminders, read_reminders};
-use clear_schema::fault::{Fault, fault_of};
+use clear_schema::fault::Fault;
 use clear_texts::reminders::remind_text;
 use clear_texts::rows::{RowFault, RowSource};
 use clear_values::causes::StoreCause;
@@ -33,10 +33,7 @@ pub fn tell_reminders<S: Alter>(
     let Some(number) = RunNo::new(u64::from(run.run)) else {
         return Err(Fault::Store(StoreCause::Row));
     };
-    let mut rows = match read_reminders(conn, number) {
-        Ok(rows) => rows,
-        Err(error) => return Err(fault_of(error)),
-    };
+    let mut rows = read_reminders(conn, number)?;
     tell_rows(alloc, run, &mut rows)
 }
 

@@ -12,7 +12,7 @@ use clear_firms::employers::{Employers, read_employers};
 use clear_firms::reports::{Reports, read_reports};
 use clear_ledger::bank::{Bank, lines};
 use clear_ledger::claims::{Claims, read_claims};
-use clear_schema::fault::{Fault, fault_of};
+use clear_schema::fault::Fault;
 use clear_values::rows::{BankRow, ClaimRow, ClaimState};
 use sqlite::{Alter, Connection};
 
@@ -50,27 +50,16 @@ pub(crate) fn count_tables<S: Alter>(conn: &mut Connection<S>) -> Result<RowCoun
     ensures mode { conn.new.in_transaction ≡ false }
     ensures tells { TellsTables S.Store conn.old conn.new rows_counted AreFewSuspended result }
 {
-    let firms = match count_firms(conn) {
-        Ok(firms) => firms,
-        Err(fault) => return Err(fault),
-    };
-    let reports = match count_reports(conn) {
-        Ok(reports) => reports,
-        Err(fault) => return Err(fault),
-    };
-    let lines = match count_lines(conn) {
-        Ok(lines) => lines,
-        Err(fault) => return Err(fault),
-    };
-    match count_claims(conn) {
-        Ok(claims) => Ok(RowCounts {
-            firms,
-            reports,
-            lines,
-            claims,
-        }),
-        Err(fault) => Err(fault),
-    }
+    let firms = count_firms(conn)?;
+    let reports = count_reports(conn)?;
+    let lines = count_lines(conn)?;
+    let claims = count_claims(conn)?;
+    Ok(RowCounts {
+        firms,
+        reports,
+        lines,
+        claims,
+    })
 }
 
 fn count_firms<S: Alter>(conn: &mut Connection<S>) -> Result<u64, Fault>
@@ -79,10 +68,7 @@ fn count_firms<S: Alter>(conn: &mut Connection<S>) -> Result<u64, Fault>
     ensures tells { TellsTables S.Store conn.old conn.new (λ t. length t.employers)
         (λ t. Unit {0}) result }
 {
-    let mut rows = match read_employers(conn) {
-        Ok(rows) => rows,
-        Err(error) => return Err(fault_of(error)),
-    };
+    let mut rows = read_employers(conn)?;
     count_rows::<AllRows<Employers>, S>(&mut rows)
 }
 
@@ -92,10 +78,7 @@ fn count_reports<S: Alter>(conn: &mut Connection<S>) -> Result<u64, Fault>
     ensures tells { TellsTables S.Store conn.old conn.new (λ t. length t.reports)
         (λ t. Unit {0}) result }
 {
-    let mut rows = match read_reports(conn) {
-        Ok(rows) => rows,
-        Err(error) => return Err(fault_of(error)),
-    };
+    let mut rows = read_reports(conn)?;
     count_rows::<AllRows<Reports>, S>(&mut rows)
 }
 
@@ -106,10 +89,7 @@ fn count_lines<S: Alter>(conn: &mut Connection<S>) -> Result<LineCount, Fault>
     ensures tells { TellsTables S.Store conn.old conn.new (λ t. lines_counted t.bank)
         AreFewSuspended result }
 {
-    let mut rows = match lines(conn) {
-        Ok(rows) => rows,
-        Err(error) => return Err(fault_of(error)),
-    };
+    let mut rows = lines(conn)?;
     count_rows::<AllLines, S>(&mut rows)
 }
 
@@ -119,10 +99,7 @@ fn count_claims<S: Alter>(conn: &mut Connection<S>) -> Result<ClaimCount, Fault>
     ensures tells { TellsTables S.Store conn.old conn.new (λ t. claims_counted t.claims)
         (λ t. Unit {0}) result }
 {
-    let mut rows = match read_claims(conn) {
-        Ok(rows) => rows,
-        Err(error) => return Err(fault_of(error)),
-    };
+    let mut rows = read_claims(conn)?;
     count_rows::<AllClaims, S>(&mut rows)
 }
 

@@ -8,7 +8,7 @@ ghost use Rattle.clear_texts.specs.Paid.{statement_paid};
 use crate::stored::{StoredRows, fault_told};
 use clear_book::documents::Document;
 use clear_ledger::pieces::{Pieces, read_pieces};
-use clear_schema::fault::{Fault, fault_of};
+use clear_schema::fault::Fault;
 use clear_texts::paid::statement_text;
 use clear_texts::records::StatementHead;
 use sqlite::{Alter, Connection, Rows};
@@ -29,10 +29,7 @@ pub fn tell_statement<S: Alter>(
     ensures tells { TellsDocument S.Store conn.old conn.new
         (λ t. statement_paid head.now (pieces_for head.now t)) (ArePiecesFor head.now) result }
 {
-    let mut rows = match read_pieces(conn, head.firm.employer) {
-        Ok(rows) => rows,
-        Err(error) => return Err(fault_of(error)),
-    };
+    let mut rows = read_pieces(conn, head.firm.employer)?;
     tell_pieces(alloc, head, &mut rows)
 }
 

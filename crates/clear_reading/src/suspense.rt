@@ -12,7 +12,7 @@ use crate::telling::{DocumentHead, tell_rows};
 use clear_book::documents::Document;
 use clear_ledger::bank::{Bank, read_suspense};
 use clear_money::days::Day;
-use clear_schema::fault::{Fault, fault_of};
+use clear_schema::fault::Fault;
 use clear_texts::rows::{RowFault, RowSource};
 use clear_texts::suspense::suspense_text;
 use clear_values::rows::BankRow;
@@ -33,10 +33,7 @@ pub fn tell_suspense<S: Alter>(
         (λ t. suspense_text day (in_key_order serial_key (filter is_in_suspense t.bank)))
         (λ t. suspense_count t.bank ≤ most_suspense) result }
 {
-    let mut rows = match read_suspense(conn) {
-        Ok(rows) => rows,
-        Err(error) => return Err(fault_of(error)),
-    };
+    let mut rows = read_suspense(conn)?;
     tell_rows(alloc, &day, &mut rows)
 }
 

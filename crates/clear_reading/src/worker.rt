@@ -36,20 +36,12 @@ pub fn worker_records<S: Alter>(
         → (b : Book) → IsLawful b → Stands b t → IfErr result IsOfDisk }
     ensures leaves { Leaves S.Store tx.old.conn.now tx.new.conn.now result }
 {
-    let rates = match rate_table(tx) {
-        Ok(rates) => rates,
-        Err(fault) => return Err(fault),
-    };
-    let wages = match worker_wages(tx, worker) {
-        Ok(rows) => rows,
-        Err(fault) => return Err(fault),
-    };
-    match worker_claims(tx, worker) {
-        Ok(claims) => Ok(WorkerRecords {
-            rates,
-            wages,
-            claims,
-        }),
-        Err(fault) => Err(fault),
-    }
+    let rates = rate_table(tx)?;
+    let wages = worker_wages(tx, worker)?;
+    let claims = worker_claims(tx, worker)?;
+    Ok(WorkerRecords {
+        rates,
+        wages,
+        claims,
+    })
 }

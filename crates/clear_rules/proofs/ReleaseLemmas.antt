@@ -1,5 +1,5 @@
 -- What a release is judged by is judged as what the book says.
-use Rattle.std.proofs.Common.{◌≡◌, ℕ, ◌+◌, ◌<◌, ◌≤◌, inl, inr, List, [], ◌∷◌, Option, Some, Bool, true, false, ◌&&◌, ◌||◌, not, is_some, nat_lt, nat_le, refl, sym, ap, subst, ◌∙◌, arith}
+use Rattle.std.proofs.Common.{◌≡◌, ℕ, inl, inr, List, [], ◌∷◌, Option, Some, ◌&&◌, ◌||◌, not, is_some, nat_lt, refl, sym, ap, subst, ◌∙◌, arith}
 use Rattle.std.specs.Prelude.{IfSome}
 use Rattle.std.specs.Option.{option_map, option_to_list}
 use Rattle.std.proofs.lemmas.Bool.{lt-leb}
@@ -12,8 +12,8 @@ use Rattle.clear_book.specs.Workers.{claim_of}
 use Rattle.clear_book.specs.declared.rows.ClaimRow.{ClaimRow}
 use Rattle.clear_book.specs.declared.rules.Limit.TheVariants.{Credits}
 use Rattle.clear_book.specs.declared.rules.Rule.TheVariants.{UnknownClaim, ClaimNotOpen, OverLimit}
-use Rattle.clear_values.specs.declared.lines.Purpose.TheVariants.{Contribution, Interest}
-use Rattle.clear_rules.specs.Views.Release.{AreDebts, IsReleaseView, counts_in, release_rule, settlement_in}
+use Rattle.clear_values.specs.declared.lines.Purpose.TheVariants.{Contribution}
+use Rattle.clear_rules.specs.Views.Release.{AreDebts, IsReleaseView, counts_in, release_rule}
 use Rattle.clear_rules.specs.Views.Serves.{Serves}
 use Rattle.clear_rules.specs.declared.decide.release.FirmDebts.{FirmDebts}
 use Rattle.clear_rules.specs.declared.decide.release.OwingClaim.{OwingClaim}

@@ -22,6 +22,16 @@ pub enum Stop<R> {
     Fault(Fault),
 }
 
+impl<R: Drop> From<Fault> for Stop<R> {
+    ghost use Rattle.clear_schema.specs.declared.body.Stop.TheVariants as stop;
+
+    ghost from_gives = { λ fault given. given ≡ stop.Fault fault };
+
+    fn from(fault: Fault) -> Stop<R> {
+        Stop::Fault(fault)
+    }
+}
+
 /// What is done inside one transaction.
 pub trait Body {
     ghost use Rattle.clear_schema.specs.declared.fault.Fault.{Fault};
@@ -102,10 +112,7 @@ pub fn within<S: Alter, B: Body>(
         (u : Tables) × (out : B.Out) × B.does body t u out × HasTables u db)) }
 {
     let mut tx = conn.transaction();
-    let out = match body.run(&mut tx) {
-        Ok(out) => out,
-        Err(stop) => return Err(stop),
-    };
+    let out = body.run(&mut tx)?;
     match tx.commit() {
         Ok(()) => Ok(out),
         Err(error) => Err(Stop::Fault(fault_of(error))),

@@ -23,10 +23,7 @@ fn insert_lines<S: Alter>(tx: &mut Transaction<'_, S>, rows: &[BankRow]) -> Resu
         (AreSerials rows.now) (λ t. record t { bank = with_rows bank_key t.bank rows.now }) }
 {
     for row in rows {
-        match insert_line(tx, row) {
-            Ok(()) => {}
-            Err(fault) => return Err(fault),
-        }
+        insert_line(tx, row)?;
     }
     Ok(())
 }
@@ -43,10 +40,7 @@ pub(crate) fn insert_credits<S: Alter>(
         (λ t. record t { credits = with_rows credit_key t.credits credits.now }) }
 {
     for credit in credits {
-        match insert_credit(tx, credit) {
-            Ok(()) => {}
-            Err(fault) => return Err(fault),
-        }
+        insert_credit(tx, credit)?;
     }
     Ok(())
 }
@@ -64,10 +58,8 @@ pub(crate) fn insert_credits_of<S: Alter>(
           credits = with_rows credit_key t.credits (credits_of_lines rows.now);
         }) }
 {
-    match credits_of_rows(alloc, rows) {
-        Ok(credits) => insert_credits(tx, credits.as_slice()),
-        Err(_) => Err(Fault::Memory),
-    }
+    let credits = credits_of_rows(alloc, rows)?;
+    insert_credits(tx, credits.as_slice())
 }
 
 // The credits that bank lines are for their firms.
@@ -105,8 +97,6 @@ pub(crate) fn add_lines<S: Alter>(
           credits = with_rows credit_key t.credits (credits_of_lines rows.now);
         }) }
 {
-    match insert_lines(tx, rows) {
-        Ok(()) => insert_credits_of(alloc, tx, rows),
-        Err(fault) => Err(fault),
-    }
+    insert_lines(tx, rows)?;
+    insert_credits_of(alloc, tx, rows)
 }

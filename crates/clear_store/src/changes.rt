@@ -42,10 +42,8 @@ pub fn put_change<S: Alter>(
         (IsPuttable counts.now change.now) (λ t. dated day (changed change.now t)) }
 {
     let taken = taken_by(change);
-    match note(tx, counts, day, &taken) {
-        Ok(()) => put_rows(alloc, tx, change),
-        Err(fault) => Err(fault),
-    }
+    note(tx, counts, day, &taken)?;
+    put_rows(alloc, tx, change)
 }
 
 // Puts the rows of a change. The counts are left.

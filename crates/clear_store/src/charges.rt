@@ -28,10 +28,7 @@ pub fn settle_charges<S: Alter>(
         (λ t. record t { charges = replaced_rows charge_key t.charges rows.now }) }
 {
     for row in rows {
-        match settle_charge(tx, *row) {
-            Ok(()) => {}
-            Err(fault) => return Err(fault),
-        }
+        settle_charge(tx, *row)?;
     }
     Ok(())
 }

@@ -55,10 +55,8 @@ pub(crate) fn put_release<S: Alter>(
           credits = with_rows credit_key t.credits (set_offs_of claim.now serial);
         }) }
 {
-    match insert_set_offs(alloc, tx, claim, serial) {
-        Ok(()) => put_claim(tx, claim),
-        Err(fault) => Err(fault),
-    }
+    insert_set_offs(alloc, tx, claim, serial)?;
+    put_claim(tx, claim)
 }
 
 // Adds the set-offs of a claim as credits.
@@ -76,10 +74,8 @@ fn insert_set_offs<S: Alter>(
           credits = with_rows credit_key t.credits (set_offs_of claim.now serial);
         }) }
 {
-    match set_offs(alloc, claim, serial) {
-        Ok(credits) => insert_credits(tx, credits.as_slice()),
-        Err(fault) => Err(fault),
-    }
+    let credits = set_offs(alloc, claim, serial)?;
+    insert_credits(tx, credits.as_slice())
 }
 
 // The set-offs of a claim as it stands.
@@ -157,10 +153,7 @@ fn add_set_off(
         Some(number) => number,
         None => return Err(Fault::Store(StoreCause::Row)),
     };
-    let reference = match CreditReference::of_set_off(*credits.allocator(), number) {
-        Ok(reference) => reference,
-        Err(_) => return Err(Fault::Memory),
-    };
+    let reference = CreditReference::of_set_off(*credits.allocator(), number)?;
     let credit = CreditRow {
         employer: claim.employer,
         purpose,
@@ -169,8 +162,6 @@ fn add_set_off(
         cents: amount,
         reference,
     };
-    match credits.push(credit) {
-        Ok(()) => Ok(()),
-        Err(_) => Err(Fault::Memory),
-    }
+    credits.push(credit)?;
+    Ok(())
 }

@@ -26,10 +26,8 @@ pub(crate) fn add_list<S: Alter>(
           claims = put_rows claim_key t.claims claims.now;
         }) }
 {
-    match insert_list(tx, row) {
-        Ok(()) => put_claims(tx, claims),
-        Err(fault) => Err(fault),
-    }
+    insert_list(tx, row)?;
+    put_claims(tx, claims)
 }
 
 // Puts claims in the places of those of their numbers, one after another.
@@ -40,10 +38,7 @@ fn put_claims<S: Alter>(tx: &mut Transaction<'_, S>, claims: &[ClaimRow]) -> Res
         (λ t. record t { claims = put_rows claim_key t.claims claims.now }) }
 {
     for claim in claims {
-        match replace_claim(tx, claim) {
-            Ok(()) => {}
-            Err(fault) => return Err(fault),
-        }
+        replace_claim(tx, claim)?;
     }
     Ok(())
 }

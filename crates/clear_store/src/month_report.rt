@@ -30,10 +30,8 @@ pub(crate) fn add_report<S: Alter>(
         (IsInRange (Change.AddReport row.now lines.now charge.now))
         (changed (Change.AddReport row.now lines.now charge.now)) }
 {
-    match insert_charge(tx, *charge) {
-        Ok(()) => insert_month(tx, row, lines),
-        Err(fault) => Err(fault),
-    }
+    insert_charge(tx, *charge)?;
+    insert_month(tx, row, lines)
 }
 
 // Puts a correction and the contribution for it in the place of a month's report and contribution. One
@@ -51,10 +49,8 @@ pub(crate) fn put_report<S: Alter>(
         (IsInRange (Change.ReplaceReport row.now lines.now charge.now))
         (changed (Change.ReplaceReport row.now lines.now charge.now)) }
 {
-    match correct_charge(tx, *charge) {
-        Ok(()) => replace_month(tx, row, lines),
-        Err(fault) => Err(fault),
-    }
+    correct_charge(tx, *charge)?;
+    replace_month(tx, row, lines)
 }
 
 // Adds the row of the first report of a month, and a row for each of its lines.
@@ -72,10 +68,8 @@ fn insert_month<S: Alter>(
               (wage_rows row.now.employer row.now.month lines.now);
         }) }
 {
-    match insert_report(tx, *row) {
-        Ok(()) => insert_wages(tx, row.employer, row.month, lines),
-        Err(fault) => Err(fault),
-    }
+    insert_report(tx, *row)?;
+    insert_wages(tx, row.employer, row.month, lines)
 }
 
 // Puts the row of a correction in the place of that of the month's report, and the rows of its lines
@@ -93,10 +87,8 @@ fn replace_month<S: Alter>(
           wages = with_wages row.now.employer row.now.month lines.now t.wages;
         }) }
 {
-    match replace_report(tx, *row) {
-        Ok(()) => replace_wages(tx, row.employer, row.month, lines),
-        Err(fault) => Err(fault),
-    }
+    replace_report(tx, *row)?;
+    replace_wages(tx, row.employer, row.month, lines)
 }
 
 // Adds a row for each line of a month's report.
@@ -118,10 +110,7 @@ fn insert_wages<S: Alter>(
             worker: line.worker,
             gross: line.gross,
         };
-        match insert_wage(tx, row) {
-            Ok(()) => {}
-            Err(fault) => return Err(fault),
-        }
+        insert_wage(tx, row)?;
     }
     Ok(())
 }
@@ -139,8 +128,6 @@ fn replace_wages<S: Alter>(
         (wage_rows no month lines.now)) (AreGross lines.now)
         (λ t. record t { wages = with_wages no month lines.now t.wages }) }
 {
-    match delete_wages(tx, no, month) {
-        Ok(()) => insert_wages(tx, no, month, lines),
-        Err(fault) => Err(fault),
-    }
+    delete_wages(tx, no, month)?;
+    insert_wages(tx, no, month, lines)
 }

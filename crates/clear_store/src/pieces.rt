@@ -35,10 +35,8 @@ pub fn replace_pieces<S: Alter>(
               from.now.serial rows.now t.pieces;
         }) }
 {
-    match delete_pieces(tx, from) {
-        Ok(()) => insert_pieces(tx, rows),
-        Err(fault) => Err(fault),
-    }
+    delete_pieces(tx, from)?;
+    insert_pieces(tx, rows)
 }
 
 /// Adds pieces, one after another. All that stand stay, whatever they hold.
@@ -51,10 +49,7 @@ pub fn insert_pieces<S: Alter>(tx: &mut Transaction<'_, S>, rows: &[PieceRow]) -
         (λ t. record t { pieces = with_rows piece_key t.pieces rows.now }) }
 {
     for row in rows {
-        match insert_piece(tx, row) {
-            Ok(()) => {}
-            Err(fault) => return Err(fault),
-        }
+        insert_piece(tx, row)?;
     }
     Ok(())
 }

@@ -27,10 +27,8 @@ pub(crate) fn add_run<S: Alter>(
           reminders = with_rows reminder_key t.reminders reminders.now;
         }) }
 {
-    match insert_run(tx, row) {
-        Ok(()) => insert_reminders(tx, reminders),
-        Err(fault) => Err(fault),
-    }
+    insert_run(tx, row)?;
+    insert_reminders(tx, reminders)
 }
 
 // Adds reminders, one after another.
@@ -45,10 +43,7 @@ fn insert_reminders<S: Alter>(
         (λ t. record t { reminders = with_rows reminder_key t.reminders reminders.now }) }
 {
     for reminder in reminders {
-        match insert_reminder(tx, reminder) {
-            Ok(()) => {}
-            Err(fault) => return Err(fault),
-        }
+        insert_reminder(tx, reminder)?;
     }
     Ok(())
 }

@@ -22,8 +22,6 @@ pub(crate) fn put_line<S: Alter>(
         (IsThere (Change.AssignLine row.now)) (IsFree (Change.AssignLine row.now))
         (IsInRange (Change.AssignLine row.now)) (changed (Change.AssignLine row.now)) }
 {
-    match assign_line(tx, row) {
-        Ok(()) => insert_credits_of(alloc, tx, slice::from_ref(row)),
-        Err(fault) => Err(fault),
-    }
+    assign_line(tx, row)?;
+    insert_credits_of(alloc, tx, slice::from_ref(row))
 }

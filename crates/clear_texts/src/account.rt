@@ -38,14 +38,8 @@ pub(crate) fn worker_account(
     let Some(claimed) = claimed_cents(records.claims.as_slice()) else {
         return Err(RowFault::Store(StoreCause::Row));
     };
-    let lines = match earned_lines(alloc, &records.rates, records.wages.as_slice()) {
-        Ok(lines) => lines,
-        Err(fault) => return Err(fault),
-    };
-    let claims = match standing_claims(alloc, records.claims.as_slice()) {
-        Ok(claims) => claims,
-        Err(fault) => return Err(fault),
-    };
+    let lines = earned_lines(alloc, &records.rates, records.wages.as_slice())?;
+    let claims = standing_claims(alloc, records.claims.as_slice())?;
     Ok(WorkerAccount {
         worker,
         day,
@@ -71,10 +65,7 @@ fn earned_lines(
             Some(line) => line,
             None => return Err(RowFault::Store(StoreCause::Row)),
         };
-        match lines.push(line) {
-            Ok(()) => {}
-            Err(_) => return Err(RowFault::Memory),
-        }
+        lines.push(line)?;
     }
     Ok(lines)
 }
@@ -103,10 +94,7 @@ fn standing_claims(alloc: Global, rows: &[ClaimRow]) -> Result<Vec<ClaimRow>, Ro
     let mut claims = Vec::new(alloc);
     for row in rows {
         if !is_withdrawn(&row.state) {
-            match claims.push(*row) {
-                Ok(()) => {}
-                Err(_) => return Err(RowFault::Memory),
-            }
+            claims.push(*row)?;
         }
     }
     Ok(claims)

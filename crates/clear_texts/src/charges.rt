@@ -36,10 +36,7 @@ pub(crate) fn charge_states(
             Some(state) => state,
             None => return Err(RowFault::Store(StoreCause::Row)),
         };
-        match states.push(state) {
-            Ok(()) => {}
-            Err(_) => return Err(RowFault::Memory),
-        }
+        states.push(state)?;
     }
     Ok(states)
 }

@@ -41,10 +41,7 @@ pub fn statement_head(
     };
     let rows = records.charges.rows();
     let missing = missing_months(alloc, &records.member, &records.rates, rows, day)?;
-    let charges = match charge_states(alloc, records, day) {
-        Ok(charges) => charges,
-        Err(fault) => return Err(fault),
-    };
+    let charges = charge_states(alloc, records, day)?;
     let interest_credits = whole_payments(alloc, credits)?;
     Ok(StatementHead {
         firm: firm_account(records, day, interest)?,
@@ -68,10 +65,7 @@ pub fn worker_document(
     ensures fault { (b : Book) → IsLawful b → AreWorkerRecords b worker records.now
         → IfErr result (λ fault. fault ≡ RowFault.Memory) }
 {
-    let account = match worker_account(alloc, worker, day, records) {
-        Ok(account) => account,
-        Err(fault) => return Err(fault),
-    };
+    let account = worker_account(alloc, worker, day, records)?;
     let mut text = String::new(alloc);
     append_worker(&mut text, &account)?;
     Ok(Document::new(text))

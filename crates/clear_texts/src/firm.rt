@@ -59,10 +59,8 @@ fn add_payment(payments: &mut Vec<Payment>, row: &CreditRow) -> Result<(), RowFa
     ensures fault { IfErr result (λ fault. fault ≡ RowFault.Memory) }
 {
     let payment = whole_payment(row)?;
-    match payments.push(payment) {
-        Ok(()) => Ok(()),
-        Err(_) => Err(RowFault::Memory),
-    }
+    payments.push(payment)?;
+    Ok(())
 }
 
 // A whole credit.

@@ -32,10 +32,7 @@ pub fn statement_text<R: RowSource<Row = PieceRow>>(
     ensures refused { IfErr result (λ fault. IsCutOffUnless R.next_gives R.next_refuses
         (ArePiecesOf head.now) pieces.old fault pieces.new) }
 {
-    let mut next = match pieces.next() {
-        Ok(found) => found,
-        Err(fault) => return Err(fault),
-    };
+    let mut next = pieces.next()?;
     append_ahead(head, pieces, &mut next, text)
 }
 
@@ -93,10 +90,7 @@ impl<R: RowSource<Row = PieceRow>> RowSource for PaidRows<'_, R> {
             self.place += 1;
             return Ok(Some(ChargeRow { state, piece: None }));
         }
-        let following = match self.pieces.next() {
-            Ok(following) => following,
-            Err(fault) => return Err(fault),
-        };
+        let following = self.pieces.next()?;
         let piece = mem::replace(self.next, following);
         if !is_under(self.next, state.month) {
             self.place += 1;
@@ -161,14 +155,12 @@ fn append_rows<R: RowSource<Row = PieceRow>>(
         → IfErr result (λ fault. IsCutOffUnless R.next_gives R.next_refuses
         (ArePiecesOf head.now) start fault rows.new.pieces.now) }
 {
-    match append_statement(
+    append_statement(
         text,
         &head.firm,
         head.interest_credits.as_slice(),
         head.missing.as_slice(),
         rows,
-    ) {
-        Ok(()) => Ok(()),
-        Err(fault) => Err(fault),
-    }
+    )?;
+    Ok(())
 }

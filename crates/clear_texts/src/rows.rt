@@ -3,7 +3,7 @@ ghost use Rattle.std.specs.Prelude.{◌≡◌, IfErr, IfOk};
 
 use clear_book::documents::{ChargeState, Payment};
 use clear_book::rules::StoreCause;
-use std::alloc::AllocError;
+use std::alloc::{AllocError, AllocFailed};
 
 /// The rows of an account: 100,000 credits, and twice 2,400 months.
 pub const MAX_ROWS: u32 = 104_800;
@@ -31,6 +31,16 @@ impl From<AllocError> for RowFault {
     ghost from_gives = { λ _ fault. fault ≡ Memory };
 
     fn from(_error: AllocError) -> RowFault {
+        RowFault::Memory
+    }
+}
+
+impl<T: Drop> From<AllocFailed<T>> for RowFault {
+    ghost use Rattle.clear_texts.specs.declared.rows.RowFault.TheVariants.{Memory};
+
+    ghost from_gives = { λ _ fault. fault ≡ Memory };
+
+    fn from(_error: AllocFailed<T>) -> RowFault {
         RowFault::Memory
     }
 }

@@ -110,13 +110,11 @@ fn sum_rows<R: RowSource<Row = BankRow>>(
     ensures refused { IfErr result (λ fault. IsCutOffAdding R.next_gives R.next_refuses
         (λ row. row.line.cents) summed.old.rows.now fault summed.new.rows.now) }
 {
-    match append_lines(text, summed) {
-        Ok(count) => Ok(Sums {
-            count,
-            total: summed.total,
-        }),
-        Err(fault) => Err(fault),
-    }
+    let count = append_lines(text, summed)?;
+    Ok(Sums {
+        count,
+        total: summed.total,
+    })
 }
 
 // The lines on what they come to.

@@ -1,7 +1,7 @@
 -- Where each row is in its ranges, a fault of a read is the disk's.
-use Rattle.std.proofs.Common.{◌≡◌, ◌≢◌, ℕ, List, [], ◌∷◌, filter, Option, None, Some, Bool, subst}
+use Rattle.std.proofs.Common.{◌≡◌, ◌≢◌, ℕ, List, [], ◌∷◌, filter, Option, None, Some, Bool, Result, Ok, Err, subst}
 use Rattle.std.specs.List.{AllByRecursion, last_or}
-use Rattle.std.specs.Prelude.{IfSome}
+use Rattle.std.specs.Prelude.{IfErr, IfSome}
 use Rattle.sqlite_trees.proofs.ListLemmas.{all-filter}
 use Rattle.clear_book.specs.declared.rules.StoreCause.TheVariants.{Constraint, Row as OutOfRange}
 use Rattle.clear_book.specs.Keyed.{find_row}
@@ -14,6 +14,12 @@ use Rattle.clear_schema.specs.Faults.{IsOfDisk}
 pub found_in_range : {X : Type 0} (key : X → List ℕ) (P : X → Type 0) (rows : List X) (k : List ℕ) (fault : Fault) → fault ≢ Store Constraint
     → (fault ≡ Store OutOfRange → (x : X) × (find_row key rows k ≡ Some x) × ¬ P x) → AllByRecursion P rows → IsOfDisk fault
 found_in_range key P rows k fault free range all = (free, λ told. let (x, at, bad) = range told in bad (found_holds key P rows k x all at))
+
+-- of a look at that row
+pub look_in_range : {X A : Type 0} (key : X → List ℕ) (P : X → Type 0) (rows : List X) (k : List ℕ) (result : Result A Fault) → IfErr result (λ fault. fault ≢ Store Constraint)
+    → IfErr result (λ fault. fault ≡ Store OutOfRange → (x : X) × (find_row key rows k ≡ Some x) × ¬ P x) → AllByRecursion P rows → IfErr result IsOfDisk
+look_in_range key P rows k (Ok found) free range all = tt
+look_in_range key P rows k (Err fault) free range all = found_in_range key P rows k fault free range all
 
 -- of the last of some rows
 last_holds : {X : Type 0} (P : X → Type 0) (before : Option X) (rows : List X) → IfSome before P → AllByRecursion P rows → IfSome (last_or before rows) P

@@ -1,7 +1,7 @@
 -- The months without a contribution are those without a report.
 use Rattle.std.proofs.Common.{◌≡◌, ℕ, ◌+◌, ◌<◌, List, [], ◌∷◌, filter, get_or, length, Option, Some, None, Bool, true, false, cond, ◌&&◌, ◌==◌, not, is_some, is_none, refl, sym, ap, ◌∙◌, arith}
 use Rattle.std.proofs.lemmas.List.FromFn.{get_or-map-range_with_len, length-map-range_with_len}
-use Rattle.std.specs.List.{AllByRecursion, AllPairs, filter_map, find}
+use Rattle.std.specs.List.{AllByRecursion, AllPairs, find}
 use Rattle.std.specs.Option.{option_map}
 use Rattle.clear_account.specs.declared.entries.Charge.{Charge}
 use Rattle.clear_account.specs.declared.entries.Credit.{Credit}
@@ -13,7 +13,7 @@ use Rattle.clear_money.specs.Rates.{Rate}
 use Rattle.clear_laws.proofs.ListLemmas.{each}
 use Rattle.clear_book.specs.declared.texts.WageLine.{WageLine}
 use Rattle.clear_book.specs.Accounts.{base_of, book_charge, charges_of, credits_of, is_missing, is_overdue, missing, month_charge, months, reported_charge}
-use Rattle.clear_book.specs.Book.{Book, Member, is_member_month, latest_lines, member_of, rates_of, reported_version, version_of}
+use Rattle.clear_book.specs.Book.{Book, is_member_month, latest_lines, member_of, rates_of, reported_version, version_of}
 use Rattle.clear_book.specs.Tables.{member_in}
 use Rattle.clear_book.specs.declared.rows.EmployerRow.{EmployerRow}
 use Rattle.clear_laws.proofs.DistinctLemmas.{itself, same_worker}

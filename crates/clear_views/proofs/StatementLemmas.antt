@@ -11,8 +11,6 @@ use Rattle.clear_kept.specs.Owing.{arrears_in, charged_in}
 use Rattle.clear_kept.specs.declared.rows.WeighedCharge.{WeighedCharge}
 use Rattle.clear_kept.proofs.ArrearsLemmas.{arrears_from_rows}
 use Rattle.clear_kept.proofs.OwingLemmas.{charged_from_rows}
-use Rattle.clear_bank.specs.declared.lines.Purpose.TheVariants.{Interest}
-use Rattle.clear_book.specs.declared.rows.CreditRow.{CreditRow}
 use Rattle.clear_book.specs.declared.rows.EmployerRow.{EmployerRow}
 use Rattle.clear_book.specs.declared.rows.ReportRow.{ReportRow}
 use Rattle.clear_book.specs.Accounts.{charges_of, credits_of}
@@ -29,7 +27,7 @@ use Rattle.clear_views.specs.Overdue.{AreKept}
 use Rattle.clear_views.specs.Statement.{AreRead}
 use Rattle.clear_views.proofs.MissingLemmas.{missing_of_book, rows_rise}
 use Rattle.clear_views.proofs.OverdueLemmas.{few_found, interest_is, kept_found}
-use Rattle.clear_views.proofs.OwedLemmas.{book_account, book_days, book_dues, rows_are}
+use Rattle.clear_views.proofs.OwedLemmas.{rows_are}
 
 -- ---- the reports of one employer
 

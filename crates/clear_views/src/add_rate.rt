@@ -25,8 +25,5 @@ pub fn add_rate_view<S: Alter>(tx: &mut Transaction<'_, S>) -> Result<RateTable,
         → AreInRange t → IfErr result IsOfDisk }
     ensures leaves { Leaves S.Store tx.old.conn.now tx.new.conn.now result }
 {
-    match rate_table(tx) {
-        Ok(rates) => Ok(rates),
-        Err(fault) => Err(fault),
-    }
+    rate_table(tx)
 }

@@ -56,18 +56,9 @@ pub fn assign_view<S: Alter>(
         → AreInRange t → IfErr result IsOfDisk }
     ensures leaves { Leaves S.Store tx.old.conn.now tx.new.conn.now result }
 {
-    let registered = match find_member(tx, assignment.employer) {
-        Ok(member) => member.is_some(),
-        Err(fault) => return Err(fault),
-    };
-    let line = match line_under(tx, &assignment.reference) {
-        Ok(line) => line,
-        Err(fault) => return Err(fault),
-    };
-    let full = match is_full(tx, counts.serial, assignment.employer, &line) {
-        Ok(full) => full,
-        Err(fault) => return Err(fault),
-    };
+    let registered = find_member(tx, assignment.employer)?.is_some();
+    let line = line_under(tx, &assignment.reference)?;
+    let full = is_full(tx, counts.serial, assignment.employer, &line)?;
     Ok(AssignView {
         registered,
         line,
@@ -120,8 +111,6 @@ fn has_all_credits<S: Alter>(
         → AreInRange t → IfErr result IsOfDisk }
     ensures leaves { Leaves S.Store tx.old.conn.now tx.new.conn.now result }
 {
-    match credit_count(tx, employer, purpose) {
-        Ok(count) => Ok(count >= MAX_CREDITS),
-        Err(fault) => Err(fault),
-    }
+    let count = credit_count(tx, employer, purpose)?;
+    Ok(count >= MAX_CREDITS)
 }

@@ -52,18 +52,9 @@ pub fn claim_view<S: Alter>(
     let Some(next) = counts.claims.checked_add(1) else {
         return Err(Fault::Store(StoreCause::Row));
     };
-    let registered = match find_member(tx, claim.employer) {
-        Ok(member) => member.is_some(),
-        Err(fault) => return Err(fault),
-    };
-    let earned = match read_earned(tx, claim.employer, claim.worker) {
-        Ok(earned) => earned,
-        Err(fault) => return Err(fault),
-    };
-    let claimed = match read_claimed(tx, claim.worker) {
-        Ok(claimed) => claimed,
-        Err(fault) => return Err(fault),
-    };
+    let registered = find_member(tx, claim.employer)?.is_some();
+    let earned = read_earned(tx, claim.employer, claim.worker)?;
+    let claimed = read_claimed(tx, claim.worker)?;
     Ok(ClaimView {
         registered,
         employed: earned.employed,

@@ -42,14 +42,9 @@ pub fn end_view<S: Alter>(
         → AreInRange t → IfErr result IsOfDisk }
     ensures leaves { Leaves S.Store tx.old.conn.now tx.new.conn.now result }
 {
-    let member = match find_member(tx, end.employer) {
-        Ok(member) => member,
-        Err(fault) => return Err(fault),
-    };
-    match last_report(tx, end.employer) {
-        Ok(reported) => Ok(EndView { member, reported }),
-        Err(fault) => Err(fault),
-    }
+    let member = find_member(tx, end.employer)?;
+    let reported = last_report(tx, end.employer)?;
+    Ok(EndView { member, reported })
 }
 
 // The greatest month of which a firm has a report, if there is one.
@@ -66,10 +61,8 @@ fn last_report<S: Alter>(
         → AreInRange t → IfErr result IsOfDisk }
     ensures leaves { Leaves S.Store tx.old.conn.now tx.new.conn.now result }
 {
-    match reports_of(tx, employer) {
-        Ok(rows) => Ok(last_month(rows.as_slice())),
-        Err(fault) => Err(fault),
-    }
+    let rows = reports_of(tx, employer)?;
+    Ok(last_month(rows.as_slice()))
 }
 
 // The month of the last of these rows, if there is one.

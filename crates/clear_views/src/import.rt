@@ -97,15 +97,13 @@ fn read_none<S: Alter>(
     ensures reads { Reads S.Store ⊥ tx.old.conn.now tx.new.conn.now result
         (λ t. IsImportRead t serials lines.now) }
 {
-    match find_counts(tx) {
-        Ok(_) => Ok(ImportView {
-            known: Vec::new(alloc),
-            employers: Vec::new(alloc),
-            suspense: MAX_SUSPENSE,
-            serials,
-        }),
-        Err(fault) => Err(fault),
-    }
+    find_counts(tx)?;
+    Ok(ImportView {
+        known: Vec::new(alloc),
+        employers: Vec::new(alloc),
+        suspense: MAX_SUSPENSE,
+        serials,
+    })
 }
 
 // What these lines are judged by.
@@ -119,18 +117,9 @@ fn read_lines<S: Alter>(
     ensures reads { Reads S.Store (lines.now ≡ []) tx.old.conn.now tx.new.conn.now result
         (λ t. IsImportRead t serials lines.now) }
 {
-    let known = match known_lines(alloc, tx, lines) {
-        Ok(known) => known,
-        Err(fault) => return Err(fault),
-    };
-    let firms = match view_firms(alloc, tx, serving(serials, lines, MAX_CREDITS), lines) {
-        Ok(firms) => firms,
-        Err(fault) => return Err(fault),
-    };
-    let suspense = match view_suspense(tx, serials, lines, firms.all) {
-        Ok(suspense) => suspense,
-        Err(fault) => return Err(fault),
-    };
+    let known = known_lines(alloc, tx, lines)?;
+    let firms = view_firms(alloc, tx, serving(serials, lines, MAX_CREDITS), lines)?;
+    let suspense = view_suspense(tx, serials, lines, firms.all)?;
     Ok(ImportView {
         known,
         employers: firms.registered,

@@ -42,10 +42,9 @@ pub(crate) fn version_of<S: Alter>(
         → AreInRange t → IfErr result IsOfDisk }
     ensures leaves { Leaves S.Store tx.old.conn.now tx.new.conn.now result }
 {
-    match find_report(tx, employer, month) {
-        Ok(Some(row)) => Ok(Some(row.version)),
-        Ok(None) => Ok(None),
-        Err(fault) => Err(fault),
+    match find_report(tx, employer, month)? {
+        Some(row) => Ok(Some(row.version)),
+        None => Ok(None),
     }
 }
 
@@ -63,10 +62,8 @@ pub(crate) fn rate_for<S: Alter>(
         → AreInRange t → IfErr result IsOfDisk }
     ensures leaves { Leaves S.Store tx.old.conn.now tx.new.conn.now result }
 {
-    match rate_table(tx) {
-        Ok(rates) => Ok(rates.in_force(month).copied()),
-        Err(fault) => Err(fault),
-    }
+    let rates = rate_table(tx)?;
+    Ok(rates.in_force(month).copied())
 }
 
 // The claim of a number, if there is one.
@@ -83,10 +80,7 @@ pub(crate) fn claim_under<S: Alter>(
         → AreInRange t → IfErr result IsOfDisk }
     ensures leaves { Leaves S.Store tx.old.conn.now tx.new.conn.now result }
 {
-    match find_claim(tx, claim) {
-        Ok(found) => Ok(found),
-        Err(fault) => Err(fault),
-    }
+    find_claim(tx, claim)
 }
 
 // The line of a reference as it stands, if there is one.
@@ -103,10 +97,7 @@ pub(crate) fn line_under<S: Alter>(
         → AreInRange t → IfErr result IsOfDisk }
     ensures leaves { Leaves S.Store tx.old.conn.now tx.new.conn.now result }
 {
-    match find_line(tx, reference) {
-        Ok(found) => Ok(found),
-        Err(fault) => Err(fault),
-    }
+    find_line(tx, reference)
 }
 
 // Whether a day comes before the ledger day of these counts.

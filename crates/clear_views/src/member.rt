@@ -30,8 +30,5 @@ pub fn find_member<S: Alter>(
         → AreInRange t → IfErr result IsOfDisk }
     ensures leaves { Leaves S.Store tx.old.conn.now tx.new.conn.now result }
 {
-    match find_employer(tx, employer) {
-        Ok(row) => Ok(row),
-        Err(fault) => Err(fault),
-    }
+    find_employer(tx, employer)
 }

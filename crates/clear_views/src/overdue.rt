@@ -64,14 +64,8 @@ pub(crate) fn read_overdue<S: Alter>(
         → (b : Book) → IsLawful b → StandsWeighed b t → IfErr result IsOfDisk }
     ensures leaves { Leaves S.Store tx.old.conn.now tx.new.conn.now result }
 {
-    let charges = match find_charges(alloc, tx, member.employer) {
-        Ok(charges) => charges,
-        Err(fault) => return Err(fault),
-    };
-    let credits = match credits_of(tx, member.employer, Purpose::Interest) {
-        Ok(credits) => credits,
-        Err(fault) => return Err(fault),
-    };
+    let charges = find_charges(alloc, tx, member.employer)?;
+    let credits = credits_of(tx, member.employer, Purpose::Interest)?;
     overdue_on(alloc, rates, member, &charges, credits.as_slice(), day)
 }
 
@@ -91,10 +85,7 @@ fn overdue_on(
     let Some(interest) = interest_arrears(rates, charges, credits, day) else {
         return Err(Fault::Store(StoreCause::Row));
     };
-    let months = match missing_months(alloc, member, rates, charges.rows(), day) {
-        Ok(months) => months,
-        Err(_) => return Err(Fault::Memory),
-    };
+    let months = missing_months(alloc, member, rates, charges.rows(), day)?;
     Ok(Overdue {
         missing: month_count(&months),
         first: months.first().copied(),

@@ -37,13 +37,11 @@ pub fn owed<S: Alter>(
         → (b : Book) → IsLawful b → StandsWeighed b t → IfErr result IsOfDisk }
     ensures leaves { Leaves S.Store tx.old.conn.now tx.new.conn.now result }
 {
-    match find_account(alloc, tx, employer) {
-        Ok(firm) => Ok(Answer::Owed {
-            charged: firm.charges.charged(),
-            credited: firm.credited,
-            arrears: firm.charges.arrears(day),
-            prepaid: firm.credited.saturating_sub(firm.charges.charged()),
-        }),
-        Err(fault) => Err(fault),
-    }
+    let firm = find_account(alloc, tx, employer)?;
+    Ok(Answer::Owed {
+        charged: firm.charges.charged(),
+        credited: firm.credited,
+        arrears: firm.charges.arrears(day),
+        prepaid: firm.credited.saturating_sub(firm.charges.charged()),
+    })
 }

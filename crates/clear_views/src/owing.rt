@@ -63,14 +63,9 @@ pub fn find_account<S: Alter>(
         → (b : Book) → IsLawful b → StandsWeighed b t → IfErr result IsOfDisk }
     ensures leaves { Leaves S.Store tx.old.conn.now tx.new.conn.now result }
 {
-    let charges = match find_charges(alloc, tx, employer) {
-        Ok(charges) => charges,
-        Err(fault) => return Err(fault),
-    };
-    match find_credited(tx, &charges, employer) {
-        Ok(credited) => Ok(KeptAccount { charges, credited }),
-        Err(fault) => Err(fault),
-    }
+    let charges = find_charges(alloc, tx, employer)?;
+    let credited = find_credited(tx, &charges, employer)?;
+    Ok(KeptAccount { charges, credited })
 }
 
 /// The contributions of a firm as they are kept, the months rising. It reads each of them once.
@@ -88,10 +83,8 @@ pub(crate) fn find_charges<S: Alter>(
         → HasKept t employer → IfErr result IsOfDisk }
     ensures leaves { Leaves S.Store tx.old.conn.now tx.new.conn.now result }
 {
-    match charges_of(tx, employer) {
-        Ok(rows) => weigh_rows(alloc, rows.as_slice()),
-        Err(fault) => Err(fault),
-    }
+    let rows = charges_of(tx, employer)?;
+    weigh_rows(alloc, rows.as_slice())
 }
 
 // Kept contributions, each with what is open of it.
@@ -101,10 +94,7 @@ fn weigh_rows(alloc: Global, rows: &[KeptCharge]) -> Result<WeighedCharges, Faul
 {
     let mut weighed = Vec::new(alloc);
     for row in rows {
-        match weighed.push(weighed_in(row)) {
-            Ok(()) => {}
-            Err(_) => return Err(Fault::Memory),
-        }
+        weighed.push(weighed_in(row))?;
     }
     match WeighedCharges::new(weighed) {
         Some(charges) => Ok(charges),
@@ -158,10 +148,7 @@ fn add_paid<S: Alter>(tx: &mut Transaction<'_, S>, employer: EmployerNo) -> Resu
         → HasKept t employer → IfErr result IsOfDisk }
     ensures leaves { Leaves S.Store tx.old.conn.now tx.new.conn.now result }
 {
-    let amounts = match credit_amounts(tx, employer, Purpose::Contribution) {
-        Ok(amounts) => amounts,
-        Err(fault) => return Err(fault),
-    };
+    let amounts = credit_amounts(tx, employer, Purpose::Contribution)?;
     match add_amounts(amounts.as_slice()) {
         Some(cents) => Ok(cents),
         None => Err(Fault::Store(StoreCause::Row)),

@@ -44,18 +44,9 @@ pub fn register_view<S: Alter>(
         → AreInRange t → IfErr result IsOfDisk }
     ensures leaves { Leaves S.Store tx.old.conn.now tx.new.conn.now result }
 {
-    let registered = match find_member(tx, registration.employer) {
-        Ok(member) => member.is_some(),
-        Err(fault) => return Err(fault),
-    };
-    let has_rate = match rate_for(tx, registration.start) {
-        Ok(row) => row.is_some(),
-        Err(fault) => return Err(fault),
-    };
-    let employer_count = match employer_bound(tx, counts.entries) {
-        Ok(count) => count,
-        Err(fault) => return Err(fault),
-    };
+    let registered = find_member(tx, registration.employer)?.is_some();
+    let has_rate = rate_for(tx, registration.start)?.is_some();
+    let employer_count = employer_bound(tx, counts.entries)?;
     Ok(RegisterView {
         registered,
         employer_count,

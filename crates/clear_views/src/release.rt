@@ -77,10 +77,8 @@ pub fn release_view<S: Alter>(
     let Some(serials) = SerialCount::new(counts.serial) else {
         return Err(Fault::Store(StoreCause::Row));
     };
-    match find_owing(alloc, tx, counts.serial, day, claim) {
-        Ok(found) => Ok(ReleaseView { found, serials }),
-        Err(fault) => Err(fault),
-    }
+    let found = find_owing(alloc, tx, counts.serial, day, claim)?;
+    Ok(ReleaseView { found, serials })
 }
 
 // The claim of a number, if there is one, and what its firm owes on a day that is not before the
@@ -108,15 +106,11 @@ fn find_owing<S: Alter>(
         → (b : Book) → IsLawful b → StandsWeighed b t → IfErr result IsOfDisk }
     ensures leaves { Leaves S.Store tx.old.conn.now tx.new.conn.now result }
 {
-    let row = match claim_under(tx, claim) {
-        Ok(Some(row)) => row,
-        Ok(None) => return Ok(None),
-        Err(fault) => return Err(fault),
+    let Some(row) = claim_under(tx, claim)? else {
+        return Ok(None);
     };
-    match firm_debts(alloc, tx, serials, day, row.employer) {
-        Ok(debts) => Ok(Some(OwingClaim { claim: row, debts })),
-        Err(fault) => Err(fault),
-    }
+    let debts = firm_debts(alloc, tx, serials, day, row.employer)?;
+    Ok(Some(OwingClaim { claim: row, debts }))
 }
 
 // What a firm owes on a day that is not before the ledger day, and how many credits it has, where
@@ -140,20 +134,15 @@ fn firm_debts<S: Alter>(
         → IsSome (member_of b.entries employer) → IfErr result IsOfDisk }
     ensures leaves { Leaves S.Store tx.old.conn.now tx.new.conn.now result }
 {
-    let overdue = match find_overdue(alloc, tx, day, employer) {
-        Ok(overdue) => overdue,
-        Err(fault) => return Err(fault),
-    };
-    match count_contributions(tx, serials, employer) {
-        Ok(contribution_count) => Ok(FirmDebts {
-            missing: overdue.first,
-            arrears: overdue.arrears,
-            interest_arrears: overdue.interest,
-            contribution_count,
-            interest_count: overdue.interest_count,
-        }),
-        Err(fault) => Err(fault),
-    }
+    let overdue = find_overdue(alloc, tx, day, employer)?;
+    let contribution_count = count_contributions(tx, serials, employer)?;
+    Ok(FirmDebts {
+        missing: overdue.first,
+        arrears: overdue.arrears,
+        interest_arrears: overdue.interest,
+        contribution_count,
+        interest_count: overdue.interest_count,
+    })
 }
 
 // What a firm has overdue on a day that is not before the ledger day.
@@ -174,15 +163,10 @@ fn find_overdue<S: Alter>(
         → IsSome (member_of b.entries employer) → IfErr result IsOfDisk }
     ensures leaves { Leaves S.Store tx.old.conn.now tx.new.conn.now result }
 {
-    let member = match find_employer(tx, employer) {
-        Ok(Some(member)) => member,
-        Ok(None) => return Err(Fault::Store(StoreCause::Row)),
-        Err(fault) => return Err(fault),
+    let Some(member) = find_employer(tx, employer)? else {
+        return Err(Fault::Store(StoreCause::Row));
     };
-    let rates = match rate_table(tx) {
-        Ok(rates) => rates,
-        Err(fault) => return Err(fault),
-    };
+    let rates = rate_table(tx)?;
     read_overdue(alloc, tx, &rates, &member, day)
 }
 

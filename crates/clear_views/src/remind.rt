@@ -70,14 +70,9 @@ pub fn remind_view<S: Alter>(
     let Some(next) = counts.runs.checked_add(1) else {
         return Err(Fault::Store(StoreCause::Row));
     };
-    let rates = match rate_table(tx) {
-        Ok(rates) => rates,
-        Err(fault) => return Err(fault),
-    };
-    match overdue_firms(alloc, tx, &rates, day) {
-        Ok(firms) => Ok(RemindView { firms, next }),
-        Err(fault) => Err(fault),
-    }
+    let rates = rate_table(tx)?;
+    let firms = overdue_firms(alloc, tx, &rates, day)?;
+    Ok(RemindView { firms, next })
 }
 
 // All firms, with what each has overdue on a day that is not before the ledger day, at these rates,
@@ -99,20 +94,11 @@ fn overdue_firms<S: Alter>(
         → (b : Book) → IsLawful b → StandsWeighed b t → IfErr result IsOfDisk }
     ensures leaves { Leaves S.Store tx.old.conn.now tx.new.conn.now result }
 {
-    let members = match all_employers(tx) {
-        Ok(members) => members,
-        Err(fault) => return Err(fault),
-    };
+    let members = all_employers(tx)?;
     let mut firms = Vec::new(alloc);
     for member in &members {
-        let firm = match overdue_firm(alloc, tx, rates, member, day) {
-            Ok(firm) => firm,
-            Err(fault) => return Err(fault),
-        };
-        match firms.push(firm) {
-            Ok(()) => {}
-            Err(_) => return Err(Fault::Memory),
-        }
+        let firm = overdue_firm(alloc, tx, rates, member, day)?;
+        firms.push(firm)?;
     }
     Ok(firms)
 }
@@ -137,14 +123,8 @@ fn overdue_firm<S: Alter>(
         → (b : Book) → IsLawful b → StandsWeighed b t → IfErr result IsOfDisk }
     ensures leaves { Leaves S.Store tx.old.conn.now tx.new.conn.now result }
 {
-    let overdue = match read_overdue(alloc, tx, rates, member, day) {
-        Ok(overdue) => overdue,
-        Err(fault) => return Err(fault),
-    };
-    let last = match read_last(tx, member.employer) {
-        Ok(last) => last,
-        Err(fault) => return Err(fault),
-    };
+    let overdue = read_overdue(alloc, tx, rates, member, day)?;
+    let last = read_last(tx, member.employer)?;
     Ok(OverdueFirm {
         employer: member.employer,
         missing: overdue.missing,
@@ -170,10 +150,9 @@ fn read_last<S: Alter>(
         → AreInRange t → IfErr result IsOfDisk }
     ensures leaves { Leaves S.Store tx.old.conn.now tx.new.conn.now result }
 {
-    match last_reminder(tx, employer) {
-        Ok(Some(row)) => read_run(tx, &row),
-        Ok(None) => Ok(None),
-        Err(fault) => Err(fault),
+    match last_reminder(tx, employer)? {
+        Some(row) => read_run(tx, &row),
+        None => Ok(None),
     }
 }
 
@@ -192,13 +171,12 @@ fn read_run<S: Alter>(
         → AreInRange t → IfErr result IsOfDisk }
     ensures leaves { Leaves S.Store tx.old.conn.now tx.new.conn.now result }
 {
-    match find_run(tx, run_of(row)) {
-        Ok(Some(run)) => Ok(Some(LastReminder {
+    match find_run(tx, run_of(row))? {
+        Some(run) => Ok(Some(LastReminder {
             level: row.level,
             day: run.day,
         })),
-        Ok(None) => Ok(None),
-        Err(fault) => Err(fault),
+        None => Ok(None),
     }
 }
 

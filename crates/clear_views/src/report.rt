@@ -41,18 +41,9 @@ pub fn report_view<S: Alter>(
         → AreInRange t → IfErr result IsOfDisk }
     ensures leaves { Leaves S.Store tx.old.conn.now tx.new.conn.now result }
 {
-    let member = match find_member(tx, report.employer) {
-        Ok(member) => member,
-        Err(fault) => return Err(fault),
-    };
-    let version = match version_of(tx, report.employer, report.month) {
-        Ok(version) => version,
-        Err(fault) => return Err(fault),
-    };
-    let row = match rate_for(tx, report.month) {
-        Ok(row) => row,
-        Err(fault) => return Err(fault),
-    };
+    let member = find_member(tx, report.employer)?;
+    let version = version_of(tx, report.employer, report.month)?;
+    let row = rate_for(tx, report.month)?;
     Ok(ReportView {
         member,
         version,

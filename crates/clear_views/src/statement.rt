@@ -53,10 +53,9 @@ pub fn firm_head<S: Alter>(
         → IfErr result IsOfDisk }
     ensures leaves { Leaves S.Store tx.old.conn.now tx.new.conn.now result }
 {
-    match find_records(alloc, tx, day, employer) {
-        Ok(Some(records)) => make_head(alloc, &records, day),
-        Ok(None) => Ok(None),
-        Err(fault) => Err(fault),
+    match find_records(alloc, tx, day, employer)? {
+        Some(records) => make_head(alloc, &records, day),
+        None => Ok(None),
     }
 }
 
@@ -96,15 +95,11 @@ fn find_records<S: Alter>(
 {
     // The day of the records is a proof's: what is read doesn't depend on it.
     let _day = day;
-    let member = match find_employer(tx, employer) {
-        Ok(Some(member)) => member,
-        Ok(None) => return Ok(None),
-        Err(fault) => return Err(fault),
+    let Some(member) = find_employer(tx, employer)? else {
+        return Ok(None);
     };
-    match read_records(alloc, tx, member) {
-        Ok(records) => Ok(Some(records)),
-        Err(fault) => Err(fault),
-    }
+    let records = read_records(alloc, tx, member)?;
+    Ok(Some(records))
 }
 
 // The records of the statement of this firm.
@@ -122,22 +117,10 @@ fn read_records<S: Alter>(
         → (b : Book) → IsLawful b → StandsWeighed b t → IfErr result IsOfDisk }
     ensures leaves { Leaves S.Store tx.old.conn.now tx.new.conn.now result }
 {
-    let rates = match rate_table(tx) {
-        Ok(rates) => rates,
-        Err(fault) => return Err(fault),
-    };
-    let reports = match reports_of(tx, member.employer) {
-        Ok(reports) => reports,
-        Err(fault) => return Err(fault),
-    };
-    let account = match find_account(alloc, tx, member.employer) {
-        Ok(account) => account,
-        Err(fault) => return Err(fault),
-    };
-    let interest_credits = match credits_of(tx, member.employer, Purpose::Interest) {
-        Ok(credits) => credits,
-        Err(fault) => return Err(fault),
-    };
+    let rates = rate_table(tx)?;
+    let reports = reports_of(tx, member.employer)?;
+    let account = find_account(alloc, tx, member.employer)?;
+    let interest_credits = credits_of(tx, member.employer, Purpose::Interest)?;
     let prepaid = account.credited.saturating_sub(account.charges.charged());
     Ok(StatementRecords {
         member,

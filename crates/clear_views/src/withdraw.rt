@@ -37,12 +37,7 @@ pub fn withdraw_view<S: Alter>(
         → (b : Book) → IsLawful b → Stands b t → IfErr result IsOfDisk }
     ensures leaves { Leaves S.Store tx.old.conn.now tx.new.conn.now result }
 {
-    let registered = match find_member(tx, withdrawal.employer) {
-        Ok(member) => member.is_some(),
-        Err(fault) => return Err(fault),
-    };
-    match claim_under(tx, withdrawal.claim) {
-        Ok(claim) => Ok(WithdrawView { registered, claim }),
-        Err(fault) => Err(fault),
-    }
+    let registered = find_member(tx, withdrawal.employer)?.is_some();
+    let claim = claim_under(tx, withdrawal.claim)?;
+    Ok(WithdrawView { registered, claim })
 }

@@ -49,10 +49,7 @@ pub fn decide_correct(
     ensures bound { OnOk result
         ((charge_for correction.now.report view.now).cents ≤ most_base) }
 {
-    let version = match check_correction(alloc, day, correction, view) {
-        Ok(version) => version,
-        Err(rule) => return Err(rule),
-    };
+    let version = check_correction(alloc, day, correction, view)?;
     let report = &correction.report;
     let Ok(copied) = report.lines.copied() else {
         return Err(Rule::Memory);
@@ -89,26 +86,15 @@ fn check_correction(
         (All (λ line. line.gross ≤ most_gross) correction.now.report.lines) }
 {
     let report = &correction.report;
-    match check_month(day, report.month, &view.member) {
-        Ok(()) => {}
-        Err(rule) => return Err(rule),
-    }
-    let current = match current_version(view.version, correction.version) {
-        Ok(current) => current,
-        Err(rule) => return Err(rule),
-    };
+    check_month(day, report.month, &view.member)?;
+    let current = current_version(view.version, correction.version)?;
     let lines = report.lines.as_slice();
-    match check_workers(alloc, lines) {
-        Ok(()) => {}
-        Err(rule) => return Err(rule),
-    }
+    check_workers(alloc, lines)?;
     if current >= MAX_VERSIONS {
         return Err(Rule::OverLimit(Limit::Versions));
     }
-    match check_sizes(lines) {
-        Ok(()) => Ok(current + 1),
-        Err(rule) => Err(rule),
-    }
+    check_sizes(lines)?;
+    Ok(current + 1)
 }
 
 // The latest version of the month, if it is the one that is to be replaced.

@@ -50,10 +50,7 @@ pub fn decide_end(end: &MembershipEnd, view: EndView) -> Result<Decision, Rule>
     if member.last.is_some() || end.last < member.start {
         return Err(Rule::MonthOutside);
     }
-    match check_reported(reported, end.last) {
-        Ok(()) => {}
-        Err(rule) => return Err(rule),
-    }
+    check_reported(reported, end.last)?;
     let row = EmployerRow {
         employer: end.employer,
         name: member.name,

@@ -110,16 +110,13 @@ pub fn decide_import(
     ensures few { (file : List ℕ) → ReadsAs file lines.now
         → OnOk result (length (rows_viewed view.now file) ≤ most_records) }
 {
-    let NewRows { rows, repeats } = match import_rows(alloc, day, lines, view) {
-        Ok(new) => new,
-        Err(rule) => return Err(rule),
-    };
-    let new = rows.len() as u64;
+    let brought = import_rows(alloc, day, lines, view)?;
+    let new = brought.rows.len() as u64;
     Ok(Decision {
-        change: Change::AddBankLines(Rows::new(rows)),
+        change: Change::AddBankLines(Rows::new(brought.rows)),
         reply: Reply::Imported {
             new,
-            repeats: repeats as u64,
+            repeats: brought.repeats as u64,
         },
     })
 }
@@ -147,14 +144,8 @@ fn import_rows(
     ensures few { (file : List ℕ) → ReadsAs file lines.now
         → IfOk result (λ new. length new.rows.items ≤ most_records) }
 {
-    let judged = match find_new(alloc, lines, view.known.as_slice()) {
-        Ok(judged) => judged,
-        Err(rule) => return Err(rule),
-    };
-    let rows = match check_new(alloc, day, lines, judged.new.as_slice(), view) {
-        Ok(rows) => rows,
-        Err(rule) => return Err(rule),
-    };
+    let judged = find_new(alloc, lines, view.known.as_slice())?;
+    let rows = check_new(alloc, day, lines, judged.new.as_slice(), view)?;
     Ok(NewRows {
         rows,
         repeats: judged.repeats,
@@ -191,22 +182,11 @@ fn check_new(
     ensures rows { IfOk result (λ rows. rows.items ≡ rows_from (is_registered_by view.now)
         view.now.serials (new_lines view.now.known.items lines.now)) }
 {
-    match check_values(day, lines, places) {
-        Ok(()) => {}
-        Err(rule) => return Err(rule),
-    }
-    let index = match index_employers(alloc, view.employers.as_slice()) {
-        Ok(index) => index,
-        Err(_) => return Err(Rule::Memory),
-    };
-    let rows = match new_rows(alloc, lines, places, view.serials, &index) {
-        Ok(rows) => rows,
-        Err(_) => return Err(Rule::Memory),
-    };
-    match check_limits(alloc, view.suspense, &index, rows.as_slice()) {
-        Ok(()) => Ok(rows),
-        Err(rule) => Err(rule),
-    }
+    check_values(day, lines, places)?;
+    let index = index_employers(alloc, view.employers.as_slice())?;
+    let rows = new_rows(alloc, lines, places, view.serials, &index)?;
+    check_limits(alloc, view.suspense, &index, rows.as_slice())?;
+    Ok(rows)
 }
 
 // The rule on a fault of a bank file.

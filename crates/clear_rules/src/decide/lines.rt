@@ -116,10 +116,9 @@ pub(super) fn check_month(day: Day, month: Month, member: &Option<EmployerRow>) 
 pub(super) fn check_workers(alloc: Global, lines: &[WageLine]) -> Result<(), Rule>
     ensures { Refuses result (twice_rule (worker_twice lines.now)) }
 {
-    match find_worker_twice(alloc, lines) {
-        Ok(Some(worker)) => Err(Rule::WorkerTwice(worker)),
-        Ok(None) => Ok(()),
-        Err(_) => Err(Rule::Memory),
+    match find_worker_twice(alloc, lines)? {
+        Some(worker) => Err(Rule::WorkerTwice(worker)),
+        None => Ok(()),
     }
 }
 

@@ -46,10 +46,7 @@ pub fn decide_payout(alloc: Global, day: Day, view: &PayoutView) -> Result<Decis
     if view.payable.is_empty() {
         return Err(Rule::NothingToPay);
     }
-    let rows = match listed_rows(alloc, view.next, &view.payable) {
-        Ok(rows) => rows,
-        Err(_) => return Err(Rule::Memory),
-    };
+    let rows = listed_rows(alloc, view.next, &view.payable)?;
     let items = view.payable.len() as u64;
     let list = ListRow {
         list: view.next,

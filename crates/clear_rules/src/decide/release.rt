@@ -73,10 +73,7 @@ pub fn decide_release(day: Day, view: &ReleaseView) -> Result<Decision, Rule>
     let Some(found) = view.found else {
         return Err(Rule::UnknownClaim);
     };
-    let settlement = match settle_claim(&found) {
-        Ok(settlement) => settlement,
-        Err(rule) => return Err(rule),
-    };
+    let settlement = settle_claim(&found)?;
     let release = ReleasedClaim {
         day,
         settlement,

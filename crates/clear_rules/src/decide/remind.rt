@@ -71,10 +71,7 @@ pub fn decide_remind(alloc: Global, day: Day, view: &RemindView) -> Result<Decis
     ensures reply { IfOk result (λ decision. decision.reply
         ≡ Reminded view.now.next (length (rows_due day view.now))) }
 {
-    let rows = match due_rows(alloc, view.next, day, &view.firms) {
-        Ok(rows) => rows,
-        Err(_) => return Err(Rule::Memory),
-    };
+    let rows = due_rows(alloc, view.next, day, &view.firms)?;
     if rows.is_empty() {
         return Err(Rule::NothingToRemind);
     }

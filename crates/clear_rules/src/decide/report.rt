@@ -81,16 +81,11 @@ fn check_report(alloc: Global, day: Day, report: &WageReport, view: &ReportView)
     ensures few { OnOk result (length report.now.lines ≤ most_lines) }
     ensures small { OnOk result (All (λ line. line.gross ≤ most_gross) report.now.lines) }
 {
-    match check_month(day, report.month, &view.member) {
-        Ok(()) => {}
-        Err(rule) => return Err(rule),
-    }
+    check_month(day, report.month, &view.member)?;
     if let Some(version) = view.version {
         return Err(Rule::ReportExists(version));
     }
     let lines = report.lines.as_slice();
-    match check_workers(alloc, lines) {
-        Ok(()) => check_sizes(lines),
-        Err(rule) => Err(rule),
-    }
+    check_workers(alloc, lines)?;
+    check_sizes(lines)
 }

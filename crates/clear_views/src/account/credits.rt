@@ -27,11 +27,10 @@ pub fn add_credits(alloc: Global, account: &mut Plain, rows: &[CreditRow]) -> Re
     ensures fault { AreOnce credit_serial rows.now → length rows.now ≤ most_credits
         → IfErr result IsOfDisk }
 {
-    match has_serials_once(alloc, rows) {
-        Ok(true) => add_each(account, rows),
-        Ok(false) => Err(Fault::Store(StoreCause::Row)),
-        Err(_) => Err(Fault::Memory),
+    if !has_serials_once(alloc, rows)? {
+        return Err(Fault::Store(StoreCause::Row));
     }
+    add_each(account, rows)
 }
 
 // Whether no serial stands twice.
@@ -57,10 +56,7 @@ fn add_each(account: &mut Plain, rows: &[CreditRow]) -> Result<(), Fault>
     ensures fault { length rows.now ≤ most_credits → IfErr result IsOfDisk }
 {
     for row in rows {
-        match add_credit(account, row) {
-            Ok(()) => {}
-            Err(fault) => return Err(fault),
-        }
+        add_credit(account, row)?;
     }
     Ok(())
 }

@@ -30,11 +30,9 @@ pub(super) fn read_claimed<S: Alter>(
         → AreInRange t → claimed_in t worker < 2 ^ 64 → IfErr result IsOfDisk }
     ensures leaves { Leaves S.Store tx.old.conn.now tx.new.conn.now result }
 {
-    match worker_claims(tx, worker) {
-        Ok(rows) => match claimed_cents(rows.as_slice()) {
-            Some(cents) => Ok(cents),
-            None => Err(Fault::Store(StoreCause::Row)),
-        },
-        Err(fault) => Err(fault),
+    let rows = worker_claims(tx, worker)?;
+    match claimed_cents(rows.as_slice()) {
+        Some(cents) => Ok(cents),
+        None => Err(Fault::Store(StoreCause::Row)),
     }
 }

@@ -50,14 +50,9 @@ pub(super) fn read_earned<S: Alter>(
         → AreInRange t → table_entitlement t worker < 2 ^ 64 → IfErr result IsOfDisk }
     ensures leaves { Leaves S.Store tx.old.conn.now tx.new.conn.now result }
 {
-    let rates = match rate_table(tx) {
-        Ok(rates) => rates,
-        Err(fault) => return Err(fault),
-    };
-    match worker_wages(tx, worker) {
-        Ok(rows) => earned_with(&rates, rows.as_slice(), employer),
-        Err(fault) => Err(fault),
-    }
+    let rates = rate_table(tx)?;
+    let rows = worker_wages(tx, worker)?;
+    earned_with(&rates, rows.as_slice(), employer)
 }
 
 // What is earned with these lines, and whether the firm has one of them.

@@ -37,17 +37,10 @@ pub(super) fn view_firms<S: Alter>(
     ensures reads { Reads S.Store ⊤ tx.old.conn.now tx.new.conn.now result
         (λ t found. AreNamed serving t lines.now found) }
 {
-    let firms = match named_firms(alloc, lines) {
-        Ok(firms) => firms,
-        Err(_) => return Err(Fault::Memory),
-    };
-    match registered_firms(alloc, tx, serving, firms.as_slice()) {
-        Ok(registered) => {
-            let all = registered.len() == firms.len();
-            Ok(NamedFirms { registered, all })
-        }
-        Err(fault) => Err(fault),
-    }
+    let firms = named_firms(alloc, lines)?;
+    let registered = registered_firms(alloc, tx, serving, firms.as_slice())?;
+    let all = registered.len() == firms.len();
+    Ok(NamedFirms { registered, all })
 }
 
 // The firms that lines name, each once.
@@ -81,14 +74,8 @@ fn registered_firms<S: Alter>(
 {
     let mut found = Vec::new(alloc);
     for no in firms {
-        let firm = match view_firm(tx, serving, *no) {
-            Ok(firm) => firm,
-            Err(fault) => return Err(fault),
-        };
-        match push_found(&mut found, firm) {
-            Ok(()) => {}
-            Err(fault) => return Err(fault),
-        }
+        let firm = view_firm(tx, serving, *no)?;
+        push_found(&mut found, firm)?;
     }
     Ok(found)
 }
@@ -103,13 +90,12 @@ fn view_firm<S: Alter>(
     ensures reads { Reads S.Store ⊤ tx.old.conn.now tx.new.conn.now result
         (λ t found. found ≡ firm_viewed serving t no) }
 {
-    match find_employer(tx, no) {
-        Ok(Some(_)) => match count_firm(tx, serving, no) {
-            Ok(firm) => Ok(Some(firm)),
-            Err(fault) => Err(fault),
-        },
-        Ok(None) => Ok(None),
-        Err(fault) => Err(fault),
+    match find_employer(tx, no)? {
+        Some(_) => {
+            let firm = count_firm(tx, serving, no)?;
+            Ok(Some(firm))
+        }
+        None => Ok(None),
     }
 }
 
@@ -123,14 +109,8 @@ fn count_firm<S: Alter>(
     ensures reads { Reads S.Store ⊤ tx.old.conn.now tx.new.conn.now result
         (λ t firm. firm ≡ counted_firm serving t no) }
 {
-    let contribution_count = match count_credits(tx, serving, no, Purpose::Contribution) {
-        Ok(count) => count,
-        Err(fault) => return Err(fault),
-    };
-    let interest_count = match count_credits(tx, serving, no, Purpose::Interest) {
-        Ok(count) => count,
-        Err(fault) => return Err(fault),
-    };
+    let contribution_count = count_credits(tx, serving, no, Purpose::Contribution)?;
+    let interest_count = count_credits(tx, serving, no, Purpose::Interest)?;
     Ok(EmployerCredits {
         employer: no,
         contribution_count,

@@ -23,14 +23,8 @@ pub(super) fn known_lines<S: Alter>(
 {
     let mut known = Vec::new(alloc);
     for line in lines {
-        let found = match known_line(tx, line) {
-            Ok(found) => found,
-            Err(fault) => return Err(fault),
-        };
-        match push_found(&mut known, found) {
-            Ok(()) => {}
-            Err(fault) => return Err(fault),
-        }
+        let found = known_line(tx, line)?;
+        push_found(&mut known, found)?;
     }
     Ok(known)
 }
@@ -44,9 +38,8 @@ fn known_line<S: Alter>(
     ensures reads { Reads S.Store ⊥ tx.old.conn.now tx.new.conn.now result
         (λ t found. found ≡ line_found t line.now) }
 {
-    match find_line(tx, &line.reference) {
-        Ok(Some(row)) => Ok(Some(row.line)),
-        Ok(None) => Ok(None),
-        Err(fault) => Err(fault),
+    match find_line(tx, &line.reference)? {
+        Some(row) => Ok(Some(row.line)),
+        None => Ok(None),
     }
 }

@@ -19,7 +19,7 @@ pub credits_ended-nothing-requires : goal.credits_ended-nothing-requires
 credits_ended-nothing-requires c =
     omega (
       arith,
-      ap (λ (xs : List Credit). sum_by (λ (k : Credit). k.cents) xs) (c.as_slice.ensures.value ∙ c.in-Ok.ensures),
+      ap (λ (xs : List Credit). sum_by (λ (k : Credit). k.cents) xs) (c.as_slice.ensures.value ∙ c.in_ok-paid.ensures),
       credit_paid_low c.args.credit.now c.args.charges.now c.args.credits.now c.credits_before-before.result.count 0 0 c.credits_before-before.result.cents c.requires.account c.requires.after c.credits_before-before.ensures.before c.credits_before-before.ensures.from c.credits_before-before.ensures.cents,
     )
 
@@ -44,33 +44,33 @@ refill-requires-clause-charges c =
 pub refill-requires-clause-credits : goal.refill-requires-clause-credits
 refill-requires-clause-credits c =
     let n : ℕ = c.credits_ended-nothing.result.count in
-    subst (λ (xs : List Credit). length xs ≤ 100000) (sym (take_rest c.as_slice-2.result.now n ∙ ap (drop n) (c.as_slice-2.ensures.value ∙ c.in-Ok.ensures))) (credit_few c.args.credit.now c.args.charges.now c.args.credits.now c.credits_before-before.result.count n 0 c.credits_before-before.result.cents c.requires.account c.requires.after c.credits_before-before.ensures.before c.credits_before-before.ensures.from c.credits_before-before.ensures.cents)
+    subst (λ (xs : List Credit). length xs ≤ 100000) (sym (take_rest c.as_slice-2.result.now n ∙ ap (drop n) (c.as_slice-2.ensures.value ∙ c.in_ok-paid.ensures))) (credit_few c.args.credit.now c.args.charges.now c.args.credits.now c.credits_before-before.result.count n 0 c.credits_before-before.result.cents c.requires.account c.requires.after c.credits_before-before.ensures.before c.credits_before-before.ensures.from c.credits_before-before.ensures.cents)
 
 pub refill-requires-clause-owed : goal.refill-requires-clause-owed
 refill-requires-clause-owed c =
     let p : ℕ = c.charges_ended-owed.result.count in
     subst (λ (xs : List Charge). All (λ (d : Charge). d.cents ≤ 5000000000) xs) (sym (take_rest c.args.charges.now p)) (credit_each c.args.credit.now c.args.charges.now c.args.credits.now c.credits_before-before.result.count 0 c.charges_ended-owed.result.count c.credits_before-before.result.cents c.requires.account c.requires.after c.credits_before-before.ensures.before c.credits_before-before.ensures.from c.credits_before-before.ensures.cents)
 
-pub returns-in-Ok-refill-clause-pieces : goal.returns-in-Ok-refill-clause-pieces
-returns-in-Ok-refill-clause-pieces c =
+pub returns-clause-pieces : goal.returns-clause-pieces
+returns-clause-pieces c =
     let n : ℕ = c.credits_ended-nothing.result.count in
     let p : ℕ = c.charges_ended-owed.result.count in
     credit_reworked c.args.credit.now c.args.charges.now c.args.credits.now c.credits_before-before.result.count n p c.credits_before-before.result.cents c.requires.account c.requires.after c.credits_before-before.ensures.before c.credits_before-before.ensures.from c.credits_before-before.ensures.cents
-    (subst (λ (xs : List Credit). Ends (λ (k : Credit). k.cents) xs 0 n) (c.as_slice.ensures.value ∙ c.in-Ok.ensures) c.credits_ended-nothing.ensures.ends)
+    (subst (λ (xs : List Credit). Ends (λ (k : Credit). k.cents) xs 0 n) (c.as_slice.ensures.value ∙ c.in_ok-paid.ensures) c.credits_ended-nothing.ensures.ends)
     c.charges_ended-owed.ensures.ends
-    c.pieces_ended-kept.result.count c.args.pieces.now c.in-Ok-refill.fresh.items c.requires.pieces c.pieces_ended-kept.ensures.ends
-    (c.in-Ok-refill.ensures.right ∙ (λ i. pieces_behind (c.charges_ended-owed.ensures.cents i) c.credits_before-before.result.cents (take_rest c.args.charges.now p i) ((take_rest c.as_slice-2.result.now n ∙ ap (drop n) (c.as_slice-2.ensures.value ∙ c.in-Ok.ensures)) i)))
+    c.pieces_ended-kept.result.count c.args.pieces.now c.in_ok-fresh.fresh.items c.requires.pieces c.pieces_ended-kept.ensures.ends
+    (c.in_ok-fresh.ensures.right ∙ (λ i. pieces_behind (c.charges_ended-owed.ensures.cents i) c.credits_before-before.result.cents (take_rest c.args.charges.now p i) ((take_rest c.as_slice-2.result.now n ∙ ap (drop n) (c.as_slice-2.ensures.value ∙ c.in_ok-paid.ensures)) i)))
 
-pub returns-in-Ok-refill-clause-turns : goal.returns-in-Ok-refill-clause-turns
-returns-in-Ok-refill-clause-turns c =
+pub returns-clause-turns : goal.returns-clause-turns
+returns-clause-turns c =
     let n : ℕ = c.credits_ended-nothing.result.count in
     let p : ℕ = c.charges_ended-owed.result.count in
     let paid_is : take (length c.as_slice-2.result.now - n) (drop n c.as_slice-2.result.now) ≡ drop n (c.args.credit.now ∷ filter (λ l. comes_before c.args.credit.now l) c.args.credits.now) =
-    take_rest c.as_slice-2.result.now n ∙ ap (drop n) (c.as_slice-2.ensures.value ∙ c.in-Ok.ensures) in
+    take_rest c.as_slice-2.result.now n ∙ ap (drop n) (c.as_slice-2.ensures.value ∙ c.in_ok-paid.ensures) in
     credit_turns c.args.credit.now c.args.charges.now c.args.credits.now c.credits_before-before.result.count n p c.credits_before-before.result.cents c.requires.account c.requires.after c.credits_before-before.ensures.before c.credits_before-before.ensures.from c.credits_before-before.ensures.cents
-    (subst (λ (xs : List Credit). Ends (λ (k : Credit). k.cents) xs 0 n) (c.as_slice.ensures.value ∙ c.in-Ok.ensures) c.credits_ended-nothing.ensures.ends)
+    (subst (λ (xs : List Credit). Ends (λ (k : Credit). k.cents) xs 0 n) (c.as_slice.ensures.value ∙ c.in_ok-paid.ensures) c.credits_ended-nothing.ensures.ends)
     c.charges_ended-owed.ensures.ends
-    c.refill.new.turns c.in-Ok-refill.fresh.items
-    (c.in-Ok-refill.ensures.right ∙ (λ i. pieces_behind (c.charges_ended-owed.ensures.cents i) c.credits_before-before.result.cents (take_rest c.args.charges.now p i) (paid_is i)))
-    (omega (arith, c.in-Ok-refill.ensures.a_turn_a_piece))
+    c.refill.new.turns c.in_ok-fresh.fresh.items
+    (c.in_ok-fresh.ensures.right ∙ (λ i. pieces_behind (c.charges_ended-owed.ensures.cents i) c.credits_before-before.result.cents (take_rest c.args.charges.now p i) (paid_is i)))
+    (omega (arith, c.in_ok-fresh.ensures.a_turn_a_piece))
     (omega (arith, c.refill.ensures.few_turns, c.new-turns.ensures, ap length paid_is, ap length (take_rest c.args.charges.now p)))

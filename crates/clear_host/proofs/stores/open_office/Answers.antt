@@ -1,3 +1,4 @@
+use Rattle.std.proofs.lemmas.Result.{err_from_is_err_and}
 use Rattle.sqlite.specs.Files.{over_files}
 use Rattle.sqlite_wal.specs.Files.{image_at}
 use Rattle.clear_schema.specs.Faults.{IsWrong}
@@ -6,41 +7,47 @@ use Rattle.clear_host.specs.Contents.{TellsOnly, TellsOther}
 use Rattle.clear_host.proofs.RefusalLemmas.{unconnected}
 use Rattle.clear_host.proofs.stores.open_office.Goals as goal
 
-pub returns-in-Ok-clause-found : goal.returns-in-Ok-clause-found
-returns-in-Ok-clause-found g c = c.find_office.ensures.found (image_at g.S.Start) c.in-Ok.ensures.sees
+pub returns-clause-found : goal.returns-clause-found
+returns-clause-found g c = c.find_office.ensures.found (image_at g.S.Start) c.in_ok-connection.ensures.sees
 
-pub returns-in-Ok-clause-keeps : goal.returns-in-Ok-clause-keeps
-returns-in-Ok-clause-keeps g c = c.find_office.ensures.keeps (image_at g.S.Start) c.in-Ok.ensures.sees
+pub returns-clause-keeps : goal.returns-clause-keeps
+returns-clause-keeps g c = c.find_office.ensures.keeps (image_at g.S.Start) c.in_ok-connection.ensures.sees
 
-pub returns-in-Ok-clause-day : goal.returns-in-Ok-clause-day
-returns-in-Ok-clause-day g c = c.find_office.ensures.day (image_at g.S.Start) c.in-Ok.ensures.sees
+pub returns-clause-day : goal.returns-clause-day
+returns-clause-day g c = c.find_office.ensures.day (image_at g.S.Start) c.in_ok-connection.ensures.sees
 
-pub returns-in-Ok-clause-only_this : goal.returns-in-Ok-clause-only_this
-returns-in-Ok-clause-only_this g c = c.find_office.ensures.only_this (image_at g.S.Start) c.in-Ok.ensures.sees
+pub returns-clause-only_this : goal.returns-clause-only_this
+returns-clause-only_this g c = c.find_office.ensures.only_this (image_at g.S.Start) c.in_ok-connection.ensures.sees
 
-pub returns-in-Ok-clause-only_stores : goal.returns-in-Ok-clause-only_stores
-returns-in-Ok-clause-only_stores g c = c.find_office.ensures.only_stores (image_at g.S.Start) c.in-Ok.ensures.sees
+pub returns-clause-only_stores : goal.returns-clause-only_stores
+returns-clause-only_stores g c = c.find_office.ensures.only_stores (image_at g.S.Start) c.in_ok-connection.ensures.sees
 
-pub returns-in-Ok-clause-version : goal.returns-in-Ok-clause-version
-returns-in-Ok-clause-version g c = c.find_office.ensures.version (image_at g.S.Start) c.in-Ok.ensures.sees
+pub returns-clause-version : goal.returns-clause-version
+returns-clause-version g c = c.find_office.ensures.version (image_at g.S.Start) c.in_ok-connection.ensures.sees
 
-pub returns-in-Ok-clause-empty : goal.returns-in-Ok-clause-empty
-returns-in-Ok-clause-empty g c = c.find_office.ensures.empty (image_at g.S.Start) c.in-Ok.ensures.sees
+pub returns-clause-empty : goal.returns-clause-empty
+returns-clause-empty g c = c.find_office.ensures.empty (image_at g.S.Start) c.in_ok-connection.ensures.sees
 
-pub returns-in-Ok-clause-working : goal.returns-in-Ok-clause-working
-returns-in-Ok-clause-working g c = c.find_office.ensures.working
+pub returns-clause-working : goal.returns-clause-working
+returns-clause-working g c = c.find_office.ensures.working
 
-pub returns-in-Ok-clause-not_other : goal.returns-in-Ok-clause-not_other
-returns-in-Ok-clause-not_other g c = c.find_office.ensures.not_other (image_at g.S.Start) c.in-Ok.ensures.sees
+pub returns-clause-not_other : goal.returns-clause-not_other
+returns-clause-not_other g c = c.find_office.ensures.not_other (image_at g.S.Start) c.in_ok-connection.ensures.sees
 
-pub returns-in-Ok-clause-other : goal.returns-in-Ok-clause-other
-returns-in-Ok-clause-other g c = c.find_office.ensures.other (image_at g.S.Start) c.in-Ok.ensures.sees
+pub returns-clause-other : goal.returns-clause-other
+returns-clause-other g c = c.find_office.ensures.other (image_at g.S.Start) c.in_ok-connection.ensures.sees
 
-pub returns-in-Err-clause-version : goal.returns-in-Err-clause-version
-returns-in-Err-clause-version g c number holds = unconnected over_files (IsWrong this_schema number) c.in-Err.refused c.in-Err.ensures.none
+pub returns-in_err-connection-clause-version : goal.returns-in_err-connection-clause-version
+returns-in_err-connection-clause-version g c number holds =
+    let p = err_from_is_err_and c.from_residual.result c.from_residual.ensures.1 in
+    rw (p.1, p.2) (unconnected over_files (IsWrong this_schema number) c.in_err-connection.field-0.0 c.in_err-connection.ensures.none)
 
-pub returns-in-Err-clause-other : goal.returns-in-Err-clause-other
-returns-in-Err-clause-other g c holds = unconnected over_files TellsOther c.in-Err.refused c.in-Err.ensures.none
+pub returns-in_err-connection-clause-other : goal.returns-in_err-connection-clause-other
+returns-in_err-connection-clause-other g c holds =
+    let p = err_from_is_err_and c.from_residual.result c.from_residual.ensures.1 in
+    rw (p.1, p.2) (unconnected over_files TellsOther c.in_err-connection.field-0.0 c.in_err-connection.ensures.none)
 
-pub returns-in-Err-clause-empty : goal.returns-in-Err-clause-empty
-returns-in-Err-clause-empty g c nothing = unconnected over_files (TellsOnly 0) c.in-Err.refused c.in-Err.ensures.none
+pub returns-in_err-connection-clause-empty : goal.returns-in_err-connection-clause-empty
+returns-in_err-connection-clause-empty g c nothing =
+    let p = err_from_is_err_and c.from_residual.result c.from_residual.ensures.1 in
+    rw (p.1, p.2) (unconnected over_files (TellsOnly 0) c.in_err-connection.field-0.0 c.in_err-connection.ensures.none)

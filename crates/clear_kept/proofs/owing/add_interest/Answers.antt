@@ -1,4 +1,4 @@
-use Rattle.std.proofs.Common.{◌+◌, arith}
+use Rattle.std.proofs.Common.{arith}
 use Rattle.clear_kept.proofs.OwingLemmas.{interest_more}
 use Rattle.clear_kept.proofs.owing.add_interest.Goals as goal
 

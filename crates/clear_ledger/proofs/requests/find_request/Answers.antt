@@ -1,4 +1,5 @@
 use Rattle.std.proofs.Common.{◌≡◌, ◌∙◌, [], ◌∷◌, ap, filter, slice_get, subst}
+use Rattle.std.proofs.lemmas.Result.{err_from_is_err_and}
 use Rattle.std.specs.Option.{option_map}
 use Rattle.sqlite.specs.Held.{state}
 use Rattle.clear_values.specs.Tables.{request_number}
@@ -13,16 +14,17 @@ use Rattle.clear_schema.proofs.FrameLemmas.{looks_as, looks_failed, looks_read}
 use Rattle.clear_ledger.proofs.RequestTable.{answers, get}
 use Rattle.clear_ledger.proofs.requests.find_request.Goals as goal
 
-pub returns-in-Err-clause-looks : goal.returns-in-Err-clause-looks
-returns-in-Err-clause-looks g c =
+pub returns-in_err-rows-clause-looks : goal.returns-in_err-rows-clause-looks
+returns-in_err-rows-clause-looks g c =
     let old = c.args.tx.now.conn.now in
     let new = c.look.new.tx.conn.now in
     let k = request_number c.args.caller c.args.number in
     let params = number (caller_number c.args.caller) ∷ number c.args.number ∷ [] in
-    let it = rw (c.caller.ensures, c.request_no.ensures) at c.in-Err.ensures in
-    looks_as g.S.Store old new (Answers g.S.Store old new kept_shown (λ x. IsKept (kept_of x)) get params) (λ t. HasTables t (state g.S.Store old).now) (λ t. filter (λ row. is_key (request_key row) k) t.requests) (λ t has. answers g.S.Store t _ (caller_number c.args.caller) c.args.number has) _ _ _ _ _ _
+    let it = rw (c.caller.ensures, c.request_no.ensures) at c.in_err-rows.ensures in
+    let p = err_from_is_err_and c.from_residual.result c.from_residual.ensures.1 in
+    rw (p.1, p.2) (looks_as g.S.Store old new (Answers g.S.Store old new kept_shown (λ x. IsKept (kept_of x)) get params) (λ t. HasTables t (state g.S.Store old).now) (λ t. filter (λ row. is_key (request_key row) k) t.requests) (λ t has. answers g.S.Store t _ (caller_number c.args.caller) c.args.number has) _ _ _ _ _ _
     (λ t found is. is ∙ ap (option_map kept_of) (first_found request_key t.requests k)) (λ t out. subst (IsOut (λ x. IsKept (kept_of x))) (first_found request_key t.requests k) out)
-    (looks_failed g.S.Store old new kept_shown (λ x. IsKept (kept_of x)) get params c.in-Err.fault (λ xs found. option_map as_kept found ≡ option_map kept_of (slice_get xs 0)) _ (λ xs. IsOut (λ x. IsKept (kept_of x)) (slice_get xs 0)) it.no_row it.broke it.kept it.survives)
+    (looks_failed g.S.Store old new kept_shown (λ x. IsKept (kept_of x)) get params _ (λ xs found. option_map as_kept found ≡ option_map kept_of (slice_get xs 0)) _ (λ xs. IsOut (λ x. IsKept (kept_of x)) (slice_get xs 0)) it.no_row it.broke it.kept it.survives))
 
 pub returns-clause-looks : goal.returns-clause-looks
 returns-clause-looks g c =
@@ -30,8 +32,8 @@ returns-clause-looks g c =
     let new = c.look.new.tx.conn.now in
     let k = request_number c.args.caller c.args.number in
     let params = number (caller_number c.args.caller) ∷ number c.args.number ∷ [] in
-    let it = rw (c.caller.ensures, c.request_no.ensures) at c.in-Ok.ensures in
+    let it = rw (c.caller.ensures, c.request_no.ensures) at c.in_ok-rows.ensures in
     let read = rw c.deref.ensures.value at c.first_request.ensures in
     looks_as g.S.Store old new (Answers g.S.Store old new kept_shown (λ x. IsKept (kept_of x)) get params) (λ t. HasTables t (state g.S.Store old).now) (λ t. filter (λ row. is_key (request_key row) k) t.requests) (λ t has. answers g.S.Store t _ (caller_number c.args.caller) c.args.number has) _ _ _ _ _ _
     (λ t found is. is ∙ ap (option_map kept_of) (first_found request_key t.requests k)) (λ t out. subst (IsOut (λ x. IsKept (kept_of x))) (first_found request_key t.requests k) out)
-    (looks_read g.S.Store old new kept_shown (λ x. IsKept (kept_of x)) get params c.first_request.result c.in-Ok.rows.items (λ xs found. option_map as_kept found ≡ option_map kept_of (slice_get xs 0)) _ (λ xs. IsOut (λ x. IsKept (kept_of x)) (slice_get xs 0)) it.shown it.survives read.read read.good read.cause read.range)
+    (looks_read g.S.Store old new kept_shown (λ x. IsKept (kept_of x)) get params c.first_request.result c.in_ok-rows.rows.items (λ xs found. option_map as_kept found ≡ option_map kept_of (slice_get xs 0)) _ (λ xs. IsOut (λ x. IsKept (kept_of x)) (slice_get xs 0)) it.shown it.survives read.read read.good read.cause read.range)

@@ -4,5 +4,5 @@ use Rattle.clear_office.proofs.inquiry.tell_worker.Goals as goal
 
 pub returns-clause-told : goal.returns-clause-told
 returns-clause-told g c clean t has b lawful weighed =
-    let told : c.fault_of.result ≡ Memory = c.fault_of.ensures.memory (c.in-Err-worker_document.ensures.fault b lawful (c.in-Ok.ensures.records clean t has b lawful weighed.stands)) in
+    let told : c.fault_of.result ≡ Memory = c.fault_of.ensures.memory (c.in-Err.ensures.fault b lawful (c.in_ok-records.ensures.records clean t has b lawful weighed.stands)) in
     (λ is. absurd (cc (sym told ∙ is)), λ is. absurd (cc (sym told ∙ is)))

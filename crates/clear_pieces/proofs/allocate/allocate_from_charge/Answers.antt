@@ -2,10 +2,10 @@ use Rattle.clear_pieces.proofs.AltersLemmas.{alters_looked}
 use Rattle.clear_pieces.proofs.FillLemmas.{firm_read}
 use Rattle.clear_pieces.proofs.allocate.allocate_from_charge.Goals as goal
 
-pub returns-in-Ok-clause-allocates : goal.returns-in-Ok-clause-allocates
-returns-in-Ok-clause-allocates g c =
-    let read = c.in-Ok.ensures in
-    alters_looked g.S.Store c.read_firm.new.tx.conn.now c.put_from_charge.new.tx.conn.now c.put_from_charge.result c.put_from_charge.ensures.allocates c.args.tx.now.conn.now c.in-Ok.firm read.leaves
+pub returns-clause-allocates : goal.returns-clause-allocates
+returns-clause-allocates g c =
+    let read = c.in_ok-firm.ensures in
+    alters_looked g.S.Store c.read_firm.new.tx.conn.now c.put_from_charge.new.tx.conn.now c.put_from_charge.result c.put_from_charge.ensures.allocates c.args.tx.now.conn.now c.in_ok-firm.firm read.leaves
     (λ clean t has.
-    let is = firm_read t c.args.employer c.in-Ok.firm (read.charges clean t has) (read.credits clean t has) (read.rows clean t has) in
+    let is = firm_read t c.args.employer c.in_ok-firm.firm (read.charges clean t has) (read.credits clean t has) (read.rows clean t has) in
     ((λ rows put account. put (is account)), (λ sound. (is sound.0.account, sound.0, sound.1))))

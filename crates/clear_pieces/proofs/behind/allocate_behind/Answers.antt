@@ -1,10 +1,10 @@
 use Rattle.clear_pieces.proofs.AltersLemmas.{alters_looked}
 use Rattle.clear_pieces.proofs.behind.allocate_behind.Goals as goal
 
-pub returns-in-Ok-clause-allocates : goal.returns-in-Ok-clause-allocates
-returns-in-Ok-clause-allocates g c =
-    let read = c.in-Ok.ensures in
-    alters_looked g.S.Store c.read_open.new.tx.conn.now c.put_behind.new.tx.conn.now c.put_behind.result c.put_behind.ensures.allocates c.args.tx.now.conn.now c.in-Ok.firm read.leaves
+pub returns-clause-allocates : goal.returns-clause-allocates
+returns-clause-allocates g c =
+    let read = c.in_ok-firm.ensures in
+    alters_looked g.S.Store c.read_open.new.tx.conn.now c.put_behind.new.tx.conn.now c.put_behind.result c.put_behind.ensures.allocates c.args.tx.now.conn.now c.in_ok-firm.firm read.leaves
     (λ clean t has.
     let is = read.firm clean t has c.args.news.now.first in (
       (λ rows put account behind last weighed. put account (is account behind) last weighed),

@@ -1,4 +1,5 @@
 use Rattle.std.proofs.Common.{◌∙◌, ◌++◌, ◌∷◌, ◌≤◌, [], length, sym, arith}
+use Rattle.std.proofs.lemmas.Result.{err_from_is_err_and}
 use Rattle.std.proofs.lemmas.List.{take_all}
 use Rattle.clear_pieces.specs.Behind.{paid_rows}
 use Rattle.clear_pieces.proofs.PaidLemmas.{as_many, joined_good, joined_more}
@@ -6,13 +7,14 @@ use Rattle.clear_pieces.proofs.behind.join.Goals as goal
 
 pub loop-place-preserved : goal.loop-place-preserved
 loop-place-preserved c =
-    c.in-Ok-push.ensures.items
-    ∙ (λ i. c.loop-place.invariant i ++ c.in-Ok.ensures.row i ∷ [])
+    c.in-Ok.ensures.items
+    ∙ (λ i. c.loop-place.invariant i ++ c.in_ok-row.ensures.row i ∷ [])
     ∙ sym (joined_more c.args.kept.now c.args.paid.now c.requires c.loop-place.place c.index-kept-place.result c.index-paid-place.result c.loop-place-test.true c.index-kept-place.is c.index-paid-place.is)
 
-pub returns-in-Err-clause-fault : goal.returns-in-Err-clause-fault
-returns-in-Err-clause-fault c all =
-    c.in-Err.ensures.fault (joined_good c.args.kept.now c.args.paid.now c.requires c.loop-place.place c.index-kept-place.result c.index-paid-place.result c.loop-place-test.true c.index-kept-place.is c.index-paid-place.is all)
+pub returns-in_err-row-clause-fault : goal.returns-in_err-row-clause-fault
+returns-in_err-row-clause-fault c all =
+    let p = err_from_is_err_and c.from_residual.result c.from_residual.ensures.1 in
+    rw (p.1, p.2) (c.in_err-row.ensures.fault (joined_good c.args.kept.now c.args.paid.now c.requires c.loop-place.place c.index-kept-place.result c.index-paid-place.result c.loop-place-test.true c.index-kept-place.is c.index-paid-place.is all))
 
 pub returns-clause-rows : goal.returns-clause-rows
 returns-clause-rows c =

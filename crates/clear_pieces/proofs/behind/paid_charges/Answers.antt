@@ -7,4 +7,4 @@ join-requires c =
     let account = c.args.firm.now.unpaid.account in
     let same : length c.as_slice.result.now ≡ length account.charges = omega (arith, c.as_slice.ensures.len, c.if-len-all_charges.false, c.len.ensures, ap length c.all_charges.ensures.value) in
     rest_as_many c.args.employer c.as_slice.result.now account.charges account.credits c.args.front.count same
-    ∙ sym (ap length (c.as_slice-in-Ok.ensures.value ∙ c.in-Ok.ensures.rows))
+    ∙ sym (ap length (c.as_slice-2.ensures.value ∙ c.in_ok-paid.ensures.rows))

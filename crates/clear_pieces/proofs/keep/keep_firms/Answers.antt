@@ -4,6 +4,7 @@ use Rattle.std.specs.List.{All}
 use Rattle.std.specs.List.Sorted.{IsStrictlySortedBy}
 use Rattle.std.specs.Map.{keys_of}
 use Rattle.std.specs.Ordering.{nat_cmp}
+use Rattle.std.proofs.lemmas.Result.{err_from_is_err_and}
 use Rattle.std.proofs.lemmas.List.Elements.{All-head, All-tail}
 use Rattle.std.proofs.lemmas.Map.Keys.{sorted_tail}
 use Rattle.clear_laws.proofs.WeighedFollowsLemmas.{is_among}
@@ -39,11 +40,12 @@ loop-employer-preserved g c =
       found = All-tail (λ (entry : ℕ × NewCredits). get nat_cmp c.args.firms.now entry.0 ≡ Some entry.1) (e, credits) rest found;
       done = λ news are.
           let before : Progress g.S.Store c.args.tx.now.conn.now news c.loop-employer.tx.conn.now (Ok tt) (e ∷ keys_of rest) = subst (λ (es : List (ℕ × NewCredits)). Progress g.S.Store c.args.tx.now.conn.now news c.loop-employer.tx.conn.now (Ok tt) (keys_of es)) steps (so_far.done news are) in
-          one_done g.S.Store c.args.tx.now.conn.now news (get nat_cmp c.args.firms.now) are c.loop-employer.tx.conn.now c.allocate_from_credits.new.tx.conn.now e credits (keys_of rest) (All-head (λ (entry : ℕ × NewCredits). get nat_cmp c.args.firms.now entry.0 ≡ Some entry.1) (e, credits) rest found) (stands_once e (keys_of rest) sorted) before (Ok tt) c.in-Ok.ensures.allocates;
+          one_done g.S.Store c.args.tx.now.conn.now news (get nat_cmp c.args.firms.now) are c.loop-employer.tx.conn.now c.allocate_from_credits.new.tx.conn.now e credits (keys_of rest) (All-head (λ (entry : ℕ × NewCredits). get nat_cmp c.args.firms.now entry.0 ≡ Some entry.1) (e, credits) rest found) (stands_once e (keys_of rest) sorted) before (Ok tt) c.in_ok-allocate_from_credits.ensures.allocates;
     }
 
-pub returns-in-Err-clause-keeps : goal.returns-in-Err-clause-keeps
-returns-in-Err-clause-keeps g c = λ news are.
+pub returns-in_err-allocate_from_credits-clause-keeps : goal.returns-in_err-allocate_from_credits-clause-keeps
+returns-in_err-allocate_from_credits-clause-keeps g c = λ news are.
+    let p = err_from_is_err_and c.from_residual.result c.from_residual.ensures.1 in
     let so_far = c.loop-employer.invariant in
     let e = c.in-Some.employer.now in
     let credits = c.in-Some.credits.now in
@@ -52,8 +54,8 @@ returns-in-Err-clause-keeps g c = λ news are.
     let sorted : IsStrictlySortedBy nat_cmp (e ∷ keys_of rest) = subst (λ (es : List (ℕ × NewCredits)). IsStrictlySortedBy nat_cmp (keys_of es)) steps so_far.sorted in
     let found : All (λ (entry : ℕ × NewCredits). get nat_cmp c.args.firms.now entry.0 ≡ Some entry.1) ((e, credits) ∷ rest) = subst (All (λ (entry : ℕ × NewCredits). get nat_cmp c.args.firms.now entry.0 ≡ Some entry.1)) steps so_far.found in
     let before : Progress g.S.Store c.args.tx.now.conn.now news c.loop-employer.tx.conn.now (Ok tt) (e ∷ keys_of rest) = subst (λ (es : List (ℕ × NewCredits)). Progress g.S.Store c.args.tx.now.conn.now news c.loop-employer.tx.conn.now (Ok tt) (keys_of es)) steps (so_far.done news are) in
-    one_failed g.S.Store c.args.tx.now.conn.now news c.allocate_from_credits.new.tx.conn.now (keys_of rest) c.in-Err.fault
-    (one_done g.S.Store c.args.tx.now.conn.now news (get nat_cmp c.args.firms.now) are c.loop-employer.tx.conn.now c.allocate_from_credits.new.tx.conn.now e credits (keys_of rest) (All-head (λ (entry : ℕ × NewCredits). get nat_cmp c.args.firms.now entry.0 ≡ Some entry.1) (e, credits) rest found) (stands_once e (keys_of rest) sorted) before (Err c.in-Err.fault) c.in-Err.ensures.allocates)
+    rw (p.1, p.2) (one_failed g.S.Store c.args.tx.now.conn.now news c.allocate_from_credits.new.tx.conn.now (keys_of rest) c.in_err-allocate_from_credits.field-0.0
+    (one_done g.S.Store c.args.tx.now.conn.now news (get nat_cmp c.args.firms.now) are c.loop-employer.tx.conn.now c.allocate_from_credits.new.tx.conn.now e credits (keys_of rest) (All-head (λ (entry : ℕ × NewCredits). get nat_cmp c.args.firms.now entry.0 ≡ Some entry.1) (e, credits) rest found) (stands_once e (keys_of rest) sorted) before (Err c.in_err-allocate_from_credits.field-0.0) c.in_err-allocate_from_credits.ensures.allocates))
 
 pub returns-clause-keeps : goal.returns-clause-keeps
 returns-clause-keeps g c = λ news are.

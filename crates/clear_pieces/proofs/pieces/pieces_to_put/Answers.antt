@@ -10,24 +10,24 @@ use Rattle.clear_pieces.specs.Firm.{HasItsRows, pieces_from, rows_placed}
 use Rattle.clear_pieces.proofs.PieceLemmas.{all_behind, left_in_range, rows_behind}
 use Rattle.clear_pieces.proofs.pieces.pieces_to_put.Goals as goal
 
-rows_are : (c : goal.After-drop-placed) → HasItsRows c.args.firm.now → c.in-Ok-rows_of.rows.items ≡ pieces_from c.args.firm.now c.args.start.now
+rows_are : (c : goal.After-drop-placed) → HasItsRows c.args.firm.now → c.in-Ok.rows.items ≡ pieces_from c.args.firm.now c.args.start.now
 rows_are c same =
     let firm = c.args.firm.now in
     let start = c.args.start.now in
     let n = start.credits.count in
     let found = c.as_slice.result.now in
     let rows : take (length found - n) (drop n found) ≡ drop n firm.rows.items = take_rest found n ∙ ap (drop n) c.as_slice.ensures.value in
-    let pieces = c.as_slice-in-Ok.ensures.value ∙ c.in-Ok.ensures.pieces in
-    c.in-Ok-rows_of.ensures
+    let pieces = c.as_slice-2.ensures.value ∙ c.in_ok-placed.ensures.pieces in
+    c.in-Ok.ensures
     ∙ (λ i. rows_placed (rows i) (pieces i))
     ∙ (λ i. rows_placed (drop n firm.rows.items) (map (placed (drop n (c.all_credits-credits.ensures i))) (pieces_behind start.charges.cents start.credits.cents (drop start.charges.count (c.all_charges.ensures.value i)) (drop n (c.all_credits-credits.ensures i)))))
     ∙ rows_behind start.charges.cents start.credits.cents n (drop start.charges.count firm.account.charges) firm.account.credits firm.rows.items c.all_charges.ensures.account.serials_differ same
 
-pub returns-in-Ok-rows_of-clause-rows : goal.returns-in-Ok-rows_of-clause-rows
-returns-in-Ok-rows_of-clause-rows c same = rows_are c same
+pub returns-in-Ok-clause-rows : goal.returns-in-Ok-clause-rows
+returns-in-Ok-clause-rows c same = rows_are c same
 
-pub returns-in-Ok-rows_of-clause-ranges : goal.returns-in-Ok-rows_of-clause-ranges
-returns-in-Ok-rows_of-clause-ranges c same in_range =
+pub returns-in-Ok-clause-ranges : goal.returns-in-Ok-clause-ranges
+returns-in-Ok-clause-ranges c same in_range =
     let firm = c.args.firm.now in
     let start = c.args.start.now in
     subst (AllByRecursion IsPieceRow) (sym (rows_are c same))

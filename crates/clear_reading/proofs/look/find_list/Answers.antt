@@ -8,5 +8,5 @@ use Rattle.clear_reading.proofs.look.find_list.Goals as goal
 
 pub returns-clause-tells : goal.returns-clause-tells
 returns-clause-tells g c =
-    tells_one g.S.Store _ list_shown IsListRow c.args.conn.now c.in-Ok.rows.conn.now c.first_row.new.rows.conn.now _ (λ t. find_row list_key t.lists (c.args.list ∷ [])) c.first_row.result (search rules) c.in-Ok.ensures.begun c.first_row.ensures.tells
+    tells_one g.S.Store _ list_shown IsListRow c.args.conn.now c.in_ok-rows.rows.conn.now c.first_row.new.rows.conn.now _ (λ t. find_row list_key t.lists (c.args.list ∷ [])) c.first_row.result (search rules) c.in_ok-rows.ensures.begun c.first_row.ensures.tells
     (λ t ranges. one_in_range list_key IsListRow t.lists (c.args.list ∷ []) ranges.lists)

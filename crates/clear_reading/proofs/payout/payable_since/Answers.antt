@@ -1,4 +1,4 @@
-use Rattle.std.proofs.lemmas.Result.{IfOk-weaker}
+use Rattle.std.proofs.lemmas.Result.{err_from_is_err_and, IfOk-weaker}
 use Rattle.sqlite_keyed.proofs.ListLemmas.{all-filter}
 use Rattle.clear_values.specs.RowRanges.{IsClaimRow}
 use Rattle.clear_book.specs.Workers.{is_payable}
@@ -6,20 +6,22 @@ use Rattle.clear_values.specs.Payouts.{is_released_since}
 use Rattle.clear_reading.proofs.PayoutLemmas.{among_is, paid_below, viewed}
 use Rattle.clear_reading.proofs.payout.payable_since.Goals as goal
 
-pub returns-in-Ok-clause-claims : goal.returns-in-Ok-clause-claims
-returns-in-Ok-clause-claims g c clean t has =
-    IfOk-weaker c.view_of.result _ _ (λ view told. among_is (λ row. is_payable row.state) c.args.since t _ has c.in-Ok.rows.items view.payable.items (c.in-Ok.ensures.looks.found clean t has) told.payable_is) c.view_of.ensures.view
+pub returns-clause-claims : goal.returns-clause-claims
+returns-clause-claims g c clean t has =
+    IfOk-weaker c.view_of.result _ _ (λ view told. among_is (λ row. is_payable row.state) c.args.since t _ has c.in_ok-rows.rows.items view.payable.items (c.in_ok-rows.ensures.looks.found clean t has) told.payable_is) c.view_of.ensures.view
 
-pub returns-in-Ok-clause-view : goal.returns-in-Ok-clause-view
-returns-in-Ok-clause-view g c clean t has late =
-    IfOk-weaker c.view_of.result _ _ (λ view told. viewed c.args.since c.args.next t.claims c.in-Ok.rows.items (c.in-Ok.ensures.looks.found clean t has) late view told) c.view_of.ensures.view
+pub returns-clause-view : goal.returns-clause-view
+returns-clause-view g c clean t has late =
+    IfOk-weaker c.view_of.result _ _ (λ view told. viewed c.args.since c.args.next t.claims c.in_ok-rows.rows.items (c.in_ok-rows.ensures.looks.found clean t has) late view told) c.view_of.ensures.view
 
-pub returns-in-Ok-clause-fault : goal.returns-in-Ok-clause-fault
-returns-in-Ok-clause-fault g c clean t has ranges few =
-    c.view_of.ensures.fault (paid_below c.args.since t c.in-Ok.rows.items (c.in-Ok.ensures.looks.found clean t has) ranges few)
+pub returns-clause-fault : goal.returns-clause-fault
+returns-clause-fault g c clean t has ranges few =
+    c.view_of.ensures.fault (paid_below c.args.since t c.in_ok-rows.rows.items (c.in_ok-rows.ensures.looks.found clean t has) ranges few)
 
-pub returns-in-Err-clause-fault : goal.returns-in-Err-clause-fault
-returns-in-Err-clause-fault g c clean t has ranges few = (
-  c.in-Err.ensures.looks.cause clean t has,
-  λ told. c.in-Err.ensures.looks.range clean t has told (all-filter IsClaimRow (λ row. is_released_since c.args.since row.state) t.claims ranges.claims),
-)
+pub returns-in_err-rows-clause-fault : goal.returns-in_err-rows-clause-fault
+returns-in_err-rows-clause-fault g c clean t has ranges few =
+    let p = err_from_is_err_and c.from_residual.result c.from_residual.ensures.1 in
+    rw (p.1, p.2) (
+      c.in_err-rows.ensures.looks.cause clean t has,
+      λ told. c.in_err-rows.ensures.looks.range clean t has told (all-filter IsClaimRow (λ row. is_released_since c.args.since row.state) t.claims ranges.claims),
+    )

@@ -75,10 +75,7 @@ pub(super) fn check_limits(
     if suspense.saturating_add(count_waiting(rows)) > MAX_SUSPENSE {
         return Err(Rule::OverLimit(Limit::Suspense));
     }
-    let counts = match count_all_credits(alloc, rows) {
-        Ok(counts) => counts,
-        Err(_) => return Err(Rule::Memory),
-    };
+    let counts = count_all_credits(alloc, rows)?;
     if has_over(index, &counts, rows) {
         return Err(Rule::OverLimit(Limit::Credits));
     }

@@ -13,9 +13,9 @@ returns-clause-view g c clean t has same b stands =
     let end = state g.S.Store c.is_full.new.tx.conn.now in
     let clean_two = was_clean two end c.is_full.ensures.leaves.survives clean in
     let clean_one = was_clean one two c.line_under.ensures.leaves.survives clean_two in
-    let has_one = still t old one (c.in-Ok.ensures.leaves.same clean_one t has) has in
-    let has_two = still t one two (c.in-Ok-line_under.ensures.leaves.same clean_two t has_one) has_one in
+    let has_one = still t old one (c.in_ok-find_member.ensures.leaves.same clean_one t has) has in
+    let has_two = still t one two (c.in_ok-line.ensures.leaves.same clean_two t has_one) has_one in
     assign_viewed b t stands c.args.assignment.now _ c.args.counts.now.serial (ap (λ (x : Counts). x.serial) same)
-    c.in-Ok.member c.is_some-registered.ensures (c.in-Ok.ensures.member clean_one t has)
-    (c.in-Ok-line_under.ensures.line clean_two t has_one)
-    (c.in-Ok-is_full.ensures.full clean t has_two)
+    c.in_ok-find_member.field-0 c.is_some-registered.ensures (c.in_ok-find_member.ensures.member clean_one t has)
+    (c.in_ok-line.ensures.line clean_two t has_one)
+    (c.in_ok-full.ensures.full clean t has_two)

@@ -1,10 +1,13 @@
 use Rattle.std.proofs.Common.{◌==◌}
+use Rattle.std.proofs.lemmas.Result.{err_from_is_err_and}
 use Rattle.sqlite_trees.proofs.ListLemmas.{all-filter}
 use Rattle.clear_book.specs.RowRanges.{IsReportRow}
 use Rattle.clear_views.proofs.end.last_report.Goals as goal
 
-pub returns-in-Err-clause-fault : goal.returns-in-Err-clause-fault
-returns-in-Err-clause-fault g c clean t has within = (
-  c.in-Err.ensures.looks.cause clean t has,
-  λ told. c.in-Err.ensures.looks.range clean t has told (all-filter IsReportRow (λ row. row.employer == c.args.employer) t.reports within.reports),
-)
+pub returns-in_err-rows-clause-fault : goal.returns-in_err-rows-clause-fault
+returns-in_err-rows-clause-fault g c clean t has within =
+    let p = err_from_is_err_and c.from_residual.result c.from_residual.ensures.1 in
+    rw (p.1, p.2) (
+      c.in_err-rows.ensures.looks.cause clean t has,
+      λ told. c.in_err-rows.ensures.looks.range clean t has told (all-filter IsReportRow (λ row. row.employer == c.args.employer) t.reports within.reports),
+    )

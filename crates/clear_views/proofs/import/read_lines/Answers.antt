@@ -10,20 +10,20 @@ returns-clause-reads g c = record {
   each = λ clean t has.
       let none = c.args.lines.now ≡ [] in
       let later = was_clean _ _ c.view_suspense.ensures.reads.survives clean in
-      let known = c.in-Ok.ensures.reads.each (was_clean _ _ c.view_firms.ensures.reads.survives later) t has in
+      let known = c.in_ok-known.ensures.reads.each (was_clean _ _ c.view_firms.ensures.reads.survives later) t has in
       let firms =
-      reads_then g.S.Store t none ⊤ none c.args.tx.now.conn.now c.known_lines.new.tx.conn.now c.view_firms.new.tx.conn.now _ (Ok c.in-Ok-view_firms.firms) _ _ (λ p _. p) has known
-      (λ still. c.in-Ok-view_firms.ensures.reads.each later t still) in
+      reads_then g.S.Store t none ⊤ none c.args.tx.now.conn.now c.known_lines.new.tx.conn.now c.view_firms.new.tx.conn.now _ (Ok c.in_ok-firms.firms) _ _ (λ p _. p) has known
+      (λ still. c.in_ok-firms.ensures.reads.each later t still) in
       let all =
-      reads_then g.S.Store t none ⊤ none c.args.tx.now.conn.now c.view_firms.new.tx.conn.now c.view_suspense.new.tx.conn.now _ (Ok c.in-Ok-view_suspense.suspense) _ _ (λ p _. p) has firms
-      (λ still. c.in-Ok-view_suspense.ensures.reads.each clean t still) in
-      reads_else g.S.Store t none none _ _ c.in-Ok-view_suspense.suspense _ _ _ (λ p. p)
+      reads_then g.S.Store t none ⊤ none c.args.tx.now.conn.now c.view_firms.new.tx.conn.now c.view_suspense.new.tx.conn.now _ (Ok c.in_ok-suspense.suspense) _ _ (λ p _. p) has firms
+      (λ still. c.in_ok-suspense.ensures.reads.each clean t still) in
+      reads_else g.S.Store t none none _ _ c.in_ok-suspense.suspense _ _ _ (λ p. p)
       (record {
         known = known.found;
         serving = c.serving.result;
         serves = c.serving.ensures;
         employers = firms.found.viewed;
-        suspense = suspense_read t c.args.serials c.args.lines.now c.serving.result c.in-Ok-view_firms.firms _ firms.found all.found;
+        suspense = suspense_read t c.args.serials c.args.lines.now c.serving.result c.in_ok-firms.firms _ firms.found all.found;
         serials_is = refl;
       })
       all;

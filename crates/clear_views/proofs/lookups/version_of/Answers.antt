@@ -1,9 +1,11 @@
 use Rattle.std.proofs.Common.{[], ◌∷◌}
+use Rattle.std.proofs.lemmas.Result.{err_from_is_err_and}
 use Rattle.clear_book.specs.RowRanges.{IsReportRow}
 use Rattle.clear_book.specs.Tables.{report_key}
 use Rattle.clear_views.proofs.FaultLemmas.{found_in_range}
 use Rattle.clear_views.proofs.lookups.version_of.Goals as goal
 
-pub returns-in-Err-clause-fault : goal.returns-in-Err-clause-fault
-returns-in-Err-clause-fault g c clean t has good =
-    found_in_range report_key IsReportRow t.reports (c.args.employer ∷ c.args.month ∷ []) c.in-Err.fault (c.in-Err.ensures.looks.cause clean t has) (c.in-Err.ensures.looks.range clean t has) good.reports
+pub returns-in_err-row-clause-fault : goal.returns-in_err-row-clause-fault
+returns-in_err-row-clause-fault g c clean t has good =
+    let p = err_from_is_err_and c.from_residual.result c.from_residual.ensures.1 in
+    rw (p.1, p.2) (found_in_range report_key IsReportRow t.reports (c.args.employer ∷ c.args.month ∷ []) c.in_err-row.field-0.0 (c.in_err-row.ensures.looks.cause clean t has) (c.in_err-row.ensures.looks.range clean t has) good.reports)

@@ -1,9 +1,9 @@
 use Rattle.std.proofs.Common.{[], ◌∷◌}
 use Rattle.clear_book.specs.RowRanges.{IsEmployerRow}
 use Rattle.clear_book.specs.Tables.{employer_key}
-use Rattle.clear_views.proofs.FaultLemmas.{found_in_range}
+use Rattle.clear_views.proofs.FaultLemmas.{look_in_range}
 use Rattle.clear_views.proofs.member.find_member.Goals as goal
 
-pub returns-in-Err-clause-fault : goal.returns-in-Err-clause-fault
-returns-in-Err-clause-fault g c clean t has good =
-    found_in_range employer_key IsEmployerRow t.employers (c.args.employer ∷ []) c.in-Err.fault (c.in-Err.ensures.looks.cause clean t has) (c.in-Err.ensures.looks.range clean t has) good.employers
+pub returns-clause-fault : goal.returns-clause-fault
+returns-clause-fault g c clean t has good =
+    look_in_range employer_key IsEmployerRow t.employers (c.args.employer ∷ []) c.find_employer.result (c.find_employer.ensures.looks.cause clean t has) (c.find_employer.ensures.looks.range clean t has) good.employers

@@ -1,4 +1,5 @@
 use Rattle.std.proofs.Common.{◌∙◌}
+use Rattle.std.proofs.lemmas.Result.{err_from_is_err_and}
 use Rattle.sqlite.specs.Held.{state}
 use Rattle.sqlite_trees.proofs.ListLemmas.{all-filter}
 use Rattle.clear_bank.specs.declared.lines.Purpose.TheVariants.{Interest}
@@ -10,18 +11,22 @@ use Rattle.clear_views.proofs.OwedLemmas.{has_kept}
 use Rattle.clear_views.proofs.ReadLemmas.{was_clean, still}
 use Rattle.clear_views.proofs.overdue.read_overdue.Goals as goal
 
-pub returns-in-Err-clause-fault : goal.returns-in-Err-clause-fault
-returns-in-Err-clause-fault g c clean t has b lawful stands = c.in-Err.ensures.fault clean t has (has_kept b t lawful stands c.args.member.now.employer)
+pub returns-in_err-charges-clause-fault : goal.returns-in_err-charges-clause-fault
+returns-in_err-charges-clause-fault g c clean t has b lawful stands =
+    let p = err_from_is_err_and c.from_residual.result c.from_residual.ensures.1 in
+    rw (p.1, p.2) (c.in_err-charges.ensures.fault clean t has (has_kept b t lawful stands c.args.member.now.employer))
 
-pub returns-in-Err-credits_of-clause-fault : goal.returns-in-Err-credits_of-clause-fault
-returns-in-Err-credits_of-clause-fault g c clean t has b lawful stands =
+pub returns-in_err-credits-clause-fault : goal.returns-in_err-credits-clause-fault
+returns-in_err-credits-clause-fault g c clean t has b lawful stands =
+    let p = err_from_is_err_and c.from_residual-in_err-credits.result c.from_residual-in_err-credits.ensures.1 in
     let old = state g.S.Store c.args.tx.now.conn.now in
     let one = state g.S.Store c.find_charges.new.tx.conn.now in
     let end = state g.S.Store c.credits_of.new.tx.conn.now in
-    let clean_one = was_clean one end c.in-Err-credits_of.ensures.looks.survives clean in
-    let has_one = still t old one (c.in-Ok.ensures.leaves.same clean_one t has) has in (
-      c.in-Err-credits_of.ensures.looks.cause clean t has_one,
-      λ told. c.in-Err-credits_of.ensures.looks.range clean t has_one told (all-filter IsCreditRow (is_credit_of c.args.member.now.employer Interest) t.credits (rows_in_range b t lawful stands.stands).credits),
+    let clean_one = was_clean one end c.in_err-credits.ensures.looks.survives clean in
+    let has_one = still t old one (c.in_ok-charges.ensures.leaves.same clean_one t has) has in
+    rw (p.1, p.2) (
+      c.in_err-credits.ensures.looks.cause clean t has_one,
+      λ told. c.in_err-credits.ensures.looks.range clean t has_one told (all-filter IsCreditRow (is_credit_of c.args.member.now.employer Interest) t.credits (rows_in_range b t lawful stands.stands).credits),
     )
 
 pub returns-clause-overdue : goal.returns-clause-overdue
@@ -29,17 +34,17 @@ returns-clause-overdue g c clean t has b lawful stands back rated firm =
     let old = state g.S.Store c.args.tx.now.conn.now in
     let one = state g.S.Store c.find_charges.new.tx.conn.now in
     let end = state g.S.Store c.credits_of.new.tx.conn.now in
-    let clean_one = was_clean one end c.in-Ok-credits_of.ensures.looks.survives clean in
-    let has_one = still t old one (c.in-Ok.ensures.leaves.same clean_one t has) has in
+    let clean_one = was_clean one end c.in_ok-credits.ensures.looks.survives clean in
+    let has_one = still t old one (c.in_ok-charges.ensures.leaves.same clean_one t has) has in
     c.overdue_on.ensures.overdue b
-    (kept_found b t lawful stands c.args.day back c.args.rates.now c.args.member.now c.in-Ok.charges c.as_slice.result.now rated firm
-    (c.in-Ok.ensures.charges clean_one t has) (c.as_slice.ensures.value ∙ c.in-Ok-credits_of.ensures.looks.found clean t has_one))
+    (kept_found b t lawful stands c.args.day back c.args.rates.now c.args.member.now c.in_ok-charges.charges c.as_slice.result.now rated firm
+    (c.in_ok-charges.ensures.charges clean_one t has) (c.as_slice.ensures.value ∙ c.in_ok-credits.ensures.looks.found clean t has_one))
 
 pub returns-clause-fault : goal.returns-clause-fault
 returns-clause-fault g c clean t has b lawful stands =
     let old = state g.S.Store c.args.tx.now.conn.now in
     let one = state g.S.Store c.find_charges.new.tx.conn.now in
     let end = state g.S.Store c.credits_of.new.tx.conn.now in
-    let clean_one = was_clean one end c.in-Ok-credits_of.ensures.looks.survives clean in
-    let has_one = still t old one (c.in-Ok.ensures.leaves.same clean_one t has) has in
-    c.overdue_on.ensures.fault (few_found b t lawful stands c.args.member.now.employer c.as_slice.result.now (c.as_slice.ensures.value ∙ c.in-Ok-credits_of.ensures.looks.found clean t has_one))
+    let clean_one = was_clean one end c.in_ok-credits.ensures.looks.survives clean in
+    let has_one = still t old one (c.in_ok-charges.ensures.leaves.same clean_one t has) has in
+    c.overdue_on.ensures.fault (few_found b t lawful stands c.args.member.now.employer c.as_slice.result.now (c.as_slice.ensures.value ∙ c.in_ok-credits.ensures.looks.found clean t has_one))

@@ -2,7 +2,7 @@ use Rattle.std.proofs.Common.{◌-◌, ◌∙◌, ℕ, ap}
 use Rattle.clear_views.proofs.OwedLemmas.{owed_told}
 use Rattle.clear_views.proofs.owed.owed.Goals as goal
 
-pub returns-in-Ok-clause-answer : goal.returns-in-Ok-clause-answer
-returns-in-Ok-clause-answer g c clean t has b lawful stands =
-    let found = c.in-Ok.ensures.account clean t has b lawful stands in
-    owed_told b t lawful stands c.args.employer c.args.day c.in-Ok.firm.charges c.in-Ok.firm.credited _ _ _ found.0 found.1 c.charged.ensures c.arrears.ensures (c.saturating_sub.ensures ∙ ap (λ (n : ℕ). c.in-Ok.firm.credited - n) c.charged-in-Ok.ensures)
+pub returns-clause-answer : goal.returns-clause-answer
+returns-clause-answer g c clean t has b lawful stands =
+    let found = c.in_ok-firm.ensures.account clean t has b lawful stands in
+    owed_told b t lawful stands c.args.employer c.args.day c.in_ok-firm.firm.charges c.in_ok-firm.firm.credited _ _ _ found.0 found.1 c.charged.ensures c.arrears.ensures (c.saturating_sub.ensures ∙ ap (λ (n : ℕ). c.in_ok-firm.firm.credited - n) c.charged-2.ensures)

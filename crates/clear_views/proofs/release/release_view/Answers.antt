@@ -18,12 +18,12 @@ returns-in_default-clause-fault g c clean t has same back b lawful stands =
     let no : false ≡ true = c.in_default.ensures.some.1 (omega (arith, given, few)) in
     absurd (cc no)
 
-pub returns-in-Ok-clause-view : goal.returns-in-Ok-clause-view
-returns-in-Ok-clause-view g c clean t has same b lawful stands =
+pub returns-clause-view : goal.returns-clause-view
+returns-clause-view g c clean t has same b lawful stands =
     let given = ap (λ (x : Counts). x.serial) same in
     let back = day_free c.args.counts.now.day t.day c.args.day c.is_day_back.result (ap (λ (x : Counts). x.day) same) c.is_day_back.ensures c.if-is_day_back.false in
     record {
-      claim_is = c.in-Ok.ensures.claim clean t has ∙ ap (λ (claims : List ClaimRow). find_row claim_key claims (c.args.claim ∷ [])) stands.stands.claims;
-      debts_are = c.in-Ok.ensures.debts clean t has given back b lawful stands;
+      claim_is = c.in_ok-found.ensures.claim clean t has ∙ ap (λ (claims : List ClaimRow). find_row claim_key claims (c.args.claim ∷ [])) stands.stands.claims;
+      debts_are = c.in_ok-found.ensures.debts clean t has given back b lawful stands;
       serials_is = c.in-Some.ensures.value ∙ given ∙ stands.stands.serial;
     }

@@ -1,4 +1,5 @@
 use Rattle.std.proofs.Common.{◌-◌, ◌∙◌, ◌==◌, refl}
+use Rattle.std.proofs.lemmas.Result.{err_from_is_err_and}
 use Rattle.sqlite.specs.Held.{state}
 use Rattle.sqlite_trees.proofs.ListLemmas.{all-filter}
 use Rattle.clear_bank.specs.declared.lines.Purpose.TheVariants.{Interest}
@@ -9,51 +10,58 @@ use Rattle.clear_laws.proofs.RowRangeLemmas.{rows_in_range}
 use Rattle.clear_views.proofs.ReadLemmas.{was_clean, still}
 use Rattle.clear_views.proofs.statement.read_records.Goals as goal
 
-pub returns-in-Err-clause-fault : goal.returns-in-Err-clause-fault
-returns-in-Err-clause-fault g c clean t has b lawful weighed = (
-  c.in-Err.ensures.looks.cause clean t has,
-  λ told. c.in-Err.ensures.looks.range clean t has told (rows_in_range b t lawful weighed.stands).rates,
-)
+pub returns-in_err-rates-clause-fault : goal.returns-in_err-rates-clause-fault
+returns-in_err-rates-clause-fault g c clean t has b lawful weighed =
+    let p = err_from_is_err_and c.from_residual.result c.from_residual.ensures.1 in
+    rw (p.1, p.2) (
+      c.in_err-rates.ensures.looks.cause clean t has,
+      λ told. c.in_err-rates.ensures.looks.range clean t has told (rows_in_range b t lawful weighed.stands).rates,
+    )
 
-pub returns-in-Err-reports_of-clause-fault : goal.returns-in-Err-reports_of-clause-fault
-returns-in-Err-reports_of-clause-fault g c clean t has b lawful weighed =
+pub returns-in_err-reports-clause-fault : goal.returns-in_err-reports-clause-fault
+returns-in_err-reports-clause-fault g c clean t has b lawful weighed =
+    let p = err_from_is_err_and c.from_residual-in_err-reports.result c.from_residual-in_err-reports.ensures.1 in
     let old = state g.S.Store c.args.tx.now.conn.now in
     let one = state g.S.Store c.rate_table.new.tx.conn.now in
     let two = state g.S.Store c.reports_of.new.tx.conn.now in
-    let clean_one = was_clean one two c.in-Err-reports_of.ensures.looks.survives clean in
-    let has_one = still t old one (c.in-Ok.ensures.looks.same clean_one t has) has in (
-      c.in-Err-reports_of.ensures.looks.cause clean t has_one,
-      λ told. c.in-Err-reports_of.ensures.looks.range clean t has_one told
+    let clean_one = was_clean one two c.in_err-reports.ensures.looks.survives clean in
+    let has_one = still t old one (c.in_ok-rates.ensures.looks.same clean_one t has) has in
+    rw (p.1, p.2) (
+      c.in_err-reports.ensures.looks.cause clean t has_one,
+      λ told. c.in_err-reports.ensures.looks.range clean t has_one told
           (all-filter IsReportRow (λ (row : ReportRow). row.employer == c.args.member.employer) t.reports (rows_in_range b t lawful weighed.stands).reports),
     )
 
-pub returns-in-Err-find_account-clause-fault : goal.returns-in-Err-find_account-clause-fault
-returns-in-Err-find_account-clause-fault g c clean t has b lawful weighed =
+pub returns-in_err-account-clause-fault : goal.returns-in_err-account-clause-fault
+returns-in_err-account-clause-fault g c clean t has b lawful weighed =
+    let p = err_from_is_err_and c.from_residual-in_err-account.result c.from_residual-in_err-account.ensures.1 in
     let old = state g.S.Store c.args.tx.now.conn.now in
     let one = state g.S.Store c.rate_table.new.tx.conn.now in
     let two = state g.S.Store c.reports_of.new.tx.conn.now in
     let three = state g.S.Store c.find_account.new.tx.conn.now in
-    let clean_two = was_clean two three c.in-Err-find_account.ensures.leaves.survives clean in
-    let clean_one = was_clean one two c.in-Ok-reports_of.ensures.looks.survives clean_two in
-    let has_one = still t old one (c.in-Ok.ensures.looks.same clean_one t has) has in
-    let has_two = still t one two (c.in-Ok-reports_of.ensures.looks.same clean_two t has_one) has_one in
-    c.in-Err-find_account.ensures.fault clean t has_two b lawful weighed
+    let clean_two = was_clean two three c.in_err-account.ensures.leaves.survives clean in
+    let clean_one = was_clean one two c.in_ok-reports.ensures.looks.survives clean_two in
+    let has_one = still t old one (c.in_ok-rates.ensures.looks.same clean_one t has) has in
+    let has_two = still t one two (c.in_ok-reports.ensures.looks.same clean_two t has_one) has_one in
+    rw (p.1, p.2) (c.in_err-account.ensures.fault clean t has_two b lawful weighed)
 
-pub returns-in-Err-credits_of-clause-fault : goal.returns-in-Err-credits_of-clause-fault
-returns-in-Err-credits_of-clause-fault g c clean t has b lawful weighed =
+pub returns-in_err-interest_credits-clause-fault : goal.returns-in_err-interest_credits-clause-fault
+returns-in_err-interest_credits-clause-fault g c clean t has b lawful weighed =
+    let p = err_from_is_err_and c.from_residual-in_err-interest_credits.result c.from_residual-in_err-interest_credits.ensures.1 in
     let old = state g.S.Store c.args.tx.now.conn.now in
     let one = state g.S.Store c.rate_table.new.tx.conn.now in
     let two = state g.S.Store c.reports_of.new.tx.conn.now in
     let three = state g.S.Store c.find_account.new.tx.conn.now in
     let end = state g.S.Store c.credits_of.new.tx.conn.now in
-    let clean_three = was_clean three end c.in-Err-credits_of.ensures.looks.survives clean in
-    let clean_two = was_clean two three c.in-Ok-find_account.ensures.leaves.survives clean_three in
-    let clean_one = was_clean one two c.in-Ok-reports_of.ensures.looks.survives clean_two in
-    let has_one = still t old one (c.in-Ok.ensures.looks.same clean_one t has) has in
-    let has_two = still t one two (c.in-Ok-reports_of.ensures.looks.same clean_two t has_one) has_one in
-    let has_three = still t two three (c.in-Ok-find_account.ensures.leaves.same clean_three t has_two) has_two in (
-      c.in-Err-credits_of.ensures.looks.cause clean t has_three,
-      λ told. c.in-Err-credits_of.ensures.looks.range clean t has_three told
+    let clean_three = was_clean three end c.in_err-interest_credits.ensures.looks.survives clean in
+    let clean_two = was_clean two three c.in_ok-account.ensures.leaves.survives clean_three in
+    let clean_one = was_clean one two c.in_ok-reports.ensures.looks.survives clean_two in
+    let has_one = still t old one (c.in_ok-rates.ensures.looks.same clean_one t has) has in
+    let has_two = still t one two (c.in_ok-reports.ensures.looks.same clean_two t has_one) has_one in
+    let has_three = still t two three (c.in_ok-account.ensures.leaves.same clean_three t has_two) has_two in
+    rw (p.1, p.2) (
+      c.in_err-interest_credits.ensures.looks.cause clean t has_three,
+      λ told. c.in_err-interest_credits.ensures.looks.range clean t has_three told
           (all-filter IsCreditRow (is_credit_of c.args.member.employer Interest) t.credits (rows_in_range b t lawful weighed.stands).credits),
     )
 
@@ -64,18 +72,18 @@ returns-clause-read g c clean t has b lawful weighed =
     let two = state g.S.Store c.reports_of.new.tx.conn.now in
     let three = state g.S.Store c.find_account.new.tx.conn.now in
     let end = state g.S.Store c.credits_of.new.tx.conn.now in
-    let clean_three = was_clean three end c.in-Ok-credits_of.ensures.looks.survives clean in
-    let clean_two = was_clean two three c.in-Ok-find_account.ensures.leaves.survives clean_three in
-    let clean_one = was_clean one two c.in-Ok-reports_of.ensures.looks.survives clean_two in
-    let has_one = still t old one (c.in-Ok.ensures.looks.same clean_one t has) has in
-    let has_two = still t one two (c.in-Ok-reports_of.ensures.looks.same clean_two t has_one) has_one in
-    let has_three = still t two three (c.in-Ok-find_account.ensures.leaves.same clean_three t has_two) has_two in
-    let account = c.in-Ok-find_account.ensures.account clean_three t has_two b lawful weighed in
+    let clean_three = was_clean three end c.in_ok-interest_credits.ensures.looks.survives clean in
+    let clean_two = was_clean two three c.in_ok-account.ensures.leaves.survives clean_three in
+    let clean_one = was_clean one two c.in_ok-reports.ensures.looks.survives clean_two in
+    let has_one = still t old one (c.in_ok-rates.ensures.looks.same clean_one t has) has in
+    let has_two = still t one two (c.in_ok-reports.ensures.looks.same clean_two t has_one) has_one in
+    let has_three = still t two three (c.in_ok-account.ensures.leaves.same clean_three t has_two) has_two in
+    let account = c.in_ok-account.ensures.account clean_three t has_two b lawful weighed in
     record {
       member_is = refl;
-      rates_are = c.in-Ok.ensures.looks.found clean_one t has;
-      reports_are = c.in-Ok-reports_of.ensures.looks.found clean_two t has_one;
+      rates_are = c.in_ok-rates.ensures.looks.found clean_one t has;
+      reports_are = c.in_ok-reports.ensures.looks.found clean_two t has_one;
       charges_are = account.0;
-      interest_are = c.in-Ok-credits_of.ensures.looks.found clean t has_three;
+      interest_are = c.in_ok-interest_credits.ensures.looks.found clean t has_three;
       prepaid_is = c.saturating_sub-prepaid.ensures ∙ (λ i. account.1 i - c.charged.ensures i);
     }

@@ -1,4 +1,5 @@
 use Rattle.std.proofs.Common.{◌+◌, List, ap, ◌∙◌, subst}
+use Rattle.std.proofs.lemmas.Result.{err_from_is_err_and}
 use Rattle.std.specs.List.{find}
 use Rattle.clear_book.specs.Lines.{new_lines, suspense_count}
 use Rattle.clear_book.specs.declared.rows.BankRow.{BankRow}
@@ -15,11 +16,13 @@ check_values-requires c = new_within c.args.view.now.known.items c.args.lines.no
 pub new_rows-requires : goal.new_rows-requires
 new_rows-requires c = new_within c.args.view.now.known.items c.args.lines.now c.args.places.now c.requires
 
-pub returns-clause-rule : goal.returns-clause-rule
-returns-clause-rule c = λ rows are.
+pub returns-in_err-check_limits-clause-rule : goal.returns-in_err-check_limits-clause-rule
+returns-in_err-check_limits-clause-rule c =
+    let p = err_from_is_err_and c.from_residual-in_err-check_limits.result c.from_residual-in_err-check_limits.ensures.1 in
+    rw (p.1, p.2) (λ rows are.
     let view = c.args.view.now in
     let new = new_lines view.known.items c.args.lines.now in
-    limits_refuse view c.in-Ok-index_employers.index (λ e. c.in-Ok-index_employers.ensures e ∙ ap (λ employers. employer_under employers e) c.as_slice.ensures.value) c.in-Err-check_limits.rule
-    (ahead_rule (find (is_ahead c.args.day) new)) view.serials new rows c.in-Ok-new_rows.rows.items
-    (c.in-Ok.ensures view.known.items c.requires) are (c.in-Ok-new_rows.ensures view.known.items c.requires)
-    (subst (λ (found : List BankRow). RefusedBy c.in-Err-check_limits.rule (first_of (limit_rules (view.suspense + suspense_count found) (count_then c.in-Ok-index_employers.index found) found))) c.as_slice-2.ensures.value c.in-Err-check_limits.ensures)
+    limits_refuse view c.in_ok-index.index (λ e. c.in_ok-index.ensures e ∙ ap (λ employers. employer_under employers e) c.as_slice.ensures.value) _
+    (ahead_rule (find (is_ahead c.args.day) new)) view.serials new rows c.in_ok-rows.rows.items
+    (c.in_ok-check_values.ensures view.known.items c.requires) are (c.in_ok-rows.ensures view.known.items c.requires)
+    (subst (λ (found : List BankRow). RefusedBy c.in_err-check_limits.field-0.0 (first_of (limit_rules (view.suspense + suspense_count found) (count_then c.in_ok-index.index found) found))) c.as_slice-2.ensures.value c.in_err-check_limits.ensures))

@@ -17,7 +17,7 @@ loop-row-preserved c =
     let i = c.loop-row.row-index in
     record {
       credits =
-          subst (λ (held : List Credit). IsGoing (drop (i + 1) rows) held rows) (sym c.in-Ok.ensures.credits)
+          subst (λ (held : List Credit). IsGoing (drop (i + 1) rows) held rows) (sym c.in_ok-add_credit.ensures.credits)
           (going_on i c.row-item.result c.loop-row.account.credits rows c.loop-row-test.true c.row-item.is c.loop-row.invariant.credits);
       charges = c.add_credit.ensures.charges ∙ c.loop-row.invariant.charges;
     }

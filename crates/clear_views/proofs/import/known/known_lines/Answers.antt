@@ -1,4 +1,5 @@
 use Rattle.std.proofs.Common.{◌≡◌, ◌+◌, ◌∙◌, [], Ok, Err, take, refl}
+use Rattle.std.proofs.lemmas.Result.{err_from_is_err_and}
 use Rattle.sqlite.specs.Held.{state}
 use Rattle.clear_rows.proofs.Inside.{survives_both, survives_none}
 use Rattle.clear_views.specs.Imports.{line_found}
@@ -14,31 +15,35 @@ loop-line-init g c = record {
   survives = survives_none (state g.S.Store c.args.tx.now.conn.now);
 }
 
-pub returns-in-Err-clause-same_reference : goal.returns-in-Err-clause-same_reference
-returns-in-Err-clause-same_reference g c = c.known_line.ensures.same_reference ∙ c.loop-line.invariant.same_reference
+pub returns-in_err-found-clause-same_reference : goal.returns-in_err-found-clause-same_reference
+returns-in_err-found-clause-same_reference g c = c.known_line.ensures.same_reference ∙ c.loop-line.invariant.same_reference
 
-pub returns-in-Err-clause-reads : goal.returns-in-Err-clause-reads
-returns-in-Err-clause-reads g c = record {
-  each = λ clean t has.
-      reads_then g.S.Store t (take c.loop-line.line-index c.args.lines.now ≡ []) ⊥ (c.args.lines.now ≡ []) c.args.tx.now.conn.now c.loop-line.tx.conn.now c.known_line.new.tx.conn.now _ (Err c.in-Err.fault) _ _ (λ _ no. absurd no) has
-      (c.loop-line.invariant.reads (was_clean _ _ c.known_line.ensures.reads.survives clean) t has)
-      (λ still. reads_fault g.S.Store t ⊥ ⊥ _ _ c.in-Err.fault _ _ (c.in-Err.ensures.reads.each clean t still));
-  survives = survives_both _ _ _ c.loop-line.invariant.survives c.known_line.ensures.reads.survives;
-}
+pub returns-in_err-found-clause-reads : goal.returns-in_err-found-clause-reads
+returns-in_err-found-clause-reads g c =
+    let p = err_from_is_err_and c.from_residual.result c.from_residual.ensures.1 in
+    rw (p.1, p.2) (record {
+      each = λ clean t has.
+          reads_then g.S.Store t (take c.loop-line.line-index c.args.lines.now ≡ []) ⊥ (c.args.lines.now ≡ []) c.args.tx.now.conn.now c.loop-line.tx.conn.now c.known_line.new.tx.conn.now _ (Err c.in_err-found.field-0.0) _ _ (λ _ no. absurd no) has
+          (c.loop-line.invariant.reads (was_clean _ _ c.known_line.ensures.reads.survives clean) t has)
+          (λ still. reads_fault g.S.Store t ⊥ ⊥ _ _ c.in_err-found.field-0.0 _ _ (c.in_err-found.ensures.reads.each clean t still));
+      survives = survives_both _ _ _ c.loop-line.invariant.survives c.known_line.ensures.reads.survives;
+    })
 
-pub returns-in-Err-push_found-clause-same_reference : goal.returns-in-Err-push_found-clause-same_reference
-returns-in-Err-push_found-clause-same_reference g c = c.known_line.ensures.same_reference ∙ c.loop-line.invariant.same_reference
+pub returns-in_err-push_found-clause-same_reference : goal.returns-in_err-push_found-clause-same_reference
+returns-in_err-push_found-clause-same_reference g c = c.known_line.ensures.same_reference ∙ c.loop-line.invariant.same_reference
 
-pub returns-in-Err-push_found-clause-reads : goal.returns-in-Err-push_found-clause-reads
-returns-in-Err-push_found-clause-reads g c = record {
-  each = λ clean t has.
-      let step =
-      reads_then g.S.Store t (take c.loop-line.line-index c.args.lines.now ≡ []) ⊥ (c.args.lines.now ≡ []) c.args.tx.now.conn.now c.loop-line.tx.conn.now c.known_line.new.tx.conn.now _ (Ok c.in-Ok.found) _ _ (λ _ no. absurd no) has
-      (c.loop-line.invariant.reads (was_clean _ _ c.known_line.ensures.reads.survives clean) t has)
-      (λ still. c.in-Ok.ensures.reads.each clean t still) in
-      reads_memory g.S.Store t _ _ _ c.in-Err-push_found.fault _ c.in-Err-push_found.ensures.memory step.kept;
-  survives = survives_both _ _ _ c.loop-line.invariant.survives c.known_line.ensures.reads.survives;
-}
+pub returns-in_err-push_found-clause-reads : goal.returns-in_err-push_found-clause-reads
+returns-in_err-push_found-clause-reads g c =
+    let p = err_from_is_err_and c.from_residual-in_err-push_found.result c.from_residual-in_err-push_found.ensures.1 in
+    rw (p.1, p.2) (record {
+      each = λ clean t has.
+          let step =
+          reads_then g.S.Store t (take c.loop-line.line-index c.args.lines.now ≡ []) ⊥ (c.args.lines.now ≡ []) c.args.tx.now.conn.now c.loop-line.tx.conn.now c.known_line.new.tx.conn.now _ (Ok c.in_ok-found.found) _ _ (λ _ no. absurd no) has
+          (c.loop-line.invariant.reads (was_clean _ _ c.known_line.ensures.reads.survives clean) t has)
+          (λ still. c.in_ok-found.ensures.reads.each clean t still) in
+          reads_memory g.S.Store t _ _ _ c.in_err-push_found.field-0.0 _ c.in_err-push_found.ensures.memory step.kept;
+      survives = survives_both _ _ _ c.loop-line.invariant.survives c.known_line.ensures.reads.survives;
+    })
 
 pub loop-line-preserved : goal.loop-line-preserved
 loop-line-preserved g c = record {
@@ -46,11 +51,11 @@ loop-line-preserved g c = record {
   reads = λ clean t has.
       let so_far = c.loop-line.invariant.reads (was_clean _ _ c.known_line.ensures.reads.survives clean) t has in
       let step =
-      reads_then g.S.Store t (take c.loop-line.line-index c.args.lines.now ≡ []) ⊥ (take (c.loop-line.line-index + 1) c.args.lines.now ≡ []) c.args.tx.now.conn.now c.loop-line.tx.conn.now c.known_line.new.tx.conn.now _ (Ok c.in-Ok.found) _ _ (λ _ no. absurd no) has
+      reads_then g.S.Store t (take c.loop-line.line-index c.args.lines.now ≡ []) ⊥ (take (c.loop-line.line-index + 1) c.args.lines.now ≡ []) c.args.tx.now.conn.now c.loop-line.tx.conn.now c.known_line.new.tx.conn.now _ (Ok c.in_ok-found.found) _ _ (λ _ no. absurd no) has
       so_far
-      (λ still. c.in-Ok.ensures.reads.each clean t still) in
-      reads_else g.S.Store t (take (c.loop-line.line-index + 1) c.args.lines.now ≡ []) (take (c.loop-line.line-index + 1) c.args.lines.now ≡ []) _ _ c.in-Ok.found c.push_found.new.items _ _ (λ p. p)
-      (found_more (line_found t) c.args.lines.now c.loop-line.line-index c.line-item.result c.loop-line.known.items c.push_found.new.items.items c.in-Ok.found c.loop-line-test.true c.line-item.is so_far.found step.found c.in-Ok-push_found.ensures.added)
+      (λ still. c.in_ok-found.ensures.reads.each clean t still) in
+      reads_else g.S.Store t (take (c.loop-line.line-index + 1) c.args.lines.now ≡ []) (take (c.loop-line.line-index + 1) c.args.lines.now ≡ []) _ _ c.in_ok-found.found c.push_found.new.items _ _ (λ p. p)
+      (found_more (line_found t) c.args.lines.now c.loop-line.line-index c.line-item.result c.loop-line.known.items c.push_found.new.items.items c.in_ok-found.found c.loop-line-test.true c.line-item.is so_far.found step.found c.in_ok-push_found.ensures.added)
       step;
   survives = survives_both _ _ _ c.loop-line.invariant.survives c.known_line.ensures.reads.survives;
 }
