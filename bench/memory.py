@@ -6,8 +6,8 @@
 It starts the built program (`./clearing`'s, or the one named) once for each allocation that a run makes, with that
 one refused, and sends the requests of a first account one after another. A request that is answered
 that there is no memory is sent again, and must then have the answer that it has with ample memory:
-so nothing was done for it before. The records lie on disks in memory, which keep a copy of what is
-synced: where there is no memory for that, it is a fault of the store, which must end the stream: no
+so nothing was done for it before. The records lie on files in memory, which grow as they are written:
+where there is no memory for that, it may be a fault of the store, which must end the stream: no
 further request is answered. A run with nothing refused comes first: it counts the
 allocations, and must be served whole. It needs gcc.
 """
@@ -131,7 +131,7 @@ def main():
     told = sum(told for _, told, _ in runs)
     print(f"{count} allocations, each refused once:")
     print(f"  {unbegun} times the program ended with `rule 40 Memory` before its first answer, {ended} times later;")
-    print(f"  {failed} times a disk in memory could not be synced: rule 41, which ends the stream;")
+    print(f"  {failed} times a file in memory could not grow: rule 41, which ends the stream;")
     print(f"  {told} requests were answered with rule 40, and sent again as with ample memory;")
     print("  every other request was answered as with ample memory at once.")
 

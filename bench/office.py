@@ -3,17 +3,18 @@
 
     python3 bench/office.py [PROGRAM] [--folder FOLDER]
 
-PROGRAM is the built program where none is named. It serves a new store, and is sent one request after another:
-800 reports of 200 firms, once each firm with 500 workers of its own, whose numbers follow one another, and once all
-firms with the same 500, so that each line goes to another place of the index by workers; and nine imports of 10,000
-lines each, half of them for a firm and half for nobody. Each figure is the processor time of the server: the median
-of ten requests, but for the imports, which stand for themselves. The status is 1 where a report costs more than twice
-the 10th, or an import more than twice the first.
+PROGRAM is the built program where none is named. It serves a new store, and then a stream over records in memory, and
+is sent one request after another: 800 reports of 200 firms, once each firm with 500 workers of its own, whose numbers
+follow one another, and once all firms with the same 500, so that each line goes to another place of the index by
+workers; and nine imports of 10,000 lines each, half of them for a firm and half for nobody. Each figure is the
+processor time of the program: the median of ten requests, but for the imports, which stand for themselves. The status
+is 1 where a report costs more than twice the 10th, or an import more than twice the first.
 
 The files lie below FOLDER, /dev/shm where there is one, so that the figures are the program's and not the disk's.
 """
 import argparse
 import json
+import subprocess
 import sys
 import tempfile
 from pathlib import Path
@@ -38,9 +39,33 @@ WORKERS = (
 )
 
 
-def desk_of(program, folder):
-    """A clerk of a new office of 200 firms."""
-    server = Server("the program", program, folder, DAY, "desk = 0\n")
+class Stream(Server):
+    """The program over records in memory, which takes its requests from a pipe."""
+
+    def init(self):
+        pass
+
+    def start(self):
+        words = ("stream", self.path("rates.toml"), self.path("callers.toml"), self.day)
+        self.process = subprocess.Popen([*self.words, *words], stdin=subprocess.PIPE, stdout=subprocess.PIPE)
+
+    def send(self, data):
+        self.process.stdin.write(data)
+        self.process.stdin.flush()
+
+    def fill(self):
+        data = self.process.stdout.read1()
+        if not data:
+            raise ConnectionError(f"{self.name} has ended")
+        self.bytes += data
+
+
+KINDS = {"store": (Server, "Records in a store:"), "stream": (Stream, "Records in memory:")}
+
+
+def desk_of(kind, program, folder):
+    """A clerk of a new office of 200 firms, served as this kind of server does."""
+    server = kind("the program", program, folder, DAY, "desk = 0\n")
     server.init()
     server.start()
     desk = Desk(server)
@@ -89,20 +114,28 @@ def tell_imports(times):
     return [here / times[0] for here in times]
 
 
+def measure(kind, what, program, folder):
+    """Prints what requests take where the program serves them so, and gives the ratios."""
+    print(what, flush=True)
+    ratios = []
+    for name, whose, first in WORKERS:
+        desk = desk_of(kind, program, f"{folder}/{name}")
+        ratios += tell_reports(whose, time_reports(desk, first))
+        desk.server.stop()
+    desk = desk_of(kind, program, f"{folder}/imports")
+    ratios += tell_imports(time_imports(desk))
+    desk.server.stop()
+    return ratios
+
+
 def main():
     parser = argparse.ArgumentParser()
     parser.add_argument("program", nargs="?", default=str(PROGRAM))
     parser.add_argument("--folder", default=MEMORY if Path(MEMORY).is_dir() else None)
     given = parser.parse_args()
     with tempfile.TemporaryDirectory(dir=given.folder) as folder:
-        ratios = []
-        for name, whose, first in WORKERS:
-            desk = desk_of(given.program, f"{folder}/{name}")
-            ratios += tell_reports(whose, time_reports(desk, first))
-            desk.server.stop()
-        desk = desk_of(given.program, f"{folder}/imports")
-        ratios += tell_imports(time_imports(desk))
-        desk.server.stop()
+        ratios = [ratio for name, (kind, what) in KINDS.items()
+                  for ratio in measure(kind, what, given.program, f"{folder}/{name}")]
     if max(ratios) > MOST:
         sys.exit(f"a request costs {max(ratios):.2f} times what an early one does")
 

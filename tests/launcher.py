@@ -173,11 +173,11 @@ class Launcher(unittest.TestCase):
         return self.write(f"state/{step}", "")
 
     def wait_for(self, what):
-        for _ in range(1_000):
+        for _ in range(3_000):
             if what():
                 return
             time.sleep(0.01)
-        raise AssertionError("not in 10 seconds")
+        raise AssertionError("not in 30 seconds")
 
 
 class Builds(Launcher):
@@ -305,7 +305,7 @@ class Faults(Launcher):
                     first = self.start()
                     waits_in = "run" if step == "run" else "all test"
                     calls = self.state / "calls"
-                    self.wait_for(lambda: calls.exists() and waits_in in calls.read_text().splitlines()[-1])
+                    self.wait_for(lambda: calls.exists() and waits_in in "".join(calls.read_text().splitlines()[-1:]))
                     if step == "run":
                         self.wait_for(lambda: os.access(self.program, os.X_OK))
                     stub = int((self.state / "process").read_text() or 0)

@@ -1,3 +1,4 @@
 pub mod Lines
 pub mod Command
 pub mod Rows
+pub mod Ready

@@ -15,10 +15,10 @@ use Rattle.clear_values.specs.declared.rows.KeptCharge.{KeptCharge}
 use Rattle.clear_book.specs.Accounts.{row_credit}
 use Rattle.clear_book.specs.Allocated.{contribution_rows, kept_charges}
 use Rattle.clear_book.specs.Tables.{Tables, charge_in, table_credits}
-use Rattle.clear_views.specs.Owed.{credit_serial, with_charges, with_credits}
+use Rattle.clear_pieces.specs.Filled.{credit_serial, with_charges, with_credits}
 use Rattle.clear_pieces.specs.Firm.{IsFirm}
 use Rattle.clear_pieces.specs.declared.firm.FirmAccount.{FirmAccount}
-use Rattle.clear_views.proofs.FillLemmas.{AreAfter, IsLess, Rise, charges_rise, credits_rise, month_before, precede_none}
+use Rattle.clear_pieces.proofs.FilledLemmas.{AreAfter, IsLess, Rise, charges_rise, credits_rise, month_before, precede_none}
 
 -- a kept contribution that was read is one of them
 pub charge_read : (rows : List KeptCharge) (i : ℕ) (row : KeptCharge) → All IsCharge (map charge_in rows) → i < length rows → row ≡ get_or rows i row → IsCharge (charge_in row)

@@ -17,3 +17,5 @@ pub mod RangeLemmas
 pub mod ReportLemmas
 pub mod SoonerLemmas
 pub mod StepLemmas
+pub mod FilledLemmas
+pub mod SerialLemmas

@@ -18,8 +18,8 @@ use Rattle.clear_book.specs.Allocated.{contribution_rows, kept_charges}
 use Rattle.clear_book.specs.Lines.{is_credit_of}
 use Rattle.clear_book.specs.Tables.{Tables, charge_in, table_credits}
 use Rattle.clear_laws.proofs.OtherKeyLemmas.{once-filter}
-use Rattle.clear_views.specs.Owed.{credit_serial, with_charges, with_credits}
-use Rattle.clear_views.proofs.FillLemmas.{AreAfter, Rise, charges_rise, credits_rise, month_before, precede_none}
+use Rattle.clear_pieces.specs.Filled.{credit_serial, with_charges, with_credits}
+use Rattle.clear_pieces.proofs.FilledLemmas.{AreAfter, Rise, charges_rise, credits_rise, month_before, precede_none}
 use Rattle.clear_ledger.specs.From.{is_credit_from}
 use Rattle.clear_pieces.specs.Behind.{open_firm_charges, open_row, rows_from}
 use Rattle.clear_pieces.specs.Firm.{KeepsAccount}

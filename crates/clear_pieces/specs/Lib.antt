@@ -3,3 +3,4 @@ pub mod Behind
 pub mod Allocates
 pub mod Anew
 pub mod Keeping
+pub mod Filled

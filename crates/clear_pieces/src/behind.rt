@@ -17,7 +17,7 @@ ghost use Rattle.clear_schema.specs.Faults.{IsOfDisk};
 ghost use Rattle.clear_schema.specs.Frame.{Leaves};
 ghost use Rattle.clear_schema.specs.Held.{HasTables};
 ghost use Rattle.clear_store.specs.Changes.{AreFree};
-ghost use Rattle.clear_views.specs.Owed.{credit_serial, with_charges, with_credits};
+ghost use Rattle.clear_pieces.specs.Filled.{credit_serial, with_charges, with_credits};
 ghost use Rattle.clear_pieces.specs.Allocates.{Allocates, Alters, Settles};
 ghost use Rattle.clear_pieces.specs.Anew.{FromCredit, IsFreeBehind};
 ghost use Rattle.clear_pieces.specs.Behind.{AreLast, IsOpenFirm, IsWeighedBefore, open_row};
@@ -25,6 +25,7 @@ ghost use Rattle.clear_pieces.specs.Behind.{paid_charges, paid_rows, rows_from, 
 ghost use Rattle.clear_pieces.specs.Firm.{HasItsRows, KeepsAccount, pieces_from};
 
 use crate::charges::charges_to_put;
+use crate::credits::add_credits;
 use crate::firm::{FirmAccount, add_charges};
 use crate::pieces::pieces_to_put;
 use clear_account::entries::Credit;
@@ -38,7 +39,6 @@ use clear_store::charges::settle_charges;
 use clear_store::pieces::insert_pieces;
 use clear_values::causes::StoreCause;
 use clear_values::rows::{CreditRow, KeptCharge};
-use clear_views::account::credits::add_credits;
 use sqlite::{Alter, Transaction};
 use std::alloc::{AllocError, Global};
 
@@ -125,9 +125,7 @@ fn open_account(
         → IfErr result IsOfDisk }
 {
     let mut account = Plain::new(alloc);
-    let Ok(opened) = open_rows(alloc, charges) else {
-        return Err(Fault::Memory);
-    };
+    let opened = open_rows(alloc, charges)?;
     add_charges(&mut account, opened.as_slice())?;
     add_credits(alloc, &mut account, behind.as_slice())?;
     Ok(FirmAccount {
@@ -260,10 +258,7 @@ fn join(alloc: Global, kept: &[KeptCharge], paid: &[KeptCharge]) -> Result<Vec<K
     let mut rows = Vec::new(alloc);
     for place in 0..kept.len() {
         let row = add_paid(&kept[place], &paid[place])?;
-        match rows.push(row) {
-            Ok(()) => {}
-            Err(_) => return Err(Fault::Memory),
-        }
+        rows.push(row)?;
     }
     Ok(rows)
 }

@@ -32,10 +32,7 @@ pub fn charges_to_put(
     let charges = firm.account.all_charges();
     let credits = firm.account.all_credits();
     match settle_from(alloc, charges, credits, front) {
-        Ok(settled) => match rows_of(alloc, employer, settled.as_slice()) {
-            Ok(rows) => Ok(rows),
-            Err(_) => Err(Fault::Memory),
-        },
+        Ok(settled) => Ok(rows_of(alloc, employer, settled.as_slice())?),
         Err(_) => Err(Fault::Memory),
     }
 }

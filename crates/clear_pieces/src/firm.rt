@@ -8,9 +8,10 @@ ghost use Rattle.clear_book.specs.Tables.{Tables, charge_in, table_credits};
 ghost use Rattle.clear_schema.specs.Frame.{Leaves};
 ghost use Rattle.clear_schema.specs.Faults.{IsOfDisk};
 ghost use Rattle.clear_schema.specs.Held.{HasTables};
-ghost use Rattle.clear_views.specs.Owed.{with_charges, with_credits};
+ghost use Rattle.clear_pieces.specs.Filled.{with_charges, with_credits};
 ghost use Rattle.clear_pieces.specs.Firm.{KeepsAccount};
 
+use crate::credits::add_credits;
 use clear_account::entries::{AccountFault, Charge};
 use clear_account::keeper::Keeper;
 use clear_account::plain::Plain;
@@ -21,7 +22,6 @@ use clear_schema::fault::Fault;
 use clear_values::causes::StoreCause;
 use clear_values::lines::Purpose;
 use clear_values::rows::{CreditRow, KeptCharge};
-use clear_views::account::credits::add_credits;
 use sqlite::{Alter, Transaction};
 use std::alloc::Global;
 

@@ -249,10 +249,8 @@ fn keep_lines<S: Alter>(
     ensures keeps { Keeps S.Store tx.old.conn.now tx.new.conn.now result
         (AreCreditsPut (credits_of_lines rows.now)) }
 {
-    match new_credits(alloc, rows) {
-        Ok(firms) => keep_firms(alloc, tx, &firms),
-        Err(_) => Err(Fault::Memory),
-    }
+    let firms = new_credits(alloc, rows)?;
+    keep_firms(alloc, tx, &firms)
 }
 
 // Keeps each firm from its first new credit on, one firm after another.

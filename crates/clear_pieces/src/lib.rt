@@ -12,6 +12,7 @@
 pub mod allocate;
 pub mod behind;
 pub mod charges;
+pub mod credits;
 pub mod firm;
 pub mod keep;
 pub mod pieces;

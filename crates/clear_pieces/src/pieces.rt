@@ -43,10 +43,7 @@ pub fn pieces_to_put(
     }
     let placed = refill_from(alloc, firm.account.all_charges(), credits, start)?;
     let rows = &firm.rows.as_slice()[start.credits.count..];
-    match rows_of(alloc, placed.as_slice(), rows) {
-        Ok(rows) => Ok(rows),
-        Err(_) => Err(Fault::Memory),
-    }
+    Ok(rows_of(alloc, placed.as_slice(), rows)?)
 }
 
 // The pieces of the charges and credits that reach beyond a start, each with the place of its credit

@@ -1,3 +1,2 @@
-pub mod Ready
 pub mod Stops
 pub mod Reasons

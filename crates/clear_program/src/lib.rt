@@ -8,7 +8,6 @@
 
 mod look;
 mod migrate;
-pub mod ready;
 pub mod reasons;
 pub mod run;
 pub mod stop;

@@ -2,11 +2,12 @@
 ghost use Rattle.std.specs.Prelude.{◌≤◌, IfOk};
 
 use crate::reasons::{reason, refused_path};
-use crate::run::open_whole;
+use crate::run::{close_store, open_whole};
 use crate::stop::{Stop, tell, write_front};
-use crate::work::say;
+use crate::work::{Done, say};
 use clear_book::rules::{Rule, StoreCause};
 use clear_host::hindrance::Hindrance;
+use clear_host::offices::Opened;
 use clear_host::paths::{PathKind, path_kind};
 use clear_reading::look::look;
 use clear_schema::fault::OpenFault;
@@ -33,10 +34,9 @@ pub(crate) fn look_at<S: Start>(
     }
     match open_whole(rt, store, start, again) {
         Ok(opened) => {
-            let mut connection = opened.into_connection();
-            let seen = look_over(rt.alloc(), &mut connection);
-            let _ = connection.close();
-            say(&mut rt.stdout(), seen?.as_str())?;
+            let done = look_into(rt.alloc(), opened);
+            close_store(done.connection);
+            say(&mut rt.stdout(), done.said?.as_str())?;
             Ok(0)
         }
         Err(refused) => Ok(tell_why(rt, kind, refused.hindrance, refused.fault)),
@@ -52,6 +52,13 @@ fn tell_why(rt: &HostRuntime, kind: PathKind, hindrance: Hindrance, fault: OpenF
         write_front(&mut rt.stderr(), text.as_bytes());
     }
     status
+}
+
+// What stands in the store of an opened office, and its connection, which is still to be closed.
+fn look_into<S: Alter>(alloc: Global, opened: Opened<S>) -> Done<S> {
+    let mut connection = opened.into_connection();
+    let said = look_over(alloc, &mut connection);
+    Done { said, connection }
 }
 
 // What stands in the store of a connection.

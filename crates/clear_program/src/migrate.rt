@@ -1,7 +1,9 @@
 //! A store brought to the current schema.
 
 use crate::reasons::refused_path;
+use crate::run::close_store;
 use crate::stop::Stop;
+use clear_cli::ready::schema_line;
 use clear_host::migrations::bring_to_current;
 use clear_host::paths::path_kind;
 use clear_migrate::schemas::Migration;
@@ -20,9 +22,9 @@ pub(crate) fn migrate_at<S: Start>(
     }
     match bring_to_current(rt, store, start) {
         Ok(brought) => {
-            let _ = brought.connection.close();
+            close_store(brought.connection);
             match brought.migration {
-                Migration::AlreadyCurrent => Ok(format!(in rt.alloc(); "schema {SCHEMA}\n")?),
+                Migration::AlreadyCurrent => Ok(schema_line(rt.alloc(), SCHEMA)?),
             }
         }
         Err(refused) => Err(Stop::from(refused.fault)),

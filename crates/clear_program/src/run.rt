@@ -12,9 +12,10 @@ use clear_host::stores::{create_office, open_office};
 use clear_money::days::Day;
 use clear_money::rates::RateTable;
 use clear_sample::memory::office_in_memory;
-use sqlite::FileStore;
+use sqlite::{Connection, FileStore};
 use sqlite_disk::{Start, Unknown};
 use sqlite_std_file::FileFrom;
+use std::alloc::{AllocError, Global};
 use std::fs;
 
 // The greatest length that a close leaves of a store's log, in bytes.
@@ -86,8 +87,7 @@ fn stream(
     serve_stream(rt.alloc(), office, directory, day, &mut input, &mut output)
 }
 
-// Makes or opens the store at a path, works on it, and closes it. What was accepted stands in the
-// log too, so a fault of the close, which copies the log into the database's file, isn't told.
+// Makes or opens the store at a path, works on it, and closes it.
 fn work_at<S: Start>(
     rt: &HostRuntime,
     store: &str,
@@ -101,7 +101,7 @@ fn work_at<S: Start>(
             open_whole(rt, store, start, again),
     };
     let done = work_on(rt, opened, store, work, &mut rt.stderr())?;
-    let _ = done.connection.close();
+    close_store(done.connection);
     done.said
 }
 
@@ -117,17 +117,30 @@ pub(crate) fn open_whole<S: Start>(
     if !has_long_log(rt, store) {
         return Ok(opened);
     }
-    let _ = opened.into_connection().close();
+    close_store(opened.into_connection());
     open_office(rt, store, again)
+}
+
+// Closes a store. What was accepted stands in the log too, so a fault of the close, which copies the
+// log into the database's file, isn't told.
+pub(crate) fn close_store<S: Start>(connection: Connection<FileStore<FileFrom<S>>>) {
+    let _ = connection.close();
 }
 
 // The log of the store at a path is longer than a close leaves it.
 fn has_long_log(rt: &HostRuntime, store: &str) -> bool {
-    let Ok(log) = format!(in rt.alloc(); "{store}-wal") else {
+    let Ok(log) = log_path(rt.alloc(), store) else {
         return false;
     };
     match fs::metadata(rt, log.as_str()) {
         Ok(found) => found.len() > LOG_OF_A_CLOSE,
         Err(_) => false,
     }
+}
+
+// The path of the log of the store at a path.
+fn log_path(alloc: Global, store: &str) -> Result<String, AllocError> {
+    let mut path = String::from_str(alloc, store)?;
+    path.push_str("-wal")?;
+    Ok(path)
 }

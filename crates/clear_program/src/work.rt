@@ -1,6 +1,5 @@
 //! What is done with an office.
 
-use crate::ready::{copied_line, meaning, ready_line};
 use crate::stop::{NO_MEMORY, Stop, stop_at_records, write_front};
 use crate::tasks::Work;
 use clear_book::calls::{Caller, Command, Query};
@@ -8,6 +7,7 @@ use clear_book::numbers::RequestNo;
 use clear_book::outcomes::{Answer, Reply};
 use clear_book::rules::{Rule, StoreCause};
 use clear_callers::directory::Directory;
+use clear_cli::ready::{copied_line, imported_line, ready_text, schema_line, served_line};
 use clear_host::backup::copy_whole;
 use clear_host::connections::{Ended, Watch, serve_connections};
 use clear_host::named::NamedFile;
@@ -83,7 +83,7 @@ fn do_work<S: Alter, E: Write>(
 ) -> Result<String, Stop> {
     let alloc = rt.alloc();
     match work {
-        Work::Init { rates: _ } => Ok(format!(in alloc; "schema {SCHEMA}\n")?),
+        Work::Init { rates: _ } => Ok(schema_line(alloc, SCHEMA)?),
         Work::Serve {
             directory,
             day,
@@ -140,7 +140,7 @@ fn serve_at<S: Alter, E: Write>(
     let serving = serve_connections(rt, &listener, count, office, directory, day, &watch, errors);
     // What could not be told of a connection is lost.
     match serving.ended {
-        Ended::Served => Ok(format!(in rt.alloc(); "served {count}\n")?),
+        Ended::Served => Ok(served_line(rt.alloc(), count)?),
         Ended::StoreGone => Err(STORE_GONE),
     }
 }
@@ -153,9 +153,8 @@ fn tell_ready<E: Write>(
     ledger_day: &Option<Day>,
     errors: &mut E,
 ) -> Result<(), AllocError> {
-    let line = ready_line(alloc, port, day, ledger_day)?;
-    write_front(errors, line.as_bytes());
-    write_front(errors, meaning(day, ledger_day).as_bytes());
+    let text = ready_text(alloc, port, day, ledger_day)?;
+    write_front(errors, text.as_bytes());
     Ok(())
 }
 
@@ -167,9 +166,7 @@ fn import<S: Alter>(
     command: &Command,
 ) -> Result<String, Stop> {
     match office.submit(Caller::Clerk, number, day, command)? {
-        Reply::Imported { new, repeats } => {
-            Ok(format!(in alloc; "new {new} repeats {repeats}\n")?)
-        }
+        Reply::Imported { new, repeats } => Ok(imported_line(alloc, new, repeats)?),
         Reply::Done
         | Reply::Reported { .. }
         | Reply::Claimed { .. }

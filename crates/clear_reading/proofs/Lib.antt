@@ -6,3 +6,5 @@ pub mod ReaderLemmas
 pub mod SequenceLemmas
 pub mod SuspenseLemmas
 pub mod TellingLemmas
+pub mod FirmHeadLemmas
+pub mod RemindLemmas

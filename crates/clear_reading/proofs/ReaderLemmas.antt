@@ -1,5 +1,5 @@
 -- A run of calls on a reader: it gave the rows in their order, and left the connection as it was.
-use Rattle.std.proofs.Common.{◌≡◌, ◌∙◌, arith, sum_by, inl, inr, ℕ, List, [], ◌∷◌, ◌++◌, Some, None, Ok, Err, false, refl, sym, ap, subst, append-nil}
+use Rattle.std.proofs.Common.{◌≡◌, ◌∙◌, ◌<◌, ◌^◌, arith, sum_by, inl, inr, ℕ, List, [], ◌∷◌, ◌++◌, Option, Some, None, Ok, Err, false, refl, sym, ap, subst, append-nil}
 use Rattle.std.specs.List.{AllByRecursion}
 use Rattle.std.specs.Iterator.{Yields, YieldsThen}
 use Rattle.std.proofs.lemmas.List.Sums.{sum_by-append}
@@ -19,7 +19,7 @@ use Rattle.clear_reading.specs.Faults.{fault_told}
 use Rattle.clear_reading.specs.Reader.{AreAddable, Tells}
 use Rattle.clear_reading.specs.Source.{Gives, KeepsLoan, Refuses}
 use Rattle.clear_reading.specs.declared.stored.StoredRows.{StoredRows}
-use Rattle.clear_reading.proofs.ReadLemmas.{was_clean}
+use Rattle.clear_views.proofs.ReadLemmas.{was_clean}
 
 all_behind : {X : Type 0} (P : X → Type 0) (xs ys : List X) → AllByRecursion P (xs ++ ys) → AllByRecursion P ys
 all_behind P [] ys all = all
@@ -27,6 +27,13 @@ all_behind P (x ∷ xs) ys all = all_behind P xs ys all.1
 
 memory : (why : RowFault) → why ≡ Memory → IsOfDisk (fault_told why)
 memory why is = subst (λ (w : RowFault). IsOfDisk (fault_told w)) (sym is) ((λ e. absurd (cc e)), (λ e. absurd (cc e)))
+
+-- amounts that come to too much are those of rows that no further ones make right
+pub adding_unless : {S Row : Type 0} (gives : S → Option Row → S → Type 0) (refuses : S → RowFault → S → Type 0) (amount : Row → ℕ) (old : S) (why : RowFault) (new : S) → IsCutOffAdding gives refuses amount old why new
+    → IsCutOffUnless gives refuses (λ rows. sum_by amount rows < 2 ^ 64) old why new
+adding_unless gives refuses amount old why new (inl cut) = inl cut
+adding_unless gives refuses amount old why new (inr (is, (given, run, much))) =
+    inr (is, (given, inl (run, λ more small. let sum = sum_by-append amount given more in absurd (omega (arith, much, sum, small)))))
 
 module _ {S T X : Type 0} (g : Ghosts S) (show : X → Row) (P : X → Type 0) where
   -- the connection that a reader has lent
@@ -139,25 +146,6 @@ module _ {S T X : Type 0} (g : Ghosts S) (show : X → Row) (P : X → Type 0) w
             );
       }
 
-  -- and so are those whose amounts can be added up
-  pub stopped_adding : (amount : X → ℕ) (old new : StoredRows S T g) (why : RowFault) → IsCutOffAdding (Gives g show P) (Refuses g show P) amount old why new → Stopped (AreAddable P amount) old why new
-  stopped_adding amount old new why (inl cut) =
-      let all = stopped old new why cut in
-      record { name = all.name; mode = all.mode; survives = all.survives; kept = all.kept; disk = λ clean rest to_give right. all.disk clean rest to_give right.0 }
-  stopped_adding amount old new why (inr (is, (given, run, much))) =
-      let all = ran old new given run in
-      record {
-        name = all.name;
-        mode = all.mode;
-        survives = all.survives;
-        kept = all.kept;
-        disk = λ clean rest to_give right.
-            let got = all.left clean rest to_give in
-            let sum = ap (sum_by amount) got.1 ∙ sum_by-append amount given got.0 in
-            let small = right.1 in
-            absurd (omega (arith, much, sum, small));
-      }
-
   -- and so are those that are right besides
   pub stopped_unless : (IsRight : List X → Type 0) (old new : StoredRows S T g) (why : RowFault) → IsCutOffUnless (Gives g show P) (Refuses g show P) IsRight old why new
       → Stopped (λ rows. AllByRecursion P rows × IsRight rows) old why new
@@ -184,6 +172,10 @@ module _ {S T X : Type 0} (g : Ghosts S) (show : X → Row) (P : X → Type 0) w
         kept = λ clean. unchanged_keeps (state g (conn_of old)) (state g (conn_of new)) (all.same clean);
         disk = λ clean rest to_give right. absurd (wrong (subst IsRight (sym (all.is clean rest to_give)) right.1));
       }
+
+  -- and so are those whose amounts can be added up
+  pub stopped_adding : (amount : X → ℕ) (old new : StoredRows S T g) (why : RowFault) → IsCutOffAdding (Gives g show P) (Refuses g show P) amount old why new → Stopped (AreAddable P amount) old why new
+  stopped_adding amount old new why cut = stopped_unless (λ rows. sum_by amount rows < 2 ^ 64) old new why (adding_unless (Gives g show P) (Refuses g show P) amount old why new cut)
 
   -- what is told of the rows that a reader gave up to its end, and what was refused
   module _ {A : Type 0} (old new : StoredRows S T g) (told_of : List X → A) (AreRight : List X → Type 0) where

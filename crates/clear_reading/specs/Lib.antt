@@ -5,3 +5,4 @@ pub mod Payout
 pub mod Reader
 pub mod Source
 pub mod Paid
+pub mod FirmHead

@@ -26,9 +26,13 @@ pub record Tells {S X A : Type 0} (g : Ghosts S) (show : X → Row) (old new : H
   pub mode : old.in_transaction ≡ false → new.in_transaction ≡ false
   pub survives : Survives (state g old) (state g new) (λ _. ⊥)
 
+-- rows in their ranges, which are right besides
+abbrev pub AreRightIn : {X : Type 0} → (X → Type 0) → (List X → Type 0) → List X → Type 0
+AreRightIn P IsRight rows = AllByRecursion P rows × IsRight rows
+
 -- rows in their ranges, whose amounts come to less than 2^64
 abbrev pub AreAddable : {X : Type 0} → (X → Type 0) → (X → ℕ) → List X → Type 0
-AreAddable P amount rows = AllByRecursion P rows × (sum_by amount rows < 2 ^ 64)
+AreAddable P amount = AreRightIn P (λ rows. sum_by amount rows < 2 ^ 64)
 
 -- the result is what is told of the tables that the connection has, or it was refused: where they
 -- are in their ranges and right, for no fault of a key or of a row. Nothing is changed, and a crash

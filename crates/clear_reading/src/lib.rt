@@ -10,9 +10,11 @@
 #![tactic(auto)]
 
 mod counting;
+pub mod firm_head;
 pub mod lists;
 pub mod look;
 pub mod payout;
+pub mod remind;
 pub mod reminders;
 mod row_counts;
 pub mod statement;

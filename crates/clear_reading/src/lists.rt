@@ -38,7 +38,7 @@ pub fn tell_list<S: Alter>(
     tell_rows(alloc, list, &mut rows)
 }
 
-// The claims on the list are told, and nothing of them is added up.
+// The claims on the list are told, whatever they are.
 impl DocumentHead for ListRow {
     ghost use Rattle.clear_book.specs.Documents.Payout.{payout_text};
 
@@ -46,7 +46,7 @@ impl DocumentHead for ListRow {
 
     ghost text_of = { payout_text };
 
-    ghost amount = { λ claim. 0 };
+    ghost are_right = { λ list claims. Unit {0} };
 
     fn append<R: RowSource<Row = ClaimRow>>(
         &self,

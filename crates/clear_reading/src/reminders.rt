@@ -37,7 +37,7 @@ pub fn tell_reminders<S: Alter>(
     tell_rows(alloc, run, &mut rows)
 }
 
-// The reminders of the run are told, and nothing of them is added up.
+// The reminders of the run are told, whatever they are.
 impl DocumentHead for RunRow {
     ghost use Rattle.clear_book.specs.Documents.Reminders.{reminders_text};
 
@@ -45,7 +45,7 @@ impl DocumentHead for RunRow {
 
     ghost text_of = { reminders_text };
 
-    ghost amount = { λ reminder. 0 };
+    ghost are_right = { λ run reminders. Unit {0} };
 
     fn append<R: RowSource<Row = ReminderRow>>(
         &self,

@@ -56,7 +56,7 @@ fn row_fault(fault: Fault) -> RowFault
 }
 
 /// The fault of the store that is told as a fault of a row.
-pub(crate) fn fault_told(fault: RowFault) -> Fault
+pub fn fault_told(fault: RowFault) -> Fault
     ensures { result ≡ fault_told fault }
 {
     match fault {

@@ -39,13 +39,14 @@ pub fn tell_suspense<S: Alter>(
 
 // The lines in suspense on the day are told, and their amounts are added up.
 impl DocumentHead for Day {
+    ghost use Rattle.std.specs.Prelude.{◌<◌, ◌^◌, sum_by};
     ghost use Rattle.clear_book.specs.Documents.Suspense.{suspense_text};
 
     type Table = Bank;
 
     ghost text_of = { suspense_text };
 
-    ghost amount = { λ row. row.line.cents };
+    ghost are_right = { λ day rows. sum_by (λ row. row.line.cents) rows < 2 ^ 64 };
 
     fn append<R: RowSource<Row = BankRow>>(
         &self,

@@ -1,6 +1,6 @@
 //! Documents over rows of a table that a query gives one at a time, told outside of a transaction.
 ghost use Rattle.std.specs.Prelude.{◌≡◌};
-ghost use Rattle.clear_reading.specs.Reader.{AreAddable, Tells};
+ghost use Rattle.clear_reading.specs.Reader.{AreRightIn, Tells};
 
 use crate::stored::{StoredRows, fault_told};
 use clear_book::documents::Document;
@@ -11,11 +11,11 @@ use sqlite::{Alter, Rows};
 use std::alloc::Global;
 use std::marker::PhantomData;
 
-/// The head of a document over rows without limit, which are rows of a table.
+/// The head of a document over rows of a table.
 pub(crate) trait DocumentHead {
     ghost use Rattle.std.specs.Prelude.{◌≡◌, ◌++◌, ℕ, List, None, IfErr, IfOk, string_bytes};
     ghost use Rattle.std.specs.Iterator.{YieldsThen};
-    ghost use Rattle.clear_texts.specs.Rows.{IsCutOffAdding};
+    ghost use Rattle.clear_texts.specs.Rows.{IsCutOffUnless};
 
     /// The table whose rows are told one after another.
     type Table: StoredTable;
@@ -23,11 +23,11 @@ pub(crate) trait DocumentHead {
     /// The text over rows.
     ghost text_of: { Self → List Self.Table.Row → List ℕ };
 
-    /// What is added up of each row.
-    ghost amount: { Self.Table.Row → ℕ };
+    /// Which rows it can be told over, of those in their ranges.
+    ghost are_right: { Self → List Self.Table.Row → Type 0 };
 
     /// Appends the text over the rows that the source gives up to its end. It is refused for want
-    /// of memory, for what the source tells, or for amounts that come to 2^64 or more.
+    /// of memory, for what the source tells, or for rows that aren't right.
     fn append<R: RowSource<Row = <Self::Table as StoredTable>::Row>>(
         &self,
         alloc: Global,
@@ -38,7 +38,8 @@ pub(crate) trait DocumentHead {
             × YieldsThen R.next_gives rows.old given None rows.new
             × (string_bytes text.new ≡ string_bytes text.old ++ text_of self.now given)) }
         ensures refused { IfErr result (λ fault.
-            IsCutOffAdding R.next_gives R.next_refuses amount rows.old fault rows.new) };
+            IsCutOffUnless R.next_gives R.next_refuses (are_right self.now)
+            rows.old fault rows.new) };
 }
 
 /// The document over what a query for rows of a table still has to give.
@@ -49,7 +50,7 @@ pub(crate) fn tell_rows<D: DocumentHead, S: Alter>(
 ) -> Result<Document, Fault>
     ensures same_reference { rows.new.conn.ghost_name ≡ rows.old.conn.ghost_name }
     ensures tells { Tells S.Store D.Table.shown rows.old.conn.now rows.new.conn.now
-        (D.text_of head.now) (AreAddable D.Table.is_in_range D.amount) result }
+        (D.text_of head.now) (AreRightIn D.Table.is_in_range (D.are_right head.now)) result }
 {
     let mut source = StoredRows::<S, D::Table> {
         rows,
@@ -69,7 +70,7 @@ fn tell_source<D: DocumentHead, S: Alter>(
         ≡ source.old.rows.now.conn.ghost_name }
     ensures tells { Tells S.Store D.Table.shown
         source.old.rows.now.conn.now source.new.rows.now.conn.now
-        (D.text_of head.now) (AreAddable D.Table.is_in_range D.amount) result }
+        (D.text_of head.now) (AreRightIn D.Table.is_in_range (D.are_right head.now)) result }
 {
     let mut text = String::new(alloc);
     match head.append(alloc, source, &mut text) {

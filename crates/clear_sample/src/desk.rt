@@ -9,18 +9,18 @@ ghost use Rattle.clear_office.specs.Office.{Keeps};
 ghost use Rattle.clear_sample.specs.Samples.{sample_rates};
 
 use crate::memory::office_in_memory;
+use crate::memory_file::MemoryFile;
 use crate::samples::{sample_day, sample_rates};
 use clear_callers::directory::Directory;
 use clear_money::days::Day;
 use clear_office::office::Office;
 use sqlite::FileStore;
-use sqlite_disk::Memory;
 use std::alloc::Global;
 
 /// An office over a store in memory, the keys of its callers, and the day on which it is asked.
 #[derive(Drop)]
 pub struct Desk {
-    pub office: Office<FileStore<Memory>>,
+    pub office: Office<FileStore<MemoryFile>>,
     pub directory: Directory,
     pub day: Day,
 }

@@ -3,4 +3,5 @@
 
 pub mod desk;
 pub mod memory;
+pub mod memory_file;
 pub mod samples;

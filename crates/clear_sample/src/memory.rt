@@ -7,17 +7,17 @@ ghost use Rattle.clear_book.specs.Machine.{IsLawful};
 ghost use Rattle.clear_schema.specs.Schema.{no_schema};
 ghost use Rattle.clear_office.specs.Office.{IsHonest, Keeps};
 
+use crate::memory_file::MemoryFile;
 use clear_book::ranges::rates_in_range;
 use clear_money::rates::RateTable;
 use clear_office::made::make_office;
 use clear_office::office::Office;
 use sqlite::{Alter, Connection, FileStore, Files, Options};
-use sqlite_disk::Memory;
 use std::alloc::Global;
 
 /// An office without requests over a new store in memory, with these opening rates. None where
 /// there is no memory for it.
-pub fn office_in_memory(alloc: Global, rates: &RateTable) -> Option<Office<FileStore<Memory>>>
+pub fn office_in_memory(alloc: Global, rates: &RateTable) -> Option<Office<FileStore<MemoryFile>>>
     ensures working { IfSome result (λ office. office.failed ≡ false) }
     ensures keeps { IfSome result (λ office.
         Keeps over_files office (first_book rates.now)) }
@@ -51,19 +51,19 @@ fn office_over<S: Alter + Drop>(
 
 /// A file in memory returns what was written to it. So an office over a store in memory is honest,
 /// always, and what is promised of an honest one holds of it without that premise.
-pub fn law_honest_in_memory(office: &Office<FileStore<Memory>>)
+pub fn law_honest_in_memory(office: &Office<FileStore<MemoryFile>>)
     ensures { IsHonest over_files office.now }
 {}
 
 // A connection on an empty database in two new files in memory. The log's salts need no secret
 // there, so their number is fixed.
-fn connection_in_memory(alloc: Global) -> Option<Connection<FileStore<Memory>>>
+fn connection_in_memory(alloc: Global) -> Option<Connection<FileStore<MemoryFile>>>
     ensures mode { IfSome result (λ conn. conn.in_transaction ≡ false) }
     ensures empty { IfSome result (λ conn. (file_state conn).now.schema ≡ no_schema) }
 {
     let files = Files {
-        log: Memory::new(alloc),
-        db: Memory::new(alloc),
+        log: MemoryFile::new(alloc),
+        db: MemoryFile::new(alloc),
     };
     match Connection::open_files(alloc, files, Options::new(7)) {
         Ok(conn) => Some(conn),

@@ -1,7 +1,6 @@
 pub mod ClaimLemmas
 pub mod EndLemmas
 pub mod FaultLemmas
-pub mod FillLemmas
 pub mod FirmLemmas
 pub mod FoundLemmas
 pub mod ImportLemmas
@@ -10,8 +9,5 @@ pub mod OverdueLemmas
 pub mod OwedLemmas
 pub mod ReadLemmas
 pub mod ReleaseLemmas
-pub mod RemindLemmas
-pub mod SerialLemmas
 pub mod StillLemmas
 pub mod ViewLemmas
-pub mod StatementLemmas

@@ -2,7 +2,5 @@ pub mod Claimed
 pub mod Ends
 pub mod Imports
 pub mod Overdue
-pub mod Owed
 pub mod Owing
 pub mod Reads
-pub mod Statement

@@ -133,11 +133,8 @@ fn push_found<T: Drop>(items: &mut Vec<T>, item: Option<T>) -> Result<(), Fault>
     ensures added { OnOk result (items.new.items ≡ items.old.items ++ cons_option item []) }
     ensures memory { IfErr result (λ fault. fault ≡ Fault.Memory) }
 {
-    match item {
-        Some(item) => match items.push(item) {
-            Ok(()) => Ok(()),
-            Err(_) => Err(Fault::Memory),
-        },
-        None => Ok(()),
+    if let Some(item) = item {
+        items.push(item)?;
     }
+    Ok(())
 }

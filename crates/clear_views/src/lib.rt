@@ -7,7 +7,6 @@
 //! one of a key or of a row.
 #![tactic(auto)]
 
-pub mod account;
 pub mod add_rate;
 pub mod assign;
 pub mod claim;
@@ -15,12 +14,10 @@ pub mod end;
 pub mod import;
 mod lookups;
 pub mod member;
-mod overdue;
+pub mod overdue;
 pub mod owed;
 pub mod owing;
 pub mod register;
 pub mod release;
-pub mod remind;
 pub mod report;
-pub mod statement;
 pub mod withdraw;

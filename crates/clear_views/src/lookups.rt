@@ -1,10 +1,9 @@
 //! What is found under one key: the version of a month's report, the rates of a month, a claim, and
-//! a bank line; and whether a day comes before the ledger day.
-ghost use Rattle.std.specs.Prelude.{◌≡◌, ◌∷◌, [], IfErr, IfOk, is_some};
+//! a bank line.
+ghost use Rattle.std.specs.Prelude.{◌≡◌, ◌∷◌, [], IfErr, IfOk};
 ghost use Rattle.sqlite.specs.Held.{state};
 ghost use Rattle.sqlite.specs.State.{HasCleanDisk};
 ghost use Rattle.clear_money.specs.Rates.{rate_in_force};
-ghost use Rattle.clear_book.specs.Judge.{day_back};
 ghost use Rattle.clear_book.specs.Keyed.{find_row};
 ghost use Rattle.clear_book.specs.RowRanges.{AreInRange};
 ghost use Rattle.clear_book.specs.Tables.{Tables, bank_key, claim_key, version_at};
@@ -15,12 +14,10 @@ ghost use Rattle.clear_schema.specs.Held.{HasTables};
 use clear_book::numbers::ClaimNo;
 use clear_book::rows::{BankRow, ClaimRow};
 use clear_book::texts::Reference;
-use clear_firms::counts::Counts;
 use clear_firms::rates::rate_table;
 use clear_firms::reports::find_report;
 use clear_ledger::bank::find_line;
 use clear_ledger::claims::find_claim;
-use clear_money::days::Day;
 use clear_money::months::Month;
 use clear_money::numbers::EmployerNo;
 use clear_money::rates::RateRow;
@@ -98,14 +95,4 @@ pub(crate) fn line_under<S: Alter>(
     ensures leaves { Leaves S.Store tx.old.conn.now tx.new.conn.now result }
 {
     find_line(tx, reference)
-}
-
-// Whether a day comes before the ledger day of these counts.
-pub(crate) fn is_day_back(counts: &Counts, day: Day) -> bool
-    ensures { result ≡ is_some (day_back counts.now.day day) }
-{
-    match counts.day {
-        Some(ledger) => day < ledger,
-        None => false,
-    }
 }

@@ -1,5 +1,6 @@
-//! What a firm has overdue on a day, by what is kept of it.
-ghost use Rattle.std.specs.Prelude.{◌≡◌, ◌≤◌, IfErr, IfOk, None, length};
+//! What a firm has overdue on a day, by what is kept of it, and whether a day comes before the
+//! ledger day.
+ghost use Rattle.std.specs.Prelude.{◌≡◌, ◌≤◌, IfErr, IfOk, None, is_some, length};
 ghost use Rattle.sqlite.specs.Held.{state};
 ghost use Rattle.sqlite.specs.State.{HasCleanDisk};
 ghost use Rattle.clear_book.specs.Allocated.{StandsWeighed};
@@ -17,6 +18,7 @@ use crate::owing::find_charges;
 use clear_bank::lines::Purpose;
 use clear_book::rows::{CreditRow, EmployerRow};
 use clear_book::rules::StoreCause;
+use clear_firms::counts::Counts;
 use clear_kept::owing::WeighedCharges;
 use clear_ledger::credits::credits_of;
 use clear_money::days::Day;
@@ -28,25 +30,27 @@ use clear_texts::missing::missing_months;
 use sqlite::{Alter, Transaction};
 use std::alloc::Global;
 
-// What a firm has overdue on a day.
+/// What a firm has overdue on a day.
 #[derive(Clone, Copy)]
-pub(crate) struct Overdue {
-    // How many months miss their report.
-    pub(crate) missing: u32,
-    // The first of them, if there is one.
-    pub(crate) first: Option<Month>,
-    // What is in arrears of contributions, in cents.
-    pub(crate) arrears: u64,
-    // What is in arrears of interest, in cents.
-    pub(crate) interest: u64,
-    // How many credits it has for interest.
-    pub(crate) interest_count: u64,
+pub struct Overdue {
+    /// How many months miss their report.
+    pub missing: u32,
+    /// The first of them, if there is one.
+    pub first: Option<Month>,
+    /// What is in arrears of contributions, in cents.
+    pub arrears: u64,
+    /// What is in arrears of interest, in cents.
+    pub interest: u64,
+    /// How many credits it has for interest.
+    pub interest_count: u64,
 }
 
-// What a firm has overdue on a day that is not before the ledger day, at these rates. It reads each
-// contribution that is kept of the firm and each of its credits for interest once, and takes one
-// step for each of these, for each month that there is, and for each rate.
-pub(crate) fn read_overdue<S: Alter>(
+/// What a firm has overdue on a day that is not before the ledger day, at these rates. It reads each
+/// contribution that is kept of the firm and each of its credits for interest once, and takes one
+/// step for each of these, for each month that there is, and for each rate. What no book holds is
+/// refused with `Fault::Store(StoreCause::Row)`: a value out of its range, and more contributions or
+/// credits than an account has.
+pub fn read_overdue<S: Alter>(
     alloc: Global,
     tx: &mut Transaction<'_, S>,
     rates: &RateTable,
@@ -100,4 +104,14 @@ fn month_count(months: &[Month]) -> u32
     ensures { length months.now ≤ 2400 → result ≡ length months.now }
 {
     months.len().min(2_400) as u32
+}
+
+/// Whether a day comes before the ledger day of these counts.
+pub fn is_day_back(counts: &Counts, day: Day) -> bool
+    ensures { result ≡ is_some (day_back counts.now.day day) }
+{
+    match counts.day {
+        Some(ledger) => day < ledger,
+        None => false,
+    }
 }

@@ -20,8 +20,8 @@ ghost use Rattle.clear_schema.specs.Values.{counts_of};
 ghost use Rattle.clear_views.specs.Overdue.{contributions_viewed, overdue_told};
 ghost use Rattle.clear_views.specs.Reads.{LeavesOpen};
 
-use crate::lookups::{claim_under, is_day_back};
-use crate::overdue::{Overdue, read_overdue};
+use crate::lookups::claim_under;
+use crate::overdue::{Overdue, is_day_back, read_overdue};
 use clear_bank::lines::Purpose;
 use clear_book::limits::MAX_CREDITS;
 use clear_book::numbers::{ClaimNo, SerialCount};

@@ -7,7 +7,7 @@ use Rattle.clear_pieces.proofs.behind.join.Goals as goal
 
 pub loop-place-preserved : goal.loop-place-preserved
 loop-place-preserved c =
-    c.in-Ok.ensures.items
+    c.in_ok-push.ensures.items
     ∙ (λ i. c.loop-place.invariant i ++ c.in_ok-row.ensures.row i ∷ [])
     ∙ sym (joined_more c.args.kept.now c.args.paid.now c.requires c.loop-place.place c.index-kept-place.result c.index-paid-place.result c.loop-place-test.true c.index-kept-place.is c.index-paid-place.is)
 

@@ -9,7 +9,7 @@ use Rattle.clear_values.specs.declared.rows.CreditRow.{CreditRow}
 use Rattle.clear_values.specs.declared.rows.KeptCharge.{KeptCharge}
 use Rattle.clear_book.specs.Accounts.{row_credit}
 use Rattle.clear_book.specs.Tables.{charge_in}
-use Rattle.clear_views.specs.Owed.{credit_serial, with_charges, with_credits}
+use Rattle.clear_pieces.specs.Filled.{credit_serial, with_charges, with_credits}
 use Rattle.clear_pieces.specs.Behind.{open_row}
 use Rattle.clear_pieces.proofs.OpenLemmas.{from_few, from_once, from_whole, opened_charges, opened_whole}
 use Rattle.clear_pieces.proofs.behind.read_open.Goals as goal

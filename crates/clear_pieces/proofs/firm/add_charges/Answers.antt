@@ -2,8 +2,8 @@ use Rattle.std.proofs.Common.{◌+◌, ◌∙◌, List, drop, map, sym, ap}
 use Rattle.std.proofs.lemmas.Result.{err_from_is_err_and}
 use Rattle.clear_book.specs.Tables.{charge_in}
 use Rattle.clear_values.specs.declared.rows.KeptCharge.{KeptCharge}
-use Rattle.clear_views.specs.Owed.{with_charges}
-use Rattle.clear_views.proofs.SerialLemmas.{drop_more}
+use Rattle.clear_pieces.specs.Filled.{with_charges}
+use Rattle.clear_pieces.proofs.SerialLemmas.{drop_more}
 use Rattle.clear_pieces.proofs.FillLemmas.{charge_read}
 use Rattle.clear_pieces.proofs.firm.add_charges.Goals as goal
 

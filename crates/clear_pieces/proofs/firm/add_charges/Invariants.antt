@@ -1,6 +1,6 @@
 use Rattle.std.proofs.Common.{◌≡◌, drop, map}
 use Rattle.clear_book.specs.Tables.{charge_in}
-use Rattle.clear_views.specs.Owed.{with_charges}
+use Rattle.clear_pieces.specs.Filled.{with_charges}
 use Rattle.clear_pieces.proofs.firm.add_charges.Given as goal
 
 abbrev pub invariant-loop-row : goal.invariant-loop-row

@@ -6,7 +6,7 @@ use Rattle.clear_values.specs.RowRanges.{IsCreditRow}
 use Rattle.clear_values.specs.declared.lines.Purpose.TheVariants.{Contribution}
 use Rattle.clear_values.specs.declared.rows.CreditRow.{CreditRow}
 use Rattle.clear_book.specs.Lines.{is_credit_of}
-use Rattle.clear_views.specs.Owed.{credit_serial}
+use Rattle.clear_pieces.specs.Filled.{credit_serial}
 use Rattle.clear_pieces.proofs.FillLemmas.{few_rows, serials_once}
 use Rattle.clear_pieces.proofs.firm.read_credits.Goals as goal
 

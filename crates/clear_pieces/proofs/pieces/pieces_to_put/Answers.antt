@@ -10,7 +10,7 @@ use Rattle.clear_pieces.specs.Firm.{HasItsRows, pieces_from, rows_placed}
 use Rattle.clear_pieces.proofs.PieceLemmas.{all_behind, left_in_range, rows_behind}
 use Rattle.clear_pieces.proofs.pieces.pieces_to_put.Goals as goal
 
-rows_are : (c : goal.After-drop-placed) → HasItsRows c.args.firm.now → c.in-Ok.rows.items ≡ pieces_from c.args.firm.now c.args.start.now
+rows_are : (c : goal.After-drop-placed-2) → HasItsRows c.args.firm.now → c.in_ok-rows_of.field-0.items ≡ pieces_from c.args.firm.now c.args.start.now
 rows_are c same =
     let firm = c.args.firm.now in
     let start = c.args.start.now in
@@ -18,16 +18,16 @@ rows_are c same =
     let found = c.as_slice.result.now in
     let rows : take (length found - n) (drop n found) ≡ drop n firm.rows.items = take_rest found n ∙ ap (drop n) c.as_slice.ensures.value in
     let pieces = c.as_slice-2.ensures.value ∙ c.in_ok-placed.ensures.pieces in
-    c.in-Ok.ensures
+    c.in_ok-rows_of.ensures
     ∙ (λ i. rows_placed (rows i) (pieces i))
     ∙ (λ i. rows_placed (drop n firm.rows.items) (map (placed (drop n (c.all_credits-credits.ensures i))) (pieces_behind start.charges.cents start.credits.cents (drop start.charges.count (c.all_charges.ensures.value i)) (drop n (c.all_credits-credits.ensures i)))))
     ∙ rows_behind start.charges.cents start.credits.cents n (drop start.charges.count firm.account.charges) firm.account.credits firm.rows.items c.all_charges.ensures.account.serials_differ same
 
-pub returns-in-Ok-clause-rows : goal.returns-in-Ok-clause-rows
-returns-in-Ok-clause-rows c same = rows_are c same
+pub returns-clause-rows : goal.returns-clause-rows
+returns-clause-rows c same = rows_are c same
 
-pub returns-in-Ok-clause-ranges : goal.returns-in-Ok-clause-ranges
-returns-in-Ok-clause-ranges c same in_range =
+pub returns-clause-ranges : goal.returns-clause-ranges
+returns-clause-ranges c same in_range =
     let firm = c.args.firm.now in
     let start = c.args.start.now in
     subst (AllByRecursion IsPieceRow) (sym (rows_are c same))

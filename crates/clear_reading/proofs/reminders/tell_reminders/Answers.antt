@@ -2,10 +2,10 @@ use Rattle.std.proofs.Common.{rules}
 use Rattle.sqlite_keyed.proofs.ListLemmas.{all-filter}
 use Rattle.clear_values.specs.RowRanges.{IsReminderRow}
 use Rattle.clear_ledger.specs.Shown.{reminder_shown}
-use Rattle.clear_reading.proofs.TellingLemmas.{nothing_added, tells_tables}
+use Rattle.clear_reading.proofs.TellingLemmas.{tells_tables}
 use Rattle.clear_reading.proofs.reminders.tell_reminders.Goals as goal
 
 pub returns-clause-tells : goal.returns-clause-tells
 returns-clause-tells g c =
     tells_tables g.S.Store _ reminder_shown c.args.conn.now c.in_ok-rows.rows.conn.now c.tell_rows.new.rows.conn.now _ _ _ _ _ c.tell_rows.result (search rules) (rw (c.in-Some.ensures.value, c.from.ensures) at c.in_ok-rows.ensures.begun) c.tell_rows.ensures.tells
-    (λ t ranges number. nothing_added IsReminderRow _ (all-filter IsReminderRow _ t.reminders ranges.reminders))
+    (λ t ranges number. (all-filter IsReminderRow _ t.reminders ranges.reminders, tt))

@@ -5,5 +5,5 @@ use Rattle.clear_reading.proofs.statement.tell_statement.Goals as goal
 
 pub returns-clause-tells : goal.returns-clause-tells
 returns-clause-tells g c =
-    tells_tables g.S.Store _ piece_shown c.args.conn.now c.in_ok-rows.rows.conn.now c.tell_pieces.new.rows.conn.now _ _ _ _ _ c.tell_pieces.result (search rules) c.in_ok-rows.ensures.begun c.tell_pieces.ensures.tells
+    tells_tables g.S.Store _ piece_shown c.args.conn.now c.in_ok-rows.rows.conn.now c.tell_rows.new.rows.conn.now _ _ _ _ _ c.tell_rows.result (search rules) c.in_ok-rows.ensures.begun c.tell_rows.ensures.tells
     (λ t ranges right. right)

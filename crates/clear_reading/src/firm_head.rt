@@ -1,0 +1,133 @@
+//! What a firm's statement tells, but for the pieces that pay its charges.
+ghost use Rattle.std.specs.Prelude.{◌≡◌, IfErr, IfOk, None};
+ghost use Rattle.sqlite.specs.Held.{state};
+ghost use Rattle.sqlite.specs.State.{HasCleanDisk};
+ghost use Rattle.clear_book.specs.Allocated.{StandsWeighed};
+ghost use Rattle.clear_book.specs.Book.{Book};
+ghost use Rattle.clear_book.specs.Judge.{day_back};
+ghost use Rattle.clear_book.specs.Machine.{IsLawful};
+ghost use Rattle.clear_book.specs.Tables.{Tables};
+ghost use Rattle.clear_schema.specs.Frame.{Leaves};
+ghost use Rattle.clear_schema.specs.Faults.{IsOfDisk};
+ghost use Rattle.clear_schema.specs.Held.{HasTables};
+ghost use Rattle.clear_texts.specs.Records.{AreStatementRecords};
+ghost use Rattle.clear_reading.specs.FirmHead.{AreFound, AreRead, IsFound, IsHeadOf};
+
+use crate::stored::fault_told;
+use clear_bank::lines::Purpose;
+use clear_book::rows::EmployerRow;
+use clear_firms::employers::find_employer;
+use clear_firms::rates::rate_table;
+use clear_firms::reports::reports_of;
+use clear_ledger::credits::credits_of;
+use clear_money::days::Day;
+use clear_money::numbers::EmployerNo;
+use clear_schema::fault::Fault;
+use clear_texts::documents::statement_head;
+use clear_texts::records::{StatementHead, StatementRecords};
+use clear_views::owing::find_account;
+use sqlite::{Alter, Transaction};
+use std::alloc::Global;
+
+/// What the statement of a firm tells on a day, but for the pieces that pay its charges. None where
+/// the firm isn't registered.
+///
+/// It takes one search for the firm, reads the rates, and reads each latest report, each kept
+/// contribution and each credit for interest of the firm once; where nothing is open, its credits for
+/// contributions, too. What no book holds is refused with `Fault::Store(StoreCause::Row)`.
+pub fn firm_head<S: Alter>(
+    alloc: Global,
+    tx: &mut Transaction<'_, S>,
+    day: Day,
+    employer: EmployerNo,
+) -> Result<Option<StatementHead>, Fault>
+    ensures same_reference { tx.new.conn.ghost_name ≡ tx.old.conn.ghost_name }
+    ensures head { HasCleanDisk (state S.Store tx.new.conn.now)
+        → (t : Tables) → HasTables t (state S.Store tx.old.conn.now).now
+        → day_back t.day day ≡ None → (b : Book) → IsLawful b → StandsWeighed b t
+        → IfOk result (IsFound b employer day) }
+    // On a day that isn't before the ledger day, as it is judged to be before.
+    ensures fault { HasCleanDisk (state S.Store tx.new.conn.now)
+        → (t : Tables) → HasTables t (state S.Store tx.old.conn.now).now
+        → day_back t.day day ≡ None → (b : Book) → IsLawful b → StandsWeighed b t
+        → IfErr result IsOfDisk }
+    ensures leaves { Leaves S.Store tx.old.conn.now tx.new.conn.now result }
+{
+    match find_records(alloc, tx, day, employer)? {
+        Some(records) => make_head(alloc, &records, day),
+        None => Ok(None),
+    }
+}
+
+// What the statement tells that these records make.
+fn make_head(
+    alloc: Global,
+    records: &StatementRecords,
+    day: Day,
+) -> Result<Option<StatementHead>, Fault>
+    ensures head { (b : Book) (e : _) → AreStatementRecords b e day records.now
+        → IfOk result (IsHeadOf b e day) }
+    ensures fault { (b : Book) (e : _) → AreStatementRecords b e day records.now
+        → IfErr result IsOfDisk }
+{
+    match statement_head(alloc, records, day) {
+        Ok(head) => Ok(Some(head)),
+        Err(fault) => Err(fault_told(fault)),
+    }
+}
+
+// The records of a firm's statement on a day. None where the firm isn't registered.
+fn find_records<S: Alter>(
+    alloc: Global,
+    tx: &mut Transaction<'_, S>,
+    day: Day,
+    employer: EmployerNo,
+) -> Result<Option<StatementRecords>, Fault>
+    ensures same_reference { tx.new.conn.ghost_name ≡ tx.old.conn.ghost_name }
+    ensures records { HasCleanDisk (state S.Store tx.new.conn.now)
+        → (t : Tables) → HasTables t (state S.Store tx.old.conn.now).now
+        → day_back t.day day ≡ None → (b : Book) → IsLawful b → StandsWeighed b t
+        → IfOk result (AreFound b employer day) }
+    ensures fault { HasCleanDisk (state S.Store tx.new.conn.now)
+        → (t : Tables) → HasTables t (state S.Store tx.old.conn.now).now
+        → (b : Book) → IsLawful b → StandsWeighed b t → IfErr result IsOfDisk }
+    ensures leaves { Leaves S.Store tx.old.conn.now tx.new.conn.now result }
+{
+    // The day of the records is a proof's: what is read doesn't depend on it.
+    let _day = day;
+    let Some(member) = find_employer(tx, employer)? else {
+        return Ok(None);
+    };
+    let records = read_records(alloc, tx, member)?;
+    Ok(Some(records))
+}
+
+// The records of the statement of this firm.
+fn read_records<S: Alter>(
+    alloc: Global,
+    tx: &mut Transaction<'_, S>,
+    member: EmployerRow,
+) -> Result<StatementRecords, Fault>
+    ensures same_reference { tx.new.conn.ghost_name ≡ tx.old.conn.ghost_name }
+    ensures read { HasCleanDisk (state S.Store tx.new.conn.now)
+        → (t : Tables) → HasTables t (state S.Store tx.old.conn.now).now
+        → (b : Book) → IsLawful b → StandsWeighed b t → IfOk result (AreRead b t member) }
+    ensures fault { HasCleanDisk (state S.Store tx.new.conn.now)
+        → (t : Tables) → HasTables t (state S.Store tx.old.conn.now).now
+        → (b : Book) → IsLawful b → StandsWeighed b t → IfErr result IsOfDisk }
+    ensures leaves { Leaves S.Store tx.old.conn.now tx.new.conn.now result }
+{
+    let rates = rate_table(tx)?;
+    let reports = reports_of(tx, member.employer)?;
+    let account = find_account(alloc, tx, member.employer)?;
+    let interest_credits = credits_of(tx, member.employer, Purpose::Interest)?;
+    let prepaid = account.credited.saturating_sub(account.charges.charged());
+    Ok(StatementRecords {
+        member,
+        rates,
+        reports,
+        charges: account.charges,
+        interest_credits,
+        prepaid,
+    })
+}

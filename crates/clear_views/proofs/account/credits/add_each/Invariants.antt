@@ -1,9 +1,0 @@
-use Rattle.std.proofs.Common.{◌≡◌, drop}
-use Rattle.clear_views.proofs.SerialLemmas.{IsGoing}
-use Rattle.clear_views.proofs.account.credits.add_each.Given as goal
-
-abbrev pub invariant-loop-row : goal.invariant-loop-row
-invariant-loop-row l = record {
-  credits : IsGoing (drop l.row-index l.rows) l.account.credits l.rows;
-  charges : l.account.charges ≡ l.fn.account.charges;
-}
