@@ -413,6 +413,19 @@ class Backup(Stores):
         self.assertEqual((self.folder / "copy.db").read_bytes(), (self.folder / "fund.db").read_bytes())
         self.assertFalse((self.folder / "copy.db.part").exists())
 
+    def test_the_store_is_no_part_of_a_copy(self):
+        self.filled()
+        (self.folder / "fund.db").rename(self.folder / "copy.db.part")
+        self.assertEqual(self.run_program("look", "copy.db.part")[0], 0)
+        os.symlink("copy.db.part", self.folder / "second.db.part")
+        os.symlink("nowhere", self.folder / "third.db.part")
+        (self.folder / "fourth.db.part").mkdir()
+        before = self.content()
+        for copy in ("copy.db", "second.db", "third.db", "fourth.db"):
+            with self.subTest(copy):
+                self.expect(["backup", "copy.db.part", copy], 2, "", "fault file\n")
+        self.assertEqual(self.content(), before)
+
     def test_whole_or_not_at_all(self):
         self.filled()
         size = (self.folder / "fund.db").stat().st_size

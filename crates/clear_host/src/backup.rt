@@ -2,14 +2,16 @@
 
 use crate::files::{FileFault, fault_of};
 use std::fs::File;
+use std::os::unix::fs::MetadataExt;
 use std::{fs, io};
 
 /// Copies the file at a path into a new file, whole or not at all.
 ///
 /// It is written beside that file, under its name with `.part` behind it, synced, and then renamed;
 /// what an earlier copy left there that was killed is written over. `Unusable` where something stands
-/// at the new path already, or a log of a store that was there (`-wal`), and where a file can't be
-/// read or written; nothing then stands at the new path but what stood there before.
+/// at the new path already, or a log of a store that was there (`-wal`), or under the name with
+/// `.part` a link, a folder or that file itself, and where a file can't be read or written; nothing
+/// then stands at the new path but what stood there before.
 pub fn copy_whole(rt: &HostRuntime, path: &str, copy: &str) -> Result<(), FileFault> {
     let Ok(log) = format!(in rt.alloc(); "{copy}-wal") else {
         return Err(FileFault::Memory);
@@ -17,7 +19,7 @@ pub fn copy_whole(rt: &HostRuntime, path: &str, copy: &str) -> Result<(), FileFa
     let Ok(part) = format!(in rt.alloc(); "{copy}.part") else {
         return Err(FileFault::Memory);
     };
-    if !is_free(rt, copy) || !is_free(rt, log.as_str()) {
+    if !is_free(rt, copy) || !is_free(rt, log.as_str()) || !is_writable(rt, part.as_str(), path) {
         return Err(FileFault::Unusable);
     }
     match copy_by(rt, path, part.as_str(), copy) {
@@ -34,6 +36,18 @@ fn is_free(rt: &HostRuntime, path: &str) -> bool {
     match fs::symlink_metadata(rt, path) {
         Ok(_) => false,
         Err(error) => error.kind() == io::ErrorKind::NotFound,
+    }
+}
+
+// Nothing stands at the path of the part, or a file as an earlier copy leaves it: not a link, and not
+// the file that is copied.
+fn is_writable(rt: &HostRuntime, part: &str, path: &str) -> bool {
+    match (fs::symlink_metadata(rt, part), fs::metadata(rt, path)) {
+        (Ok(found), Ok(copied)) => {
+            found.is_file() && (found.dev() != copied.dev() || found.ino() != copied.ino())
+        }
+        (Ok(_), Err(_)) => false,
+        (Err(error), _) => error.kind() == io::ErrorKind::NotFound,
     }
 }
 
