@@ -16,6 +16,7 @@ mod ledger;
 pub mod migrations;
 pub mod named;
 pub mod offices;
+mod opening;
 pub mod paths;
 mod peer;
 pub mod stores;

@@ -18,12 +18,13 @@ ghost use Rattle.clear_host.specs.Contents.{HoldsBook, HoldsOtherLayout, HoldsSc
 ghost use Rattle.clear_host.specs.Contents.{HoldsStore, IfRefused, TellsNone, TellsOnly, TellsOther};
 ghost use Rattle.clear_host.specs.Seen.{Sees};
 
-use crate::hindrance::{Hindrance, hindrance_of};
+use crate::hindrance::Hindrance;
 use crate::offices::{NotOpened, Opened, find_office, new_office};
+use crate::opening::{is_no_file, open_database};
 use clear_book::ranges::rates_in_range;
 use clear_book::rules::StoreCause;
 use clear_money::rates::RateTable;
-use clear_schema::fault::{Fault, OpenFault, fault_of};
+use clear_schema::fault::{Fault, OpenFault};
 use sqlite::{Connection, FileStore};
 use sqlite_disk::Start;
 use sqlite_std_file::FileFrom;
@@ -63,17 +64,8 @@ pub fn create_office<S: Start>(
     // No effect at run time: the proof reads from this call that the rates are lawful.
     rates_in_range(rates);
     make_private(rt, path);
-    match Connection::open_from(rt, path, false, start) {
-        Ok(connection) => new_office(rt.alloc(), connection, rates),
-        Err((error, _left)) => {
-            let hindrance = hindrance_of(&error);
-            Err(NotOpened {
-                fault: OpenFault::Failed(fault_of(error)),
-                hindrance,
-                connection: None,
-            })
-        }
-    }
+    let connection = open_database(rt, path, start)?;
+    new_office(rt.alloc(), connection, rates)
 }
 
 /// Opens the store in the file at a path, and an office over it, which keeps the book that it finds.
@@ -131,23 +123,13 @@ pub(crate) fn open_at<S: Start>(
             connection: None,
         });
     }
-    match Connection::open_from(rt, path, false, start) {
-        Ok(connection) => Ok(connection),
-        Err((error, _left)) => {
-            let hindrance = hindrance_of(&error);
-            Err(NotOpened {
-                fault: OpenFault::Failed(fault_of(error)),
-                hindrance,
-                connection: None,
-            })
-        }
-    }
+    open_database(rt, path, start)
 }
 
 // Makes an empty file for a store, where no file is: one that stands keeps its mode. Why there is
 // none then is told by the open that comes next. That takes no path of these two kinds.
 fn make_private(rt: &HostRuntime, path: &str) {
-    if path == ":memory:" || path.starts_with("file:") {
+    if is_no_file(path) {
         return;
     }
     let mut how = fs::OpenOptions::new();

@@ -12,7 +12,8 @@ use clear_book::ranges::rates_in_range;
 use clear_money::rates::RateTable;
 use clear_office::made::make_office;
 use clear_office::office::Office;
-use sqlite::{Alter, Connection, FileStore, Files, Options};
+use clear_schema::files::store_options;
+use sqlite::{Alter, Connection, FileStore, Files};
 use std::alloc::Global;
 
 /// An office without requests over a new store in memory, with these opening rates. None where
@@ -65,7 +66,7 @@ fn connection_in_memory(alloc: Global) -> Option<Connection<FileStore<MemoryFile
         log: MemoryFile::new(alloc),
         db: MemoryFile::new(alloc),
     };
-    match Connection::open_files(alloc, files, Options::new(7)) {
+    match Connection::open_files(alloc, files, store_options(7)) {
         Ok(conn) => Some(conn),
         Err(_) => None,
     }

@@ -1,28 +1,37 @@
+use Rattle.std.proofs.lemmas.Result.{err_from_is_err_and}
+use Rattle.sqlite.specs.Files.{over_files}
 use Rattle.sqlite_wal.specs.Files.{image_at}
+use Rattle.clear_host.specs.Contents.{TellsNone, TellsOnly}
+use Rattle.clear_host.proofs.RefusalLemmas.{unconnected}
 use Rattle.clear_host.proofs.stores.create_office.Goals as goal
 
-pub returns-in-Ok-clause-created : goal.returns-in-Ok-clause-created
-returns-in-Ok-clause-created g c =
-    c.new_office.ensures.created (image_at g.S.Start) (λ clean. (c.in-Ok.ensures.opened clean, c.in-Ok.ensures.found clean))
+pub returns-clause-created : goal.returns-clause-created
+returns-clause-created g c = c.new_office.ensures.created (image_at g.S.Start) c.in_ok-connection.ensures.sees
 
-pub returns-in-Ok-clause-keeps : goal.returns-in-Ok-clause-keeps
-returns-in-Ok-clause-keeps g c =
-    c.new_office.ensures.keeps (image_at g.S.Start) (λ clean. (c.in-Ok.ensures.opened clean, c.in-Ok.ensures.found clean))
+pub returns-clause-keeps : goal.returns-clause-keeps
+returns-clause-keeps g c = c.new_office.ensures.keeps (image_at g.S.Start) c.in_ok-connection.ensures.sees
 
-pub returns-in-Ok-clause-only_new : goal.returns-in-Ok-clause-only_new
-returns-in-Ok-clause-only_new g c =
-    c.new_office.ensures.only_new (image_at g.S.Start) (λ clean. (c.in-Ok.ensures.opened clean, c.in-Ok.ensures.found clean))
+pub returns-clause-only_new : goal.returns-clause-only_new
+returns-clause-only_new g c = c.new_office.ensures.only_new (image_at g.S.Start) c.in_ok-connection.ensures.sees
 
-pub returns-in-Ok-clause-version : goal.returns-in-Ok-clause-version
-returns-in-Ok-clause-version g c =
-    c.new_office.ensures.version (image_at g.S.Start) (λ clean. (c.in-Ok.ensures.opened clean, c.in-Ok.ensures.found clean))
+pub returns-clause-version : goal.returns-clause-version
+returns-clause-version g c = c.new_office.ensures.version (image_at g.S.Start) c.in_ok-connection.ensures.sees
 
-pub returns-in-Ok-clause-empty : goal.returns-in-Ok-clause-empty
-returns-in-Ok-clause-empty g c =
-    c.new_office.ensures.empty (image_at g.S.Start) (λ clean. (c.in-Ok.ensures.opened clean, c.in-Ok.ensures.found clean))
+pub returns-clause-empty : goal.returns-clause-empty
+returns-clause-empty g c = c.new_office.ensures.empty (image_at g.S.Start) c.in_ok-connection.ensures.sees
 
-pub returns-in-Ok-clause-working : goal.returns-in-Ok-clause-working
-returns-in-Ok-clause-working g c = c.new_office.ensures.working
+pub returns-clause-working : goal.returns-clause-working
+returns-clause-working g c = c.new_office.ensures.working
 
-pub returns-in-Ok-clause-day : goal.returns-in-Ok-clause-day
-returns-in-Ok-clause-day g c = c.new_office.ensures.day
+pub returns-clause-day : goal.returns-clause-day
+returns-clause-day g c = c.new_office.ensures.day
+
+pub returns-in_err-connection-clause-version : goal.returns-in_err-connection-clause-version
+returns-in_err-connection-clause-version g c number holds =
+    let p = err_from_is_err_and c.from_residual.result c.from_residual.ensures.1 in
+    rw (p.1, p.2) (unconnected over_files (TellsOnly number) c.in_err-connection.field-0.0 c.in_err-connection.ensures.none)
+
+pub returns-in_err-connection-clause-empty : goal.returns-in_err-connection-clause-empty
+returns-in_err-connection-clause-empty g c nothing =
+    let p = err_from_is_err_and c.from_residual.result c.from_residual.ensures.1 in
+    rw (p.1, p.2) (unconnected over_files TellsNone c.in_err-connection.field-0.0 c.in_err-connection.ensures.none)

@@ -1,0 +1,82 @@
+//! The two files of a store, its database file and its log, opened as a database.
+ghost use Rattle.std.specs.Prelude.{◌≡◌, false, true, None, IfErr, IfOk, IsTrue};
+ghost use Rattle.sqlite.specs.Files.{over_files};
+ghost use Rattle.sqlite_std_file.specs.File.{file_is_usable, IsFresh};
+ghost use Rattle.sqlite_wal.specs.Files.{image_at};
+ghost use Rattle.clear_host.specs.Seen.{Sees};
+
+use crate::hindrance::hindrance_of;
+use crate::offices::NotOpened;
+use clear_schema::fault::{OpenFault, fault_of};
+use clear_schema::files::store_options;
+use sqlite::{Alter, Connection, Error, ErrorCode, FileStore, Files};
+use sqlite_disk::Start;
+use sqlite_std_file::{FileFrom, OpenError};
+use std::hash::{BuildHasher, RandomState};
+use std::io;
+
+const CANNOT_OPEN: Error = Error::SqliteFailure(ErrorCode::CannotOpen);
+
+/// Opens the database in the file at a path, or makes one where no file is, or an empty one.
+pub(crate) fn open_database<S: Start>(
+    rt: &HostRuntime,
+    path: &str,
+    start: S,
+) -> Result<Connection<FileStore<FileFrom<S>>>, NotOpened<FileStore<FileFrom<S>>>>
+    ensures mode { IfOk result (λ connection. connection.in_transaction ≡ false) }
+    ensures sees { IfOk result (Sees over_files (image_at S.Start)) }
+    ensures none { IfErr result (λ refused. refused.connection ≡ None) }
+{
+    let files = open_files(rt, path, start)?;
+    let seed = random_seed(rt)?;
+    match Connection::open_files(rt.alloc(), files, store_options(seed)) {
+        Ok(connection) => Ok(connection),
+        Err((error, _left)) => Err(NotOpened::from(error)),
+    }
+}
+
+// Opens the two files, and makes those that are missing.
+fn open_files<S: Start>(rt: &HostRuntime, path: &str, start: S) -> Result<Files<FileFrom<S>>, Error>
+    ensures log { IfOk result (λ files. IsTrue (file_is_usable S.Start files.log)) }
+    ensures db { IfOk result (λ files. IsTrue (file_is_usable S.Start files.db)) }
+    ensures fresh { IfOk result (λ files. IsFresh true files.log × IsFresh false files.db) }
+{
+    if is_no_file(path) {
+        return Err(CANNOT_OPEN);
+    }
+    match sqlite_std_file::open(rt, path, start) {
+        Ok(files) => Ok(files),
+        Err(OpenError::OutOfMemory) => Err(Error::SqliteFailure(ErrorCode::OutOfMemory)),
+        Err(OpenError::Busy) => Err(Error::SqliteFailure(ErrorCode::DatabaseBusy)),
+        Err(OpenError::Io(error)) if error.kind() == io::ErrorKind::OutOfMemory => {
+            Err(Error::SqliteFailure(ErrorCode::OutOfMemory))
+        }
+        Err(_) => Err(CANNOT_OPEN),
+    }
+}
+
+/// Whether SQLite takes a path for something else than the name of a file: such a one is refused.
+pub(crate) fn is_no_file(path: &str) -> bool {
+    path == ":memory:" || path.starts_with("file:")
+}
+
+// A random number for the salts of a log.
+fn random_seed(rt: &HostRuntime) -> Result<u64, Error> {
+    let random = RandomState::new(rt).map_err(|_| CANNOT_OPEN)?;
+    Ok(random.hash_one(&0u8))
+}
+
+impl<S: Alter> From<Error> for NotOpened<S> {
+    ghost use Rattle.std.specs.Prelude.{◌≡◌, None};
+
+    ghost from_gives = { λ _ refused. refused.connection ≡ None };
+
+    fn from(error: Error) -> NotOpened<S> {
+        let hindrance = hindrance_of(&error);
+        NotOpened {
+            fault: OpenFault::Failed(fault_of(error)),
+            hindrance,
+            connection: None,
+        }
+    }
+}
