@@ -116,7 +116,7 @@ IsAccount-with_charge c cs ks one a = record {
 pub before_trans : (k l m : Credit) → comes_before k l ≡ true → comes_before l m ≡ true → comes_before k m ≡ true
 before_trans k l m g h = grind (arith, nat_tests)
 
-before_not_after : (k l : Credit) → comes_before k l ≡ true → comes_before l k ≡ false
+pub before_not_after : (k l : Credit) → comes_before k l ≡ true → comes_before l k ≡ false
 before_not_after k l h = grind (arith, nat_tests)
 
 before_or_after : (k l : Credit) → (k.serial ≢ l.serial) → comes_before k l ≡ false → comes_before l k ≡ true

@@ -2,7 +2,6 @@
 use Rattle.std.proofs.Common.{◌≡◌, ℕ, ◌+◌, ◌-◌, ◌*◌, ◌<◌, ◌≤◌, Bool, true, false, cond, nat_lt, subst, List, [], ◌∷◌, ◌++◌, length, get_or, take, drop, min, max, zero, suc, refl, sym, ap, ◌∙◌, arith, append_assoc}
 use Rattle.std.specs.List.{All, flat_map, range_with_len, sum_by}
 use Rattle.std.proofs.lemmas.List.{append-nil, drop_all, drop_more, get_or_default, get_or_read}
-use Rattle.std.proofs.lemmas.List.FromFn.{get_or-map-range_with_len, length-map-range_with_len}
 use Rattle.std.proofs.lemmas.Bool.{ltb-false}
 use Rattle.std.proofs.lemmas.List.Elements.{All-append, All-cons, All-nil}
 use Rattle.std.proofs.lemmas.List.Sums.{sum_by-append, sum_by-cons, sum_by-take-le, sum_by_more}
@@ -14,13 +13,11 @@ use Rattle.clear_account.specs.declared.settled.Share.{Share}
 use Rattle.clear_account.specs.Account.{IsAccount, charge_at, charged_up_to, credit_at, credited_up_to, places}
 use Rattle.clear_account.specs.Allocation.{open_part, paid_of, share}
 use Rattle.clear_account.specs.Laws.{late_shares}
-use Rattle.clear_account.specs.Interest.{weight_on}
-use Rattle.clear_account.specs.Settled.{SettledCharge, all_settled_on, settled_on, share_at, shares_of}
-use Rattle.clear_account.specs.Walk.{PaidCharge, late_cents, paid_charge, shares_between}
+use Rattle.clear_account.specs.Settled.{share_at, shares_of}
+use Rattle.clear_account.specs.Walk.{late_cents, shares_between}
 use Rattle.clear_account.proofs.AccountLemmas.{charge_at_place, charged-le}
-use Rattle.clear_account.proofs.LawLemmas.{weight_by_shares}
-use Rattle.clear_account.proofs.OpenLemmas.{begun_months-le, weight_on-le}
-use Rattle.clear_account.proofs.ShareLemmas.{charged_up_to-more, open_part-is, paid_of-is}
+use Rattle.clear_account.proofs.OpenLemmas.{begun_months-le}
+use Rattle.clear_account.proofs.ShareLemmas.{charged_up_to-more, paid_of-is}
 use Rattle.clear_account.proofs.StretchLemmas.{at}
 
 -- the shares of the stretch from s to e, the credits beginning at p and place n
@@ -174,25 +171,3 @@ module _ (cs : List Charge) (ks : List Credit) (i s : ℕ) (d : Charge) (shares 
   late_is =
       (λ j. sum_by (late_cents ks (charge_is j).due) (shares_are j))
       ∙ sum_by-shares_of (λ n z. z * begun_months (charge_at cs i).due (credit_at ks n).day) (λ n. omega arith) cs ks i
-
--- ---- what is paid of a charge, and what is open of it on a day
-module _ (cs : List Charge) (ks : List Credit) (i t : ℕ) (d : Charge) (p : PaidCharge) (a : IsAccount cs ks) (within : i < length cs) (is : d ≡ get_or cs i d) (paid : p ≡ paid_charge cs ks i) where
-  open_is : p.left * begun_months d.due t ≡ open_part cs ks i * begun_months (charge_at cs i).due t
-  open_is = (λ j. (paid j).left * begun_months (get_or_read cs i d within is (record { month = 0; due = 0; cents = 0 }) j).due t)
-
-  pub left-low : p.left ≤ 5000000000
-  left-low = omega (arith, ap (λ (q : PaidCharge). q.left) paid, open_part-is cs ks i within, (charge_at_place cs i a.each_charge within).cents)
-
-  module _ (z : ℕ) (early : All (λ k. k.day ≤ t) ks) (part : z ≡ p.left * begun_months d.due t) where
-    pub weight_is : p.weight + z ≡ weight_on cs ks i t
-    weight_is = (λ j. (paid j).weight + (part ∙ open_is) j) ∙ sym (weight_by_shares cs ks i t a within early)
-
-    pub weight-low : p.weight + z ≤ 12060000000000
-    weight-low = omega (arith, weight_is, weight_on-le cs ks i t a within early, (charge_at_place cs i a.each_charge within).cents)
-
--- ---- all charges
-pub weights_low : (cs : List Charge) (ks : List Credit) (t : ℕ) → IsAccount cs ks → All (λ k. k.day ≤ t) ks → All (λ (c : SettledCharge). c.weight ≤ 12060000000000) (all_settled_on cs ks t)
-weights_low cs ks t a early i d lt =
-    let within : i < length cs = omega (arith, length-map-range_with_len (λ j. settled_on cs ks j t) 0 (length cs)) in
-    let is : (get_or (all_settled_on cs ks t) i d).weight ≡ weight_on cs ks i t = ap (λ (c : SettledCharge). c.weight) (get_or-map-range_with_len (λ j. settled_on cs ks j t) 0 (length cs) i i d within (omega arith)) in
-    omega (arith, is, weight_on-le cs ks i t a within early, (charge_at_place cs i a.each_charge within).cents)

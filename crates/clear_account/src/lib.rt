@@ -4,9 +4,9 @@
 //! Payments in order of day and serial pay charges in month order, each cent of the payments the
 //! cent of the charges at the same place. A keeper is seen as its two lists; its pieces, open
 //! parts, weights and sums are the definitions of `specs/` over these lists, whatever it keeps
-//! besides. `Plain::settle` tells all charges on a day in one walk along both lists, and `Walk` is
-//! that walk, from any charge on. Only what grows a list takes memory, and a refusal leaves the
-//! keeper as it was. That a call with memory at hand succeeds is shown by tests.
+//! besides. `Walk` tells what is paid of each charge in one walk along both lists, from any charge
+//! on. Only what grows a list takes memory, and a refusal leaves the keeper as it was. That a call
+//! with memory at hand succeeds is shown by tests.
 //!
 //! `Kept` meets all that `Plain` meets, and keeps its pieces: a change makes anew only those that
 //! reach beyond the place in cents at which the account changes, and `turns` bounds its work by the

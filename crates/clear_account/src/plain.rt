@@ -5,9 +5,8 @@ use crate::lists::{
     add_charges, add_credits, add_due, find_serial, open_cents, place_of, put_charge, put_credit,
 };
 use crate::refill::refill;
-use crate::settled::{Settled, settle_all};
 use crate::turns::Turns;
-use crate::weights::{first_day, weigh};
+use crate::weights::weigh;
 use clear_money::days::Day;
 use clear_money::months::Month;
 use std::alloc::Global;
@@ -31,9 +30,8 @@ impl Model for Plain {
 }
 
 impl Plain {
-    ghost use Rattle.std.specs.Prelude.{◌≡◌, ◌≤◌, [], All, IfErr, IfOk};
+    ghost use Rattle.std.specs.Prelude.{◌≡◌, []};
     ghost use Rattle.clear_account.specs.Account.{IsAccount, last_day};
-    ghost use Rattle.clear_account.specs.Settled.{all_settled_on};
 
     /// An account without charges and payments.
     pub fn new(alloc: Global) -> Plain
@@ -58,19 +56,6 @@ impl Plain {
         ensures { result.now ≡ self.now.credits }
     {
         self.credits.as_slice()
-    }
-
-    /// Each charge in month order: what is open of it, its weight on a day, and what each payment
-    /// pays of it. The day is not before the last payment's. Takes one step for each charge and
-    /// each payment.
-    pub fn settle(&self, alloc: Global, day: Day) -> Result<Vec<Settled>, AccountFault>
-        requires { last_day self.now.credits ≤ day }
-        ensures settled { IfOk result (λ all. all.items
-            ≡ all_settled_on self.now.charges self.now.credits day) }
-        ensures range { IfOk result (λ all. All (λ s. s.weight ≤ 12_060_000_000_000) all.items) }
-        ensures err { IfErr result (λ fault. fault ≡ AccountFault.Memory) }
-    {
-        Ok(settle_all(alloc, self.charges.as_slice(), self.credits.as_slice(), day)?)
     }
 }
 
@@ -123,7 +108,7 @@ impl Keeper for Plain {
     fn last_day(&self) -> Day {
         match self.credits.last() {
             Some(credit) => credit.day,
-            None => first_day(),
+            None => Day::first(),
         }
     }
 

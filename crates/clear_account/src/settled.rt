@@ -3,7 +3,7 @@ ghost use Rattle.std.specs.Prelude.{◌≡◌, ◌++◌, ◌+◌, ◌^◌, ◌<�
 ghost use Rattle.clear_money.specs.Calendar.{day_of_month};
 ghost use Rattle.clear_money.specs.Limits.{most_base};
 ghost use Rattle.clear_account.specs.Account.{IsAccount, charged_up_to};
-ghost use Rattle.clear_account.specs.Settled.{all_settled_on, settled_on, share_at};
+ghost use Rattle.clear_account.specs.Settled.{share_at};
 ghost use Rattle.clear_account.specs.Walk.{Stands, late_cents, shares_between};
 
 use crate::entries::{Charge, Credit};
@@ -19,50 +19,6 @@ pub struct Share {
     pub place: usize,
     /// 1 cent or more.
     pub cents: u64,
-}
-
-/// A charge as its account tells it on a day. Amounts are in cents.
-#[derive(Drop)]
-pub struct Settled {
-    left: u64,
-    weight: u64,
-    shares: Vec<Share>,
-}
-
-impl Model for Settled {
-    ghost use Rattle.std.specs.Prelude.{◌≤◌};
-    ghost use Rattle.clear_account.specs.Settled.{SettledCharge};
-
-    ghost Value = { SettledCharge };
-
-    ghost view = { λ a. record { left = a.left; weight = a.weight; shares = a.shares.items } };
-
-    ghost invariant = { λ a. a.weight ≤ 12_060_000_000_000 };
-}
-
-impl Settled {
-    /// What is open of the charge.
-    pub fn left(&self) -> u64
-        ensures { result ≡ self.now.left }
-    {
-        self.left
-    }
-
-    /// The open parts on the days on which a month of delay begins, summed: the base of the
-    /// charge's interest.
-    pub fn weight(&self) -> u64
-        ensures value { result ≡ self.now.weight }
-        ensures range { result ≤ 12_060_000_000_000 }
-    {
-        self.weight
-    }
-
-    /// What pays the charge, in the order of the payments.
-    pub fn shares(&self) -> &[Share]
-        ensures { result.now ≡ self.now.shares }
-    {
-        self.shares.as_slice()
-    }
 }
 
 /// What is paid of a charge, whatever the day. Amounts are in cents.
@@ -154,54 +110,6 @@ impl Walk {
             shares,
         })
     }
-}
-
-/// Each charge in month order, by one walk along the charges and the payments.
-pub(crate) fn settle_all(
-    alloc: Global,
-    charges: &[Charge],
-    credits: &[Credit],
-    day: Day,
-) -> Result<Vec<Settled>, AllocError>
-    requires account { IsAccount charges.now credits.now }
-    requires day { All (λ k. k.day ≤ day) credits.now }
-    ensures { IfOk result (λ all. all.items ≡ all_settled_on charges.now credits.now day) }
-{
-    let mut all = Vec::new(alloc);
-    let mut walk = Walk::behind(0, credits);
-    for place in 0..charges.len() {
-        all.push(settle_charge(alloc, charges, credits, place, &mut walk, day)?)?;
-    }
-    Ok(all)
-}
-
-// The charge at a place, which the walk has come to.
-fn settle_charge(
-    alloc: Global,
-    charges: &[Charge],
-    credits: &[Credit],
-    place: usize,
-    walk: &mut Walk,
-    day: Day,
-) -> Result<Settled, AllocError>
-    requires account { IsAccount charges.now credits.now }
-    requires place { place < length charges.now }
-    requires stands { Stands credits.now walk.old }
-    requires charged { walk.old.charged ≡ charged_up_to charges.now place }
-    requires day { All (λ k. k.day ≤ day) credits.now }
-    ensures settled { IfOk result (λ settled. settled
-        ≡ settled_on charges.now credits.now place day) }
-    ensures stands { Stands credits.now walk.new }
-    ensures charged { walk.new.charged ≡ charged_up_to charges.now (place + 1) }
-{
-    let charge = &charges[place];
-    let paid = walk.find_paid(alloc, charges, credits, place)?;
-    let open = weigh_part(paid.left, charge.due, day);
-    Ok(Settled {
-        left: paid.left,
-        weight: paid.weight + open,
-        shares: paid.shares,
-    })
 }
 
 // What the payments have in common with the stretch of cents from where the walk stands to an end,

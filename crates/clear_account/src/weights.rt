@@ -52,13 +52,3 @@ pub(crate) fn weigh_part(cents: u64, due: Day, day: Day) -> u64
     }
     cents * u64::from(begun_months(due, day))
 }
-
-/// 2000-01-01.
-pub(crate) fn first_day() -> Day
-    ensures { result ≡ 10_957 }
-{
-    match Day::read(b"2000-01-01") {
-        Some(day) => day,
-        None => unreachable!(),
-    }
-}

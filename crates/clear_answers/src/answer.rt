@@ -1,5 +1,5 @@
 //! The bytes of an answer.
-ghost use Rattle.std.specs.Prelude.{◌≡◌, ◌++◌, codes, IfOk, is_ok, if◌then◌else◌, string_bytes};
+ghost use Rattle.std.specs.Prelude.{◌≡◌, ◌++◌, codes, false, true, IfOk, is_ok, if◌then◌else◌, string_bytes};
 ghost use Rattle.std.specs.Fmt.{decimal};
 ghost use Rattle.clear_money.specs.Texts.{day_text, month_text};
 ghost use Rattle.clear_book.specs.declared.outcomes.Answer.TheVariants.{Owed};
@@ -401,27 +401,12 @@ pub fn memory_text(close: bool, bare: bool) -> &'static [u8]
     }
 }
 
-/// The answer of an office that has failed, as a fixed text, which takes no memory.
-pub fn failed_text(close: bool, bare: bool) -> &'static [u8]
-    ensures { result.now ≡ answer_of (refused_by Failed) close bare }
+/// The answer of an office that had failed before, which ends the stream: a fixed text, which takes
+/// no memory.
+pub fn failed_text() -> &'static [u8]
+    ensures { result.now ≡ answer_of (refused_by Failed) true false }
 {
-    match (close, bare) {
-        (false, false) => {
-            b"HTTP/1.1 500 Internal Server Error\r\nContent-Type: application/json\r\n\
-                Content-Length: 39\r\n\r\n{\"detail\":\"\",\"name\":\"Failed\",\"rule\":42}"
-        }
-        (false, true) => {
-            b"HTTP/1.1 500 Internal Server Error\r\nContent-Type: application/json\r\n\
-                Content-Length: 39\r\n\r\n"
-        }
-        (true, false) => {
-            b"HTTP/1.1 500 Internal Server Error\r\nContent-Type: application/json\r\n\
-                Content-Length: 39\r\nConnection: close\r\n\
-                \r\n{\"detail\":\"\",\"name\":\"Failed\",\"rule\":42}"
-        }
-        (true, true) => {
-            b"HTTP/1.1 500 Internal Server Error\r\nContent-Type: application/json\r\n\
-                Content-Length: 39\r\nConnection: close\r\n\r\n"
-        }
-    }
+    b"HTTP/1.1 500 Internal Server Error\r\nContent-Type: application/json\r\n\
+        Content-Length: 39\r\nConnection: close\r\n\
+        \r\n{\"detail\":\"\",\"name\":\"Failed\",\"rule\":42}"
 }

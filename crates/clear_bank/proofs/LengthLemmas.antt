@@ -15,7 +15,7 @@ kept-few : {A : Type 0} (o : Option A) (xs : List A) (n : ℕ) → length xs ≤
 kept-few None xs n h = omega arith
 kept-few (Some x) xs n h = omega arith
 
-filter_map-few : {A B : Type 0} (h : A → Option B) (xs : List A) → length (filter_map h xs) ≤ length xs
+pub filter_map-few : {A B : Type 0} (h : A → Option B) (xs : List A) → length (filter_map h xs) ≤ length xs
 filter_map-few h [] = omega arith
 filter_map-few h (x ∷ xs) = omega (arith, kept-few (h x) (filter_map h xs) (length xs) (filter_map-few h xs))
 

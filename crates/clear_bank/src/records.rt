@@ -1,5 +1,5 @@
 //! What the records of a bank file say.
-ghost use Rattle.std.specs.Prelude.{◌≡◌, ◌≢◌, ◌<◌, List, [], ◌∷◌, length, map, MatchOption};
+ghost use Rattle.std.specs.Prelude.{◌≡◌, ◌≢◌, ◌<◌, [], ◌∷◌, length, map, MatchOption};
 ghost use Rattle.csv.specs.Records.{field_at, fields_of};
 ghost use Rattle.clear_bank.specs.Answers.{Gives};
 ghost use Rattle.clear_bank.specs.Files.{all_lines, header_fault, line_of, rows_read};

@@ -71,8 +71,8 @@ pub record AreAllocated (g : PieceRow → PieceRow) (t : Tables) : Type 0 where
   pub in_order : AreInOrder piece_key t.pieces
   pub weighed : (e : ℕ) → IsWeighed t e
 
--- the same of contributions and credits that are left of a firm, where s cents of contributions and
--- p cents of credits lie before them
+-- what each of the credits pays of each of the contributions that are left of a firm, where s cents
+-- of contributions and p cents of credits lie before them
 abbrev pub pieces_left : ℕ → ℕ → List Charge → List CreditRow → List PieceRow
 pieces_left s p charges rows = flat_map
     (λ i. flat_map (λ placed. piece_of (charge_at charges i).month placed.1

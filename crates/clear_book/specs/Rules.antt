@@ -1,5 +1,5 @@
 -- The rules: the number and the name of each, and what it carries; the words for limits.
-use Rattle.std.specs.Prelude.{ℕ, List, codes}
+use Rattle.std.specs.Prelude.{ℕ, List, codes, Bool, true, false}
 use Rattle.clear_book.specs.declared.rules.Carried.{Carried}
 use Rattle.clear_book.specs.declared.rules.Carried.TheVariants.{Nothing, Day, Month, Number}
 use Rattle.clear_book.specs.declared.rules.Carried.TheVariants.{Field, Limit, Table}
@@ -91,6 +91,11 @@ name_of rule = (entry_of rule).name
 -- what is told of a rule besides
 abbrev pub carried_by : Rule → Carried
 carried_by rule = (entry_of rule).carried
+
+-- the rule says that the store has failed
+abbrev pub tells_fault : Rule → Bool
+tells_fault (Store cause) = true
+tells_fault rule = false
 
 -- the word that names a limit
 abbrev pub word_of : LimitOn → List ℕ

@@ -1,6 +1,6 @@
 -- The tables that stand for a book: rows by their keys.
 use Rattle.std.specs.Prelude.{◌≡◌, ◌≤◌, ℕ, List, [], ◌∷◌, Option, Some, None, ◌&&◌, ◌==◌}
-use Rattle.std.specs.Prelude.{if◌then◌else◌, length, sum_by, map, filter}
+use Rattle.std.specs.Prelude.{if◌then◌else◌, length, not, sum_by, map, filter}
 use Rattle.std.specs.List.{AllByRecursion}
 use Rattle.std.specs.Option.{option_map}
 use Rattle.clear_account.specs.declared.entries.Charge.{Charge}
@@ -20,7 +20,7 @@ use Rattle.clear_values.specs.Keyed.{find_row, with_row, AreInOrder}
 use Rattle.clear_values.specs.Limits.{most_base, most_weight}
 use Rattle.clear_book.specs.Lines.{lines_standing, credits_made, serial_count}
 use Rattle.clear_book.specs.Reminders.{reminders_of, runs_of}
-use Rattle.clear_book.specs.Workers.{claims_of, entitlement_for, lists_of}
+use Rattle.clear_book.specs.Workers.{claims_of, entitlement_for, is_withdrawn, lists_of}
 pub use Rattle.clear_values.specs.Tables.{RequestRow, Tables, employer_key, report_key}
 pub use Rattle.clear_values.specs.Tables.{wage_key, charge_key, bank_key, claim_key, list_key}
 pub use Rattle.clear_values.specs.Tables.{piece_key, run_key}
@@ -146,6 +146,12 @@ row_entitlement t row = entitlement_for (rate_in_force t.rates row.month) row.gr
 -- all that a worker has earned, by its wage rows
 abbrev pub table_entitlement : Tables → ℕ → ℕ
 table_entitlement t w = sum_by (row_entitlement t) (wages_of_worker t w)
+
+-- the claims for a worker that aren't withdrawn, in cents
+abbrev pub table_claimed : Tables → ℕ → ℕ
+table_claimed t w =
+    sum_by (λ claim. claim.cents)
+    (filter (λ claim. (claim.worker == w) && not (is_withdrawn claim.state)) t.claims)
 
 -- ---- changes
 

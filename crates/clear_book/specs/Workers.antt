@@ -224,7 +224,7 @@ list_of xs number = find_row list_key (lists_of xs) (number ∷ [])
 abbrev pub claims_on : List Entry → ℕ → List ClaimRow
 claims_on xs list = filter (λ claim. is_on list claim.state) (claims_of xs)
 
--- the day of the last list, and the first of all days before there is one
+-- the day of the last list, and 0 before there is one
 abbrev pub last_list_day : List Entry → ℕ
 last_list_day xs =
     option_map_or (λ list. list.day) (list_of xs (length (lists_of xs))) 0

@@ -3,7 +3,6 @@
 ghost use Rattle.std.specs.Prelude.{◌≡◌, ◌++◌, IfOk};
 ghost use Rattle.std.specs.Fmt.{decimal};
 ghost use Rattle.std.specs.List.{AllByRecursion};
-ghost use Rattle.clear_money.specs.Rates.{IsRate};
 ghost use Rattle.clear_money.specs.Texts.{month_text};
 ghost use Rattle.clear_book.specs.declared.calls.Command.TheVariants.{AddRate, Assign, Claim};
 ghost use Rattle.clear_book.specs.declared.calls.Command.TheVariants.{EndMembership, Withdraw};
@@ -19,6 +18,7 @@ use clear_money::months::Month;
 use clear_money::numbers::{Amount, EmployerNo, WorkerNo};
 use clear_money::rates::RateRow;
 pub use clear_values::callers::Caller;
+use clear_values::ranges::rate_in_range;
 use std::alloc::{AllocError, Global};
 
 /// A firm joins: it is a member from the month `start` on.
@@ -359,18 +359,6 @@ pub fn command_in_range(command: &Command)
         Command::PayoutList => {}
         Command::RemindRun => {}
     }
-}
-
-// The values of a row of rates lie in their ranges.
-fn rate_in_range(row: &RateRow)
-    ensures { IsRate row.now }
-{
-    let _first = row.first().number();
-    let _contribution = row.contribution_rate();
-    let _report = row.report_day();
-    let _due = row.due_day();
-    let _interest = row.interest_rate();
-    let _entitlement = row.entitlement_rate();
 }
 
 // The values of a report lie in their ranges.

@@ -1,4 +1,5 @@
-//! Documents, which are answers in text, and the values that a statement tells.
+//! Documents, which are answers in text, and the values that a statement and a worker's document
+//! tell.
 
 use crate::texts::{CreditReference, Name};
 use clear_money::days::Day;

@@ -1,4 +1,4 @@
-//! Bank files, and the rows of their lines.
+//! Bank files, as they came in.
 ghost use Rattle.std.specs.Prelude.{◌≡◌};
 
 use std::marker::Model;

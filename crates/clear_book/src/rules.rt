@@ -1,6 +1,6 @@
 //! The rules by which a call is refused: the number and the name of each, and what it carries.
 ghost use Rattle.std.specs.Prelude.{◌≡◌};
-ghost use Rattle.clear_book.specs.Rules.{Known, entry_of, known, number_of, name_of, carried_by};
+ghost use Rattle.clear_book.specs.Rules.{entry_of, known, number_of, name_of, carried_by};
 ghost use Rattle.clear_book.specs.Rules.{word_of, table_word};
 
 use clear_money::days::Day;
@@ -68,7 +68,8 @@ pub enum Rule {
     UnknownEmployer,
     /// The employer is registered already.
     EmployerExists,
-    /// The month is no member month.
+    /// The month is no member month; of an end, it lies before the first member month, or an end is
+    /// set already.
     MonthOutside,
     /// The month lies after the month of the request's day.
     MonthAhead,
@@ -97,7 +98,7 @@ pub enum Rule {
     NotEmployed,
     /// The cents are above the worker's balance, which stands here.
     OverBalance(u64),
-    /// There is no claim of that number.
+    /// There is no claim of that number; of a withdrawal, none of that firm.
     UnknownClaim,
     /// The claim is withdrawn or released already.
     ClaimNotOpen,

@@ -110,7 +110,8 @@ fn caller_at(key: &[u8], value: &Value) -> Option<Caller>
     caller_numbered(number)
 }
 
-fn is_key(key: &[u8]) -> bool
+/// Whether the bytes can be a key: 1 to 64 bytes from 0x21 to 0x7E.
+pub fn is_key(key: &[u8]) -> bool
     ensures { result ≡ is_key key.now }
 {
     !key.is_empty() && key.len() <= MAX_KEY && are_visible(key)

@@ -5,7 +5,6 @@ use clear_account::kept::Kept;
 use clear_account::owed::{arrears, has_rates, interest};
 use clear_account::plain::Plain;
 use clear_account::refill::refill;
-use clear_account::settled::Settled;
 use clear_account::turns::Turns;
 use clear_money::days::Day;
 use clear_money::months::Month;
@@ -309,37 +308,6 @@ fn tells_lists(alloc: Global) -> bool {
     }
 }
 
-// Whether a charge has nothing open, this weight, and these shares of (place, cents).
-fn is_settled(charge: &Settled, weight: u64, shares: &[(usize, u64)]) -> bool {
-    let found = charge.shares();
-    charge.left() == 0
-        && charge.weight() == weight
-        && found.len() == shares.len()
-        && found.iter().zip(shares).all(|(share, (place, cents))| {
-            share.place == *place && share.cents == *cents
-        })
-}
-
-// Whether the first account settles its charges on 2024-04-30.
-fn settles(alloc: Global) -> bool {
-    let (Some(account), Some(day)) = (first(alloc), Day::read(b"2024-04-30")) else {
-        return false;
-    };
-    if day < account.last_day() {
-        return false;
-    }
-    let Ok(all) = account.settle(alloc, day) else {
-        return false;
-    };
-    match all.as_slice() {
-        [january, february] => {
-            is_settled(january, 300_000, &[(0, 150_000), (1, 50_000)])
-                && is_settled(february, 200_020, &[(1, 100_010)])
-        }
-        _ => false,
-    }
-}
-
 const NOTHING: [Owed; 2] = [
     ("2024-02", "2024-03-20", 100_010),
     ("2024-01", "2024-02-20", 0),
@@ -382,7 +350,6 @@ fn interest_of_january(alloc: Global) -> Option<u64> {
 fn an_account_tells_what_is_owed(rt: HostRuntime) {
     let alloc = rt.alloc();
     assert!(rt; tells_lists(alloc));
-    assert!(rt; settles(alloc));
     assert!(rt; charges_nothing(alloc));
     assert!(rt; interest_of_january(alloc) == Some(1_800));
 }

@@ -1,5 +1,5 @@
 -- What bank files hold by themselves.
-use Rattle.std.proofs.Common.{◌≡◌, ℕ, ◌+◌, ◌-◌, ◌*◌, ◌<◌, ◌≤◌, ◌/◌, ◌%◌, ◌^◌, Bool, true, false, not, if◌then◌else◌, List, [], ◌∷◌, ◌++◌, length, take, get_or, count_by, sum_by, Option, Some, None, is_some, is_none, Ok, Err, refl, sym, ap, ◌∙◌, add-one, zero-add, lit≤, append_assoc, arith, ⊎_elim, codes}
+use Rattle.std.proofs.Common.{◌≡◌, ℕ, ◌+◌, ◌-◌, ◌*◌, ◌<◌, ◌≤◌, ◌/◌, ◌%◌, ◌^◌, Bool, true, false, not, if◌then◌else◌, List, [], ◌∷◌, ◌++◌, length, take, get_or, count_by, sum_by, Option, Some, None, is_some, is_none, Ok, Err, refl, sym, ap, ◌∙◌, add-one, zero-add, append_assoc, arith, ⊎_elim, codes}
 use Rattle.std.specs.Fmt.{decimal, styled_decimal, padded_integral, format_spec, char_count}
 use Rattle.std.specs.List.{cons_option}
 use Rattle.std.specs.Option.{option_to_list}
@@ -18,6 +18,7 @@ use Rattle.clear_bank.specs.Files.{file_lines}
 use Rattle.clear_bank.specs.Newness.{judgement}
 use Rattle.clear_bank.specs.declared.fault.BankFault.{BankFault}
 use Rattle.clear_book.specs.Documents.Amounts.{euros_text}
+use Rattle.clear_check.proofs.CallerCheckLemmas.{at_most_one}
 use Rattle.clear_check.specs.BankChecks.{bank_of, cents_of, contents_of, lines_at, names_no_firm}
 
 -- a fault of the lines is that of the file
@@ -76,10 +77,6 @@ one_unnamed None true e = refl
 one_unnamed None false e = cc
 one_unnamed (Some firm) true e = cc
 one_unnamed (Some firm) false e = refl
-
-at_most_one : (b : Bool) → (if b then 1 else 0) ≤ 1
-at_most_one true = lit≤ tt
-at_most_one false = lit≤ tt
 
 sum_by-last : (f : BankLine → ℕ) (lines : List BankLine) (line : BankLine) → sum_by f (lines ++ line ∷ []) ≡ sum_by f lines + f line
 sum_by-last f lines line = sum_by-append f lines (line ∷ []) ∙ ap (λ n. sum_by f lines + n) (zero-add (f line))

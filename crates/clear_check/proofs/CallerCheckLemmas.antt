@@ -27,7 +27,7 @@ counted_one clerks all es rest k v clerk so_far step is =
     let here = ap (λ (es : List Entry). clerks_in (members_view es)) step ∙ ap (λ b. (if b then 1 else 0) + clerks_in (members_view rest)) (sym is) in
     add_assoc clerks (if clerk then 1 else 0) (clerks_in (members_view rest)) ∙ ap (λ n. clerks + n) (sym here) ∙ so_far
 
-at_most_one : (b : Bool) → (if b then 1 else 0) ≤ 1
+pub at_most_one : (b : Bool) → (if b then 1 else 0) ≤ 1
 at_most_one true = lit≤ tt
 at_most_one false = lit≤ tt
 

@@ -12,15 +12,11 @@ use crate::Checked;
 use crate::document::no_document;
 use crate::seen::Seen;
 use crate::texts::{joined, plural, shown};
-use clear_callers::caller_file::DirectoryFault;
+use clear_callers::caller_file::{DirectoryFault, is_key};
 use clear_callers::directory::Directory;
-use clear_money::bytes::are_visible;
 use clear_money::numbers::EmployerNo;
 use std::alloc::{AllocError, Global};
 use toml::{Table, Value};
-
-// The greatest length of a key.
-const MAX_KEY: usize = 64;
 
 /// What is said of a caller file: its keys, or its first fault.
 pub fn check_callers(alloc: Global, bytes: &[u8]) -> Result<Checked, AllocError>
@@ -134,7 +130,7 @@ fn look_at(alloc: Global, bytes: &[u8]) -> Result<Seen, AllocError> {
 
 // Why a member is no key of a caller.
 fn entry_fault(alloc: Global, key: &[u8], value: &Value) -> Result<Option<String>, AllocError> {
-    if key.is_empty() || key.len() > MAX_KEY || !are_visible(key) {
+    if !is_key(key) {
         let fault = "a key is 1 to 64 visible ASCII characters";
         return Ok(Some(String::from_str(alloc, fault)?));
     }

@@ -3,8 +3,8 @@
 //!
 //! A file is read as the program reads it, and its first fault is the reader's: which row, record
 //! and field it is in, and of which kind it is, are proved. A second look at the bytes finds what
-//! stands there; of what it finds the contracts say only that a line stays one line, and the gate
-//! compares the rest.
+//! stands there; of what it finds the contracts say only that a line stays one line, and tests on
+//! real files compare the rest.
 #![tactic(auto)]
 
 pub mod bank;

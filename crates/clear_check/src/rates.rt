@@ -1,7 +1,6 @@
 //! What is said of a rate file.
 ghost use Rattle.std.specs.Prelude.{◌≡◌, ◌≢◌, ◌<◌, length, IfOk, OnOk, is_ok, string_bytes};
 ghost use Rattle.clear_money.specs.RateFile.{rates_of};
-ghost use Rattle.clear_money.specs.Rates.{last_first};
 ghost use Rattle.clear_check.specs.RateChecks.{SaysRates, first_month, order_line, place_of};
 ghost use Rattle.clear_check.specs.RateChecks.{rate_line, rates_text};
 
@@ -13,7 +12,7 @@ use clear_answers::answer::carried_text;
 use clear_book::rules::Carried;
 use clear_money::months::Month;
 use clear_money::rate_file::{RateFault, read_rates};
-use clear_money::rates::{RateRow, RateTable};
+use clear_money::rates::{RateRow, RateTable, last_month};
 use std::alloc::{AllocError, Global};
 use toml::{Table, Value};
 
@@ -83,13 +82,6 @@ fn first_month(rows: &[RateRow]) -> Month
     ensures { result ≡ first_month rows.now }
 {
     rows[0].first()
-}
-
-fn last_month(rows: &[RateRow]) -> Month
-    requires { 0 < length rows.now }
-    ensures { result ≡ last_first rows.now }
-{
-    rows[rows.len() - 1].first()
 }
 
 // The line on a fault.

@@ -8,7 +8,7 @@ use clear_book::rules::Carried;
 use clear_money::days::Day;
 use std::alloc::{AllocError, Global};
 
-/// How many days a day may lie after the ledger day before that is told.
+// How many days a day may lie after the ledger day before that is told.
 const USUAL_DAYS: u32 = 31;
 
 /// What is told once connections are taken: on which port, the office's day, and the day of the last
@@ -29,7 +29,7 @@ pub fn ready_text(
 // The line that tells the port on which connections are taken, the office's day, and the day of
 // the last accepted request, `-` for none.
 #[tactic(auto, unfolding(crate::specs::Ready::ready_line))]
-pub(crate) fn ready_line(
+fn ready_line(
     alloc: Global,
     port: u16,
     day: Day,
@@ -99,9 +99,9 @@ fn day_or_none(alloc: Global, day: &Option<Day>) -> Result<String, AllocError>
     }
 }
 
-/// The line that tells what it means where the office's day lies before the ledger day, or more
-/// than 31 days after it. Empty where it does neither.
-pub(crate) fn meaning(day: Day, ledger_day: &Option<Day>) -> &'static str
+// The line that tells what it means where the office's day lies before the ledger day, or more than
+// 31 days after it. Empty where it does neither.
+fn meaning(day: Day, ledger_day: &Option<Day>) -> &'static str
     ensures { result.now ≡ meaning day ledger_day.now }
 {
     let Some(last) = ledger_day else {

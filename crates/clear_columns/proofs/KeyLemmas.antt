@@ -11,12 +11,12 @@ use Rattle.sqlite.specs.Tree.{IsAscending}
 use Rattle.sqlite_keyed.specs.Keyed.{get_by, has_key, insert_by}
 use Rattle.sqlite_keyed.specs.Lists.{insert_sorted, update_where}
 use Rattle.sqlite_keyed.proofs.ListLemmas.{filter_all, filter_none, all_weaker}
-use Rattle.clear_values.specs.Keyed.{is_key, is_before, find_row, AllBehind, AreInOrder, AreOnce, with_row, without_rows, put_row}
+use Rattle.clear_values.specs.Keyed.{is_key, is_before, find_row, AllBehind, AreInOrder, AreOnce, with_row, without_rows, put_row, replaced}
 use Rattle.clear_values.proofs.KeyedLemmas.{is_key-refl, is_key-true, found_key}
 use Rattle.clear_values.proofs.KeyedMapLemmas.{put_row-map}
 use Rattle.clear_values.proofs.CreditRowsLemmas.{is_key-bytes_eq}
 use Rattle.clear_schema.specs.Held.{by_key}
-use Rattle.clear_columns.specs.Keys.{changed_at, replaced}
+use Rattle.clear_columns.specs.Keys.{changed_at}
 use Rattle.clear_columns.proofs.ListLemmas.{none_replaced}
 use Rattle.clear_columns.proofs.StoredLemmas.{KeepsOrder}
 
@@ -161,7 +161,7 @@ module _ {X : Type 0} (key : X → List ℕ) where
   one_found xs k up = few_once xs k (rising_once xs up)
 
   -- rows rise in the database as in the tables
-  in_order_if_rising : (xs : List X) → IsAscending (λ a b. by_key key a b ≡ Less) xs → AreInOrder key xs
+  pub in_order_if_rising : (xs : List X) → IsAscending (λ a b. by_key key a b ≡ Less) xs → AreInOrder key xs
   in_order_if_rising [] up = tt
   in_order_if_rising (x ∷ xs) up = (behind xs up.0, in_order_if_rising xs up.1)
     where

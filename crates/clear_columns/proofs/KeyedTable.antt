@@ -15,7 +15,7 @@ use Rattle.sqlite_value.specs.Keys.{plain as plain_order}
 use Rattle.clear_rows.proofs.Edits.{appended_is, appended_row, deleted_is}
 use Rattle.clear_rows.proofs.Held.{number, key_was_free, held-delete_where, held-insert}
 use Rattle.clear_rows.proofs.KeepsKeys.{delete_never, delete_violates}
-use Rattle.clear_rows.proofs.Refused.{key_held}
+use Rattle.clear_rows.proofs.Refused.{has_mapped, key_held}
 use Rattle.clear_rows.proofs.Statements.{deleted}
 use Rattle.clear_schema.specs.Held.{HasKeyed}
 use Rattle.clear_columns.proofs.KeyLemmas.{found_any, none_found, one_found, placed as at_its_place}
@@ -68,11 +68,6 @@ pub record KeyedTable (X : Type 0) : Type 0 where
   pub checked : (db : Trees) (y : ℤ × X) → passes Check store_schema db table (to_row y) ≡ true
   pub has : (t : Tables) (db : Database) → HasTables t db → HasKeyed key to_row (rows t) (db.trees table.tree)
   pub changed : (t : Tables) (old new : Database) → HasTables t old → new.schema ≡ store_schema → IsDatabase new → (xs : List X) → Others table.tree old.trees new.trees → HasKeyed key to_row xs (new.trees table.tree) → HasTables (with_those t xs) new
-
-has_mapped : {X Z : Type 0} (f : X → Z) (xs : List X) (z : Z) → Has (map f xs) z → (x : X) × Has xs x × (z ≡ f x)
-has_mapped f [] z h = absurd h
-has_mapped f (x ∷ xs) z (inl same) = (x, inl refl, same)
-has_mapped f (x ∷ xs) z (inr later) = let found = has_mapped f xs z later in (found.0, inr found.1, found.2)
 
 maps_has : {X Z : Type 0} (f : X → Z) (xs : List X) (x : X) → Has xs x → Has (map f xs) (f x)
 maps_has f [] x h = absurd h

@@ -1,5 +1,5 @@
 -- A query for one row in the falling order of the keys gives the last of the rows that pass.
-use Rattle.clear_columns.proofs.Words.{◌≡◌, ℕ, ℤ, List, [], ◌∷◌, Bool, true, false, cond, None, Less, map, filter, slice_get, refl, ◌∙◌, IsPermutation-filter, Database, Row, output, output_cmp, Ghosts, Term, Key, Tables, first_program, meets, plain_query, content, AnswersJust, HasTables, by_key, answers_just, store_schema}
+use Rattle.clear_columns.proofs.Words.{◌≡◌, ◌==◌, ℕ, ℤ, List, [], ◌∷◌, Bool, true, false, arith, cond, nat_cmp, nat_tests, None, Equal, Less, map, filter, slice_get, refl, ◌∙◌, IsPermutation-filter, Database, Row, output, output_cmp, Ghosts, Term, Key, Tables, first_program, meets, plain_query, content, AnswersJust, HasTables, by_key, answers_just, store_schema}
 use Rattle.std.proofs.Common.{◌++◌, append-nil, subst, take, IsPermutation}
 use Rattle.std.proofs.lemmas.List.{take-map}
 use Rattle.std.proofs.lemmas.List.Sorted.{IsPermutation-middle, IsPermutation-refl, IsPermutation-sym, IsPermutation-trans}
@@ -79,6 +79,10 @@ module _ {X : Type 0} (p : X → Bool) where
       go : (b : Bool) → p x ≡ b → IsAscending Q (filter p xs) → IsAscending Q (cond b (x ∷ filter p xs) (filter p xs))
       go true e more = (all_passing (R x) (Q x) (λ y passes before. turns x y e passes before) xs up.0, more)
       go false e more = more
+
+-- numbers that are one number are in no order
+pub as_one : (a b n : ℕ) → (a == n) ≡ true → (b == n) ≡ true → nat_cmp a b ≡ Equal
+as_one a b n first second = grind (arith, nat_tests)
 
 -- ---- rows of a table
 

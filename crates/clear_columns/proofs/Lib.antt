@@ -1,7 +1,6 @@
 pub mod AnswerLemmas
 pub mod ColumnLemmas
 pub mod CountLemmas
-pub mod FromLemmas
 pub mod HeldLemmas
 pub mod KeyLemmas
 pub mod KeyedTable

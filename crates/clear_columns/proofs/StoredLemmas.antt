@@ -1,5 +1,6 @@
 -- What columns make of the ledger's values, and how these compare.
 use Rattle.std.proofs.Common.{◌≡◌, ℤ, pos, ℕ, Bool, true, false, not, ◌&&◌, ◌||◌, ◌==◌, nat_le, nat_lt, ap, Option, Some, None, codes, refl, arith, ◌∙◌, int_eq, int_cmp, nat_cmp}
+use Rattle.std.proofs.Math.Bool.{and-true}
 use Rattle.std.proofs.lemmas.Bool.Decides.{nat_tests}
 use Rattle.std.proofs.lemmas.Int.{ints}
 use Rattle.sqlite.specs.Cast.{cast}
@@ -87,6 +88,13 @@ greater m n = grind (arith, nat_tests)
 
 at_least : (m n : ℕ) → test Ge (nat_cmp m n) ≡ nat_le n m
 at_least m n = grind (arith, nat_tests)
+
+pub is_above : (m n : ℕ) → is_true (binary (Compare Gt Binary) (number m) (number n)) ≡ nat_lt n m
+is_above m n = ap is_true (tested Gt m n) ∙ told _ ∙ greater m n
+
+-- the last of two conditions is the second
+pub two_met : (a b : Bool) → (a && (b && true)) ≡ (a && b)
+two_met a b = ap (λ c. a && c) (and-true b)
 
 -- whether one of two numbers is another
 pub others_differ : (a b m n : ℕ) → is_true (binary Or (binary (Compare Ne Binary) (number a) (number b)) (binary (Compare Ne Binary) (number m) (number n))) ≡ (not (a == b) || not (m == n))

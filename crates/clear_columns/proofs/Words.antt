@@ -2,9 +2,9 @@
 pub use Rattle.clear_values.specs.declared.lines.Purpose.{Purpose}
 pub use Rattle.clear_values.specs.declared.lines.Purpose.TheVariants.{Contribution, Interest}
 pub use Rattle.clear_values.specs.Credits.{credit_key}
-pub use Rattle.clear_values.specs.Keyed.{find_row, is_key, with_row}
+pub use Rattle.clear_values.specs.Keyed.{find_row, is_key, with_row, is_held}
 pub use Rattle.clear_values.specs.Credits.{is_credit_of, is_in_suspense}
-pub use Rattle.clear_values.specs.Tables.{RequestRow, Tables, bank_key, charge_key, corrected, employer_key, is_piece_key_from, is_wage_key_of, keeps_contribution, list_key, piece_key, report_key, run_key, wage_key}
+pub use Rattle.clear_values.specs.Tables.{RequestRow, Tables, bank_key, charge_key, employer_key, is_piece_key_from, is_wage_key_of, keeps_contribution, list_key, piece_key, report_key, run_key, wage_key}
 pub use Rattle.clear_values.specs.declared.rows.BankRow.{BankRow}
 pub use Rattle.clear_values.specs.declared.rows.ClaimRow.{ClaimRow}
 pub use Rattle.clear_values.specs.declared.rows.ClaimState.{ClaimState}
@@ -14,7 +14,6 @@ pub use Rattle.clear_values.specs.declared.rows.EmployerRow.{EmployerRow}
 pub use Rattle.clear_values.specs.declared.rows.KeptCharge.{KeptCharge}
 pub use Rattle.clear_values.specs.declared.rows.ListRow.{ListRow}
 pub use Rattle.clear_values.specs.declared.rows.PieceRow.{PieceRow}
-pub use Rattle.clear_values.specs.declared.rows.ReleasedClaim.{ReleasedClaim}
 pub use Rattle.clear_values.specs.declared.rows.ReminderRow.{ReminderRow}
 pub use Rattle.clear_values.specs.declared.rows.ReportRow.{ReportRow}
 pub use Rattle.clear_values.specs.declared.rows.RunRow.{RunRow}
@@ -22,8 +21,7 @@ pub use Rattle.clear_values.specs.declared.rows.WageRow.{WageRow}
 pub use Rattle.clear_columns.proofs.KeyLemmas.{by_key_total, first_found, is_key_is, key_is, turned, turned_nat}
 pub use Rattle.clear_columns.proofs.ListLemmas.{all_pass, each_fails, none_replaced, one_passes}
 pub use Rattle.clear_columns.proofs.ReadingLemmas.{answers_just}
-pub use Rattle.clear_columns.proofs.StoredLemmas.{cast_maybe, cast_purpose, comes_from, equal_maybe, equal_numbers, equal_purposes, equal_ranks, maybe_from, maybe_typed, numbers_compare, others_differ, purpose_typed, purposes_compare, same_numbers, cast_maybe_month, equal_months, maybe_month_typed, months_compare, months_from, months_keep, numbers_keep}
-pub use Rattle.clear_columns.specs.Keys.{is_held}
+pub use Rattle.clear_columns.proofs.StoredLemmas.{cast_maybe, cast_purpose, comes_from, equal_maybe, equal_numbers, equal_purposes, equal_ranks, is_above, maybe_from, maybe_typed, numbers_compare, others_differ, purpose_typed, purposes_compare, same_numbers, two_met, cast_maybe_month, equal_months, maybe_month_typed, months_compare, months_from, months_keep, numbers_keep}
 pub use Rattle.clear_rows.proofs.Edits.{no_rows, updated_is}
 pub use Rattle.clear_rows.proofs.Held.{content}
 pub use Rattle.clear_rows.proofs.KeepsKeys.{update_harmless, update_violates}
@@ -41,7 +39,7 @@ pub use Rattle.clear_schema.specs.Frame.{AnswersJust, Runs, Writes}
 pub use Rattle.clear_schema.specs.Held.{HasTables, by_key, reminder_key, request_key}
 pub use Rattle.clear_schema.specs.Runs.{IsBroken, IsDone}
 pub use Rattle.clear_schema.specs.Schema.{bank_table, charges_table, claims_table, credits_table, requests_table, store_schema, employers_table, lists_table, meta_table, pieces_table, rates_table, reminders_table, reports_table, runs_table, wages_table, all_indexes, all_tables}
-pub use Rattle.clear_schema.specs.Values.{bank_values, caller_number, charge_values, claim_values, credit_values, maybe, maybe_month, number, purpose, request_values, employer_values, list_values, meta_values, month, month_number, piece_values, rate_values, reminder_values, report_values, run_values, wage_values}
+pub use Rattle.clear_schema.specs.Values.{bank_values, caller_number, charge_values, claim_values, credit_values, maybe, number, purpose, request_values, employer_values, list_values, meta_values, month, month_number, piece_values, rate_values, reminder_values, report_values, run_values, wage_values}
 pub use Rattle.clear_schema.specs.declared.fault.Fault.{Fault}
 pub use Rattle.sqlite.specs.Cast.{cast_row}
 pub use Rattle.sqlite.specs.Collation.TheVariants.{Binary}
@@ -62,7 +60,7 @@ pub use Rattle.sqlite.specs.Tree.{Trees, rowid}
 pub use Rattle.sqlite.specs.declared.types.Value.TheVariants.{Blob, Int, Null, Text}
 pub use Rattle.sqlite_catalog.specs.Listing.{automatic}
 pub use Rattle.sqlite_keyed.proofs.KeyedLemmas.{IsKeyedBy-update_where}
-pub use Rattle.sqlite_keyed.proofs.ListLemmas.{filter_same, IsPermutation-filter, ascending_weaker}
+pub use Rattle.sqlite_keyed.proofs.ListLemmas.{IsPermutation-filter, ascending_weaker}
 pub use Rattle.sqlite_keyed.specs.Keyed.{insert_by}
 pub use Rattle.sqlite_keyed.specs.Lists.{update_where}
 pub use Rattle.sqlite_rules.proofs.ListLemmas.{some_from}
@@ -76,9 +74,9 @@ pub use Rattle.sqlite_sql.specs.declared.ops.BinaryOp.TheVariants.{And, Compare,
 pub use Rattle.sqlite_sql.specs.declared.ops.CompareOp.TheVariants.{Eq, Ge, Gt, Ne}
 pub use Rattle.sqlite_value.proofs.OrderLemmas.{value_cmp-Text}
 pub use Rattle.sqlite_value.specs.declared.keys.Key.{Key}
-pub use Rattle.std.proofs.Common.{Bool, Equal, Less, List, None, Option, Some, [], ap, arith, codes, drop, false, filter, inl, inr, int_cmp, is_eq, is_gt, is_none, map, nat_lt, pos, refl, slice_get, subst, sym, true, zero, ℕ, ℤ, ◌&&◌, ◌==◌, ◌||◌, ◌∙◌, ◌∷◌, ◌≡◌, ◌≢◌, IsPermutation, cond, length, map-id, not, true≢false, ◌/◌, ◌≤◌}
+pub use Rattle.std.proofs.Common.{Bool, Equal, Less, List, None, Option, Some, [], ap, arith, codes, drop, false, filter, inl, inr, int_cmp, is_eq, is_none, map, nat_lt, pos, refl, slice_get, subst, sym, true, ℕ, ℤ, ◌&&◌, ◌==◌, ◌||◌, ◌∙◌, ◌∷◌, ◌≡◌, ◌≢◌, IsPermutation, cond, length, map-id, not, true≢false, ◌/◌, ◌≤◌}
+pub use Rattle.std.proofs.Math.Bool.{and-true}
 pub use Rattle.std.proofs.lemmas.Bool.Decides.{nat_tests}
-pub use Rattle.std.proofs.lemmas.Int.{ints}
 pub use Rattle.std.proofs.lemmas.List.{length-map}
 pub use Rattle.std.proofs.lemmas.List.Sorted.{IsPermutation-map}
 pub use Rattle.std.specs.Cmp.Lexicographic.{slice_cmp}

@@ -1,8 +1,7 @@
--- When a row that is to be added finds its key held, and when one takes another's place.
+-- Rows after a change of the one of a key.
 use Rattle.std.specs.Prelude.{ℕ, List}
 use Rattle.std.specs.Option.{option_map_or}
 use Rattle.clear_values.specs.Keyed.{find_row, put_row}
-pub use Rattle.clear_values.specs.Keyed.{is_held, replaced}
 
 -- the rows, the one of a key changed, where there is one
 abbrev pub changed_at : {X : Type 0} → (X → List ℕ) → List ℕ → (X → X) → List X → List X

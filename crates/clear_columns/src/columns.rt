@@ -17,8 +17,7 @@ ghost use Rattle.clear_schema.specs.Values as stored;
 ghost use Rattle.clear_columns.specs.Columns.{ReadsColumn};
 
 use crate::ranges::{
-    is_contribution, is_entry_count, is_gross, is_list_no, is_month_count, is_serial,
-    is_serial_count, is_version, is_weight,
+    is_contribution, is_entry_count, is_gross, is_month_count, is_serial, is_version, is_weight,
 };
 use clear_money::days::Day;
 use clear_money::months::Month;
@@ -27,7 +26,7 @@ use clear_schema::fault::Fault;
 use clear_schema::values::value_at;
 use clear_values::causes::StoreCause;
 use clear_values::lines::Purpose;
-use clear_values::numbers::ClaimNo;
+use clear_values::numbers::{ClaimNo, ListNo, SerialCount};
 use clear_values::texts::{CreditReference, Name, Note, Reference};
 use sqlite::Row;
 
@@ -222,8 +221,9 @@ pub fn entry_count_at(row: &Row, at: usize) -> Result<u64, Fault>
     Ok(count)
 }
 
-/// How many claims were made, in a column, at most 50,000,000.
-pub fn claim_count_at(row: &Row, at: usize) -> Result<u32, Fault>
+/// How many claims, payout lists or reminder runs were given numbers, in a column, at most
+/// 50,000,000.
+pub fn given_count_at(row: &Row, at: usize) -> Result<u32, Fault>
     ensures reads { ReadsColumn row.now at result stored.number (λ n. n ≤ most_entries) }
 {
     let count: u32 = value_at(row, at)?;
@@ -237,11 +237,8 @@ pub fn claim_count_at(row: &Row, at: usize) -> Result<u32, Fault>
 pub fn serial_count_at(row: &Row, at: usize) -> Result<u64, Fault>
     ensures reads { ReadsColumn row.now at result stored.number (λ n. n ≤ most_serials) }
 {
-    let count: u64 = value_at(row, at)?;
-    if !is_serial_count(count) {
-        return Err(Fault::Store(StoreCause::Row));
-    }
-    Ok(count)
+    let count = SerialCount::new(number_at(row, at)?).ok_or(Fault::Store(StoreCause::Row))?;
+    Ok(count.count())
 }
 
 /// The rate in a column, in hundredths of a percent, at most this.
@@ -278,13 +275,11 @@ pub fn claim_at(row: &Row, at: usize) -> Result<u32, Fault>
 pub fn maybe_list_at(row: &Row, at: usize) -> Result<Option<u32>, Fault>
     ensures reads { ReadsColumn row.now at result stored.maybe (λ n. IfSome n IsListNo) }
 {
-    let found: Option<u32> = value_at(row, at)?;
+    let found: Option<u64> = value_at(row, at)?;
     match found {
-        Some(list) => {
-            if !is_list_no(list) {
-                return Err(Fault::Store(StoreCause::Row));
-            }
-            Ok(Some(list))
+        Some(number) => {
+            let list = ListNo::new(number).ok_or(Fault::Store(StoreCause::Row))?;
+            Ok(Some(list.number()))
         }
         None => Ok(None),
     }

@@ -3,8 +3,7 @@ ghost use Rattle.std.specs.Prelude.{◌≡◌, ◌≤◌, ◌↔◌, length, tru
 ghost use Rattle.clear_money.specs.Calendar.{months};
 ghost use Rattle.clear_values.specs.Limits.{most_base, most_charged, most_claimed, most_employers};
 ghost use Rattle.clear_values.specs.Limits.{most_entries, most_gross, most_interest};
-ghost use Rattle.clear_values.specs.Limits.{most_serials, most_versions, most_weight};
-ghost use Rattle.clear_values.specs.Numbers.{IsListNo, IsRunNo};
+ghost use Rattle.clear_values.specs.Limits.{most_versions, most_weight};
 ghost use Rattle.clear_values.specs.RowRanges.{IsSerial};
 
 use clear_values::limits::{
@@ -58,20 +57,6 @@ pub fn is_serial(number: u64) -> bool
     number >= 1 && number <= MAX_SERIALS
 }
 
-/// Whether a payout list can have this number, 1 to 50,000,000.
-pub fn is_list_no(number: u32) -> bool
-    ensures { (result ≡ true) ↔ IsListNo number }
-{
-    number >= 1 && u64::from(number) <= MAX_ENTRIES
-}
-
-/// Whether a reminder run can have this number, 1 to 50,000,000.
-pub fn is_run_no(number: u32) -> bool
-    ensures { (result ≡ true) ↔ IsRunNo number }
-{
-    number >= 1 && u64::from(number) <= MAX_ENTRIES
-}
-
 /// Whether there can be so many firms, at most 10,000.
 pub fn is_firm_count(number: u64) -> bool
     ensures { (result ≡ true) ↔ (number ≤ most_employers) }
@@ -112,11 +97,4 @@ pub fn is_claimed(cents: u64) -> bool
     ensures { (result ≡ true) ↔ (cents ≤ most_claimed) }
 {
     cents <= MAX_CLAIMED
-}
-
-/// Whether so many serials may have been given, at most 500,000,000,000.
-pub fn is_serial_count(number: u64) -> bool
-    ensures { (result ≡ true) ↔ (number ≤ most_serials) }
-{
-    number <= MAX_SERIALS
 }

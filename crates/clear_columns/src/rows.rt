@@ -92,7 +92,8 @@ pub fn begin_rows<'a, T: StoredTable, S: Alter>(
     conn.query(sql, values)
 }
 
-/// The next row, and none past the last. A row that is out of its range is passed over.
+/// The next row, and none past the last. One that is out of its range is
+/// `Fault::Store(StoreCause::Row)`; of the rows behind it nothing is said.
 pub fn next_row<T: StoredTable, S: Alter>(rows: &mut Rows<'_, S>) -> Result<Option<T::Row>, Fault>
     ensures same_reference { rows.new.conn.ghost_name ≡ rows.old.conn.ghost_name }
     ensures advances { Advances S.Store rows.old.conn.now rows.new.conn.now T.shown T.is_in_range

@@ -1,18 +1,13 @@
 -- The contributions that are kept: under their firms and months.
-use Rattle.clear_columns.proofs.Words.{◌≡◌, ◌==◌, ℤ, pos, ℕ, Bool, true, false, not, ◌&&◌, ◌||◌, List, [], ◌∷◌, Less, map, filter, refl, arith, nat_tests, inl, inr, is_eq, codes, cast_row, Binary, Insert, Update, Database, Row, Values, Ghosts, Term, lit, col, op2, Null, automatic, agree, Compare, Eq, Ne, Or, Key, is_key, Tables, KeptCharge, charge_key, keeps_contribution, meets, output_cmp, plain_program, plain_query, content, HasTables, by_key, charges_table, charge_values, month, month_number, number, cast_int, cast_null, equal_months, equal_numbers, key_is, months_compare, numbers_compare, others_differ, AnswersJust, ◌∙◌, ap, nat_lt, Gt, Some}
-use Rattle.std.proofs.Common.{is_lt, nat_cmp}
-use Rattle.std.specs.List.{AllByRecursion}
-use Rattle.sqlite.specs.Tree.{IsAscending}
-use Rattle.sqlite.specs.Ops.{binary, from_truth, is_true, test}
+use Rattle.clear_columns.proofs.Words.{◌≡◌, ◌==◌, ℤ, pos, ℕ, Bool, true, false, not, ◌&&◌, ◌||◌, List, [], ◌∷◌, Less, map, filter, refl, inl, inr, is_eq, codes, cast_row, Binary, Insert, Update, Database, Row, Values, Ghosts, Term, lit, col, op2, Null, automatic, agree, Compare, Eq, Ne, Or, Key, is_key, Tables, KeptCharge, charge_key, keeps_contribution, meets, output_cmp, plain_program, plain_query, content, HasTables, by_key, charges_table, charge_values, month, month_number, number, cast_int, cast_null, equal_months, equal_numbers, key_is, months_compare, numbers_compare, others_differ, AnswersJust, nat_lt, Gt, and-true, two_met, is_above}
 use Rattle.sqlite_tied.specs.Compute.{everything}
 use Rattle.sqlite_value.specs.Keys.{ascending, first_key, plain}
-use Rattle.clear_values.specs.Keyed.{AllBehind, AreInOrder}
+use Rattle.clear_values.specs.Keyed.{AreInOrder, is_held}
 use Rattle.clear_values.proofs.KeyedLemmas.{is_key-true}
-use Rattle.clear_columns.proofs.KeyLemmas.{before_is}
+use Rattle.clear_columns.proofs.KeyLemmas.{in_order_if_rising}
 use Rattle.clear_schema.proofs.Changes.{charges_changed}
 use Rattle.clear_columns.proofs.KeyedTable.{KeyedTable, few, finds, lists, or_false}
 use Rattle.clear_columns.proofs.Says.{Says, SaysQuery}
-use Rattle.clear_columns.specs.Keys.{is_held}
 use Rattle.clear_firms.specs.Shown.{charge_shown, month_given}
 
 pub keys_agree : (a b : ℤ × KeptCharge) → agree plain (1 ∷ 2 ∷ []) (charge_values a) (1 ∷ 2 ∷ []) (charge_values b) ≡ is_eq (by_key charge_key (content b) (content a))
@@ -55,15 +50,7 @@ charges = record {
 
 -- they stand in the order of their keys
 pub charges_in_order : (t : Tables) (db : Database) → HasTables t db → AreInOrder charge_key t.charges
-charges_in_order t db has = rising t.charges has.charges.rises
-  where
-    behind : (row : KeptCharge) (rows : List KeptCharge) → AllByRecursion (λ r. by_key charge_key row r ≡ Less) rows → AllBehind charge_key (charge_key row) rows
-    behind row [] all = tt
-    behind row (r ∷ rows) all = (before_is (charge_key row) (charge_key r) ∙ ap is_lt all.0, behind row rows all.1)
-
-    rising : (rows : List KeptCharge) → IsAscending (λ a b. by_key charge_key a b ≡ Less) rows → AreInOrder charge_key rows
-    rising [] up = tt
-    rising (row ∷ rows) up = (behind row rows up.0, rising rows up.1)
+charges_in_order t db has = in_order_if_rising charge_key t.charges has.charges.rises
 
 -- ---- the texts
 
@@ -168,35 +155,14 @@ abbrev pub is_by : ℕ → KeptCharge → Bool
 is_by e row = row.employer == e
 
 of_firm : (e : ℕ) (y : ℤ × KeptCharge) → meets by_firm (number e ∷ []) (charge_values y) ≡ is_by e (content y)
-of_firm e y = rw (equal_numbers (content y).employer e) (last ((content y).employer == e))
-  where
-    last : (b : Bool) → (b && true) ≡ b
-    last true = refl
-    last false = refl
-
--- whether a number is more than 0
-is_more : (n : ℕ) → is_true (binary (Compare Gt Binary) (number n) (number 0)) ≡ nat_lt 0 n
-unfolding binary
-is_more n = told _ ∙ ap (test Gt) (numbers_compare n 0) ∙ greater n
-  where
-    told : (b : Bool) → is_true (from_truth (Some b)) ≡ b
-    told true = refl
-    told false = refl
-
-    greater : (n : ℕ) → test Gt (nat_cmp n 0) ≡ nat_lt 0 n
-    greater n = grind (arith, nat_tests)
+of_firm e y = rw (equal_numbers (content y).employer e) (and-true ((content y).employer == e))
 
 -- a part of the row is open, and it is of a firm
 abbrev pub is_open_by : ℕ → KeptCharge → Bool
 is_open_by e row = (row.employer == e) && nat_lt 0 row.left
 
 open_of_firm : (e : ℕ) (y : ℤ × KeptCharge) → meets by_open (number e ∷ []) (charge_values y) ≡ is_open_by e (content y)
-open_of_firm e y = rw (equal_numbers (content y).employer e, is_more (content y).left) (last ((content y).employer == e) (nat_lt 0 (content y).left))
-  where
-    last : (a b : Bool) → (a && (b && true)) ≡ (a && b)
-    last true true = refl
-    last true false = refl
-    last false b = refl
+open_of_firm e y = rw (equal_numbers (content y).employer e, is_above (content y).left 0) (two_met ((content y).employer == e) (nat_lt 0 (content y).left))
 
 -- what ORDER BY goes by
 abbrev sorted : KeptCharge → Row

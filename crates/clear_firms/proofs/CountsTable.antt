@@ -6,7 +6,8 @@ use Rattle.clear_schema.specs.Values.{Counts, counts_of, with_counts}
 use Rattle.clear_schema.proofs.Changes.{counts_changed}
 use Rattle.clear_columns.proofs.NumberedTable.{NumberedTable, finds}
 use Rattle.clear_columns.proofs.Says.{Says, SaysQuery}
-use Rattle.clear_firms.specs.Counts.{counts_given}
+use Rattle.clear_values.specs.RowRanges.{AreInRange}
+use Rattle.clear_firms.specs.Counts.{AreCounts, counts_given}
 
 -- the tables with the counts of a row
 abbrev pub with_first : Tables → List Counts → Tables
@@ -79,3 +80,14 @@ answers g t db has = finds counts g t db has [] counts_given (λ c. true) (is_on
 -- the first row of the answer is the one
 pub first_row : (rows : List Row) (c : Counts) (row : Row) → Some row ≡ slice_get rows 0 → rows ≡ counts_given c ∷ [] → row ≡ counts_given c
 first_row rows c row is same = let e = is ∙ ap (λ l. slice_get l 0) same in cc
+
+-- the counts of tables in their ranges are in theirs
+pub counts_in_range : (t : Tables) → AreInRange t → AreCounts (counts_of t)
+counts_in_range t within = record {
+  day = within.day;
+  entries = within.entries;
+  serial = within.serial;
+  claims = within.last_claim;
+  lists = within.last_list;
+  runs = within.last_run;
+}

@@ -1,12 +1,12 @@
 -- The reports: under their firms and months.
-use Rattle.clear_columns.proofs.Words.{◌≡◌, ◌==◌, ℤ, pos, ℕ, Bool, true, false, ◌&&◌, List, [], ◌∷◌, Less, map, filter, refl, inl, inr, is_eq, codes, cast_row, Binary, Insert, Update, Database, Row, Values, Ghosts, Term, lit, col, op2, Null, automatic, agree, Compare, Eq, Key, is_key, Tables, ReportRow, report_key, meets, output_cmp, plain_program, plain_query, content, HasTables, by_key, reports_table, report_values, month, month_number, number, cast_int, cast_null, equal_months, equal_numbers, key_is, months_compare, numbers_compare, AnswersJust}
+use Rattle.clear_columns.proofs.Words.{◌≡◌, ◌==◌, ℤ, pos, ℕ, Bool, true, List, [], ◌∷◌, Less, map, filter, refl, inl, inr, is_eq, codes, cast_row, Binary, Insert, Update, Database, Row, Values, Ghosts, Term, lit, col, op2, Null, automatic, agree, Compare, Eq, Key, is_key, Tables, ReportRow, report_key, meets, output_cmp, plain_program, plain_query, content, HasTables, by_key, reports_table, report_values, month, month_number, number, cast_int, cast_null, equal_months, equal_numbers, key_is, months_compare, numbers_compare, AnswersJust, and-true}
 use Rattle.sqlite_tied.specs.Compute.{everything}
 use Rattle.sqlite_value.specs.Keys.{ascending, first_key, plain}
 use Rattle.clear_values.proofs.KeyedLemmas.{is_key-true}
 use Rattle.clear_schema.proofs.Changes.{reports_changed}
 use Rattle.clear_columns.proofs.KeyedTable.{KeyedTable, few, finds, lists, lists_all, or_false}
 use Rattle.clear_columns.proofs.Says.{Says, SaysQuery}
-use Rattle.clear_columns.specs.Keys.{is_held}
+use Rattle.clear_values.specs.Keyed.{is_held}
 use Rattle.clear_firms.specs.Shown.{month_given, report_shown}
 
 pub keys_agree : (a b : ℤ × ReportRow) → agree plain (1 ∷ 2 ∷ []) (report_values a) (1 ∷ 2 ∷ []) (report_values b) ≡ is_eq (by_key report_key (content b) (content a))
@@ -122,11 +122,7 @@ abbrev pub is_by : ℕ → ReportRow → Bool
 is_by e row = row.employer == e
 
 of_firm : (e : ℕ) (y : ℤ × ReportRow) → meets by_firm (number e ∷ []) (report_values y) ≡ is_by e (content y)
-of_firm e y = rw (equal_numbers (content y).employer e) (last ((content y).employer == e))
-  where
-    last : (b : Bool) → (b && true) ≡ b
-    last true = refl
-    last false = refl
+of_firm e y = rw (equal_numbers (content y).employer e) (and-true ((content y).employer == e))
 
 -- what ORDER BY goes by
 abbrev sorted : ReportRow → Row

@@ -1,11 +1,11 @@
 -- The wages: under their firms, months and workers.
-use Rattle.clear_columns.proofs.Words.{◌≡◌, ◌==◌, ℤ, pos, ℕ, Bool, true, false, ◌&&◌, List, [], ◌∷◌, Less, map, filter, refl, ◌∙◌, inl, inr, is_eq, codes, cast_row, Binary, Delete, Insert, Database, Row, Values, Ghosts, Term, lit, col, op2, Null, automatic, agree, Compare, Eq, Key, Tables, WageRow, is_wage_key_of, wage_key, meets, output_cmp, plain_program, plain_query, content, HasTables, by_key, wages_table, wage_values, month, month_number, number, cast_int, cast_null, equal_months, equal_numbers, key_is, months_compare, numbers_compare, turned_nat, AnswersJust}
+use Rattle.clear_columns.proofs.Words.{◌≡◌, ◌==◌, ℤ, pos, ℕ, Bool, ◌&&◌, List, [], ◌∷◌, Less, map, filter, refl, ◌∙◌, inl, inr, is_eq, codes, cast_row, Binary, Delete, Insert, Database, Row, Values, Ghosts, Term, lit, col, op2, Null, automatic, agree, Compare, Eq, Key, Tables, WageRow, is_wage_key_of, wage_key, meets, output_cmp, plain_program, plain_query, content, HasTables, by_key, wages_table, wage_values, month, month_number, number, cast_int, cast_null, equal_months, equal_numbers, key_is, months_compare, numbers_compare, turned_nat, AnswersJust, and-true, two_met}
 use Rattle.sqlite_tied.specs.Compute.{everything}
 use Rattle.sqlite_value.specs.Keys.{ascending, first_key, plain}
 use Rattle.clear_schema.proofs.Changes.{wages_changed}
 use Rattle.clear_columns.proofs.KeyedTable.{KeyedTable, lists, or_false}
 use Rattle.clear_columns.proofs.Says.{Says, SaysQuery}
-use Rattle.clear_columns.specs.Keys.{is_held}
+use Rattle.clear_values.specs.Keyed.{is_held}
 use Rattle.clear_firms.specs.Shown.{month_given, wage_shown}
 
 pub keys_agree : (a b : ℤ × WageRow) → agree plain (1 ∷ 2 ∷ 3 ∷ []) (wage_values a) (1 ∷ 2 ∷ 3 ∷ []) (wage_values b) ≡ is_eq (by_key wage_key (content b) (content a))
@@ -87,12 +87,7 @@ is_of e m row = is_wage_key_of e m (wage_key row)
 pub of_month : (e m : ℕ) (y : ℤ × WageRow) → meets by_month (month_given e m) (wage_values y) ≡ is_of e m (content y)
 of_month e m y =
     rw (equal_numbers (content y).employer e, equal_months (content y).month m)
-    (last ((content y).employer == e) ((content y).month == m) ∙ (λ i. turned_nat (content y).employer e i && turned_nat (content y).month m i))
-  where
-    last : (a b : Bool) → (a && (b && true)) ≡ (a && b)
-    last true true = refl
-    last true false = refl
-    last false b = refl
+    (two_met ((content y).employer == e) ((content y).month == m) ∙ (λ i. turned_nat (content y).employer e i && turned_nat (content y).month m i))
 
 -- what ORDER BY goes by
 abbrev sorted : WageRow → Row
@@ -121,11 +116,7 @@ abbrev pub is_for : ℕ → WageRow → Bool
 is_for w row = row.worker == w
 
 for_worker : (w : ℕ) (y : ℤ × WageRow) → meets by_worker (number w ∷ []) (wage_values y) ≡ is_for w (content y)
-for_worker w y = rw (equal_numbers (content y).worker w) (last ((content y).worker == w))
-  where
-    last : (b : Bool) → (b && true) ≡ b
-    last true = refl
-    last false = refl
+for_worker w y = rw (equal_numbers (content y).worker w) (and-true ((content y).worker == w))
 
 rises_for : (a b : WageRow) → by_key wage_key a b ≡ Less → output_cmp (plain_query 5 by_worker columns order) (sorted a, wage_shown a) (sorted b, wage_shown b) ≡ Less
 rises_for a b less = rw (numbers_compare a.employer b.employer, months_compare a.month b.month, numbers_compare a.worker b.worker) less

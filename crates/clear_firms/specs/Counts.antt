@@ -1,5 +1,5 @@
 -- The counts of an office, as a program has them and as a statement is given them.
-use Rattle.std.specs.Prelude.{[], ◌∷◌, ◌<◌, ◌≤◌, ◌^◌, IfSome}
+use Rattle.std.specs.Prelude.{[], ◌∷◌, ◌≤◌, IfSome}
 use Rattle.sqlite.specs.Order.{Row}
 use Rattle.clear_money.specs.Calendar.{IsDay}
 use Rattle.clear_values.specs.Limits.{most_entries, most_serials}
@@ -35,9 +35,11 @@ counts_given c =
 abbrev pub counts_shown : Told → Row
 counts_shown c = counts_given (as_stored c)
 
--- no more entries, serials and claims than there may be
+-- no more entries, serials, claims, lists and runs than there may be
 abbrev pub AreCountable : Told → Type 0
-AreCountable c = (c.entries ≤ most_entries) × (c.serial ≤ most_serials) × (c.claims ≤ most_entries)
+AreCountable c =
+    (c.entries ≤ most_entries) × (c.serial ≤ most_serials) × (c.claims ≤ most_entries)
+    × (c.lists ≤ most_entries) × (c.runs ≤ most_entries)
 
 -- counts whose day and numbers lie in their ranges
 pub record AreCounts (c : Counts) : Type 0 where
@@ -45,5 +47,5 @@ pub record AreCounts (c : Counts) : Type 0 where
   pub entries : c.entries ≤ most_entries
   pub serial : c.serial ≤ most_serials
   pub claims : c.claims ≤ most_entries
-  pub lists : c.lists < 2 ^ 32
-  pub runs : c.runs < 2 ^ 32
+  pub lists : c.lists ≤ most_entries
+  pub runs : c.runs ≤ most_entries

@@ -2,11 +2,10 @@
 //! its weight so far.
 ghost use Rattle.std.specs.Prelude.{◌≡◌, ◌↔◌, ◌==◌, ◌&&◌, [], ◌∷◌, false, filter, nat_lt, true};
 ghost use Rattle.sqlite.specs.Values.{bound};
-ghost use Rattle.clear_values.specs.Keyed.{find_row, with_row};
+ghost use Rattle.clear_values.specs.Keyed.{find_row, is_held, replaced, with_row};
 ghost use Rattle.clear_values.specs.RowRanges.{IsKeptCharge};
 ghost use Rattle.clear_values.specs.Tables.{charge_key, corrected};
 ghost use Rattle.clear_schema.specs.Frame.{Finds, Lists, Writes};
-ghost use Rattle.clear_columns.specs.Keys.{is_held, replaced};
 ghost use Rattle.clear_firms.specs.Amounts.{AreInRange};
 ghost use Rattle.clear_firms.specs.Shown.{charge_shown};
 

@@ -10,17 +10,16 @@ ghost use Rattle.clear_schema.specs.Values.{Counts as Stored, counts_of, with_co
 ghost use Rattle.clear_firms.specs.Counts.{AreCountable, AreCounts, as_stored, as_told};
 ghost use Rattle.clear_firms.specs.Counts.{counts_given, counts_shown};
 
-use clear_columns::columns::{
-    claim_count_at, count_at, entry_count_at, maybe_day_at, serial_count_at,
-};
+use clear_columns::columns::{entry_count_at, given_count_at, maybe_day_at, serial_count_at};
 use clear_columns::parameters::maybe_day;
-use clear_columns::ranges::{is_entry_count, is_serial_count};
+use clear_columns::ranges::is_entry_count;
 use clear_columns::rows::{StoredTable, begin_rows};
 use clear_money::days::Day;
 use clear_schema::fault::Fault;
 use clear_schema::statement::{look, put};
 use clear_schema::values::number;
 use clear_values::causes::StoreCause;
+use clear_values::numbers::SerialCount;
 use sqlite::{Alter, Connection, Error, Row, Rows, Transaction};
 use sqlite_value::value::ValueRef;
 
@@ -78,9 +77,9 @@ fn shown_counts(row: &Row) -> Result<Counts, Fault>
         day: maybe_day_at(row, 0)?,
         entries: entry_count_at(row, 1)?,
         serial: serial_count_at(row, 2)?,
-        claims: claim_count_at(row, 3)?,
-        lists: count_at(row, 4)?,
-        runs: count_at(row, 5)?,
+        claims: given_count_at(row, 3)?,
+        lists: given_count_at(row, 4)?,
+        runs: given_count_at(row, 5)?,
     })
 }
 
@@ -113,8 +112,9 @@ impl StoredTable for Meta {
     }
 }
 
-/// Writes the counts in place of those that stand. More than 50,000,000 entries or claims, or
-/// 500,000,000,000 serials, are refused with `Fault::Store(StoreCause::Row)`, and nothing is done.
+/// Writes the counts in place of those that stand. More than 50,000,000 entries, claims, lists or
+/// runs, or 500,000,000,000 serials, are refused with `Fault::Store(StoreCause::Row)`, and nothing is
+/// done.
 pub fn put_counts<S: Alter>(tx: &mut Transaction<'_, S>, counts: &Counts) -> Result<(), Fault>
     ensures same_reference { tx.new.conn.ghost_name ≡ tx.old.conn.ghost_name }
     ensures writes { Writes S.Store tx.old.conn.now tx.new.conn.now result
@@ -137,8 +137,10 @@ fn are_countable(counts: &Counts) -> bool
     ensures { (result ≡ true) ↔ AreCountable counts.now }
 {
     is_entry_count(counts.entries)
-        && is_serial_count(counts.serial)
+        && SerialCount::new(counts.serial).is_some()
         && is_entry_count(u64::from(counts.claims))
+        && is_entry_count(u64::from(counts.lists))
+        && is_entry_count(u64::from(counts.runs))
 }
 
 // What the statement is given of the counts.

@@ -4,11 +4,10 @@ ghost use Rattle.std.specs.Prelude.{◌≡◌, [], ◌∷◌, ⊤, false, length
 ghost use Rattle.sqlite.specs.Held.{state};
 ghost use Rattle.sqlite.specs.Values.{bound};
 ghost use Rattle.sqlite.specs.contracts.connection.Connection.{the_row};
-ghost use Rattle.clear_values.specs.Keyed.{find_row, with_row};
+ghost use Rattle.clear_values.specs.Keyed.{find_row, is_held, replaced, with_row};
 ghost use Rattle.clear_values.specs.RowRanges.{IsEmployerRow};
 ghost use Rattle.clear_values.specs.Tables.{employer_key};
 ghost use Rattle.clear_schema.specs.Frame.{Finds, Lists, LooksUp, Writes};
-ghost use Rattle.clear_columns.specs.Keys.{is_held, replaced};
 ghost use Rattle.clear_columns.specs.Reading.{HasSomeTables, IsLeft, ReadsOn};
 ghost use Rattle.clear_firms.specs.Shown.{employer_shown};
 

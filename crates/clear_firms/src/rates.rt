@@ -2,10 +2,9 @@
 ghost use Rattle.std.specs.Prelude.{◌≡◌, ◌≢◌, IfErr, IfOk};
 ghost use Rattle.sqlite.specs.Values.{bound};
 ghost use Rattle.clear_money.specs.Rates.{IsRate};
-ghost use Rattle.clear_values.specs.Keyed.{with_row};
+ghost use Rattle.clear_values.specs.Keyed.{is_held, with_row};
 ghost use Rattle.clear_values.specs.Ranges.{AreRates};
 ghost use Rattle.clear_schema.specs.Frame.{Lists, LooksUp, Writes};
-ghost use Rattle.clear_columns.specs.Keys.{is_held};
 ghost use Rattle.clear_firms.specs.Shown.{rate_key, rate_shown};
 
 use clear_columns::columns::{month_at, month_day_at, rate_at};

@@ -4,12 +4,11 @@ ghost use Rattle.std.specs.Prelude.{◌≡◌, ◌≤◌, ◌==◌, [], ◌∷�
 ghost use Rattle.sqlite.specs.Held.{state};
 ghost use Rattle.sqlite.specs.Values.{bound};
 ghost use Rattle.sqlite.specs.contracts.connection.Connection.{the_row};
-ghost use Rattle.clear_values.specs.Keyed.{find_row, with_row};
+ghost use Rattle.clear_values.specs.Keyed.{find_row, is_held, replaced, with_row};
 ghost use Rattle.clear_values.specs.Limits.{most_versions};
 ghost use Rattle.clear_values.specs.RowRanges.{IsReportRow};
 ghost use Rattle.clear_values.specs.Tables.{report_key};
 ghost use Rattle.clear_schema.specs.Frame.{Finds, Lists, Writes};
-ghost use Rattle.clear_columns.specs.Keys.{is_held, replaced};
 ghost use Rattle.clear_columns.specs.Reading.{HasSomeTables, IsLeft, ReadsOn};
 ghost use Rattle.clear_firms.specs.Shown.{report_shown};
 

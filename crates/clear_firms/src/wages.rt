@@ -1,12 +1,11 @@
 //! The table of wages: the lines of each month's latest report.
 ghost use Rattle.std.specs.Prelude.{◌≡◌, ◌≤◌, ◌==◌, false, filter};
 ghost use Rattle.sqlite.specs.Values.{bound};
-ghost use Rattle.clear_values.specs.Keyed.{with_row, without_rows};
+ghost use Rattle.clear_values.specs.Keyed.{is_held, with_row, without_rows};
 ghost use Rattle.clear_values.specs.Limits.{most_gross};
 ghost use Rattle.clear_values.specs.RowRanges.{IsWageRow};
 ghost use Rattle.clear_values.specs.Tables.{is_wage_key_of, wage_key};
 ghost use Rattle.clear_schema.specs.Frame.{Lists, Writes};
-ghost use Rattle.clear_columns.specs.Keys.{is_held};
 ghost use Rattle.clear_firms.specs.Shown.{wage_shown};
 
 use crate::parameters::month_values;

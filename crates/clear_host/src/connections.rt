@@ -9,7 +9,7 @@
 //! items of a stream and their answers is said where the bytes are known, of the serve loop. Here
 //! they stand in a list of talks, one for each connection, which is empty where none was accepted.
 //! Nor does one say what stands on the error writer once a write to it has failed, which connection
-//! a line tells of, or what a watch sees.
+//! a line tells of, or what a path names.
 ghost use Rattle.std.specs.Prelude.{◌≡◌, ◌<◌, ◌++◌, true, OnOk};
 ghost use Rattle.std.specs.Io.KnownBytes.{Appends};
 ghost use Rattle.clear_office.specs.Office.{IsHonest};
@@ -18,6 +18,7 @@ ghost use Rattle.clear_http.specs.Desk.{MayServe};
 ghost use Rattle.clear_host.specs.Talks.{AreServed};
 ghost use Rattle.clear_host.specs.Told.{AreTold, end_lines, failing_lines, text_of};
 
+use crate::named::NamedFile;
 use crate::peer::{Peer, Taker, part};
 use clear_callers::directory::Directory;
 use clear_http::desk::serve;
@@ -29,11 +30,6 @@ use sqlite::Alter;
 use std::io;
 use std::io::Write;
 use std::net::{TcpListener, TcpStream};
-
-/// Whether the store that is served still stands where it was opened.
-pub trait Watch {
-    fn stands(&self) -> bool;
-}
 
 /// How serving ended.
 #[derive(Clone, Copy)]
@@ -69,8 +65,8 @@ struct Talked {
 /// that reads as a call for which access says no is turned away, and the office stays but for a
 /// call that access allows. An office that has failed stays as it is.
 ///
-/// Each connection that is taken counts. Before it is served the watch is asked: where the store
-/// has gone, nothing more is served.
+/// Each connection that is taken counts. Before it is served, the store has to stand at its path:
+/// where it has gone, nothing more is served.
 ///
 /// A peer has 30 seconds for a request, and 10 for each read and each write. Without a request its
 /// connection may stay open for 30 seconds, or until another one waits; a new one is left a second
@@ -78,14 +74,14 @@ struct Talked {
 ///
 /// The connections are served whether or not the error writer takes its lines. Where it had no
 /// fault, nothing else was written to it.
-pub fn serve_connections<S: Alter, E: Write, W: Watch>(
+pub fn serve_connections<S: Alter, E: Write>(
     rt: &HostRuntime,
     listener: &TcpListener,
     count: u32,
     office: &mut Office<S>,
     directory: &Directory,
     day: Day,
-    watch: &W,
+    store: &NamedFile<'_>,
     errors: &mut E,
 ) -> Serving
     ensures served { AreServed S.Store (Reads directory.now day) result.ended count
@@ -99,7 +95,7 @@ pub fn serve_connections<S: Alter, E: Write, W: Watch>(
     let mut next = None;
     for served in 0..count {
         let accepted = accept(listener, next);
-        if !watch.stands() {
+        if !store.stands() {
             return Serving {
                 ended: Ended::StoreGone,
                 told,

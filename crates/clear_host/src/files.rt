@@ -22,7 +22,7 @@ pub const MAX_FILE: usize = 4_194_304;
 #[derive(Clone, Copy)]
 pub enum FileFault {
     /// It can't be opened or read, has more than `MAX_FILE` bytes, or isn't the file that it should
-    /// be.
+    /// be, or a copy can't be written, or something stands where it is to be.
     Unusable,
     /// There was no memory.
     Memory,

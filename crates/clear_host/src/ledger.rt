@@ -8,7 +8,7 @@ ghost use Rattle.clear_office.specs.Office.{Holds};
 
 use clear_firms::counts::find_counts;
 use clear_money::days::Day;
-use clear_schema::body::{Body, Stop};
+use clear_schema::body::{Body, Stop, within};
 use clear_schema::fault::Fault;
 use clear_schema::store::Store;
 use sqlite::{Alter, Transaction};
@@ -28,7 +28,7 @@ pub(crate) fn ledger_day<S: Alter>(store: &mut Store<S>) -> Result<Option<Day>, 
         → (t : Tables) → HasTables t (state S.Store store.old.conn).now
         → OnOk result (Holds S.Store store.new.conn t) }
 {
-    match store.within(LedgerDay) {
+    match within(&mut store.conn, LedgerDay) {
         Ok(day) => Ok(day),
         Err(Stop::Fault(fault)) => Err(fault),
         Err(Stop::Refused(never)) => match never {},

@@ -25,6 +25,7 @@ use clear_money::days::Day;
 use clear_money::rates::RateTable;
 use clear_office::made::make_office;
 use clear_office::office::Office;
+use clear_schema::body;
 use clear_schema::fault::OpenFault;
 use clear_schema::store::Store;
 use sqlite::{Alter, Connection};
@@ -182,7 +183,7 @@ fn confirm<S: Alter>(store: Store<S>) -> Result<Store<S>, NotOpened<S>>
         HasCleanDisk (state S.Store store.conn))) }
 {
     let mut store = store;
-    match store.confirm() {
+    match body::confirm(&mut store.conn) {
         Ok(()) => Ok(store),
         Err(fault) => Err(NotOpened {
             fault: OpenFault::Failed(fault),

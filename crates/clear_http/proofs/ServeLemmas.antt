@@ -10,16 +10,16 @@ use Rattle.clear_answers.specs.Answer.{answer_of, head_of, first_lines, further_
 use Rattle.clear_answers.specs.Said.{refused_by}
 use Rattle.clear_wire.specs.Head.{Heading}
 use Rattle.clear_wire.specs.Stream.{NextItem, ended, Next}
-use Rattle.clear_wire.specs.Cut.{left_after, left_after_all, BeginsCut, Cuts, IsAnswered}
+use Rattle.clear_wire.specs.Cut.{left_after, left_after_all, Cuts, IsAnswered}
 use Rattle.clear_wire.specs.Known.{Leads}
 use Rattle.clear_wire.specs.Limits.{request_limit}
 use Rattle.clear_wire.specs.Request.{next_item}
 use Rattle.clear_wire.specs.declared.request.Item.{Item}
-use Rattle.clear_wire.proofs.CutLemmas.{Cuts-append, left_after_all-append, cut_ended, cut_full, cut_begun, nothing_cut}
+use Rattle.clear_wire.proofs.CutLemmas.{Cuts-append, left_after_all-append, cut_ended, cut_begun, nothing_cut}
 use Rattle.clear_wire.proofs.KnownLemmas.{Leads-refl, Leads-then, Appends-nil, Appends-then}
 use Rattle.clear_http.specs.declared.serve.Served.{Served}
 use Rattle.clear_http.specs.declared.serve.Behind.{Behind}
-use Rattle.clear_http.specs.Serve.{is_bad, ends_by_rule, ends_stream, left_then, NoneEnds, LastEnds, IsCutBy, was_done, MaySend, Says, Responds, is_bare, item_answer, answer_text, AnswersOne, BreaksOff, Progress, Serves, ServesPart}
+use Rattle.clear_http.specs.Serve.{is_bad, ends_by_rule, ends_stream, left_then, NoneEnds, LastEnds, was_done, MaySend, Says, Responds, is_bare, item_answer, answer_text, AnswersOne, BreaksOff, Progress, Serves, ServesPart}
 
 -- ---- what ends a stream
 
@@ -162,27 +162,6 @@ module _ {H : Type 0} (responds : H → Heading → List ℕ → Said → H → 
         where
           left_same : (qs : List NextItem) (a : Option (List ℕ)) → IfSome a (λ m. (r : List ℕ) × Cuts left m qs r) → IfSome a (λ m. (r : List ℕ) × Cuts (left_after_all request_limit x.items) m qs r)
           left_same qs a q = subst (λ n. IfSome a (λ m. (r : List ℕ) × Cuts n m qs r)) left_is q
-
-    -- no request may follow
-    all_cut : left ≡ 0 → IfSome bytes (λ b. IsCutBy b x.items x.saids)
-    all_cut none = elim x.left_is [
-      | inl both ↦ if_some (λ b whole_cut. inl (whole_cut, both.1)) bytes (cut_full x.items bytes mid (sym both.0 ∙ none) x.cuts)
-      | inr over ↦ if_some (λ b begun. inr (begun, over.1)) bytes begins
-    ]
-      where
-        begins : IfSome bytes (λ b. BeginsCut b x.items)
-        begins = subst (λ (q : List NextItem). IfSome bytes (λ b. BeginsCut b q)) (append-nil x.items) (cut_begun x.items [] bytes mid x.cuts (nothing_cut (left_after_all request_limit x.items) mid))
-
-    pub progress_full : left ≡ 0 → Serves responds h bytes written wmid now served
-    progress_full none = record {
-      items = x.items;
-      saids = x.saids;
-      cut = all_cut none;
-      runs = x.runs;
-      wrote = x.wrote;
-      count = x.count;
-      rule = x.rule;
-    }
 
   abbrev none_yet : Served
   none_yet = record { requests = 0; unread = false }

@@ -5,8 +5,7 @@ use Rattle.std.specs.Prelude.{Result, Ok, Err}
 use Rattle.std.specs.Prelude.{length, Option, ◌==◌, IfSome, ⊤, if◌then◌else◌}
 use Rattle.std.specs.List.{AllByRecursion}
 use Rattle.std.specs.Io.KnownBytes.{Appends}
-use Rattle.clear_book.specs.declared.rules.Rule.{Rule}
-use Rattle.clear_book.specs.declared.rules.Rule.TheVariants as rule
+use Rattle.clear_book.specs.Rules.{tells_fault}
 use Rattle.clear_book.specs.declared.rules.Rule.TheVariants.{Memory, Failed}
 use Rattle.clear_answers.specs.declared.said.Said.{Said}
 use Rattle.clear_answers.specs.declared.said.Said.TheVariants.{Reply, Answer, No}
@@ -40,47 +39,6 @@ abbrev pub ends_by_rule : List NextItem → Bool
 ends_by_rule [] = false
 ends_by_rule (item ∷ []) = is_bad item
 ends_by_rule (item ∷ next ∷ items) = ends_by_rule (next ∷ items)
-
--- the rule says that the store has failed
-abbrev pub tells_fault : Rule → Bool
-tells_fault rule.BadHead = false
-tells_fault rule.TooLarge = false
-tells_fault rule.BadFraming = false
-tells_fault rule.NoRoute = false
-tells_fault rule.BadMethod = false
-tells_fault rule.UnknownKey = false
-tells_fault rule.NotYours = false
-tells_fault rule.BadBody = false
-tells_fault rule.NumberReused = false
-tells_fault (rule.DayBack day) = false
-tells_fault rule.UnknownEmployer = false
-tells_fault rule.EmployerExists = false
-tells_fault rule.MonthOutside = false
-tells_fault rule.MonthAhead = false
-tells_fault (rule.ReportExists version) = false
-tells_fault (rule.StaleVersion version) = false
-tells_fault (rule.WorkerTwice worker) = false
-tells_fault (rule.OverLimit limit) = false
-tells_fault rule.RateOrder = false
-tells_fault (rule.BadCsv line field) = false
-tells_fault (rule.RefConflict line) = false
-tells_fault (rule.ValueAhead line) = false
-tells_fault rule.NotInSuspense = false
-tells_fault rule.NotEmployed = false
-tells_fault (rule.OverBalance balance) = false
-tells_fault rule.UnknownClaim = false
-tells_fault rule.ClaimNotOpen = false
-tells_fault (rule.MissingReport month) = false
-tells_fault rule.NothingToPay = false
-tells_fault rule.NothingToRemind = false
-tells_fault (rule.EndBeforeReports month) = false
-tells_fault rule.NoRate = false
-tells_fault rule.UnknownDocument = false
-tells_fault rule.Memory = false
-tells_fault (rule.Store cause) = true
-tells_fault rule.Failed = false
-tells_fault (rule.WrongVersion version) = false
-tells_fault (rule.BadOldRow table) = false
 
 -- what is said ends the stream: the store has failed
 abbrev pub ends_stream : Said → Bool

@@ -17,8 +17,8 @@
 pub mod desk;
 pub mod serve;
 
-pub use clear_answers::said;
+pub use clear_answers::{answer, said};
 pub use clear_callers::directory;
 pub use clear_routes::call::find_call as to_command;
 pub use clear_routes::routes;
-pub use clear_wire::{counted, request};
+pub use clear_wire::{counted, input, request};

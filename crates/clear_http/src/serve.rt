@@ -1,5 +1,5 @@
 //! One stream, served: its requests are answered one after another, and the answers are written.
-ghost use Rattle.std.specs.Prelude.{◌≡◌, ◌≢◌, ℕ, ◌+◌, ◌<◌, ◌≤◌, ◌++◌, ◌==◌, true, false, List, []};
+ghost use Rattle.std.specs.Prelude.{◌≡◌, ◌≢◌, ℕ, ◌+◌, ◌<◌, ◌≤◌, ◌++◌, true, false, List, []};
 ghost use Rattle.std.specs.Prelude.{length, IfOk, IfErr, IfSome, IfNone, OnOk, OnErr, Err};
 ghost use Rattle.std.specs.Io.KnownBytes.{Appends};
 ghost use Rattle.clear_answers.specs.Answer.{answer_of};
@@ -60,7 +60,7 @@ pub enum Fault {
     Memory,
 }
 
-/// How many answers were written, and whether the stream ended before its bytes did.
+/// How many answers were written, and whether what came behind them isn't read.
 #[derive(Clone, Copy)]
 pub struct Served {
     pub requests: u64,
@@ -97,8 +97,8 @@ fn fault_of(fault: ReadFault) -> Fault
     }
 }
 
-// Writes all of the text, or a front of it that isn't all where a write fails.
-fn write_all<W: Write>(writer: &mut Counted<W>, text: &[u8]) -> Result<(), Fault>
+/// Writes all of the text, or a front of it that isn't all where a write fails.
+pub fn write_all<W: Write>(writer: &mut Counted<W>, text: &[u8]) -> Result<(), Fault>
     ensures wrote { (part : List ℕ) × (rest : List ℕ) × (text.now ≡ part ++ rest)
         × Appends (W.contents (inner writer.old)) (W.contents (inner writer.new)) part
         × OnOk result (rest ≡ []) × OnErr result (0 < length rest) }
@@ -124,7 +124,7 @@ pub(crate) fn tell_failed<W: Write>(writer: &mut Counted<W>) -> Result<Served, S
     ensures failed { IfErr result (λ fault.
         (fault.fault ≡ Fault.Write) × (has_failed writer.new ≡ true)) }
 {
-    match write_all(writer, failed_text(true, false)) {
+    match write_all(writer, failed_text()) {
         Ok(()) => Ok(Served {
             requests: 1,
             unread: true,

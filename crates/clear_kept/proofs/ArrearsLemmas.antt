@@ -10,7 +10,7 @@ use Rattle.clear_account.specs.Account.{credited}
 use Rattle.clear_account.specs.Arrears.{charged_before}
 use Rattle.clear_account.proofs.PlaceLemmas.{AllPairs-head, AllPairs-tail}
 use Rattle.clear_kept.specs.declared.rows.WeighedCharge.{WeighedCharge}
-use Rattle.clear_kept.specs.Weighed.{ArrearsFromRows}
+use Rattle.clear_kept.specs.Owing.{ArrearsFromRows}
 use Rattle.clear_kept.proofs.WeighedLemmas.{left_is, row_between, rows_walk, weighed_charges-walk}
 
 abbrev open_before : ℕ → List WeighedCharge → ℕ

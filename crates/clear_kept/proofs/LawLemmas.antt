@@ -36,7 +36,7 @@ later_charges : (month : ℕ) (cs : List Charge) → All (λ c. month ≤ c.mont
 later_charges month cs = All-weaker (λ (c : Charge). not (nat_lt c.month month) ≡ true) (λ c. month ≤ c.month) (λ c is. ltb-false c.month month (not_true (nat_lt c.month month) is)) (charges_from month cs) (filter_passes (λ (c : Charge). not (nat_lt c.month month)) cs)
 
 -- ---- the two sides of a payment
-on : (m k l : Credit) → comes_before k l ≡ true → comes_before k m ≡ false → comes_before l m ≡ false
+pub on : (m k l : Credit) → comes_before k l ≡ true → comes_before k m ≡ false → comes_before l m ≡ false
 on m k l h g = grind (arith, nat_tests)
 
 not_itself : (k : Credit) → comes_before k k ≡ false

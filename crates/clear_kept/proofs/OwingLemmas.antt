@@ -11,16 +11,16 @@ use Rattle.clear_account.specs.Interest.{interest_on, interest_rate}
 use Rattle.clear_account.proofs.AccountLemmas.{few_charges}
 use Rattle.clear_account.proofs.OpenLemmas.{late_from-le}
 use Rattle.clear_kept.specs.declared.rows.WeighedCharge.{WeighedCharge}
-use Rattle.clear_kept.specs.Owing.{AreWeighed, ChargedFromRows, CreditedFromRows, InterestFromRows, IsWeighed, OpenFromRows, RowsInRange, charged_in, open_in, row_interest}
+use Rattle.clear_kept.specs.Owing.{AreWeighedInRange, ChargedFromRows, CreditedFromRows, InterestFromRows, IsWeighedInRange, OpenFromRows, RowsInRange, charged_in, open_in, row_interest}
 use Rattle.clear_kept.specs.Weighed.{weighed_charge}
 use Rattle.clear_kept.proofs.ToldLemmas.{weight_from_row}
 use Rattle.clear_kept.proofs.WeighedLemmas.{left_is, length-rows_walk, row_between, rows_walk, weighed_charges-walk}
 
 -- ---- sums stay in their type
-pub charged_below : (rows : List WeighedCharge) → AreWeighed rows → charged_in rows < 18446744073709551616
+pub charged_below : (rows : List WeighedCharge) → AreWeighedInRange rows → charged_in rows < 18446744073709551616
 charged_below rows are = omega (arith, are.few, sum_by-le (λ (r : WeighedCharge). r.cents) 5000000000 rows (λ k d lt. (are.each k d lt).cents))
 
-pub open_below : (rows : List WeighedCharge) → AreWeighed rows → open_in rows < 18446744073709551616
+pub open_below : (rows : List WeighedCharge) → AreWeighedInRange rows → open_in rows < 18446744073709551616
 open_below rows are = omega (arith, are.few, sum_by-le (λ (r : WeighedCharge). r.left) 5000000000 rows (λ k d lt. (are.each k d lt).left))
 
 -- the interest of one charge more
@@ -29,21 +29,21 @@ interest_more rates day i total n row rows lt is so_far here =
     omega (arith, sum_by_more (row_interest rates day) rows i row lt, so_far, here, ap (row_interest rates day) is)
 
 -- ---- the rows of an account lie in their ranges
-walk_in_range : (s : ℕ) (cs : List Charge) (ks : List Credit) → All IsCharge cs → All IsWeighed (rows_walk s cs ks)
+walk_in_range : (s : ℕ) (cs : List Charge) (ks : List Credit) → All IsCharge cs → All IsWeighedInRange (rows_walk s cs ks)
 walk_in_range s [] ks all = λ i d lt. omega arith
 walk_in_range s (c ∷ cs) ks all =
     let charge : IsCharge c = All-head IsCharge c cs all in
-    let here : IsWeighed (row_between s (s + c.cents) c ks) = record {
+    let here : IsWeighedInRange (row_between s (s + c.cents) c ks) = record {
       due = charge.due;
       cents = charge.cents;
       left = omega (arith, charge.cents);
       weight = omega (arith, charge.cents, late_from-le s (s + c.cents) c.due 0 ks (omega arith));
     } in
-    All-cons IsWeighed (row_between s (s + c.cents) c ks) (rows_walk (s + c.cents) cs ks) here (walk_in_range (s + c.cents) cs ks (All-tail IsCharge c cs all))
+    All-cons IsWeighedInRange (row_between s (s + c.cents) c ks) (rows_walk (s + c.cents) cs ks) here (walk_in_range (s + c.cents) cs ks (All-tail IsCharge c cs all))
 
 pub rows_in_range : RowsInRange
 rows_in_range cs ks a =
-    subst AreWeighed (sym (weighed_charges-walk cs ks)) (record {
+    subst AreWeighedInRange (sym (weighed_charges-walk cs ks)) (record {
       few = omega (arith, length-rows_walk 0 cs ks, few_charges cs ks a);
       each = walk_in_range 0 cs ks a.each_charge;
     })

@@ -19,7 +19,8 @@ use Rattle.clear_account.proofs.ShareLemmas.{charged_up_to-more, paid_of-walk}
 use Rattle.clear_account.proofs.GridLemmas.{grid_each, parts_from-append}
 use Rattle.clear_account.proofs.WalkLemmas.{grid_all, line_all, pieces_behind-walk}
 use Rattle.clear_kept.specs.declared.rows.DatedPiece.{DatedPiece}
-use Rattle.clear_kept.specs.Weighed.{ToldByRows, WeightFromRow, pieces_of_month}
+use Rattle.clear_kept.specs.Owing.{WeightFromRow}
+use Rattle.clear_kept.specs.Weighed.{ToldByRows, pieces_of_month}
 use Rattle.clear_kept.specs.Dated.{RowsTellPieces, dated_piece_of, dated_pieces, undated}
 use Rattle.clear_kept.proofs.WeighedLemmas.{paid_from}
 use Rattle.clear_kept.proofs.RowLemmas.{dated_behind-walk, dated_pieces-walk, grid_map, no_row, row_each}

@@ -1,6 +1,6 @@
 -- What a firm owes, told from the rows of its charges alone.
 use Rattle.std.specs.Prelude.{◌≡◌, ℕ, ◌+◌, ◌-◌, ◌*◌, ◌/◌, ◌<◌, ◌≤◌, List, All, filter, length}
-use Rattle.std.specs.Prelude.{nat_lt, sum_by}
+use Rattle.std.specs.Prelude.{AllPairs, nat_lt, sum_by}
 use Rattle.clear_money.specs.Calendar.{begun_months, day_of_month}
 use Rattle.clear_money.specs.Limits.{most_base}
 use Rattle.clear_money.specs.Rates.{Rate}
@@ -8,24 +8,25 @@ use Rattle.clear_account.specs.declared.entries.Charge.{Charge}
 use Rattle.clear_account.specs.declared.entries.Credit.{Credit}
 use Rattle.clear_account.specs.Account.{IsAccount, charged, credited}
 use Rattle.clear_account.specs.Allocation.{prepaid}
-use Rattle.clear_account.specs.Interest.{all_interest_on, interest_rate}
+use Rattle.clear_account.specs.Arrears.{arrears_on}
+use Rattle.clear_account.specs.Interest.{all_interest_on, interest_rate, weight_on}
 use Rattle.clear_kept.specs.declared.rows.WeighedCharge.{WeighedCharge}
-use Rattle.clear_kept.specs.Weighed.{weighed_charges}
+use Rattle.clear_kept.specs.Weighed.{weighed_charge, weighed_charges}
 
 -- ---- ranges
 
--- a row due on a day of the month that each month has, with cents that a charge has, of which no more
--- are left open, and that weigh no more than all of them in 2,412 begun months
-pub record IsWeighed (row : WeighedCharge) : Type 0 where
+-- a row due on a day that each month has, with cents and an open part that a charge can have, and at
+-- most the weight of the greatest base in 2,412 begun months
+pub record IsWeighedInRange (row : WeighedCharge) : Type 0 where
   pub due : day_of_month row.due ≤ 28
   pub cents : row.cents ≤ most_base
   pub left : row.left ≤ most_base
   pub weight : row.weight ≤ 12060000000000
 
 -- no more rows than there are months, each in its ranges
-pub record AreWeighed (rows : List WeighedCharge) : Type 0 where
+pub record AreWeighedInRange (rows : List WeighedCharge) : Type 0 where
   pub few : length rows ≤ 2400
-  pub each : All IsWeighed rows
+  pub each : All IsWeighedInRange rows
 
 -- ---- sums over the rows
 
@@ -58,7 +59,7 @@ interest_in rates rows day = sum_by (row_interest rates day) rows
 -- the rows of an account lie in their ranges
 abbrev pub RowsInRange : Type 0
 RowsInRange = (charges : List Charge) (credits : List Credit) → IsAccount charges credits →
-    AreWeighed (weighed_charges charges credits)
+    AreWeighedInRange (weighed_charges charges credits)
 
 -- they tell what is charged
 abbrev pub ChargedFromRows : Type 0
@@ -77,6 +78,18 @@ CreditedFromRows = (charges : List Charge) (credits : List Credit) →
     let rows = weighed_charges charges credits in
     0 < open_in rows →
     (credited credits ≡ charged_in rows - open_in rows) × (prepaid charges credits ≡ 0)
+
+-- the weight of a charge on a day that no payment comes after
+abbrev pub WeightFromRow : Type 0
+WeightFromRow = (charges : List Charge) (credits : List Credit) (i day : ℕ) →
+    IsAccount charges credits → i < length charges → All (λ k. k.day ≤ day) credits →
+    weight_on charges credits i day ≡ weight_in (weighed_charge charges credits i) day
+
+-- the arrears, where due days rise with the months
+abbrev pub ArrearsFromRows : Type 0
+ArrearsFromRows = (charges : List Charge) (credits : List Credit) (day : ℕ) →
+    AllPairs (λ c d. c.due ≤ d.due) charges →
+    arrears_in (weighed_charges charges credits) day ≡ arrears_on charges credits day
 
 -- the interest on a day that no payment comes after
 abbrev pub InterestFromRows : Type 0

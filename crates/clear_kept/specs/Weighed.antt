@@ -1,15 +1,12 @@
 -- The rows in which charges are kept: each charge with what is open of it, and with its weight so
 -- far, the cents of its shares, each once for each month begun until it was paid.
-use Rattle.std.specs.Prelude.{◌≡◌, ℕ, ◌+◌, ◌-◌, ◌*◌, ◌<◌, ◌≤◌, ◌==◌, List, All, filter, length, map}
-use Rattle.std.specs.Prelude.{AllPairs, nat_lt, sum_by}
+use Rattle.std.specs.Prelude.{◌≡◌, ℕ, ◌-◌, ◌*◌, ◌<◌, ◌==◌, List, filter, length, map, sum_by}
 use Rattle.clear_money.specs.Calendar.{begun_months}
 use Rattle.clear_account.specs.declared.entries.Charge.{Charge}
 use Rattle.clear_account.specs.declared.entries.Credit.{Credit}
 use Rattle.clear_account.specs.Account.{IsAccount, charge_at, places}
 use Rattle.clear_account.specs.Allocation.{open_part}
 use Rattle.clear_account.specs.Laws.{late_shares}
-use Rattle.clear_account.specs.Arrears.{arrears_on}
-use Rattle.clear_account.specs.Interest.{weight_on}
 use Rattle.clear_kept.specs.Dated.{dated_pieces}
 use Rattle.clear_kept.specs.declared.rows.DatedPiece.{DatedPiece}
 use Rattle.clear_kept.specs.declared.rows.WeighedCharge.{WeighedCharge}
@@ -42,19 +39,3 @@ ToldByRows =
     ((weighed_charge charges credits i).left ≡ c.cents - sum_by (λ r. r.cents) rows)
     × ((weighed_charge charges credits i).weight
     ≡ sum_by (λ r. r.cents * begun_months c.due r.day) rows)
-
--- the weight of a charge on a day, from its row
-abbrev pub WeightFromRow : Type 0
-WeightFromRow =
-    (charges : List Charge) (credits : List Credit) (i day : ℕ) →
-    IsAccount charges credits → i < length charges → All (λ k. k.day ≤ day) credits →
-    let row = weighed_charge charges credits i in
-    weight_on charges credits i day ≡ row.weight + row.left * begun_months row.due day
-
--- what is open of the charges due before a day is the arrears, where due days rise with the months
-abbrev pub ArrearsFromRows : Type 0
-ArrearsFromRows =
-    (charges : List Charge) (credits : List Credit) (day : ℕ) →
-    AllPairs (λ c d. c.due ≤ d.due) charges →
-    sum_by (λ row. row.left) (filter (λ row. nat_lt row.due day) (weighed_charges charges credits))
-    ≡ arrears_on charges credits day

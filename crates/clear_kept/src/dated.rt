@@ -1,31 +1,17 @@
 //! The rows of pieces.
 ghost use Rattle.std.specs.Prelude.{◌≡◌, ◌≢◌, ◌<◌, All, AllPairs, IfErr, IfOk, length, map};
 ghost use Rattle.clear_account.specs.Account.{HoldsSerial, credit_at};
-ghost use Rattle.clear_kept.specs.Dated.{dated, placed};
+ghost use Rattle.clear_kept.specs.Dated.{placed};
 
 use crate::rows::{DatedPiece, PlacedPiece};
 use clear_account::entries::{AccountFault, Credit, Piece};
 use clear_money::days::Day;
 use std::alloc::{AllocError, Global};
 
-/// The rows of pieces, each with the day of its payment, which is one of these.
+/// The rows of pieces, each with the day of its payment, which is one of these, and with the place
+/// of that in the list: what else is known of a payment is taken from there.
 ///
 /// Where the pieces name the payments in order, it takes one pass over both.
-pub fn date_pieces(
-    alloc: Global,
-    pieces: &[Piece],
-    credits: &[Credit],
-) -> Result<Vec<DatedPiece>, AccountFault>
-    requires differ { AllPairs (λ k l. k.serial ≢ l.serial) credits.now }
-    requires held { All (λ p. HoldsSerial credits.now p.serial) pieces.now }
-    ensures rows { IfOk result (λ rows. rows.items ≡ map (dated credits.now) pieces.now) }
-    ensures err { IfErr result (λ fault. fault ≡ AccountFault.Memory) }
-{
-    Ok(date_all(alloc, pieces, credits)?)
-}
-
-/// The same rows, each with the place of its payment in the list: what else is known of a payment
-/// is taken from there.
 pub fn place_pieces(
     alloc: Global,
     pieces: &[Piece],
@@ -40,30 +26,6 @@ pub fn place_pieces(
     ensures err { IfErr result (λ fault. fault ≡ AccountFault.Memory) }
 {
     Ok(place_all(alloc, pieces, credits)?)
-}
-
-fn date_all(
-    alloc: Global,
-    pieces: &[Piece],
-    credits: &[Credit],
-) -> Result<Vec<DatedPiece>, AllocError>
-    requires differ { AllPairs (λ k l. k.serial ≢ l.serial) credits.now }
-    requires held { All (λ p. HoldsSerial credits.now p.serial) pieces.now }
-    ensures { IfOk result (λ rows. rows.items ≡ map (dated credits.now) pieces.now) }
-{
-    let placed = place_all(alloc, pieces, credits)?;
-    pieces_of(alloc, placed.as_slice())
-}
-
-// The rows alone.
-fn pieces_of(alloc: Global, placed: &[PlacedPiece]) -> Result<Vec<DatedPiece>, AllocError>
-    ensures { IfOk result (λ rows. rows.items ≡ map (λ r. r.piece) placed.now) }
-{
-    let mut rows = Vec::new(alloc);
-    for row in placed {
-        rows.push(row.piece)?;
-    }
-    Ok(rows)
 }
 
 fn place_all(

@@ -5,9 +5,10 @@ ghost use Rattle.clear_kept.specs.Changes.{ChargeRowsStand, CreditPut, CreditRow
 ghost use Rattle.clear_kept.specs.Changes.{CreditTaken, CreditsLeaveAll, CreditsRewrite};
 ghost use Rattle.clear_kept.specs.Changes.{RemovedReachBeyond};
 ghost use Rattle.clear_kept.specs.Dated.{DatedRows, NamesPayments, RowsTellPieces};
-ghost use Rattle.clear_kept.specs.Owing.{ChargedFromRows, CreditedFromRows, InterestFromRows};
-ghost use Rattle.clear_kept.specs.Owing.{OpenFromRows, RowsInRange};
-ghost use Rattle.clear_kept.specs.Weighed.{ArrearsFromRows, ToldByRows, WeightFromRow};
+ghost use Rattle.clear_kept.specs.Owing.{ArrearsFromRows, ChargedFromRows, CreditedFromRows};
+ghost use Rattle.clear_kept.specs.Owing.{InterestFromRows, OpenFromRows, RowsInRange};
+ghost use Rattle.clear_kept.specs.Owing.{WeightFromRow};
+ghost use Rattle.clear_kept.specs.Weighed.{ToldByRows};
 
 /// A changed charge: the rows of its month or later, of the first payment beyond its place or
 /// later, are written anew, and the others stand.

@@ -1,6 +1,6 @@
 //! What a firm owes, told from the rows of its charges alone.
 ghost use Rattle.std.specs.Prelude.{◌≡◌, ◌↔◌, ◌^◌, ◌<◌, ◌≤◌, All, IsTrue};
-ghost use Rattle.clear_kept.specs.Owing.{AreWeighed, IsWeighed, arrears_in, charged_in};
+ghost use Rattle.clear_kept.specs.Owing.{AreWeighedInRange, IsWeighedInRange, arrears_in, charged_in};
 ghost use Rattle.clear_kept.specs.Owing.{interest_in, open_in, row_interest};
 ghost use Rattle.clear_account.specs.Interest.{interest_rate};
 
@@ -19,26 +19,26 @@ pub struct WeighedCharges {
 impl Model for WeighedCharges {
     ghost use Rattle.std.specs.Prelude.{List};
     ghost use Rattle.clear_kept.specs.declared.rows.WeighedCharge.{WeighedCharge};
-    ghost use Rattle.clear_kept.specs.Owing.{AreWeighed};
+    ghost use Rattle.clear_kept.specs.Owing.{AreWeighedInRange};
 
     ghost Value = { List WeighedCharge };
 
     ghost view = { λ a. a.rows.items };
 
-    ghost invariant = { λ a. AreWeighed a.rows.items };
+    ghost invariant = { λ a. AreWeighedInRange a.rows.items };
 }
 
 impl WeighedCharges {
-    ghost use Rattle.std.specs.Prelude.{◌≡◌, IfSome, IsSome};
-    ghost use Rattle.clear_kept.specs.Owing.{AreWeighed, arrears_in, charged_in};
-    ghost use Rattle.clear_kept.specs.Owing.{interest_in, open_in};
+    ghost use Rattle.std.specs.Prelude.{◌≡◌, All, IfSome, IsSome};
+    ghost use Rattle.clear_kept.specs.Owing.{AreWeighedInRange, IsWeighedInRange, arrears_in};
+    ghost use Rattle.clear_kept.specs.Owing.{charged_in, interest_in, open_in};
 
     /// These rows. None where they are more than 2,400, or one is out of its ranges: due behind the
     /// 28th of a month, more than 5,000,000,000 cents or so many left open, or a weight above
     /// 12,060,000,000,000.
     pub fn new(rows: Vec<WeighedCharge>) -> Option<WeighedCharges>
         ensures value { IfSome result (λ kept. kept ≡ rows.items) }
-        ensures some { AreWeighed rows.items → IsSome result }
+        ensures some { AreWeighedInRange rows.items → IsSome result }
     {
         if rows.len() > 2_400 || !are_weighed(rows.as_slice()) {
             return None;
@@ -48,7 +48,8 @@ impl WeighedCharges {
 
     /// The rows, as they were given.
     pub fn rows(&self) -> &[WeighedCharge]
-        ensures { result.now ≡ self.now }
+        ensures value { result.now ≡ self.now }
+        ensures range { All IsWeighedInRange result.now }
     {
         self.rows.as_slice()
     }
@@ -76,8 +77,8 @@ impl WeighedCharges {
     }
 
     /// The interest of all charges, in cents, that of each rounded down once at the rate of its own
-    /// month, on a day that is not before that of a payment. It takes one search for a rate for each
-    /// charge.
+    /// month, on a day that is not before that of a payment. For each charge it takes one walk along
+    /// the rates, from the newest on.
     pub fn interest(&self, rates: &RateTable, day: Day) -> u64
         ensures { result ≡ interest_in rates.now self.now day }
     {
@@ -87,7 +88,7 @@ impl WeighedCharges {
 
 // Whether each row is in its ranges.
 fn are_weighed(rows: &[WeighedCharge]) -> bool
-    ensures { IsTrue result ↔ All IsWeighed rows.now }
+    ensures { IsTrue result ↔ All IsWeighedInRange rows.now }
 {
     for row in rows {
         if !is_weighed(row) {
@@ -99,7 +100,7 @@ fn are_weighed(rows: &[WeighedCharge]) -> bool
 
 // Whether a row is in its ranges.
 fn is_weighed(row: &WeighedCharge) -> bool
-    ensures { IsTrue result ↔ IsWeighed row.now }
+    ensures { IsTrue result ↔ IsWeighedInRange row.now }
 {
     row.due.day_of_month() <= 28
         && row.cents <= 5_000_000_000
@@ -136,7 +137,7 @@ fn add_due(rows: &[WeighedCharge], day: Day) -> u64
 
 // The interest of all charges on a day, in cents.
 fn add_interest(rows: &[WeighedCharge], rates: &RateTable, day: Day) -> u64
-    requires { AreWeighed rows.now }
+    requires { AreWeighedInRange rows.now }
     ensures { result ≡ interest_in rates.now rows.now day }
 {
     let mut total = 0;
@@ -149,7 +150,7 @@ fn add_interest(rows: &[WeighedCharge], rates: &RateTable, day: Day) -> u64
 /// The interest of a charge on a day that is not before that of a payment, in cents, rounded down
 /// once.
 pub fn interest_of(row: &WeighedCharge, rates: &RateTable, day: Day) -> u64
-    requires { IsWeighed row.now }
+    requires { IsWeighedInRange row.now }
     ensures value { result ≡ row_interest rates.now day row.now }
     ensures range { result ≤ 2_412_000_000_000 }
 {

@@ -9,13 +9,11 @@ use Rattle.clear_account.specs.Account.{comes_before}
 use Rattle.clear_account.specs.declared.entries.Charge.{Charge}
 use Rattle.clear_account.specs.declared.entries.Credit.{Credit}
 use Rattle.clear_kept.specs.Changes.{charges_before, credits_before}
-use Rattle.clear_values.specs.Credits.{credit_key, credits_of_lines, rank_of, set_offs_of}
+use Rattle.clear_values.specs.Credits.{credit_key, rank_of}
 use Rattle.clear_values.specs.Keyed.{is_held, is_key, find_row, AreInOrder, put_row, with_row, with_rows, without_rows}
 use Rattle.clear_values.specs.declared.lines.Purpose.TheVariants.{Contribution}
-use Rattle.clear_values.specs.declared.rows.BankRow.{BankRow}
 use Rattle.clear_values.specs.declared.rows.Change.{Change}
 use Rattle.clear_values.specs.declared.rows.Change.TheVariants.{AddReport, ReplaceReport, AddBankLines, AssignLine, ReleaseClaim}
-use Rattle.clear_values.specs.declared.rows.ClaimRow.{ClaimRow}
 use Rattle.clear_values.specs.declared.rows.CreditRow.{CreditRow}
 use Rattle.clear_values.specs.declared.rows.KeptCharge.{KeptCharge}
 use Rattle.clear_values.specs.declared.rows.ReportRow.{ReportRow}
@@ -216,18 +214,6 @@ module _ (t v : Tables) (news : List CreditRow) (charges : v.charges ≡ t.charg
     rows = λ e. ap (contributions_in e) credits ∙ filter-with_rows credit_key (is_credit_of e Contribution) t.credits news in_order;
     free = in_order-new credit_key t.credits news in_order;
   }
-
--- the lines of a file
-pub lines_added : (t : Tables) (rows : List BankRow) → AreInOrder credit_key (changed (AddBankLines rows) t).credits → AddsCredits t (changed (AddBankLines rows) t) (credits_of_lines rows)
-lines_added t rows order = adds_credits t (changed (AddBankLines rows) t) (credits_of_lines rows) refl refl order
-
--- a line that is assigned
-pub line_assigned : (t : Tables) (row : BankRow) → AreInOrder credit_key (changed (AssignLine row) t).credits → AddsCredits t (changed (AssignLine row) t) (credits_of_lines (row ∷ []))
-line_assigned t row order = adds_credits t (changed (AssignLine row) t) (credits_of_lines (row ∷ [])) refl refl order
-
--- the set-offs of a claim
-pub claim_released : (t : Tables) (claim : ClaimRow) (serial : ℕ) → AreInOrder credit_key (changed (ReleaseClaim claim serial) t).credits → AddsCredits t (changed (ReleaseClaim claim serial) t) (set_offs_of claim serial)
-claim_released t claim serial order = adds_credits t (changed (ReleaseClaim claim serial) t) (set_offs_of claim serial) refl refl order
 
 module _ (t v : Tables) (news : List CreditRow) (adds : AddsCredits t v news) (e : ℕ) where
   -- without a new one the firm's rows stay

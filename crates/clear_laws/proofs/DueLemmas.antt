@@ -1,14 +1,14 @@
 -- The days on which the contributions of a firm are due rise with their months.
-use Rattle.std.proofs.Common.{◌≡◌, ℕ, ◌+◌, ◌<◌, ◌≤◌, List, map, filter, get_or, Option, Some, None, Bool, true, is_some, ◌==◌, refl, sym, ap, ◌∙◌, arith}
+use Rattle.std.proofs.Common.{◌≡◌, ℕ, ◌+◌, ◌<◌, ◌≤◌, List, filter, get_or, Option, Some, None, Bool, true, is_some, ◌==◌, refl, sym, ap, ◌∙◌, arith}
 use Rattle.std.proofs.lemmas.List.Elements.{All-filter, All-from_recursion, All-map}
 use Rattle.std.specs.List.{All, AllByRecursion, AllPairs}
 use Rattle.clear_money.specs.Calendar.{IsMonth, day_in}
-use Rattle.clear_money.specs.Rates.{IsDayOfEachMonth, IsRate, Rate, rate_in_force}
+use Rattle.clear_money.specs.Rates.{IsDayOfEachMonth, Rate, rate_in_force}
 use Rattle.clear_money.proofs.MonthLemmas.{day_in-place, first_day-later, month_length_bounds}
 use Rattle.clear_account.specs.declared.entries.Charge.{Charge}
 use Rattle.clear_values.specs.declared.rows.KeptCharge.{KeptCharge}
 use Rattle.clear_values.specs.declared.texts.WageLine.{WageLine}
-use Rattle.clear_values.specs.RowRanges.{AreInRange, IsKeptCharge}
+use Rattle.clear_values.specs.RowRanges.{IsKeptCharge}
 use Rattle.clear_values.proofs.KeyedChangesLemmas.{all_from_found, found_holds}
 use Rattle.clear_book.specs.Accounts.{base_of, book_charge, due_by, month_charge, reported_charge}
 use Rattle.clear_book.specs.Allocated.{kept_charges}

@@ -37,12 +37,8 @@ use Rattle.clear_book.specs.Own.Release.{Debts, debts_of, has_too_many, missing_
 use Rattle.clear_book.specs.Own.Report.{exists_rule, report_rules}
 use Rattle.clear_book.specs.Own.Withdraw.{withdraw_rules}
 use Rattle.clear_book.specs.Lines.{credit_count, credits_after, credits_made, line_of, lines_after, lines_of_rows, lines_seen, rows_brought, suspense_count}
+use Rattle.clear_book.specs.Rules.{tells_fault}
 use Rattle.clear_book.specs.Workers.{balance_of, claim_of, is_employed}
-
--- the rule says that the store failed
-abbrev tells_fault : Rule → Bool
-tells_fault (Store cause) = true
-tells_fault rule = false
 
 -- a rule that may apply doesn't
 abbrev IsOther : Option Rule → Type 0

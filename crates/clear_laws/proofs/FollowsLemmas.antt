@@ -9,15 +9,13 @@ use Rattle.clear_account.specs.declared.entries.Credit.{Credit}
 use Rattle.clear_kept.specs.Changes.{charges_before, credits_before}
 use Rattle.clear_values.specs.Keyed.{AreInOrder}
 use Rattle.clear_values.specs.declared.lines.Purpose.TheVariants.{Contribution}
-use Rattle.clear_values.specs.declared.rows.Change.{Change}
 use Rattle.clear_values.specs.declared.rows.CreditRow.{CreditRow}
 use Rattle.clear_values.specs.declared.rows.KeptCharge.{KeptCharge}
 use Rattle.clear_values.specs.declared.rows.PieceRow.{PieceRow}
 use Rattle.clear_book.specs.Allocated.{AreAllocated, AreSameCharges, FirstCredit, FirstMonth, Follows, IsAllocated, KeepsKeys, LeavesChange, LeavesChanged, contribution_rows, kept_charges}
-use Rattle.clear_book.specs.Book.{Entry}
 use Rattle.clear_book.specs.Lines.{is_credit_of}
-use Rattle.clear_book.specs.Tables.{Tables, changed, charge_in, noted, piece_key, table_credits}
-use Rattle.clear_laws.proofs.AccountChangeLemmas.{AddsCredits, ChangesCharge, LeavesAccounts, accounts_left, contributions_in, no_new_credit, pieces_changed}
+use Rattle.clear_book.specs.Tables.{Tables, changed, charge_in, piece_key, table_credits}
+use Rattle.clear_laws.proofs.AccountChangeLemmas.{AddsCredits, ChangesCharge, contributions_in, no_new_credit}
 use Rattle.clear_laws.proofs.AllocatedLemmas.{charge_allocated, charge_left, charge_puttable, credits_allocated, credits_left, credits_puttable, leaves_before, others_left, pieces_from, pieces_from-own, pieces_in, still_allocated, with_pieces_put}
 use Rattle.clear_laws.proofs.PieceRowLemmas.{IsOf, pieces_for}
 use Rattle.clear_laws.proofs.SameChargesLemmas.{same_kept}
@@ -162,9 +160,3 @@ accounts_left-follows t v pieces charges credits =
   where
     rows_left : (f : ℕ) → contribution_rows v f ≡ contribution_rows t f
     rows_left f = ap (λ (rows : List CreditRow). filter (is_credit_of f Contribution) rows) credits
-
--- by all changes but those of reports, credits and claims that are released
-pub other_change-follows : (change : Change) → LeavesAccounts change → (t : Tables) (x : Entry) → Follows t (noted x (changed change t))
-other_change-follows change left t x =
-    let same = accounts_left change left t in
-    accounts_left-follows t (noted x (changed change t)) (pieces_changed change t) same.0 same.1

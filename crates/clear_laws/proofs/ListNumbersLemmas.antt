@@ -14,7 +14,6 @@ use Rattle.clear_book.specs.Judge.{reply_to}
 use Rattle.clear_book.specs.Machine.{AreJudged}
 use Rattle.clear_book.specs.Tables.{list_key}
 use Rattle.clear_book.specs.Workers.{list_of, lists_by, lists_in, lists_of}
-use Rattle.clear_values.proofs.KeyedChangesLemmas.{all_found}
 use Rattle.clear_laws.proofs.JudgeLemmas.{unrefused}
 use Rattle.clear_laws.proofs.LinesLemmas.{follow-append}
 use Rattle.clear_laws.proofs.SerialLemmas.{follow-between, follow-in_order, same_parts}
@@ -49,10 +48,6 @@ lists_in_order rates xs h = follow-in_order list_no 1 (length (lists_of xs)) (li
 -- each is from 1 to as many as there are lists
 pub lists_between : (rates : RateTable) (xs : List Entry) → AreJudged rates xs → AllByRecursion (λ list. (0 < list.list) × (list.list ≤ length (lists_of xs))) (lists_of xs)
 lists_between rates xs h = follow-between list_no 0 (length (lists_of xs)) 1 (length (lists_of xs)) (lists_of xs) (omega arith) (omega arith) (lists_numbered rates xs h)
-
--- and each is found under its number
-pub lists_found : (rates : RateTable) (xs : List Entry) → AreJudged rates xs → AllByRecursion (λ list. list_of xs list.list ≡ Some list) (lists_of xs)
-lists_found rates xs h = all_found list_key (lists_of xs) (lists_in_order rates xs h)
 
 -- ---- there are at most as many lists as requests
 

@@ -28,7 +28,7 @@ use Rattle.clear_laws.proofs.ListNumbersLemmas.{lists_few}
 -- ---- what the claims on a list come to
 
 -- no more is paid out of a claim than its cents
-paid_whole : (cents : ℕ) (state : ClaimState) → IsClaimState cents state → paid_out state ≤ cents
+pub paid_whole : (cents : ℕ) (state : ClaimState) → IsClaimState cents state → paid_out state ≤ cents
 paid_whole cents Open h = omega arith
 paid_whole cents Withdrawn h = omega arith
 paid_whole cents (Released release) h = omega (arith, h.whole)

@@ -1,8 +1,9 @@
 -- The reminder runs of a lawful book are in range, and so is the reply to the next one.
-use Rattle.std.proofs.Common.{◌≡◌, ℕ, ◌+◌, ◌≤◌, List, [], ◌∷◌, length, Option, Some, None, not, false, nat_le, nat_lt, subst, arith, length-append}
+use Rattle.std.proofs.Common.{◌≡◌, ℕ, ◌+◌, ◌≤◌, List, [], ◌∷◌, length, None, not, false, nat_le, nat_lt, subst, arith, length-append}
 use Rattle.std.proofs.lemmas.Bool.Decides.{nat_tests}
-use Rattle.std.specs.List.{AllByRecursion, cons_option, filter_map}
+use Rattle.std.specs.List.{AllByRecursion}
 use Rattle.clear_money.specs.Calendar.{IsDay}
+use Rattle.clear_bank.proofs.LengthLemmas.{filter_map-few}
 use Rattle.clear_values.specs.declared.replies.Reply.{Reply}
 use Rattle.clear_values.specs.declared.replies.Reply.TheVariants.{Reminded}
 use Rattle.clear_values.specs.declared.rows.ReminderRow.{ReminderRow}
@@ -46,18 +47,9 @@ last_run-in-range b lawful = omega (arith, runs_few b.entries, lawful_entries b.
 
 -- ---- a run more
 
--- no more values are chosen than there are elements
-chosen_few : {X Y : Type 0} (h : X → Option Y) (xs : List X) → length (filter_map h xs) ≤ length xs
-chosen_few h [] = omega arith
-chosen_few {X} {Y} h (x ∷ xs) = told (h x) (chosen_few h xs)
-  where
-    told : (o : Option Y) → length (filter_map h xs) ≤ length xs → length (cons_option o (filter_map h xs)) ≤ length (x ∷ xs)
-    told None few = omega (arith, few)
-    told (Some y) few = omega (arith, few)
-
 -- there are no more reminders than firms
 few_due : (b : Book) (t : ℕ) → length (reminders_due b t) ≤ length (employers_of b.entries)
-few_due b t = chosen_few (λ e. reminder_due (length (runs_of b.entries) + 1) e (overdue_on b t e) (last_among (runs_of b.entries) (reminders_of b) e) t) (employers_of b.entries)
+few_due b t = filter_map-few (λ e. reminder_due (length (runs_of b.entries) + 1) e (overdue_on b t e) (last_among (runs_of b.entries) (reminders_of b) e) t) (employers_of b.entries)
 
 -- some firm is reminded, where the rule does not apply
 pub some_due : (due : List ReminderRow) → own_remind due ≡ None → 1 ≤ length due

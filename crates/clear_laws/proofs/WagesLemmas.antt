@@ -1,18 +1,16 @@
 -- The wage rows of a month's report, and the rows with those of a month in place.
-use Rattle.std.proofs.Common.{◌≡◌, ℕ, ◌+◌, List, [], ◌∷◌, Option, Some, None, Bool, true, false, cond, ◌&&◌, ◌==◌, sum_by, refl, sym, ap, ◌∙◌, subst, arith}
+use Rattle.std.proofs.Common.{◌≡◌, ℕ, List, [], ◌∷◌, Option, Some, None, Bool, true, false, cond, ◌&&◌, ◌==◌, refl, sym, ap, ◌∙◌, arith}
 use Rattle.std.proofs.lemmas.Bool.Decides.{nat_tests}
-use Rattle.std.proofs.lemmas.List.Sums.{sum_by-cons}
 use Rattle.std.specs.List.{AllByRecursion}
 use Rattle.std.specs.Option.{option_map}
 use Rattle.clear_values.specs.declared.rows.WageRow.{WageRow}
 use Rattle.clear_values.specs.declared.texts.WageLine.{WageLine}
-use Rattle.clear_book.specs.Accounts.{base_of}
 use Rattle.clear_book.specs.Book.{newer}
 use Rattle.clear_values.specs.Keyed.{is_key, find_row, AreInOrder, with_rows, without_rows, AreOnce}
-use Rattle.clear_book.specs.Tables.{wage_key, gross_at, gross_of, table_base, wage_row, wage_rows, is_wage_key_of, with_wages}
+use Rattle.clear_book.specs.Tables.{wage_key, gross_at, gross_of, wage_row, wage_rows, is_wage_key_of, with_wages}
 use Rattle.clear_laws.proofs.DistinctLemmas.{AreDistinct}
-use Rattle.clear_values.proofs.KeyedChangesLemmas.{find_row-without_rows, AreInOrder-without_rows, without_rows-none, sum_by-without_rows}
-use Rattle.clear_values.proofs.KeyedRowsLemmas.{AreNew, find_row-with_rows, AreInOrder-with_rows, sum_by-with_rows}
+use Rattle.clear_values.proofs.KeyedChangesLemmas.{find_row-without_rows, AreInOrder-without_rows, without_rows-none}
+use Rattle.clear_values.proofs.KeyedRowsLemmas.{AreNew, find_row-with_rows, AreInOrder-with_rows}
 
 -- the amount of a row
 abbrev gross_in : WageRow → ℕ
@@ -123,84 +121,3 @@ no_row_of e m (row ∷ rows) none = (
 pub with_wages-first : (e m : ℕ) (lines : List WageLine) (rows : List WageRow) → ((w : ℕ) → gross_at rows e m w ≡ None) → with_wages e m lines rows ≡ with_rows wage_key rows (wage_rows e m lines)
 with_wages-first e m lines rows none =
     ap (λ some. with_rows wage_key some (wage_rows e m lines)) (without_rows-none wage_key (is_wage_key_of e m) rows (no_row_of e m rows none))
-
--- ---- the base of a month
-
--- what a row adds to the base of a month
-abbrev part_of : ℕ → ℕ → WageRow → ℕ
-part_of f n row = cond ((row.employer == f) && (row.month == n)) row.gross 0
-
--- the same, where the rows of the month that is replaced count for nothing
-abbrev part_of_others : ℕ → ℕ → ℕ → ℕ → WageRow → ℕ
-part_of_others e m f n row = cond (is_wage_key_of e m (wage_key row)) 0 (part_of f n row)
-
--- the base is that of the rows of the other months and that of the new rows
-both_parts : (e m : ℕ) (lines : List WageLine) (rows : List WageRow) (f n : ℕ) → table_base (with_wages e m lines rows) f n ≡ sum_by (part_of_others e m f n) rows + table_base (wage_rows e m lines) f n
-both_parts e m lines rows f n =
-    sum_by-with_rows wage_key (part_of f n) (others e m rows) (wage_rows e m lines)
-    ∙ ap (λ s. s + table_base (wage_rows e m lines) f n) (sum_by-without_rows wage_key (part_of f n) (is_wage_key_of e m) rows)
-
--- rows that add nothing
-no_sum : (rows : List WageRow) → sum_by (λ (row : WageRow). 0) rows ≡ 0
-no_sum [] = refl
-no_sum (row ∷ rows) = omega (arith, sum_by-cons (λ (r : WageRow). 0) row rows, no_sum rows)
-
--- the rows of a month's lines add nothing to another month
-base_of_other : (e m : ℕ) (lines : List WageLine) (f n : ℕ) → (e == f) && (m == n) ≡ false → table_base (wage_rows e m lines) f n ≡ 0
-base_of_other e m [] f n h = refl
-base_of_other e m (line ∷ lines) f n h =
-    sum_by-cons (part_of f n) (wage_row e m line) (wage_rows e m lines)
-    ∙ (λ i. cond (h i) line.gross 0 + base_of_other e m lines f n h i)
-
--- the rows of a month's lines add the base of the lines to the month
-base_of_same : (e m : ℕ) (lines : List WageLine) → table_base (wage_rows e m lines) e m ≡ base_of lines
-base_of_same e m [] = refl
-base_of_same e m (line ∷ lines) =
-    sum_by-cons (part_of e m) (wage_row e m line) (wage_rows e m lines)
-    ∙ (λ i. cond (same_month e m i) line.gross 0 + base_of_same e m lines i)
-    ∙ sym (sum_by-cons (λ (l : WageLine). l.gross) line lines)
-
--- so they add the base of the lines to their month alone
-pub table_base-wage_rows : (e m : ℕ) (lines : List WageLine) (f n : ℕ) → table_base (wage_rows e m lines) f n ≡ cond ((e == f) && (m == n)) (base_of lines) 0
-table_base-wage_rows e m lines f n = told ((e == f) && (m == n)) refl
-  where
-    both : (e == f) && (m == n) ≡ true → (e ≡ f) × (m ≡ n)
-    both h = (grind (arith, nat_tests), grind (arith, nat_tests))
-
-    told : (b : Bool) → (e == f) && (m == n) ≡ b → table_base (wage_rows e m lines) f n ≡ cond b (base_of lines) 0
-    told true h =
-        let same = both h in
-        subst (λ (p : ℕ × ℕ). table_base (wage_rows e m lines) p.0 p.1 ≡ base_of lines) (λ i. (same.0 i, same.1 i)) (base_of_same e m lines)
-    told false h = base_of_other e m lines f n h
-
--- the base of another month stays
-pub sum_by-with_wages-other : (e m : ℕ) (lines : List WageLine) (rows : List WageRow) (f n : ℕ) → (e == f) && (m == n) ≡ false → table_base (with_wages e m lines rows) f n ≡ table_base rows f n
-sum_by-with_wages-other e m lines rows f n h =
-    let kept : sum_by (part_of_others e m f n) rows ≡ table_base rows f n = (λ i. sum_by (λ (row : WageRow). stays row.employer row.month row.gross i) rows) in
-    omega (arith, both_parts e m lines rows f n, kept, base_of_other e m lines f n h)
-  where
-    stays : (a b gross : ℕ) → cond ((e == a) && (m == b)) 0 (cond ((a == f) && (b == n)) gross 0) ≡ cond ((a == f) && (b == n)) gross 0
-    stays a b gross = told ((e == a) && (m == b)) ((a == f) && (b == n)) (apart a b)
-      where
-        apart : (a b : ℕ) → (e == a) && (m == b) ≡ true → (a == f) && (b == n) ≡ false
-        apart a b g = grind (arith, nat_tests)
-
-        told : (p q : Bool) → (p ≡ true → q ≡ false) → cond p 0 (cond q gross 0) ≡ cond q gross 0
-        told true q k = sym (ap (λ c. cond c gross 0) (k refl))
-        told false q k = refl
-
--- the base of the month is that of the lines
-pub sum_by-with_wages : (e m : ℕ) (lines : List WageLine) (rows : List WageRow) → table_base (with_wages e m lines rows) e m ≡ base_of lines
-sum_by-with_wages e m lines rows =
-    let gone : sum_by (part_of_others e m e m) rows ≡ 0 = (λ i. sum_by (λ (row : WageRow). goes row.employer row.month row.gross i) rows) ∙ no_sum rows in
-    omega (arith, both_parts e m lines rows e m, gone, base_of_same e m lines)
-  where
-    goes : (a b gross : ℕ) → cond ((e == a) && (m == b)) 0 (cond ((a == e) && (b == m)) gross 0) ≡ 0
-    goes a b gross = told ((e == a) && (m == b)) ((a == e) && (b == m)) (turned a b)
-      where
-        turned : (a b : ℕ) → (e == a) && (m == b) ≡ false → (a == e) && (b == m) ≡ false
-        turned a b g = grind (arith, nat_tests)
-
-        told : (p q : Bool) → (p ≡ false → q ≡ false) → cond p 0 (cond q gross 0) ≡ 0
-        told true q k = refl
-        told false q k = ap (λ c. cond c gross 0) (k refl)

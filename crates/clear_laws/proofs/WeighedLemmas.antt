@@ -1,6 +1,5 @@
 -- What is open of a firm's contributions, and their weights: that of its account, in its ranges.
-use Rattle.std.proofs.Common.{◌≡◌, ℕ, ◌+◌, ◌-◌, ◌≤◌, List, [], ◌∷◌, map, filter, drop, zero, suc, Bool, true, false, cond, ◌==◌, refl, sym, ap, ◌∙◌, subst, arith}
-use Rattle.std.proofs.lemmas.Bool.{eq-eqb}
+use Rattle.std.proofs.Common.{◌≡◌, ℕ, ◌+◌, ◌-◌, ◌≤◌, List, [], ◌∷◌, map, drop, zero, suc, refl, sym, ap, ◌∙◌, subst, arith}
 use Rattle.std.proofs.lemmas.List.{drop-map}
 use Rattle.std.proofs.lemmas.List.Elements.{recursion_from_All}
 use Rattle.std.specs.List.{AllByRecursion}
@@ -13,9 +12,9 @@ use Rattle.clear_kept.specs.declared.rows.WeighedCharge.{WeighedCharge}
 use Rattle.clear_kept.proofs.WeighedLemmas.{paid_from, rows_walk, weighed_charges-walk}
 use Rattle.clear_values.specs.declared.rows.KeptCharge.{KeptCharge}
 use Rattle.clear_values.specs.declared.rows.PieceRow.{PieceRow}
-use Rattle.clear_book.specs.Allocated.{AreSameCharges, IsWeighed, RepresentsBut, StandsWeighed, kept_charges, weighed_in}
+use Rattle.clear_book.specs.Allocated.{AreSameCharges, RepresentsBut, StandsWeighed, weighed_in}
 use Rattle.clear_book.specs.Book.{Book}
-use Rattle.clear_book.specs.Tables.{IsPaidInRange, Tables, charge_in, table_credits}
+use Rattle.clear_book.specs.Tables.{IsPaidInRange, Tables, charge_in}
 
 -- tables that represent a book keep what is open of its contributions
 pub stands_weighed : (g : PieceRow → PieceRow) (b : Book) (t : Tables) → RepresentsBut g b t → StandsWeighed b t
@@ -109,24 +108,3 @@ drop_in_range (suc n) (w ∷ ws) all = drop_in_range n ws all.1
 pub news_in_range : (n : ℕ) (cs : List Charge) (ks : List Credit) (news : List KeptCharge) → IsAccount cs ks → map weighed_in news ≡ drop n (weighed_charges cs ks) → AllByRecursion IsPaidInRange news
 news_in_range n cs ks news account are =
     from_weighed news (subst (AllByRecursion IsWeighedInRange) (sym are) (drop_in_range n (weighed_charges cs ks) (weighed_in_range cs ks account)))
-
--- what holds of the rows of each firm holds of all
-pub all_of_firms : (P : KeptCharge → Type 0) (rows : List KeptCharge) → ((e : ℕ) → AllByRecursion P (filter (λ row. row.employer == e) rows)) → AllByRecursion P rows
-all_of_firms P [] each = tt
-all_of_firms P (row ∷ rows) each = (first (eq-eqb row.employer row.employer refl), all_of_firms P rows (λ e. rest e (row.employer == e) refl))
-  where
-    left : ℕ → List KeptCharge
-    left e = filter (λ r. r.employer == e) rows
-
-    first : (row.employer == row.employer) ≡ true → P row
-    first is = (subst (λ b. AllByRecursion P (cond b (row ∷ left row.employer) (left row.employer))) is (each row.employer)).0
-
-    rest : (e : ℕ) (b : Bool) → (row.employer == e) ≡ b → AllByRecursion P (left e)
-    rest e true is = (subst (λ c. AllByRecursion P (cond c (row ∷ left e) (left e))) is (each e)).1
-    rest e false is = subst (λ c. AllByRecursion P (cond c (row ∷ left e) (left e))) is (each e)
-
--- all rows are in their ranges where what is open of each firm's contributions is that of its account
-pub weighed_paid : (t : Tables) → ((e : ℕ) → IsWeighed t e) → ((e : ℕ) → IsAccount (kept_charges t e) (table_credits t e)) → AllByRecursion IsPaidInRange t.charges
-weighed_paid t weighed account =
-    all_of_firms IsPaidInRange t.charges
-    (λ e. from_weighed (filter (λ row. row.employer == e) t.charges) (subst (AllByRecursion IsWeighedInRange) (sym (weighed e)) (weighed_in_range (kept_charges t e) (table_credits t e) (account e))))

@@ -1,8 +1,8 @@
 //! Laws: what follows from the definitions alone. A law has no parameters and no effect; its
 //! contract is the law.
-ghost use Rattle.std.specs.Prelude.{◌≡◌, ◌↔◌, ℕ, ◌+◌, List, ◌∷◌, ◌++◌, Bool, true, ◌&&◌};
-ghost use Rattle.std.specs.Prelude.{◌==◌, ◌≤◌, not};
-ghost use Rattle.std.specs.Prelude.{IfSome, IsSome, IsTrue, filter, length, map, sum_by};
+ghost use Rattle.std.specs.Prelude.{◌≡◌, ◌↔◌, ℕ, ◌+◌, List, ◌∷◌, ◌++◌, Bool, true};
+ghost use Rattle.std.specs.Prelude.{◌==◌, ◌≤◌};
+ghost use Rattle.std.specs.Prelude.{IfSome, IsSome, IsTrue, length, map};
 ghost use Rattle.std.specs.Prelude.{Option, Some};
 ghost use Rattle.std.specs.List.{AllByRecursion, list_any, range_with_len, Contains};
 ghost use Rattle.clear_money.specs.Rates.{Rate, rate_in_force};
@@ -47,10 +47,10 @@ ghost use Rattle.clear_values.specs.declared.rows.ClaimState.TheVariants.{Releas
 ghost use Rattle.clear_values.specs.declared.rows.PieceRow.{PieceRow};
 ghost use Rattle.clear_values.specs.declared.rows.ReleasedClaim.{ReleasedClaim};
 ghost use Rattle.clear_book.specs.Tables.{Tables, Stands, table_charges, table_credits};
-ghost use Rattle.clear_book.specs.Tables.{list_key, reminder_key, table_entitlement};
+ghost use Rattle.clear_book.specs.Tables.{list_key, reminder_key, table_claimed, table_entitlement};
 ghost use Rattle.clear_book.specs.Tables.{wages_of_worker};
 ghost use Rattle.clear_book.specs.Workers.{claimed, claims_of, entitlement_of, is_employed};
-ghost use Rattle.clear_book.specs.Workers.{is_on, is_payable, is_released_since, is_withdrawn};
+ghost use Rattle.clear_book.specs.Workers.{is_on, is_payable, is_released_since};
 ghost use Rattle.clear_book.specs.Workers.{claim_of, last_list_day, list_of, lists_of};
 ghost use Rattle.clear_book.specs.Listed.{IsListOf};
 ghost use Rattle.clear_book.specs.Reached.{IsReached};
@@ -135,13 +135,13 @@ pub fn law_one_table()
         → AreAllocated g t → AreAllocated g u → t ≡ u }
 {}
 
-/// Each row of the tables of a lawful book lies in its ranges.
+/// Each row of the tables of a lawful book, its pieces aside, lies in its ranges.
 pub fn law_rows_in_range()
     ensures { (b : Book) (t : Tables) → IsLawful b → Stands b t → AreInRange t }
 {}
 
-/// The contributions that the tables of a lawful book hold for an employer are those of the book,
-/// the months rising.
+/// The contributions that follow from the report and wage rows of the tables of a lawful book are
+/// those of the book, the months rising.
 pub fn law_charges()
     ensures { (b : Book) (t : Tables) (e : ℕ)
         → IsLawful b → Stands b t → table_charges t e ≡ charges_of b e }
@@ -160,10 +160,7 @@ pub fn law_claims()
 /// What the tables hold of a worker's claims that aren't withdrawn comes to what is claimed in the
 /// book.
 pub fn law_claimed()
-    ensures { (b : Book) (t : Tables) (w : ℕ) → Stands b t
-        → sum_by (λ claim. claim.cents)
-        (filter (λ claim. (claim.worker == w) && not (is_withdrawn claim.state)) t.claims)
-        ≡ claimed b w }
+    ensures { (b : Book) (t : Tables) (w : ℕ) → Stands b t → table_claimed t w ≡ claimed b w }
 {}
 
 /// A claim that is released in a lawful book comes of an entry that is its release, on that entry's

@@ -1,5 +1,5 @@
 -- The bank lines: under their references, and with their serials unique too.
-use Rattle.clear_columns.proofs.Words.{◌≡◌, ℤ, pos, Bool, true, false, ◌&&◌, ◌||◌, List, [], ◌∷◌, Less, Option, Some, None, Row, is_none, ℕ, map, filter, refl, sym, ap, ◌∙◌, inl, inr, is_eq, Equal, codes, ordering_then, cast_row, Binary, Insert, Update, Database, Values, Ghosts, Term, lit, col, op2, Trees, Null, Text, automatic, agree, passes, Datatype, NotNull, Compare, Is, Eq, Key, value_cmp-Text, Purpose, Contribution, Interest, is_key, is_in_suspense, number, numbers_compare, output_cmp, plain_query, Tables, bank_key, BankRow, meets, plain_program, content, HasTables, by_key, bank_table, store_schema, bank_values, cast_int, cast_null, equal_ints, equal_texts, AnswersJust, turned, is_key_is, by_key_total, key_is, cast_maybe, cast_purpose, maybe_typed, purpose_typed, same_numbers}
+use Rattle.clear_columns.proofs.Words.{◌≡◌, ℤ, pos, Bool, true, false, ◌&&◌, ◌||◌, List, [], ◌∷◌, Less, Option, Some, None, Row, is_none, ℕ, map, filter, refl, sym, ap, ◌∙◌, inl, inr, is_eq, Equal, codes, ordering_then, cast_row, Binary, Insert, Update, Database, Values, Ghosts, Term, lit, col, op2, Trees, Null, Text, automatic, agree, passes, Datatype, NotNull, Compare, Is, Eq, Key, value_cmp-Text, Purpose, Contribution, Interest, is_key, is_in_suspense, number, numbers_compare, output_cmp, plain_query, Tables, bank_key, BankRow, meets, plain_program, content, HasTables, by_key, bank_table, store_schema, bank_values, cast_int, cast_null, equal_ints, equal_texts, AnswersJust, turned, is_key_is, by_key_total, key_is, cast_maybe, cast_purpose, maybe_typed, purpose_typed, same_numbers, and-true}
 use Rattle.clear_ledger.specs.Shown.{bank_shown, is_line_held, serial_key}
 use Rattle.std.specs.Float.Ieee
 use Rattle.sqlite.specs.Ops.{binary}
@@ -13,13 +13,9 @@ use Rattle.clear_columns.proofs.Says.{Says, SaysQuery}
 use Rattle.clear_columns.proofs.CountLemmas.{counts, one, one_shown}
 use Rattle.clear_schema.proofs.Changes.{bank_changed}
 
-pub last : (b : Bool) → (b && true) ≡ b
-last true = refl
-last false = refl
-
 pub references_agree : (a b : ℤ × BankRow) → agree plain (1 ∷ []) (bank_values a) (1 ∷ []) (bank_values b) ≡ is_eq (by_key bank_key (content b) (content a))
 unfolding first_key
-references_agree a b = rw (equal_texts (content a).line.reference (content b).line.reference) (last _ ∙ turned (by_key bank_key (content b) (content a)) _ ((by_key_total bank_key).antisymm (content a) (content b)))
+references_agree a b = rw (equal_texts (content a).line.reference (content b).line.reference) (and-true _ ∙ turned (by_key bank_key (content b) (content a)) _ ((by_key_total bank_key).antisymm (content a) (content b)))
 
 pub serials_agree : (a b : ℤ × BankRow) → agree plain (2 ∷ []) (bank_values a) (2 ∷ []) (bank_values b) ≡ is_eq (by_key serial_key (content b) (content a))
 unfolding first_key
@@ -140,7 +136,7 @@ abbrev pub is_of : List ℕ → BankRow → Bool
 is_of k row = is_key (bank_key row) k
 
 pub of_reference : (k : List ℕ) (rest : Row) (y : ℤ × BankRow) → meets by_reference (Text k ∷ rest) (bank_values y) ≡ is_of k (content y)
-of_reference k rest y = rw (equal_texts (content y).line.reference k) (last _ ∙ sym (is_key_is (content y).line.reference k))
+of_reference k rest y = rw (equal_texts (content y).line.reference k) (and-true _ ∙ sym (is_key_is (content y).line.reference k))
 
 no_firm : (y : ℤ × BankRow) → meets without_firm [] (bank_values y) ≡ is_in_suspense (content y)
 unfolding binary value_cmp Ieee.lt Ieee.is_nan

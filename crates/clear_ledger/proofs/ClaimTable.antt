@@ -1,5 +1,5 @@
 -- The claims: under their numbers.
-use Rattle.clear_columns.proofs.Words.{◌≡◌, ◌==◌, pos, ℕ, Bool, true, false, ◌&&◌, List, [], ◌∷◌, map, filter, refl, sym, subst, inl, inr, codes, cast_row, Binary, Insert, Update, Database, Row, Values, Ghosts, Term, lit, col, op2, Trees, Null, passes, Datatype, Compare, Eq, Ge, is_key, Tables, ClaimRow, ClaimState, Open, Withdrawn, Released, IsNumbered, meets, plain_program, HasTables, claims_table, store_schema, claim_values, maybe, number, cast_int, cast_null, cast_maybe, equal_maybe, equal_numbers, maybe_from, maybe_typed, numbers_keep, AnswersJust}
+use Rattle.clear_columns.proofs.Words.{◌≡◌, ◌==◌, pos, ℕ, Bool, true, false, List, [], ◌∷◌, map, filter, refl, sym, subst, inl, inr, codes, cast_row, Binary, Insert, Update, Database, Row, Values, Ghosts, Term, lit, col, op2, Trees, Null, passes, Datatype, Compare, Eq, Ge, is_key, Tables, ClaimRow, ClaimState, Open, Withdrawn, Released, IsNumbered, meets, plain_program, HasTables, claims_table, store_schema, claim_values, maybe, number, cast_int, cast_null, cast_maybe, equal_maybe, equal_numbers, maybe_from, maybe_typed, numbers_keep, AnswersJust, and-true}
 use Rattle.std.proofs.Common.{◌∙◌, nat_le}
 use Rattle.std.specs.Option.{option_map_or}
 use Rattle.sqlite_tied.specs.Compute.{everything}
@@ -164,16 +164,12 @@ is_that row x e =
 abbrev pub is_for : ℕ → ClaimRow → Bool
 is_for w x = x.worker == w
 
-last : (b : Bool) → (b && true) ≡ b
-last true = refl
-last false = refl
-
 for_worker : (w : ℕ) (x : ClaimRow) → meets by_worker (number w ∷ []) (claim_row x) ≡ is_for w x
-for_worker w x = rw (equal_numbers x.worker w) (last (x.worker == w))
+for_worker w x = rw (equal_numbers x.worker w) (and-true (x.worker == w))
 
 -- a day of release stands just where there is a release
 from_day : (d : ℕ) (x : ClaimRow) → meets by_release (number d ∷ []) (claim_row x) ≡ is_released_since d x.state
-from_day d x = rw (maybe_from (columns_of x.state).released d) (last _ ∙ of x.state)
+from_day d x = rw (maybe_from (columns_of x.state).released d) (and-true _ ∙ of x.state)
   where
     of : (s : ClaimState) → option_map_or (λ m. nat_le d m) (columns_of s).released false ≡ is_released_since d s
     of Open = refl
@@ -182,7 +178,7 @@ from_day d x = rw (maybe_from (columns_of x.state).released d) (last _ ∙ of x.
 
 -- and so does a list
 meets_list : (l : ℕ) (x : ClaimRow) → meets by_list (number l ∷ []) (claim_row x) ≡ is_on l x.state
-meets_list l x = rw (equal_maybe (columns_of x.state).list l) (last _ ∙ of x.state)
+meets_list l x = rw (equal_maybe (columns_of x.state).list l) (and-true _ ∙ of x.state)
   where
     of : (s : ClaimState) → option_map_or (λ m. m == l) (columns_of s).list false ≡ is_on l s
     of Open = refl

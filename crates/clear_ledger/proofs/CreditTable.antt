@@ -1,11 +1,11 @@
 -- The credits: under their firms, purposes, days and serials.
-use Rattle.clear_columns.proofs.Words.{◌≡◌, ℤ, pos, ℕ, Bool, true, false, ◌&&◌, List, [], ◌∷◌, map, filter, refl, inl, inr, is_eq, Less, codes, cast_row, Binary, Insert, Database, Row, output_cmp, Values, Ghosts, Term, lit, col, op2, Trees, Null, automatic, agree, passes, Datatype, NotNull, Compare, Eq, Key, Purpose, Contribution, Interest, credit_key, is_credit_of, Tables, CreditRow, meets, plain_program, plain_query, content, HasTables, by_key, credits_table, store_schema, credit_values, number, purpose, cast_int, cast_null, AnswersJust, key_is, cast_purpose, purpose_typed, equal_numbers, equal_ranks, equal_purposes, numbers_compare, purposes_compare, ◌||◌, ◌==◌, ◌∙◌, nat_lt, And, Ge, Gt, Or, Some, ap, arith, comes_from, maybe_from, nat_tests, subst, sym}
+use Rattle.clear_columns.proofs.Words.{◌≡◌, ℤ, pos, ℕ, Bool, true, false, ◌&&◌, List, [], ◌∷◌, map, filter, refl, inl, inr, is_eq, Less, codes, cast_row, Binary, Insert, Database, Row, output_cmp, Values, Ghosts, Term, lit, col, op2, Trees, Null, automatic, agree, passes, Datatype, NotNull, Compare, Eq, Key, Purpose, Contribution, Interest, credit_key, is_credit_of, Tables, CreditRow, meets, plain_program, plain_query, content, HasTables, by_key, credits_table, store_schema, credit_values, number, purpose, cast_int, cast_null, AnswersJust, key_is, cast_purpose, purpose_typed, equal_numbers, equal_ranks, equal_purposes, numbers_compare, purposes_compare, ◌||◌, ◌==◌, ◌∙◌, nat_lt, And, Ge, Gt, Or, Some, ap, arith, comes_from, maybe_from, nat_tests, subst, sym, two_met}
 use Rattle.std.proofs.Common.{nat_le}
 use Rattle.std.proofs.lemmas.Simd.{map-map}
 use Rattle.clear_values.specs.Lines.{same_purpose}
 use Rattle.clear_ledger.specs.From.{is_credit_from}
 use Rattle.clear_ledger.specs.Shown.{credit_shown, number_shown}
-use Rattle.clear_columns.specs.Keys.{is_held}
+use Rattle.clear_values.specs.Keyed.{is_held}
 use Rattle.sqlite_tied.specs.Compute.{everything}
 use Rattle.sqlite_value.specs.Keys.{ascending, first_key, plain}
 use Rattle.clear_columns.proofs.KeyedTable.{KeyedTable, lists, or_false}
@@ -121,12 +121,7 @@ list_from_says = record { names = _; said = (refl, refl, refl) }
 -- ---- what they answer
 
 of_firm : (e : ℕ) (p : Purpose) (y : ℤ × CreditRow) → meets by_purpose (number e ∷ purpose p ∷ []) (credit_values y) ≡ is_credit_of e p (content y)
-of_firm e p y = rw (equal_numbers (content y).employer e, equal_purposes (content y).purpose p) (last _ _)
-  where
-    last : (a b : Bool) → (a && (b && true)) ≡ (a && b)
-    last true true = refl
-    last true false = refl
-    last false b = refl
+of_firm e p y = rw (equal_numbers (content y).employer e, equal_purposes (content y).purpose p) (two_met _ _)
 
 -- what ORDER BY goes by
 abbrev sorted : CreditRow → Row

@@ -1,12 +1,12 @@
 -- The pieces: under their firms and months, and the days and serials of their credits.
-use Rattle.clear_columns.proofs.Words.{◌≡◌, ◌==◌, ℤ, pos, Bool, true, false, ◌&&◌, ◌||◌, List, [], ◌∷◌, refl, ◌∙◌, inl, inr, is_eq, nat_lt, codes, cast_row, Binary, Delete, Insert, Values, Term, lit, col, op2, Null, automatic, agree, And, Compare, Eq, Ge, Gt, Key, Or, PieceRow, Tables, is_piece_key_from, piece_key, meets, plain_program, plain_query, content, HasTables, AnswersJust, Database, Ghosts, Row, Less, by_key, filter, map, month, number, output_cmp, pieces_table, piece_values, month_number, months_compare, cast_int, cast_null, comes_from, equal_months, equal_numbers, key_is, months_from, numbers_compare, ℕ, turned_nat}
+use Rattle.clear_columns.proofs.Words.{◌≡◌, ◌==◌, ℤ, pos, Bool, true, false, ◌&&◌, ◌||◌, List, [], ◌∷◌, refl, ◌∙◌, inl, inr, is_eq, nat_lt, codes, cast_row, Binary, Delete, Insert, Values, Term, lit, col, op2, Null, automatic, agree, And, Compare, Eq, Ge, Gt, Key, Or, PieceRow, Tables, is_piece_key_from, piece_key, meets, plain_program, plain_query, content, HasTables, AnswersJust, Database, Ghosts, Row, Less, by_key, filter, map, month, number, output_cmp, pieces_table, piece_values, month_number, months_compare, cast_int, cast_null, comes_from, equal_months, equal_numbers, key_is, months_from, numbers_compare, ℕ, turned_nat, and-true}
 use Rattle.std.proofs.Common.{nat_le}
 use Rattle.sqlite_tied.specs.Compute.{everything}
 use Rattle.sqlite_value.specs.Keys.{ascending, first_key, plain}
 use Rattle.clear_schema.proofs.Changes.{pieces_changed}
 use Rattle.clear_columns.proofs.KeyedTable.{KeyedTable, lists, or_false}
 use Rattle.clear_columns.proofs.Says.{Says, SaysQuery}
-use Rattle.clear_columns.specs.Keys.{is_held}
+use Rattle.clear_values.specs.Keyed.{is_held}
 use Rattle.clear_ledger.specs.Shown.{first_piece_given, piece_shown}
 use Rattle.clear_ledger.specs.declared.pieces.PieceFrom.{PieceFrom}
 
@@ -114,11 +114,7 @@ abbrev pub is_of : ℕ → PieceRow → Bool
 is_of e row = row.employer == e
 
 of_firm : (e : ℕ) (y : ℤ × PieceRow) → meets by_employer (number e ∷ []) (piece_values y) ≡ is_of e (content y)
-of_firm e y = rw (equal_numbers (content y).employer e) (last _)
-  where
-    last : (b : Bool) → (b && true) ≡ b
-    last true = refl
-    last false = refl
+of_firm e y = rw (equal_numbers (content y).employer e) (and-true _)
 
 -- what ORDER BY goes by
 abbrev sorted : PieceRow → Row

@@ -1,12 +1,12 @@
 -- The reminders: under their runs and firms.
-use Rattle.clear_columns.proofs.Words.{◌≡◌, ◌==◌, ℤ, pos, ℕ, Bool, true, false, ◌&&◌, List, [], ◌∷◌, map, filter, refl, inl, inr, arith, nat_tests, is_eq, nat_cmp, ordering_then, Equal, Less, codes, cast_row, Binary, Insert, Database, Row, output_cmp, Values, Ghosts, Term, lit, col, op2, Trees, Null, automatic, agree, passes, Datatype, Compare, Eq, Key, reminder_key, Tables, ReminderRow, first_program, meets, plain_program, plain_query, content, HasTables, by_key, reminders_table, store_schema, reminder_values, number, cast_int, cast_null, cast_maybe_month, maybe_month_typed, AnswersJust, key_is, equal_numbers, numbers_compare}
+use Rattle.clear_columns.proofs.Words.{◌≡◌, ◌==◌, ℤ, pos, ℕ, true, List, [], ◌∷◌, map, filter, refl, inl, inr, is_eq, ordering_then, Equal, Less, codes, cast_row, Binary, Insert, Database, Row, output_cmp, Values, Ghosts, Term, lit, col, op2, Trees, Null, automatic, agree, passes, Datatype, Compare, Eq, Key, reminder_key, Tables, ReminderRow, first_program, meets, plain_program, plain_query, content, HasTables, by_key, reminders_table, store_schema, reminder_values, number, cast_int, cast_null, cast_maybe_month, maybe_month_typed, AnswersJust, key_is, equal_numbers, numbers_compare, and-true}
 use Rattle.std.proofs.Common.{Ordering, Greater, take}
 use Rattle.clear_ledger.specs.Shown.{reminder_shown}
-use Rattle.clear_columns.specs.Keys.{is_held}
+use Rattle.clear_values.specs.Keyed.{is_held}
 use Rattle.sqlite_tied.specs.Compute.{everything}
 use Rattle.sqlite_value.specs.Keys.{ascending, first_key, plain}
 use Rattle.clear_columns.proofs.KeyedTable.{KeyedTable, lists, or_false}
-use Rattle.clear_columns.proofs.LastLemmas.{finds_last, from_last}
+use Rattle.clear_columns.proofs.LastLemmas.{as_one, finds_last, from_last}
 use Rattle.clear_columns.proofs.Says.{Says, SaysQuery}
 use Rattle.clear_schema.proofs.Changes.{reminders_changed}
 
@@ -89,20 +89,13 @@ of_run_says = record { names = _; said = (refl, refl, refl) }
 
 -- ---- what they answer
 
-last : (b : Bool) → (b && true) ≡ b
-last true = refl
-last false = refl
-
 to_firm : (e : ℕ) (y : ℤ × ReminderRow) → meets by_employer (number e ∷ []) (reminder_values y) ≡ ((content y).employer == e)
-to_firm e y = rw (equal_numbers (content y).employer e) (last _)
+to_firm e y = rw (equal_numbers (content y).employer e) (and-true _)
 
 in_run : (n : ℕ) (y : ℤ × ReminderRow) → meets by_run (number n ∷ []) (reminder_values y) ≡ ((content y).run == n)
-in_run n y = rw (equal_numbers (content y).run n) (last _)
+in_run n y = rw (equal_numbers (content y).run n) (and-true _)
 
 -- of one firm's reminders the later is that of the later run
-same_firm : (a b e : ℕ) → (a == e) ≡ true → (b == e) ≡ true → nat_cmp a b ≡ Equal
-same_firm a b e first second = grind (arith, nat_tests)
-
 by_runs : (runs firms : Ordering) → firms ≡ Equal → ordering_then runs (ordering_then firms Equal) ≡ Less → ordering_then runs Equal ≡ Less
 by_runs Less firms same h = refl
 by_runs Equal firms same h = absurd cc
@@ -110,7 +103,7 @@ by_runs Greater firms same h = absurd cc
 
 falls : (e : ℕ) (a b : ReminderRow) → (a.employer == e) ≡ true → (b.employer == e) ≡ true → by_key reminder_key a b ≡ Less
     → output_cmp (plain_query 15 by_employer columns falling) (number b.run ∷ [], reminder_shown b) (number a.run ∷ [], reminder_shown a) ≡ Less
-falls e a b first second h = rw (numbers_compare a.run b.run) (by_runs _ _ (same_firm a.employer b.employer e first second) h)
+falls e a b first second h = rw (numbers_compare a.run b.run) (by_runs _ _ (as_one a.employer b.employer e first second) h)
 
 -- what ORDER BY goes by
 abbrev sorted : ReminderRow → Row

@@ -1,11 +1,11 @@
 -- The kept requests: under their callers and numbers.
-use Rattle.clear_columns.proofs.Words.{◌≡◌, ◌==◌, ◌&&◌, ℤ, pos, ℕ, Bool, true, false, List, [], ◌∷◌, Equal, Less, arith, drop, map, filter, refl, subst, sym, ap, inl, inr, is_eq, nat_cmp, nat_tests, ordering_then, Key, first_program, numbers_compare, output_cmp, codes, cast_row, Binary, Insert, Database, Row, output, Values, Ghosts, Term, lit, col, op2, Trees, Null, Int, Blob, automatic, agree, passes, Datatype, NotNull, Compare, Eq, is_key, RequestRow, Tables, meets, plain_program, plain_query, content, HasTables, by_key, request_key, requests_table, store_schema, caller_number, number, request_values, cast_int, cast_null, AnswersJust, key_is, equal_numbers}
+use Rattle.clear_columns.proofs.Words.{◌≡◌, ◌==◌, ℤ, pos, ℕ, true, List, [], ◌∷◌, Equal, Less, drop, map, filter, refl, subst, sym, ap, inl, inr, is_eq, ordering_then, Key, first_program, numbers_compare, output_cmp, codes, cast_row, Binary, Insert, Database, Row, output, Values, Ghosts, Term, lit, col, op2, Trees, Null, Int, Blob, automatic, agree, passes, Datatype, NotNull, Compare, Eq, is_key, RequestRow, Tables, meets, plain_program, plain_query, content, HasTables, by_key, request_key, requests_table, store_schema, caller_number, number, request_values, cast_int, cast_null, AnswersJust, key_is, equal_numbers, and-true}
 use Rattle.std.proofs.Common.{Greater, Ordering}
 use Rattle.std.specs.Option.{option_to_list}
-use Rattle.clear_columns.specs.Keys.{is_held}
+use Rattle.clear_values.specs.Keyed.{is_held}
 use Rattle.sqlite_tied.specs.Compute.{everything}
 use Rattle.sqlite_value.specs.Keys.{first_key, plain}
-use Rattle.clear_columns.proofs.LastLemmas.{finds_last, from_last, last_of}
+use Rattle.clear_columns.proofs.LastLemmas.{as_one, finds_last, from_last, last_of}
 use Rattle.clear_values.specs.declared.callers.Caller.{Caller}
 use Rattle.clear_ledger.specs.Kept.{greatest_number, requests_of}
 use Rattle.clear_ledger.specs.Shown.{kept_shown, number_shown, numbers_of, request_shown}
@@ -126,16 +126,9 @@ answers g t db c n has = finds requests g t db has (number c ∷ number n ∷ []
 -- ---- the greatest number of a caller
 
 of_caller : (c : ℕ) (y : ℤ × RequestRow) → meets by_caller (number c ∷ []) (request_values y) ≡ (caller_number (content y).caller == c)
-of_caller c y = rw (equal_numbers (caller_number (content y).caller) c) (last (caller_number (content y).caller == c))
-  where
-    last : (b : Bool) → (b && true) ≡ b
-    last true = refl
-    last false = refl
+of_caller c y = rw (equal_numbers (caller_number (content y).caller) c) (and-true (caller_number (content y).caller == c))
 
 -- of one caller's requests the later has the greater number
-same_caller : (a b c : ℕ) → (a == c) ≡ true → (b == c) ≡ true → nat_cmp a b ≡ Equal
-same_caller a b c first second = grind (arith, nat_tests)
-
 by_numbers : (callers numbers : Ordering) → callers ≡ Equal → ordering_then callers (ordering_then numbers Equal) ≡ Less → ordering_then numbers Equal ≡ Less
 by_numbers Equal numbers same h = h
 by_numbers Less numbers same h = absurd cc
@@ -148,7 +141,7 @@ number_of row = number_shown row.number
 falls : (c : ℕ) (a b : RequestRow) → (caller_number a.caller == c) ≡ true → (caller_number b.caller == c) ≡ true → by_key request_key a b ≡ Less
     → output_cmp (plain_query 17 by_caller number_column falling) (number_of b, number_of b) (number_of a, number_of a) ≡ Less
 falls c a b first second h =
-    rw (numbers_compare a.number b.number) (by_numbers _ _ (same_caller (caller_number a.caller) (caller_number b.caller) c first second) h)
+    rw (numbers_compare a.number b.number) (by_numbers _ _ (as_one (caller_number a.caller) (caller_number b.caller) c first second) h)
 
 pub answers_greatest : {S : Type 0} (g : Ghosts S) (t : Tables) (db : Database) → HasTables t db → (caller : Caller) → AnswersJust g greatest (number (caller_number caller) ∷ []) db (map number_shown (option_to_list (greatest_number caller t.requests)))
 answers_greatest g t db has caller =

@@ -18,7 +18,7 @@ use Rattle.clear_values.specs.declared.replies.Reply.TheVariants.{Done, Reported
 use Rattle.clear_values.specs.declared.replies.Reply.TheVariants.{Released as reply_of_release}
 use Rattle.clear_values.specs.declared.replies.Reply.TheVariants.{Listed, Reminded}
 use Rattle.clear_schema.specs.Values.{caller_number, number, maybe, month, maybe_month, purpose}
-use Rattle.clear_columns.specs.Keys.{is_held}
+use Rattle.clear_values.specs.Keyed.{is_held}
 use Rattle.clear_ledger.specs.declared.pieces.PieceFrom.{PieceFrom}
 use Rattle.clear_ledger.specs.declared.replies.ReplyNumbers.{ReplyNumbers}
 use Rattle.clear_ledger.specs.declared.states.StateColumns.{StateColumns}

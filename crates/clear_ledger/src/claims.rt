@@ -4,11 +4,10 @@ ghost use Rattle.std.specs.Prelude.{◌≡◌, ◌≢◌, ◌==◌, ◌∷◌, [
 ghost use Rattle.sqlite.specs.Held.{state};
 ghost use Rattle.sqlite.specs.Values.{bound};
 ghost use Rattle.sqlite.specs.contracts.connection.Connection.{the_row};
-ghost use Rattle.clear_values.specs.Keyed.{find_row, with_row};
+ghost use Rattle.clear_values.specs.Keyed.{find_row, is_held, replaced, with_row};
 ghost use Rattle.clear_values.specs.RowRanges.{IsClaimRow, IsClaimState};
 ghost use Rattle.clear_values.specs.Tables.{claim_key};
 ghost use Rattle.clear_values.specs.declared.rows.ClaimRow.{ClaimRow as Claim};
-ghost use Rattle.clear_columns.specs.Keys.{is_held, replaced};
 ghost use Rattle.clear_columns.specs.Reading.{HasSomeTables, IsLeft, ReadsOn};
 ghost use Rattle.clear_values.specs.Payouts.{is_on, is_released_since};
 ghost use Rattle.clear_ledger.specs.Shown.{claim_shown, columns_of};

@@ -6,12 +6,11 @@ ghost use Rattle.sqlite.specs.Values.{bound};
 ghost use Rattle.sqlite.specs.contracts.connection.Connection.{the_row};
 ghost use Rattle.clear_money.specs.Numbers.{IsAmount};
 ghost use Rattle.clear_values.specs.Credits.{credit_key};
-ghost use Rattle.clear_values.specs.Keyed.{with_row};
+ghost use Rattle.clear_values.specs.Keyed.{is_held, with_row};
 ghost use Rattle.clear_values.specs.Credits.{is_credit_of};
 ghost use Rattle.clear_values.specs.RowRanges.{IsCreditRow, IsSerial};
 ghost use Rattle.clear_ledger.specs.From.{is_credit_from};
 ghost use Rattle.clear_ledger.specs.Shown.{credit_shown};
-ghost use Rattle.clear_columns.specs.Keys.{is_held};
 ghost use Rattle.clear_columns.specs.Reading.{HasSomeTables, IsLeft, ReadsOn};
 ghost use Rattle.clear_schema.specs.Frame.{Lists, LooksUp, Writes};
 

@@ -1,14 +1,13 @@
 //! The payout lists, by their numbers.
 ghost use Rattle.std.specs.Borrow.{sem, RestsIfErr};
 ghost use Rattle.std.specs.Option.{option_to_list};
-ghost use Rattle.std.specs.Prelude.{◌≡◌, ◌↔◌, ◌≤◌, [], ◌∷◌, true, IsTrue, IfOk};
+ghost use Rattle.std.specs.Prelude.{◌≡◌, ◌↔◌, [], ◌∷◌, true, IsTrue, IfOk};
 ghost use Rattle.sqlite.specs.Held.{state};
 ghost use Rattle.sqlite.specs.Values.{bound};
 ghost use Rattle.sqlite.specs.contracts.connection.Connection.{the_row};
-ghost use Rattle.clear_values.specs.Keyed.{find_row, with_row};
+ghost use Rattle.clear_values.specs.Keyed.{find_row, is_held, with_row};
 ghost use Rattle.clear_values.specs.RowRanges.{IsListRow, IsReply};
 ghost use Rattle.clear_values.specs.Tables.{list_key};
-ghost use Rattle.clear_columns.specs.Keys.{is_held};
 ghost use Rattle.clear_columns.specs.Reading.{HasSomeTables, IsLeft, ReadsOn};
 ghost use Rattle.clear_ledger.specs.Shown.{list_shown};
 ghost use Rattle.clear_schema.specs.Frame.{Finds, Writes};
@@ -16,7 +15,7 @@ ghost use Rattle.clear_schema.specs.Frame.{Finds, Writes};
 use clear_columns::columns::{count_at, day_at, number_at};
 use clear_columns::parameters::{day, list_no};
 use clear_columns::queries::find;
-use clear_columns::ranges::{is_claimed, is_entry_count, is_list_no};
+use clear_columns::ranges::{is_claimed, is_entry_count};
 use clear_columns::rows::{StoredTable, begin_rows};
 use clear_schema::fault::Fault;
 use clear_schema::statement::put;
@@ -116,7 +115,10 @@ fn is_list_row(row: &ListRow) -> bool
 pub fn is_listed(list: u32, items: u64, total: u64) -> bool
     ensures { IsTrue result ↔ IsReply (Reply.Listed list items total) }
 {
-    is_list_no(list) && items >= 1 && is_entry_count(items) && is_claimed(total)
+    ListNo::new(u64::from(list)).is_some()
+        && items >= 1
+        && is_entry_count(items)
+        && is_claimed(total)
 }
 
 // The parameters of a statement that writes a row.

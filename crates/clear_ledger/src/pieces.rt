@@ -4,10 +4,9 @@ ghost use Rattle.std.specs.Prelude.{◌≡◌, ◌↔◌, ◌==◌, false, true,
 ghost use Rattle.sqlite.specs.Held.{state};
 ghost use Rattle.sqlite.specs.Values.{bound};
 ghost use Rattle.sqlite.specs.contracts.connection.Connection.{the_row};
-ghost use Rattle.clear_values.specs.Keyed.{with_row, without_rows};
+ghost use Rattle.clear_values.specs.Keyed.{is_held, with_row, without_rows};
 ghost use Rattle.clear_values.specs.RowRanges.{IsPieceRow, IsSerial};
 ghost use Rattle.clear_values.specs.Tables.{is_piece_key_from, piece_key};
-ghost use Rattle.clear_columns.specs.Keys.{is_held};
 ghost use Rattle.clear_columns.specs.Reading.{HasSomeTables, IsLeft, ReadsOn};
 ghost use Rattle.clear_ledger.specs.Shown.{first_piece_given, piece_shown};
 ghost use Rattle.clear_schema.specs.Frame.{Writes};

@@ -6,10 +6,9 @@ ghost use Rattle.sqlite.specs.Held.{state};
 ghost use Rattle.sqlite.specs.Values.{bound};
 ghost use Rattle.sqlite.specs.contracts.connection.Connection.{the_row};
 ghost use Rattle.clear_money.specs.Calendar.{IsMonth};
-ghost use Rattle.clear_values.specs.Keyed.{with_row};
+ghost use Rattle.clear_values.specs.Keyed.{is_held, with_row};
 ghost use Rattle.clear_values.specs.RowRanges.{IsReminderRow};
 ghost use Rattle.clear_values.specs.Tables.{reminder_key};
-ghost use Rattle.clear_columns.specs.Keys.{is_held};
 ghost use Rattle.clear_columns.specs.Reading.{HasSomeTables, IsLeft, ReadsOn};
 ghost use Rattle.clear_ledger.specs.Shown.{reminder_shown};
 ghost use Rattle.clear_schema.specs.Frame.{Finds, Writes};
@@ -19,7 +18,7 @@ use clear_columns::columns::{
 };
 use clear_columns::parameters::{employer as firm, maybe_month, run_no};
 use clear_columns::queries::find;
-use clear_columns::ranges::{is_charged, is_interest, is_month_count, is_run_no};
+use clear_columns::ranges::{is_charged, is_interest, is_month_count};
 use clear_columns::rows::{StoredTable, begin_rows};
 use clear_money::months::Month;
 use clear_money::numbers::EmployerNo;
@@ -125,7 +124,7 @@ fn is_reminder_row(row: &ReminderRow) -> bool
     // A proof reads the ranges of the firm and of the month from their types.
     let _employer = row.employer.number();
     let _first = month_number(row.first);
-    is_run_no(row.run)
+    RunNo::new(u64::from(row.run)).is_some()
         && row.level >= 1
         && row.level <= 3
         && is_month_count(row.missing)

@@ -7,8 +7,9 @@ ghost use Rattle.clear_ledger.specs.Shown.{AreSmall, numbers_of};
 use crate::lists::is_listed;
 use crate::runs::is_reminded;
 use crate::states::settled_cents;
+use clear_columns::ranges::{is_contribution, is_version};
 use clear_money::numbers::Amount;
-use clear_values::limits::{MAX_BASE, MAX_RECORDS, MAX_VERSIONS};
+use clear_values::limits::MAX_RECORDS;
 use clear_values::numbers::ClaimNo;
 use clear_values::replies::{Reply, Settlement};
 
@@ -130,9 +131,7 @@ pub fn is_reply(reply: Reply) -> bool
 {
     match reply {
         Reply::Done => true,
-        Reply::Reported { version, charge } => {
-            1 <= version && version <= MAX_VERSIONS && charge <= MAX_BASE
-        }
+        Reply::Reported { version, charge } => is_version(version) && is_contribution(charge),
         Reply::Imported { new, repeats } => {
             new <= MAX_RECORDS as u64 && repeats <= MAX_RECORDS as u64
         }

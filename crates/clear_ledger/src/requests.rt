@@ -6,16 +6,14 @@ ghost use Rattle.std.specs.Option.{option_map, option_to_list};
 ghost use Rattle.sqlite.specs.Held.{state};
 ghost use Rattle.sqlite.specs.contracts.connection.Connection.{the_row};
 ghost use Rattle.clear_columns.specs.Columns.{ReadsColumn};
-ghost use Rattle.clear_columns.specs.Keys.{is_held};
 ghost use Rattle.clear_columns.specs.Reading.{HasSomeTables, IsLeft, ReadsOn};
-ghost use Rattle.clear_schema.specs.Frame.{IsOut, Looks, Writes};
+ghost use Rattle.clear_schema.specs.Frame.{IsOut, LooksUp, Writes};
 ghost use Rattle.sqlite.specs.Values.{bound};
 ghost use Rattle.clear_values.specs.Tables.{request_number};
-ghost use Rattle.clear_values.specs.Keyed.{find_row, with_row};
+ghost use Rattle.clear_values.specs.Keyed.{find_row, is_held, with_row};
 ghost use Rattle.clear_values.specs.Numbers.{IsRequestNo};
 ghost use Rattle.clear_values.specs.RowRanges.{IsReply};
-ghost use Rattle.clear_values.specs.Tables.{RequestRow, Tables, request_key};
-ghost use Rattle.clear_schema.specs.Held.{HasTables};
+ghost use Rattle.clear_values.specs.Tables.{RequestRow, request_key};
 ghost use Rattle.clear_schema.specs.Values as stored;
 ghost use Rattle.clear_ledger.specs.Kept.{IsKept, as_kept, greatest_number, kept_of, row_of};
 ghost use Rattle.clear_ledger.specs.Shown.{kept_shown, number_shown, numbers_of, request_shown};
@@ -44,7 +42,9 @@ pub struct KeptRequest {
     pub command: Vec<u8>,
     /// What it was answered: a version from 1 to 10,000 and a charge of at most 5,000,000,000
     /// cents, at most 10,000 new lines and as many repeats, the number of a claim from 1 to
-    /// 50,000,000, or a settlement of 1 to 100,000,000,000 cents.
+    /// 50,000,000, a settlement of 1 to 100,000,000,000 cents, a payout list (a number and a count
+    /// of claims from 1 to 50,000,000, at most 5,000,000,000,000,000,000 cents), or a reminder run
+    /// (a number from 1 to 50,000,000, of 1 to 10,000 firms).
     pub reply: Reply,
 }
 
@@ -85,8 +85,7 @@ pub fn find_request<S: Alter>(
     number: RequestNo,
 ) -> Result<Option<KeptRequest>, Fault>
     ensures same_reference { tx.new.conn.ghost_name ≡ tx.old.conn.ghost_name }
-    ensures looks { Looks S.Store tx.old.conn.now tx.new.conn.now
-        (λ t. HasTables t (state S.Store tx.old.conn.now).now) result
+    ensures looks { LooksUp S.Store tx.old.conn.now tx.new.conn.now result
         (λ t found. option_map as_kept found ≡ option_map kept_of
         (find_row request_key t.requests (request_number caller number)))
         (λ found. IfSome found (λ request. IsKept (as_kept request)))

@@ -5,10 +5,9 @@ ghost use Rattle.std.specs.Prelude.{◌≡◌, ◌↔◌, [], ◌∷◌, true, I
 ghost use Rattle.sqlite.specs.Held.{state};
 ghost use Rattle.sqlite.specs.Values.{bound};
 ghost use Rattle.sqlite.specs.contracts.connection.Connection.{the_row};
-ghost use Rattle.clear_values.specs.Keyed.{find_row, with_row};
+ghost use Rattle.clear_values.specs.Keyed.{find_row, is_held, with_row};
 ghost use Rattle.clear_values.specs.RowRanges.{IsReply, IsRunRow};
 ghost use Rattle.clear_values.specs.Tables.{run_key};
-ghost use Rattle.clear_columns.specs.Keys.{is_held};
 ghost use Rattle.clear_columns.specs.Reading.{HasSomeTables, IsLeft, ReadsOn};
 ghost use Rattle.clear_ledger.specs.Shown.{run_shown};
 ghost use Rattle.clear_schema.specs.Frame.{Finds, Writes};
@@ -16,7 +15,7 @@ ghost use Rattle.clear_schema.specs.Frame.{Finds, Writes};
 use clear_columns::columns::{count_at, day_at, number_at};
 use clear_columns::parameters::{day, run_no};
 use clear_columns::queries::find;
-use clear_columns::ranges::{is_firm_count, is_run_no};
+use clear_columns::ranges::is_firm_count;
 use clear_columns::rows::{StoredTable, begin_rows};
 use clear_schema::fault::Fault;
 use clear_schema::statement::put;
@@ -110,7 +109,7 @@ fn is_run_row(row: &RunRow) -> bool
 pub fn is_reminded(run: u32, firms: u64) -> bool
     ensures { IsTrue result ↔ IsReply (Reply.Reminded run firms) }
 {
-    is_run_no(run) && firms >= 1 && is_firm_count(firms)
+    RunNo::new(u64::from(run)).is_some() && firms >= 1 && is_firm_count(firms)
 }
 
 // The parameters of a statement that writes a row.

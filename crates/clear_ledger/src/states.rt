@@ -4,10 +4,9 @@ ghost use Rattle.clear_values.specs.RowRanges.{IsClaimRow, IsClaimState, settled
 ghost use Rattle.clear_values.specs.declared.rows.ClaimState.{ClaimState};
 ghost use Rattle.clear_ledger.specs.Shown.{columns_of, unsettled};
 
-use clear_columns::ranges::is_list_no;
 use clear_money::days::Day;
 use clear_money::numbers::Amount;
-use clear_values::numbers::ClaimNo;
+use clear_values::numbers::{ClaimNo, ListNo};
 use clear_values::replies::Settlement;
 use clear_values::rows::{ClaimRow, ClaimState, ReleasedClaim};
 
@@ -147,7 +146,7 @@ fn is_released(cents: Amount, release: &ReleasedClaim) -> bool
         None => false,
     };
     let listed = match release.list {
-        Some(list) => is_list_no(list),
+        Some(list) => ListNo::new(u64::from(list)).is_some(),
         None => true,
     };
     whole && listed

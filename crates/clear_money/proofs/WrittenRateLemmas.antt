@@ -38,7 +38,7 @@ none_at p a (suc n) m e low high t = none_first (p a) (find p (range_with_len (a
         ⊎_elim (λ (same : a ≡ m). false≢true (sym q ∙ ap p same ∙ t)) (λ (h : (a < m) ⊎ (m < a)). ⊎_elim (λ (lt : a < m). more e (omega arith) (omega arith) t) (λ (gt : m < a). absurd (omega arith)) h) (cases_order a m)
 
 -- a text spells one month at most
-month_text-one : (m n : ℕ) → IsMonth m → IsMonth n → month_text m ≡ month_text n → m ≡ n
+pub month_text-one : (m n : ℕ) → IsMonth m → IsMonth n → month_text m ≡ month_text n → m ≡ n
 month_text-one m n hm hn e =
     let a : 48 + m / 12 / 1000 ≡ 48 + n / 12 / 1000 = cc in
     let b : 48 + m / 12 / 100 % 10 ≡ 48 + n / 12 / 100 % 10 = cc in
@@ -72,7 +72,7 @@ spelled_none text n e none m month same =
 month_spelled-back : (text : List ℕ) (m : ℕ) → month_spelled text ≡ Some m → IsMonth m × (text ≡ month_text m)
 month_spelled-back text m e = spelled_from text m 2400 refl e
 
-month_spelled-some : (text : List ℕ) (m : ℕ) → IsMonth m → text ≡ month_text m → month_spelled text ≡ Some m
+pub month_spelled-some : (text : List ℕ) (m : ℕ) → IsMonth m → text ≡ month_text m → month_spelled text ≡ Some m
 month_spelled-some text m month e = at (month_spelled text) refl
   where
     at : (o : Option ℕ) → month_spelled text ≡ o → o ≡ Some m

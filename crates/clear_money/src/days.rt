@@ -59,6 +59,13 @@ impl Day {
         })
     }
 
+    /// 2000-01-01.
+    pub fn first() -> Day
+        ensures { result ≡ 10957 }
+    {
+        Day { number: 10_957 }
+    }
+
     /// Reads exactly `YYYY-MM-DD`. None for any other text, for a date that the calendar lacks,
     /// and outside the range.
     pub fn read(bytes: &[u8]) -> Option<Day>

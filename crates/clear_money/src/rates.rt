@@ -225,8 +225,8 @@ impl RateTable {
     }
 }
 
-// The first month of the last row.
-fn last_month(rows: &[RateRow]) -> Month
+/// The first month of the last row.
+pub fn last_month(rows: &[RateRow]) -> Month
     requires { 0 < length rows.now }
     ensures { result ≡ last_first rows.now }
 {

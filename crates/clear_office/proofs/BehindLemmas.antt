@@ -1,6 +1,6 @@
 -- What is read behind a transaction, of the tables that it left.
 use Rattle.std.proofs.Common.{◌≡◌, ◌⊎◌, inl, inr, IsTrue, Result, Ok, Err, sym, subst}
-use Rattle.std.specs.Prelude.{IfOk, OnOk, OnErr}
+use Rattle.std.specs.Prelude.{IfOk, OnOk}
 use Rattle.sqlite.specs.Effect.{Database}
 use Rattle.sqlite.specs.Held.{Held, state}
 use Rattle.sqlite.specs.State.{HasCleanDisk, Survives}
@@ -48,7 +48,3 @@ module _ {S : Type 0} (g : Ghosts S) (mid new : Held S) (t : Tables)
         → IfOk result (λ told. tells told × Holds g new t)
     told_behind tells answer right (Ok told) is on = (subst tells (sym is) right, holds_behind on)
     told_behind tells answer right (Err stop) is on = tt
-
-  pub stays_behind : (result : Result Answer (Stop Rule)) → IsTrue (state g new).is_open → OnErr result (HasTables t (state g new).now × HasTables t (state g new).committed)
-  stays_behind (Ok told) on = tt
-  stays_behind (Err stop) on = has_behind on

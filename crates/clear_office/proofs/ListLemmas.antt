@@ -9,7 +9,6 @@ use Rattle.clear_book.specs.declared.rows.ClaimRow.{ClaimRow}
 use Rattle.clear_book.specs.declared.rows.ListRow.{ListRow}
 use Rattle.clear_book.specs.declared.rows.ReminderRow.{ReminderRow}
 use Rattle.clear_book.specs.declared.rows.RunRow.{RunRow}
-use Rattle.clear_book.specs.declared.rules.Rule.TheVariants.{UnknownDocument}
 use Rattle.clear_book.specs.Book.{Book}
 use Rattle.clear_book.specs.Documents.Payout.{payout_text}
 use Rattle.clear_book.specs.Documents.Reminders.{reminders_text}
@@ -48,9 +47,6 @@ module _ (b : Book) (t : Tables) (n : ℕ) (stands : Stands b t) where
             ∙ sym (ap (λ (o : Option ListRow). Text (option_map_or (λ list. payout_text list (claims_on b.entries n)) o [])) there),
       )
 
-  pub list_unknown : find_row list_key t.lists (n ∷ []) ≡ None → own_query b (Payout n) ≡ Some UnknownDocument
-  list_unknown is = ap (λ (o : Option ListRow). own_payout (is_some o)) (list_is ∙ is)
-
   -- and so is the run
   run_is : run_of b.entries n ≡ find_row run_key t.runs (n ∷ [])
   run_is = ap (λ (rows : List RunRow). find_row run_key rows (n ∷ [])) (sym stands.runs)
@@ -70,9 +66,6 @@ module _ (b : Book) (t : Tables) (n : ℕ) (stands : Stands b t) where
         ap (λ (given : List ReminderRow). Text (reminders_text row given)) (reminders_are row same)
             ∙ sym (ap (λ (o : Option RunRow). Text (option_map_or (λ run. reminders_text run (reminders_in b n)) o [])) there),
       )
-
-  pub run_unknown : find_row run_key t.runs (n ∷ []) ≡ None → own_query b (Reminder n) ≡ Some UnknownDocument
-  run_unknown is = ap (λ (o : Option RunRow). own_reminder (is_some o)) (run_is ∙ is)
 
 -- the document of the lines in suspense is that over the lines of the book
 pub suspense_told : (b : Book) (t : Tables) → Stands b t → (day : ℕ) → answer_of t (finding.Document (rows.Suspense day)) ≡ answer_to b day Suspense

@@ -1,7 +1,7 @@
 -- The pieces that are put from a start on, and the rows of contributions, are those of the first changed place.
-use Rattle.std.proofs.Common.{◌≡◌, ◌∙◌, ℕ, zero, suc, ◌<◌, ◌≤◌, List, [], ◌∷◌, drop, length, get_or, inl, map, refl, sym, ap, subst, arith}
+use Rattle.std.proofs.Common.{◌≡◌, ◌∙◌, ℕ, ◌<◌, ◌≤◌, List, [], drop, length, get_or, inl, map, refl, sym, ap, subst, arith}
 use Rattle.std.specs.List.{All, AllByRecursion}
-use Rattle.std.proofs.lemmas.List.{get_or_read}
+use Rattle.std.proofs.lemmas.List.{drop_all, get_or_read}
 use Rattle.std.proofs.lemmas.List.Elements.{All-from_recursion, All-map, All-weaker}
 use Rattle.std.proofs.lemmas.List.FromFn.{length-map-range_with_len}
 use Rattle.sqlite_trees.proofs.ListLemmas.{all-filter}
@@ -33,13 +33,7 @@ use Rattle.clear_pieces.proofs.RangeLemmas.{settled_in_range}
 
 -- behind all contributions no row is left
 pub none_settled : (e : ℕ) (charges : List Charge) (credits : List Credit) (n : ℕ) → length charges ≤ n → settled_from e charges credits n ≡ []
-none_settled e charges credits n all = ap (map (kept_as e)) (none n (weighed_charges charges credits) (omega (arith, all, length-map-range_with_len (λ i. weighed_charge charges credits i) 0 (length charges))))
-  where
-    none : {X : Type 0} (n : ℕ) (xs : List X) → length xs ≤ n → drop n xs ≡ []
-    none zero [] few = refl
-    none zero (x ∷ xs) few = absurd (omega (arith, few))
-    none (suc n) [] few = refl
-    none (suc n) (x ∷ xs) few = none n xs (omega (arith, few))
+none_settled e charges credits n all = ap (map (kept_as e)) (drop_all n (weighed_charges charges credits) (omega (arith, all, length-map-range_with_len (λ i. weighed_charge charges credits i) 0 (length charges))))
 
 module _ (t : Tables) (e : ℕ) (firm : FirmAccount) (is : IsFirm t e firm) where
   pub rows_credits : HasItsRows firm

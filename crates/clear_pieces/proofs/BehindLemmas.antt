@@ -8,7 +8,7 @@ use Rattle.clear_money.specs.Calendar.{begun_months}
 use Rattle.clear_account.specs.declared.entries.Charge.{Charge}
 use Rattle.clear_account.specs.declared.entries.Credit.{Credit}
 use Rattle.clear_account.specs.Account.{charge_at, charged_up_to, credited, credited_up_to}
-use Rattle.clear_account.specs.Allocation.{open_part, share}
+use Rattle.clear_account.specs.Allocation.{open_part}
 use Rattle.clear_account.specs.Laws.{late_shares}
 use Rattle.clear_account.specs.Places.{Ends}
 use Rattle.clear_account.specs.Suffix.{share_behind}
@@ -87,20 +87,6 @@ credited_over before behind j =
     ap (sum_by (λ (k : Credit). k.cents)) (take_over before behind j) ∙ sum_by-append (λ (k : Credit). k.cents) before (take j behind)
 
 -- ---- what is paid of them
-
--- a payment behind others pays the same of a charge as of what is open of it
-pub same_share : (charges : List Charge) (before behind : List Credit) (i j : ℕ) → share charges (before ++ behind) i (length before + j) ≡ share (open_charges charges before) behind i j
-same_share charges before behind i j =
-    let t : ℕ = credited before in
-    let s : ℕ = charged_up_to charges i in
-    let e : ℕ = charged_up_to charges (i + 1) in
-    let q : ℕ = credited_up_to behind j in
-    let r : ℕ = credited_up_to behind (j + 1) in
-    let next : length before + j + 1 ≡ length before + (j + 1) = omega arith in
-    let end : credited_up_to (before ++ behind) (length before + j + 1) ≡ t + r = ap (credited_up_to (before ++ behind)) next ∙ credited_over before behind (j + 1) in
-    (λ n. min e (end n) - max s (credited_over before behind j n))
-    ∙ common_behind t s e q r
-    ∙ sym (λ n. min (left_up_to charges before (i + 1) n) r - max (left_up_to charges before i n) q)
 
 -- what all payments leave of a charge, those behind leave of what is open of it
 pub same_left : (charges : List Charge) (before behind : List Credit) (i : ℕ) → i < length charges → open_part charges (before ++ behind) i ≡ open_part (open_charges charges before) behind i

@@ -1,13 +1,13 @@
 -- Rows that make up an account fill one, and it is that account.
-use Rattle.std.proofs.Common.{◌≡◌, ◌≢◌, ◌∙◌, ℕ, ◌<◌, ◌≤◌, List, [], ◌∷◌, length, get_or, map, Some, None, Bool, true, false, cond, ◌&&◌, IsTrue, refl, sym, ap, subst, arith}
+use Rattle.std.proofs.Common.{◌≡◌, ◌≢◌, ◌∙◌, ℕ, ◌<◌, ◌≤◌, List, [], ◌∷◌, length, get_or, map, Some, None, Bool, true, cond, ◌&&◌, IsTrue, refl, sym, ap, subst, arith}
 use Rattle.std.specs.List.{All, AllPairs}
 use Rattle.std.proofs.lemmas.Bool.{le-ltb, lt-ltb, ne_eqb}
-use Rattle.std.proofs.lemmas.Bool.Decides.{nat_tests}
 use Rattle.std.proofs.lemmas.List.{get_or-map, length-map}
 use Rattle.std.proofs.lemmas.List.Elements.{All-head, All-tail}
 use Rattle.clear_account.specs.declared.entries.Charge.{Charge}
 use Rattle.clear_account.specs.declared.entries.Credit.{Credit}
 use Rattle.clear_account.specs.Account.{IsAccount, IsCharge, comes_before}
+use Rattle.clear_account.proofs.AccountLemmas.{before_not_after}
 use Rattle.clear_account.proofs.PlaceLemmas.{AllPairs-head, AllPairs-tail}
 use Rattle.clear_values.specs.Keyed.{AreOnce, find_row}
 use Rattle.clear_values.specs.declared.rows.CreditRow.{CreditRow}
@@ -56,9 +56,6 @@ module _ {X : Type 0} (lt : X → X → Bool) (R : X → X → Type 0) (less : (
   rises [] pairs = tt
   rises (x ∷ xs) pairs = (all_after x xs (AllPairs-head R x xs pairs), rises xs (AllPairs-tail R x xs pairs))
 
-pub not_after : (k l : Credit) → comes_before k l ≡ true → comes_before l k ≡ false
-not_after k l h = grind (arith, nat_tests)
-
 module _ (charges : List Charge) (credits : List Credit) (account : IsAccount charges credits) where
   charges_whole : with_charges charges [] ≡ charges
   charges_whole =
@@ -66,7 +63,7 @@ module _ (charges : List Charge) (credits : List Credit) (account : IsAccount ch
 
   credits_whole : with_credits credits [] ≡ credits
   credits_whole =
-      credits_rise credits [] (rises comes_before (λ k l. IsTrue (comes_before k l)) (λ k l h. (h, not_after k l h)) credits account.credits_rise) (precede_none comes_before credits)
+      credits_rise credits [] (rises comes_before (λ k l. IsTrue (comes_before k l)) (λ k l h. (h, before_not_after k l h)) credits account.credits_rise) (precede_none comes_before credits)
 
 -- so what was read of a firm whose rows make up an account is what the tables keep of it
 pub firm_read : (t : Tables) (e : ℕ) (firm : FirmAccount) → firm.account.charges ≡ with_charges (kept_charges t e) [] → firm.account.credits ≡ with_credits (table_credits t e) [] → firm.rows.items ≡ contribution_rows t e → IsAccount (kept_charges t e) (table_credits t e) → IsFirm t e firm

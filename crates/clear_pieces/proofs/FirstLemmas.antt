@@ -1,10 +1,11 @@
 -- Which credit is the first of a firm's new ones.
 use Rattle.std.proofs.Common.{◌≡◌, ◌≢◌, ℕ, ◌+◌, ◌<◌, List, [], ◌∷◌, ◌++◌, length, take, get_or, Option, Some, None, Bool, true, false, cond, ◌&&◌, ◌==◌, nat_lt, filter, refl, sym, ap, ◌∙◌, subst, arith}
-use Rattle.std.specs.List.{AllByRecursion, cons_option}
+use Rattle.std.specs.List.{cons_option}
 use Rattle.std.proofs.lemmas.Bool.{eq-eqb, eqb-true, or_parts}
 use Rattle.std.proofs.lemmas.Bool.Decides.{nat_tests}
 use Rattle.std.proofs.lemmas.List.{append-nil, length-append, take_more}
 use Rattle.std.proofs.lemmas.List.Elements.{Contains-append_left, Contains-append_right, filter-append}
+use Rattle.sqlite_trees.proofs.ListLemmas.{all-append, all_weaker}
 use Rattle.clear_account.specs.Account.{comes_before}
 use Rattle.clear_account.specs.declared.entries.Credit.{Credit}
 use Rattle.clear_values.specs.Credits.{credits_of_lines, set_off, set_offs_at}
@@ -118,14 +119,6 @@ before_neither r k l sooner not_k = grind (arith, nat_tests)
 before_former : (r k l : Credit) → comes_before l k ≡ false → comes_before r l ≡ false → comes_before r k ≡ false
 before_former r k l not_sooner not_l = grind (arith, nat_tests)
 
-all_weaker : {P Q : CreditRow → Type 0} → ((row : CreditRow) → P row → Q row) → (rows : List CreditRow) → AllByRecursion P rows → AllByRecursion Q rows
-all_weaker h [] all = tt
-all_weaker h (row ∷ rows) all = (h row all.0, all_weaker h rows all.1)
-
-all_both : (P : CreditRow → Type 0) (rows more : List CreditRow) → AllByRecursion P rows → AllByRecursion P more → AllByRecursion P (rows ++ more)
-all_both P [] more all later = later
-all_both P (row ∷ rows) more all later = (all.0, all_both P rows more all.1 later)
-
 -- the first credit of rows and more rows
 first_of_both : (rows more : List CreditRow) (k l : Credit) → IsFirst rows k → IsFirst more l → IsFirst (rows ++ more) (earlier k l)
 first_of_both rows more k l one two = told (comes_before l k) refl
@@ -135,13 +128,13 @@ first_of_both rows more k l one two = told (comes_before l k) refl
       row = two.row;
       there = Contains-append_right rows more two.row two.there;
       is = two.is;
-      earliest = all_both (λ r. comes_before (row_credit r) l ≡ false) rows more (all_weaker (λ r. before_neither (row_credit r) k l sooner) rows one.earliest) two.earliest;
+      earliest = all-append (λ r. comes_before (row_credit r) l ≡ false) rows more (all_weaker _ _ (λ r. before_neither (row_credit r) k l sooner) rows one.earliest) two.earliest;
     }
     told false later = record {
       row = one.row;
       there = Contains-append_left rows more one.row one.there;
       is = one.is;
-      earliest = all_both (λ r. comes_before (row_credit r) k ≡ false) rows more one.earliest (all_weaker (λ r. before_former (row_credit r) k l later) more two.earliest);
+      earliest = all-append (λ r. comes_before (row_credit r) k ≡ false) rows more one.earliest (all_weaker _ _ (λ r. before_former (row_credit r) k l later) more two.earliest);
     }
 
 -- with how many they are, or fewer

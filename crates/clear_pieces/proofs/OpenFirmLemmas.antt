@@ -25,6 +25,7 @@ use Rattle.clear_book.specs.Accounts.{row_credit}
 use Rattle.clear_book.specs.Allocated.{contribution_rows, kept_charges, pieces_left, weighed_rows}
 use Rattle.clear_book.specs.Tables.{Tables, charge_in, charge_key, piece_key, table_credits}
 use Rattle.clear_store.specs.Changes.{AreFree}
+use Rattle.clear_laws.proofs.AccountChangeLemmas.{firm_rows}
 use Rattle.clear_laws.proofs.SameChargesLemmas.{firm_own}
 use Rattle.clear_pieces.specs.Anew.{FromCredit, IsFreeBehind, credit_place, pieces_beyond, settled_charges}
 use Rattle.clear_ledger.specs.From.{is_credit_from}
@@ -35,7 +36,7 @@ use Rattle.clear_pieces.specs.declared.behind.OpenFirm.{OpenFirm}
 use Rattle.clear_pieces.proofs.AnewLemmas.{none_settled}
 use Rattle.clear_pieces.proofs.BehindLemmas.{credited_over, ends_open, left_behind, length-open_charges}
 use Rattle.clear_pieces.proofs.OpenListLemmas.{credits_behind, none_ended, none_of_others, opened, paid_settled, rows_behind}
-use Rattle.clear_pieces.proofs.OpenRowLemmas.{closed, firm_charges, is_open, lead_ends, lead_past, lead_within, none_ends, open_among, open_good, open_pieces, open_replaced, shown, walk, walk_from, walk_is}
+use Rattle.clear_pieces.proofs.OpenRowLemmas.{closed, is_open, lead_ends, lead_past, lead_within, none_ends, open_among, open_good, open_pieces, open_replaced, shown, walk, walk_from, walk_is}
 use Rattle.clear_pieces.proofs.RangeLemmas.{settled_in_range}
 
 module _ (t : Tables) (e : ℕ) (first : Credit) (firm : OpenFirm) (is : IsOpenFirm t e first firm) where
@@ -106,9 +107,9 @@ module _ (t : Tables) (e : ℕ) (first : Credit) (account : IsAccount (kept_char
 
   -- the rows of what is open
   open_settled : weighed_rows t e ≡ weighed_charges (kept_charges t e) before → (a : ℕ)
-      → paid_rows (drop a (firm_charges t e)) (settled_from e opens behind a) ≡ settled_from e (kept_charges t e) (table_credits t e) a
+      → paid_rows (drop a (firm_rows t e)) (settled_from e opens behind a) ≡ settled_from e (kept_charges t e) (table_credits t e) a
   open_settled weighed a =
-      paid_settled e a (firm_charges t e) before behind (firm_own e t.charges) weighed
+      paid_settled e a (firm_rows t e) before behind (firm_own e t.charges) weighed
       ∙ ap (λ ks. settled_from e (kept_charges t e) ks a) (sym whole)
 
 -- ---- what is put
@@ -133,7 +134,7 @@ module _ (t : Tables) (e : ℕ) (news : NewCredits) (firm : OpenFirm) (is : IsOp
 
     -- all contributions, and those of them before the first open one
     abbrev all : List KeptCharge
-    all = firm_charges t e
+    all = firm_rows t e
 
     abbrev a : ℕ
     a = closed all

@@ -8,6 +8,7 @@ use Rattle.sqlite_trees.proofs.ListLemmas.{all-filter, filter-filter}
 use Rattle.clear_account.specs.declared.entries.Charge.{Charge}
 use Rattle.clear_account.specs.declared.entries.Credit.{Credit}
 use Rattle.clear_account.specs.Account.{IsAccount, IsCharge, comes_before}
+use Rattle.clear_account.proofs.AccountLemmas.{before_not_after}
 use Rattle.clear_values.specs.Keyed.{AreOnce}
 use Rattle.clear_values.specs.RowRanges.{IsKeptCharge}
 use Rattle.clear_values.specs.declared.lines.Purpose.TheVariants.{Contribution}
@@ -17,14 +18,15 @@ use Rattle.clear_book.specs.Accounts.{row_credit}
 use Rattle.clear_book.specs.Allocated.{contribution_rows, kept_charges}
 use Rattle.clear_book.specs.Lines.{is_credit_of}
 use Rattle.clear_book.specs.Tables.{Tables, charge_in, table_credits}
+use Rattle.clear_laws.proofs.AccountChangeLemmas.{firm_rows}
 use Rattle.clear_laws.proofs.OtherKeyLemmas.{once-filter}
 use Rattle.clear_pieces.specs.Filled.{credit_serial, with_charges, with_credits}
 use Rattle.clear_pieces.proofs.FilledLemmas.{AreAfter, Rise, charges_rise, credits_rise, month_before, precede_none}
 use Rattle.clear_ledger.specs.From.{is_credit_from}
 use Rattle.clear_pieces.specs.Behind.{open_firm_charges, open_row, rows_from}
 use Rattle.clear_pieces.specs.Firm.{KeepsAccount}
-use Rattle.clear_pieces.proofs.FillLemmas.{few_rows, not_after, rises, serials_once}
-use Rattle.clear_pieces.proofs.OpenRowLemmas.{firm_charges, is_open, open_among}
+use Rattle.clear_pieces.proofs.FillLemmas.{few_rows, rises, serials_once}
+use Rattle.clear_pieces.proofs.OpenRowLemmas.{is_open, open_among}
 
 -- ---- a part of a list that rises
 
@@ -75,11 +77,11 @@ open_good (r ∷ rows) all = told (is_open r) (open_good rows all.1)
 -- ---- a firm
 
 module _ (t : Tables) (e : ℕ) (account : IsAccount (kept_charges t e) (table_credits t e)) where
-  charges_there : Rise month_before (map charge_in (firm_charges t e))
+  charges_there : Rise month_before (map charge_in (firm_rows t e))
   charges_there = rises month_before (λ (c d : Charge). c.month < d.month) (λ c d h. (lt-ltb c.month d.month h, le-ltb d.month c.month (omega arith))) (kept_charges t e) account.months_rise
 
   open_there : Rise month_before (map charge_in (open_firm_charges t e))
-  open_there = subst (λ (rows : List KeptCharge). Rise month_before (map charge_in rows)) (sym (open_among t e)) (rise-filter month_before charge_in is_open (firm_charges t e) charges_there)
+  open_there = subst (λ (rows : List KeptCharge). Rise month_before (map charge_in rows)) (sym (open_among t e)) (rise-filter month_before charge_in is_open (firm_rows t e) charges_there)
 
   pub opened_whole : with_charges (map charge_in (map open_row (open_firm_charges t e))) [] ≡ map charge_in (map open_row (open_firm_charges t e))
   opened_whole =
@@ -96,7 +98,7 @@ module _ (t : Tables) (e : ℕ) (account : IsAccount (kept_charges t e) (table_c
 
     pub from_whole : with_credits (map row_credit (rows_from t e first)) [] ≡ map row_credit (rows_from t e first)
     from_whole =
-        let all = rises comes_before (λ k l. IsTrue (comes_before k l)) (λ k l h. (h, not_after k l h)) (table_credits t e) account.credits_rise in
+        let all = rises comes_before (λ k l. IsTrue (comes_before k l)) (λ k l h. (h, before_not_after k l h)) (table_credits t e) account.credits_rise in
         let ks : List Credit = map row_credit (rows_from t e first) in
         credits_rise ks [] (subst (λ (rows : List CreditRow). Rise comes_before (map row_credit rows)) (sym rows_among) (rise-filter comes_before row_credit is_from (contribution_rows t e) all)) (precede_none comes_before ks)
 
@@ -111,6 +113,6 @@ module _ (t : Tables) (e : ℕ) (account : IsAccount (kept_charges t e) (table_c
 
 pub opened_charges : (t : Tables) (e : ℕ) → KeepsAccount t e → All IsCharge (map charge_in (map open_row (open_firm_charges t e)))
 opened_charges t e keeps =
-    let good = opened_good (firm_charges t e) (all-filter IsKeptCharge (λ row. row.employer == e) t.charges keeps.charges) keeps.account.each_charge in
+    let good = opened_good (firm_rows t e) (all-filter IsKeptCharge (λ row. row.employer == e) t.charges keeps.charges) keeps.account.each_charge in
     All-from_recursion IsCharge (map charge_in (map open_row (open_firm_charges t e)))
-    (subst (λ (rows : List KeptCharge). AllByRecursion IsCharge (map charge_in (map open_row rows))) (sym (open_among t e)) (open_good (firm_charges t e) good))
+    (subst (λ (rows : List KeptCharge). AllByRecursion IsCharge (map charge_in (map open_row rows))) (sym (open_among t e)) (open_good (firm_rows t e) good))

@@ -16,7 +16,7 @@ use Rattle.clear_account.proofs.ReachLemmas.{drop_over}
 use Rattle.clear_kept.specs.Changes.{credits_before}
 use Rattle.clear_kept.specs.Weighed.{weighed_charge, weighed_charges}
 use Rattle.clear_kept.specs.declared.rows.WeighedCharge.{WeighedCharge}
-use Rattle.clear_kept.proofs.LawLemmas.{credits_from}
+use Rattle.clear_kept.proofs.LawLemmas.{credits_from, on}
 use Rattle.clear_kept.proofs.SplitLemmas.{split_rising}
 use Rattle.clear_values.specs.declared.lines.Purpose.TheVariants.{Contribution}
 use Rattle.clear_values.specs.declared.rows.CreditRow.{CreditRow}
@@ -25,11 +25,11 @@ use Rattle.clear_book.specs.Accounts.{row_credit}
 use Rattle.clear_book.specs.Allocated.{contribution_rows, weighed_in}
 use Rattle.clear_book.specs.Lines.{is_credit_of}
 use Rattle.clear_book.specs.Tables.{Tables, charge_in}
+use Rattle.clear_laws.proofs.AccountPiecesLemmas.{all_drop}
 use Rattle.clear_laws.proofs.KeyedFilterLemmas.{filter-shown}
 use Rattle.clear_pieces.specs.Behind.{open_charges, open_row, paid_rows, rows_from}
 use Rattle.clear_pieces.specs.Firm.{kept_as, settled_from}
 use Rattle.clear_pieces.proofs.BehindLemmas.{drop-weighed_joined, joined}
-use Rattle.clear_pieces.proofs.PieceLemmas.{all_behind}
 
 -- ---- lists
 
@@ -74,9 +74,6 @@ AllPairs-shown f R xs all i j d lt within =
 
 is_later : (first : Credit) (row : CreditRow) → (nat_lt first.day row.day || ((row.day == first.day) && nat_le first.serial row.serial)) ≡ not (comes_before (row_credit row) first)
 is_later first row = grind (arith, nat_tests)
-
-on : (m k l : Credit) → comes_before k l ≡ true → comes_before k m ≡ false → comes_before l m ≡ false
-on m k l h g = grind (arith, nat_tests)
 
 -- the rows that do not come before a credit
 abbrev later_rows : Credit → List CreditRow → List CreditRow
@@ -149,6 +146,6 @@ pub paid_settled : (e a : ℕ) (rows : List KeptCharge) (before behind : List Cr
 paid_settled e a rows before behind own weighed =
     let charges : List Charge = map charge_in rows in
     let more : List WeighedCharge = drop a (weighed_charges (open_charges charges before) behind) in
-    paid_as e (drop a rows) more (all_behind (λ (row : KeptCharge). row.employer ≡ e) a rows own)
+    paid_as e (drop a rows) more (all_drop (λ (row : KeptCharge). row.employer ≡ e) a rows own)
     ∙ ap (λ olds. map (kept_as e) (joined olds more)) (sym (drop-map weighed_in a rows) ∙ ap (drop a) weighed)
     ∙ ap (map (kept_as e)) (sym (drop-weighed_joined charges before behind a))

@@ -6,7 +6,7 @@ use Rattle.std.proofs.lemmas.List.{drop-map}
 use Rattle.std.proofs.lemmas.List.Concat.{flat_map-cons}
 use Rattle.std.proofs.lemmas.List.Sums.{sum_by-cons}
 use Rattle.sqlite_trees.proofs.ListLemmas.{all-filter}
-use Rattle.clear_account.specs.Account.{charge_at, charged_up_to, credited_up_to}
+use Rattle.clear_account.specs.Account.{charged_up_to, credited_up_to}
 use Rattle.clear_account.specs.Places.{Ends}
 use Rattle.clear_account.specs.declared.entries.Charge.{Charge}
 use Rattle.clear_account.specs.declared.entries.Credit.{Credit}
@@ -24,6 +24,7 @@ use Rattle.clear_book.specs.Accounts.{row_credit}
 use Rattle.clear_book.specs.Allocated.{pieces_left}
 use Rattle.clear_book.specs.Pieces.{piece_of}
 use Rattle.clear_book.specs.Tables.{Tables, charge_in, charge_key}
+use Rattle.clear_laws.proofs.AccountChangeLemmas.{firm_rows}
 use Rattle.clear_laws.proofs.OtherKeyLemmas.{in_order-filter}
 use Rattle.clear_laws.proofs.SettledLemmas.{replaced_rows-settled, settle, settle_one}
 use Rattle.clear_pieces.specs.Behind.{open_firm_charges, open_row, paid_rows, with_paid}
@@ -37,12 +38,8 @@ shown rows = map charge_in (map open_row rows)
 abbrev pub is_open : KeptCharge → Bool
 is_open row = nat_lt 0 row.left
 
--- the kept contributions of a firm
-abbrev pub firm_charges : Tables → ℕ → List KeptCharge
-firm_charges t e = filter (λ row. row.employer == e) t.charges
-
 -- the open ones are among them
-pub open_among : (t : Tables) (e : ℕ) → open_firm_charges t e ≡ filter is_open (firm_charges t e)
+pub open_among : (t : Tables) (e : ℕ) → open_firm_charges t e ≡ filter is_open (firm_rows t e)
 open_among t e = filter_and (λ row. row.employer == e) is_open t.charges
 
 -- how many rows stand before the first of which a part is open
@@ -104,16 +101,6 @@ none_ends (r ∷ rs) n ends = told (nat_lt 0 r.left) refl ends (none_ends rs n)
         → (Ends (λ (c : Charge). c.cents) (shown (filter is_open rs)) 0 n → n ≡ 0) → n ≡ 0
     told true is e rest = first n (some_left r.left is) e
     told false is e rest = rest e
-
--- the first open one
-pub lead_charge : (rs : List KeptCharge) → charge_at (shown (filter is_open rs)) 0 ≡ charge_at (shown rs) (closed rs)
-lead_charge [] = refl
-lead_charge (r ∷ rs) = told (nat_lt 0 r.left) (lead_charge rs)
-  where
-    told : (b : Bool) → charge_at (shown (filter is_open rs)) 0 ≡ charge_at (shown rs) (closed rs)
-        → charge_at (shown (cond b (r ∷ filter is_open rs) (filter is_open rs))) 0 ≡ charge_at (shown (r ∷ rs)) (cond b 0 (suc (closed rs)))
-    told true rest = refl
-    told false rest = rest
 
 pub lead_within : (rs : List KeptCharge) → 0 < length (shown (filter is_open rs)) → closed rs < length (shown rs)
 lead_within [] some = absurd (omega (arith, some))

@@ -52,7 +52,3 @@ rest_as_many e rows charges credits n same =
     ∙ ap (λ m. m - n) (same ∙ sym (length-map-range_with_len (λ i. weighed_charge charges credits i) 0 (length charges)))
     ∙ sym (length-drop n (weighed_charges charges credits))
     ∙ sym (length-map (drop n (weighed_charges charges credits)) (kept_as e))
-
--- the rows behind a front, as a slice has them
-pub rest_joined : (rows paid : List KeptCharge) (n : ℕ) → paid_rows (take (length rows - n) (drop n rows)) paid ≡ paid_rows (drop n rows) paid
-rest_joined rows paid n = ap (λ xs. paid_rows xs paid) (take_all (length rows - n) (drop n rows) (omega (arith, length-drop n rows)))

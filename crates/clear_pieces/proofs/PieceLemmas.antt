@@ -6,6 +6,7 @@ use Rattle.std.proofs.lemmas.List.{drop-map, get_or-drop, length-drop, length-ma
 use Rattle.std.proofs.lemmas.List.Concat.{flat_map-cons}
 use Rattle.std.proofs.lemmas.List.Elements.{filter_map-append}
 use Rattle.std.proofs.lemmas.Option.{slice_get_read, slice_get_within}
+use Rattle.sqlite_trees.proofs.ListLemmas.{all-flat_map}
 use Rattle.clear_account.specs.declared.entries.Charge.{Charge}
 use Rattle.clear_account.specs.declared.entries.Credit.{Credit}
 use Rattle.clear_account.specs.declared.entries.Piece.{Piece}
@@ -38,14 +39,6 @@ filter_map-flat_map h g (x ∷ xs) =
     ∙ filter_map-append h (g x) (flat_map g xs)
     ∙ ap (λ rest. filter_map h (g x) ++ rest) (filter_map-flat_map h g xs)
     ∙ sym (flat_map-cons (λ y. filter_map h (g y)) x xs)
-
-both_hold : {X : Type 0} (P : X → Type 0) (xs ys : List X) → AllByRecursion P xs → AllByRecursion P ys → AllByRecursion P (xs ++ ys)
-both_hold P [] ys one two = two
-both_hold P (x ∷ xs) ys one two = (one.0, both_hold P xs ys one.1 two)
-
-all_hold : {X Y : Type 0} (P : Y → Type 0) (f : X → List Y) (xs : List X) → AllByRecursion (λ x. AllByRecursion P (f x)) xs → AllByRecursion P (flat_map f xs)
-all_hold P f [] all = tt
-all_hold P f (x ∷ xs) all = both_hold P (f x) (flat_map f xs) all.0 (all_hold P f xs all.1)
 
 numbers_hold : (P : ℕ → Type 0) (n m : ℕ) → ((k : ℕ) → n ≤ k → k < n + m → P k) → AllByRecursion P (range_with_len n m)
 numbers_hold P n zero all = tt
@@ -131,24 +124,19 @@ one_in_range c row cents charge credit few = told (nat_lt 0 cents)
         (record { employer = credit.employer; month = charge.month; day = credit.day; serial = credit.serial; cents = omega arith; reference = credit.reference }, tt)
     told false = tt
 
-pub all_behind : {X : Type 0} (P : X → Type 0) (n : ℕ) (xs : List X) → AllByRecursion P xs → AllByRecursion P (drop n xs)
-all_behind P zero xs all = all
-all_behind P (suc n) [] all = tt
-all_behind P (suc n) (x ∷ xs) all = all_behind P n xs all.1
-
 pub left_in_range : (s p : ℕ) (charges : List Charge) (rows : List CreditRow) → All IsCharge charges → AllByRecursion IsCreditRow rows → AllByRecursion IsPieceRow (pieces_left s p charges rows)
 left_in_range s p charges rows each in_range =
-    all_hold IsPieceRow _ (places charges)
+    all-flat_map IsPieceRow _ (places charges)
     (numbers_hold _ 0 (length charges) (λ i low high.
     let step = charged_up_to-more charges i (omega arith) in
-    all_hold IsPieceRow _ (enumerate_from 0 rows)
+    all-flat_map IsPieceRow _ (enumerate_from 0 rows)
     (rows_hold _ IsCreditRow (λ j row good. one_in_range (charge_at charges i) row (share_behind s p charges (map row_credit rows) i j) (charge_at_place charges i each (omega arith)) good (omega arith)) 0 rows in_range)))
 
 -- so are those of all pieces of an account
 pub all_in_range : (charges : List Charge) (rows : List CreditRow) → All IsCharge charges → AllByRecursion IsCreditRow rows → AllByRecursion IsPieceRow (flat_map (pieces_of charges rows) (places charges))
 all_in_range charges rows each in_range =
-    all_hold IsPieceRow _ (places charges)
+    all-flat_map IsPieceRow _ (places charges)
     (numbers_hold _ 0 (length charges) (λ i low high.
     let step = charged_up_to-more charges i (omega arith) in
-    all_hold IsPieceRow _ (enumerate_from 0 rows)
+    all-flat_map IsPieceRow _ (enumerate_from 0 rows)
     (rows_hold _ IsCreditRow (λ j row good. one_in_range (charge_at charges i) row (share charges (map row_credit rows) i j) (charge_at_place charges i each (omega arith)) good (omega arith)) 0 rows in_range)))

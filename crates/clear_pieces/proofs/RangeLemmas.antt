@@ -8,10 +8,10 @@ use Rattle.clear_values.specs.RowRanges.{IsKeptCharge}
 use Rattle.clear_values.specs.declared.rows.KeptCharge.{KeptCharge}
 use Rattle.clear_book.specs.Allocated.{AreSameCharges, kept_charges, unpaid}
 use Rattle.clear_book.specs.Tables.{IsPaidInRange, Tables, table_credits}
+use Rattle.clear_laws.proofs.AccountPiecesLemmas.{all_drop}
 use Rattle.clear_laws.proofs.SameChargesLemmas.{firm_own}
 use Rattle.clear_laws.proofs.WeighedLemmas.{news_in_range, same_from, settled_row-own, settled_row-weighed}
 use Rattle.clear_pieces.specs.Firm.{KeepsAccount, settled_from}
-use Rattle.clear_pieces.proofs.PieceLemmas.{all_behind}
 
 -- what is open of rows in their ranges is in its own
 pub paid_in_range : (rows : List KeptCharge) → AllByRecursion IsKeptCharge rows → AllByRecursion IsPaidInRange rows
@@ -33,7 +33,7 @@ same_in_range (x ∷ xs) (y ∷ ys) same all paid =
 pub settled_in_range : (t : Tables) (e n : ℕ) → KeepsAccount t e → AllByRecursion IsKeptCharge (settled_from e (kept_charges t e) (table_credits t e) n)
 settled_in_range t e n keeps =
     same_in_range (drop n rows) news (same_from e n rows news (table_credits t e) (firm_own e t.charges) (settled_row-own e rest) (settled_row-weighed e rest))
-    (all_behind IsKeptCharge n rows (all-filter IsKeptCharge (λ row. row.employer == e) t.charges keeps.charges))
+    (all_drop IsKeptCharge n rows (all-filter IsKeptCharge (λ row. row.employer == e) t.charges keeps.charges))
     (news_in_range n (kept_charges t e) (table_credits t e) news keeps.account (settled_row-weighed e rest))
   where
     rows : List KeptCharge

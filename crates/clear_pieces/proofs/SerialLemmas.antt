@@ -1,5 +1,5 @@
 -- Payments that are added one after another, no two with one serial.
-use Rattle.std.proofs.Common.{◌≡◌, ◌≢◌, ℕ, suc, ◌+◌, ◌<◌, ◌≤◌, List, [], ◌∷◌, ◌++◌, length, get_or, take, drop, map, filter, Option, None, Some, is_some, Bool, true, false, not, cond, ◌&&◌, ◌||◌, ◌==◌, nat_lt, refl, sym, ap, ◌∙◌, subst, drop-cons, arith}
+use Rattle.std.proofs.Common.{◌≡◌, ◌≢◌, ℕ, suc, ◌+◌, ◌<◌, ◌≤◌, List, [], ◌∷◌, ◌++◌, length, get_or, take, drop, map, filter, None, Some, is_some, Bool, true, false, not, cond, ◌&&◌, ◌||◌, ◌==◌, nat_lt, refl, sym, ap, ◌∙◌, subst, drop-cons, arith}
 use Rattle.std.specs.Prelude.{All}
 use Rattle.std.specs.Ordering.{nat_cmp, is_eq}
 use Rattle.std.proofs.lemmas.Bool.Decides.{nat_tests}
@@ -11,6 +11,7 @@ use Rattle.clear_book.specs.declared.rows.CreditRow.{CreditRow}
 use Rattle.clear_book.specs.Accounts.{row_credit}
 use Rattle.clear_book.specs.Keyed.{is_key, find_row, AreOnce}
 use Rattle.clear_laws.proofs.KeyedLemmas.{is_key-sym, other_row}
+use Rattle.clear_laws.proofs.VersionLemmas.{no_some}
 use Rattle.clear_pieces.specs.Filled.{credit_serial, with_credits}
 
 -- ---- rows without a key that stands twice
@@ -68,10 +69,6 @@ not_true : (b : Bool) → not b ≡ true → b ≡ false
 not_true false h = refl
 not_true true h = absurd (cc)
 
-none_if : {X : Type 0} (found : Option X) → is_some found ≡ false → found ≡ None
-none_if None h = refl
-none_if (Some x) h = absurd (cc)
-
 module _ (rows : List CreditRow) (i : ℕ) (row : CreditRow) (within : i < length rows) (is : row ≡ get_or rows i row) where
   one_more : take (i + 1) rows ≡ take i rows ++ row ∷ []
   one_more = take_more rows i row within ∙ ap (λ r. take i rows ++ r ∷ []) (sym is)
@@ -89,7 +86,7 @@ module _ (rows : List CreditRow) (i : ℕ) (row : CreditRow) (within : i < lengt
     pub serial_new : new ≡ true → AreOnce credit_serial (take i rows) → AreOnce credit_serial (take (i + 1) rows)
     serial_new h once =
         subst (AreOnce credit_serial) (sym one_more)
-        (once_last credit_serial (take i rows) row once (none_if _ (sym (all row.serial) ∙ not_true (seen row.serial) (sym added ∙ h))))
+        (once_last credit_serial (take i rows) row once (no_some _ (sym (all row.serial) ∙ not_true (seen row.serial) (sym added ∙ h))))
 
     pub serials_seen : (after : ℕ → Bool) → ((w : ℕ) → after w ≡ cond (is_eq (nat_cmp row.serial w)) true (seen w)) → (w : ℕ) → after w ≡ is_some (find_row credit_serial (take (i + 1) rows) (w ∷ []))
     serials_seen after grown w =

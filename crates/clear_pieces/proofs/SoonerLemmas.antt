@@ -3,6 +3,7 @@ use Rattle.std.proofs.Common.{◌≡◌, ℕ, ◌+◌, List, [], ◌∷◌, map,
 use Rattle.std.proofs.lemmas.Bool.{eqb-true}
 use Rattle.std.proofs.lemmas.Bool.Decides.{nat_tests}
 use Rattle.std.specs.List.{AllByRecursion, enumerate_from, flat_map}
+use Rattle.clear_rows.proofs.Edits.{each_passes}
 use Rattle.clear_account.specs.Account.{charge_at, comes_before, places}
 use Rattle.clear_account.specs.Allocation.{share}
 use Rattle.clear_account.specs.declared.entries.Charge.{Charge}
@@ -19,16 +20,6 @@ use Rattle.clear_book.specs.Pieces.{piece_of, piece_row, pieces_of}
 use Rattle.clear_laws.proofs.KeyedFilterLemmas.{filter-with_rows_other}
 use Rattle.clear_laws.proofs.PieceRowLemmas.{IsOf, pieces_for}
 use Rattle.clear_laws.proofs.WeighedFollowsLemmas.{is_among}
-
--- ---- what a filter leaves passes
-
-passed : {X : Type 0} (p : X → Bool) (xs : List X) → AllByRecursion (λ x. p x ≡ true) (filter p xs)
-passed p [] = tt
-passed p (x ∷ xs) = told (p x) refl (passed p xs)
-  where
-    told : (b : Bool) → p x ≡ b → AllByRecursion (λ y. p y ≡ true) (filter p xs) → AllByRecursion (λ y. p y ≡ true) (cond b (x ∷ filter p xs) (filter p xs))
-    told true is rest = (is, rest)
-    told false is rest = rest
 
 module _ (k : Credit) where
   -- the payment of a piece comes before the credit
@@ -65,7 +56,7 @@ module _ (k : Credit) where
   sooner_pieces charges rows all =
       sooner_joined (pieces_of charges rows)
       (λ i. sooner_behind (charge_at charges i).month (λ j. share charges (map row_credit rows) i j) 0 rows
-      (each_row rows (subst (AllByRecursion (λ l. comes_before l k ≡ true)) all (passed (λ l. comes_before l k) (map row_credit rows)))))
+      (each_row rows (subst (AllByRecursion (λ l. comes_before l k ≡ true)) all (each_passes (λ l. comes_before l k) (map row_credit rows)))))
       (places charges)
 
   -- other cents change nothing of this

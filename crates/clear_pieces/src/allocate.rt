@@ -65,8 +65,8 @@ pub fn allocate_from_charge<S: Alter>(
 /// credits already.
 ///
 /// Where no contribution reaches beyond the credits that come before the first, nothing is put.
-/// Where all new credits come behind all others, only what is open is read, and pieces are only
-/// added, else the whole account is read. What is refused, and what an error leaves, are as of
+/// Where all new credits come behind all others, only these and what is open are taken, and pieces
+/// are only added, else the whole account is read. What is refused, and what an error leaves, are as of
 /// `allocate_from_charge`.
 pub fn allocate_from_credits<S: Alter>(
     alloc: Global,

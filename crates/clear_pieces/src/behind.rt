@@ -1,5 +1,6 @@
-//! New credits of a firm that come behind all others: they pay what is open of its contributions, and
-//! neither its other credits nor the contributions that are paid in full are read.
+//! New credits of a firm that come behind all others: they pay what is open of its contributions. None
+//! of its other credits is read; its contributions are each looked at once, and only those with an
+//! open part are taken.
 ghost use Rattle.std.specs.Prelude.{◌≡◌, ◌≤◌, [], All, IfErr, IfOk, length, map};
 ghost use Rattle.std.specs.List.{AllByRecursion};
 ghost use Rattle.sqlite.specs.Held.{state};

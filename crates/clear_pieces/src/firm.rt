@@ -115,8 +115,8 @@ fn read_credits<S: Alter>(
     Ok(rows)
 }
 
-// Adds contributions to an account.
-pub fn add_charges(account: &mut Plain, rows: &[KeptCharge]) -> Result<(), Fault>
+/// Adds contributions to an account.
+pub(crate) fn add_charges(account: &mut Plain, rows: &[KeptCharge]) -> Result<(), Fault>
     ensures charges { OnOk result (account.new.charges
         ≡ with_charges (map charge_in rows.now) account.old.charges) }
     ensures credits { account.new.credits ≡ account.old.credits }

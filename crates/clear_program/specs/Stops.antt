@@ -1,5 +1,6 @@
 -- Why the program ends before its work is done: its status, and the line that it tells.
-use Rattle.std.specs.Prelude.{◌≡◌, ◌⊎◌, ℕ, nat_lt, List, [], ◌∷◌, ◌++◌, codes, if◌then◌else◌, Option}
+use Rattle.std.specs.Prelude.{◌≡◌, ◌⊎◌, ℕ, nat_lt, Bool, false, List, [], ◌∷◌, ◌++◌, codes}
+use Rattle.std.specs.Prelude.{if◌then◌else◌, Option}
 use Rattle.std.specs.Fmt.{decimal}
 use Rattle.std.specs.Io.KnownBytes.{Appends}
 use Rattle.clear_book.specs.declared.rules.Rule.{Rule}
@@ -64,13 +65,14 @@ line_of stop.File = codes "fault file\n"
 line_of stop.Net = codes "fault net\n"
 line_of stop.Stream = codes "fault stream\n"
 
--- known bytes grow by this text, or by a front of it
-abbrev pub AppendsFront : Option (List ℕ) → Option (List ℕ) → List ℕ → Type 0
-AppendsFront old new text =
+-- known bytes grow by this text, or, where a write has failed, by a front of it
+abbrev pub AppendsFront : Bool → Option (List ℕ) → Option (List ℕ) → List ℕ → Type 0
+AppendsFront failed old new text =
     (part : List ℕ) × (rest : List ℕ) × (text ≡ part ++ rest) × Appends old new part
+    × (failed ≡ false → rest ≡ [])
 
 -- what is told, and with which status: why the program ended, or that there was no memory for it
-abbrev pub Tells : Option (List ℕ) → Option (List ℕ) → Stop → ℕ → Type 0
-Tells old new why status =
+abbrev pub Tells : Bool → Option (List ℕ) → Option (List ℕ) → Stop → ℕ → Type 0
+Tells failed old new why status =
     (told : Stop) × ((told ≡ why) ⊎ (told ≡ no_memory))
-    × (status ≡ status_of told) × AppendsFront old new (line_of told)
+    × (status ≡ status_of told) × AppendsFront failed old new (line_of told)

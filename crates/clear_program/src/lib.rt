@@ -2,7 +2,7 @@
 //! they ask for is done, and why it ends before that is told in one line, with a status.
 //!
 //! Contracts say the status and the lines that are told, and of files, sockets and what is printed
-//! nothing; the gate compares that. The work is done on offices whatever keeps their records; the
+//! nothing; tests compare that. The work is done on offices whatever keeps their records; the
 //! two kinds of store, in files and in memory, are named in `run` alone.
 #![tactic(auto)]
 
@@ -11,5 +11,5 @@ mod migrate;
 pub mod reasons;
 pub mod run;
 pub mod stop;
-pub mod tasks;
-pub mod work;
+mod tasks;
+mod work;

@@ -13,6 +13,7 @@ use clear_reading::look::look;
 use clear_schema::fault::OpenFault;
 use clear_schema::store::SCHEMA;
 use clear_texts::look::look_text;
+use clear_wire::counted::Counted;
 use sqlite::{Alter, Connection};
 use sqlite_disk::Start;
 use std::alloc::Global;
@@ -47,9 +48,10 @@ pub(crate) fn look_at<S: Start>(
 fn tell_why(rt: &HostRuntime, kind: PathKind, hindrance: Hindrance, fault: OpenFault) -> u8
     ensures { result ≤ 3 }
 {
-    let status = tell(rt.alloc(), &mut rt.stderr(), &Stop::from(fault));
+    let mut errors = Counted::new(rt.stderr());
+    let status = tell(rt.alloc(), &mut errors, &Stop::from(fault));
     if let Ok(text) = reason(rt.alloc(), kind, hindrance, &fault) {
-        write_front(&mut rt.stderr(), text.as_bytes());
+        write_front(&mut errors, text.as_bytes());
     }
     status
 }

@@ -12,6 +12,7 @@ use clear_host::stores::{create_office, open_office};
 use clear_money::days::Day;
 use clear_money::rates::RateTable;
 use clear_sample::memory::office_in_memory;
+use clear_wire::counted::Counted;
 use sqlite::{Connection, FileStore};
 use sqlite_disk::{Start, Unknown};
 use sqlite_std_file::FileFrom;
@@ -25,13 +26,14 @@ const LOG_OF_A_CLOSE: u64 = 41;
 const BAD_FILE: u8 = 2;
 
 /// Does what the words of the command line ask for, and gives the status with which the program
-/// ends: 0 where all was done. Why it was not is told on standard error.
+/// ends: 0 where all was done, 2 where a checked file has a fault, which is told on standard output.
+/// Why something was not done is told on standard error.
 pub fn run(rt: &HostRuntime) -> u8
     ensures { result ≤ 3 }
 {
     match do_task(rt) {
         Ok(status) => status,
-        Err(stop) => tell(rt.alloc(), &mut rt.stderr(), &stop),
+        Err(stop) => tell(rt.alloc(), &mut Counted::new(rt.stderr()), &stop),
     }
 }
 

@@ -1,5 +1,6 @@
 //! Why the program ends before its work is done: the line that it tells, and its status.
 ghost use Rattle.std.specs.Prelude.{◌≡◌, ◌++◌, IfOk, string_bytes};
+ghost use Rattle.clear_wire.specs.Counted.{has_failed, inner};
 ghost use Rattle.clear_program.specs.Stops.{behind_space, by_file, by_store, by_stream, line_of};
 ghost use Rattle.clear_program.specs.Stops.{no_memory, rule_line, status_by, status_of};
 ghost use Rattle.clear_program.specs.Stops.{AppendsFront, Tells};
@@ -7,8 +8,9 @@ ghost use Rattle.clear_program.specs.Stops.{AppendsFront, Tells};
 use clear_answers::answer::carried_text;
 use clear_book::rules::{Rule, StoreCause};
 use clear_host::files::FileFault;
-use clear_http::serve::Fault;
+use clear_http::serve::{Fault, write_all};
 use clear_schema::fault::{Fault as StoreFault, OpenFault};
+use clear_wire::counted::Counted;
 use std::alloc::{AllocError, Global};
 use std::io::Write;
 
@@ -19,11 +21,12 @@ pub enum Stop {
     Rule(Rule),
     /// The command line isn't understood.
     Line,
-    /// A rate, caller or bank file can't be read, is too large, or is no such file.
+    /// A rate, caller or bank file can't be read, is too large, or is no such file, or a copy of a
+    /// store can't be made.
     File,
     /// The port can't be bound.
     Net,
-    /// Standard input or output failed.
+    /// Standard input or output failed, or a stream took all reads that it may make.
     Stream,
 }
 
@@ -59,8 +62,9 @@ impl Stop {
 
 /// Tells why the program ends, and gives its status. What can't be written is lost. Where there is no
 /// memory for the line, it is that of want of memory.
-pub fn tell<E: Write>(alloc: Global, errors: &mut E, stop: &Stop) -> u8
-    ensures { Tells (E.contents errors.old) (E.contents errors.new) stop.now result }
+pub fn tell<E: Write>(alloc: Global, errors: &mut Counted<E>, stop: &Stop) -> u8
+    ensures { Tells (has_failed errors.new) (E.contents (inner errors.old))
+        (E.contents (inner errors.new)) stop.now result }
 {
     match stop.line(alloc) {
         Ok(line) => {
@@ -75,17 +79,11 @@ pub fn tell<E: Write>(alloc: Global, errors: &mut E, stop: &Stop) -> u8
 }
 
 /// Writes a text, or a front of it where a write fails.
-pub fn write_front<E: Write>(errors: &mut E, text: &[u8])
-    ensures { AppendsFront (E.contents errors.old) (E.contents errors.new) text.now }
+pub fn write_front<E: Write>(errors: &mut Counted<E>, text: &[u8])
+    ensures { AppendsFront (has_failed errors.new) (E.contents (inner errors.old))
+        (E.contents (inner errors.new)) text.now }
 {
-    let mut at = 0;
-    'writes: while at < text.len() {
-        match errors.write(&text[at..]) {
-            Ok(0) => return,
-            Ok(count) => at += count,
-            Err(_) => return,
-        }
-    }
+    let _ = write_all(errors, text);
 }
 
 impl From<Rule> for Stop {

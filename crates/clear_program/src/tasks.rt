@@ -115,69 +115,94 @@ pub fn read_task<'a>(rt: &HostRuntime, words: &'a [String]) -> Result<Task<'a>, 
 
 fn prepare<'a>(rt: &HostRuntime, words: Words<'a>) -> Result<Task<'a>, Stop> {
     match words {
-        Words::Init { store, rates } => {
-            let rates = read_rate_file(rt, rates)?;
-            let work = Work::Init { rates };
-            Ok(Task::OnStore { store, work })
-        }
+        Words::Init { store, rates } => on_store(store, init_work(rt, rates)),
         Words::Stream {
             rates,
             callers,
             day,
-        } => Ok(Task::Stream {
-            rates: rates_or_sample(rt, rates)?,
-            directory: callers_or_sample(rt, callers)?,
-            day,
-        }),
+        } => stream_task(rt, rates, callers, day),
         Words::Serve {
             store,
             callers,
             day,
             port,
             count,
-        } => {
-            let directory = read_caller_file(rt, callers)?;
-            let work = Work::Serve {
-                directory,
-                day,
-                port,
-                count,
-            };
-            Ok(Task::OnStore { store, work })
-        }
+        } => on_store(store, serve_work(rt, callers, day, port, count)),
         Words::Import {
             store,
             day,
             number,
             file,
-        } => {
-            let command = Command::ImportBank(BankFile::new(read_file(rt, file)?));
-            let work = Work::Import {
-                day,
-                number,
-                command,
-            };
-            Ok(Task::OnStore { store, work })
-        }
+        } => on_store(store, import_work(rt, day, number, file)),
         Words::Statement {
             store,
             day,
             employer,
-        } => {
-            let work = Work::Statement { day, employer };
-            Ok(Task::OnStore { store, work })
-        }
+        } => on_store(store, Ok(Work::Statement { day, employer })),
         Words::Migrate { store } => Ok(Task::Migrate { store }),
         Words::Look { store } => Ok(Task::Look { store }),
-        Words::Check { kind, file } => {
-            let bytes = read_file(rt, file)?;
-            Ok(Task::Check(check_file(rt.alloc(), kind, bytes.as_slice())?))
-        }
-        Words::Backup { store, file } => {
-            let work = Work::Backup { copy: file };
-            Ok(Task::OnStore { store, work })
-        }
+        Words::Check { kind, file } => check_task(rt, kind, file),
+        Words::Backup { store, file } => on_store(store, Ok(Work::Backup { copy: file })),
     }
+}
+
+// Work on the store at a path, if it can be done.
+fn on_store<'a>(store: &'a str, work: Result<Work<'a>, Stop>) -> Result<Task<'a>, Stop> {
+    let work = work?;
+    Ok(Task::OnStore { store, work })
+}
+
+fn init_work<'a>(rt: &HostRuntime, rates: &str) -> Result<Work<'a>, Stop> {
+    let rates = read_rate_file(rt, rates)?;
+    Ok(Work::Init { rates })
+}
+
+fn serve_work<'a>(
+    rt: &HostRuntime,
+    callers: &str,
+    day: Day,
+    port: u16,
+    count: u32,
+) -> Result<Work<'a>, Stop> {
+    let directory = read_caller_file(rt, callers)?;
+    Ok(Work::Serve {
+        directory,
+        day,
+        port,
+        count,
+    })
+}
+
+fn import_work<'a>(
+    rt: &HostRuntime,
+    day: Day,
+    number: RequestNo,
+    file: &str,
+) -> Result<Work<'a>, Stop> {
+    let command = Command::ImportBank(BankFile::new(read_file(rt, file)?));
+    Ok(Work::Import {
+        day,
+        number,
+        command,
+    })
+}
+
+fn stream_task<'a>(
+    rt: &HostRuntime,
+    rates: &str,
+    callers: &str,
+    day: Day,
+) -> Result<Task<'a>, Stop> {
+    Ok(Task::Stream {
+        rates: rates_or_sample(rt, rates)?,
+        directory: callers_or_sample(rt, callers)?,
+        day,
+    })
+}
+
+fn check_task<'a>(rt: &HostRuntime, kind: FileKind, file: &str) -> Result<Task<'a>, Stop> {
+    let bytes = read_file(rt, file)?;
+    Ok(Task::Check(check_file(rt.alloc(), kind, bytes.as_slice())?))
 }
 
 // What is said of the bytes of a file of this kind.

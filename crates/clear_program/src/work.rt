@@ -9,7 +9,7 @@ use clear_book::rules::{Rule, StoreCause};
 use clear_callers::directory::Directory;
 use clear_cli::ready::{copied_line, imported_line, ready_text, schema_line, served_line};
 use clear_host::backup::copy_whole;
-use clear_host::connections::{Ended, Watch, serve_connections};
+use clear_host::connections::{Ended, serve_connections};
 use clear_host::named::NamedFile;
 use clear_host::offices::{NotOpened, Opened};
 use clear_http::desk::serve;
@@ -110,16 +110,6 @@ struct Place<'a> {
     port: u16,
 }
 
-// The store at the path at which it was opened.
-#[derive(Clone, Copy)]
-struct StoreFile<'a>(NamedFile<'a>);
-
-impl Watch for StoreFile<'_> {
-    fn stands(&self) -> bool {
-        self.0.stands()
-    }
-}
-
 fn serve_at<S: Alter, E: Write>(
     rt: &HostRuntime,
     opened: &mut Opened<S>,
@@ -136,8 +126,8 @@ fn serve_at<S: Alter, E: Write>(
         return Err(Stop::Net);
     };
     tell_ready(rt.alloc(), place.port, day, &opened.ledger_day, errors)?;
-    let (office, watch) = (&mut opened.office, StoreFile(file));
-    let serving = serve_connections(rt, &listener, count, office, directory, day, &watch, errors);
+    let office = &mut opened.office;
+    let serving = serve_connections(rt, &listener, count, office, directory, day, &file, errors);
     // What could not be told of a connection is lost.
     match serving.ended {
         Ended::Served => Ok(served_line(rt.alloc(), count)?),
@@ -154,7 +144,7 @@ fn tell_ready<E: Write>(
     errors: &mut E,
 ) -> Result<(), AllocError> {
     let text = ready_text(alloc, port, day, ledger_day)?;
-    write_front(errors, text.as_bytes());
+    write_front(&mut Counted::new(errors), text.as_bytes());
     Ok(())
 }
 

@@ -1,5 +1,5 @@
 -- The one row that a query gives, or none.
-use Rattle.std.proofs.Common.{◌≡◌, ◌==◌, ℕ, Bool, List, [], ◌∷◌, Option, Some, None, Result, arith, filter, refl, slice_get, subst, sym}
+use Rattle.std.proofs.Common.{◌≡◌, ◌==◌, ℕ, Bool, List, [], ◌∷◌, Option, Some, None, Result, filter, refl, slice_get, subst, sym}
 use Rattle.std.specs.List.{AllByRecursion, last_or}
 use Rattle.std.specs.Option.{option_map, option_to_list}
 use Rattle.sqlite.specs.Held.{Held}
@@ -12,10 +12,8 @@ use Rattle.clear_values.specs.Numbers.{IsRequestNo}
 use Rattle.clear_values.specs.RowRanges.{AreInRange, IsRequestRow}
 use Rattle.clear_values.specs.Tables.{RequestRow, Tables, caller_number}
 use Rattle.clear_values.specs.declared.callers.Caller.{Caller}
-use Rattle.clear_firms.specs.Counts.{AreCounts}
 use Rattle.clear_ledger.specs.Kept.{greatest_number}
 use Rattle.clear_columns.specs.Reading.{ReadsOn}
-use Rattle.clear_schema.specs.Values.{counts_of}
 use Rattle.clear_schema.specs.declared.fault.Fault.{Fault}
 use Rattle.clear_reading.specs.Reader.{Tells, TellsTablesWhere}
 use Rattle.clear_reading.proofs.TellingLemmas.{tells_tables}
@@ -57,14 +55,3 @@ pub greatest_in_range : (caller : Caller) (t : Tables) → AreInRange t → AllB
 greatest_in_range caller t ranges =
     let of_caller : RequestRow → Bool = λ row. caller_number row.caller == caller_number caller in
     number_in_range (filter of_caller t.requests) (all-filter IsRequestRow of_caller t.requests ranges.requests)
-
--- and so are the counts
-pub counts_in_range : (t : Tables) → AreInRange t → AreCounts (counts_of t)
-counts_in_range t ranges = record {
-  day = ranges.day;
-  entries = ranges.entries;
-  serial = ranges.serial;
-  claims = ranges.last_claim;
-  lists = omega (arith, ranges.last_list);
-  runs = omega (arith, ranges.last_run);
-}

@@ -12,7 +12,7 @@ use Rattle.clear_values.proofs.KeyedChangesLemmas.{all_found}
 use Rattle.clear_values.proofs.KeyedLemmas.{first_less}
 use Rattle.clear_values.specs.Keyed.{AllBehind, AreInOrder, find_row}
 use Rattle.clear_values.specs.Limits.{most_entries}
-use Rattle.clear_values.specs.RowRanges.{AreInRange, IsClaimRow, IsClaimState, settled}
+use Rattle.clear_values.specs.RowRanges.{AreInRange, IsClaimRow, IsClaimState}
 use Rattle.clear_values.specs.Tables.{Tables, claim_key, list_key}
 use Rattle.clear_values.specs.declared.rows.ClaimRow.{ClaimRow}
 use Rattle.clear_values.specs.declared.rows.ClaimState.{ClaimState}
@@ -20,6 +20,7 @@ use Rattle.clear_values.specs.declared.rows.ClaimState.TheVariants.{Open, Withdr
 use Rattle.clear_values.specs.declared.rows.ListRow.{ListRow}
 use Rattle.clear_laws.proofs.ClaimsLemmas.{claims_numbered}
 use Rattle.clear_laws.proofs.ListedLemmas as listed
+use Rattle.clear_laws.proofs.ListRangeLemmas.{paid_whole}
 use Rattle.clear_laws.proofs.RowRangeLemmas.{rows_in_range}
 use Rattle.clear_laws.proofs.SerialLemmas.{in_order-once}
 use Rattle.clear_book.specs.Book.{Book}
@@ -103,14 +104,6 @@ module _ (b : Book) (t : Tables) (lawful : IsLawful b) (stands : Stands b t) whe
 
 -- ---- what is paid out of the claims that are read
 
--- of a claim no more is paid out than its cents
-paid_within : (cents : ℕ) (s : ClaimState) → IsClaimState cents s → paid_out s ≤ cents
-paid_within cents Open is = omega arith
-paid_within cents Withdrawn is = omega arith
-paid_within cents (Released release) is =
-    let whole : settled release.settlement ≡ cents = is.whole in
-    omega (arith, whole)
-
 abbrev paid : ClaimRow → ℕ
 paid row = paid_out row.state
 
@@ -119,7 +112,7 @@ paid_sum : (p q : ClaimRow → Bool) (claims : List ClaimRow) → AllByRecursion
 paid_sum p q [] good = omega arith
 paid_sum p q (claim ∷ claims) good =
     let most : paid_out claim.state ≤ 100000000000 =
-    let within = paid_within claim.cents claim.state good.0.state in
+    let within = paid_whole claim.cents claim.state good.0.state in
     let cents = good.0.cents.1 in
     omega (arith, within, cents) in
     let rest = paid_sum p q claims good.1 in

@@ -1,3 +1,4 @@
+pub mod Documents
 pub mod Faults
 pub mod Look
 pub mod LookParts

@@ -1,8 +1,7 @@
 //! The document of a payout list, told outside of a transaction.
-ghost use Rattle.std.specs.Prelude.{◌≡◌, false, filter};
+ghost use Rattle.std.specs.Prelude.{◌≡◌, false};
 ghost use Rattle.clear_values.specs.Numbers.{IsListNo};
-ghost use Rattle.clear_book.specs.Documents.Payout.{payout_text};
-ghost use Rattle.clear_book.specs.Workers.{is_on};
+ghost use Rattle.clear_reading.specs.Documents.{list_over};
 ghost use Rattle.clear_reading.specs.Reader.{TellsDocument};
 
 use crate::telling::{DocumentHead, tell_rows};
@@ -27,8 +26,7 @@ pub fn tell_list<S: Alter>(
 ) -> Result<Document, Fault>
     requires outside { conn.old.in_transaction ≡ false }
     ensures mode { conn.new.in_transaction ≡ false }
-    ensures tells { TellsDocument S.Store conn.old conn.new
-        (λ t. payout_text list.now (filter (λ claim. is_on list.now.list claim.state) t.claims))
+    ensures tells { TellsDocument S.Store conn.old conn.new (list_over list.now)
         (λ t. IsListNo list.now.list) result }
 {
     let Some(number) = ListNo::new(u64::from(list.list)) else {

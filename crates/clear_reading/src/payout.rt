@@ -60,7 +60,7 @@ pub fn payout_view<S: Alter>(
     };
     match ListNo::new(u64::from(counts.lists)) {
         Some(last) => payable_after(tx, last, next),
-        None => payable_since(tx, first_day(), next),
+        None => payable_since(tx, Day::first(), next),
     }
 }
 
@@ -85,7 +85,7 @@ fn payable_after<S: Alter>(
 {
     match find_list(tx, last)? {
         Some(list) => payable_since(tx, list.day, next),
-        None => payable_since(tx, first_day(), next),
+        None => payable_since(tx, Day::first(), next),
     }
 }
 
@@ -149,7 +149,8 @@ fn add_paid(rows: &[ClaimRow]) -> Option<u64>
     Some(sum)
 }
 
-/// Whether something of a claim is to be paid out: it is released, and on no list yet.
+/// Whether something of a claim is to be paid out: it is released with something paid,
+/// and on no list yet.
 pub(crate) fn is_payable(row: &ClaimRow) -> bool
     ensures { result ≡ is_payable row.now.state }
 {
@@ -157,15 +158,5 @@ pub(crate) fn is_payable(row: &ClaimRow) -> bool
         ClaimState::Open => false,
         ClaimState::Withdrawn => false,
         ClaimState::Released(release) => { release.settlement.paid > 0 && release.list.is_none() }
-    }
-}
-
-// 2000-01-01.
-fn first_day() -> Day
-    ensures { result ≡ 10957 }
-{
-    match Day::new(10_957) {
-        Some(day) => day,
-        None => unreachable!(),
     }
 }

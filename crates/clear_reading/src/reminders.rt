@@ -1,7 +1,7 @@
 //! The document of a reminder run, told outside of a transaction.
-ghost use Rattle.std.specs.Prelude.{◌≡◌, ◌==◌, false, filter};
+ghost use Rattle.std.specs.Prelude.{◌≡◌, false};
 ghost use Rattle.clear_values.specs.Numbers.{IsRunNo};
-ghost use Rattle.clear_book.specs.Documents.Reminders.{reminders_text};
+ghost use Rattle.clear_reading.specs.Documents.{run_over};
 ghost use Rattle.clear_reading.specs.Reader.{TellsDocument};
 
 use crate::telling::{DocumentHead, tell_rows};
@@ -26,8 +26,7 @@ pub fn tell_reminders<S: Alter>(
 ) -> Result<Document, Fault>
     requires outside { conn.old.in_transaction ≡ false }
     ensures mode { conn.new.in_transaction ≡ false }
-    ensures tells { TellsDocument S.Store conn.old conn.new
-        (λ t. reminders_text run.now (filter (λ row. row.run == run.now.run) t.reminders))
+    ensures tells { TellsDocument S.Store conn.old conn.new (run_over run.now)
         (λ t. IsRunNo run.now.run) result }
 {
     let Some(number) = RunNo::new(u64::from(run.run)) else {

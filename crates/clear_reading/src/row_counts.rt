@@ -1,6 +1,5 @@
 //! How many firms, reports, bank lines and claims there are, of all rows of their tables.
 ghost use Rattle.std.specs.Prelude.{◌≡◌, false, length};
-ghost use Rattle.clear_book.specs.Workers.{is_open};
 ghost use Rattle.clear_reading.specs.Look.{AreFewSuspended};
 ghost use Rattle.clear_reading.specs.LookParts.{claims_counted, lines_counted, rows_counted};
 ghost use Rattle.clear_reading.specs.LookParts.{suspended_cents};
@@ -12,8 +11,9 @@ use clear_firms::employers::{Employers, read_employers};
 use clear_firms::reports::{Reports, read_reports};
 use clear_ledger::bank::{Bank, lines};
 use clear_ledger::claims::{Claims, read_claims};
+use clear_rules::decide::withdraw::is_open;
 use clear_schema::fault::Fault;
-use clear_values::rows::{BankRow, ClaimRow, ClaimState};
+use clear_values::rows::{BankRow, ClaimRow};
 use sqlite::{Alter, Connection};
 
 /// How many rows the tables of firms, reports, bank lines and claims have.
@@ -103,7 +103,7 @@ fn count_claims<S: Alter>(conn: &mut Connection<S>) -> Result<ClaimCount, Fault>
     count_rows::<AllClaims, S>(&mut rows)
 }
 
-// How many bank lines there are, and how many of them are in suspense.
+// How many bank lines there are, how many of them are in suspense, and what these come to.
 struct AllLines;
 
 impl Tally for AllLines {
@@ -171,15 +171,5 @@ impl Tally for AllClaims {
             open_claims: count.open_claims + u64::from(is_open(claim)),
             payable_claims: count.payable_claims + u64::from(is_payable(claim)),
         })
-    }
-}
-
-fn is_open(claim: &ClaimRow) -> bool
-    ensures { result ≡ is_open claim.now.state }
-{
-    match claim.state {
-        ClaimState::Open => true,
-        ClaimState::Withdrawn => false,
-        ClaimState::Released(_) => false,
     }
 }

@@ -1,6 +1,6 @@
 //! The rows of a table that a query shows, one at a time.
 ghost use Rattle.std.specs.List.{AllByRecursion};
-ghost use Rattle.std.specs.Prelude.{◌≡◌, IfErr, IfOk, slice_get};
+ghost use Rattle.std.specs.Prelude.{◌≡◌, slice_get};
 ghost use Rattle.clear_reading.specs.Faults.{fault_told};
 ghost use Rattle.clear_reading.specs.Reader.{Tells};
 

@@ -1,11 +1,7 @@
 //! The document of the lines in suspense, told outside of a transaction.
-ghost use Rattle.std.specs.Prelude.{◌≡◌, ◌≤◌, false, filter};
-ghost use Rattle.clear_values.specs.Credits.{is_in_suspense};
-ghost use Rattle.clear_values.specs.Keyed.{in_key_order};
-ghost use Rattle.clear_values.specs.Limits.{most_suspense};
-ghost use Rattle.clear_book.specs.Documents.Suspense.{suspense_text};
-ghost use Rattle.clear_book.specs.Lines.{suspense_count};
-ghost use Rattle.clear_ledger.specs.Shown.{serial_key};
+ghost use Rattle.std.specs.Prelude.{◌≡◌, false};
+ghost use Rattle.clear_reading.specs.Documents.{suspense_over};
+ghost use Rattle.clear_reading.specs.Look.{AreFewSuspended};
 ghost use Rattle.clear_reading.specs.Reader.{TellsDocument};
 
 use crate::telling::{DocumentHead, tell_rows};
@@ -29,9 +25,8 @@ pub fn tell_suspense<S: Alter>(
 ) -> Result<Document, Fault>
     requires outside { conn.old.in_transaction ≡ false }
     ensures mode { conn.new.in_transaction ≡ false }
-    ensures tells { TellsDocument S.Store conn.old conn.new
-        (λ t. suspense_text day (in_key_order serial_key (filter is_in_suspense t.bank)))
-        (λ t. suspense_count t.bank ≤ most_suspense) result }
+    ensures tells { TellsDocument S.Store conn.old conn.new (suspense_over day)
+        AreFewSuspended result }
 {
     let mut rows = read_suspense(conn)?;
     tell_rows(alloc, &day, &mut rows)

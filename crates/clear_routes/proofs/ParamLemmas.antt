@@ -6,7 +6,7 @@ use Rattle.matchit.specs.Seek.{segment}
 use Rattle.matchit.specs.Params.{walk, wild_from, wild_stop}
 use Rattle.clear_routes.specs.Raw.{parts}
 use Rattle.clear_routes.specs.Fitting.{NoSlash, Fits}
-use Rattle.clear_routes.proofs.WalkLemmas.{Ends, Simple, seg-part, length-more}
+use Rattle.clear_routes.proofs.WalkLemmas.{Ends, Simple, seg-part, drop-append, length-more}
 
 drop-later : (n m : ℕ) (xs : List ℕ) → drop (n + m) xs ≡ drop m (drop n xs)
 drop-later zero m xs =
@@ -16,10 +16,6 @@ drop-later (suc n) m [] = drop-nil (suc n + m) ∙ sym (drop-nil m)
 drop-later (suc n) m (x ∷ xs) =
     let e : suc n + m ≡ suc (n + m) = omega arith in
     rw e (drop-later n m xs)
-
-drop-front : (v w : List ℕ) → drop (length v) (v ++ w) ≡ w
-drop-front [] w = refl
-drop-front (b ∷ v) w = drop-front v w
 
 take-front : (v w : List ℕ) → take (length v) (v ++ w) ≡ v
 take-front [] w = refl
@@ -107,7 +103,7 @@ module _ (pattern text path : List ℕ) (few : length pattern < 2 ^ 63) where
       let both = length-both v rest in
       let some = f.5.0 in
       let e3 : drop (token + 1) pattern ≡ t = next token 256 pattern t e2 in
-      let d3 : drop (at + length v) path ≡ rest = drop-later at (length v) path ∙ ap (drop (length v)) d2 ∙ drop-front v rest in
+      let d3 : drop (at + length v) path ≡ rest = drop-later at (length v) path ∙ ap (drop (length v)) d2 ∙ drop-append v rest in
       let few_names : length names ≡ length f.2 = omega (arith, ap length f.4, m) in
       let stop : wild_stop pattern token path at ≡ at + length v = ended t e2 d2 f.7 f.5.1 (s.1 f.3) in
       takes name names token at t v rest e2 d2 l stop

@@ -3,7 +3,7 @@ use Rattle.std.proofs.Common.{◌≡◌, ◌≢◌, ℕ, List, Option, Some, Non
 use Rattle.std.specs.Str.{IsAscii}
 use Rattle.clear_wire.specs.declared.method.Method.{Method}
 use Rattle.clear_wire.specs.declared.method.Method.TheVariants as method
-use Rattle.clear_routes.specs.Allowed.{Allows, HasRouteWith, HasRoute, IsUnrouted}
+use Rattle.clear_routes.specs.Allowed.{Allows, HasRouteWith, IsUnrouted}
 use Rattle.clear_routes.specs.Kinds.{kinds_in, AreOfKinds, spellings, parameters}
 use Rattle.clear_routes.specs.Laws.{OnePath, OneRoute}
 use Rattle.clear_routes.specs.Methods.{action_for, allow_of}
@@ -86,11 +86,6 @@ one_route m target r s x y =
     let place = one_place x.methods y.methods r.parameters s.parameters target x.place y.place in
     let action = same_some r.action s.action _ _ (ap (action_for m) place.0) x.asked y.asked in
     (λ i. record { action = action i; parameters = place.1 i })
-
-pub no_route : (target : List ℕ) → ¬ (HasPath target) → ¬ (HasRoute target)
-no_route target none h =
-    let place = h.1.1.place in
-    none (place.path, place.values, place.at)
 
 -- ---- methods
 

@@ -1,17 +1,15 @@
 -- The router's rows are the table's: each path, in its turn, is new, and stands there then.
 use Rattle.std.proofs.Common.{◌≡◌, ◌∙◌, ℕ, zero, suc, ◌<◌, ◌≤◌, List, [], ◌∷◌, length, map, take, fold, get_or, Result, Ok, Err, Option, Some, None, Bool, true, false, cond, ◌&&◌, ◌==◌, leb, ◌⊎◌, inl, inr, refl, sym, ap, subst, arith}
 use Rattle.std.specs.Borrow.{Bor}
-use Rattle.std.specs.Prelude.{IfErr, OnOk}
 use Rattle.std.proofs.lemmas.Bool.{and_parts}
 use Rattle.std.proofs.lemmas.Bool.Decides.{nat_tests}
 use Rattle.std.specs.Cmp.Lexicographic.{bytes_decides}
 use Rattle.matchit.specs.Order.{placed}
 use Rattle.matchit.specs.Rows.{RowsOf, comes_before}
 use Rattle.matchit.specs.Route.{Scan, parse_route}
-use Rattle.matchit.specs.Router.{InsertsRead, RouteOf, route_from, nearest}
+use Rattle.matchit.specs.Router.{RouteOf, route_from, nearest}
 use Rattle.matchit.specs.Seek.{same_text}
 use Rattle.matchit.specs.declared.error.InsertError.{InsertError}
-use Rattle.matchit.specs.declared.error.InsertError.TheVariants.{Conflict, InvalidParam, InvalidParamSegment, InvalidCatchAll, OutOfMemory}
 use Rattle.matchit.proofs.OnLiterals.{matchit_on_literals}
 use Rattle.clear_routes.specs.Kinds.{kinds_in}
 use Rattle.clear_routes.specs.Paths.{Path, IsListed, paths}
@@ -23,27 +21,6 @@ use Rattle.clear_routes.specs.declared.table.Row.{Row}
 use Rattle.clear_routes.proofs.AsciiLemmas.{ascii_test}
 use Rattle.clear_routes.proofs.PatternLemmas.{opens, simple_test, simple_from, all_apart}
 use Rattle.clear_routes.proofs.WalkLemmas.{Simple, In}
-
--- ---- one insert
-
-pub insert_adds : (read : Result Scan InsertError) (row : Row) (old new : Rows) (r : Result (Unit {0}) InsertError) → InsertsRead read row old new r
-    → OnOk r (new ≡ added_read read row old)
-insert_adds (Ok s) row old new (Ok u) x = x.1
-insert_adds (Ok s) row old new (Err e) x = tt
-insert_adds (Err d) row old new (Ok u) x = x.0
-insert_adds (Err d) row old new (Err e) x = tt
-
-pub insert_refused : (read : Result Scan InsertError) (row : Row) (old new : Rows) (r : Result (Unit {0}) InsertError) → InsertsRead read row old new r
-    → IsNewRead read old → IfErr r (λ error. error ≡ OutOfMemory)
-insert_refused (Ok s) row old new (Ok u) x n = tt
-insert_refused (Ok s) row old new (Err OutOfMemory) x n = refl
-insert_refused (Ok s) row old new (Err (Conflict with)) x n =
-    let is = sym n ∙ x.1.1 in
-    cc is
-insert_refused (Ok s) row old new (Err InvalidParam) x n = absurd x.1
-insert_refused (Ok s) row old new (Err InvalidParamSegment) x n = absurd x.1
-insert_refused (Ok s) row old new (Err InvalidCatchAll) x n = absurd x.1
-insert_refused (Err d) row old new r x n = absurd n
 
 -- ---- tests of the table, each computed once
 

@@ -1,7 +1,7 @@
 -- What values are written with: a part of a target without a slash, in ASCII, of one value alone.
-use Rattle.std.proofs.Common.{◌≡◌, ◌≢◌, ℕ, suc, ◌+◌, ◌/◌, ◌%◌, ◌<◌, ◌≤◌, ◌^◌, List, [], ◌∷◌, length, Option, Some, None, refl, sym, ap, ◌∙◌, subst, arith}
+use Rattle.std.proofs.Common.{◌≡◌, ℕ, suc, ◌+◌, ◌/◌, ◌%◌, ◌<◌, ◌^◌, List, [], ◌∷◌, length, Option, Some, None, refl, sym, ap, ◌∙◌, arith}
 use Rattle.std.specs.Borrow.{Bor}
-use Rattle.std.specs.Prelude.{IsSome, IfSome, IfNone, ◌↔◌}
+use Rattle.std.specs.Prelude.{IfSome}
 use Rattle.std.proofs.lemmas.Fmt.{IsAscii-decimal, decimal_is_IsNumeral, decimal_injective}
 use Rattle.std.proofs.lemmas.Str.Parse.{tells_digits}
 use Rattle.std.specs.Fmt.{decimal}
@@ -10,6 +10,7 @@ use Rattle.std.specs.Str.Parse.{AllDigits}
 use Rattle.clear_money.specs.Calendar.{IsMonth}
 use Rattle.clear_money.specs.Numbers.{IsNumberText}
 use Rattle.clear_money.specs.Texts.{month_text}
+use Rattle.clear_money.proofs.WrittenRateLemmas.{month_text-one}
 use Rattle.clear_routes.specs.Kinds.{IsOfKind, AreOfKinds, spelling, spellings, kinds_in, with_value, least, parameters}
 use Rattle.clear_routes.specs.Raw.{texts_in}
 use Rattle.clear_routes.specs.Raw.{AllAscii}
@@ -37,14 +38,9 @@ number_part n l =
     let h = decimal_is_IsNumeral n l in
     (h.0.0, digits_plain (decimal n) h.0.1)
 
--- where making a value of the number that is written gives none, none is written
-pub no_number : (P : ℕ → Type 0) (result : Option ℕ) (n : ℕ) (bytes text : List ℕ) → bytes ≡ text → IsNumberText bytes n → IsSome result ↔ P n → ((m : ℕ) → P m → m < 2 ^ 64)
-    → IfNone result ((m : ℕ) → P m → decimal m ≢ text)
-no_number P (Some x) n bytes text q t h small = tt
-no_number P None n bytes text q t h small = λ m r e.
-    let same : n ≡ m = decimal_injective n m t.small (small m r) (sym t.digits ∙ q ∙ sym e) in
-    let some : IsSome {T = ℕ} None = h.1 (subst P (sym same) r) in
-    cc some
+-- a text spells one number at most
+pub number_one : (n m : ℕ) (bytes text : List ℕ) → bytes ≡ text → IsNumberText bytes n → m < 2 ^ 64 → decimal m ≡ text → n ≡ m
+number_one n m bytes text q t small e = decimal_injective n m t.small small (sym t.digits ∙ q ∙ sym e)
 
 -- ---- months
 
@@ -62,30 +58,6 @@ month_ascii : (m : ℕ) → IsMonth m → IsAscii (month_text m)
 month_ascii m h =
     seven_ascii (48 + m / 12 / 1000) (48 + m / 12 / 100 % 10) (48 + m / 12 / 10 % 10) (48 + m / 12 % 10) 45 (48 + (m % 12 + 1) / 10) (48 + (m % 12 + 1) % 10)
     (omega (arith, h.1)) (omega arith) (omega arith) (omega arith) (omega arith) (omega arith) (omega arith)
-
-two_same : (p q : ℕ) → p < 100 → q < 100 → p / 10 ≡ q / 10 → p % 10 ≡ q % 10 → p ≡ q
-two_same p q hp hq a b = omega arith
-
-four_same : (p q : ℕ) → p < 10000 → q < 10000 → p / 1000 ≡ q / 1000 → p / 100 % 10 ≡ q / 100 % 10 → p / 10 % 10 ≡ q / 10 % 10 → p % 10 ≡ q % 10 → p ≡ q
-four_same p q hp hq a b c d = omega arith
-
-plus_same : (k a b : ℕ) → k + a ≡ k + b → a ≡ b
-plus_same k a b e = omega arith
-
-parts_same : (m n : ℕ) → m / 12 ≡ n / 12 → m % 12 + 1 ≡ n % 12 + 1 → m ≡ n
-parts_same m n a b = omega arith
-
-seven : (a b c d e f g h i j k l m n : ℕ) → a ∷ b ∷ c ∷ d ∷ e ∷ f ∷ g ∷ [] ≡ h ∷ i ∷ j ∷ k ∷ l ∷ m ∷ n ∷ []
-    → (a ≡ h) × (b ≡ i) × (c ≡ j) × (d ≡ k) × (f ≡ m) × (g ≡ n)
-seven a b c d e f g h i j k l m n q = (cc q, cc q, cc q, cc q, cc q, cc q)
-
-month_same : (m n : ℕ) → m ≤ 26399 → n ≤ 26399 → month_text m ≡ month_text n → m ≡ n
-month_same m n hm hn e =
-    let s = seven _ _ _ _ _ _ _ _ _ _ _ _ _ _ e in
-    let year : m / 12 ≡ n / 12 = four_same (m / 12) (n / 12) (omega (arith, hm)) (omega (arith, hn))
-    (plus_same 48 _ _ s.0) (plus_same 48 _ _ s.1) (plus_same 48 _ _ s.2) (plus_same 48 _ _ s.3) in
-    let place : m % 12 + 1 ≡ n % 12 + 1 = two_same (m % 12 + 1) (n % 12 + 1) (omega arith) (omega arith) (plus_same 48 _ _ s.4) (plus_same 48 _ _ s.5) in
-    parts_same m n year place
 
 -- ---- each kind
 
@@ -107,7 +79,7 @@ spelling_ascii kind.Run n h = IsAscii-decimal n (omega (arith, h.1))
 
 spelling_one : (kind : Kind) (n m : ℕ) → IsOfKind kind n → IsOfKind kind m → spelling kind n ≡ spelling kind m → n ≡ m
 spelling_one kind.Employer n m h k e = decimal_injective n m (omega (arith, h.1)) (omega (arith, k.1)) e
-spelling_one kind.Month n m h k e = month_same n m h.1 k.1 e
+spelling_one kind.Month n m h k e = month_text-one n m h k e
 spelling_one kind.Claim n m h k e = decimal_injective n m (omega (arith, h.1)) (omega (arith, k.1)) e
 spelling_one kind.Worker n m h k e = decimal_injective n m (omega (arith, h.1)) (omega (arith, k.1)) e
 spelling_one kind.List n m h k e = decimal_injective n m (omega (arith, h.1)) (omega (arith, k.1)) e

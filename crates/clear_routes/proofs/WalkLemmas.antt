@@ -58,7 +58,7 @@ no_slash-drop zero p h = h
 no_slash-drop (suc n) [] h = tt
 no_slash-drop (suc n) (b ∷ p) h = no_slash-drop n p h.1
 
-drop-append : (v w : List ℕ) → drop (length v) (v ++ w) ≡ w
+pub drop-append : (v w : List ℕ) → drop (length v) (v ++ w) ≡ w
 drop-append [] w = refl
 drop-append (b ∷ v) w = drop-append v w
 
@@ -88,9 +88,6 @@ cuts-part b v =
     let d : drop (length (b ∷ v)) ((b ∷ v) ++ 47 ∷ []) ≡ 47 ∷ [] = drop-append (b ∷ v) (47 ∷ []) in
     let many : ltb 1 (suc (suc (length v))) ≡ true = grind (arith, nat_tests) in
     rw (l, many, one_less (suc (length v)), d) refl
-
-pub seg-end : (x : ℕ) (t : List ℕ) → x ≡ 47 → segment (x ∷ t) ≡ 47 ∷ []
-seg-end x t e = rw e refl
 
 drop-all : (p : List ℕ) → drop (length p) p ≡ []
 drop-all [] = refl
@@ -205,12 +202,6 @@ module _ {K : Type 0} where
   seek-drop zero rs p = refl
   seek-drop (suc n) rs [] = refl
   seek-drop (suc n) rs (b ∷ p) = seek-drop n rs p
-
-  go-none : (i : Bool) (p : List ℕ) → go i [] p ≡ None
-  go-none true [] = refl
-  go-none false [] = refl
-  go-none true (b ∷ p) = elim (b == 47) as (λ v. cond v (go false [] p) (go true [] p) ≡ None) [ true ↦ go-none false p | false ↦ go-none true p ]
-  go-none false (b ∷ p) = rw (go-none false p, go-none true p) (elim (b == 47) as (λ v. cond {A = Option K} v None None ≡ None) [ true ↦ refl | false ↦ refl ])
 
   inside-part : (v rest : List ℕ) (rs : RowsOf K) → NoSlash v → go true rs (v ++ 47 ∷ rest) ≡ go false (step 47 rs) rest
   inside-part [] rest rs n = refl

@@ -3,7 +3,7 @@ ghost use Rattle.std.specs.Prelude.{◌≡◌, ℕ, List, map, Option, Result, I
 ghost use Rattle.serde_json.specs.Data.{Data};
 ghost use Rattle.serde_json.specs.View.{view};
 ghost use Rattle.clear_routes.specs.Faults.{Part, Gives, GivesSeen};
-ghost use Rattle.clear_routes.specs.Object.{document, body_of, also, done};
+ghost use Rattle.clear_routes.specs.Object.{document, body_of};
 
 use crate::faults::{BodyFault, Member, wanted};
 use crate::further::check_only;

@@ -1,14 +1,13 @@
 //! The parameters that stand in a target.
-ghost use Rattle.std.specs.Prelude.{◌≡◌, ◌≢◌, ℕ, List, IfSome, IfNone};
+ghost use Rattle.std.specs.Prelude.{◌≡◌, ◌≢◌, ◌≤◌, ℕ, List, IfSome, IfNone};
 ghost use Rattle.std.specs.Fmt.{decimal};
-ghost use Rattle.clear_money.specs.Numbers.{IsEmployerNo, IsWorkerNo};
-ghost use Rattle.clear_book.specs.Numbers.{IsClaimNo, IsListNo, IsRunNo};
 ghost use Rattle.clear_routes.specs.Kinds.{IsOfKind, AreOfKinds, kinds_in, spelling, spellings};
 ghost use Rattle.clear_routes.specs.Kinds.{with_value, parameters, least};
 ghost use Rattle.clear_routes.specs.Raw.{texts_in};
 
 use crate::kinds::{Kind, Kinds};
 use crate::paths::Texts;
+use clear_book::limits::MAX_ENTRIES;
 use clear_book::numbers::{ClaimNo, ListNo, RunNo};
 use clear_money::months::Month;
 use clear_money::numbers::{EmployerNo, WorkerNo, read_number};
@@ -57,39 +56,27 @@ impl Parameters {
     {
         match kind {
             Kind::Employer => {
-                let Some(employer) = employer_in(text) else {
-                    return None;
-                };
+                let employer = EmployerNo::new(number_in(text, EmployerNo::MAX)?)?;
                 Some(Parameters { employer, ..self })
             }
             Kind::Month => {
-                let Some(month) = month_in(text) else {
-                    return None;
-                };
+                let month = month_in(text)?;
                 Some(Parameters { month, ..self })
             }
             Kind::Claim => {
-                let Some(claim) = claim_in(text) else {
-                    return None;
-                };
+                let claim = ClaimNo::new(number_in(text, MAX_ENTRIES)?)?;
                 Some(Parameters { claim, ..self })
             }
             Kind::Worker => {
-                let Some(worker) = worker_in(text) else {
-                    return None;
-                };
+                let worker = WorkerNo::new(number_in(text, WorkerNo::MAX)?)?;
                 Some(Parameters { worker, ..self })
             }
             Kind::List => {
-                let Some(list) = list_in(text) else {
-                    return None;
-                };
+                let list = ListNo::new(number_in(text, MAX_ENTRIES)?)?;
                 Some(Parameters { list, ..self })
             }
             Kind::Run => {
-                let Some(run) = run_in(text) else {
-                    return None;
-                };
+                let run = RunNo::new(number_in(text, MAX_ENTRIES)?)?;
                 Some(Parameters { run, ..self })
             }
         }
@@ -126,15 +113,18 @@ pub(crate) fn parameters_in(kinds: Kinds, texts: Texts<'_>) -> Option<Parameters
     }
 }
 
-/// The firm with this number.
-fn employer_in(text: &str) -> Option<EmployerNo>
-    ensures found { IfSome result (λ n. IsEmployerNo n × (decimal n ≡ text.now)) }
-    ensures only { IfNone result ((n : ℕ) → IsEmployerNo n → decimal n ≢ text.now) }
+/// The number from 1 to `most` that the text spells.
+fn number_in(text: &str, most: u64) -> Option<u64>
+    ensures found { IfSome result (λ n. (1 ≤ n) × (n ≤ most) × (decimal n ≡ text.now)) }
+    ensures only { IfNone result ((n : ℕ) → 1 ≤ n → n ≤ most → decimal n ≢ text.now) }
 {
     let Some(number) = read_number(text.as_bytes()) else {
         return None;
     };
-    EmployerNo::new(number)
+    if number < 1 || number > most {
+        return None;
+    }
+    Some(number)
 }
 
 /// The month that is written so.
@@ -145,48 +135,4 @@ fn month_in(text: &str) -> Option<Month>
         → spelling Kind.Month n ≢ text.now) }
 {
     Month::read(text.as_bytes())
-}
-
-/// The claim with this number.
-fn claim_in(text: &str) -> Option<ClaimNo>
-    ensures found { IfSome result (λ n. IsClaimNo n × (decimal n ≡ text.now)) }
-    ensures only { IfNone result ((n : ℕ) → IsClaimNo n → decimal n ≢ text.now) }
-{
-    let Some(number) = read_number(text.as_bytes()) else {
-        return None;
-    };
-    ClaimNo::new(number)
-}
-
-/// The worker with this number.
-fn worker_in(text: &str) -> Option<WorkerNo>
-    ensures found { IfSome result (λ n. IsWorkerNo n × (decimal n ≡ text.now)) }
-    ensures only { IfNone result ((n : ℕ) → IsWorkerNo n → decimal n ≢ text.now) }
-{
-    let Some(number) = read_number(text.as_bytes()) else {
-        return None;
-    };
-    WorkerNo::new(number)
-}
-
-/// The payout list with this number.
-fn list_in(text: &str) -> Option<ListNo>
-    ensures found { IfSome result (λ n. IsListNo n × (decimal n ≡ text.now)) }
-    ensures only { IfNone result ((n : ℕ) → IsListNo n → decimal n ≢ text.now) }
-{
-    let Some(number) = read_number(text.as_bytes()) else {
-        return None;
-    };
-    ListNo::new(number)
-}
-
-/// The reminder run with this number.
-fn run_in(text: &str) -> Option<RunNo>
-    ensures found { IfSome result (λ n. IsRunNo n × (decimal n ≡ text.now)) }
-    ensures only { IfNone result ((n : ℕ) → IsRunNo n → decimal n ≢ text.now) }
-{
-    let Some(number) = read_number(text.as_bytes()) else {
-        return None;
-    };
-    RunNo::new(number)
 }

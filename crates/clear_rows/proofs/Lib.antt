@@ -6,5 +6,4 @@ pub mod LayoutLemmas
 pub mod Queries
 pub mod Refused
 pub mod Reopened
-pub mod RowsSoFar
 pub mod Statements

@@ -276,7 +276,7 @@ module _ {Y : Type 0} (key : Y → ℤ) (to_row : Y → Row) (keyed : (y : Y) �
   number_held schema y unguarded (inl taken) = sym (ap (λ rows. is_taken rows (to_row y)) kept.is ∙ taken_is key to_row keyed db table ys kept ys y) ∙ taken
   number_held schema y unguarded (inr (other, known, (i, listed, on, agreed))) = absurd (both_ways _ unguarded (some_from (λ (i : Index). guards i table) schema.indexes i listed on))
 
-has_mapped : {X Z : Type 0} (f : X → Z) (xs : List X) (z : Z) → Has (map f xs) z → (x : X) × Has xs x × (z ≡ f x)
+pub has_mapped : {X Z : Type 0} (f : X → Z) (xs : List X) (z : Z) → Has (map f xs) z → (x : X) × Has xs x × (z ≡ f x)
 has_mapped f [] z h = absurd h
 has_mapped f (x ∷ xs) z (inl same) = (x, inl refl, same)
 has_mapped f (x ∷ xs) z (inr later) = let found = has_mapped f xs z later in (found.0, inr found.1, found.2)

@@ -6,7 +6,7 @@ pub mod claim;
 pub mod correct;
 pub mod end;
 pub mod import;
-pub mod lines;
+mod lines;
 pub mod payout;
 pub mod register;
 pub mod release;

@@ -3,9 +3,10 @@
 //! A decision is handed a view of the records that it needs. Where the view is that of a lawful
 //! book, its answer is the judge's and its change takes the tables of the book to those of the next
 //! one, so an office only has to fill views and to put changes. `gate` has the checks that come
-//! before any own rule. A decision may always answer that there is no memory, so a body that
-//! answers nothing else meets its contract too; that a decision with memory at hand succeeds is
-//! shown by tests.
+//! before any own rule. A bank file, a registration, a report, a correction, a payout list and a
+//! reminder run may always be answered `Memory`, so a body that answers nothing else meets these
+//! contracts too; that they succeed with memory at hand is shown by tests. No other decision answers
+//! it.
 #![tactic(auto)]
 
 pub mod decide;

@@ -1,7 +1,6 @@
-//! The sample that the programs serve: its rates, its day, and a desk over a store in memory.
+//! The sample's rates, and an office over a new store in memory, which lies on files in memory.
 #![tactic(auto)]
 
-pub mod desk;
 pub mod memory;
 pub mod memory_file;
 pub mod samples;

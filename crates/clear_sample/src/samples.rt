@@ -1,9 +1,7 @@
-//! The rates of the sample, and its day.
-ghost use Rattle.std.specs.Prelude.{◌≡◌, ◌+◌, ◌*◌, ◌≤◌, codes, IfOk, IfSome};
-ghost use Rattle.clear_money.specs.Texts.{day_text};
+//! The rates of the sample.
+ghost use Rattle.std.specs.Prelude.{◌≡◌, ◌+◌, ◌*◌, ◌≤◌, IfOk};
 ghost use Rattle.clear_sample.specs.Samples.{sample_rates};
 
-use clear_money::days::Day;
 use clear_money::months::Month;
 use clear_money::rates::{PushFault, RateRow, RateTable};
 use std::alloc::{AllocError, Global};
@@ -18,13 +16,6 @@ pub fn sample_rates(alloc: Global) -> Result<RateTable, AllocError>
         Err(PushFault::Memory) => Err(AllocError),
         Err(PushFault::RateOrder) => unreachable!(),
     }
-}
-
-/// The day on which the sample is served, 2024-04-30.
-pub fn sample_day() -> Option<Day>
-    ensures { IfSome result (λ day. day_text day ≡ codes "2024-04-30") }
-{
-    Day::read(b"2024-04-30")
 }
 
 // A month of a year.

@@ -1,23 +1,17 @@
 //! A store: a connection on a database that has the office's tables.
-ghost use Rattle.std.specs.Borrow.{sem};
-ghost use Rattle.std.specs.Prelude.{◌≡◌, ◌≢◌, ◌⊎◌, false, ℕ, IsTrue, IfOk, IfErr, OnOk};
-ghost use Rattle.std.specs.Prelude.{OnErr};
-ghost use Rattle.sqlite.specs.Effect.{Database};
+ghost use Rattle.std.specs.Prelude.{◌≡◌, ◌≢◌, false, ℕ, IsTrue, IfOk, IfErr, OnOk};
 ghost use Rattle.sqlite.specs.Held.{state};
 ghost use Rattle.sqlite.specs.State.{HasCleanDisk, Survives};
 ghost use Rattle.sqlite.specs.Tree.{Trees};
-ghost use Rattle.clear_rows.specs.Stands.{Stands};
 ghost use Rattle.clear_values.specs.Tables.{Tables};
 ghost use Rattle.clear_schema.specs.Faults.{IsOfDisk, IsWrong, other_layout};
 ghost use Rattle.clear_schema.specs.First.{first_tables};
 ghost use Rattle.clear_schema.specs.Held.{HasTables, StandsFor, StandsOtherwise, TellsAs};
 ghost use Rattle.clear_schema.specs.Held.{TellsSchema, this_schema};
-ghost use Rattle.clear_schema.specs.Lending.{lends_connection};
 ghost use Rattle.clear_schema.specs.Opening.{TellsOrIsEmpty};
 ghost use Rattle.clear_schema.specs.Schema.{no_schema, store_schema};
 ghost use Rattle.clear_schema.specs.Still.{IsStill};
 
-use crate::body::{Body, Stop, confirm, within};
 use crate::create::create_in;
 use crate::fault::{Fault, OpenFault};
 use crate::open::open_tables;
@@ -157,83 +151,6 @@ impl<S: Alter> Store<S> {
             Ok(()) => Ok(Store { conn: connection }),
             Err(fault) => Err(Refusal { fault, connection }),
         }
-    }
-
-    /// Runs the body in a transaction, and answers once that is committed.
-    pub fn within<B: Body>(&mut self, body: B) -> Result<B::Out, Stop<B::Refusal>>
-        requires { self.old.conn.in_transaction ≡ false }
-        ensures mode { self.new.conn.in_transaction ≡ false }
-        ensures clean { HasCleanDisk (state S.Store self.new.conn)
-            → HasCleanDisk (state S.Store self.old.conn) }
-        ensures done { HasCleanDisk (state S.Store self.new.conn)
-            → (t : Tables) → HasTables t (state S.Store self.old.conn).now
-            → IfOk result (λ out. (u : Tables) × B.does body t u out
-            × HasTables u (state S.Store self.new.conn).now
-            × HasTables u (state S.Store self.new.conn).committed
-            × ((trees : Trees) → (state S.Store self.new.conn).may_leave trees
-            → StandsFor u trees)) }
-        ensures refused { HasCleanDisk (state S.Store self.new.conn)
-            → (t : Tables) → HasTables t (state S.Store self.old.conn).now
-            → IfErr result (λ stop. (why : _) → stop ≡ Stop.Refused why → B.refuses body t why
-            × Survives (state S.Store self.old.conn) (state S.Store self.new.conn) (λ _. ⊥)) }
-        ensures failed { HasCleanDisk (state S.Store self.new.conn)
-            → (t : Tables) → HasTables t (state S.Store self.old.conn).now
-            → IfErr result (λ stop. (fault : _) → stop ≡ Stop.Fault fault
-            → B.fails body t fault ⊎ IsOfDisk fault) }
-        ensures open { HasCleanDisk (state S.Store self.new.conn)
-            → OnOk result (IsTrue (state S.Store self.new.conn).is_open) }
-        ensures stays { HasCleanDisk (state S.Store self.new.conn)
-            → (t : Tables) → HasTables t (state S.Store self.old.conn).now
-            → IsTrue (state S.Store self.new.conn).is_open
-            → OnErr result (
-            ((state S.Store self.new.conn).now ≡ (state S.Store self.old.conn).committed)
-            × ((state S.Store self.new.conn).committed ≡ (state S.Store self.old.conn).committed)) }
-        ensures was_open { HasCleanDisk (state S.Store self.new.conn)
-            → (t : Tables) → HasTables t (state S.Store self.old.conn).now
-            → IsTrue (state S.Store self.new.conn).is_open
-            → OnErr result (IsTrue (state S.Store self.old.conn).is_open) }
-        ensures crash { (t : Tables) → HasTables t (state S.Store self.old.conn).now
-            → Survives (state S.Store self.old.conn) (state S.Store self.new.conn)
-            (Stands (λ (db : Database).
-            (u : Tables) × (out : B.Out) × B.does body t u out × HasTables u db)) }
-    {
-        within(&mut self.conn, body)
-    }
-
-    /// Confirms that the store still stands, by asking for nothing: that takes no memory once the
-    /// connection has been asked so before.
-    ///
-    /// A rollback doesn't tell whether a fault of the disk has shut the store. After `Ok` it is open,
-    /// and a crash leaves the tables that it has, and no other. After any answer a crash leaves no
-    /// more than before, and while the store is open it has the tables that it had.
-    pub fn confirm(&mut self) -> Result<(), Fault>
-        requires { self.old.conn.in_transaction ≡ false }
-        ensures mode { self.new.conn.in_transaction ≡ false }
-        ensures open { HasCleanDisk (state S.Store self.new.conn)
-            → OnOk result (IsTrue (state S.Store self.new.conn).is_open) }
-        ensures still { HasCleanDisk (state S.Store self.new.conn)
-            → IsTrue (state S.Store self.new.conn).is_open
-            → IsStill (state S.Store self.old.conn) (state S.Store self.new.conn) }
-        ensures kept { HasCleanDisk (state S.Store self.new.conn)
-            → (t : Tables) → HasTables t (state S.Store self.old.conn).now
-            → OnOk result (HasTables t (state S.Store self.new.conn).now
-            × HasTables t (state S.Store self.new.conn).committed
-            × ((trees : Trees) → (state S.Store self.new.conn).may_leave trees
-            → StandsFor t trees)) }
-        ensures clean { HasCleanDisk (state S.Store self.new.conn)
-            → HasCleanDisk (state S.Store self.old.conn) }
-        ensures survives { Survives (state S.Store self.old.conn) (state S.Store self.new.conn)
-            (λ _. ⊥) }
-    {
-        confirm(&mut self.conn)
-    }
-
-    /// The connection, outside of a transaction.
-    pub fn connection(&mut self) -> &mut Connection<S>
-        ensures* lends { sem 𝓛 (lends_connection S.row S.Store self.entry result) }
-        ensures value { result.now ≡ self.old.conn }
-    {
-        &mut self.conn
     }
 
     /// The connection alone.

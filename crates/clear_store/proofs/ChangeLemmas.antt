@@ -98,4 +98,11 @@ countable_after next before day taken is room =
     let entries_are : next.entries ≡ before.entries + 1 = ap (λ (c : Counts). c.entries) is in
     let serial_is : next.serial ≡ before.serial + taken.serials = ap (λ (c : Counts). c.serial) is in
     let claims_are : next.claims ≡ before.claims + taken.claims = ap (λ (c : Counts). c.claims) is in
-    (omega (arith, entries_are, room.0), omega (arith, serial_is, room.1), omega (arith, claims_are, room.2))
+    let lists_are : next.lists ≡ before.lists + taken.lists = ap (λ (c : Counts). c.lists) is in
+    let runs_are : next.runs ≡ before.runs + taken.runs = ap (λ (c : Counts). c.runs) is in (
+      omega (arith, entries_are, room.0),
+      omega (arith, serial_is, room.1),
+      omega (arith, claims_are, room.2),
+      omega (arith, lists_are, room.3),
+      omega (arith, runs_are, room.4),
+    )

@@ -24,11 +24,10 @@ use std::alloc::Global;
 /// Puts a change into the tables, and notes the day of its request and one entry more. `counts` are
 /// those that stand.
 ///
-/// A key that is not free is refused with `Fault::Store(StoreCause::Constraint)`; a number of a row
-/// that is out of its range, as that of a list or run above 50,000,000 is, more than 50,000,000
-/// entries or claims, and more than 500,000,000,000 serials are refused with
-/// `Fault::Store(StoreCause::Row)`. After an error a part of the change may be done: the
-/// transaction is to be rolled back.
+/// `Fault::Store(StoreCause::Constraint)` comes only where a key is not free, and
+/// `Fault::Store(StoreCause::Row)` only where a number of a row is out of its range, or more than
+/// 50,000,000 entries, claims, lists or runs, or 500,000,000,000 serials, would be counted. After an
+/// error a part of the change may be done: the transaction is to be rolled back.
 pub fn put_change<S: Alter>(
     alloc: Global,
     tx: &mut Transaction<'_, S>,

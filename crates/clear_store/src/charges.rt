@@ -7,7 +7,6 @@ ghost use Rattle.clear_values.specs.Tables.{charge_key};
 ghost use Rattle.clear_store.specs.Changes.{Puts};
 
 use clear_firms::charges::settle_charge;
-pub use clear_firms::charges::{charges_of, find_charge};
 use clear_schema::fault::Fault;
 use clear_values::rows::KeptCharge;
 use sqlite::{Alter, Transaction};
@@ -15,9 +14,9 @@ use sqlite::{Alter, Transaction};
 /// Writes contributions in the places of those of their months, with what is open of them and their
 /// weights as they are now. Where none is kept of a month, nothing is written for it.
 ///
-/// One of which the cents or what is open are above 5,000,000,000 cents, or the weight above
-/// 12,060,000,000,000 cents, is refused with `Fault::Store(StoreCause::Row)`. After an error a part of
-/// the change may be done: the transaction is to be rolled back.
+/// `Fault::Store(StoreCause::Row)` comes only where the cents or what is open of one are above
+/// 5,000,000,000 cents, or its weight is above 12,060,000,000,000 cents. After an error a part of the
+/// change may be done: the transaction is to be rolled back.
 pub fn settle_charges<S: Alter>(
     tx: &mut Transaction<'_, S>,
     rows: &[KeptCharge],

@@ -18,4 +18,4 @@ mod suspense;
 
 pub use clear_firms::{counts, employers, rates, reports, wages};
 pub use clear_ledger::{bank, credits, requests};
-pub use clear_schema::{body, fault, files, store};
+pub use clear_schema::{fault, store};

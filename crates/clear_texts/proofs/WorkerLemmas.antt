@@ -19,11 +19,11 @@ use Rattle.clear_texts.specs.Records.{AreWorkerRecords}
 
 -- ---- claims
 
-abbrev stands : ClaimRow → Bool
+abbrev pub stands : ClaimRow → Bool
 stands claim = not (is_withdrawn claim.state)
 
 -- those of a worker that aren't withdrawn
-both : (w : ℕ) (claims : List ClaimRow) → filter stands (filter (λ claim. claim.worker == w) claims) ≡ filter (λ claim. (claim.worker == w) && stands claim) claims
+pub both : (w : ℕ) (claims : List ClaimRow) → filter stands (filter (λ claim. claim.worker == w) claims) ≡ filter (λ claim. (claim.worker == w) && stands claim) claims
 both w [] = refl
 both w (claim ∷ claims) = told (claim.worker == w) (stands claim) refl (both w claims)
   where
@@ -39,7 +39,7 @@ both w (claim ∷ claims) = told (claim.worker == w) (stands claim) refl (both w
     told false q is rest = rest
 
 -- claims, each counted unless it is withdrawn, sum to those that aren't
-counted : (claims : List ClaimRow) → sum_by (λ (claim : ClaimRow). cond (is_withdrawn claim.state) 0 claim.cents) claims ≡ sum_by (λ (claim : ClaimRow). claim.cents) (filter stands claims)
+pub counted : (claims : List ClaimRow) → sum_by (λ (claim : ClaimRow). cond (is_withdrawn claim.state) 0 claim.cents) claims ≡ sum_by (λ (claim : ClaimRow). claim.cents) (filter stands claims)
 counted [] = refl
 counted (claim ∷ claims) = told (is_withdrawn claim.state) refl (counted claims)
   where

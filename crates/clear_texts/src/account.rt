@@ -19,8 +19,9 @@ use clear_money::numbers::WorkerNo;
 use clear_money::rates::RateTable;
 use std::alloc::Global;
 
-/// What is told of a worker on a day. Amounts whose sum is not below 2^64 cents are refused with
-/// `StoreCause::Row`, and so is a gross amount that no line has.
+/// What is told of a worker on a day. Refused with `StoreCause::Row` are amounts whose sum is 2^64
+/// cents or more, and a line whose gross amount times its entitlement rate, in hundredths of a
+/// percent, is as much.
 pub(crate) fn worker_account(
     alloc: Global,
     worker: WorkerNo,
@@ -70,7 +71,8 @@ fn earned_lines(
     Ok(lines)
 }
 
-// What a wage row earns. None of a gross amount that no line has.
+// What a wage row earns. None where its gross amount times its entitlement rate, in hundredths of a
+// percent, is 2^64 or more.
 fn earned_line(rates: &RateTable, row: &WageRow) -> Option<EarnedLine>
     ensures value { IfSome result (λ line. line ≡ earned_told rates.now row.now) }
     ensures some { row.now.gross ≤ most_gross → IsSome result }

@@ -11,8 +11,9 @@ use clear_money::days::Day;
 use clear_money::rates::RateTable;
 
 /// The interest of all charges up to a day that no payment comes after, less all credits for
-/// interest, at least 0, in cents. None of credits whose sum those of an account don't reach. It
-/// takes a search for a rate for each charge, and one step for each credit.
+/// interest, at least 0, in cents. None where the credits before one already come to more than
+/// 10,000,000,000,000,000 cents, as those of an account never do. It takes a walk along the rates,
+/// from the newest on, for each charge, and one step for each credit.
 pub fn interest_arrears(
     rates: &RateTable,
     charges: &WeighedCharges,
@@ -29,7 +30,8 @@ pub fn interest_arrears(
     }
 }
 
-/// The sum of credits, in cents. None of a sum that the credits of an account don't reach.
+/// The sum of credits, in cents. None where the credits before one already come to more than
+/// 10,000,000,000,000,000 cents, as those of an account never do.
 pub fn add_credits(credits: &[CreditRow]) -> Option<u64>
     ensures some { length credits.now ≤ most_credits → IsSome result }
     ensures value { IfSome result (λ sum. sum ≡ credited (map row_credit credits.now)) }

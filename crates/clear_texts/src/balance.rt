@@ -9,8 +9,8 @@ ghost use Rattle.clear_book.specs.Workers.{entitlement_for, is_withdrawn};
 use clear_book::rows::{ClaimRow, ClaimState, WageRow};
 use clear_money::rates::RateTable;
 
-/// What is earned with these lines, in cents. None of a sum from 2^64 on, and of a gross amount
-/// that no line has.
+/// What is earned with these lines, in cents. None where the sum is 2^64 or more, or the gross
+/// amount of a line times its entitlement rate, in hundredths of a percent.
 pub fn earned_cents(rates: &RateTable, rows: &[WageRow]) -> Option<u64>
     ensures value { IfSome result (λ sum. sum
         ≡ sum_by (λ row. entitlement_for (rate_in_force rates.now row.month) row.gross) rows.now) }
@@ -25,7 +25,8 @@ pub fn earned_cents(rates: &RateTable, rows: &[WageRow]) -> Option<u64>
     Some(sum)
 }
 
-/// What is earned with a line, in cents. None of a gross amount that no line has.
+/// What is earned with a line, in cents. None where its gross amount times its entitlement rate, in
+/// hundredths of a percent, is 2^64 or more.
 pub(crate) fn entitlement(rates: &RateTable, row: &WageRow) -> Option<u64>
     ensures value { IfSome result (λ cents. cents
         ≡ entitlement_for (rate_in_force rates.now row.now.month) row.now.gross) }

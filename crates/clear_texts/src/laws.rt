@@ -2,8 +2,6 @@
 //! contract is the law.
 ghost use Rattle.std.specs.Prelude.{◌≡◌, ◌==◌, ℕ, List, filter};
 ghost use Rattle.std.specs.List.{flat_map};
-ghost use Rattle.clear_book.specs.declared.documents.FirmAccount.{FirmAccount};
-ghost use Rattle.clear_book.specs.declared.documents.Payment.{Payment};
 ghost use Rattle.clear_book.specs.Documents.Statement.{Statement, PaidCharge, charge_text};
 ghost use Rattle.clear_book.specs.Documents.Statement.{statement_text};
 ghost use Rattle.clear_book.specs.Allocated.{Represents};

@@ -22,7 +22,7 @@ pub(crate) trait LineRow {
 }
 
 /// Appends the lines of all rows that the source gives up to its end, and tells how many they are.
-/// More than 2^64 - 1 find no memory. An `Err` may leave a part.
+/// 2^64 - 1 or more find no memory. An `Err` may leave a part.
 pub(crate) fn append_lines<T: LineRow + Drop, R: RowSource<Row = T>>(
     text: &mut String,
     rows: &mut R,

@@ -1,6 +1,6 @@
 //! The lines of documents. Each ends with LF. An `Err` of these functions may leave a part of a
 //! line.
-ghost use Rattle.std.specs.Prelude.{◌≡◌, ◌++◌, IfOk, codes, string_bytes};
+ghost use Rattle.std.specs.Prelude.{◌≡◌, ◌++◌, IfOk, string_bytes};
 ghost use Rattle.std.specs.Fmt.{decimal};
 ghost use Rattle.std.specs.Str.{IsAscii};
 ghost use Rattle.clear_money.specs.Texts.{day_text, month_text};

@@ -13,8 +13,9 @@ use clear_money::rates::RateTable;
 use std::alloc::{AllocError, Global};
 
 /// The months of a membership without a charge, which are those without a report, whose report was
-/// to be in before the day, rising. It takes a step for each month that there is, and for each that
-/// is overdue a search among the charges.
+/// to be in before the day, rising. It takes a step for each month that there is, for each member
+/// month a walk along the rates, from the newest on, and for each that is overdue a search among the
+/// charges.
 pub fn missing_months(
     alloc: Global,
     member: &EmployerRow,

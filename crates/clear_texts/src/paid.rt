@@ -20,7 +20,8 @@ use std::mem;
 /// Appends the statement of a firm, whose charges are paid by the pieces that the source gives up to
 /// its end: each piece stands under the charge of its month. It reads one piece ahead. It is refused
 /// for want of memory, for what the source tells, and, with `RowFault::Store(StoreCause::Row)`, for a
-/// piece that stands under none of the charges, and for more rows than an account has.
+/// piece that stands under none of the charges, and for more rows than an account has. A refusal may
+/// leave a part of the text.
 pub fn statement_text<R: RowSource<Row = PieceRow>>(
     head: &StatementHead,
     pieces: &mut R,

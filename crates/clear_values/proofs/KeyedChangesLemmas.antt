@@ -1,6 +1,5 @@
 -- Rows taken out and put in place, and what holds of each row.
-use Rattle.std.proofs.Common.{◌≡◌, ℕ, ◌+◌, List, [], ◌∷◌, length, Option, Some, None, Bool, true, false, cond, not, sum_by, refl, sym, ap, ◌∙◌, subst, arith}
-use Rattle.std.proofs.lemmas.List.Sums.{sum_by-cons}
+use Rattle.std.proofs.Common.{◌≡◌, ℕ, ◌+◌, List, [], ◌∷◌, length, Option, Some, None, Bool, true, false, cond, not, refl, sym, ap, ◌∙◌, subst, arith}
 use Rattle.std.specs.List.{AllByRecursion}
 use Rattle.clear_values.specs.Keyed.{is_key, is_before, find_row, AllBehind, AreInOrder, with_row, with_rows, in_key_order, without_rows, put_row}
 use Rattle.clear_values.proofs.KeyedLemmas.{is_key-refl, is_key-true, is_key-sym, before_is_other, other_row, found_key, none_behind, find_row-with_row, length-with_row, AreInOrder-with_row}
@@ -86,22 +85,6 @@ module _ {Row : Type 0} (key : Row → List ℕ) where
       told false is f rest =
           let fewer : length rest_of + 1 ≡ length rows = rest f in
           omega (arith, fewer)
-
-  -- the sum over the rows that stay
-  pub sum_by-without_rows : (f : Row → ℕ) (test : List ℕ → Bool) (rows : List Row) → sum_by f (without_rows key test rows) ≡ sum_by (λ row. cond (test (key row)) 0 (f row)) rows
-  sum_by-without_rows f test [] = refl
-  sum_by-without_rows f test (row ∷ rows) =
-      told (test (key row)) (sum_by-without_rows f test rows) ∙ sym (sum_by-cons left row rows)
-    where
-      left : Row → ℕ
-      left r = cond (test (key r)) 0 (f r)
-
-      rest_of : List Row
-      rest_of = without_rows key test rows
-
-      told : (out : Bool) → sum_by f rest_of ≡ sum_by left rows → sum_by f (cond (not out) (row ∷ rest_of) rest_of) ≡ cond out 0 (f row) + sum_by left rows
-      told true rest = omega (arith, rest)
-      told false rest = sum_by-cons f row rest_of ∙ ap (λ n. f row + n) rest
 
   -- ---- a row put in place
 

@@ -145,7 +145,7 @@ pub record IsRequestRow (row : RequestRow) : Type 0 where
   pub day : IsDay row.day
   pub reply : IsReply row.reply
 
--- each row of the tables is in its ranges, and so are the numbers beside them
+-- each row of the tables, the pieces aside, is in its ranges, and so are the numbers beside them
 pub record AreInRange (t : Tables) : Type 0 where
   pub rates : AreRates t.rates
   pub employers : AllByRecursion IsEmployerRow t.employers

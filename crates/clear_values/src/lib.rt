@@ -2,7 +2,7 @@
 //!
 //! Whatever keeps rows stands on this crate alone and knows nothing of the book. `specs/` says which
 //! values each may hold, what the key of a row is, and what a decision changes in the tables;
-//! `limits` is the one table of all limits.
+//! `limits` has the limits on a book, a request and an account.
 #![tactic(auto)]
 
 pub mod callers;

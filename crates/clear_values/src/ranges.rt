@@ -1,6 +1,5 @@
 //! Values lie in their ranges, since each is of a type that holds no others. These functions have no
 //! effect: a proof reads from them what the types say.
-ghost use Rattle.std.specs.Prelude.{◌≡◌};
 ghost use Rattle.std.specs.List.{AllByRecursion};
 ghost use Rattle.clear_money.specs.Rates.{IsRate};
 ghost use Rattle.clear_values.specs.Ranges.{AreRates, IsCaller};
@@ -31,12 +30,12 @@ fn rows_in_range(rows: &[RateRow])
     ensures { AllByRecursion IsRate rows.now }
 {
     for row in rows {
-        row_in_range(row);
+        rate_in_range(row);
     }
 }
 
-// And of one row.
-fn row_in_range(row: &RateRow)
+/// The values of a row of rates lie in their ranges.
+pub fn rate_in_range(row: &RateRow)
     ensures { IsRate row.now }
 {
     let _first = row.first().number();

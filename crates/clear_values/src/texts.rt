@@ -1,8 +1,5 @@
 //! Names, the wage lines of a report, references and notes of bank lines, and references of credits.
-ghost use Rattle.std.specs.Prelude.{◌≡◌, ℕ, ◌↔◌, IsTrue, IfOk, IfSome, IsSome, nat_eq, string_bytes};
-ghost use Rattle.std.specs.Prelude.{true};
-ghost use Rattle.std.specs.Cmp.{partial_equiv_from_equiv};
-ghost use Rattle.std.specs.Cmp.Lexicographic.{nat_list_eq_equiv, pointwise};
+ghost use Rattle.std.specs.Prelude.{◌≡◌, ℕ, ◌↔◌, IsTrue, IfOk, IfSome, IsSome, string_bytes, true};
 ghost use Rattle.std.specs.Str.{is_utf8};
 ghost use Rattle.clear_values.specs.Numbers.{IsClaimNo};
 ghost use Rattle.clear_values.specs.Texts.{IsCreditReference, IsName, IsSetOff, is_note};
@@ -132,20 +129,6 @@ impl Model for Reference {
     ghost invariant = { λ a. IsTrue (is_reference (string_bytes a.code)) };
 }
 
-impl PartialEq for Reference {
-    ghost eq = { pointwise nat_eq };
-
-    ghost laws = { partial_equiv_from_equiv nat_list_eq_equiv };
-
-    fn eq(&self, other: &Reference) -> bool {
-        self.as_str() == other.as_str()
-    }
-}
-
-impl Eq for Reference {
-    ghost laws = { nat_list_eq_equiv };
-}
-
 impl Reference {
     /// The longest reference in bytes.
     pub const MAX: usize = 35;
@@ -175,8 +158,8 @@ impl Reference {
         Some(Reference { code: text })
     }
 
-    /// Whether the bytes are a reference.
-    pub fn is_one(bytes: &[u8]) -> bool
+    // Whether the bytes are a reference.
+    fn is_one(bytes: &[u8]) -> bool
         ensures { result ≡ is_reference bytes.now }
     {
         reference_text(bytes).is_some()
@@ -218,20 +201,6 @@ impl Model for Note {
     ghost view = { λ a. string_bytes a.text };
 
     ghost invariant = { λ a. IsTrue (is_note (string_bytes a.text)) };
-}
-
-impl PartialEq for Note {
-    ghost eq = { pointwise nat_eq };
-
-    ghost laws = { partial_equiv_from_equiv nat_list_eq_equiv };
-
-    fn eq(&self, other: &Note) -> bool {
-        self.as_str() == other.as_str()
-    }
-}
-
-impl Eq for Note {
-    ghost laws = { nat_list_eq_equiv };
 }
 
 impl Note {

@@ -7,6 +7,7 @@ use Rattle.std.specs.Option.{option_map, option_map_or}
 use Rattle.std.specs.Ordering.{nat_cmp, is_eq}
 use Rattle.std.specs.Prelude.{IfSome}
 use Rattle.clear_bank.specs.declared.lines.BankLine.{BankLine}
+use Rattle.clear_bank.proofs.LengthLemmas.{filter_map-few}
 use Rattle.clear_laws.proofs.DistinctLemmas.{itself, same_worker}
 use Rattle.clear_laws.proofs.KeyedRowsLemmas.{AreOnce-append}
 use Rattle.clear_book.specs.Keyed.{AreOnce, find_row}
@@ -145,21 +146,13 @@ one_of P e (n ∷ firms) all among = told (n == e) refl among (one_of P e firms 
     told true same among rest = subst P (same_worker n e same) all.0
     told false same among rest = rest among
 
-few_some : {X Y : Type 0} (f : X → Option Y) (xs : List X) → length (filter_map f xs) ≤ length xs
-few_some f [] = omega arith
-few_some {Y = Y} f (x ∷ xs) = told (f x) (few_some f xs)
-  where
-    told : (o : Option Y) → length (filter_map f xs) ≤ length xs → length (cons_option o (filter_map f xs)) ≤ length (x ∷ xs)
-    told None few = omega (arith, few)
-    told (Some y) few = omega (arith, few)
-
 -- where something comes of as many as there are, it comes of each
 all_some : {X Y : Type 0} (f : X → Option Y) (xs : List X) → length (filter_map f xs) ≡ length xs → AllByRecursion (λ x. is_some (f x) ≡ true) xs
 all_some f [] as_many = tt
 all_some {Y = Y} f (x ∷ xs) as_many = told (f x) as_many (all_some f xs)
   where
     told : (o : Option Y) → length (cons_option o (filter_map f xs)) ≡ length (x ∷ xs) → (length (filter_map f xs) ≡ length xs → AllByRecursion (λ x. is_some (f x) ≡ true) xs) → (is_some o ≡ true) × AllByRecursion (λ x. is_some (f x) ≡ true) xs
-    told None as_many rest = absurd (omega (arith, as_many, few_some f xs))
+    told None as_many rest = absurd (omega (arith, as_many, filter_map-few f xs))
     told (Some y) as_many rest = (refl, rest (omega (arith, as_many)))
 
 module _ (t : Tables) (serving : Option ℕ) where

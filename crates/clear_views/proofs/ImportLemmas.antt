@@ -6,13 +6,12 @@ use Rattle.std.specs.Prelude.{⊤, Result, unwrap_or}
 use Rattle.sqlite.specs.Held.{Held}
 use Rattle.sqlite.specs.Store.{Ghosts}
 use Rattle.std.proofs.lemmas.Bool.{false≢true}
-use Rattle.std.proofs.lemmas.List.FromFn.{length-enumerate_from}
 use Rattle.std.proofs.lemmas.List.Sums.{count_by-le-length}
 use Rattle.std.specs.List.{AllByRecursion, enumerate_from, filter_map, list_all}
 use Rattle.std.specs.Option.{option_and_then, option_map, option_map_or}
 use Rattle.std.specs.Prelude.{IfSome}
 use Rattle.std.specs.Str.{bytes_eq}
-use Rattle.sqlite_keyed.proofs.ListLemmas.{all_weaker}
+use Rattle.sqlite_keyed.proofs.ListLemmas.{all-filter, all_weaker}
 use Rattle.sqlite_keyed.proofs.SliceLemmas.{is_some-map}
 use Rattle.clear_bank.specs.Newness.{is_new, line_under}
 use Rattle.clear_bank.specs.declared.lines.BankLine.{BankLine}
@@ -28,20 +27,18 @@ use Rattle.clear_book.specs.Keyed.{find_row, is_key}
 use Rattle.clear_book.specs.Limits.{most_credits, most_suspense}
 use Rattle.clear_book.specs.Lines.{credit_count, credits_after, credits_made, employer_of_line, lines_after, credits_of_lines, row_of_line, serial_count, is_in_suspense, lines_in, lines_of_rows, lines_seen, lines_standing, new_lines, suspense_count}
 use Rattle.clear_book.specs.Machine.{IsLawful}
-use Rattle.clear_book.specs.RowRanges.{AreInRange}
 use Rattle.clear_book.specs.Tables.{Stands, Tables, bank_key, employer_key}
 use Rattle.clear_book.specs.declared.rows.BankRow.{BankRow}
 use Rattle.clear_book.specs.declared.rows.EmployerRow.{EmployerRow}
-use Rattle.clear_firms.specs.Counts.{AreCounts}
+use Rattle.clear_rules.proofs.ImportBankLemmas.{new_count}
 use Rattle.clear_rules.specs.Views.ImportBank.{IsEmployerViewed, IsImportView, count_for, credit_count_viewed, employer_under, rows_of_file}
 use Rattle.clear_rules.specs.Views.Serves.{Serves, ServesAfter}
 use Rattle.clear_rules.specs.declared.decide.import.EmployerCredits.{EmployerCredits}
 use Rattle.clear_rules.specs.declared.decide.import.ImportView.{ImportView}
 use Rattle.clear_schema.specs.Frame.{LooksUp}
-use Rattle.clear_schema.specs.Values.{counts_of}
 use Rattle.clear_schema.specs.declared.fault.Fault.{Fault}
 use Rattle.clear_views.proofs.FoundLemmas.{each_found}
-use Rattle.clear_views.proofs.StillLemmas.{all_of_kept, reads_query}
+use Rattle.clear_views.proofs.StillLemmas.{reads_query}
 use Rattle.clear_views.proofs.ViewLemmas.{credits_counted}
 use Rattle.clear_views.specs.Imports.{AreNamed, IsImportRead, IsServing, IsSuspenseViewed, counted_firm, credits_viewed, firm_viewed, is_placed, line_found}
 use Rattle.clear_views.specs.Reads.{Reads}
@@ -65,14 +62,6 @@ pub reads_suspense : {S : Type 0} (g : Ghosts S) (old new : Held S) (r : Result 
     → Reads g ⊤ old new r (λ t n. IsSuspenseViewed t serials lines all n)
 reads_suspense g old new r serials lines all looks =
     reads_count g old new r (λ t. count_by is_in_suspense t.bank) looks (λ t n. IsSuspenseViewed t serials lines all n) (λ t n is. inl is)
-
--- the counts of tables in their ranges are in theirs
-pub counts_in_range : (t : Tables) → AreInRange t → AreCounts (counts_of t)
-counts_in_range t within =
-    let claim = within.last_claim in
-    let list = within.last_list in
-    let run = within.last_run in
-    record { day = within.day; entries = within.entries; serial = within.serial; claims = omega (arith, claim); lists = omega (arith, list); runs = omega (arith, run) }
 
 -- each line that names a firm that is registered is placed
 all_placed : (registered : List EmployerCredits) (lines : List BankLine) → AllByRecursion (λ line. IfSome line.employer (λ e. is_some (employer_under registered e) ≡ true)) lines → list_all (λ line. is_some line.employer) lines ≡ true
@@ -120,13 +109,9 @@ module _ (t : Tables) where
 
 -- ---- how many there are at most
 
-new_few : (known lines : List BankLine) → length (new_lines known lines) ≤ length lines
-new_few known lines =
-    omega (arith, length-filter (is_new known lines) (enumerate_from 0 lines), count_by-le-length (is_new known lines) (enumerate_from 0 lines), length-enumerate_from 0 lines)
-
 file_few : (b : Book) (file : List ℕ) → length (rows_of_file b file) ≤ length (lines_in file)
 file_few b file =
-    omega (arith, length-rows_from (λ e. is_some (member_of b.entries e)) (serial_count b.entries) (new_lines (lines_of_rows (lines_seen b.entries)) (lines_in file)), new_few (lines_of_rows (lines_seen b.entries)) (lines_in file))
+    omega (arith, length-rows_from (λ e. is_some (member_of b.entries e)) (serial_count b.entries) (new_lines (lines_of_rows (lines_seen b.entries)) (lines_in file)), new_count (lines_of_rows (lines_seen b.entries)) (lines_in file))
 
 -- lines of which each finds its firm bring none into suspense
 none_from : (is_registered : ℕ → Bool) (n : ℕ) (new : List (ℕ × BankLine)) → AllByRecursion (λ p. is_some (employer_of_line is_registered p.1) ≡ true) new → filter is_in_suspense (map (λ numbered. row_of_line is_registered numbered.1.1 numbered.0) (enumerate_from n new)) ≡ []
@@ -151,7 +136,7 @@ none_brought b file firms =
     sym (length-filter is_in_suspense (rows_of_file b file))
     ∙ ap length
     (none_from registered (serial_count b.entries + 1) (new_lines known (lines_in file))
-    (all_of_kept (λ (p : ℕ × BankLine). is_some (employer_of_line registered p.1) ≡ true) (is_new known (lines_in file)) (enumerate_from 0 (lines_in file)) (each_numbered (λ line. is_some (employer_of_line registered line) ≡ true) 0 (lines_in file) firms)))
+    (all-filter (λ (p : ℕ × BankLine). is_some (employer_of_line registered p.1) ≡ true) (is_new known (lines_in file)) (enumerate_from 0 (lines_in file)) (each_numbered (λ line. is_some (employer_of_line registered line) ≡ true) 0 (lines_in file) firms)))
 
 -- the serials serve for a count that is no more
 serials_serve : (serials more limit n count new : ℕ) → IsServing serials more limit n → count ≤ serials → new ≤ more → Serves n count new limit

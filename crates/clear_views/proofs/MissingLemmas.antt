@@ -3,6 +3,7 @@ use Rattle.std.proofs.Common.{◌≡◌, ℕ, ◌+◌, ◌<◌, List, [], ◌∷
 use Rattle.std.proofs.lemmas.List.FromFn.{get_or-map-range_with_len, length-map-range_with_len}
 use Rattle.std.specs.List.{AllByRecursion, AllPairs, find}
 use Rattle.std.specs.Option.{option_map}
+use Rattle.sqlite_trees.proofs.ListLemmas.{filter_same}
 use Rattle.clear_account.specs.declared.entries.Charge.{Charge}
 use Rattle.clear_account.specs.declared.entries.Credit.{Credit}
 use Rattle.clear_account.specs.Account.{charge_at}
@@ -39,10 +40,6 @@ rows_rise cs ks rise i j d less within =
     let two : (get_or (weighed_charges cs ks) j d).month ≡ (charge_at cs j).month = ap (λ (w : WeighedCharge). w.month) (get_or-map-range_with_len (weighed_charge cs ks) 0 (length cs) j j d within_charges (omega arith)) in
     omega (arith, one, two, rise i j (record { month = 0; due = 0; cents = 0 }) less within_charges)
 
-filter_alike : {X : Type 0} (p q : X → Bool) (xs : List X) → AllByRecursion (λ x. p x ≡ q x) xs → filter p xs ≡ filter q xs
-filter_alike p q [] alike = refl
-filter_alike p q (x ∷ xs) alike = (λ i. cond (alike.0 i) (x ∷ filter_alike p q xs alike.1 i) (filter_alike p q xs alike.1 i))
-
 module _ (b : Book) (e : ℕ) where
   of_month : (k q : ℕ) (c : Charge) → book_charge b e k ≡ Some c → (c.month == q) ≡ (k == q)
   of_month k q c is = told (latest_lines b.entries e k) is
@@ -68,6 +65,6 @@ module _ (b : Book) (e : ℕ) where
       → (day : ℕ) → filter (is_missing_in member rates charges day) months ≡ missing b e day
   missing_of_book member rates charges registered rated are day =
       (λ i. filter (λ m. is_member_month (sym registered i) m && is_overdue (rated i) day m && not (has_charge ((are ∙ weighed_charges-walk (charges_of b e) (credits_of b e)) i) m)) months)
-      ∙ filter_alike (λ m. is_member_month (member_of b.entries e) m && is_overdue (rates_of b) day m && not (has_charge (rows_walk 0 (charges_of b e) (credits_of b e)) m)) (is_missing b e day) months
+      ∙ filter_same (λ m. is_member_month (member_of b.entries e) m && is_overdue (rates_of b) day m && not (has_charge (rows_walk 0 (charges_of b e) (credits_of b e)) m)) (is_missing b e day) months
       (each (λ m. find (λ (c : Charge). c.month == m) (charges_of b e) ≡ book_charge b e m) (λ m. (is_member_month (member_of b.entries e) m && is_overdue (rates_of b) day m && not (has_charge (rows_walk 0 (charges_of b e) (credits_of b e)) m)) ≡ is_missing b e day m)
       (λ m found. (λ i. is_member_month (member_of b.entries e) m && is_overdue (rates_of b) day m && (ap not (row_of_month 0 (charges_of b e) (credits_of b e) m ∙ ap is_some found) ∙ none_reported m) i)) months each_month)

@@ -10,7 +10,7 @@ use Rattle.clear_account.specs.declared.entries.Charge.{Charge}
 use Rattle.clear_account.specs.declared.entries.Credit.{Credit}
 use Rattle.clear_account.specs.Account.{IsAccount, credited}
 use Rattle.clear_kept.specs.declared.rows.WeighedCharge.{WeighedCharge}
-use Rattle.clear_kept.specs.Owing.{AreWeighed, arrears_in, charged_in, open_in}
+use Rattle.clear_kept.specs.Owing.{AreWeighedInRange, arrears_in, charged_in, open_in}
 use Rattle.clear_kept.specs.Weighed.{weighed_charges}
 use Rattle.clear_kept.proofs.ArrearsLemmas.{arrears_from_rows}
 use Rattle.clear_kept.proofs.OwingLemmas.{charged_from_rows, credited_from_rows}
@@ -37,6 +37,7 @@ use Rattle.clear_laws.proofs.KeptChargesLemmas.{kept_charges-charges_of}
 use Rattle.clear_laws.proofs.LawsLemmas.{lawful_small}
 use Rattle.clear_laws.proofs.RowRangeLemmas.{rows_in_range}
 use Rattle.clear_laws.proofs.TableAccountLemmas.{account_of_tables}
+use Rattle.clear_laws.proofs.VersionLemmas.{no_some}
 use Rattle.clear_laws.proofs.ListLemmas.{each}
 use Rattle.clear_views.specs.Owing.{HasKept, credited_by}
 
@@ -84,7 +85,7 @@ module _ (b : Book) (t : Tables) (lawful : IsLawful b) (weighed : StandsWeighed 
   pub has_kept : HasKept t e
   has_kept = record {
     ranges = rows_in_range b t lawful weighed.stands;
-    rows = subst AreWeighed (sym (weighed.weighed e)) (kept_in_range (kept_charges t e) (table_credits t e) kept_account);
+    rows = subst AreWeighedInRange (sym (weighed.weighed e)) (kept_in_range (kept_charges t e) (table_credits t e) kept_account);
     few_credits = kept_account.few_credits;
   }
 
@@ -125,14 +126,10 @@ module _ (b : Book) (t : Tables) (lawful : IsLawful b) (weighed : StandsWeighed 
 
 -- ---- the test of the day
 
-none_if : {X : Type 0} (found : Option X) → is_some found ≡ false → found ≡ None
-none_if None h = refl
-none_if (Some x) h = absurd (cc)
-
 -- where it doesn't refuse the day, the judge doesn't
 pub day_free : (given ledger : Option ℕ) (day : ℕ) (back : Bool) → given ≡ ledger → back ≡ is_some (day_back given day) → back ≡ false → day_back ledger day ≡ None
 day_free given ledger day back same is free =
-    none_if (day_back ledger day) (ap (λ (o : Option ℕ). is_some (day_back o day)) (sym same) ∙ sym is ∙ free)
+    no_some (day_back ledger day) (ap (λ (o : Option ℕ). is_some (day_back o day)) (sym same) ∙ sym is ∙ free)
 
 pub day_refused : (given ledger : Option ℕ) (day : ℕ) (back : Bool) → given ≡ ledger → back ≡ is_some (day_back given day) → back ≡ true → day_back ledger day ≡ None → ⊥
 day_refused given ledger day back same is refused none =

@@ -1,9 +1,10 @@
 -- Several reads inside a transaction, one after another.
-use Rattle.std.proofs.Common.{◌∙◌, IsTrue, Result, Ok, Err, refl, sym, subst, arith}
+use Rattle.std.proofs.Common.{IsTrue, Result, Ok, Err, sym, subst, arith}
 use Rattle.std.specs.Prelude.{OnOk}
 use Rattle.sqlite.specs.Held.{Held, state}
 use Rattle.sqlite.specs.State.{State, HasCleanDisk, IsUnchanged, Survives}
 use Rattle.sqlite.specs.Store.{Ghosts}
+use Rattle.sqlite.proofs.Callers.{unchanged_then}
 use Rattle.clear_rows.proofs.Inside.{keeps_both, survives_both}
 use Rattle.clear_book.specs.Tables.{Tables}
 use Rattle.clear_schema.specs.Frame.{Leaves}
@@ -21,31 +22,6 @@ still t a b same has = subst (HasTables t) (sym same.0.now_is) has
 -- and the transaction goes on
 pub goes_on : (a b : State) → IsUnchanged a b → IsTrue a.in_transaction → IsTrue b.in_transaction
 goes_on a b same inside = subst IsTrue (sym same.0.mode) inside
-
--- nothing done changes nothing
-pub unchanged_none : (s : State) → IsTrue s.is_open → IsUnchanged s s
-unchanged_none s on = (
-  record { was_open = on; is_open = on; now_is = refl; committed_is = refl; mode = refl },
-  record { changes = refl; last_rowid = refl },
-  refl,
-)
-
--- two reads change nothing
-pub unchanged_both : (a b c : State) → IsUnchanged a b → IsUnchanged b c → IsUnchanged a c
-unchanged_both a b c one two = (
-  record {
-    was_open = one.0.was_open;
-    is_open = two.0.is_open;
-    now_is = two.0.now_is ∙ one.0.now_is;
-    committed_is = two.0.committed_is ∙ one.0.committed_is;
-    mode = two.0.mode ∙ one.0.mode;
-  },
-  record {
-    changes = two.1.changes ∙ one.1.changes;
-    last_rowid = two.1.last_rowid ∙ one.1.last_rowid;
-  },
-  two.2 ∙ one.2,
-)
 
 module _ {S : Type 0} (g : Ghosts S) (a b c : Held S) where
   -- the tables are as before
@@ -67,7 +43,7 @@ module _ {S : Type 0} (g : Ghosts S) (a b c : Held S) where
       before clean t has = one.same (before_clean clean) t has
 
       told : (r : Result B Fault) → IsUnchanged (state g a) (state g b) → OnOk r (IsUnchanged (state g b) (state g c)) → OnOk r (IsUnchanged (state g a) (state g c))
-      told (Ok y) first second = unchanged_both (state g a) (state g b) (state g c) first second
+      told (Ok y) first second = unchanged_then (state g a) (state g b) (state g c) first second
       told (Err fault) first none = tt
 
 -- what was read was left as it is, whatever is made of it

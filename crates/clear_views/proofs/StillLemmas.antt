@@ -1,22 +1,23 @@
--- ReadsOf inside of a transaction, one after another, some of which call the store and some of which
+-- Reads inside of a transaction, one after another, some of which call the store and some of which
 -- need not.
-use Rattle.std.proofs.Common.{◌≡◌, inl, inr, List, [], ◌∷◌, ℕ, Bool, true, false, cond, filter, Some, Result, Ok, Err, refl, sym, subst, ◌∙◌}
-use Rattle.std.proofs.lemmas.Result.{IfOk-weaker}
+use Rattle.std.proofs.Common.{◌≡◌, inl, inr, List, ℕ, Some, Result, Ok, Err, refl, sym, subst, ◌∙◌}
 use Rattle.std.specs.List.{AllByRecursion}
 use Rattle.std.specs.Prelude.{◌≢◌, IfErr, IfOk, OnOk}
 use Rattle.sqlite.specs.Held.{Held, state}
 use Rattle.sqlite.specs.State.{IsUnchanged, KeepsCommit}
 use Rattle.sqlite.specs.Store.{Ghosts}
+use Rattle.sqlite.proofs.Callers.{unchanged_then}
 use Rattle.clear_rows.proofs.Inside.{keeps_both, keeps_none}
-use Rattle.clear_book.specs.Keyed.{find_row, is_key}
+use Rattle.clear_book.specs.Keyed.{find_row}
 use Rattle.clear_book.specs.RowRanges.{AreInRange}
 use Rattle.clear_book.specs.Tables.{Tables}
 use Rattle.clear_book.specs.declared.rules.StoreCause.TheVariants.{Constraint, Row}
+use Rattle.clear_laws.proofs.KeyedChangesLemmas.{found_holds}
 use Rattle.clear_schema.specs.Held.{HasTables}
 use Rattle.clear_schema.specs.declared.fault.Fault.{Fault}
 use Rattle.clear_schema.specs.declared.fault.Fault.TheVariants.{Memory, Store}
 use Rattle.clear_views.specs.Reads.{IsStill, ReadsOf}
-use Rattle.clear_views.proofs.ReadLemmas.{still, unchanged_both}
+use Rattle.clear_views.proofs.ReadLemmas.{still}
 
 module _ {S : Type 0} (g : Ghosts S) where
   -- the tables are as before
@@ -29,7 +30,7 @@ module _ {S : Type 0} (g : Ghosts S) where
   still_both P Q R join a b c (inl one) (inl two) = inl (join one.0 two.0, two.1 ∙ one.1)
   still_both P Q R join a b c (inl one) (inr two) = inr (subst (λ h. IsUnchanged (state g h) (state g c)) one.1 two)
   still_both P Q R join a b c (inr one) (inl two) = inr (subst (λ h. IsUnchanged (state g a) (state g h)) (sym two.1) one)
-  still_both P Q R join a b c (inr one) (inr two) = inr (unchanged_both (state g a) (state g b) (state g c) one two)
+  still_both P Q R join a b c (inr one) (inr two) = inr (unchanged_then (state g a) (state g b) (state g c) one two)
 
   module _ (t : Tables) where
     -- nothing was called
@@ -47,10 +48,6 @@ module _ {S : Type 0} (g : Ghosts S) where
         turned : IsStill g P a b → IsStill g Q a b
         turned (inl none) = inl (weaker none.0, none.1)
         turned (inr same) = inr same
-
-    -- what was found is more, too
-    pub reads_found : {A : Type 0} (P : Type 0) (a b : Held S) (r : Result A Fault) (F G : A → Type 0) → ((x : A) → F x → G x) → ReadsOf g t P a b r F → ReadsOf g t P a b r G
-    reads_found P a b r F G weaker reads = record { found = IfOk-weaker r F G weaker reads.found; fault = reads.fault; same = reads.same; kept = reads.kept }
 
     -- the fault is passed on
     pub reads_fault : {A B : Type 0} (P Q : Type 0) (a b : Held S) (fault : Fault) (F : A → Type 0) (G : B → Type 0) → ReadsOf g t P a b (Err fault) F → ReadsOf g t Q a b (Err fault) G
@@ -80,22 +77,5 @@ module _ {S : Type 0} (g : Ghosts S) where
 
 -- ---- rows in their ranges
 
-pub all_of_kept : {A : Type 0} (P : A → Type 0) (f : A → Bool) (xs : List A) → AllByRecursion P xs → AllByRecursion P (filter f xs)
-all_of_kept P f [] h = h
-all_of_kept P f (x ∷ xs) h = told (f x) (all_of_kept P f xs h.1)
-  where
-    told : (b : Bool) → AllByRecursion P (filter f xs) → AllByRecursion P (cond b (x ∷ filter f xs) (filter f xs))
-    told true rest = (h.0, rest)
-    told false rest = rest
-
--- a row that is found is one of them
-pub of_found : {A : Type 0} (P : A → Type 0) (key : A → List ℕ) (xs : List A) (k : List ℕ) (x : A) → AllByRecursion P xs → find_row key xs k ≡ Some x → P x
-of_found P key [] k x h is = cc is
-of_found P key (y ∷ ys) k x h is = told (is_key (key y) k) is (of_found P key ys k x h.1)
-  where
-    told : (b : Bool) → cond b (Some y) (find_row key ys k) ≡ Some x → (find_row key ys k ≡ Some x → P x) → P x
-    told true is rest = subst P (cc is) h.0
-    told false is rest = rest is
-
 pub none_found_out : {A : Type 0} (P : A → Type 0) (key : A → List ℕ) (xs : List A) (k : List ℕ) → AllByRecursion P xs → ¬ ((x : A) × (find_row key xs k ≡ Some x) × ¬ P x)
-none_found_out P key xs k h (x, is, out) = out (of_found P key xs k x h is)
+none_found_out P key xs k h (x, is, out) = out (found_holds key P xs k x h is)

@@ -15,13 +15,13 @@ use Rattle.clear_book.specs.declared.rows.BankRow.{BankRow}
 use Rattle.clear_book.specs.declared.rows.ClaimRow.{ClaimRow}
 use Rattle.clear_book.specs.declared.rows.EmployerRow.{EmployerRow}
 use Rattle.clear_book.specs.Accounts.{credit_key}
-use Rattle.clear_book.specs.Book.{Book, Entry, employer_count, is_registration}
+use Rattle.clear_book.specs.Book.{Book, Entry, employer_count, is_registration, member_of}
 use Rattle.clear_book.specs.Keyed.{find_row}
 use Rattle.clear_book.specs.Limits.{most_credits, most_employers}
 use Rattle.clear_book.specs.Lines.{credit_count, credits_made, is_credit_of}
 use Rattle.clear_book.specs.Machine.{IsLawful}
 use Rattle.clear_book.specs.Own.Assign.{is_full, is_suspended}
-use Rattle.clear_book.specs.Tables.{Tables, Stands, bank_key, claim_key, member_at, member_in, version_at}
+use Rattle.clear_book.specs.Tables.{Tables, Stands, bank_key, claim_key, employer_key, member_in, version_at}
 use Rattle.clear_laws.proofs.ChargesLemmas.{last_report_row}
 use Rattle.clear_laws.proofs.CreditsMadeLemmas.{credits-few, credits_once}
 use Rattle.clear_laws.proofs.KeyedRowsLemmas.{count_by-ordered}
@@ -41,9 +41,12 @@ use Rattle.clear_views.specs.Ends.{last_report}
 -- ---- a registration
 
 -- a firm that has a row is registered
-pub has_row : (o : Option EmployerRow) → is_some o ≡ is_some (option_map member_in o)
-has_row None = refl
-has_row (Some row) = refl
+pub has_row : (b : Book) (t : Tables) → Stands b t → (e : ℕ) (member : Option EmployerRow) → member ≡ find_row employer_key t.employers (e ∷ []) → is_some member ≡ is_some (member_of b.entries e)
+has_row b t stands e member found = some member ∙ ap is_some (ap (option_map member_in) found ∙ stands.employers e)
+  where
+    some : (o : Option EmployerRow) → is_some o ≡ is_some (option_map member_in o)
+    some None = refl
+    some (Some row) = refl
 
 -- the number of entries or the number of rows, whichever is taken, serves for the number of firms
 counted : (b : Book) (t : Tables) → Stands b t → (few : Bool) → nat_lt t.entries most_employers ≡ few → Serves (cond few t.entries (length t.employers)) (employer_count b.entries) 1 most_employers
@@ -54,11 +57,11 @@ counted b t stands true is = inr (
 )
 
 pub register_viewed : (b : Book) (t : Tables) → Stands b t → (r : Registration) (view : RegisterView) (entries : ℕ) → entries ≡ t.entries
-    → (member : Option EmployerRow) → view.registered ≡ is_some member → option_map member_in member ≡ member_at t.employers r.employer → view.has_rate ≡ is_some (rate_in_force t.rates r.start)
+    → (member : Option EmployerRow) → view.registered ≡ is_some member → member ≡ find_row employer_key t.employers (r.employer ∷ []) → view.has_rate ≡ is_some (rate_in_force t.rates r.start)
     → view.employer_count ≡ cond (nat_lt entries most_employers) entries (length t.employers) → IsRegisterView b r view
 register_viewed b t stands r view entries same member registered found rate count =
     record {
-      registered_is = registered ∙ has_row member ∙ ap is_some (found ∙ stands.employers r.employer);
+      registered_is = registered ∙ has_row b t stands r.employer member found;
       employers_serve =
           subst (λ n. Serves n (employer_count b.entries) 1 most_employers) (sym (count ∙ ap (λ n. cond (nat_lt n most_employers) n (length t.employers)) same))
           (counted b t stands (nat_lt t.entries most_employers) refl);
@@ -67,32 +70,32 @@ register_viewed b t stands r view entries same member registered found rate coun
 
 -- ---- a report
 
-pub report_viewed : (b : Book) (t : Tables) → Stands b t → (r : WageReport) (view : ReportView) → option_map member_in view.member ≡ member_at t.employers r.employer
+pub report_viewed : (b : Book) (t : Tables) → Stands b t → (r : WageReport) (view : ReportView) → view.member ≡ find_row employer_key t.employers (r.employer ∷ [])
     → view.version ≡ version_at t.reports r.employer r.month → view.row ≡ rate_in_force t.rates r.month → IsReportView b r view
 report_viewed b t stands r view member version row =
     record {
-      member_is = member ∙ stands.employers r.employer;
+      member_is = ap (option_map member_in) member ∙ stands.employers r.employer;
       version_is = version ∙ stands.reports r.employer r.month;
       row_is = row ∙ ap (λ rates. rate_in_force rates r.month) stands.rates;
     }
 
 -- ---- a withdrawal
 
-pub withdraw_viewed : (b : Book) (t : Tables) → Stands b t → (w : Withdrawal) (view : WithdrawView) (member : Option EmployerRow) → view.registered ≡ is_some member → option_map member_in member ≡ member_at t.employers w.employer
+pub withdraw_viewed : (b : Book) (t : Tables) → Stands b t → (w : Withdrawal) (view : WithdrawView) (member : Option EmployerRow) → view.registered ≡ is_some member → member ≡ find_row employer_key t.employers (w.employer ∷ [])
     → view.claim ≡ find_row claim_key t.claims (w.claim ∷ []) → IsWithdrawView b w view
 withdraw_viewed b t stands w view member registered found claim =
     record {
-      registered_is = registered ∙ has_row member ∙ ap is_some (found ∙ stands.employers w.employer);
+      registered_is = registered ∙ has_row b t stands w.employer member found;
       claim_is = claim ∙ ap (λ (claims : List ClaimRow). find_row claim_key claims (w.claim ∷ [])) stands.claims;
     }
 
 -- ---- an end of a membership
 
-pub end_viewed : (b : Book) (t : Tables) → IsLawful b → Stands b t → (end : MembershipEnd) (view : EndView) → option_map member_in view.member ≡ member_at t.employers end.employer
+pub end_viewed : (b : Book) (t : Tables) → IsLawful b → Stands b t → (end : MembershipEnd) (view : EndView) → view.member ≡ find_row employer_key t.employers (end.employer ∷ [])
     → view.reported ≡ last_report t end.employer → IsEndView b end view
 end_viewed b t lawful stands end view member reported =
     record {
-      member_is = member ∙ stands.employers end.employer;
+      member_is = ap (option_map member_in) member ∙ stands.employers end.employer;
       reported_is = reported ∙ last_report_row b t lawful stands end.employer;
     }
 
@@ -120,11 +123,11 @@ module _ (b : Book) (t : Tables) (stands : Stands b t) (e : ℕ) where
       told false is = sym (full_none is line)
 
 pub assign_viewed : (b : Book) (t : Tables) → Stands b t → (a : Assignment) (view : AssignView) (serials : ℕ) → serials ≡ t.serial
-    → (member : Option EmployerRow) → view.registered ≡ is_some member → option_map member_in member ≡ member_at t.employers a.employer → view.line ≡ find_row bank_key t.bank a.reference
+    → (member : Option EmployerRow) → view.registered ≡ is_some member → member ≡ find_row employer_key t.employers (a.employer ∷ []) → view.line ≡ find_row bank_key t.bank a.reference
     → view.full ≡ (nat_le most_credits serials && is_suspended view.line && is_full (credit_count t.credits a.employer) view.line) → IsAssignView b a view
 assign_viewed b t stands a view serials same member registered found line full =
     record {
-      registered_is = registered ∙ has_row member ∙ ap is_some (found ∙ stands.employers a.employer);
+      registered_is = registered ∙ has_row b t stands a.employer member found;
       line_is = line ∙ stands.bank a.reference;
       full_is =
           full_viewed b t stands a.employer view.line view.full

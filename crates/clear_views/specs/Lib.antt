@@ -1,4 +1,3 @@
-pub mod Claimed
 pub mod Ends
 pub mod Imports
 pub mod Overdue

@@ -3,7 +3,7 @@ use Rattle.std.specs.Prelude.{ℕ, ◌-◌, ◌≤◌, List, if◌then◌else◌
 use Rattle.clear_account.specs.declared.entries.Credit.{Credit}
 use Rattle.clear_account.specs.Account.{credited}
 use Rattle.clear_kept.specs.declared.rows.WeighedCharge.{WeighedCharge}
-use Rattle.clear_kept.specs.Owing.{AreWeighed, charged_in, open_in}
+use Rattle.clear_kept.specs.Owing.{AreWeighedInRange, charged_in, open_in}
 use Rattle.clear_book.specs.Allocated.{weighed_rows}
 use Rattle.clear_book.specs.Limits.{most_credits}
 use Rattle.clear_book.specs.RowRanges.{AreInRange}
@@ -17,5 +17,5 @@ credited_by rows credits =
 -- the kept contributions of a firm are in their ranges, and it has no more payments than an account
 pub record HasKept (t : Tables) (e : ℕ) : Type 0 where
   pub ranges : AreInRange t
-  pub rows : AreWeighed (weighed_rows t e)
+  pub rows : AreWeighedInRange (weighed_rows t e)
   pub few_credits : length (table_credits t e) ≤ most_credits

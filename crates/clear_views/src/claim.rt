@@ -31,8 +31,8 @@ use sqlite::{Alter, Transaction};
 ///
 /// It takes one search for the firm, reads the rates, and reads each line that the latest reports
 /// have of the worker and each claim for the worker once, whatever else the book holds. What no
-/// book holds is refused with `Fault::Store(StoreCause::Row)`: besides a value out of its range,
-/// amounts whose sum is not below 2^64 cents.
+/// book holds is refused with `Fault::Store(StoreCause::Row)`: besides a value out of its range, more
+/// claims than can be counted, and amounts whose sum is not below 2^64 cents.
 pub fn claim_view<S: Alter>(
     tx: &mut Transaction<'_, S>,
     counts: &Counts,

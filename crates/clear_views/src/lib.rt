@@ -1,10 +1,10 @@
 //! What a request is judged by, read from the store inside of its transaction: the view of each
-//! command, what a firm owes, and the records of its statement.
+//! command but those that make a payout list or a reminder run, what a firm owes, and what it has
+//! overdue.
 //!
-//! Each is read by keys, by the front of a key or, of a worker and of a firm's last reminder, by an
-//! index, so a request reads what it touches, whatever the book holds; a reminder run touches each
-//! firm. Where the tables stand for a lawful book, a view is what that book says, and no fault is
-//! one of a key or of a row.
+//! Each is read by keys, by the front of a key or, of a worker, by an index, so a request reads what
+//! it touches, whatever the book holds. Where the tables stand for a lawful book, a view is what that
+//! book says, and no fault is one of a key or of a row.
 #![tactic(auto)]
 
 pub mod add_rate;

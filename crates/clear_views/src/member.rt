@@ -1,10 +1,10 @@
 //! A firm, if it is registered.
-ghost use Rattle.std.specs.Prelude.{◌≡◌, IfErr, IfOk};
-ghost use Rattle.std.specs.Option.{option_map};
+ghost use Rattle.std.specs.Prelude.{◌≡◌, ◌∷◌, [], IfErr, IfOk};
 ghost use Rattle.sqlite.specs.Held.{state};
 ghost use Rattle.sqlite.specs.State.{HasCleanDisk};
+ghost use Rattle.clear_book.specs.Keyed.{find_row};
 ghost use Rattle.clear_book.specs.RowRanges.{AreInRange};
-ghost use Rattle.clear_book.specs.Tables.{Tables, member_at, member_in};
+ghost use Rattle.clear_book.specs.Tables.{Tables, employer_key};
 ghost use Rattle.clear_schema.specs.Frame.{Leaves};
 ghost use Rattle.clear_schema.specs.Faults.{IsOfDisk};
 ghost use Rattle.clear_schema.specs.Held.{HasTables};
@@ -24,7 +24,7 @@ pub fn find_member<S: Alter>(
     ensures same_reference { tx.new.conn.ghost_name ≡ tx.old.conn.ghost_name }
     ensures member { HasCleanDisk (state S.Store tx.new.conn.now)
         → (t : Tables) → HasTables t (state S.Store tx.old.conn.now).now
-        → IfOk result (λ row. option_map member_in row ≡ member_at t.employers employer) }
+        → IfOk result (λ row. row ≡ find_row employer_key t.employers (employer ∷ [])) }
     ensures fault { HasCleanDisk (state S.Store tx.new.conn.now)
         → (t : Tables) → HasTables t (state S.Store tx.old.conn.now).now
         → AreInRange t → IfErr result IsOfDisk }

@@ -9,9 +9,8 @@ ghost use Rattle.clear_book.specs.Allocated.{StandsWeighed, weighed_in, weighed_
 ghost use Rattle.clear_book.specs.Book.{Book};
 ghost use Rattle.clear_book.specs.Limits.{most_credits};
 ghost use Rattle.clear_book.specs.Machine.{IsLawful};
-ghost use Rattle.clear_book.specs.RowRanges.{AreInRange};
 ghost use Rattle.clear_book.specs.Tables.{Tables, table_credits};
-ghost use Rattle.clear_kept.specs.Owing.{AreWeighed};
+ghost use Rattle.clear_kept.specs.Owing.{AreWeighedInRange};
 ghost use Rattle.clear_kept.specs.Weighed.{weighed_charges};
 ghost use Rattle.clear_schema.specs.Frame.{Leaves};
 ghost use Rattle.clear_schema.specs.Faults.{IsOfDisk};
@@ -90,7 +89,7 @@ pub(crate) fn find_charges<S: Alter>(
 // Kept contributions, each with what is open of it.
 fn weigh_rows(alloc: Global, rows: &[KeptCharge]) -> Result<WeighedCharges, Fault>
     ensures charges { IfOk result (λ charges. charges ≡ map weighed_in rows.now) }
-    ensures fault { AreWeighed (map weighed_in rows.now) → IfErr result IsOfDisk }
+    ensures fault { AreWeighedInRange (map weighed_in rows.now) → IfErr result IsOfDisk }
 {
     let mut weighed = Vec::new(alloc);
     for row in rows {

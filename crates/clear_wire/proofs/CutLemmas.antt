@@ -100,13 +100,6 @@ cut_ended ps (Some x) None c p q = absurd p
 cut_ended ps (Some x) (Some y) None p q = absurd q
 cut_ended ps (Some x) (Some y) (Some z) p q = (y, p, inr (z, q))
 
--- the whole stream was cut: no request may follow these items
-pub cut_full : (ps : List NextItem) (a b : Option (List ℕ)) → left_after_all request_limit ps ≡ 0
-    → Leads (λ x y. Cuts request_limit x ps y) a b → IfSome a (λ x. IsCut x ps)
-cut_full ps None b none p = tt
-cut_full ps (Some x) None none p = absurd p
-cut_full ps (Some x) (Some y) none p = (y, p, inl none)
-
 -- the stream begins with these items and further ones
 pub cut_begun : (ps qs : List NextItem) (a b : Option (List ℕ)) → Leads (λ x y. Cuts request_limit x ps y) a b
     → IfSome b (λ y. (r : List ℕ) × Cuts (left_after_all request_limit ps) y qs r) → IfSome a (λ x. BeginsCut x (ps ++ qs))

@@ -1,15 +1,13 @@
 -- How many lines a head of the grammar has, and what the parser's answers say of a whole head.
-use Rattle.std.proofs.Common.{◌≡◌, ℕ, ◌+◌, ◌≤◌, false, cond, List, [], ◌∷◌, ◌++◌, length, drop, Err, refl, sym, ap, ◌∙◌, subst, arith, inr}
+use Rattle.std.proofs.Common.{◌≡◌, ℕ, ◌+◌, ◌≤◌, cond, List, [], ◌∷◌, ◌++◌, length, drop, refl, sym, ap, ◌∙◌, subst, arith}
 use Rattle.std.proofs.lemmas.List.{append-nil, length-drop}
 use Rattle.std.proofs.lemmas.List.Sums.{sum_by-append}
-use Rattle.std.proofs.lemmas.Bool.{le-ltb}
 use Rattle.httparse.specs.Grammar.{LineEnd, crlf, lf, print_end, print_blank, print_version, Field, print_field, print_section, RequestHead, print_request, ReadsRequest}
 use Rattle.httparse.specs.Spans.{RequestOverflows}
 use Rattle.httparse.proofs.GrammarLemmas.{request_unique}
 use Rattle.std.specs.Prelude.{flat_map}
-use Rattle.clear_wire.specs.declared.rule.StreamRule.TheVariants.{BadHead}
 use Rattle.clear_wire.specs.Limits.{field_line_limit}
-use Rattle.clear_wire.specs.Head.{HasNoHead, line_limit, line_count, is_line_feed, ParsesLines, Parses}
+use Rattle.clear_wire.specs.Head.{HasNoHead, line_limit, line_count, is_line_feed}
 
 line_count-append : (a b : List ℕ) → line_count (a ++ b) ≡ line_count a + line_count b
 line_count-append a b = sum_by-append (λ x. cond (is_line_feed x) 1 0) a b
@@ -53,8 +51,3 @@ pub not_whole : (bytes : List ℕ) (k : RequestHead) (n : ℕ) → ReadsRequest 
 not_whole bytes k n reads within other h whole =
     let none = (request_unique bytes k h (drop n bytes) [] reads whole).1 in
     other (omega (arith, length-drop n bytes, ap length none))
-
--- no head, in few lines
-pub refuses : (bytes : List ℕ) → line_count bytes ≤ line_limit → HasNoHead bytes → Parses bytes (Err (BadHead, false))
-refuses bytes few none =
-    subst (λ t. ParsesLines t bytes (Err (BadHead, false))) (sym (le-ltb line_limit (line_count bytes) few)) (inr (none, refl))

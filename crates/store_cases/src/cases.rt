@@ -5,7 +5,8 @@ use crate::streams::{stops_at_read, stops_at_write, uses_up_the_reads};
 use clear_callers::directory::Directory;
 use clear_money::days::Day;
 use clear_office::office::Office;
-use clear_sample::desk::{Desk, sample_desk};
+use clear_sample::memory::office_in_memory;
+use clear_sample::samples::sample_rates;
 use sqlite::Alter;
 use std::alloc::Global;
 
@@ -23,14 +24,17 @@ pub(crate) enum Case {
 
 /// Whether all is as it should be.
 pub(crate) fn holds(alloc: Global, case: Case) -> bool {
-    match sample_desk(alloc) {
-        Some(
-            Desk {
-                office,
-                directory,
-                day,
-            },
-        ) => holds_over(alloc, office, directory, day, case),
+    let Ok(rates) = sample_rates(alloc) else {
+        return false;
+    };
+    let Ok(directory) = Directory::sample(alloc) else {
+        return false;
+    };
+    let Some(day) = Day::read(b"2024-04-30") else {
+        return false;
+    };
+    match office_in_memory(alloc, &rates) {
+        Some(office) => holds_over(alloc, office, directory, day, case),
         None => false,
     }
 }

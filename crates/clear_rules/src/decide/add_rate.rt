@@ -1,6 +1,5 @@
 //! The decision on new rates.
 ghost use Rattle.std.specs.Prelude.{◌≡◌, IfOk};
-ghost use Rattle.clear_money.specs.Rates.{last_first};
 ghost use Rattle.clear_book.specs.declared.calls.Command.TheVariants.{AddRate as DoAddRate};
 ghost use Rattle.clear_book.specs.Book.{Book, rates_of};
 ghost use Rattle.clear_book.specs.Own.AddRate.{add_rate_reply, own_add_rate};
@@ -10,8 +9,7 @@ use clear_book::outcomes::Reply;
 use clear_book::rows::{Change, Decision};
 use clear_book::rules::Rule;
 use clear_money::days::Day;
-use clear_money::months::Month;
-use clear_money::rates::{RateRow, RateTable};
+use clear_money::rates::{RateRow, RateTable, last_month};
 
 /// Decides on a row of rates on the request's day, where these rates stand: `RateOrder` where its
 /// first month is not after that of the last row, or not after the month of the day.
@@ -30,19 +28,11 @@ pub fn decide_add_rate(day: Day, row: RateRow, rates: &RateTable) -> Result<Deci
     ensures reply { IfOk result (λ decision. decision.reply ≡ add_rate_reply) }
 {
     let first = row.first();
-    if first <= last_first(rates) || first.number() <= day.month_number() {
+    if first <= last_month(rates.as_slice()) || first.number() <= day.month_number() {
         return Err(Rule::RateOrder);
     }
     Ok(Decision {
         change: Change::AddRate(row),
         reply: Reply::Done,
     })
-}
-
-// The first month of the last row.
-fn last_first(rates: &RateTable) -> Month
-    ensures { result ≡ last_first rates.now }
-{
-    let rows = rates.as_slice();
-    rows[rows.len() - 1].first()
 }

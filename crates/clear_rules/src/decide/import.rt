@@ -13,7 +13,7 @@ ghost use Rattle.clear_book.specs.Limits.{most_records};
 ghost use Rattle.clear_book.specs.Lines.{lines_in, new_lines, rows_from};
 ghost use Rattle.clear_book.specs.Own.ImportBank.{ahead_rule, fault_rule, import_reply, is_ahead};
 ghost use Rattle.clear_book.specs.Own.ImportBank.{limit_rules, rule_of};
-ghost use Rattle.clear_rules.specs.Counts.{Index, is_indexed};
+ghost use Rattle.clear_rules.specs.Counts.{is_indexed};
 ghost use Rattle.clear_rules.specs.Decisions.{Refuses, Obeys, IsJudged, TakesTables};
 ghost use Rattle.clear_rules.specs.Views.ImportBank.{IsImportView, ReadsAs, credits_then};
 ghost use Rattle.clear_rules.specs.Views.ImportBank.{import_rule, is_registered_by, rows_viewed};

@@ -24,7 +24,7 @@ use std::collections::BTreeSet;
 /// The contribution for lines within the limits of an employer's month, at the rate row in force
 /// for it, as it is kept while nothing is paid of it. Without a rate row, which no reported month of
 /// a lawful book lacks, it is 0 cents, due on 2000-01-01.
-pub fn kept_charge(
+pub(super) fn kept_charge(
     row: Option<RateRow>,
     employer: EmployerNo,
     month: Month,
@@ -52,17 +52,7 @@ fn due_by(row: &Option<RateRow>, month: Month) -> Day
 {
     match row {
         Some(row) => due_day(month, row),
-        None => first_day(),
-    }
-}
-
-// 2000-01-01.
-fn first_day() -> Day
-    ensures { result ≡ 10957 }
-{
-    match Day::new(10_957) {
-        Some(day) => day,
-        None => unreachable!(),
+        None => Day::first(),
     }
 }
 

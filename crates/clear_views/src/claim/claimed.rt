@@ -3,11 +3,10 @@ ghost use Rattle.std.specs.Prelude.{◌≡◌, ◌<◌, ◌^◌, IfErr, IfOk};
 ghost use Rattle.sqlite.specs.Held.{state};
 ghost use Rattle.sqlite.specs.State.{HasCleanDisk};
 ghost use Rattle.clear_book.specs.RowRanges.{AreInRange};
-ghost use Rattle.clear_book.specs.Tables.{Tables};
+ghost use Rattle.clear_book.specs.Tables.{Tables, table_claimed};
 ghost use Rattle.clear_schema.specs.Frame.{Leaves};
 ghost use Rattle.clear_schema.specs.Faults.{IsOfDisk};
 ghost use Rattle.clear_schema.specs.Held.{HasTables};
-ghost use Rattle.clear_views.specs.Claimed.{claimed_in};
 
 use clear_book::rules::StoreCause;
 use clear_ledger::claims::worker_claims;
@@ -24,10 +23,10 @@ pub(super) fn read_claimed<S: Alter>(
     ensures same_reference { tx.new.conn.ghost_name ≡ tx.old.conn.ghost_name }
     ensures claimed { HasCleanDisk (state S.Store tx.new.conn.now)
         → (t : Tables) → HasTables t (state S.Store tx.old.conn.now).now
-        → IfOk result (λ cents. cents ≡ claimed_in t worker) }
+        → IfOk result (λ cents. cents ≡ table_claimed t worker) }
     ensures fault { HasCleanDisk (state S.Store tx.new.conn.now)
         → (t : Tables) → HasTables t (state S.Store tx.old.conn.now).now
-        → AreInRange t → claimed_in t worker < 2 ^ 64 → IfErr result IsOfDisk }
+        → AreInRange t → table_claimed t worker < 2 ^ 64 → IfErr result IsOfDisk }
     ensures leaves { Leaves S.Store tx.old.conn.now tx.new.conn.now result }
 {
     let rows = worker_claims(tx, worker)?;

@@ -1,6 +1,7 @@
 //! How many lines are in suspense and how many credits a firm has, as far as they are counted.
 ghost use Rattle.std.specs.List.{list_all};
-ghost use Rattle.std.specs.Prelude.{◌≡◌, IfSome, ⊤, is_some, length};
+ghost use Rattle.std.specs.Prelude.{◌≡◌, ◌+◌, None, Some, IfSome, ⊤, if◌then◌else◌};
+ghost use Rattle.std.specs.Prelude.{is_some, length, nat_le};
 ghost use Rattle.clear_views.specs.Imports.{IsServing, IsSuspenseViewed, credits_viewed};
 ghost use Rattle.clear_views.specs.Reads.{Reads};
 
@@ -16,7 +17,9 @@ use sqlite::{Alter, Transaction};
 /// A number that serves in place of a count that is no more than the serials given, where these
 /// lines come in: the serials, if they and the lines are within the limit.
 pub(super) fn serving(serials: SerialCount, lines: &[BankLine], limit: u64) -> Option<u64>
-    ensures { IfSome result (IsServing serials (length lines.now) limit) }
+    ensures number { result
+        ≡ if nat_le (serials + length lines.now) limit then Some serials else None }
+    ensures serves { IfSome result (IsServing serials (length lines.now) limit) }
 {
     let given = serials.count();
     let more = lines.len() as u64;

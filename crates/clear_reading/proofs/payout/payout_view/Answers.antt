@@ -27,7 +27,7 @@ pub returns-in-None-clause-view : goal.returns-in-None-clause-view
 returns-in-None-clause-view g c clean t has same b lawful stands =
     let given = ap (λ (x : Counts). x.lists) same in
     let next : c.in-Some.next ≡ t.last_list + 1 = omega (arith, c.in-Some.ensures.1, given) in
-    IfOk-weaker c.payable_since.result _ _ (payout_viewed b t lawful stands c.in-Some.next next) (c.payable_since.ensures.view clean t has (subst (λ (day : ℕ). AreSince day t.claims) (sym c.first_day.ensures) (since_first_day b t lawful stands)))
+    IfOk-weaker c.payable_since.result _ _ (payout_viewed b t lawful stands c.in-Some.next next) (c.payable_since.ensures.view clean t has (subst (λ (day : ℕ). AreSince day t.claims) (sym c.first.ensures) (since_first_day b t lawful stands)))
 
 pub returns-in-None-clause-fault : goal.returns-in-None-clause-fault
 returns-in-None-clause-fault g c clean t has same b lawful stands =

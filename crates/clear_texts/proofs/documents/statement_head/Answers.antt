@@ -1,10 +1,6 @@
 use Rattle.std.proofs.Common.{List, filter, map, refl, ap, sym, subst, ◌∙◌}
-use Rattle.std.specs.List.{All}
-use Rattle.std.proofs.lemmas.Result.{err_from_is_err_and}
-use Rattle.clear_kept.specs.Owing.{IsWeighed}
-use Rattle.clear_kept.proofs.OwingLemmas.{rows_in_range}
 use Rattle.clear_kept.specs.declared.rows.WeighedCharge.{WeighedCharge}
-use Rattle.clear_book.specs.Accounts.{charges_of, credits_of, months}
+use Rattle.clear_book.specs.Accounts.{months}
 use Rattle.clear_book.specs.Own.Statement.{whole_payment}
 use Rattle.clear_book.specs.declared.rows.CreditRow.{CreditRow}
 use Rattle.clear_texts.specs.Records.{ChargesRise}
@@ -12,16 +8,11 @@ use Rattle.clear_texts.specs.Told.{interest_owed, is_missing_in}
 use Rattle.clear_texts.proofs.RecordLemmas.{head_is}
 use Rattle.clear_texts.proofs.documents.statement_head.Goals as goal
 
-pub returns-in_err-charges-clause-fault : goal.returns-in_err-charges-clause-fault
-returns-in_err-charges-clause-fault c b e are =
-    let p = err_from_is_err_and c.from_residual-in_err-charges.result c.from_residual-in_err-charges.ensures.1 in
-    rw (p.1, p.2) (c.in_err-charges.ensures.fault (subst (All IsWeighed) (sym are.charges) (rows_in_range (charges_of b e) (credits_of b e) are.account).each))
-
 pub returns-clause-head : goal.returns-clause-head
 returns-clause-head c b e are =
     let r = c.args.records.now in
     head_is b e c.args.day c.args.records.now are c.in-Some.interest c.in_ok-firm_account.field-0 _ _ _ _
     (c.in-Some.ensures.value ∙ ap (λ (credits : List CreditRow). interest_owed r.rates r.charges credits c.args.day) c.as_slice-credits.ensures.value)
-    c.in_ok-firm_account.ensures (c.in_ok-charges.ensures.states are.months_rise) (c.in_ok-interest_credits.ensures.payments ∙ ap (map whole_payment) c.as_slice-credits.ensures.value)
-    (c.in_ok-missing.ensures (subst ChargesRise (sym c.rows-rows.ensures) are.charges_rise) ∙ ap (λ (rows : List WeighedCharge). filter (is_missing_in r.member r.rates rows c.args.day) months) c.rows-rows.ensures)
+    c.in_ok-firm_account.ensures (c.in_ok-charges.ensures are.months_rise) (c.in_ok-interest_credits.ensures.payments ∙ ap (map whole_payment) c.as_slice-credits.ensures.value)
+    (c.in_ok-missing.ensures (subst ChargesRise (sym c.rows-rows.ensures.value) are.charges_rise) ∙ ap (λ (rows : List WeighedCharge). filter (is_missing_in r.member r.rates rows c.args.day) months) c.rows-rows.ensures.value)
     refl refl refl refl

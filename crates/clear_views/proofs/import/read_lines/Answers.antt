@@ -21,7 +21,7 @@ returns-clause-reads g c = record {
       (record {
         known = known.found;
         serving = c.serving.result;
-        serves = c.serving.ensures;
+        serves = c.serving.ensures.serves;
         employers = firms.found.viewed;
         suspense = suspense_read t c.args.serials c.args.lines.now c.serving.result c.in_ok-firms.firms _ firms.found all.found;
         serials_is = refl;

@@ -1,6 +1,6 @@
 use Rattle.std.proofs.Common.{rules, Err}
 use Rattle.std.proofs.lemmas.Result.{err_from_is_err_and}
-use Rattle.clear_views.proofs.ImportLemmas.{counts_in_range}
+use Rattle.clear_firms.proofs.CountsTable.{counts_in_range}
 use Rattle.clear_views.proofs.StillLemmas.{reads_query}
 use Rattle.clear_views.proofs.import.read_none.Goals as goal
 

@@ -11,7 +11,7 @@ returns-clause-overdue c b are =
     let charges = c.args.charges.now in
     let credits = c.args.credits.now in
     overdue_is b day rates firm charges credits are _ c.in_ok-months.months.items
-    (months_found b day rates firm charges credits are c.rows.result.now c.in_ok-months.months.items c.rows.ensures c.in_ok-months.ensures)
+    (months_found b day rates firm charges credits are c.rows.result.now c.in_ok-months.months.items c.rows.ensures.value c.in_ok-months.ensures)
     (subst (λ (months : List ℕ). length months ≤ 2400 → c.month_count.result ≡ length months) c.deref.ensures.value c.month_count.ensures)
     (c.copied.ensures ∙ c.first.ensures.value ∙ ap (λ (months : List ℕ). slice_get months 0) c.deref-2.ensures.value)
     c.arrears.ensures c.in-Some.ensures.value refl
