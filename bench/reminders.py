@@ -20,7 +20,6 @@ import shutil
 import sqlite3
 import sys
 import tempfile
-from pathlib import Path
 
 sys.dont_write_bytecode = True
 from serve import row  # noqa: E402

@@ -21,8 +21,8 @@ request at either size and their ratio, and the same for one request of each kin
 
 Of the tables only that of the kept requests is larger in the large store, and each new request goes to its end. No
 bank lines come in while the book is filled, so the table doesn't show what an import costs once 100,000 lines came
-in: from then on it counts the lines in suspense and the credits of its firms by reading them. Nor is a registration
-measured, which reads all firms once there are 10,000 requests.
+in: from then on it looks at the key of each credit of its firms, and, where a line stays without a firm, at each bank
+line. Nor is a registration measured, which counts all firms once there are 10,000 requests.
 """
 import argparse
 import glob

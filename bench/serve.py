@@ -4,7 +4,8 @@
     python3 bench/serve.py [PROGRAM] [--before PROGRAM] [--kinds owed,..] [--sizes 1000,10000,100000]
                            [--each 100] [--folder FOLDER]
 
-The peer, bench/serve/peer.py, does the same in Python over its own sqlite3; another build of the program
+The peer, bench/serve/peer.py, answers these requests in Python over its own sqlite3, and has none for new
+rates, ends of memberships, assignments, reminders and the lines in suspense; another build of the program
 takes its place where --before names one. The script starts both (the
 built program, or the one named) on new stores in a temporary folder below FOLDER (/var/tmp, which must
 lie on a disk), sends both the same requests over a keep-alive connection each, a new one after 1,000

@@ -366,7 +366,7 @@ class Faults(Launcher):
 
 class Try(Launcher):
     def test_words_that_work_on_a_store(self):
-        for it in ("init", "serve", "import", "statement", "migrate"):
+        for it in ("init", "serve", "import", "statement", "migrate", "look", "backup"):
             lines = self.fails_to_try(it, "fund.db", "rates.toml")
             self.assertEqual(len(lines), 1)
             self.assertIn(f"use ./clearing {it}", lines[0])

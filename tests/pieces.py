@@ -414,7 +414,8 @@ class Pieces(ProgramUnderTest):
         self.one_firm(
             lambda office, firm: office.report(firm, 1, 1_000_000),
             lambda office, firm: office.report(firm, 2, 500_050),
-            lambda office, firm: office.bank([(firm, "2024-02-25", 150_000, "C"), (firm, "2024-04-21", 100_000, "C")]))
+            lambda office, firm: office.bank([(firm, "2024-02-25", 150_000, "C"), (firm, "2024-04-21", 100_000, "C")]),
+            lambda office, firm: office.bank([(firm, "2024-04-21", 700, "I")]))
         self.assertEqual(self.recomputed(), [])
         whole = (self.folder / "fund.db").read_bytes()
         january, february, late = "2024-01", "2024-02", "2024-04-21"
@@ -429,6 +430,7 @@ class Pieces(ProgramUnderTest):
                 ("piece", january): 2, ("piece", february): 1, ("paid", january): 2, ("paid", february): 2},
             "DELETE FROM charges WHERE month = 289": {("contribution", february): 1, ("piece", february): 1},
             "UPDATE bank SET cents = cents + 1 WHERE reference = 'B2'": {("payment", late): 2},
+            "UPDATE credits SET cents = cents + 1 WHERE purpose = 'I'": {("payment", late): 2},
             "DELETE FROM credits WHERE ref = 'B2'": {
                 ("payment", late): 1, ("piece", january): 1, ("piece", february): 1},
         }.items():

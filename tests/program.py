@@ -13,7 +13,6 @@ import signal
 import socket
 import sqlite3
 import struct
-import subprocess
 import sys
 import time
 

@@ -4,7 +4,8 @@
     python3 bench/serve/peer.py init STORE RATES
     python3 bench/serve/peer.py serve STORE CALLERS DAY PORT COUNT
 
-It takes the program's words, and its requests. It judges them by the same rules and gives the same
+It takes these words of the program, and its requests but for new rates, ends of memberships, assignments,
+reminders and the document of the lines in suspense. It judges them by the same rules and gives the same
 answers. Its store is a database of its own with SQLite's write-ahead log and a sync at each commit, and
 each request is one transaction. A report's contribution is kept beside it; a statement's pieces and
 interest, and a worker's balance, are worked out anew. Answers to HEAD aren't told apart.

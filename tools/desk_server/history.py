@@ -19,7 +19,6 @@ class History:
         self.claims: dict[int, dict[str, Any]] = {}
         self.documents: dict[str, dict[int, int]] = {"payouts": {}, "reminders": {}}
         self.rate_rows: list[RateRow] = []
-        self.names: dict[int, str] = {}
 
     def add(self, entry: dict[str, Any]) -> None:
         self.entries.append(entry)
@@ -28,9 +27,6 @@ class History:
         learn = getattr(self, f"learn_{entry['kind']}", None)
         if learn is not None:
             learn(entry["number"], entry["values"], entry["reply"])
-
-    def learn_register(self, _number: int, values: dict[str, Any], _reply: dict[str, Any]) -> None:
-        self.names[values["employer"]] = values["name"]
 
     def learn_rates(self, _number: int, values: dict[str, Any], _reply: dict[str, Any]) -> None:
         self.rate_rows.append(RateRow(values["from"], values["contribution"]))
