@@ -124,7 +124,8 @@ rows_puttable t x (ReplaceReport row lines charge) there within =
     let wages = all_new wage_key IsWageRow (without_rows wage_key (is_wage_key_of row.employer row.month) t.wages) (wage_rows row.employer row.month lines) within.wages in
     (((report.some, report.few), all_gross row.employer row.month lines wages.1), there.1)
 rows_puttable t x (AssignLine row) there within =
-    (all_with bank_key IsBankRow (without_rows bank_key (λ k. is_key k (bank_key row)) t.bank) row within.bank).1.serial
+    all_weaker IsCreditRow (λ credit. IsSerial credit.serial) (λ credit good. good.serial) (credits_of_lines (row ∷ []))
+    (all_new credit_key IsCreditRow t.credits (credits_of_lines (row ∷ [])) within.credits).1
 rows_puttable t x (AddBankLines rows) there within =
     all_weaker IsBankRow (λ row. IsSerial row.serial) (λ row good. good.serial) rows (all_new bank_key IsBankRow t.bank rows within.bank).1
 rows_puttable t x (AddClaim row) there within = (all_with claim_key IsClaimRow t.claims row within.claims).1

@@ -11,7 +11,13 @@ use Rattle.clear_book.specs.Tables.{IsPaidInRange, Tables, table_credits}
 use Rattle.clear_laws.proofs.AccountPiecesLemmas.{all_drop}
 use Rattle.clear_laws.proofs.SameChargesLemmas.{firm_own}
 use Rattle.clear_laws.proofs.WeighedLemmas.{news_in_range, same_from, settled_row-own, settled_row-weighed}
+use Rattle.clear_firms.specs.Amounts.{AreInRange}
 use Rattle.clear_pieces.specs.Firm.{KeepsAccount, settled_from}
+
+-- the amounts of rows in their ranges are in theirs
+pub amounts_in_range : (rows : List KeptCharge) → AllByRecursion IsKeptCharge rows → AllByRecursion AreInRange rows
+amounts_in_range [] all = tt
+amounts_in_range (row ∷ rows) all = ((all.0.cents, all.0.left, all.0.weight), amounts_in_range rows all.1)
 
 -- what is open of rows in their ranges is in its own
 pub paid_in_range : (rows : List KeptCharge) → AllByRecursion IsKeptCharge rows → AllByRecursion IsPaidInRange rows

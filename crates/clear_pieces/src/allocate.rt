@@ -253,6 +253,7 @@ fn put_pieces<S: Alter>(
 }
 
 // Writes what is open of a firm's contributions behind a front, and their weights so far.
+#[tactic(auto, using(crate::proofs::RangeLemmas::amounts_in_range))]
 fn put_charges<S: Alter>(
     alloc: Global,
     tx: &mut Transaction<'_, S>,

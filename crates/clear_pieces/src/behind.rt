@@ -207,6 +207,7 @@ fn add_pieces<S: Alter>(
 }
 
 // Writes what more is paid of a firm's contributions behind a front, and what it weighs.
+#[tactic(auto, using(crate::proofs::RangeLemmas::amounts_in_range))]
 fn put_paid<S: Alter>(
     alloc: Global,
     tx: &mut Transaction<'_, S>,

@@ -1,5 +1,6 @@
 -- The rows of a change lie beside the counts.
 use Rattle.std.proofs.Common.{◌≡◌, ℕ, ◌+◌, length, Result, Ok, sym, ap, subst, arith}
+use Rattle.std.specs.Prelude.{◌↔◌}
 use Rattle.sqlite.specs.Held.{Held}
 use Rattle.sqlite.specs.Store.{Ghosts}
 use Rattle.clear_values.specs.declared.rows.Change.{Change}
@@ -11,7 +12,7 @@ use Rattle.clear_firms.specs.Counts.{AreCountable, as_stored}
 use Rattle.clear_firms.specs.declared.counts.Counts.{Counts as Told}
 use Rattle.clear_store.specs.Changes.{HasRoom, IsFree, IsInRange, IsPuttable, IsThere, Puts, counts_after, taken_by}
 use Rattle.clear_store.specs.declared.changes.Taken.{Taken}
-use Rattle.clear_store.proofs.JoinLemmas.{Always, put_then}
+use Rattle.clear_store.proofs.JoinLemmas.{Always, put_then, second_alone, turned}
 
 there_with : (change : Change) (c : Counts) (t : Tables) → IsThere change t → IsThere change (with_counts c t)
 there_with (AddRate row) c t there = there
@@ -27,19 +28,20 @@ there_with (ReleaseClaim row serial) c t there = there
 there_with (AddList row claims) c t there = there
 there_with (AddRun row reminders) c t there = there
 
-free_with : (change : Change) (c : Counts) (t : Tables) → IsFree change t → IsFree change (with_counts c t)
-free_with (AddRate row) c t free = free
-free_with (AddEmployer row) c t free = free
-free_with (EndMembership row) c t free = free
-free_with (AddReport row lines charge) c t free = free
-free_with (ReplaceReport row lines charge) c t free = free
-free_with (AddBankLines rows) c t free = free
-free_with (AssignLine row) c t free = free
-free_with (AddClaim row) c t free = free
-free_with (WithdrawClaim row) c t free = free
-free_with (ReleaseClaim row serial) c t free = free
-free_with (AddList row claims) c t free = free
-free_with (AddRun row reminders) c t free = free
+-- what is free is so whatever the counts are
+free_with : (change : Change) (c : Counts) (t : Tables) → IsFree change t ↔ (Unit {0} × IsFree change (with_counts c t))
+free_with (AddRate row) c t = second_alone
+free_with (AddEmployer row) c t = second_alone
+free_with (EndMembership row) c t = second_alone
+free_with (AddReport row lines charge) c t = second_alone
+free_with (ReplaceReport row lines charge) c t = second_alone
+free_with (AddBankLines rows) c t = second_alone
+free_with (AssignLine row) c t = second_alone
+free_with (AddClaim row) c t = second_alone
+free_with (WithdrawClaim row) c t = second_alone
+free_with (ReleaseClaim row serial) c t = second_alone
+free_with (AddList row claims) c t = second_alone
+free_with (AddRun row reminders) c t = second_alone
 
 -- the tables after the counts and then the rows of a change are written
 abbrev rows_put : Change → Tables → Tables
@@ -80,29 +82,22 @@ dated_is day change c t same =
     subst (λ (d : Counts). rows_put change (with_counts (counts_with day change d) t) ≡ dated day (changed change t)) (sym same) (counted day change t)
 
 -- the counts, and then the rows of a change
-pub put_changed : {S A B : Type 0} (g : Ghosts S) (old mid new : Held S) (x : A) (r : Result B Fault) (counts : Told) (day : ℕ) (change : Change)
+pub put_changed : {S A B : Type 0} {g : Ghosts S} {old mid new : Held S} {x : A} {r : Result B Fault} (counts : Told) (day : ℕ) (change : Change)
     → Puts g old mid (Ok x) Always Always (HasRoom counts (taken_by change)) (with_counts (counts_with day change (as_stored counts)))
     → Puts g mid new r (IsThere change) (IsFree change) (IsInRange change) (rows_put change)
     → Puts g old new r (λ t. (as_stored counts ≡ counts_of t) × IsThere change t) (IsFree change) (IsPuttable counts change) (λ t. dated day (changed change t))
-put_changed g old mid new x r counts day change noted rows =
+put_changed counts day change noted rows =
     let after = counts_with day change (as_stored counts) in
-    put_then g old mid new x r Always (IsThere change) (IsFree change) (λ t. (as_stored counts ≡ counts_of t) × IsThere change t) (IsFree change)
-    (HasRoom counts (taken_by change)) (IsInRange change) (IsPuttable counts change)
-    (with_counts after) (rows_put change) (λ t. dated day (changed change t))
-    (λ t there. there_with change after t there.1) (λ t there. dated_is day change (as_stored counts) t there.0) (λ t free. free_with change after t free) (λ good. good.0)
-    noted rows
+    put_then noted rows (λ t there. there_with change after t there.1) (λ t there. dated_is day change (as_stored counts) t there.0) (λ t. free_with change after t) turned
 
--- counts for which there was room can be written
-pub countable_after : (next before : Told) (day : ℕ) (taken : Taken) → as_stored next ≡ counts_after day taken (as_stored before) → HasRoom before taken → AreCountable next
-countable_after next before day taken is room =
+-- counts can be written just where there was room for them
+pub has_room : (next before : Told) (day : ℕ) (taken : Taken) → as_stored next ≡ counts_after day taken (as_stored before) → HasRoom before taken ↔ (¬ (¬ AreCountable next))
+has_room next before day taken is =
     let entries_are : next.entries ≡ before.entries + 1 = ap (λ (c : Counts). c.entries) is in
     let serial_is : next.serial ≡ before.serial + taken.serials = ap (λ (c : Counts). c.serial) is in
     let claims_are : next.claims ≡ before.claims + taken.claims = ap (λ (c : Counts). c.claims) is in
     let lists_are : next.lists ≡ before.lists + taken.lists = ap (λ (c : Counts). c.lists) is in
     let runs_are : next.runs ≡ before.runs + taken.runs = ap (λ (c : Counts). c.runs) is in (
-      omega (arith, entries_are, room.0),
-      omega (arith, serial_is, room.1),
-      omega (arith, claims_are, room.2),
-      omega (arith, lists_are, room.3),
-      omega (arith, runs_are, room.4),
+      λ room out. out (omega (arith, entries_are, room.0), omega (arith, serial_is, room.1), omega (arith, claims_are, room.2), omega (arith, lists_are, room.3), omega (arith, runs_are, room.4)),
+      λ taken. grind (arith, taken, entries_are, serial_is, claims_are, lists_are, runs_are),
     )

@@ -1,6 +1,7 @@
 -- Rows put into the tables by a loop, one after another.
 use Rattle.std.proofs.Common.{◌≡◌, ℕ, ◌+◌, ◌<◌, ◌≤◌, List, [], ◌∷◌, length, get_or, drop, Bool, false, Result, Ok, Err, sym, ap, ◌∙◌, subst}
 use Rattle.std.proofs.lemmas.List.{drop_all, drop_more}
+use Rattle.std.specs.Prelude.{◌↔◌}
 use Rattle.sqlite.specs.Held.{Held}
 use Rattle.sqlite.specs.Store.{Ghosts}
 use Rattle.clear_values.specs.Tables.{Tables}
@@ -13,6 +14,10 @@ module _ {S Row : Type 0} (g : Ghosts S) (there free : List Row → Tables → T
   -- what is promised of rows
   abbrev pub PutsRows : List Row → Held S → Held S → Result (Unit {0}) Fault → Type 0
   PutsRows rows old new r = Puts {A = Unit {0}} g old new r (there rows) (free rows) (good rows) (changed rows)
+
+-- one row, whose key is free and which is in its range just where the statement finds it so
+put_just : {S A : Type 0} {g : Ghosts S} {old new : Held S} {r : Result A Fault} {out : Type 0} {held : Tables → Bool} {one : Tables → Tables} → Writes g old new r out held one → Puts g old new r Always (λ t. held t ≡ false) (¬ out) one
+put_just writes = put_by writes (λ t. (λ free. free, λ free. free)) (λ good. good, λ good. good)
 
 -- the first rows were put: what comes of those behind them comes of all
 pub record AreBegun {S Row : Type 0} (g : Ghosts S) (there free : List Row → Tables → Type 0) (good : List Row → Type 0) (changed : List Row → Tables → Tables) (rows : List Row) (i : ℕ) (old now : Held S) : Type 0 where
@@ -30,17 +35,14 @@ module _ {S Row : Type 0} {g : Ghosts S} {there free : List Row → Tables → T
   -- one row more was put
   pub one_more : {mid : Held S} {row : Row} {out : Type 0} {held : Tables → Bool} {one : Tables → Tables} → i < length rows → row ≡ get_or rows i row → AreBegun g there free good changed rows i old now → Writes {A = Unit {0}} g now mid (Ok tt) out held one
       → ((t : Tables) → there (row ∷ drop (i + 1) rows) t → there (drop (i + 1) rows) (one t)) → ((t : Tables) → there (row ∷ drop (i + 1) rows) t → changed (drop (i + 1) rows) (one t) ≡ changed (row ∷ drop (i + 1) rows) t)
-      → ((t : Tables) → free (row ∷ drop (i + 1) rows) t → free (drop (i + 1) rows) (one t)) → (good (row ∷ drop (i + 1) rows) → good (drop (i + 1) rows)) → AreBegun g there free good changed rows (i + 1) old mid
-  one_more {mid} {row} {out} {held} {one} h is begun writes theres same frees fine =
-      let first : Puts {A = Unit {0}} g now mid (Ok tt) Always (λ t. held t ≡ false) (¬ out) one = put_by g {A = Unit {0}} now mid (Ok tt) out held one (λ t. held t ≡ false) (¬ out) (λ t none. none) (λ none. none) writes in
-      record { on = λ new r puts. on_from row h is begun new r (put_then g {A = Unit {0}} {B = Unit {0}} now mid new tt r _ _ _ _ _ _ _ _ one _ _ theres same frees fine first puts) }
+      → ((t : Tables) → free (row ∷ drop (i + 1) rows) t ↔ ((held t ≡ false) × free (drop (i + 1) rows) (one t))) → (good (row ∷ drop (i + 1) rows) ↔ ((¬ out) × good (drop (i + 1) rows))) → AreBegun g there free good changed rows (i + 1) old mid
+  one_more h is begun writes theres same frees fine = record { on = λ new r puts. on_from _ h is begun new r (put_then (put_just writes) puts theres same frees fine) }
 
   -- one row was refused
   pub refused : {mid : Held S} {row : Row} {fault : Fault} {out : Type 0} {held : Tables → Bool} {one : Tables → Tables} → i < length rows → row ≡ get_or rows i row → AreBegun g there free good changed rows i old now → Writes {A = Unit {0}} g now mid (Err fault) out held one
-      → ((t : Tables) → free (row ∷ drop (i + 1) rows) t → held t ≡ false) → (good (row ∷ drop (i + 1) rows) → ¬ out) → PutsRows g there free good changed rows old mid (Err fault)
-  refused {mid} {row} {fault} {out} {held} {one} h is begun writes frees fine =
-      on_from row h is begun mid (Err fault) (first_failed g {A = Unit {0}} {B = Unit {0}} now mid fault Always (free (row ∷ drop (i + 1) rows)) _ _ (good (row ∷ drop (i + 1) rows)) _ one _ (λ t is. is) (λ is. is) (put_by g {A = Unit {0}} now mid (Err fault) out held one (free (row ∷ drop (i + 1) rows)) (good (row ∷ drop (i + 1) rows)) frees fine writes))
+      → ((t : Tables) → free (row ∷ drop (i + 1) rows) t ↔ ((held t ≡ false) × free (drop (i + 1) rows) (one t))) → (good (row ∷ drop (i + 1) rows) ↔ ((¬ out) × good (drop (i + 1) rows))) → PutsRows g there free good changed rows old mid (Err fault)
+  refused h is begun writes frees fine = on_from _ h is begun _ _ (first_failed (put_just writes) (λ t free. ((frees t).0 free).0) (λ good. (fine.0 good).0))
 
   -- the rows end
-  pub all_done : length rows ≤ i → AreBegun g there free good changed rows i old now → ((t : Tables) → t ≡ changed [] t) → PutsRows g there free good changed rows old now (Ok tt)
-  all_done h begun same = on_with [] (drop_all i rows h) begun now (Ok tt) (put_none g {A = Unit {0}} now tt (there []) (free []) (good []) (changed []) same)
+  pub all_done : length rows ≤ i → AreBegun g there free good changed rows i old now → ((t : Tables) → t ≡ changed [] t) → ((t : Tables) → free [] t) → good [] → PutsRows g there free good changed rows old now (Ok tt)
+  all_done h begun same frees fine = on_with [] (drop_all i rows h) begun now (Ok tt) (put_none now tt same frees fine)

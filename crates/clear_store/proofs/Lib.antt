@@ -4,5 +4,6 @@ pub mod EachLemmas
 pub mod JoinLemmas
 pub mod OnceLemmas
 pub mod PutLemmas
+pub mod RangeLemmas
 pub mod RateLemmas
 pub mod RowLemmas

@@ -1,6 +1,7 @@
 -- Rows with free keys, added one after another.
-use Rattle.std.proofs.Common.{◌≡◌, ℕ, List, [], ◌∷◌, Option, None, Some, is_some, Bool, true, false, cond, ◌||◌, ap, ap₂, ◌∙◌}
-use Rattle.clear_values.specs.Keyed.{is_key, is_before, find_row, with_row}
+use Rattle.std.proofs.Common.{◌≡◌, ℕ, List, [], ◌∷◌, Option, None, Some, is_some, Bool, true, false, cond, ◌||◌, refl, ap, ap₂, ◌∙◌, true≢false}
+use Rattle.std.specs.Prelude.{◌↔◌}
+use Rattle.clear_values.specs.Keyed.{is_key, is_before, is_held, find_row, with_row}
 use Rattle.clear_values.proofs.KeyedLemmas.{other_row}
 use Rattle.clear_store.specs.Changes.{AreFree}
 
@@ -42,13 +43,41 @@ module _ {Row : Type 0} (key : Row → List ℕ) where
   )
 
   -- keys that are free behind a row are so, too, where it stands in another order
-  pub free_behind : (order : Row → List ℕ) (rows : List Row) (new : Row) (news : List Row) → AreFree key (with_row key rows new) news → AreFree key (with_row order rows new) news
-  free_behind order rows new news =
-      free_among (with_row key rows new) (with_row order rows new) news (λ k none. let parts = with_none key k key rows new none in none_with key k order rows new parts.0 parts.1)
+  free_behind : (first second : Row → List ℕ) (rows : List Row) (new : Row) (news : List Row) → AreFree key (with_row first rows new) news → AreFree key (with_row second rows new) news
+  free_behind first second rows new news =
+      free_among (with_row first rows new) (with_row second rows new) news (λ k none. let parts = with_none key k first rows new none in none_with key k second rows new parts.0 parts.1)
 
--- a key that is free is not held
-pub not_held : {X : Type 0} (found : Option X) → found ≡ None → is_some found ≡ false
-not_held found free = ap is_some free
+-- a key is free just where it is not held
+pub not_held : {X : Type 0} (found : Option X) → (found ≡ None) ↔ (is_some found ≡ false)
+not_held None = (λ free. refl, λ held. refl)
+not_held (Some x) = (λ free. ap is_some free, λ held. absurd (true≢false held))
 
-pub neither_held : {X : Type 0} (a b : Option X) → a ≡ None → b ≡ None → (is_some a || is_some b) ≡ false
-neither_held a b first second = ap₂ (λ x y. is_some x || is_some y) first second
+-- the first key of some
+pub first_not_held : {X Rest : Type 0} (found : Option X) → ((found ≡ None) × Rest) ↔ ((is_some found ≡ false) × Rest)
+first_not_held found = (λ free. ((not_held found).0 free.0, free.1), λ free. ((not_held found).1 free.0, free.1))
+
+-- of rows with two keys that stand in the order of one of them
+pub first_neither_held : {Row : Type 0} (key other : Row → List ℕ) (rows : List Row) (new : Row) (news : List Row)
+    → (AreFree key rows (new ∷ news) × AreFree other rows (new ∷ news)) ↔ (((is_held key new rows || is_held other new rows) ≡ false) × (AreFree key (with_row key rows new) news × AreFree other (with_row key rows new) news))
+first_neither_held key other rows new news = (
+  λ free. (ap₂ (λ x y. is_some x || is_some y) free.0.0 free.1.0, (free.0.1, free_behind other other key rows new news free.1.1)),
+  λ free. (
+    ((not_held (find_row key rows (key new))).1 (or_left _ _ free.0), free.1.0),
+    ((not_held (find_row other rows (other new))).1 (or_right _ _ free.0), free_behind other key other rows new news free.1.1),
+  ),
+)
+  where
+    or_left : (a b : Bool) → (a || b) ≡ false → a ≡ false
+    or_left false b neither = refl
+    or_left true b neither = neither
+
+    or_right : (a b : Bool) → (a || b) ≡ false → b ≡ false
+    or_right false b neither = neither
+    or_right true b neither = absurd (true≢false neither)
+
+-- a statement that asks for no free key
+pub no_key : Unit {0} ↔ (false ≡ false)
+no_key = (λ is. refl, λ is. tt)
+
+pub no_keys : Unit {0} ↔ ((false ≡ false) × Unit {0})
+no_keys = (λ is. (refl, tt), λ is. tt)

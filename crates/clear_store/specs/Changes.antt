@@ -37,13 +37,17 @@ use Rattle.clear_firms.specs.Shown.{rate_key}
 use Rattle.clear_ledger.specs.Shown.{for_firm, serial_key}
 use Rattle.clear_store.specs.declared.changes.Taken.{Taken}
 
--- rows were put into the tables, where what has to be there was there; `Constraint` comes only
--- where a key was not free, and `Row` only where a number was out of its range
+-- rows were put into the tables, where what has to be there was there; it is done only where each key
+-- was free and each number in its range, `Constraint` comes only where a key was not free, and `Row`
+-- only where a number was out of its range
 pub record Puts {S A : Type 0} (g : Ghosts S) (old new : Held S) (result : Result A Fault)
     (is_there is_free : Tables → Type 0) (is_good : Type 0) (changed : Tables → Tables) : Type 0
   where
     pub put : HasCleanDisk (state g new) → (t : Tables) → HasTables t (state g old).now
         → is_there t → OnOk result (HasTables (changed t) (state g new).now)
+    pub free : HasCleanDisk (state g new) → (t : Tables) → HasTables t (state g old).now
+        → OnOk result (is_free t)
+    pub in_range : OnOk result is_good
     pub cause : HasCleanDisk (state g new) → (t : Tables) → HasTables t (state g old).now
         → IfErr result (λ fault. fault ≡ Store Constraint → ¬ is_free t)
     pub range : IfErr result (λ fault. fault ≡ Store OutOfRange → ¬ is_good)
@@ -153,7 +157,8 @@ IsFree (AddRun row reminders) t =
 abbrev pub IsMonthInRange : ReportRow → List WageLine → Type 0
 IsMonthInRange row lines = IsVersion row.version × AreGross lines
 
--- the numbers in the rows lie in their ranges
+-- the numbers that the change writes lie in their ranges: of a line that is given to a firm the serial
+-- of its credit alone, since the line has its own already
 abbrev pub IsInRange : Change → Type 0
 IsInRange (AddRate row) = Unit {0}
 IsInRange (AddEmployer row) = Unit {0}
@@ -161,7 +166,7 @@ IsInRange (EndMembership row) = Unit {0}
 IsInRange (AddReport row lines charge) = IsMonthInRange row lines × AreInRange charge
 IsInRange (ReplaceReport row lines charge) = IsMonthInRange row lines × AreInRange charge
 IsInRange (AddBankLines rows) = AreSerials rows
-IsInRange (AssignLine row) = IsSerial row.serial
+IsInRange (AssignLine row) = HaveSerials (credits_of_lines (row ∷ []))
 IsInRange (AddClaim row) = IsClaimRow row
 IsInRange (WithdrawClaim row) = IsClaimRow row
 IsInRange (ReleaseClaim row serial) = IsClaimRow row × HaveSerials (set_offs_of row serial)

@@ -53,7 +53,8 @@ pub(crate) fn insert_credits_of<S: Alter>(
 ) -> Result<(), Fault>
     ensures same_reference { tx.new.conn.ghost_name ≡ tx.old.conn.ghost_name }
     ensures puts { Puts S.Store tx.old.conn.now tx.new.conn.now result (λ _. Unit {0})
-        (λ t. AreFree credit_key t.credits (credits_of_lines rows.now)) (AreSerials rows.now)
+        (λ t. AreFree credit_key t.credits (credits_of_lines rows.now))
+        (HaveSerials (credits_of_lines rows.now))
         (λ t. record t {
           credits = with_rows credit_key t.credits (credits_of_lines rows.now);
         }) }

@@ -24,10 +24,11 @@ use std::alloc::Global;
 /// Puts a change into the tables, and notes the day of its request and one entry more. `counts` are
 /// those that stand.
 ///
+/// It is done only where each key that it adds is free, each number of a row is in its range, and at
+/// most 50,000,000 entries, claims, lists and runs, and 500,000,000,000 serials, are then counted.
 /// `Fault::Store(StoreCause::Constraint)` comes only where a key is not free, and
-/// `Fault::Store(StoreCause::Row)` only where a number of a row is out of its range, or more than
-/// 50,000,000 entries, claims, lists or runs, or 500,000,000,000 serials, would be counted. After an
-/// error a part of the change may be done: the transaction is to be rolled back.
+/// `Fault::Store(StoreCause::Row)` only where a number or a count is out of its range. After an error
+/// a part of the change may be done: the transaction is to be rolled back.
 pub fn put_change<S: Alter>(
     alloc: Global,
     tx: &mut Transaction<'_, S>,

@@ -4,7 +4,7 @@ ghost use Rattle.clear_values.specs.Credits.{credit_key, set_off, set_offs_at, s
 ghost use Rattle.clear_values.specs.Keyed.{put_row, with_row, with_rows};
 ghost use Rattle.clear_values.specs.RowRanges.{IsClaimRow, IsReleased};
 ghost use Rattle.clear_values.specs.Tables.{claim_key};
-ghost use Rattle.clear_store.specs.Changes.{AreFree, IsClaimThere, IsFree, IsInRange, Puts};
+ghost use Rattle.clear_store.specs.Changes.{IsClaimThere, IsFree, IsInRange, Puts};
 
 use crate::bank_file::insert_credits;
 use clear_ledger::claims::{insert_claim, replace_claim};
@@ -55,27 +55,9 @@ pub(crate) fn put_release<S: Alter>(
           credits = with_rows credit_key t.credits (set_offs_of claim.now serial);
         }) }
 {
-    insert_set_offs(alloc, tx, claim, serial)?;
-    put_claim(tx, claim)
-}
-
-// Adds the set-offs of a claim as credits.
-fn insert_set_offs<S: Alter>(
-    alloc: Global,
-    tx: &mut Transaction<'_, S>,
-    claim: &ClaimRow,
-    serial: u64,
-) -> Result<(), Fault>
-    ensures same_reference { tx.new.conn.ghost_name ≡ tx.old.conn.ghost_name }
-    ensures puts { Puts S.Store tx.old.conn.now tx.new.conn.now result (λ _. Unit {0})
-        (λ t. AreFree credit_key t.credits (set_offs_of claim.now serial))
-        (IsInRange (Change.ReleaseClaim claim.now serial))
-        (λ t. record t {
-          credits = with_rows credit_key t.credits (set_offs_of claim.now serial);
-        }) }
-{
     let credits = set_offs(alloc, claim, serial)?;
-    insert_credits(tx, credits.as_slice())
+    insert_credits(tx, credits.as_slice())?;
+    put_claim(tx, claim)
 }
 
 // The set-offs of a claim as it stands.

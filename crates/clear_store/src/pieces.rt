@@ -15,10 +15,11 @@ use sqlite::{Alter, Transaction};
 /// Puts rows in the place of a firm's pieces of a month or a later one, whose credit is that of a
 /// day and a serial or a later one. All other pieces stay, whatever they hold.
 ///
-/// `Fault::Store(StoreCause::Constraint)` comes only where another piece, or a row before it, has a
-/// row's key, and `Fault::Store(StoreCause::Row)` only where a number of a row is out of its range:
-/// a serial is from 1 to 500,000,000,000, and the cents are at most 5,000,000,000. After an error a
-/// part of the change may be done: the transaction is to be rolled back.
+/// It is done only where no other piece, and no row before it, has a row's key, and each number is in
+/// its range: a serial is from 1 to 500,000,000,000, and the cents are at most 5,000,000,000.
+/// `Fault::Store(StoreCause::Constraint)` comes only where a key is not free, and
+/// `Fault::Store(StoreCause::Row)` only where a number is out of its range. After an error a part of
+/// the change may be done: the transaction is to be rolled back.
 pub fn replace_pieces<S: Alter>(
     tx: &mut Transaction<'_, S>,
     from: &PieceFrom,
@@ -41,7 +42,7 @@ pub fn replace_pieces<S: Alter>(
 
 /// Adds pieces, one after another. All that stand stay, whatever they hold.
 ///
-/// What a fault tells, and what an error leaves, are as of `replace_pieces`.
+/// Where it is done, what a fault tells, and what an error leaves, are as of `replace_pieces`.
 pub fn insert_pieces<S: Alter>(tx: &mut Transaction<'_, S>, rows: &[PieceRow]) -> Result<(), Fault>
     ensures same_reference { tx.new.conn.ghost_name ≡ tx.old.conn.ghost_name }
     ensures puts { Puts S.Store tx.old.conn.now tx.new.conn.now result (λ _. Unit {0})

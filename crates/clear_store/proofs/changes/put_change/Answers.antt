@@ -4,11 +4,9 @@ use Rattle.clear_store.proofs.ChangeLemmas.{put_changed}
 use Rattle.clear_store.proofs.changes.put_change.Goals as goal
 
 pub returns-clause-puts : goal.returns-clause-puts
-returns-clause-puts g c =
-    put_changed g.S.Store c.args.tx.now.conn.now c.note.new.tx.conn.now c.put_rows.new.tx.conn.now _ c.put_rows.result c.args.counts.now c.args.day c.args.change.now
-    (rw c.taken_by-taken.ensures at c.in_ok-note.ensures.puts) c.put_rows.ensures.puts
+returns-clause-puts g c = put_changed c.args.counts.now c.args.day c.args.change.now (rw c.taken_by-taken.ensures at c.in_ok-note.ensures.puts) c.put_rows.ensures.puts
 
 pub returns-in_err-note-clause-puts : goal.returns-in_err-note-clause-puts
 returns-in_err-note-clause-puts g c =
     let p = err_from_is_err_and c.from_residual.result c.from_residual.ensures.1 in
-    rw (p.1, p.2) (first_failed g.S.Store c.args.tx.now.conn.now c.note.new.tx.conn.now _ _ _ _ _ _ _ _ _ (λ t free. tt) (λ good. good.1) (rw c.taken_by-taken.ensures at c.in_err-note.ensures.puts))
+    rw (p.1, p.2) (first_failed (rw c.taken_by-taken.ensures at c.in_err-note.ensures.puts) (λ t free. tt) (λ good. good.1))

@@ -1,6 +1,7 @@
 use Rattle.clear_store.proofs.JoinLemmas.{put_by}
+use Rattle.clear_store.proofs.RangeLemmas.{claim_stable, in_range}
 use Rattle.clear_store.proofs.RowLemmas.{not_held}
 use Rattle.clear_store.proofs.claims.add_claim.Goals as goal
 
 pub returns-clause-puts : goal.returns-clause-puts
-returns-clause-puts g c = put_by g.S.Store c.args.tx.now.conn.now c.insert_claim.new.tx.conn.now c.insert_claim.result _ _ _ _ _ (λ t free. not_held _ free) (λ good out. out good) c.insert_claim.ensures.writes
+returns-clause-puts g c = put_by c.insert_claim.ensures.writes (λ t. not_held _) (in_range (claim_stable c.args.row.now))
