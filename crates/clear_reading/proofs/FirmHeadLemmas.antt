@@ -95,9 +95,6 @@ module _ (b : Book) (t : Tables) (lawful : IsLawful b) (weighed : StandsWeighed 
   number : row.employer ≡ e
   number = (member_found b t weighed.stands e row found).0
 
-  registered : member_of b.entries e ≡ Some (member_in r.member)
-  registered = (member_found b t weighed.stands e row found).1 ∙ ap (λ (m : EmployerRow). Some (member_in m)) (sym read.member_is)
-
   kept : AreKept b day r.rates r.member r.charges r.interest_credits.items
   kept =
       subst (λ (m : EmployerRow). AreKept b day r.rates m r.charges r.interest_credits.items) (sym read.member_is)

@@ -9,24 +9,12 @@ use Rattle.clear_book.specs.Book.{Book, member_of}
 use Rattle.clear_book.specs.Lines.{is_credit_of}
 use Rattle.clear_book.specs.Tables.{Tables}
 use Rattle.clear_book.specs.declared.rows.EmployerRow.{EmployerRow}
-use Rattle.clear_texts.specs.Records.{AreStatementRecords, IsHead}
-use Rattle.clear_texts.specs.declared.records.StatementHead.{StatementHead}
 use Rattle.clear_texts.specs.declared.records.StatementRecords.{StatementRecords}
 
--- what the statement of the employer tells on a day; and nothing where it isn't registered
-abbrev pub IsFound : Book → ℕ → ℕ → Option StatementHead → Type 0
-IsFound b e day None = member_of b.entries e ≡ None
-IsFound b e day (Some head) = IsHead b e day head
-
--- what it tells of an employer that is registered
-abbrev pub IsHeadOf : Book → ℕ → ℕ → Option StatementHead → Type 0
-IsHeadOf b e day None = ⊥
-IsHeadOf b e day (Some head) = IsHead b e day head
-
--- the records of the employer's statement on a day; and none where it isn't registered
-abbrev pub AreFound : Book → ℕ → ℕ → Option StatementRecords → Type 0
-AreFound b e day None = member_of b.entries e ≡ None
-AreFound b e day (Some records) = AreStatementRecords b e day records
+-- this is so of what is found of the employer; and nothing is found where it isn't registered
+abbrev pub IsFound : {X : Type 0} → Book → ℕ → (X → Type 0) → Option X → Type 0
+IsFound b e is None = member_of b.entries e ≡ None
+IsFound b e is (Some found) = is found
 
 -- the records are what the tables say of this firm, and its kept contributions and its payments are
 -- those of the book

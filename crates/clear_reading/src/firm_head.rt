@@ -10,8 +10,8 @@ ghost use Rattle.clear_book.specs.Tables.{Tables};
 ghost use Rattle.clear_schema.specs.Frame.{Leaves};
 ghost use Rattle.clear_schema.specs.Faults.{IsOfDisk};
 ghost use Rattle.clear_schema.specs.Held.{HasTables};
-ghost use Rattle.clear_texts.specs.Records.{AreStatementRecords};
-ghost use Rattle.clear_reading.specs.FirmHead.{AreFound, AreRead, IsFound, IsHeadOf};
+ghost use Rattle.clear_texts.specs.Records.{AreStatementRecords, IsHead};
+ghost use Rattle.clear_reading.specs.FirmHead.{AreRead, IsFound};
 
 use crate::stored::fault_told;
 use clear_bank::lines::Purpose;
@@ -45,7 +45,7 @@ pub fn firm_head<S: Alter>(
     ensures head { HasCleanDisk (state S.Store tx.new.conn.now)
         → (t : Tables) → HasTables t (state S.Store tx.old.conn.now).now
         → day_back t.day day ≡ None → (b : Book) → IsLawful b → StandsWeighed b t
-        → IfOk result (IsFound b employer day) }
+        → IfOk result (IsFound b employer (IsHead b employer day)) }
     // On a day that isn't before the ledger day, as it is judged to be before.
     ensures fault { HasCleanDisk (state S.Store tx.new.conn.now)
         → (t : Tables) → HasTables t (state S.Store tx.old.conn.now).now
@@ -54,25 +54,11 @@ pub fn firm_head<S: Alter>(
     ensures leaves { Leaves S.Store tx.old.conn.now tx.new.conn.now result }
 {
     match find_records(alloc, tx, day, employer)? {
-        Some(records) => make_head(alloc, &records, day),
+        Some(records) => match statement_head(alloc, &records, day) {
+            Ok(head) => Ok(Some(head)),
+            Err(fault) => Err(fault_told(fault)),
+        },
         None => Ok(None),
-    }
-}
-
-// What the statement tells that these records make.
-fn make_head(
-    alloc: Global,
-    records: &StatementRecords,
-    day: Day,
-) -> Result<Option<StatementHead>, Fault>
-    ensures head { (b : Book) (e : _) → AreStatementRecords b e day records.now
-        → IfOk result (IsHeadOf b e day) }
-    ensures fault { (b : Book) (e : _) → AreStatementRecords b e day records.now
-        → IfErr result IsOfDisk }
-{
-    match statement_head(alloc, records, day) {
-        Ok(head) => Ok(Some(head)),
-        Err(fault) => Err(fault_told(fault)),
     }
 }
 
@@ -87,7 +73,7 @@ fn find_records<S: Alter>(
     ensures records { HasCleanDisk (state S.Store tx.new.conn.now)
         → (t : Tables) → HasTables t (state S.Store tx.old.conn.now).now
         → day_back t.day day ≡ None → (b : Book) → IsLawful b → StandsWeighed b t
-        → IfOk result (AreFound b employer day) }
+        → IfOk result (IsFound b employer (AreStatementRecords b employer day)) }
     ensures fault { HasCleanDisk (state S.Store tx.new.conn.now)
         → (t : Tables) → HasTables t (state S.Store tx.old.conn.now).now
         → (b : Book) → IsLawful b → StandsWeighed b t → IfErr result IsOfDisk }

@@ -1,8 +1,9 @@
 -- The firms that the lines of a file name, each once, and what is found of them.
 use Rattle.std.proofs.Common.{◌≡◌, ℕ, ◌+◌, ◌<◌, ◌≤◌, ◌==◌, List, [], ◌∷◌, ◌++◌, length, take, get_or, Option, None, Some, Bool, true, false, not, cond, ◌&&◌, ◌||◌, is_some, refl, sym, ap, subst, ◌∙◌, arith}
+use Rattle.std.proofs.lemmas.Bool.{and_parts}
 use Rattle.std.proofs.lemmas.List.{take_all}
 use Rattle.std.proofs.lemmas.List.Folds.{list_any_more, list_any-append}
-use Rattle.std.specs.List.{AllByRecursion, cons_option, filter_map, list_any}
+use Rattle.std.specs.List.{AllByRecursion, cons_option, filter_map, list_all, list_any}
 use Rattle.std.specs.Option.{option_map, option_map_or}
 use Rattle.std.specs.Ordering.{nat_cmp, is_eq}
 use Rattle.std.specs.Prelude.{IfSome}
@@ -137,23 +138,45 @@ each_named P (line ∷ lines) all = (told line.employer (λ e here. all e (ap (�
     told None all = tt
     told (Some e) all = all e (itself e)
 
--- what holds of each of these firms
-one_of : (P : ℕ → Type 0) (e : ℕ) (firms : List ℕ) → AllByRecursion P firms → is_among e firms ≡ true → P e
-one_of P e [] all among = absurd cc
-one_of P e (n ∷ firms) all among = told (n == e) refl among (one_of P e firms all.1)
+-- what is so of each of these firms
+one_of : (test : ℕ → Bool) (e : ℕ) (firms : List ℕ) → list_all test firms ≡ true → is_among e firms ≡ true → test e ≡ true
+one_of test e [] all among = absurd cc
+one_of test e (n ∷ firms) all among = told (n == e) refl among (one_of test e firms (and_parts (test n) (list_all test firms) all).1)
   where
-    told : (b : Bool) → (n == e) ≡ b → (b || is_among e firms) ≡ true → (is_among e firms ≡ true → P e) → P e
-    told true same among rest = subst P (same_worker n e same) all.0
+    told : (b : Bool) → (n == e) ≡ b → (b || is_among e firms) ≡ true → (is_among e firms ≡ true → test e ≡ true) → test e ≡ true
+    told true same among rest = subst (λ k. test k ≡ true) (same_worker n e same) (and_parts (test n) (list_all test firms) all).0
     told false same among rest = rest among
 
--- where something comes of as many as there are, it comes of each
-all_some : {X Y : Type 0} (f : X → Option Y) (xs : List X) → length (filter_map f xs) ≡ length xs → AllByRecursion (λ x. is_some (f x) ≡ true) xs
-all_some f [] as_many = tt
-all_some {Y = Y} f (x ∷ xs) as_many = told (f x) as_many (all_some f xs)
-  where
-    told : (o : Option Y) → length (cons_option o (filter_map f xs)) ≡ length (x ∷ xs) → (length (filter_map f xs) ≡ length xs → AllByRecursion (λ x. is_some (f x) ≡ true) xs) → (is_some o ≡ true) × AllByRecursion (λ x. is_some (f x) ≡ true) xs
-    told None as_many rest = absurd (omega (arith, as_many, filter_map-few f xs))
-    told (Some y) as_many rest = (refl, rest (omega (arith, as_many)))
+-- of two truths each follows from the other
+same_truth : (a b : Bool) → (a ≡ true → b ≡ true) → (b ≡ true → a ≡ true) → a ≡ b
+same_truth true b there back = sym (there refl)
+same_truth false true there back = back refl
+same_truth false false there back = refl
+
+module _ {X Y : Type 0} (f : X → Option Y) where
+  -- where something comes of as many as there are, it comes of each
+  all_some : (xs : List X) → length (filter_map f xs) ≡ length xs → list_all (λ x. is_some (f x)) xs ≡ true
+  all_some [] as_many = refl
+  all_some (x ∷ xs) as_many = told (f x) as_many (all_some xs)
+    where
+      told : (o : Option Y) → length (cons_option o (filter_map f xs)) ≡ length (x ∷ xs) → (length (filter_map f xs) ≡ length xs → list_all (λ x. is_some (f x)) xs ≡ true) → (is_some o && list_all (λ x. is_some (f x)) xs) ≡ true
+      told None as_many rest = absurd (omega (arith, as_many, filter_map-few f xs))
+      told (Some y) as_many rest = rest (omega (arith, as_many))
+
+  -- where it comes of each, it comes of as many
+  as_many_some : (xs : List X) → list_all (λ x. is_some (f x)) xs ≡ true → length (filter_map f xs) ≡ length xs
+  as_many_some [] all = refl
+  as_many_some (x ∷ xs) all = told (f x) all (as_many_some xs)
+    where
+      told : (o : Option Y) → (is_some o && list_all (λ x. is_some (f x)) xs) ≡ true → (list_all (λ x. is_some (f x)) xs ≡ true → length (filter_map f xs) ≡ length xs) → length (cons_option o (filter_map f xs)) ≡ length (x ∷ xs)
+      told None all rest = absurd cc
+      told (Some y) all rest = omega (arith, rest all)
+
+  -- these are as many just where something comes of each
+  pub as_many_as : (xs : List X) (found given : ℕ) → found ≡ length (filter_map f xs) → given ≡ length xs → (found == given) ≡ list_all (λ x. is_some (f x)) xs
+  as_many_as xs found given few many =
+      same_truth (found == given) (list_all (λ x. is_some (f x)) xs) (λ same. all_some xs (sym few ∙ same_worker found given same ∙ many))
+      (λ all. subst (λ n. (found == n) ≡ true) (few ∙ as_many_some xs all ∙ sym many) (itself found))
 
 module _ (t : Tables) (serving : Option ℕ) where
   its_number : (n e : ℕ) (credits : EmployerCredits) → firm_viewed serving t n ≡ Some credits → (credits.employer == e) ≡ (n == e)
@@ -173,8 +196,7 @@ module _ (t : Tables) (serving : Option ℕ) where
     pub named_found : AllByRecursion (λ line. IfSome line.employer (λ e. employer_under found e ≡ firm_viewed serving t e)) lines
     named_found = each_named (λ e. employer_under found e ≡ firm_viewed serving t e) lines found_as
 
-    -- as many as were named: so each is registered
-    pub named_registered : length found ≡ length firms → AllByRecursion (λ line. IfSome line.employer (λ e. is_some (employer_under found e) ≡ true)) lines
-    named_registered as_many =
-        let all = all_some (firm_viewed serving t) firms (ap length (sym is) ∙ as_many) in
-        each_named (λ e. is_some (employer_under found e) ≡ true) lines (λ e there. ap is_some (found_as e there) ∙ one_of (λ e. is_some (firm_viewed serving t e) ≡ true) e firms all (named e ∙ there))
+    -- where each of the firms is registered
+    pub named_registered : list_all (λ e. is_some (firm_viewed serving t e)) firms ≡ true → AllByRecursion (λ line. IfSome line.employer (λ e. is_some (employer_under found e) ≡ true)) lines
+    named_registered all =
+        each_named (λ e. is_some (employer_under found e) ≡ true) lines (λ e there. ap is_some (found_as e there) ∙ one_of (λ e. is_some (firm_viewed serving t e)) e firms all (named e ∙ there))

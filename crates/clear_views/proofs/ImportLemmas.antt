@@ -37,6 +37,7 @@ use Rattle.clear_rules.specs.declared.decide.import.EmployerCredits.{EmployerCre
 use Rattle.clear_rules.specs.declared.decide.import.ImportView.{ImportView}
 use Rattle.clear_schema.specs.Frame.{LooksUp}
 use Rattle.clear_schema.specs.declared.fault.Fault.{Fault}
+use Rattle.clear_views.proofs.FirmLemmas.{named_registered}
 use Rattle.clear_views.proofs.FoundLemmas.{each_found}
 use Rattle.clear_views.proofs.StillLemmas.{reads_query}
 use Rattle.clear_views.proofs.ViewLemmas.{credits_counted}
@@ -80,7 +81,8 @@ pub suspense_read : (t : Tables) (serials : ℕ) (lines : List BankLine) (servin
     → (n ≡ count_by is_in_suspense t.bank) ⊎ IsServing serials (length lines) most_suspense n ⊎ ((n ≡ most_suspense) × AllByRecursion (λ line. is_placed found.registered.items line ≡ true) lines)
 suspense_read t serials lines serving found n named (inl counted) = inl counted
 suspense_read t serials lines serving found n named (inr (inl serves)) = inr (inl serves)
-suspense_read t serials lines serving found n named (inr (inr (most, all, each))) = inr (inr (most, all_placed found.registered.items lines (named.registered all) each))
+suspense_read t serials lines serving found n named (inr (inr (most, all, each))) =
+    inr (inr (most, all_placed found.registered.items lines (named_registered t serving found.registered.items named.firms named.registered lines named.named (sym named.all ∙ all)) each))
 
 -- ---- the lines under the references of a file
 

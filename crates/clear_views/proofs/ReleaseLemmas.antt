@@ -1,6 +1,5 @@
 -- What the records of a firm say of what it owes is what the book says.
-use Rattle.std.proofs.Common.{◌≡◌, ℕ, ◌<◌, Bool, true, false, cond, nat_lt, inl, inr, [], ◌∷◌, length, Some, is_some, refl, sym, ap, subst, ◌∙◌, arith}
-use Rattle.std.proofs.lemmas.Bool.{ltb-true}
+use Rattle.std.proofs.Common.{◌≡◌, ℕ, true, [], ◌∷◌, length, Some, is_some, sym, ap, subst, ◌∙◌, arith}
 use Rattle.std.proofs.lemmas.List.Sums.{length-filter}
 use Rattle.std.specs.List.{AllByRecursion}
 use Rattle.std.specs.Option.{option_map}
@@ -11,6 +10,7 @@ use Rattle.clear_book.specs.declared.rows.EmployerRow.{EmployerRow}
 use Rattle.clear_book.specs.Accounts.{credit_key, credit_rows_of, credits_standing}
 use Rattle.clear_book.specs.Book.{Book, member_of}
 use Rattle.clear_book.specs.Keyed.{find_row}
+use Rattle.clear_book.specs.Limits.{most_credits}
 use Rattle.clear_book.specs.Lines.{credit_count, credits_made, is_credit_of}
 use Rattle.clear_book.specs.Machine.{IsLawful}
 use Rattle.clear_book.specs.Own.Release.{debts_of}
@@ -22,10 +22,10 @@ use Rattle.clear_laws.proofs.KeyedLemmas.{found_key}
 use Rattle.clear_laws.proofs.KeyedRowsLemmas.{AreInOrder-in_key_order, count_by-ordered, find_row-in_key_order}
 use Rattle.clear_rules.specs.declared.decide.release.FirmDebts.{FirmDebts}
 use Rattle.clear_rules.specs.Views.Release.{AreDebts}
-use Rattle.clear_rules.specs.Views.Serves.{Serves}
-use Rattle.clear_views.specs.Overdue.{IsFirm, contributions_viewed, overdue_told}
+use Rattle.clear_views.specs.Bounds.{bound_or_count}
+use Rattle.clear_views.specs.Overdue.{IsFirm, overdue_told}
 use Rattle.clear_views.specs.declared.overdue.Overdue.{Overdue}
-use Rattle.clear_views.proofs.ViewLemmas.{credits_counted}
+use Rattle.clear_views.proofs.ViewLemmas.{bound_serves, credits_counted}
 
 -- a firm has as many standing credits for a purpose as were made for it
 rows_counted : (b : Book) (e : ℕ) (p : Purpose) → length (credit_rows_of b e p) ≡ credit_count (credits_made b.entries) e p
@@ -34,25 +34,17 @@ rows_counted b e p =
     ∙ count_by-ordered credit_key (is_credit_of e p) (credits_standing b.entries) (credits_made b.entries) (AreInOrder-in_key_order credit_key (credits_made b.entries) (credits_once b.entries))
     (credits_once b.entries) (λ k. find_row-in_key_order credit_key (credits_made b.entries) k (credits_once b.entries))
 
--- the number that is viewed serves for them, where one more comes
-viewed_serves : (b : Book) (t : Tables) → Stands b t → (e serials count : ℕ) → serials ≡ t.serial → count ≡ contributions_viewed serials t e → Serves count (credit_count (credits_made b.entries) e Contribution) 1 100000
-viewed_serves b t stands e serials count given is = told (nat_lt serials 100000) refl is
-  where
-    told : (few : Bool) → nat_lt serials 100000 ≡ few → count ≡ cond few serials (credit_count t.credits e Contribution) → Serves count (credit_count (credits_made b.entries) e Contribution) 1 100000
-    told true below same =
-        let low : serials < 100000 = ltb-true serials 100000 below in
-        inr (omega (arith, same, given, stands.serial, credits-few b.entries e Contribution), omega (arith, same, low))
-    told false above same = inl (same ∙ credits_counted b t stands e Contribution)
-
 pub debts_are : (b : Book) (t : Tables) → Stands b t → (e day serials : ℕ) → serials ≡ t.serial → (overdue : Overdue) → overdue ≡ overdue_told b day e → (d : FirmDebts)
     → d.missing ≡ overdue.first → d.arrears ≡ overdue.arrears → d.interest_arrears ≡ overdue.interest
-    → d.contribution_count ≡ contributions_viewed serials t e → d.interest_count ≡ overdue.interest_count → AreDebts (debts_of b day e) d
+    → d.contribution_count ≡ bound_or_count serials most_credits (credit_count t.credits e Contribution) → d.interest_count ≡ overdue.interest_count → AreDebts (debts_of b day e) d
 debts_are b t stands e day serials given overdue told d missing_first owed interest viewed counted =
     record {
       missing_is = missing_first ∙ ap (λ (o : Overdue). o.first) told;
       arrears_is = owed ∙ ap (λ (o : Overdue). o.arrears) told;
       interest_is = interest ∙ ap (λ (o : Overdue). o.interest) told;
-      contributions_serve = viewed_serves b t stands e serials d.contribution_count given viewed;
+      contributions_serve =
+          bound_serves serials most_credits (credit_count t.credits e Contribution) (credit_count (credits_made b.entries) e Contribution) (credits_counted b t stands e Contribution)
+          (omega (arith, given, stands.serial, credits-few b.entries e Contribution)) d.contribution_count viewed;
       interest_count_is = counted ∙ ap (λ (o : Overdue). o.interest_count) told ∙ rows_counted b e Interest;
     }
 
@@ -68,7 +60,3 @@ firm_found b t stands e row found =
     let same : row.employer ∷ [] ≡ e ∷ [] = found_key employer_key t.employers (e ∷ []) row found in
     let number : row.employer ≡ e = cc in
     (number, ap (member_of b.entries) number ∙ sym (stands.employers e) ∙ ap (option_map member_in) found)
-
--- the credits are counted where the serials don't serve
-pub counted_all : (serials : ℕ) (t : Tables) (e count : ℕ) → nat_lt serials 100000 ≡ false → count ≡ credit_count t.credits e Contribution → count ≡ contributions_viewed serials t e
-counted_all serials t e count above counted = counted ∙ ap (λ b. cond b serials (credit_count t.credits e Contribution)) (sym above)

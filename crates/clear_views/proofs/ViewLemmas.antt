@@ -36,7 +36,22 @@ use Rattle.clear_rules.specs.Views.Report.{IsReportView}
 use Rattle.clear_rules.specs.Views.Serves.{Serves}
 use Rattle.clear_rules.specs.Views.Withdraw.{IsWithdrawView}
 use Rattle.clear_rules.specs.declared.decide.withdraw.WithdrawView.{WithdrawView}
+use Rattle.clear_views.specs.Bounds.{bound_or_count}
 use Rattle.clear_views.specs.Ends.{last_report}
+
+-- ---- a number that bounds a count
+
+-- it or the count, whichever is taken, serves for the count, where one more comes
+pub bound_serves : (bound limit counted count : ℕ) → counted ≡ count → count ≤ bound → (n : ℕ) → n ≡ bound_or_count bound limit counted → Serves n count 1 limit
+bound_serves bound limit counted count same within n is = told (nat_lt bound limit) refl is
+  where
+    told : (few : Bool) → nat_lt bound limit ≡ few → n ≡ cond few bound counted → Serves n count 1 limit
+    told true below taken = inr (omega (arith, taken, within), omega (arith, taken, ltb-true bound limit below))
+    told false above taken = inl (taken ∙ same)
+
+-- the count is taken where the number doesn't serve
+pub count_taken : (bound limit counted n : ℕ) → nat_lt bound limit ≡ false → n ≡ counted → n ≡ bound_or_count bound limit counted
+count_taken bound limit counted n above is = is ∙ ap (λ few. cond few bound counted) (sym above)
 
 -- ---- a registration
 
@@ -48,23 +63,16 @@ has_row b t stands e member found = some member ∙ ap is_some (ap (option_map m
     some None = refl
     some (Some row) = refl
 
--- the number of entries or the number of rows, whichever is taken, serves for the number of firms
-counted : (b : Book) (t : Tables) → Stands b t → (few : Bool) → nat_lt t.entries most_employers ≡ few → Serves (cond few t.entries (length t.employers)) (employer_count b.entries) 1 most_employers
-counted b t stands false is = inl stands.employer_rows
-counted b t stands true is = inr (
-  subst (λ n. employer_count b.entries ≤ n) (sym stands.entries) (count_by-le-length (λ (x : Entry). is_registration x.command) b.entries),
-  omega (arith, ltb-true t.entries most_employers is),
-)
-
 pub register_viewed : (b : Book) (t : Tables) → Stands b t → (r : Registration) (view : RegisterView) (entries : ℕ) → entries ≡ t.entries
     → (member : Option EmployerRow) → view.registered ≡ is_some member → member ≡ find_row employer_key t.employers (r.employer ∷ []) → view.has_rate ≡ is_some (rate_in_force t.rates r.start)
-    → view.employer_count ≡ cond (nat_lt entries most_employers) entries (length t.employers) → IsRegisterView b r view
+    → view.employer_count ≡ bound_or_count entries most_employers (length t.employers) → IsRegisterView b r view
 register_viewed b t stands r view entries same member registered found rate count =
     record {
       registered_is = registered ∙ has_row b t stands r.employer member found;
       employers_serve =
-          subst (λ n. Serves n (employer_count b.entries) 1 most_employers) (sym (count ∙ ap (λ n. cond (nat_lt n most_employers) n (length t.employers)) same))
-          (counted b t stands (nat_lt t.entries most_employers) refl);
+          bound_serves t.entries most_employers (length t.employers) (employer_count b.entries) stands.employer_rows
+          (subst (λ n. employer_count b.entries ≤ n) (sym stands.entries) (count_by-le-length (λ (x : Entry). is_registration x.command) b.entries))
+          view.employer_count (count ∙ ap (λ n. bound_or_count n most_employers (length t.employers)) same);
       has_rate_is = rate ∙ ap (λ rates. is_some (rate_in_force rates r.start)) stands.rates;
     }
 

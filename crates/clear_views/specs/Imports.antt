@@ -6,7 +6,7 @@ use Rattle.std.specs.Option.{option_map, option_map_or}
 use Rattle.clear_bank.specs.declared.lines.BankLine.{BankLine}
 use Rattle.clear_bank.specs.declared.lines.Purpose.{Purpose}
 use Rattle.clear_bank.specs.declared.lines.Purpose.TheVariants.{Contribution, Interest}
-use Rattle.clear_book.specs.Keyed.{find_row}
+use Rattle.clear_book.specs.Keyed.{AreOnce, find_row}
 use Rattle.clear_book.specs.Limits.{most_credits, most_suspense}
 use Rattle.clear_book.specs.Lines.{is_credit_of, is_in_suspense}
 use Rattle.clear_book.specs.Tables.{Tables, bank_key, employer_key}
@@ -55,14 +55,15 @@ firm_viewed serving t e =
 abbrev pub IsServing : ℕ → ℕ → ℕ → ℕ → Type 0
 IsServing serials more limit n = (n ≡ serials) × (n + more ≤ limit)
 
--- each firm that these lines name is found as it is viewed; and where all were found to be registered,
--- each of them is
+-- the firms that these lines name, each once: of them the registered ones are found as they are
+-- viewed, in order, and whether that is all of them
 pub record AreNamed (serving : Option ℕ) (t : Tables) (lines : List BankLine)
     (found : NamedFirms) : Type 0 where
-  pub viewed : AllByRecursion (λ line. IfSome line.employer (λ e.
-      employer_under found.registered.items e ≡ firm_viewed serving t e)) lines
-  pub registered : found.all ≡ true → AllByRecursion (λ line. IfSome line.employer (λ e.
-      is_some (employer_under found.registered.items e) ≡ true)) lines
+  pub firms : List ℕ
+  pub named : (e : ℕ) → is_among e firms ≡ list_any (names e) lines
+  pub once : AreOnce firm_key firms
+  pub registered : found.registered.items ≡ filter_map (firm_viewed serving t) firms
+  pub all : found.all ≡ list_all (λ e. is_some (firm_viewed serving t e)) firms
 
 -- the line names a firm, which is among the registered ones
 abbrev pub is_placed : List EmployerCredits → BankLine → Bool

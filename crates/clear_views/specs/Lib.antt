@@ -1,3 +1,4 @@
+pub mod Bounds
 pub mod Ends
 pub mod Imports
 pub mod Overdue

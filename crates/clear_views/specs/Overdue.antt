@@ -1,15 +1,12 @@
 -- What is told of what a firm has overdue.
-use Rattle.std.specs.Prelude.{◌≡◌, ◌≤◌, ℕ, List, All, AllPairs, Some, if◌then◌else◌, length}
-use Rattle.std.specs.Prelude.{nat_lt}
+use Rattle.std.specs.Prelude.{◌≡◌, ◌≤◌, ℕ, List, All, AllPairs, Some, length}
 use Rattle.clear_account.specs.Account.{IsAccount}
-use Rattle.clear_bank.specs.declared.lines.Purpose.TheVariants.{Contribution, Interest}
+use Rattle.clear_bank.specs.declared.lines.Purpose.TheVariants.{Interest}
 use Rattle.clear_book.specs.Accounts.{arrears, charges_of, credit_rows_of, credits_of}
 use Rattle.clear_book.specs.Accounts.{interest_arrears, missing}
 use Rattle.clear_book.specs.Book.{Book, member_of, rates_of}
-use Rattle.clear_book.specs.Limits.{most_credits}
-use Rattle.clear_book.specs.Lines.{credit_count}
 use Rattle.clear_book.specs.Reminders.{first_of_months}
-use Rattle.clear_book.specs.Tables.{Tables, member_in}
+use Rattle.clear_book.specs.Tables.{member_in}
 use Rattle.clear_book.specs.declared.rows.CreditRow.{CreditRow}
 use Rattle.clear_book.specs.declared.rows.EmployerRow.{EmployerRow}
 use Rattle.clear_kept.specs.declared.rows.WeighedCharge.{WeighedCharge}
@@ -45,9 +42,3 @@ pub record AreKept (b : Book) (day : ℕ) (rates : List Rate) (firm : EmployerRo
   pub account : IsAccount (charges_of b firm.employer) (credits_of b firm.employer)
   pub dues_rise : AllPairs (λ c d. c.due ≤ d.due) (charges_of b firm.employer)
   pub days : All (λ k. k.day ≤ day) (credits_of b firm.employer)
-
--- a number that serves for that of a firm's credits for contributions, where one more comes: so
--- many serials, while they are fewer than the credits that it may have; else the number itself
-abbrev pub contributions_viewed : ℕ → Tables → ℕ → ℕ
-contributions_viewed serials t e =
-    if nat_lt serials most_credits then serials else credit_count t.credits e Contribution

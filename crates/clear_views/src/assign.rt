@@ -17,13 +17,13 @@ ghost use Rattle.clear_schema.specs.Held.{HasTables};
 ghost use Rattle.clear_schema.specs.Values.{counts_of};
 ghost use Rattle.clear_views.specs.Reads.{LeavesOpen};
 
-use crate::lookups::line_under;
 use crate::member::find_member;
 use clear_bank::lines::Purpose;
 use clear_book::calls::Assignment;
 use clear_book::limits::MAX_CREDITS;
 use clear_book::rows::BankRow;
 use clear_firms::counts::Counts;
+use clear_ledger::bank::find_line;
 use clear_ledger::credits::credit_count;
 use clear_money::numbers::EmployerNo;
 use clear_rules::decide::assign::AssignView;
@@ -57,7 +57,7 @@ pub fn assign_view<S: Alter>(
     ensures leaves { Leaves S.Store tx.old.conn.now tx.new.conn.now result }
 {
     let registered = find_member(tx, assignment.employer)?.is_some();
-    let line = line_under(tx, &assignment.reference)?;
+    let line = find_line(tx, &assignment.reference)?;
     let full = is_full(tx, counts.serial, assignment.employer, &line)?;
     Ok(AssignView {
         registered,

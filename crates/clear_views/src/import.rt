@@ -1,6 +1,5 @@
 //! What a bank file is judged by.
-ghost use Rattle.std.specs.Prelude.{◌≡◌, ◌++◌, ℕ, [], IfErr, IfOk, List, OnOk};
-ghost use Rattle.std.specs.List.{cons_option};
+ghost use Rattle.std.specs.Prelude.{◌≡◌, ℕ, [], IfErr, IfOk, List};
 ghost use Rattle.sqlite.specs.Held.{state};
 ghost use Rattle.sqlite.specs.State.{HasCleanDisk};
 ghost use Rattle.clear_book.specs.Book.{Book};
@@ -17,6 +16,7 @@ ghost use Rattle.clear_schema.specs.Values.{counts_of};
 ghost use Rattle.clear_views.specs.Imports.{IsImportRead};
 ghost use Rattle.clear_views.specs.Reads.{Reads};
 
+mod each;
 mod firms;
 mod known;
 mod limits;
@@ -28,8 +28,9 @@ use clear_book::rules::StoreCause;
 use clear_firms::counts::{Counts, find_counts};
 use clear_rules::decide::import::ImportView;
 use clear_schema::fault::Fault;
+use each::found_each;
 use firms::view_firms;
-use known::known_lines;
+use known::UnderReference;
 use limits::{serving, view_suspense};
 use sqlite::{Alter, Transaction};
 use std::alloc::Global;
@@ -117,7 +118,7 @@ fn read_lines<S: Alter>(
     ensures reads { Reads S.Store (lines.now ≡ []) tx.old.conn.now tx.new.conn.now result
         (λ t. IsImportRead t serials lines.now) }
 {
-    let known = known_lines(alloc, tx, lines)?;
+    let known = found_each(alloc, tx, &UnderReference, lines)?;
     let firms = view_firms(alloc, tx, serving(serials, lines, MAX_CREDITS), lines)?;
     let suspense = view_suspense(tx, serials, lines, firms.all)?;
     Ok(ImportView {
@@ -126,15 +127,4 @@ fn read_lines<S: Alter>(
         suspense,
         serials,
     })
-}
-
-// Adds what was found, if it was.
-fn push_found<T: Drop>(items: &mut Vec<T>, item: Option<T>) -> Result<(), Fault>
-    ensures added { OnOk result (items.new.items ≡ items.old.items ++ cons_option item []) }
-    ensures memory { IfErr result (λ fault. fault ≡ Fault.Memory) }
-{
-    if let Some(item) = item {
-        items.push(item)?;
-    }
-    Ok(())
 }

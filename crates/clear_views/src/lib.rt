@@ -3,8 +3,9 @@
 //! overdue.
 //!
 //! Each is read by keys, by the front of a key or, of a worker, by an index, so a request reads what
-//! it touches, whatever the book holds. Where the tables stand for a lawful book, a view is what that
-//! book says, and no fault is one of a key or of a row.
+//! it touches, whatever the book holds. The rates are read whole; firms and bank lines are counted only
+//! where no number that is known serves in the place of their count. Where the tables stand for a
+//! lawful book, a view is what that book says, and no fault is one of a key or of a row.
 #![tactic(auto)]
 
 pub mod add_rate;

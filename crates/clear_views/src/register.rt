@@ -1,5 +1,5 @@
 //! What a registration is judged by.
-ghost use Rattle.std.specs.Prelude.{◌≡◌, if◌then◌else◌, length, nat_lt, IfErr, IfOk};
+ghost use Rattle.std.specs.Prelude.{◌≡◌, length, IfErr, IfOk};
 ghost use Rattle.sqlite.specs.Held.{state};
 ghost use Rattle.sqlite.specs.State.{HasCleanDisk};
 ghost use Rattle.clear_book.specs.Book.{Book};
@@ -12,6 +12,7 @@ ghost use Rattle.clear_schema.specs.Held.{HasTables};
 ghost use Rattle.clear_schema.specs.Values.{counts_of};
 ghost use Rattle.clear_firms.specs.Counts.{as_stored};
 ghost use Rattle.clear_rules.specs.Views.Register.{IsRegisterView};
+ghost use Rattle.clear_views.specs.Bounds.{bound_or_count};
 ghost use Rattle.clear_views.specs.Reads.{LeavesOpen};
 
 use crate::lookups::rate_for;
@@ -61,7 +62,7 @@ fn employer_bound<S: Alter>(tx: &mut Transaction<'_, S>, entries: u64) -> Result
     ensures count { HasCleanDisk (state S.Store tx.new.conn.now)
         → (t : Tables) → HasTables t (state S.Store tx.old.conn.now).now
         → IfOk result (λ count. count
-        ≡ if nat_lt entries most_employers then entries else length t.employers) }
+        ≡ bound_or_count entries most_employers (length t.employers)) }
     ensures fault { HasCleanDisk (state S.Store tx.new.conn.now)
         → (t : Tables) → HasTables t (state S.Store tx.old.conn.now).now
         → AreInRange t → IfErr result IsOfDisk }

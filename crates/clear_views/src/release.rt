@@ -3,10 +3,13 @@ ghost use Rattle.std.specs.Prelude.{◌≡◌, ◌∷◌, [], None, IfErr, IfOk,
 ghost use Rattle.std.specs.Option.{option_map};
 ghost use Rattle.sqlite.specs.Held.{state};
 ghost use Rattle.sqlite.specs.State.{HasCleanDisk};
+ghost use Rattle.clear_bank.specs.declared.lines.Purpose.TheVariants.{Contribution};
 ghost use Rattle.clear_book.specs.Allocated.{StandsWeighed};
 ghost use Rattle.clear_book.specs.Book.{Book, member_of};
 ghost use Rattle.clear_book.specs.Judge.{day_back};
 ghost use Rattle.clear_book.specs.Keyed.{find_row};
+ghost use Rattle.clear_book.specs.Limits.{most_credits};
+ghost use Rattle.clear_book.specs.Lines.{credit_count};
 ghost use Rattle.clear_book.specs.Machine.{IsLawful};
 ghost use Rattle.clear_book.specs.Own.Release.{debts_of};
 ghost use Rattle.clear_book.specs.RowRanges.{AreInRange};
@@ -17,10 +20,10 @@ ghost use Rattle.clear_schema.specs.Frame.{Leaves};
 ghost use Rattle.clear_schema.specs.Faults.{IsOfDisk};
 ghost use Rattle.clear_schema.specs.Held.{HasTables};
 ghost use Rattle.clear_schema.specs.Values.{counts_of};
-ghost use Rattle.clear_views.specs.Overdue.{contributions_viewed, overdue_told};
+ghost use Rattle.clear_views.specs.Bounds.{bound_or_count};
+ghost use Rattle.clear_views.specs.Overdue.{overdue_told};
 ghost use Rattle.clear_views.specs.Reads.{LeavesOpen};
 
-use crate::lookups::claim_under;
 use crate::overdue::{Overdue, is_day_back, read_overdue};
 use clear_bank::lines::Purpose;
 use clear_book::limits::MAX_CREDITS;
@@ -29,6 +32,7 @@ use clear_book::rules::StoreCause;
 use clear_firms::counts::Counts;
 use clear_firms::employers::find_employer;
 use clear_firms::rates::rate_table;
+use clear_ledger::claims::find_claim;
 use clear_ledger::credits::credit_count;
 use clear_money::days::Day;
 use clear_money::numbers::EmployerNo;
@@ -106,7 +110,7 @@ fn find_owing<S: Alter>(
         → (b : Book) → IsLawful b → StandsWeighed b t → IfErr result IsOfDisk }
     ensures leaves { Leaves S.Store tx.old.conn.now tx.new.conn.now result }
 {
-    let Some(row) = claim_under(tx, claim)? else {
+    let Some(row) = find_claim(tx, claim)? else {
         return Ok(None);
     };
     let debts = firm_debts(alloc, tx, serials, day, row.employer)?;
@@ -180,7 +184,8 @@ fn count_contributions<S: Alter>(
     ensures same_reference { tx.new.conn.ghost_name ≡ tx.old.conn.ghost_name }
     ensures count { HasCleanDisk (state S.Store tx.new.conn.now)
         → (t : Tables) → HasTables t (state S.Store tx.old.conn.now).now
-        → IfOk result (λ count. count ≡ contributions_viewed serials t employer) }
+        → IfOk result (λ count. count
+        ≡ bound_or_count serials most_credits (credit_count t.credits employer Contribution)) }
     ensures fault { HasCleanDisk (state S.Store tx.new.conn.now)
         → (t : Tables) → HasTables t (state S.Store tx.old.conn.now).now
         → AreInRange t → IfErr result IsOfDisk }

@@ -11,9 +11,9 @@ ghost use Rattle.clear_schema.specs.Frame.{Leaves};
 ghost use Rattle.clear_schema.specs.Faults.{IsOfDisk};
 ghost use Rattle.clear_schema.specs.Held.{HasTables};
 
-use crate::lookups::claim_under;
 use crate::member::find_member;
 use clear_book::calls::Withdrawal;
+use clear_ledger::claims::find_claim;
 use clear_rules::decide::withdraw::WithdrawView;
 use clear_schema::fault::Fault;
 use sqlite::{Alter, Transaction};
@@ -38,6 +38,6 @@ pub fn withdraw_view<S: Alter>(
     ensures leaves { Leaves S.Store tx.old.conn.now tx.new.conn.now result }
 {
     let registered = find_member(tx, withdrawal.employer)?.is_some();
-    let claim = claim_under(tx, withdrawal.claim)?;
+    let claim = find_claim(tx, withdrawal.claim)?;
     Ok(WithdrawView { registered, claim })
 }

@@ -1,13 +1,12 @@
 //! The firms that a file names.
 ghost use Rattle.std.specs.Prelude.{◌≡◌, ℕ, ⊤, IfOk};
-ghost use Rattle.std.specs.List.{filter_map, list_any};
+ghost use Rattle.std.specs.List.{list_any};
 ghost use Rattle.clear_book.specs.Keyed.{AreOnce};
-ghost use Rattle.clear_views.specs.Imports.{AreNamed, counted_firm, firm_key, firm_viewed, is_among};
-ghost use Rattle.clear_views.specs.Imports.{names};
+ghost use Rattle.clear_views.specs.Imports.{AreNamed, counted_firm, firm_key, is_among, names};
 ghost use Rattle.clear_views.specs.Reads.{Reads};
 
+use super::each::{Asked, found_each};
 use super::limits::count_credits;
-use super::push_found;
 use clear_bank::lines::{BankLine, Purpose};
 use clear_firms::employers::find_employer;
 use clear_money::numbers::EmployerNo;
@@ -38,7 +37,7 @@ pub(super) fn view_firms<S: Alter>(
         (λ t found. AreNamed serving t lines.now found) }
 {
     let firms = named_firms(alloc, lines)?;
-    let registered = registered_firms(alloc, tx, serving, firms.as_slice())?;
+    let registered = found_each(alloc, tx, &Viewed { serving }, firms.as_slice())?;
     let all = registered.len() == firms.len();
     Ok(NamedFirms { registered, all })
 }
@@ -61,41 +60,33 @@ fn named_firms(alloc: Global, lines: &[BankLine]) -> Result<Vec<EmployerNo>, All
     Ok(firms)
 }
 
-// The registered ones of these firms, in order.
-fn registered_firms<S: Alter>(
-    alloc: Global,
-    tx: &mut Transaction<'_, S>,
+/// A firm as it is viewed, if it is registered.
+#[derive(Drop)]
+struct Viewed {
     serving: Option<u64>,
-    firms: &[EmployerNo],
-) -> Result<Vec<EmployerCredits>, Fault>
-    ensures same_reference { tx.new.conn.ghost_name ≡ tx.old.conn.ghost_name }
-    ensures reads { Reads S.Store ⊤ tx.old.conn.now tx.new.conn.now result
-        (λ t found. found.items ≡ filter_map (firm_viewed serving t) firms.now) }
-{
-    let mut found = Vec::new(alloc);
-    for no in firms {
-        let firm = view_firm(tx, serving, *no)?;
-        push_found(&mut found, firm)?;
-    }
-    Ok(found)
 }
 
-// A firm, if it is registered.
-fn view_firm<S: Alter>(
-    tx: &mut Transaction<'_, S>,
-    serving: Option<u64>,
-    no: EmployerNo,
-) -> Result<Option<EmployerCredits>, Fault>
-    ensures same_reference { tx.new.conn.ghost_name ≡ tx.old.conn.ghost_name }
-    ensures reads { Reads S.Store ⊤ tx.old.conn.now tx.new.conn.now result
-        (λ t found. found ≡ firm_viewed serving t no) }
-{
-    match find_employer(tx, no)? {
-        Some(_) => {
-            let firm = count_firm(tx, serving, no)?;
-            Ok(Some(firm))
+impl Asked for Viewed {
+    ghost use Rattle.clear_views.specs.Imports.{firm_viewed};
+
+    type Item = EmployerNo;
+
+    type Found = EmployerCredits;
+
+    ghost answer = { λ asked. firm_viewed asked.serving };
+
+    fn ask<S: Alter>(
+        &self,
+        tx: &mut Transaction<'_, S>,
+        no: &EmployerNo,
+    ) -> Result<Option<EmployerCredits>, Fault> {
+        match find_employer(tx, *no)? {
+            Some(_) => {
+                let firm = count_firm(tx, self.serving, *no)?;
+                Ok(Some(firm))
+            }
+            None => Ok(None),
         }
-        None => Ok(None),
     }
 }
 

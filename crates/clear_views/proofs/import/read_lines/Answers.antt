@@ -1,5 +1,6 @@
 use Rattle.std.proofs.Common.{rules, ◌≡◌, [], Ok, refl}
 use Rattle.std.specs.Prelude.{⊤}
+use Rattle.clear_views.proofs.FirmLemmas.{named_found}
 use Rattle.clear_views.proofs.ImportLemmas.{suspense_read}
 use Rattle.clear_views.proofs.ReadLemmas.{was_clean}
 use Rattle.clear_views.proofs.StillLemmas.{reads_else, reads_then}
@@ -12,7 +13,7 @@ returns-clause-reads g c = record {
       let later = was_clean _ _ c.view_suspense.ensures.reads.survives clean in
       let known = c.in_ok-known.ensures.reads.each (was_clean _ _ c.view_firms.ensures.reads.survives later) t has in
       let firms =
-      reads_then g.S.Store t none ⊤ none c.args.tx.now.conn.now c.known_lines.new.tx.conn.now c.view_firms.new.tx.conn.now _ (Ok c.in_ok-firms.firms) _ _ (λ p _. p) has known
+      reads_then g.S.Store t none ⊤ none c.args.tx.now.conn.now c.found_each.new.tx.conn.now c.view_firms.new.tx.conn.now _ (Ok c.in_ok-firms.firms) _ _ (λ p _. p) has known
       (λ still. c.in_ok-firms.ensures.reads.each later t still) in
       let all =
       reads_then g.S.Store t none ⊤ none c.args.tx.now.conn.now c.view_firms.new.tx.conn.now c.view_suspense.new.tx.conn.now _ (Ok c.in_ok-suspense.suspense) _ _ (λ p _. p) has firms
@@ -22,7 +23,7 @@ returns-clause-reads g c = record {
         known = known.found;
         serving = c.serving.result;
         serves = c.serving.ensures.serves;
-        employers = firms.found.viewed;
+        employers = named_found t c.serving.result c.in_ok-firms.firms.registered.items firms.found.firms firms.found.registered c.args.lines.now firms.found.named;
         suspense = suspense_read t c.args.serials c.args.lines.now c.serving.result c.in_ok-firms.firms _ firms.found all.found;
         serials_is = refl;
       })

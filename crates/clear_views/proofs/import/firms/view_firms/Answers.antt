@@ -1,8 +1,7 @@
-use Rattle.std.proofs.Common.{rules, ℕ, length, ◌∙◌, ap, sym}
+use Rattle.std.proofs.Common.{rules, ◌≡◌, [], length, filter_map, ◌∙◌, ap}
 use Rattle.std.specs.Prelude.{⊤}
-use Rattle.clear_laws.proofs.DistinctLemmas.{same_worker}
-use Rattle.clear_views.specs.Imports.{is_among}
-use Rattle.clear_views.proofs.FirmLemmas.{named_found, named_registered}
+use Rattle.clear_views.specs.Imports.{firm_viewed}
+use Rattle.clear_views.proofs.FirmLemmas.{as_many_as}
 use Rattle.clear_views.proofs.StillLemmas.{reads_else}
 use Rattle.clear_views.proofs.import.firms.view_firms.Goals as goal
 
@@ -10,12 +9,14 @@ pub returns-clause-reads : goal.returns-clause-reads
 returns-clause-reads g c = record {
   each = λ clean t has.
       let found = c.in_ok-registered.ensures.reads.each clean t has in
-      let named = λ (e : ℕ). ap (is_among e) c.as_slice.ensures.value ∙ c.in_ok-firms.ensures.named e in
-      reads_else g.S.Store t ⊤ ⊤ _ _ c.in_ok-registered.registered _ _ _ (λ p. p)
+      let viewed = found.found ∙ ap (filter_map (firm_viewed c.args.serving t)) c.as_slice.ensures.value in
+      reads_else g.S.Store t (c.as_slice.result.now ≡ []) ⊤ _ _ c.in_ok-registered.registered _ _ _ (λ _. tt)
       (record {
-        viewed = named_found t c.args.serving c.in_ok-registered.registered.items c.as_slice.result.now found.found c.args.lines.now named;
-        registered = λ all. named_registered t c.args.serving c.in_ok-registered.registered.items c.as_slice.result.now found.found c.args.lines.now named
-            (sym c.in_ok-registered.registered.ok.0 ∙ sym c.len.ensures ∙ same_worker c.len.result c.len-2.result all ∙ c.len-2.ensures ∙ c.in_ok-firms.firms.ok.0 ∙ ap length (sym c.as_slice.ensures.value));
+        firms = c.in_ok-firms.firms.items;
+        named = c.in_ok-firms.ensures.named;
+        once = c.in_ok-firms.ensures.once;
+        registered = viewed;
+        all = as_many_as (firm_viewed c.args.serving t) c.in_ok-firms.firms.items c.len.result c.len-2.result (c.len.ensures ∙ c.in_ok-registered.registered.ok.0 ∙ ap length viewed) (c.len-2.ensures ∙ c.in_ok-firms.firms.ok.0);
       })
       found;
   survives = search rules;

@@ -1,17 +1,16 @@
 use Rattle.std.proofs.Common.{rules, ◌∷◌, [], Err}
 use Rattle.std.proofs.lemmas.Result.{err_from_is_err_and}
-use Rattle.std.specs.Prelude.{⊤}
 use Rattle.clear_book.specs.RowRanges.{IsEmployerRow}
 use Rattle.clear_book.specs.Tables.{employer_key}
 use Rattle.clear_views.proofs.StillLemmas.{none_found_out, reads_query}
-use Rattle.clear_views.proofs.import.firms.view_firm.Goals as goal
+use Rattle.clear_views.proofs.import.firms.ViewedAsked.ask.Goals as goal
 
 pub returns-in_err-find_employer-clause-reads : goal.returns-in_err-find_employer-clause-reads
 returns-in_err-find_employer-clause-reads g c =
     let p = err_from_is_err_and c.from_residual.result c.from_residual.ensures.1 in
     rw (p.1, p.2) (record {
       each = λ clean t has.
-          reads_query g.S.Store t ⊤ _ _ _ (Err c.in_err-find_employer.field-0.0) _ tt (c.in_err-find_employer.ensures.looks.cause clean t has) (c.in_err-find_employer.ensures.looks.range clean t has)
-          (λ within. none_found_out IsEmployerRow employer_key t.employers (c.args.no ∷ []) within.employers) tt (c.in_err-find_employer.ensures.looks.kept clean t has);
+          reads_query g.S.Store t ⊥ _ _ _ (Err c.in_err-find_employer.field-0.0) _ tt (c.in_err-find_employer.ensures.looks.cause clean t has) (c.in_err-find_employer.ensures.looks.range clean t has)
+          (λ within. none_found_out IsEmployerRow employer_key t.employers (c.args.no.now ∷ []) within.employers) tt (c.in_err-find_employer.ensures.looks.kept clean t has);
       survives = search rules;
     })

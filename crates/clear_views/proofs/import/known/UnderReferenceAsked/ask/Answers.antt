@@ -3,7 +3,7 @@ use Rattle.std.proofs.lemmas.Result.{err_from_is_err_and}
 use Rattle.clear_book.specs.RowRanges.{IsBankRow}
 use Rattle.clear_book.specs.Tables.{bank_key}
 use Rattle.clear_views.proofs.StillLemmas.{none_found_out, reads_query}
-use Rattle.clear_views.proofs.import.known.known_line.Goals as goal
+use Rattle.clear_views.proofs.import.known.UnderReferenceAsked.ask.Goals as goal
 
 pub returns-in_err-row-clause-reads : goal.returns-in_err-row-clause-reads
 returns-in_err-row-clause-reads g c =
