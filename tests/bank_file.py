@@ -124,6 +124,8 @@ class Good(BankFiles):
         self.makes(LATIN.replace("UTF-8", "UTF-16").encode("utf-16"), LATIN_LINES)
         self.makes(LATIN.replace("UTF-8", "windows-1252").encode("cp1252"), LATIN_LINES)
         self.makes(LATIN.replace(DECLARED, ""), LATIN_LINES)
+        for byte_order in ("le", "be"):
+            self.makes(LATIN.replace("UTF-8", "UTF-16").encode(f"utf-16-{byte_order}"), LATIN_LINES)
 
     def test_no_booked_credit(self):
         self.assertEqual(self.makes(one("5.00", "5.00"), []), "written: 0 lines, 0.00 EUR\n")
@@ -180,8 +182,27 @@ class Firms(BankFiles):
     def test_no_number_or_several(self):
         for text in ("", "10010", "01001", "1001a", "x1001", "1001_", "1001/2024", "03-1001", "1.001", "1001,00",
                      "EUR 1001", "€1001", "1001 EUR", "1001€", "1001 1003", "１００１", ["10", "01"],
-                     "10&#x200b;01"):
+                     "10&#x200b;01", ["Betrieb 1001", "4567"], ["4567", "1001"]):
             self.finds("", text)
+
+    def test_numbers_that_are_something_else(self):
+        table = "iban,employer\n" + "".join(f",{firm}\n" for firm in (1, 5, 12, 24, 30, 234, 1001, 2024, 3704))
+        for text in ("Beitrag März 2024", "Beitrag 2024", "1 001,12", "1'234", "5 %", "5,5%", "30. April", "1 Mai",
+                     "Mai 24", "Feb. '24", "Euro 1001", "EUR: 1001", "EUR 1 234", "USD 1001", "1001 Euro", "1001,-",
+                     "IBAN DE02 3704 0044 0532 0130 00", "de12 1001 1001 1001 1001 00"):
+            self.finds("", text, table=table)
+        for text in ("1001 März 2024", "Mai 1001", "EUR 5,00 Betrieb 1001", "Betrieb 1001, Mai 24, 12.04.2024",
+                     "DE89370400440532013000 1001"):
+            self.finds("1001", text, table=table)
+
+    def test_numbers_behind_a_word(self):
+        self.write("firms.csv", "iban,employer\n,1001\n,2024\n")
+        for text, firm in (("Betrieb 2024", "2024"), ("BETRIEB: 2024, 1001", "2024"), ("Betrieb Nr. 1001", "1001"),
+                           ("1001", ""), ("Betriebe 1001", ""), ("Betrieb 7 1001", ""), ("Betrieb Nord 1001", "")):
+            self.write("statement", one("0", "1", payment("1.00", text, "", STRANGE, "F")))
+            words = "statement --firms firms.csv --number-word Betrieb --number-word nr"
+            status, output, told = self.tool(*words.split())
+            self.assertEqual((status, output.splitlines()[1].split(",")[2]), (0, firm), (text, told))
 
     def test_interest_by_a_word(self):
         for text in ("Zinsen", "ZINSEN", "für Zinsen, Mai", "Zinsen/Mai"):
@@ -210,7 +231,7 @@ class Firms(BankFiles):
 
     def test_each_fault_of_a_table(self):
         lines = [f"{NORD[:-1]}1,1001", "", f"{WEST},0", f"{NORD},01", f"{WEST},1", f"{WEST},1", "DE1,2",
-                 f"{NORD},100000000"]
+                 f"{NORD},100000000", f"DE99{ACCOUNT[4:]},1"]
         self.faulty("\n".join(["iban,employer", *lines]), "\n".join([
             f"firms.csv, line 2: {NORD[:-1]}1 is no IBAN, or a digit of it is wrong",
             "firms.csv, line 4: 0 is no number of a firm (1 to 99999999)",
@@ -218,17 +239,22 @@ class Firms(BankFiles):
             f"firms.csv, line 6: {WEST} stands twice",
             f"firms.csv, line 7: {WEST} stands twice",
             "firms.csv, line 8: DE1 is no IBAN, or a digit of it is wrong",
-            "firms.csv, line 9: 100000000 is no number of a firm (1 to 99999999)"]))
+            "firms.csv, line 9: 100000000 is no number of a firm (1 to 99999999)",
+            # DE02 and DE99 are the same by their rest alone.
+            f"firms.csv, line 10: DE99{ACCOUNT[4:]} is no IBAN, or a digit of it is wrong"]))
 
     def test_a_changed_table_and_an_earlier_file(self):
         entries = payment("2.00", "x", "", STRANGE, "E-1"), payment("3.00", "y", "", STRANGE, "E-2")
         content = one("0", "5.00", *entries)
-        self.write("made.csv", HEADER + "E-1,2024-04-30,1001,200,,as it was\nE-2,2024-04-30,1001,299,C,\n")
-        self.write("more.csv", HEADER + "E-1,2024-04-30,1002,200,C,\n")
+        self.write("made.csv", HEADER + "E-1,2024-04-30,1001,200,,x\nE-2,2024-04-30,1001,299,C,y\n")
+        self.write("more.csv", HEADER + "E-1,2024-04-30,1002,200,C,x\n")
         self.write("firms.csv", f"iban,employer\n{STRANGE},5\n")
-        told = self.makes(content, ["E-1,2024-04-30,1001,200,,as it was", "E-2,2024-04-30,5,300,C,y"],
+        told = self.makes(content, ["E-1,2024-04-30,1001,200,,x", "E-2,2024-04-30,5,300,C,y"],
                           "--earlier", "made.csv", "more.csv")
         self.assertIn("  as in an earlier file: 1 line, 2.00 EUR\n", told)
+        # Of another payer or text it is another payment, which the office refuses under that reference.
+        self.write("made.csv", HEADER + "E-1,2024-04-30,1001,200,C,z\n")
+        self.makes(content, ["E-1,2024-04-30,5,200,C,x", "E-2,2024-04-30,5,300,C,y"], "--earlier", "made.csv")
         self.write("made.csv", "reference,cents\n")
         self.refuses(content, f"made.csv: the first line isn't {HEADER.strip()}", 2,
                      words=("--firms", "firms.csv", "--earlier", "made.csv"))
@@ -255,9 +281,15 @@ class Batches(BankFiles):
                                      (2, [], "B,2024-04-30,,900,C,"),
                                      (3, [nord, nord], "B,2024-04-30,,900,C,Bau Nord: Mai Mai"),
                                      (2, [transaction("4.00", more=RETURNED)], "B,2024-04-30,,900,C,"),
-                                     ("001", [nord], "B,2024-04-30,1001,900,C,Bau Nord: Mai")):
+                                     ("001", [nord], "B,2024-04-30,,900,C,Bau Nord: Mai"),
+                                     ("001", [nord.replace("4.00", "9.00")],
+                                      "B,2024-04-30,1001,900,C,Bau Nord: Mai"),
+                                     ("001", [nord.replace("4.00", "9.50")],
+                                      "B,2024-04-30,1001,900,C,Bau Nord: Mai"),
+                                     (2, [transaction("4.00", "Zinsen")], "B,2024-04-30,,900,C,Zinsen")):
             batch = f"<Btch><NbOfTxs>{count}</NbOfTxs></Btch>"
             self.makes(one("0", "9.00", entry("9.00", *details, reference="B", batch=batch)), [line])
+        self.makes(one("0", "9.00", entry("9.00", nord, reference="B")), ["B,2024-04-30,,900,C,Bau Nord: Mai"])
 
     def test_the_amounts_of_its_transactions_are_its_own(self):
         for content in (BATCH, as_02(BATCH)):
@@ -306,6 +338,22 @@ class LeftOut(BankFiles):
             "left out in all, amount of 0: 2, 0.00 EUR",
             "written: 1 line, 80.00 EUR", "  without a firm: 1 line, 80.00 EUR",
             "  value dates 2024-04-30 to 2024-04-30"])
+
+    def test_transfers_of_the_fund_that_came_back(self):
+        code = "<BkTxCd><Domn><Cd>PMNT</Cd><Fmly><Cd>ICDT</Cd><SubFmlyCd>RRTN</SubFmlyCd></Fmly></Domn></BkTxCd>"
+        coded = payment("1.00", "1001", reference="A").replace("<BkTxCd/>", code)
+        for back in (payment("1.00", "employer 1001", "", "", "A", "L1-C1"), coded,
+                     payment("1.00", "1001", "", ACCOUNT, "A"), entry("1.00", transaction("", "1001", more=code))):
+            told = self.makes(one("0", "1.00", back), [])
+            self.assertIn("left out in all, returned transfer (a credit): 1, 1.00 EUR\n", told)
+        # The transfer itself is a debit as others.
+        out = entry("1.00", transaction("", "", "", ACCOUNT, "A", "L1-C1"), direction="DBIT")
+        self.assertIn("left out in all, debit: 1, 1.00 EUR\n", self.makes(one("1.00", "0", out), []))
+
+    def test_flags_that_say_nothing(self):
+        for flag in ("True", "yes", "2"):
+            self.refuses(one("0", "1.00", payment("1.00", reversal=f"<RvslInd>{flag}</RvslInd>")),
+                         f"{AT_FIRST}: RvslInd is {flag}, neither true nor false", status=2)
 
     def test_an_account_in_another_currency(self):
         content = one("1.00", "3.00", payment("2.00", reference="A")).replace('Ccy="EUR"', 'Ccy="USD"')
@@ -361,6 +409,15 @@ class Balances(BankFiles):
         self.makes(packed(("1.xml", first), ("2.xml", second)), lines)
         self.refuses(packed(("1.xml", first), ("2.xml", message(3, "true", ended))),
                      f"statement S2 of {ACCOUNT}: a page is missing; there are 1, 3. {PACK}")
+        # Statements that stand wholly on a page are missed with it.
+        other = statement("0", "7.00", payment("7.00", reference="M-4"), identifier="S3")
+        for parts, told in (([(1, "false", whole)], "1 of more"), ([(2, "true", other)], "2"),
+                            ([(1, "false", whole), (3, "true", other)], "1 of more, 3"),
+                            ([(1, "true", whole), (2, "true", other)], "1, 2")):
+            files = [(f"{at}.xml", message(*part)) for at, part in enumerate(parts)]
+            self.refuses(packed(*files), f"a page of the bank's message is missing; there are {told}. {PACK}")
+        self.makes(packed(("1.xml", message(1, "true", whole)), ("2.xml", message(1, "true", other))),
+                   ["M-1,2024-04-30,,100,C,", "M-4,2024-04-30,,700,C,"])
 
 
 class References(BankFiles):
@@ -381,6 +438,29 @@ class References(BankFiles):
                       payment("1.00", text, reference="R", booked="2024-05-01")):
             self.refuses(both(other), f"{second} and {FIRST} are different payments, and the bank gives both the "
                          "reference R; ask the bank")
+
+    def test_one_entry_with_and_without_its_transactions(self):
+        parts = transaction("4.00", reference="T1"), transaction("5.00", reference="T2")
+        whole = statement("0", "9.00", entry("9.00", reference="B"))
+        parted = statement("0", "9.00", entry("9.00", *parts, reference="B"), identifier="S2")
+        twice = "with other references of its transactions, so it would count twice; give one of the two statements"
+        second = f"statement S2 of {ACCOUNT}"
+        self.refuses(document(whole, parted), f"entry 1 of {second} stands in {S1} {twice}")
+        self.refuses(document(parted, whole), f"{FIRST} stands in {second} {twice}")
+        self.write("made.csv", HEADER + "B,2024-04-30,,900,C,\n")
+        words = "--firms", "firms.csv", "--earlier", "made.csv"
+        self.refuses(document(parted), f"entry 1 of {second} stands in an earlier file as one line, B, and now comes "
+                     "in its transactions, so it would count twice; give the statement that it was made of",
+                     words=words)
+        self.write("made.csv", HEADER + "B,2024-04-30,,800,C,\n")
+        self.makes(document(parted), ["T1,2024-04-30,,400,C,", "T2,2024-04-30,,500,C,"], "--earlier", "made.csv")
+
+    def test_entries_of_other_references(self):
+        part = transaction("3.00", reference="1")
+        both = document(statement("0", "3.00", entry("3.00", part, reference="E-1")),
+                        statement("3.00", "6.00", entry("3.00", part, reference="E-2"), identifier="S2"))
+        self.refuses(both, f"entry 1 of statement S2 of {ACCOUNT} and {FIRST} are different payments, and the bank "
+                     "gives both the reference 1; ask the bank")
 
     def test_places_are_those_of_a_statement(self):
         here, = self.references(one("0", "1", payment("1.00")))
@@ -541,6 +621,24 @@ class CommandLine(BankFiles):
         self.assertEqual((self.folder / "bank.csv").read_text(), f"{HEADER}{LATIN_LINES[0]}\n")
         self.assertEqual([it.name for it in self.folder.iterdir() if it.name.startswith(".")], [])
 
+    def test_a_folder_that_cannot_be_read(self):
+        self.write("sitecustomize.py", "import os\ntrue_open = os.open\ndef open_files(path, *rest, **options):\n"
+                   "    if os.path.isdir(path):\n        raise PermissionError(path)\n"
+                   "    return true_open(path, *rest, **options)\nos.open = open_files\n")
+        environment = {**os.environ, "PYTHONPATH": str(self.folder)}
+        self.assertEqual(self.tool(*self.words, "--out", "bank.csv", env=environment)[:2], (0, ""))
+        self.assertEqual((self.folder / "bank.csv").read_text(), f"{HEADER}{LATIN_LINES[0]}\n")
+
+    def test_where_nothing_can_be_told(self):
+        for streams in ("2>/dev/full", "2>&-"):
+            with self.subTest(streams):
+                line = f"exec {TOOL} {' '.join(self.words)} {streams}"
+                ran = subprocess.run(["sh", "-c", line], cwd=self.folder, stdout=subprocess.PIPE, check=False)
+                self.assertEqual((ran.returncode, ran.stdout.decode()), (0, f"{HEADER}{LATIN_LINES[0]}\n"))
+        closed = ["sh", "-c", f"exec {TOOL} {' '.join(self.words)} >&-"]
+        ran = subprocess.run(closed, cwd=self.folder, stderr=subprocess.PIPE, check=False)
+        self.assertEqual((ran.returncode, ran.stderr), (2, b"[Errno 9] Bad file descriptor\n"))
+
     def test_files_that_are_not_there(self):
         for words in ("missing --firms firms.csv", "statement --firms missing", ". --firms firms.csv",
                       "statement --firms firms.csv --earlier missing"):
@@ -556,7 +654,8 @@ class CommandLine(BankFiles):
     def test_words(self):
         status, output, _ = self.tool("--help")
         self.assertEqual(status, 0)
-        for word in ("STATEMENT", "--firms TABLE", "--interest-word WORD", "--earlier FILE", "--out FILE"):
+        for word in ("STATEMENT", "--firms TABLE", "--interest-word WORD", "--number-word WORD", "--earlier FILE",
+                     "--out FILE"):
             self.assertIn(word, output)
         for words in ("", "statement", "--firms firms.csv", "statement --firms firms.csv more",
                       "statement --firms firms.csv --interest-word a-b",

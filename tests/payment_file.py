@@ -10,6 +10,7 @@ import datetime
 import os
 import re
 import resource
+import shlex
 import shutil
 import subprocess
 import sys
@@ -275,6 +276,7 @@ class Names(Tool):
             "Mu\u0308ller": "Mueller",
             "Épée Ñandú Çelik Łódź Ångström": "Epee Nandu Celik Lodz Angstroem",
             "Ærø Þór Œuvre": "Aeroe Thor Oeuvre",
+            "Ǽbro BRØNDǾ": "Aebro BROENDOE",
             "<Nm>Bau</Nm> <!-- ]]> &amp;": ".Nm.Bau./Nm. ..-- )). +amp,",
             '""Bau „Nord“ ’s""': "'Bau 'Nord' 's'",
             "a_b;c*d#e@f[g]h{i}j|k\\l~m": "a-b,c.d.e.f(g)h(i)j/k/l-m",
@@ -437,6 +439,14 @@ class Outputs(Tool):
             ran = subprocess.run([TOOL, *self.words], cwd=self.folder, stdout=full, stderr=subprocess.PIPE,
                                  timeout=60)
         self.assertEqual((ran.returncode, ran.stderr), (2, b"[Errno 28] No space left on device\n"))
+
+    def test_where_nothing_can_be_told(self):
+        for streams in ("2>/dev/full", "2>&-"):
+            line = " ".join(map(shlex.quote, map(str, [TOOL, *self.words, "--out", "made.xml"])))
+            ran = subprocess.run(["sh", "-c", f"exec {line} {streams}"], cwd=self.folder, timeout=60)
+            made = self.folder / "made.xml"
+            self.assertEqual((ran.returncode, broken_rules(made.read_bytes())), (0, []))
+            made.unlink()
 
     def test_a_folder_that_is_not_there(self):
         ran = self.run_tool(*self.words, "--out", "none/made.xml")

@@ -31,6 +31,11 @@ DEBTOR_NAME = ("RltdPties/Dbtr/Pty/Nm", "RltdPties/Dbtr/Nm", "RltdPties/Dbtr/Agt
 DIRECTIONS = {"CRDT": True, "DBIT": False}
 # What banks write where they have no reference.
 NO_REFERENCE = re.compile("NON-?REF|NOT ?PROVIDED|NONE|0+", re.IGNORECASE)
+# The end-to-end references of tools/payment-file.
+OF_A_PAYOUT = re.compile("L[1-9][0-9]{0,7}-C[1-9][0-9]{0,7}")
+# The bank's codes of a transfer that came back: undeliverable, or recalled.
+CAME_BACK = ("RRTN", "RPCR")
+FLAGS = {"": False, "false": False, "0": False, "true": True, "1": True}
 
 
 @dataclass(frozen=True)
@@ -61,7 +66,20 @@ class Transaction:
     is_return: bool
     name: str
     iban: str
-    text: str
+    texts: tuple[str, ...]
+
+    @property
+    def text(self) -> str:
+        return " ".join(self.texts)
+
+    @property
+    def searched_text(self) -> str:
+        """The text, in which digits don't end one part and begin the next: such a number may be cut in two."""
+        joined = ""
+        for part in self.texts:
+            seam = "_" if joined[-1:].isdigit() and part[0].isdigit() else " "
+            joined += seam + part
+        return joined[1:]
 
 
 @dataclass(frozen=True)
@@ -97,6 +115,15 @@ class Page:
 
 
 @dataclass(frozen=True)
+class Message:
+    """What one file holds; a message may be parted into several, and then says which part it is."""
+
+    number: int | None
+    is_last: bool
+    pages: tuple[Page, ...]
+
+
+@dataclass(frozen=True)
 class Node:
     """An element, with what a message calls it."""
 
@@ -126,11 +153,17 @@ class Node:
             raise self.fault(f"{' or '.join(paths)} is missing")
         return text
 
+    def flag(self, path: str) -> bool:
+        text = self.text(path)
+        if text not in FLAGS:
+            raise self.fault(f"{path} is {shown(text)}, neither true nor false")
+        return FLAGS[text]
+
     def fault(self, text: str) -> Fault:
         return Fault(f"{self.called}: {text}")
 
 
-def read_pages(name: str, content: bytes) -> list[Page]:
+def read_message(name: str, content: bytes) -> Message:
     """The statements of a text, or their pages."""
     root = read_root(name, content)
     message, _, local = root.tag.removeprefix("{" + NAMESPACE).partition("}")
@@ -140,10 +173,13 @@ def read_pages(name: str, content: bytes) -> list[Page]:
         told = OTHER_MESSAGES.get(message[:8], f"only {' and '.join(VERSIONS)} are read")
         raise Fault(f"{name}: {shown(message)}: {told}")
     document = Node(root, NAMESPACE + message, name)
-    pages = [read_page(found, document) for found in document.parts("BkToCstmrStmt/Stmt")]
+    pages = tuple(read_page(found, document) for found in document.parts("BkToCstmrStmt/Stmt"))
     if not pages:
         raise Fault(f"{name}: no statement (BkToCstmrStmt/Stmt) in it")
-    return pages
+    part = "BkToCstmrStmt/GrpHdr/MsgPgntn"
+    number = read_page_number(document, f"{part}/PgNb") if document.has(part) else None
+    is_last = document.flag(f"{part}/LastPgInd") or not document.has(f"{part}/LastPgInd")
+    return Message(number, is_last, pages)
 
 
 def read_page(found: Node, document: Node) -> Page:
@@ -151,25 +187,26 @@ def read_page(found: Node, document: Node) -> Page:
     identifier = found.need("Id")
     page = Node(found.element, found.namespace, f"statement {shown(identifier)} of {shown(account)}")
     entries = enumerate(page.parts("Ntry"), 1)
-    last = page.text("StmtPgntn/LastPgInd")
+    # By the message version 02 counts.
+    is_numbered = bool(page.text("StmtPgntn/PgNb"))
+    numbered, path = (page, "StmtPgntn/PgNb") if is_numbered else (document, "BkToCstmrStmt/GrpHdr/MsgPgntn/PgNb")
     return Page(
         account=account,
         identifier=identifier,
-        number=read_page_number(page, document),
-        is_last=is_true(last) if last else None,
+        number=read_page_number(numbered, path),
+        is_last=page.flag("StmtPgntn/LastPgInd") if page.text("StmtPgntn/LastPgInd") else None,
         balances=tuple(map(read_balance, page.parts("Bal"))),
         entries=tuple(
-            read_entry(Node(it.element, it.namespace, f"{page.called}, entry {place} of the page"))
+            read_entry(Node(it.element, it.namespace, f"{page.called}, entry {place} of the page"), account)
             for place, it in entries
         ),
     )
 
 
-def read_page_number(page: Node, document: Node) -> int:
-    """The number of the page: of the statement, or else of the message, by which version 02 counts."""
-    number = page.text("StmtPgntn/PgNb") or document.text("BkToCstmrStmt/GrpHdr/MsgPgntn/PgNb") or "1"
+def read_page_number(node: Node, path: str) -> int:
+    number = node.text(path) or "1"
     if not PAGE_NUMBER.fullmatch(number):
-        raise page.fault(f"{shown(number)} is no page number")
+        raise node.fault(f"{shown(number)} is no page number")
     return int(number)
 
 
@@ -179,17 +216,21 @@ def read_balance(node: Node) -> Balance:
     return Balance(node.text("Tp/CdOrPrtry/Cd"), Money(amount, money.currency))
 
 
-def read_entry(node: Node) -> Entry:
+def read_entry(node: Node, account: str) -> Entry:
     details = list(node.parts("NtryDtls"))
+    is_credit = read_direction(node)
     return Entry(
         status=node.need("Sts/Cd", "Sts/Prtry", "Sts"),
-        is_credit=read_direction(node),
+        is_credit=is_credit,
         money=read_money(node, "Amt"),
-        is_reversal=is_true(node.text("RvslInd")),
+        is_reversal=node.flag("RvslInd") or came_back(node),
         reference=read_reference(node, "AcctSvcrRef"),
         booked=read_day(node, "BookgDt"),
         value=read_day(node, "ValDt"),
-        transactions=tuple(read_transaction(it) for part in details for it in part.parts("TxDtls")),
+        transactions=tuple(
+            read_transaction(it, account if is_credit else None)
+            for part in details for it in part.parts("TxDtls")
+        ),
         is_detailed=all(map(has_all_transactions, details)),
     )
 
@@ -200,17 +241,26 @@ def has_all_transactions(details: Node) -> bool:
     return not announced or announced.lstrip("0") == str(sum(1 for _ in details.parts("TxDtls")))
 
 
-def read_transaction(node: Node) -> Transaction:
-    texts = [it.own_text() for path in REMITTANCE for it in node.parts(path)]
+def read_transaction(node: Node, credited_account: str | None) -> Transaction:
+    """A transaction of an entry, which credits an account or doesn't."""
+    texts = [plain(it.own_text()) for path in REMITTANCE for it in node.parts(path)]
+    end_to_end = read_reference(node, "Refs/EndToEndId")
+    iban = node.text("RltdPties/DbtrAcct/Id/IBAN")
+    # A credit from the account itself, or with the reference of a payout, is a transfer that came back.
+    is_own = credited_account is not None and (iban == credited_account or OF_A_PAYOUT.fullmatch(end_to_end))
     return Transaction(
         reference=read_reference(node, "Refs/AcctSvcrRef"),
-        end_to_end=read_reference(node, "Refs/EndToEndId"),
+        end_to_end=end_to_end,
         credited=read_credited(node),
-        is_return=node.has("RtrInf"),
+        is_return=node.has("RtrInf") or came_back(node) or bool(is_own),
         name=plain(node.text(*DEBTOR_NAME)),
-        iban=node.text("RltdPties/DbtrAcct/Id/IBAN"),
-        text=plain(" ".join(texts)),
+        iban=iban,
+        texts=tuple(filter(None, texts)),
     )
+
+
+def came_back(node: Node) -> bool:
+    return node.text("BkTxCd/Domn/Fmly/SubFmlyCd") in CAME_BACK
 
 
 def read_credited(node: Node) -> Money | None:
@@ -252,7 +302,3 @@ def read_day(node: Node, path: str) -> date | None:
         return date.fromisoformat(DAY.fullmatch(text)[1])
     except (TypeError, ValueError):
         raise node.fault(f"{path}: {shown(text)} is no day") from None
-
-
-def is_true(text: str) -> bool:
-    return text in ("true", "1")

@@ -3,7 +3,8 @@
 from __future__ import annotations
 
 import re
-from dataclasses import dataclass
+from collections.abc import Iterable, Iterator
+from dataclasses import dataclass, field
 from enum import Enum
 
 from .tables import read_rows
@@ -13,11 +14,28 @@ HEADER = ("iban", "employer")
 IBAN = re.compile("[A-Z]{2}[0-9]{2}[A-Z0-9]{11,30}")
 EMPLOYER = re.compile("[1-9][0-9]{0,7}")
 MOST_FAULTS = 20
-# Digits that are a word: no part of a longer word, a date or a fraction, and no amount.
-NUMBER_WORD = re.compile(
-    r"(?<!\w)(?<![0-9][.,:/-])(?<!EUR )(?<!€)(?<!€ )[0-9]+(?!\w)(?![.,:/-][0-9])(?! ?(?:EUR|€))",
-    re.IGNORECASE,
-)
+# Digits that are a word: no part of a longer word, a date or a fraction.
+NUMBER_WORD = re.compile(r"(?<!\w)(?<![0-9][.,:/-])[0-9]+(?!\w)(?![.,:/-][0-9])")
+WORD_BEFORE = re.compile(r"(\w+)\W{1,3}\Z")
+# A number that may be a year counts only behind a word that the clerk has named.
+YEAR = re.compile("19[0-9]{2}|2[01][0-9]{2}|2200")
+MONTH = ("(?:januar|jänner|january|jan|februar|feber|february|feb|märz|maerz|march|mär|mrz|april|apr|mai|may|"
+         "juni|june|jun|juli|july|jul|august|aug|september|sept|sep|oktober|october|okt|oct|november|nov|"
+         r"dezember|december|dez|dec)\b\.?")
+CURRENCY = r"(?:\b(?:euros?|eur|usd|chf|gbp)\b|[€$£])"
+AMOUNT = r"(?<![0-9])(?:[0-9]{1,3}(?:[ .'’][0-9]{3})+|[0-9]+)(?:[.,][0-9]+)?(?![0-9])"
+# What has digits and isn't a firm's number, of a text as casefold() leaves it.
+OTHER_NUMBERS = re.compile("|".join((
+    # An IBAN.
+    r"\b[a-z]{2}[0-9]{2}(?: ?[a-z0-9]{4}){2,7}(?: ?[a-z0-9]{1,3})?\b",
+    # An amount, by its currency or its dash; a percentage; digits in groups.
+    rf"{CURRENCY}[ :.]{{0,2}}{AMOUNT}",
+    rf"{AMOUNT} ?(?:{CURRENCY}|[.,]-|%)",
+    r"(?<![0-9])[0-9]{1,3}(?:[ '’][0-9]{3})+(?:[.,][0-9]+)?(?![0-9])",
+    # A day of a month, and a month of a year.
+    rf"(?<![0-9])[0-3]?[0-9]\.? ?\b{MONTH}",
+    rf"\b{MONTH} ?['’]?[0-9]{{2}}(?![0-9])",
+)))
 
 
 class Found(Enum):
@@ -33,14 +51,28 @@ class Found(Enum):
 class Firms:
     by_iban: dict[str, str]
     numbers: frozenset[str]
+    # As casefold() leaves them; where there are any, a number counts only behind one of them.
+    number_words: frozenset[str] = field(default=frozenset())
 
     def firm_of(self, iban: str, text: str) -> tuple[str, Found]:
         """The firm that paid from this account with this text; empty where none is found."""
         firm = self.by_iban.get(without_spaces(iban))
         if firm:
             return firm, Found.BY_IBAN
-        told = [*self.numbers.intersection(NUMBER_WORD.findall(text))]
+        told = [*self.numbers.intersection(self.numbers_of(text))]
         return (told[0], Found.BY_NUMBER) if len(told) == 1 else ("", Found.NOT_FOUND)
+
+    def numbers_of(self, text: str) -> Iterator[str]:
+        """The numbers in a text that may be those of firms."""
+        searched = OTHER_NUMBERS.sub(" _ ", text.casefold())
+        for found in NUMBER_WORD.finditer(searched):
+            if self.number_words:
+                before = WORD_BEFORE.search(searched, 0, found.start())
+                is_one = before is not None and before[1] in self.number_words
+            else:
+                is_one = not YEAR.fullmatch(found[0])
+            if is_one:
+                yield found[0]
 
 
 def without_spaces(iban: str) -> str:
@@ -52,11 +84,11 @@ def is_iban(text: str) -> bool:
     if not IBAN.fullmatch(text):
         return False
     digits = "".join(str(int(sign, 36)) for sign in text[4:] + text[:4])
-    return int(digits) % 97 == 1
+    return "02" <= text[2:4] <= "98" and int(digits) % 97 == 1
 
 
-def read_firms(path: str) -> Firms:
-    """The table of a file, or all that is wrong with it."""
+def read_firms(path: str, number_words: Iterable[str] = ()) -> Firms:
+    """The table of a file, or all that is wrong with it; numbers in texts count behind these words, if any."""
     by_iban: dict[str, str] = {}
     numbers: set[str] = set()
     faults: list[str] = []
@@ -70,7 +102,7 @@ def read_firms(path: str) -> Firms:
             by_iban[iban] = employer
     if faults:
         raise Fault("\n".join(faults[:MOST_FAULTS]))
-    return Firms(by_iban, frozenset(numbers))
+    return Firms(by_iban, frozenset(numbers), frozenset(number_words))
 
 
 def fault_of(iban: str, employer: str, by_iban: dict[str, str]) -> str | None:

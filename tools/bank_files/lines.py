@@ -76,6 +76,8 @@ class Payment:
     called: str
     # The bank's own, or empty.
     reference: str
+    # That of its entry, or empty.
+    entry_reference: str
     # By what it is known where the bank gives no reference.
     place: tuple[str, ...]
     booked: date | None
@@ -125,13 +127,21 @@ def payments_of(statement: Statement, place: int, entry: Entry) -> Iterator[Paym
         yield Payment(
             called=f"transaction {number} of {called}" if is_parted else called,
             reference=(own.reference if own else "") or entry.reference,
+            entry_reference=entry.reference,
             place=(statement.account, statement.identifier, day, str(place), str(number), end_to_end),
             booked=entry.booked,
             value=entry.value or entry.booked,
             money=money,
             transactions=group,
-            is_detailed=entry.is_detailed,
+            is_detailed=entry.is_detailed and not is_part(own, entry),
         )
+
+
+def is_part(own: Transaction | None, entry: Entry) -> bool:
+    """Whether a single transaction is less than its entry, so that others aren't told."""
+    credited = own.credited if own and len(entry.transactions) == 1 else None
+    return (credited is not None and credited.currency == entry.money.currency
+            and credited.amount < entry.money.amount)
 
 
 def made_reference(kind: str, *parts: str) -> str:
@@ -153,6 +163,8 @@ class BankFile:
     left_out: list[LeftOut] = field(default_factory=list)
     # Each line's payment by its reference.
     payments: dict[str, Payment] = field(default_factory=dict)
+    # The statement in which an entry first stood, and the references of its payments.
+    parts: dict[tuple, tuple[Statement, list[str]]] = field(default_factory=dict)
 
     def add(self, statement: Statement) -> None:
         used: Counter[str] = Counter()
@@ -161,8 +173,26 @@ class BankFile:
                 called = f"entry {place} of {statement.called}"
                 self.left_out.append(LeftOut(reason, called, entry.value or entry.booked, entry.money))
                 continue
-            for payment in payments_of(statement, place, entry):
+            payments = [*payments_of(statement, place, entry)]
+            self.check_parts(statement, f"entry {place} of {statement.called}", entry, payments)
+            for payment in payments:
                 self.add_payment(payment, used)
+
+    def check_parts(self, statement: Statement, called: str, entry: Entry, payments: list[Payment]) -> None:
+        """Refuses an entry that came before in other parts, in a statement or an earlier file."""
+        if not entry.reference:
+            return
+        own = [it.reference for it in payments]
+        key = statement.account, entry.reference, entry.booked, entry.value, entry.money
+        first, parts = self.parts.setdefault(key, (statement, own))
+        if first is not statement and parts != own:
+            raise Refusal(f"{called} stands in {first.called} with other references of its transactions, "
+                          "so it would count twice; give one of the two statements")
+        before = self.earlier.get(fit_reference(entry.reference, 1))
+        whole = str(entry.value or entry.booked), f"{entry.money.amount * 100:.0f}"
+        if entry.reference not in own and before and (before.value, before.cents) == whole:
+            raise Refusal(f"{called} stands in an earlier file as one line, {shown(entry.reference)}, and now comes "
+                          "in its transactions, so it would count twice; give the statement that it was made of")
 
     def add_payment(self, payment: Payment, used: Counter[str]) -> None:
         """Adds a payment; of each of the bank's references it is counted how often the statement used it."""
@@ -196,7 +226,7 @@ class BankFile:
 
     def firm_of(self, payment: Payment) -> tuple[str, Found]:
         """The firm of all transactions of a payment; none where they have several, or aren't all known."""
-        found = {self.firms.firm_of(it.iban, it.text) for it in payment.transactions}
+        found = {self.firms.firm_of(it.iban, it.searched_text) for it in payment.transactions}
         is_sure = payment.is_detailed and not any(it.is_return for it in payment.transactions)
         if not is_sure or len({firm for firm, _ in found}) != 1:
             return "", Found.NOT_FOUND
@@ -204,15 +234,16 @@ class BankFile:
 
     def is_interest(self, payment: Payment) -> bool:
         words = [set(re.findall(r"\w+", it.text.casefold())) for it in payment.transactions]
-        return bool(words) and all(self.interest_words & it for it in words)
+        return payment.is_detailed and bool(words) and all(self.interest_words & it for it in words)
 
 
 def as_earlier(line: Line, earlier: EarlierLine | None) -> Line:
-    """The line as an earlier file has it; one of another day or amount stays, for the office to refuse."""
-    if earlier is None or (earlier.value, earlier.cents) != (str(line.value), str(line.cents)):
+    """The line as an earlier file has it. One of another day, amount, payer or text is another payment, and
+    stays, for the office to refuse."""
+    here = str(line.value), str(line.cents), line.note
+    if earlier is None or (earlier.value, earlier.cents, earlier.note) != here:
         return line
-    told = {"employer": earlier.employer, "purpose": earlier.purpose, "note": earlier.note}
-    return replace(line, found=Found.EARLIER, **told)
+    return replace(line, found=Found.EARLIER, employer=earlier.employer, purpose=earlier.purpose)
 
 
 def reference_of(payment: Payment, used: Counter[str]) -> str:
@@ -222,16 +253,21 @@ def reference_of(payment: Payment, used: Counter[str]) -> str:
     if not own:
         return made_reference("place", *payment.place)
     used[own] += 1
-    if used[own] == 1 and REFERENCE.fullmatch(own) and not MADE.fullmatch(own):
+    return fit_reference(own, used[own])
+
+
+def fit_reference(own: str, count: int) -> str:
+    """What stands for the bank's reference where a statement has it for that time."""
+    if count == 1 and REFERENCE.fullmatch(own) and not MADE.fullmatch(own):
         return own
-    return made_reference("bank", own, str(used[own]))
+    return made_reference("bank", own, str(count))
 
 
 def is_same(payment: Payment, other: Payment) -> bool:
     """Whether two statements tell of one payment."""
     def told(it: Payment) -> tuple:
         account = it.place[0]
-        return account, it.booked, it.value, it.money, it.transactions
+        return account, it.entry_reference, it.booked, it.value, it.money, it.transactions
     return told(payment) == told(other)
 
 

@@ -2,11 +2,12 @@
 
 from __future__ import annotations
 
+from collections import Counter
 from collections.abc import Iterable, Iterator
 from dataclasses import dataclass
 from decimal import Decimal
 
-from .camt import Entry, Money, Page
+from .camt import Entry, Message, Money, Page
 from .texts import Refusal, shown
 
 OPENING = ("OPBD", "PRCD")
@@ -93,3 +94,13 @@ def join_pages(pages: Iterable[Page]) -> list[Statement]:
         Statement(account, identifier, tuple(sorted(group, key=lambda page: page.number)))
         for (account, identifier), group in groups.items()
     ]
+
+
+def check_messages(messages: Iterable[Message]) -> None:
+    """Refuses messages of which a part is missing: each that isn't the last of its message is followed by one."""
+    parts = [(it.number, it.is_last) for it in messages if it.number is not None]
+    promised = Counter(number + 1 for number, is_last in parts if not is_last)
+    if promised != Counter(number for number, _ in parts if number > 1):
+        numbers = ", ".join(f"{number}{'' if is_last else ' of more'}" for number, is_last in sorted(parts))
+        raise Refusal(f"a page of the bank's message is missing; there are {numbers}. "
+                      "Pack the files of all pages into one zip")

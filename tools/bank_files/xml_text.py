@@ -12,8 +12,8 @@ MOST_DEEP = 50
 MOST_ELEMENTS = 2_000_000
 NOT_INSTALLED = """this needs Python's defusedxml, which isn't installed for /usr/bin/python3; on Debian:
     apt-get install python3-defusedxml"""
-# The marks in front of a text in UTF-16 or UTF-8.
-MARKS = (b"\xff\xfe", b"\xfe\xff", b"\xef\xbb\xbf")
+# The marks in front of a text in UTF-16 or UTF-8, or the first sign of one in UTF-16 without a mark.
+MARKS = (b"\xff\xfe", b"\xfe\xff", b"\xef\xbb\xbf", b"\x00<")
 # How expat says that a text stops before its end.
 CUT_OFF = {
     errors.codes[error]
