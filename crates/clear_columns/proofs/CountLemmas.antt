@@ -1,6 +1,6 @@
 -- How many rows of a table pass: a query shows 1 for each of them, so in whatever order they come, its
 -- answer is the same.
-use Rattle.clear_columns.proofs.Words.{◌≡◌, ◌≢◌, IsPermutation-filter, IsPermutation-map, ℤ, ℕ, Bool, List, [], ◌∷◌, pos, length, map, filter, refl, sym, ap, ◌∙◌, IsPermutation, length-map, map-id, all_pass, subst, true, Row, Term, lit, Int, Tables, Database, Answers, Ghosts, HasTables, store_schema, meets, plain_program, content, shown_in_some_order, answers_just, AnswersJust, Held, state, Fault}
+use Rattle.clear_columns.proofs.Words.{◌≡◌, ◌≢◌, IsPermutation-filter, IsPermutation-map, ℤ, ℕ, Bool, List, [], ◌∷◌, pos, length, map, filter, refl, sym, ap, ◌∙◌, IsPermutation, length-map, map-id, all_pass, subst, true, Row, Term, lit, Int, Tables, Database, Answers, Ghosts, HasTables, store_schema, meets, plain_program, content, shown_in_some_order, answers_just, AnswersJust, Held, state, Fault, numbered_row, keyed_row}
 use Rattle.std.proofs.Common.{Ok, Err, arith}
 use Rattle.std.proofs.lemmas.List.Elements.{All-from_recursion, recursion_from_All}
 use Rattle.std.proofs.lemmas.List.Sorted.{All-permutation, IsPermutation-sym, IsPermutation-trans, length_permutation}
@@ -54,17 +54,17 @@ module _ {X Y : Type 0} {S : Type 0} (g : Ghosts S) (db : Database) (of_ours : d
           (shown_in_some_order tree conditions (one ∷ []) [] params to_row get p tests (λ x. ([], one_shown x)) (λ _. refl) db.schema db.trees ys stored rows answer))
 
 -- so a query of a table whose rows stand under keys
-pub counts : {X : Type 0} (it : KeyedTable X) {S : Type 0} (g : Ghosts S) (t : Tables) (db : Database) (has : HasTables t db) {sql : List ℕ} {conditions : List Term} (params : Row) (p : X → Bool) → ((y : ℤ × X) → meets conditions params (it.to_row y) ≡ p (content y)) → SaysQuery sql (plain_program it.table.tree conditions (one ∷ []) [])
+pub counts : {X : Type 0} (it : KeyedTable X) {S : Type 0} (g : Ghosts S) (t : Tables) (db : Database) (has : HasTables t db) {sql : List ℕ} {conditions : List Term} (params : Row) (p : X → Bool) → ((y : ℤ × X) → meets conditions params (keyed_row it.given y) ≡ p (content y)) → SaysQuery sql (plain_program it.table.tree conditions (one ∷ []) [])
     → AnswersJust g sql params db (map one_shown (filter p (it.rows t)))
 counts it g t db has params p tests says =
     let kept = it.has t db has in
-    counts_of g db has.schema params it.to_row content p tests kept.numbered (it.rows t) kept.stored.is kept.same says
+    counts_of g db has.schema params (keyed_row it.given) content p tests kept.numbered (it.rows t) kept.stored.is kept.same says
 
 -- and one of all rows of a table whose rows stand under a number
 pub counts_all : {X : Type 0} (it : NumberedTable X) {S : Type 0} (g : Ghosts S) (t : Tables) (db : Database) (has : HasTables t db) {sql : List ℕ} → SaysQuery sql (plain_program it.table.tree [] (one ∷ []) []) → AnswersJust g sql [] db (map one_shown (it.rows t))
 counts_all it g t db has {sql} says =
     subst (λ l. AnswersJust g sql [] db (map one_shown l)) (all_pass (it.rows t))
-    (counts_of g db has.schema [] it.to_row (λ x. x) (λ _. true) (λ _. refl) (it.rows t) (it.rows t) (it.has t db has).is (IsPermutation-same _ _ (map-id (it.rows t))) says)
+    (counts_of g db has.schema [] (numbered_row it.given) (λ x. x) (λ _. true) (λ _. refl) (it.rows t) (it.rows t) (it.has t db has).is (IsPermutation-same _ _ (map-id (it.rows t))) says)
 
 module _ {S X : Type 0} (g : Ghosts S) (old new : Held S) (sql : List ℕ) (params : Row) (rows : Tables → List X) (just : (t : Tables) → HasTables t (state g old).now → AnswersJust g sql params (state g old).now (map one_shown (rows t))) (count : Tables → ℕ) (counted : (t : Tables) → length (rows t) ≡ count t) where
   -- so the rows that it shows tell how many there are

@@ -1,9 +1,10 @@
 -- What the statements on a table do whose rows stand under keys, beside numbers that are chosen,
 -- whatever the table is.
-use Rattle.clear_columns.proofs.Words.{◌≡◌, ◌≤◌, ◌/◌, ℤ, ℕ, Bool, true, false, not, ◌&&◌, ◌||◌, List, [], ◌∷◌, Some, Less, length, map, filter, drop, refl, sym, ap, subst, ◌∙◌, inl, inr, is_eq, slice_get, IsPermutation, map-id, true≢false, length-map, IsPermutation-map, list_any, cast_row, Delete, Insert, Update, edit_of, with_rowid, IsRefused, Answers, Database, IsDatabase, value_rows, Row, output, output_cmp, stamped, Chosen, Values, State, Ghosts, Table, Term, col, Trees, rowid, Int, Null, insert_by, update_where, ids_of, IsPermutation-filter, Has, some_from, agree, guards, passes, Check, Datatype, NotNull, Index, Enforced, Key, is_key, with_row, Tables, IsEdited, meets, plain_program, plain_query, content, update_harmless, update_violates, in_order, one_row, shown_in_some_order, apart_if, held_if_refused, insert_violates, inserted, updated, HasTables, by_key, IsBroken, IsDone, all_indexes, all_tables, store_schema, refer_to_none, sound_by_schema, Others, by_key_total, key_is, answers_just, all_pass, is_held, Result, Held, state, Fault, AnswersJust, Runs, Writes, writes}
+use Rattle.clear_columns.proofs.Words.{◌≡◌, ◌≤◌, ◌/◌, ℤ, ℕ, Bool, true, false, not, ◌&&◌, ◌||◌, List, [], ◌∷◌, Some, Less, length, map, filter, drop, refl, sym, ap, subst, ◌∙◌, inl, inr, is_eq, slice_get, IsPermutation, map-id, true≢false, length-map, IsPermutation-map, list_any, cast_row, Delete, Insert, Update, edit_of, with_rowid, IsRefused, Answers, Database, IsDatabase, value_rows, Row, output, output_cmp, stamped, Chosen, Values, State, Ghosts, Table, Term, col, Trees, rowid, Int, Null, insert_by, update_where, ids_of, IsPermutation-filter, Has, some_from, agree, guards, passes, Check, Datatype, NotNull, Index, Enforced, Key, is_key, with_row, Tables, IsEdited, meets, plain_program, plain_query, content, update_harmless, update_violates, in_order, one_row, shown_in_some_order, apart_if, held_if_refused, insert_violates, inserted, updated, HasTables, by_key, IsBroken, IsDone, all_indexes, all_tables, store_schema, refer_to_none, sound_by_schema, Others, by_key_total, key_is, answers_just, all_pass, is_held, Result, Held, state, Fault, AnswersJust, Runs, Writes, writes, keyed_row, cast_int, find_row, Option}
 use Rattle.std.proofs.lemmas.Bool.{not-true}
 use Rattle.std.proofs.lemmas.List.Sorted.{IsPermutation-trans, IsPermutation-sym}
 use Rattle.std.specs.List.{AllByRecursion}
+use Rattle.sqlite.specs.declared.types.Value.{Value}
 use Rattle.sqlite_keyed.specs.Keyed.{next_key, has_key}
 use Rattle.sqlite_keyed.specs.Lists.{delete_where}
 use Rattle.sqlite_keyed.proofs.KeyedLemmas.{next_key_is_free}
@@ -17,8 +18,10 @@ use Rattle.clear_rows.proofs.Held.{number, key_was_free, held-delete_where, held
 use Rattle.clear_rows.proofs.KeepsKeys.{delete_never, delete_violates}
 use Rattle.clear_rows.proofs.Refused.{has_mapped, key_held}
 use Rattle.clear_rows.proofs.Statements.{deleted}
+use Rattle.clear_schema.proofs.FrameLemmas.{finds as finds_first}
+use Rattle.clear_schema.specs.Frame.{Finds, FindsFirst}
 use Rattle.clear_schema.specs.Held.{HasKeyed}
-use Rattle.clear_columns.proofs.KeyLemmas.{found_any, none_found, one_found, placed as at_its_place}
+use Rattle.clear_columns.proofs.KeyLemmas.{first_found, found_any, none_found, one_found, placed as at_its_place}
 use Rattle.clear_columns.proofs.HeldLemmas.{few_numbered, held_updated, updated_rows}
 use Rattle.clear_columns.proofs.Says.{Says, SaysQuery, is, is_query, plain, plain_query_text, unlisted_query}
 
@@ -28,17 +31,17 @@ pub record UniqueKey (X : Type 0) : Type 0 where
   pub index : Index
 
 -- the index compares as the keys do
-pub record IsKeptBy {X : Type 0} (to_row : ℤ × X → Row) (k : UniqueKey X) : Type 0 where
+pub record IsKeptBy {X : Type 0} (given : X → Row) (k : UniqueKey X) : Type 0 where
   pub order : k.index.order ≡ plain_order
-  pub agrees : (a b : ℤ × X) → agree plain_order k.index.columns (to_row a) k.index.columns (to_row b) ≡ is_eq (by_key k.of (content b) (content a))
+  pub agrees : (a b : ℤ × X) → agree plain_order k.index.columns (keyed_row given a) k.index.columns (keyed_row given b) ≡ is_eq (by_key k.of (content b) (content a))
 
 -- a row with what it becomes, beside its number
 abbrev pub turned : {X : Type 0} → (X → X) → ℤ × X → ℤ × X
 turned f y = (number y, f (content y))
 
 -- a change of rows leaves what the index goes by
-abbrev pub KeepsKey : {X : Type 0} → (ℤ × X → Row) → (X → X) → UniqueKey X → Type 0
-KeepsKey {X} to_row f k = (y : ℤ × X) (r : Row) → agree plain_order k.index.columns r k.index.columns (to_row (turned f y)) ≡ true → agree plain_order k.index.columns r k.index.columns (to_row y) ≡ true
+abbrev pub KeepsKey : {X : Type 0} → (X → Row) → (X → X) → UniqueKey X → Type 0
+KeepsKey {X} given f k = (y : ℤ × X) (r : Row) → agree plain_order k.index.columns r k.index.columns (keyed_row given (turned f y)) ≡ true → agree plain_order k.index.columns r k.index.columns (keyed_row given y) ≡ true
 
 -- a table of the schema whose rows stand under keys; they rise by the first of these
 pub record KeyedTable (X : Type 0) : Type 0 where
@@ -49,9 +52,8 @@ pub record KeyedTable (X : Type 0) : Type 0 where
   pub key : X → List ℕ
   pub keys : List (UniqueKey X)
   pub first : Index
-  -- what a statement is given of a row, and the row in the tree
+  -- what a statement is given of a row
   pub given : X → Row
-  pub to_row : ℤ × X → Row
   -- whether a key of the row is held
   pub held : X → List X → Bool
   pub held_is : (x : X) (xs : List X) → held x xs ≡ list_any (λ (k : UniqueKey X). is_held k.of x xs) keys
@@ -60,14 +62,13 @@ pub record KeyedTable (X : Type 0) : Type 0 where
   pub listed : Has all_tables table
   pub uncounted : table.is_counted ≡ false
   pub guarded : filter (λ (i : Index). guards i table) all_indexes ≡ map (λ (k : UniqueKey X). k.index) keys
-  pub kept_by : AllByRecursion (IsKeptBy to_row) keys
-  pub numbered : (y : ℤ × X) → rowid (to_row y) ≡ Int (number y)
-  pub stored : (y : ℤ × X) → cast_row table (Null ∷ given (content y)) ≡ Null ∷ drop 1 (to_row y)
-  pub typed : (db : Trees) (y : ℤ × X) → passes Datatype store_schema db table (to_row y) ≡ true
-  pub present : (db : Trees) (y : ℤ × X) → passes NotNull store_schema db table (to_row y) ≡ true
-  pub checked : (db : Trees) (y : ℤ × X) → passes Check store_schema db table (to_row y) ≡ true
-  pub has : (t : Tables) (db : Database) → HasTables t db → HasKeyed key to_row (rows t) (db.trees table.tree)
-  pub changed : (t : Tables) (old new : Database) → HasTables t old → new.schema ≡ store_schema → IsDatabase new → (xs : List X) → Others table.tree old.trees new.trees → HasKeyed key to_row xs (new.trees table.tree) → HasTables (with_those t xs) new
+  pub kept_by : AllByRecursion (IsKeptBy given) keys
+  pub stored : (x : X) → cast_row table (Null ∷ given x) ≡ Null ∷ given x
+  pub typed : (db : Trees) (y : ℤ × X) → passes Datatype store_schema db table (keyed_row given y) ≡ true
+  pub present : (db : Trees) (y : ℤ × X) → passes NotNull store_schema db table (keyed_row given y) ≡ true
+  pub checked : (db : Trees) (y : ℤ × X) → passes Check store_schema db table (keyed_row given y) ≡ true
+  pub has : (t : Tables) (db : Database) → HasTables t db → HasKeyed key given (rows t) (db.trees table.tree)
+  pub changed : (t : Tables) (old new : Database) → HasTables t old → new.schema ≡ store_schema → IsDatabase new → (xs : List X) → Others table.tree old.trees new.trees → HasKeyed key given xs (new.trees table.tree) → HasTables (with_those t xs) new
 
 maps_has : {X Z : Type 0} (f : X → Z) (xs : List X) (x : X) → Has xs x → Has (map f xs) (f x)
 maps_has f [] x h = absurd h
@@ -89,6 +90,10 @@ none_from p [] each = refl
 none_from p (x ∷ xs) each = rw (each x (inl refl)) (none_from p xs (λ y h. each y (inr h)))
 
 module _ {X : Type 0} (it : KeyedTable X) where
+  -- the columns take a row as it is, beside any number
+  stored_beside : (y : ℤ × X) → cast_row it.table (keyed_row it.given y) ≡ keyed_row it.given y
+  stored_beside y = ap (λ (v : Value). v ∷ drop 1 (cast_row it.table (keyed_row it.given y))) (cast_int (number y)) ∙ ap (λ (r : Row). Int (number y) ∷ drop 1 r) (it.stored (content y))
+
   -- an index of the table keeps one of the keys
   which : (i : Index) → Has all_indexes i → guards i it.table ≡ true → (k : UniqueKey X) × Has it.keys k × (i ≡ k.index)
   which i listed on = has_mapped (λ (k : UniqueKey X). k.index) it.keys i (subst (λ l. Has l i) it.guarded (has_kept (λ (i : Index). guards i it.table) all_indexes i listed on))
@@ -99,7 +104,7 @@ module _ {X : Type 0} (it : KeyedTable X) where
   no_clash trees keeps k listed =
       let tree = trees it.table.tree in
       let index = has_filtered (λ (i : Index). guards i it.table) all_indexes k.index (subst (λ l. Has l k.index) (sym it.guarded) (maps_has (λ (k : UniqueKey X). k.index) it.keys k listed)) in
-      let by = all_has (IsKeptBy it.to_row) it.keys k it.kept_by listed in
+      let by = all_has (IsKeptBy it.given) it.keys k it.kept_by listed in
       all_from (λ row. list_any (λ other. agree plain_order k.index.columns other k.index.columns row && differ (rowid other) (rowid row)) tree ≡ false) tree (λ row known.
       subst (λ o. clashes o k.index.columns tree row ≡ false) by.order (off (guards k.index it.table) (clashes k.index.order k.index.columns tree row) index.1
       (test_has (λ i. not (guards i it.table && clashes i.order i.columns tree row)) all_indexes k.index
@@ -110,7 +115,7 @@ module _ {X : Type 0} (it : KeyedTable X) where
     abbrev db : Trees
     db = old.now.trees
 
-    abbrev kept : HasKeyed it.key it.to_row (it.rows t) (db it.table.tree)
+    abbrev kept : HasKeyed it.key it.given (it.rows t) (db it.table.tree)
     kept = it.has t old.now has
 
     abbrev n : ℤ
@@ -123,23 +128,23 @@ module _ {X : Type 0} (it : KeyedTable X) where
       made : IsEdited store_schema old new (edit_of db it.table [] Chosen 0 ((Null ∷ it.given x) ∷ []))
       made = subst (λ rows. IsEdited store_schema old new (edit_of db it.table [] Chosen 0 rows)) given (inserted store_schema it.at it.table it.placed (λ _ _. refl) sql params old new has.schema (plain says) ran.0 ran.1 terms width it.uncounted (is says))
 
-      rows_are : new.now.trees it.table.tree ≡ map it.to_row (insert_by number kept.numbered (n, x))
-      rows_are = made.applied.rows ∙ appended_is number it.to_row it.numbered db it.table kept.numbered kept.stored (Null ∷ it.given x) (n, x) (it.stored (n, x)) refl
+      rows_are : new.now.trees it.table.tree ≡ map (keyed_row it.given) (insert_by number kept.numbered (n, x))
+      rows_are = made.applied.rows ∙ appended_is number (keyed_row it.given) (λ _. refl) db it.table kept.numbered kept.stored (Null ∷ it.given x) (n, x) (it.stored x) refl
 
       -- no other row has a key of the new one
       apart : (k : UniqueKey X) → Has it.keys k → AllByRecursion (λ y. is_eq (by_key k.of x y) ≡ false) (it.rows t)
       apart k listed =
-          let by = all_has (IsKeptBy it.to_row) it.keys k it.kept_by listed in
+          let by = all_has (IsKeptBy it.given) it.keys k it.kept_by listed in
           let each = no_clash new.now.trees (made.applied.fits.rules Unique (λ e. cc)) k listed in
-          key_was_free (by_key k.of) it.to_row it.numbered k.index.columns by.agrees (by_key_total k.of) (it.rows t) kept.numbered (n, x) free kept.same
+          key_was_free (by_key k.of) (keyed_row it.given) (λ _. refl) k.index.columns by.agrees (by_key_total k.of) (it.rows t) kept.numbered (n, x) free kept.same
           (subst (λ rows. AllByRecursion (λ row. list_any (λ other. agree plain_order k.index.columns other k.index.columns row && differ (rowid other) (rowid row)) rows ≡ false) rows) rows_are each)
 
       -- so it goes to its place, and nothing else changes
       pub inserts : HasTables (it.with_those t (with_row it.key (it.rows t) x)) new.now × (it.held x (it.rows t) ≡ false)
       inserts =
           let first = apart (record { of = it.key; index = it.first }) it.leads in
-          let put = held-insert (by_key it.key) it.to_row (by_key_total it.key) x (it.rows t) _ _ kept n free first rows_are in (
-            it.changed t old.now new.now has made.schema_is made.sound _ made.applied.tables (subst (λ l. HasKeyed it.key it.to_row l (new.now.trees it.table.tree)) (at_its_place it.key x (it.rows t) first) put),
+          let put = held-insert (by_key it.key) (keyed_row it.given) (by_key_total it.key) x (it.rows t) _ _ kept n free first rows_are in (
+            it.changed t old.now new.now has made.schema_is made.sound _ made.applied.tables (subst (λ l. HasKeyed it.key it.given l (new.now.trees it.table.tree)) (at_its_place it.key x (it.rows t) first) put),
             it.held_is x (it.rows t) ∙ none_from (λ (k : UniqueKey X). is_held k.of x (it.rows t)) it.keys (λ k listed. none_found k.of x (it.rows t) (apart k listed)),
           )
 
@@ -147,11 +152,11 @@ module _ {X : Type 0} (it : KeyedTable X) where
     pub refused : IsBroken sql params old new → it.held x (it.rows t) ≡ true
     refused (rule, ran) =
         let bad = subst (λ rows. IsRefused store_schema Enforced db (edit_of db it.table [] Chosen 0 rows) (why.Violates rule)) given (insert_violates store_schema it.at it.table it.placed (λ _ _. refl) refer_to_none sql params old new has.schema (plain says) rule ran terms width it.uncounted (is says)) in
-        let row : with_rowid Chosen (db it.table.tree) (cast_row it.table (Null ∷ it.given x)) ≡ it.to_row (n, x) = appended_row number it.to_row it.numbered db it.table kept.numbered kept.stored (Null ∷ it.given x) (n, x) (it.stored (n, x)) refl in
-        let one : IsRefused store_schema Enforced db (record { table = it.table; gone = []; news = it.to_row (n, x) ∷ [] }) (why.Violates rule) = subst (λ r. IsRefused store_schema Enforced db (record { table = it.table; gone = []; news = r ∷ [] }) (why.Violates rule)) row bad in
-        let taken = held_if_refused store_schema db it.table it.listed (apart_if all_tables refl) (sound_by_schema t old.now has) (it.to_row (n, x)) n (it.numbered (n, x)) (it.typed db (n, x)) (it.present db (n, x)) (it.checked db (n, x)) rule one in
+        let row : with_rowid Chosen (db it.table.tree) (cast_row it.table (Null ∷ it.given x)) ≡ keyed_row it.given (n, x) = appended_row number (keyed_row it.given) (λ _. refl) db it.table kept.numbered kept.stored (Null ∷ it.given x) (n, x) (it.stored x) refl in
+        let one : IsRefused store_schema Enforced db (record { table = it.table; gone = []; news = keyed_row it.given (n, x) ∷ [] }) (why.Violates rule) = subst (λ r. IsRefused store_schema Enforced db (record { table = it.table; gone = []; news = r ∷ [] }) (why.Violates rule)) row bad in
+        let taken = held_if_refused store_schema db it.table it.listed (apart_if all_tables refl) (sound_by_schema t old.now has) (keyed_row it.given (n, x)) n (refl) (it.typed db (n, x)) (it.present db (n, x)) (it.checked db (n, x)) rule one in
         let q = λ (k : UniqueKey X) (y : X). is_key (k.of y) (k.of x) in
-        let any = key_held (by_key it.key) it.to_row it.numbered db it.table (it.rows t) kept store_schema n x (λ y. list_any (λ k. q k y) it.keys) free (shares q (λ k y same. key_is k.of x y ∙ same)) taken in
+        let any = key_held (by_key it.key) (keyed_row it.given) (λ _. refl) db it.table (it.rows t) kept store_schema n x (λ y. list_any (λ k. q k y) it.keys) free (shares q (λ k y same. key_is k.of x y ∙ same)) taken in
         let row_of = some_has (λ y. list_any (λ k. q k y) it.keys) (it.rows t) any in
         let key_of = some_has (λ k. q k row_of.0) it.keys row_of.2 in
         told key_of.0 key_of.1 (some_from (q key_of.0) (it.rows t) row_of.0 row_of.1 key_of.2)
@@ -159,12 +164,12 @@ module _ {X : Type 0} (it : KeyedTable X) where
         told : (k : UniqueKey X) → Has it.keys k → list_any (λ (y : X). is_key (k.of y) (k.of x)) (it.rows t) ≡ true → it.held x (it.rows t) ≡ true
         told k listed any = it.held_is x (it.rows t) ∙ some_from (λ (k : UniqueKey X). is_held k.of x (it.rows t)) it.keys k listed (found_any k.of (it.rows t) (k.of x) ∙ any)
 
-        shares : (q : UniqueKey X → X → Bool) → ((k : UniqueKey X) (y : X) → is_eq (by_key k.of x y) ≡ true → q k y ≡ true) → (i : Index) → Has all_indexes i → guards i it.table ≡ true → (y : ℤ × X) → agree i.order i.columns (it.to_row y) i.columns (it.to_row (n, x)) ≡ true
+        shares : (q : UniqueKey X → X → Bool) → ((k : UniqueKey X) (y : X) → is_eq (by_key k.of x y) ≡ true → q k y ≡ true) → (i : Index) → Has all_indexes i → guards i it.table ≡ true → (y : ℤ × X) → agree i.order i.columns (keyed_row it.given y) i.columns (keyed_row it.given (n, x)) ≡ true
             → list_any (λ k. q k (content y)) it.keys ≡ true
         shares q says_so i listed on y same =
             let k = which i listed on in
-            let by = all_has (IsKeptBy it.to_row) it.keys k.0 it.kept_by k.1 in
-            let here = subst (λ o. agree o k.0.index.columns (it.to_row y) k.0.index.columns (it.to_row (n, x)) ≡ true) by.order (subst (λ (i : Index). agree i.order i.columns (it.to_row y) i.columns (it.to_row (n, x)) ≡ true) k.2 same) in
+            let by = all_has (IsKeptBy it.given) it.keys k.0 it.kept_by k.1 in
+            let here = subst (λ o. agree o k.0.index.columns (keyed_row it.given y) k.0.index.columns (keyed_row it.given (n, x)) ≡ true) by.order (subst (λ (i : Index). agree i.order i.columns (keyed_row it.given y) i.columns (keyed_row it.given (n, x)) ≡ true) k.2 same) in
             some_from (λ k. q k (content y)) it.keys k.0 k.1 (says_so k.0 (content y) (sym (by.agrees y (n, x)) ∙ here))
 
   -- so a statement that was run with a row puts it in
@@ -176,52 +181,52 @@ module _ {X : Type 0} (it : KeyedTable X) where
   -- ---- another row in the place of one
 
   module _ (t : Tables) (old new : State) (has : HasTables t old.now) {sql : List ℕ} {conditions terms : List Term} (says : Says sql (Update it.at (plain_program it.table.tree conditions terms []))) (params : Row) (p : X → Bool) (f : X → X) (same_key : (x : X) → it.key (f x) ≡ it.key x)
-      (stays : AllByRecursion (KeepsKey it.to_row f) it.keys) (tests : (y : ℤ × X) → meets conditions params (it.to_row y) ≡ p (content y))
-      (shows : (y : ℤ × X) → output (plain_query it.table.tree conditions terms []) (params ∷ it.to_row y ∷ []) ≡ ([], Int (number y) ∷ it.to_row (turned f y))) (stored : (y : ℤ × X) → cast_row it.table (it.to_row y) ≡ it.to_row y) (few : length (filter p (it.rows t)) ≤ 1) where
+      (stays : AllByRecursion (KeepsKey it.given f) it.keys) (tests : (y : ℤ × X) → meets conditions params (keyed_row it.given y) ≡ p (content y))
+      (shows : (y : ℤ × X) → output (plain_query it.table.tree conditions terms []) (params ∷ keyed_row it.given y ∷ []) ≡ ([], Int (number y) ∷ keyed_row it.given (turned f y))) (few : length (filter p (it.rows t)) ≤ 1) where
     abbrev trees : Trees
     trees = old.now.trees
 
-    abbrev held_so : HasKeyed it.key it.to_row (it.rows t) (trees it.table.tree)
+    abbrev held_so : HasKeyed it.key it.given (it.rows t) (trees it.table.tree)
     held_so = it.has t old.now has
 
     -- what its query shows
     abbrev show : ℤ × X → Row
-    show y = Int (number y) ∷ it.to_row (turned f y)
+    show y = Int (number y) ∷ keyed_row it.given (turned f y)
 
     meant : (rows : List Row) → Answers (record { schema = store_schema; trees = trees }) (plain_program it.table.tree conditions terms []) params rows → IsPermutation (map show (filter (λ y. p (content y)) held_so.numbered)) rows
     meant rows answer =
         subst (λ l. IsPermutation (map show (filter (λ (y : ℤ × X). p (content y)) l)) rows) (map-id held_so.numbered)
-        (shown_in_some_order it.table.tree conditions terms [] params it.to_row (λ y. y) (λ y. p (content y)) tests (λ y. ([], show y)) shows store_schema trees held_so.numbered held_so.stored.is rows answer)
+        (shown_in_some_order it.table.tree conditions terms [] params (keyed_row it.given) (λ y. y) (λ y. p (content y)) tests (λ y. ([], show y)) shows store_schema trees held_so.numbered held_so.stored.is rows answer)
 
     pub updates : IsDone sql params old new → HasTables (it.with_those t (update_where p f (it.rows t))) new.now
     updates ran =
         let made = updated store_schema it.at it.table it.placed (λ _ _. refl) sql params old new has.schema (plain says) ran.0 ran.1 _ (is says) in
-        let rows = updated_rows it.key it.to_row it.numbered trees it.table (it.rows t) held_so p f same_key few made.0 show (λ _. refl) (λ y. stored (turned f y)) (meant made.0 made.1) in
-        let put = held_updated it.key it.to_row it.numbered trees it.table (it.rows t) held_so p f same_key (new.now.trees it.table.tree) (made.2.applied.rows ∙ rows) in
+        let rows = updated_rows it.key (keyed_row it.given) (λ _. refl) trees it.table (it.rows t) held_so p f same_key few made.0 show (λ _. refl) (λ y. stored_beside (turned f y)) (meant made.0 made.1) in
+        let put = held_updated it.key (keyed_row it.given) (λ _. refl) trees it.table (it.rows t) held_so p f same_key (new.now.trees it.table.tree) (made.2.applied.rows ∙ rows) in
         it.changed t old.now new.now has made.2.schema_is made.2.sound _ made.2.applied.tables put
 
     -- it is refused for no rule
     pub turns : IsBroken sql params old new → ⊥
     turns (rule, ran) =
         let bad = update_violates store_schema it.at it.table it.placed (λ _ _. refl) refer_to_none sql params old new has.schema (plain says) rule ran _ (is says) in
-        update_harmless number it.to_row it.numbered store_schema trees it.table held_so.numbered held_so.stored it.listed (apart_if all_tables refl) (sound_by_schema t old.now has)
-        bad.0 (λ y. p (content y)) (turned f) show (λ _. refl) (λ _. refl) (λ y. stored (turned f y)) (few_numbered it.key it.to_row it.numbered trees it.table (it.rows t) held_so p f same_key few) (meant bad.0 bad.1)
+        update_harmless number (keyed_row it.given) (λ _. refl) store_schema trees it.table held_so.numbered held_so.stored it.listed (apart_if all_tables refl) (sound_by_schema t old.now has)
+        bad.0 (λ y. p (content y)) (turned f) show (λ _. refl) (λ _. refl) (λ y. stored_beside (turned f y)) (few_numbered it.key (keyed_row it.given) (λ _. refl) trees it.table (it.rows t) held_so p f same_key few) (meant bad.0 bad.1)
         (λ y. it.typed trees (turned f y)) (λ y. it.present trees (turned f y)) (λ y. it.checked trees (turned f y)) same_keys rule bad.2
       where
-        same_keys : (i : Index) → Has all_indexes i → guards i it.table ≡ true → (y : ℤ × X) (r : Row) → agree i.order i.columns r i.columns (it.to_row (turned f y)) ≡ true → agree i.order i.columns r i.columns (it.to_row y) ≡ true
+        same_keys : (i : Index) → Has all_indexes i → guards i it.table ≡ true → (y : ℤ × X) (r : Row) → agree i.order i.columns r i.columns (keyed_row it.given (turned f y)) ≡ true → agree i.order i.columns r i.columns (keyed_row it.given y) ≡ true
         same_keys i listed on y r agreed =
             let k = which i listed on in
-            let by = all_has (IsKeptBy it.to_row) it.keys k.0 it.kept_by k.1 in
-            let keeps = all_has (KeepsKey it.to_row f) it.keys k.0 stays k.1 in
+            let by = all_has (IsKeptBy it.given) it.keys k.0 it.kept_by k.1 in
+            let keeps = all_has (KeepsKey it.given f) it.keys k.0 stays k.1 in
             let order : i.order ≡ plain_order = ap (λ (i : Index). i.order) k.2 ∙ by.order in
             let columns : i.columns ≡ k.0.index.columns = ap (λ (i : Index). i.columns) k.2 in
-            let here = subst (λ l. agree plain_order l r l (it.to_row (turned f y)) ≡ true) columns (subst (λ o. agree o i.columns r i.columns (it.to_row (turned f y)) ≡ true) order agreed) in
-            subst (λ o. agree o i.columns r i.columns (it.to_row y) ≡ true) (sym order) (subst (λ l. agree plain_order l r l (it.to_row y) ≡ true) (sym columns) (keeps y r here))
+            let here = subst (λ l. agree plain_order l r l (keyed_row it.given (turned f y)) ≡ true) columns (subst (λ o. agree o i.columns r i.columns (keyed_row it.given (turned f y)) ≡ true) order agreed) in
+            subst (λ o. agree o i.columns r i.columns (keyed_row it.given y) ≡ true) (sym order) (subst (λ l. agree plain_order l r l (keyed_row it.given y) ≡ true) (sym columns) (keeps y r here))
 
   -- ---- rows that go
 
-  module _ (t : Tables) (old new : State) (has : HasTables t old.now) {sql : List ℕ} {conditions : List Term} (says : Says sql (Delete it.at (plain_program it.table.tree conditions (col 1 0 ∷ []) []))) (params : Row) (p : X → Bool) (tests : (y : ℤ × X) → meets conditions params (it.to_row y) ≡ p (content y))
-      (shows : (y : ℤ × X) → output (plain_query it.table.tree conditions (col 1 0 ∷ []) []) (params ∷ it.to_row y ∷ []) ≡ ([], Int (number y) ∷ [])) where
+  module _ (t : Tables) (old new : State) (has : HasTables t old.now) {sql : List ℕ} {conditions : List Term} (says : Says sql (Delete it.at (plain_program it.table.tree conditions (col 1 0 ∷ []) []))) (params : Row) (p : X → Bool) (tests : (y : ℤ × X) → meets conditions params (keyed_row it.given y) ≡ p (content y))
+      (shows : (y : ℤ × X) → output (plain_query it.table.tree conditions (col 1 0 ∷ []) []) (params ∷ keyed_row it.given y ∷ []) ≡ ([], Int (number y) ∷ [])) where
     pub deletes : IsDone sql params old new → HasTables (it.with_those t (delete_where p (it.rows t))) new.now
     deletes ran =
         let made = deleted store_schema it.at it.table it.placed (λ _ _. refl) sql params old new has.schema (plain says) ran.0 ran.1 _ (is says) in
@@ -230,9 +235,9 @@ module _ {X : Type 0} (it : KeyedTable X) where
         let q = λ (y : ℤ × X). p (content y) in
         let same : IsPermutation (map show (filter q kept.numbered)) made.0 =
         subst (λ l. IsPermutation (map show (filter q l)) made.0) (map-id kept.numbered)
-        (shown_in_some_order it.table.tree conditions (col 1 0 ∷ []) [] params it.to_row (λ y. y) q tests (λ y. ([], show y)) shows store_schema old.now.trees kept.numbered kept.stored.is made.0 made.1) in
-        let rows = deleted_is number it.to_row it.numbered old.now.trees it.table kept.numbered kept.stored made.0 q show (λ _. refl) same in
-        let left = held-delete_where (by_key it.key) it.to_row p (it.rows t) _ _ kept (made.2.applied.rows ∙ rows) in
+        (shown_in_some_order it.table.tree conditions (col 1 0 ∷ []) [] params (keyed_row it.given) (λ y. y) q tests (λ y. ([], show y)) shows store_schema old.now.trees kept.numbered kept.stored.is made.0 made.1) in
+        let rows = deleted_is number (keyed_row it.given) (λ _. refl) old.now.trees it.table kept.numbered kept.stored made.0 q show (λ _. refl) same in
+        let left = held-delete_where (by_key it.key) (keyed_row it.given) p (it.rows t) _ _ kept (made.2.applied.rows ∙ rows) in
         it.changed t old.now new.now has made.2.schema_is made.2.sound _ made.2.applied.tables left
 
     pub goes : IsBroken sql params old new → ⊥
@@ -241,15 +246,15 @@ module _ {X : Type 0} (it : KeyedTable X) where
         delete_never store_schema old.now.trees it.table it.listed (apart_if all_tables refl) (sound_by_schema t old.now has) (ids_of bad.0) rule bad.2
 
   -- so a statement that changes a row changes it
-  pub sets : {S A : Type 0} (g : Ghosts S) (old new : Held S) {sql : List ℕ} {conditions terms : List Term} → Says sql (Update it.at (plain_program it.table.tree conditions terms [])) → (params : Row) (p : X → Bool) (f : X → X) → ((x : X) → it.key (f x) ≡ it.key x) → AllByRecursion (KeepsKey it.to_row f) it.keys
-      → ((y : ℤ × X) → meets conditions params (it.to_row y) ≡ p (content y)) → ((y : ℤ × X) → output (plain_query it.table.tree conditions terms []) (params ∷ it.to_row y ∷ []) ≡ ([], Int (number y) ∷ it.to_row (turned f y))) → ((y : ℤ × X) → cast_row it.table (it.to_row y) ≡ it.to_row y) → ((t : Tables) (db : Database) → HasTables t db → length (filter p (it.rows t)) ≤ 1)
+  pub sets : {S A : Type 0} (g : Ghosts S) (old new : Held S) {sql : List ℕ} {conditions terms : List Term} → Says sql (Update it.at (plain_program it.table.tree conditions terms [])) → (params : Row) (p : X → Bool) (f : X → X) → ((x : X) → it.key (f x) ≡ it.key x) → AllByRecursion (KeepsKey it.given f) it.keys
+      → ((y : ℤ × X) → meets conditions params (keyed_row it.given y) ≡ p (content y)) → ((y : ℤ × X) → output (plain_query it.table.tree conditions terms []) (params ∷ keyed_row it.given y ∷ []) ≡ ([], Int (number y) ∷ keyed_row it.given (turned f y))) → ((t : Tables) (db : Database) → HasTables t db → length (filter p (it.rows t)) ≤ 1)
       → (r : Result A Fault) (out : Type 0) → ¬ out → Runs g old new sql params r → Writes g old new r out (λ _. false) (λ t. it.with_those t (update_where p f (it.rows t)))
-  sets g old new {sql} says params p f same_key stays tests shows stored few r out within runs =
-      writes g old new sql params r out _ _ within (λ t has ran. (updates t (state g old) (state g new) has says params p f same_key stays tests shows stored (few t _ has) ran, refl)) (λ t has broke. absurd (turns t (state g old) (state g new) has says params p f same_key stays tests shows stored (few t _ has) broke)) runs
+  sets g old new {sql} says params p f same_key stays tests shows few r out within runs =
+      writes g old new sql params r out _ _ within (λ t has ran. (updates t (state g old) (state g new) has says params p f same_key stays tests shows (few t _ has) ran, refl)) (λ t has broke. absurd (turns t (state g old) (state g new) has says params p f same_key stays tests shows (few t _ has) broke)) runs
 
   -- and one that takes rows out leaves the others
-  pub drops : {S A : Type 0} (g : Ghosts S) (old new : Held S) {sql : List ℕ} {conditions : List Term} → Says sql (Delete it.at (plain_program it.table.tree conditions (col 1 0 ∷ []) [])) → (params : Row) (p : X → Bool) → ((y : ℤ × X) → meets conditions params (it.to_row y) ≡ p (content y))
-      → ((y : ℤ × X) → output (plain_query it.table.tree conditions (col 1 0 ∷ []) []) (params ∷ it.to_row y ∷ []) ≡ ([], Int (number y) ∷ [])) → (r : Result A Fault) (out : Type 0) → ¬ out → Runs g old new sql params r → Writes g old new r out (λ _. false) (λ t. it.with_those t (delete_where p (it.rows t)))
+  pub drops : {S A : Type 0} (g : Ghosts S) (old new : Held S) {sql : List ℕ} {conditions : List Term} → Says sql (Delete it.at (plain_program it.table.tree conditions (col 1 0 ∷ []) [])) → (params : Row) (p : X → Bool) → ((y : ℤ × X) → meets conditions params (keyed_row it.given y) ≡ p (content y))
+      → ((y : ℤ × X) → output (plain_query it.table.tree conditions (col 1 0 ∷ []) []) (params ∷ keyed_row it.given y ∷ []) ≡ ([], Int (number y) ∷ [])) → (r : Result A Fault) (out : Type 0) → ¬ out → Runs g old new sql params r → Writes g old new r out (λ _. false) (λ t. it.with_those t (delete_where p (it.rows t)))
   drops g old new {sql} says params p tests shows r out within runs =
       writes g old new sql params r out _ _ within (λ t has ran. (deletes t (state g old) (state g new) has says params p tests shows ran, refl)) (λ t has broke. absurd (goes t (state g old) (state g new) has says params p tests shows broke)) runs
 
@@ -259,29 +264,37 @@ module _ {X : Type 0} (it : KeyedTable X) where
 
   -- ---- queries
 
-  module _ {S : Type 0} (g : Ghosts S) (t : Tables) (db : Database) (has : HasTables t db) {sql : List ℕ} {conditions columns : List Term} (params : Row) (shown : X → Row) (p : X → Bool) (tests : (y : ℤ × X) → meets conditions params (it.to_row y) ≡ p (content y)) where
+  module _ {S : Type 0} (g : Ghosts S) (t : Tables) (db : Database) (has : HasTables t db) {sql : List ℕ} {conditions columns : List Term} (params : Row) (shown : X → Row) (p : X → Bool) (tests : (y : ℤ × X) → meets conditions params (keyed_row it.given y) ≡ p (content y)) where
     -- the rows that pass, in the order of their keys
-    pub lists : {order : List (Term × Key)} → SaysQuery sql (plain_program it.table.tree conditions columns order) → (sorted : X → Row) → ((y : ℤ × X) → output (plain_query it.table.tree conditions columns order) (params ∷ it.to_row y ∷ []) ≡ (sorted (content y), shown (content y)))
+    pub lists : {order : List (Term × Key)} → SaysQuery sql (plain_program it.table.tree conditions columns order) → (sorted : X → Row) → ((y : ℤ × X) → output (plain_query it.table.tree conditions columns order) (params ∷ keyed_row it.given y ∷ []) ≡ (sorted (content y), shown (content y)))
         → ((a b : X) → by_key it.key a b ≡ Less → output_cmp (plain_query it.table.tree conditions columns order) (sorted a, shown a) (sorted b, shown b) ≡ Less) → AnswersJust g sql params db (map shown (filter p (it.rows t)))
     lists {order} says sorted shows rises =
         let kept = it.has t db has in
         answers_just g says.names sql params store_schema (is_query says) (plain_query_text says) (unlisted_query says) db has.schema _
-        (λ rows answer. in_order it.table.tree conditions columns order params it.to_row content p tests (λ x. (sorted x, shown x)) shows db.schema db.trees kept.numbered kept.stored.is rows answer (by_key it.key) rises (it.rows t) kept.same kept.rises)
+        (λ rows answer. in_order it.table.tree conditions columns order params (keyed_row it.given) content p tests (λ x. (sorted x, shown x)) shows db.schema db.trees kept.numbered kept.stored.is rows answer (by_key it.key) rises (it.rows t) kept.same kept.rises)
 
     -- the row of a key
-    pub finds : SaysQuery sql (plain_program it.table.tree conditions columns []) → ((y : ℤ × X) → output (plain_query it.table.tree conditions columns []) (params ∷ it.to_row y ∷ []) ≡ ([], shown (content y))) → length (filter p (it.rows t)) ≤ 1 → AnswersJust g sql params db (map shown (filter p (it.rows t)))
+    pub finds : SaysQuery sql (plain_program it.table.tree conditions columns []) → ((y : ℤ × X) → output (plain_query it.table.tree conditions columns []) (params ∷ keyed_row it.given y ∷ []) ≡ ([], shown (content y))) → length (filter p (it.rows t)) ≤ 1 → AnswersJust g sql params db (map shown (filter p (it.rows t)))
     finds says shows few =
         answers_just g says.names sql params store_schema (is_query says) (plain_query_text says) (unlisted_query says) db has.schema _ whole
       where
         whole : (rows : List Row) → Answers db (plain_program it.table.tree conditions columns []) params rows → rows ≡ map shown (filter p (it.rows t))
         whole rows answer =
             let kept = it.has t db has in
-            let some : IsPermutation (map shown (filter p (map content kept.numbered))) rows = shown_in_some_order it.table.tree conditions columns [] params it.to_row content p tests (λ x. ([], shown x)) shows db.schema db.trees kept.numbered kept.stored.is rows answer in
+            let some : IsPermutation (map shown (filter p (map content kept.numbered))) rows = shown_in_some_order it.table.tree conditions columns [] params (keyed_row it.given) content p tests (λ x. ([], shown x)) shows db.schema db.trees kept.numbered kept.stored.is rows answer in
             let same = IsPermutation-trans _ _ _ (IsPermutation-sym _ _ (IsPermutation-map shown _ _ (IsPermutation-filter p _ _ kept.same))) some in
             one_row _ rows (subst (λ m. m ≤ 1) (sym (length-map (filter p (it.rows t)) shown)) few) same
 
+  -- so a look finds it
+  pub finds_one : {S : Type 0} (g : Ghosts S) (old new : Held S) {sql : List ℕ} {conditions columns : List Term} (params : Row) (shown : X → Row) (k : List ℕ) → ((y : ℤ × X) → meets conditions params (keyed_row it.given y) ≡ is_key (it.key (content y)) k) → SaysQuery sql (plain_program it.table.tree conditions columns [])
+      → ((y : ℤ × X) → output (plain_query it.table.tree conditions columns []) (params ∷ keyed_row it.given y ∷ []) ≡ ([], shown (content y))) → (P : X → Type 0) (r : Result (Option X) Fault) → FindsFirst g old new shown P sql params r → Finds g old new r P (λ t. find_row it.key (it.rows t) k)
+  finds_one g old new {sql} params shown k tests says shows P r =
+      let p = λ (x : X). is_key (it.key x) k in
+      finds_first g old new shown P sql params r (λ t. filter p (it.rows t)) (λ t. find_row it.key (it.rows t) k) (λ t. first_found it.key (it.rows t) k)
+      (λ t has. finds g t (state g old).now has params shown p tests says shows (few t _ has k))
+
   -- all rows, in the order of their keys
-  pub lists_all : {S : Type 0} (g : Ghosts S) (t : Tables) (db : Database) (has : HasTables t db) {sql : List ℕ} {conditions columns : List Term} (params : Row) (shown : X → Row) → ((y : ℤ × X) → meets conditions params (it.to_row y) ≡ true) → {order : List (Term × Key)} → SaysQuery sql (plain_program it.table.tree conditions columns order)
-      → (sorted : X → Row) → ((y : ℤ × X) → output (plain_query it.table.tree conditions columns order) (params ∷ it.to_row y ∷ []) ≡ (sorted (content y), shown (content y)))
+  pub lists_all : {S : Type 0} (g : Ghosts S) (t : Tables) (db : Database) (has : HasTables t db) {sql : List ℕ} {conditions columns : List Term} (params : Row) (shown : X → Row) → ((y : ℤ × X) → meets conditions params (keyed_row it.given y) ≡ true) → {order : List (Term × Key)} → SaysQuery sql (plain_program it.table.tree conditions columns order)
+      → (sorted : X → Row) → ((y : ℤ × X) → output (plain_query it.table.tree conditions columns order) (params ∷ keyed_row it.given y ∷ []) ≡ (sorted (content y), shown (content y)))
       → ((a b : X) → by_key it.key a b ≡ Less → output_cmp (plain_query it.table.tree conditions columns order) (sorted a, shown a) (sorted b, shown b) ≡ Less) → AnswersJust g sql params db (map shown (it.rows t))
   lists_all g t db has {sql} params shown tests says sorted shows rises = subst (λ l. AnswersJust g sql params db (map shown l)) (all_pass (it.rows t)) (lists g t db has params shown (λ _. true) tests says sorted shows rises)

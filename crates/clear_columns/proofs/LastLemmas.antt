@@ -1,5 +1,5 @@
 -- A query for one row in the falling order of the keys gives the last of the rows that pass.
-use Rattle.clear_columns.proofs.Words.{◌≡◌, ◌==◌, ℕ, ℤ, List, [], ◌∷◌, Bool, true, false, arith, cond, nat_cmp, nat_tests, None, Equal, Less, map, filter, slice_get, refl, ◌∙◌, IsPermutation-filter, Database, Row, output, output_cmp, Ghosts, Term, Key, Tables, first_program, meets, plain_query, content, AnswersJust, HasTables, by_key, answers_just, store_schema}
+use Rattle.clear_columns.proofs.Words.{◌≡◌, ◌==◌, ℕ, ℤ, List, [], ◌∷◌, Bool, true, false, arith, cond, nat_cmp, nat_tests, None, Equal, Less, map, filter, slice_get, refl, ◌∙◌, IsPermutation-filter, Database, Row, output, output_cmp, Ghosts, Term, Key, Tables, first_program, meets, plain_query, content, AnswersJust, HasTables, by_key, answers_just, store_schema, keyed_row}
 use Rattle.std.proofs.Common.{◌++◌, append-nil, subst, take, IsPermutation}
 use Rattle.std.proofs.lemmas.List.{take-map}
 use Rattle.std.proofs.lemmas.List.Sorted.{IsPermutation-middle, IsPermutation-refl, IsPermutation-sym, IsPermutation-trans}
@@ -86,9 +86,9 @@ as_one a b n first second = grind (arith, nat_tests)
 
 -- ---- rows of a table
 
-module _ {X S : Type 0} (it : KeyedTable X) (g : Ghosts S) (t : Tables) (db : Database) (has : HasTables t db) {sql : List ℕ} {conditions columns : List Term} (params : Row) (shown : X → Row) (p : X → Bool) (tests : (y : ℤ × X) → meets conditions params (it.to_row y) ≡ p (content y)) where
+module _ {X S : Type 0} (it : KeyedTable X) (g : Ghosts S) (t : Tables) (db : Database) (has : HasTables t db) {sql : List ℕ} {conditions columns : List Term} (params : Row) (shown : X → Row) (p : X → Bool) (tests : (y : ℤ × X) → meets conditions params (keyed_row it.given y) ≡ p (content y)) where
   -- of the rows that pass, the last, where by the order of the query a row comes after those that its key is behind
-  pub finds_last : {order : List (Term × Key)} → SaysQuery sql (first_program it.table.tree conditions columns order) → (sorted : X → Row) → ((y : ℤ × X) → output (plain_query it.table.tree conditions columns order) (params ∷ it.to_row y ∷ []) ≡ (sorted (content y), shown (content y)))
+  pub finds_last : {order : List (Term × Key)} → SaysQuery sql (first_program it.table.tree conditions columns order) → (sorted : X → Row) → ((y : ℤ × X) → output (plain_query it.table.tree conditions columns order) (params ∷ keyed_row it.given y ∷ []) ≡ (sorted (content y), shown (content y)))
       → ((a b : X) → p a ≡ true → p b ≡ true → by_key it.key a b ≡ Less → output_cmp (plain_query it.table.tree conditions columns order) (sorted b, shown b) (sorted a, shown a) ≡ Less) → AnswersJust g sql params db (map shown (take 1 (from_last (filter p (it.rows t)))))
   finds_last {order} says sorted shows orders =
       let kept = it.has t db has in
@@ -96,4 +96,4 @@ module _ {X S : Type 0} (it : KeyedTable X) (g : Ghosts S) (t : Tables) (db : Da
       let same = IsPermutation-trans _ _ _ (IsPermutation-filter p _ _ kept.same) (same_rows rows) in
       let down = falls (λ a b. output_cmp (plain_query it.table.tree conditions columns order) (sorted b, shown b) (sorted a, shown a) ≡ Less) rows (rises_passing p (λ a b. by_key it.key a b ≡ Less) _ orders (it.rows t) kept.rises) in
       answers_just g says.names sql params store_schema (is_query says) (plain_query_text says) (unlisted_query says) db has.schema _
-      (λ found answer. first_in_order it.table.tree conditions columns order params it.to_row content p tests (λ x. (sorted x, shown x)) shows db.schema db.trees kept.numbered kept.stored.is found answer (from_last rows) same down ∙ take-map shown 1 (from_last rows))
+      (λ found answer. first_in_order it.table.tree conditions columns order params (keyed_row it.given) content p tests (λ x. (sorted x, shown x)) shows db.schema db.trees kept.numbered kept.stored.is found answer (from_last rows) same down ∙ take-map shown 1 (from_last rows))

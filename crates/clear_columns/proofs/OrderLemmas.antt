@@ -1,6 +1,6 @@
 -- A query for the rows of a table in the order of any of its keys: since no key stands twice, there is
 -- one such order.
-use Rattle.clear_columns.proofs.Words.{◌≡◌, ◌≤◌, ◌&&◌, ℕ, ℤ, Bool, true, false, cond, List, [], ◌∷◌, Some, None, Less, length, map, filter, slice_get, refl, sym, ap, subst, ◌∙◌, arith, IsPermutation, agree, list_any, Has, Database, Row, output, output_cmp, rowid, Ghosts, Term, Key, Tables, find_row, is_key, with_row, meets, plain_program, plain_query, content, AnswersJust, HasTables, by_key, first_found, answers_just, sound_by_schema, store_schema, IsPermutation-filter}
+use Rattle.clear_columns.proofs.Words.{◌≡◌, ◌≤◌, ◌&&◌, ℕ, ℤ, Bool, true, false, cond, List, [], ◌∷◌, Some, None, Less, length, map, filter, slice_get, refl, sym, ap, subst, ◌∙◌, arith, IsPermutation, agree, list_any, Has, Database, Row, output, output_cmp, rowid, Ghosts, Term, Key, Tables, find_row, is_key, with_row, meets, plain_program, plain_query, content, AnswersJust, HasTables, by_key, first_found, answers_just, sound_by_schema, store_schema, IsPermutation-filter, keyed_row}
 use Rattle.std.proofs.Common.{◌++◌, append-nil, int_eq, ◌<ℤ◌}
 use Rattle.std.proofs.lemmas.Bool.{or_parts}
 use Rattle.std.proofs.lemmas.List.Sorted.{IsPermutation-append_right, IsPermutation-cons, IsPermutation-middle, IsPermutation-refl, IsPermutation-sym, IsPermutation-trans, length_permutation}
@@ -89,18 +89,18 @@ module _ {X : Type 0} (key : X → List ℕ) where
 -- ---- rows of a table
 
 module _ {X : Type 0} (it : KeyedTable X) (k : UniqueKey X) (listed : Has it.keys k) where
-  by : IsKeptBy it.to_row k
-  by = all_has (IsKeptBy it.to_row) it.keys k it.kept_by listed
+  by : IsKeptBy it.given k
+  by = all_has (IsKeptBy it.given) it.keys k it.kept_by listed
 
   -- rows that do not clash have their keys once
   apart_once : (ys : List (ℤ × X)) → IsKeyedBy number ys
-      → AllByRecursion (λ row. list_any (λ other. agree plain_order k.index.columns other k.index.columns row && differ (rowid other) (rowid row)) (map it.to_row ys) ≡ false) (map it.to_row ys) → AreOnce k.of (map content ys)
+      → AllByRecursion (λ row. list_any (λ other. agree plain_order k.index.columns other k.index.columns row && differ (rowid other) (rowid row)) (map (keyed_row it.given) ys) ≡ false) (map (keyed_row it.given) ys) → AreOnce k.of (map content ys)
   apart_once [] up none = tt
   apart_once (y ∷ ys) up none =
       let others = all_weaker (λ z. number y <ℤ number z) (λ z. int_eq (number z) (number y) ≡ false) (λ z less. more_apart (number y) (number z) less) ys up.0 in
-      let apart = apart_from (by_key k.of) it.to_row it.numbered k.index.columns by.agrees ys y others (or_parts _ _ none.0).1 in (
+      let apart = apart_from (by_key k.of) (keyed_row it.given) (λ _. refl) k.index.columns by.agrees ys y others (or_parts _ _ none.0).1 in (
         none_if _ (none_found k.of (content y) (map content ys) (all_map _ content ys apart)),
-        apart_once ys up.1 (all_weaker _ _ (λ row none. (or_parts _ _ none).1) (map it.to_row ys) none.1),
+        apart_once ys up.1 (all_weaker _ _ (λ row none. (or_parts _ _ none).1) (map (keyed_row it.given) ys) none.1),
       )
 
   -- no two rows have one of the keys
@@ -112,8 +112,8 @@ module _ {X : Type 0} (it : KeyedTable X) (k : UniqueKey X) (listed : Has it.key
       (subst (λ l. AllByRecursion (λ row. list_any (λ other. agree plain_order k.index.columns other k.index.columns row && differ (rowid other) (rowid row)) l ≡ false) l) kept.stored.is none))
 
   -- the rows that pass, in the order of the key
-  pub lists_by : {S : Type 0} (g : Ghosts S) (t : Tables) (db : Database) (has : HasTables t db) {sql : List ℕ} {conditions columns : List Term} (params : Row) (shown : X → Row) (p : X → Bool) → ((y : ℤ × X) → meets conditions params (it.to_row y) ≡ p (content y)) → {order : List (Term × Key)}
-      → SaysQuery sql (plain_program it.table.tree conditions columns order) → (sorted : X → Row) → ((y : ℤ × X) → output (plain_query it.table.tree conditions columns order) (params ∷ it.to_row y ∷ []) ≡ (sorted (content y), shown (content y)))
+  pub lists_by : {S : Type 0} (g : Ghosts S) (t : Tables) (db : Database) (has : HasTables t db) {sql : List ℕ} {conditions columns : List Term} (params : Row) (shown : X → Row) (p : X → Bool) → ((y : ℤ × X) → meets conditions params (keyed_row it.given y) ≡ p (content y)) → {order : List (Term × Key)}
+      → SaysQuery sql (plain_program it.table.tree conditions columns order) → (sorted : X → Row) → ((y : ℤ × X) → output (plain_query it.table.tree conditions columns order) (params ∷ keyed_row it.given y ∷ []) ≡ (sorted (content y), shown (content y)))
       → ((a b : X) → by_key k.of a b ≡ Less → output_cmp (plain_query it.table.tree conditions columns order) (sorted a, shown a) (sorted b, shown b) ≡ Less) → AnswersJust g sql params db (map shown (in_key_order k.of (filter p (it.rows t))))
   lists_by g t db has {sql} {conditions} {columns} params shown p tests {order} says sorted shows rises =
       let kept = it.has t db has in
@@ -122,4 +122,4 @@ module _ {X : Type 0} (it : KeyedTable X) (k : UniqueKey X) (listed : Has it.key
       let same = IsPermutation-trans _ _ _ (IsPermutation-filter p _ _ kept.same) (put_in_order k.of rows) in
       let up = rising_if_in_order k.of (in_key_order k.of rows) (AreInOrder-in_key_order k.of rows once) in
       answers_just g says.names sql params store_schema (is_query says) (plain_query_text says) (unlisted_query says) db has.schema _
-      (λ rows answer. in_this_order it.table.tree conditions columns order params it.to_row content p tests (λ x. (sorted x, shown x)) shows db.schema db.trees kept.numbered kept.stored.is rows answer (by_key k.of) rises _ same up)
+      (λ rows answer. in_this_order it.table.tree conditions columns order params (keyed_row it.given) content p tests (λ x. (sorted x, shown x)) shows db.schema db.trees kept.numbered kept.stored.is rows answer (by_key k.of) rises _ same up)

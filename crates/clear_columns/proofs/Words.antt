@@ -4,7 +4,7 @@ pub use Rattle.clear_values.specs.declared.lines.Purpose.TheVariants.{Contributi
 pub use Rattle.clear_values.specs.Credits.{credit_key}
 pub use Rattle.clear_values.specs.Keyed.{find_row, is_key, with_row, is_held}
 pub use Rattle.clear_values.specs.Credits.{is_credit_of, is_in_suspense}
-pub use Rattle.clear_values.specs.Tables.{RequestRow, Tables, bank_key, charge_key, employer_key, is_piece_key_from, is_wage_key_of, keeps_contribution, list_key, piece_key, report_key, run_key, wage_key}
+pub use Rattle.clear_values.specs.Tables.{RequestRow, Tables, bank_key, charge_key, is_piece_key_from, is_wage_key_of, keeps_contribution, piece_key, report_key, wage_key}
 pub use Rattle.clear_values.specs.declared.rows.BankRow.{BankRow}
 pub use Rattle.clear_values.specs.declared.rows.ClaimRow.{ClaimRow}
 pub use Rattle.clear_values.specs.declared.rows.ClaimState.{ClaimState}
@@ -39,7 +39,7 @@ pub use Rattle.clear_schema.specs.Frame.{AnswersJust, Runs, Writes}
 pub use Rattle.clear_schema.specs.Held.{HasTables, by_key, reminder_key, request_key}
 pub use Rattle.clear_schema.specs.Runs.{IsBroken, IsDone}
 pub use Rattle.clear_schema.specs.Schema.{bank_table, charges_table, claims_table, credits_table, requests_table, store_schema, employers_table, lists_table, meta_table, pieces_table, rates_table, reminders_table, reports_table, runs_table, wages_table, all_indexes, all_tables}
-pub use Rattle.clear_schema.specs.Values.{bank_values, caller_number, charge_values, claim_values, credit_values, maybe, number, purpose, request_values, employer_values, list_values, meta_values, month, month_number, piece_values, rate_values, reminder_values, report_values, run_values, wage_values}
+pub use Rattle.clear_schema.specs.Values.{caller_number, keyed_row, month, month_number, number, numbered_row, purpose}
 pub use Rattle.clear_schema.specs.declared.fault.Fault.{Fault}
 pub use Rattle.sqlite.specs.Cast.{cast_row}
 pub use Rattle.sqlite.specs.Collation.TheVariants.{Binary}

@@ -1,24 +1,21 @@
 -- The contributions that are kept: under their firms and months.
-use Rattle.clear_columns.proofs.Words.{◌≡◌, ◌==◌, ℤ, pos, ℕ, Bool, true, false, not, ◌&&◌, ◌||◌, List, [], ◌∷◌, Less, map, filter, refl, inl, inr, is_eq, codes, cast_row, Binary, Insert, Update, Database, Row, Values, Ghosts, Term, lit, col, op2, Null, automatic, agree, Compare, Eq, Ne, Or, Key, is_key, Tables, KeptCharge, charge_key, keeps_contribution, meets, output_cmp, plain_program, plain_query, content, HasTables, by_key, charges_table, charge_values, month, month_number, number, cast_int, cast_null, equal_months, equal_numbers, key_is, months_compare, numbers_compare, others_differ, AnswersJust, nat_lt, Gt, and-true, two_met, is_above}
+use Rattle.clear_columns.proofs.Words.{◌≡◌, ◌==◌, ℤ, pos, ℕ, Bool, true, false, not, ◌&&◌, ◌||◌, List, [], ◌∷◌, Less, map, filter, refl, inl, inr, is_eq, codes, cast_row, Binary, Insert, Update, Database, Row, Values, Ghosts, Term, lit, col, op2, Null, automatic, agree, Compare, Eq, Ne, Or, Key, is_key, Tables, KeptCharge, charge_key, keeps_contribution, meets, output_cmp, plain_program, plain_query, content, HasTables, by_key, charges_table, month, month_number, number, cast_int, cast_null, equal_months, equal_numbers, key_is, months_compare, numbers_compare, others_differ, AnswersJust, nat_lt, Gt, and-true, two_met, is_above, keyed_row}
 use Rattle.sqlite_tied.specs.Compute.{everything}
 use Rattle.sqlite_value.specs.Keys.{ascending, first_key, plain}
 use Rattle.clear_values.specs.Keyed.{AreInOrder, is_held}
 use Rattle.clear_values.proofs.KeyedLemmas.{is_key-true}
 use Rattle.clear_columns.proofs.KeyLemmas.{in_order_if_rising}
 use Rattle.clear_schema.proofs.Changes.{charges_changed}
-use Rattle.clear_columns.proofs.KeyedTable.{KeyedTable, few, finds, lists, or_false}
+use Rattle.clear_columns.proofs.KeyedTable.{KeyedTable, lists, or_false}
 use Rattle.clear_columns.proofs.Says.{Says, SaysQuery}
-use Rattle.clear_firms.specs.Shown.{charge_shown, month_given}
+use Rattle.clear_schema.specs.Values.{charge_shown}
 
-pub keys_agree : (a b : ℤ × KeptCharge) → agree plain (1 ∷ 2 ∷ []) (charge_values a) (1 ∷ 2 ∷ []) (charge_values b) ≡ is_eq (by_key charge_key (content b) (content a))
+pub keys_agree : (a b : ℤ × KeptCharge) → agree plain (1 ∷ 2 ∷ []) (keyed_row charge_shown a) (1 ∷ 2 ∷ []) (keyed_row charge_shown b) ≡ is_eq (by_key charge_key (content b) (content a))
 unfolding first_key
 keys_agree a b = rw (equal_numbers (content a).employer (content b).employer, equal_months (content a).month (content b).month) (key_is charge_key (content b) (content a))
 
 pub stored : (x : KeptCharge) → cast_row charges_table (Null ∷ charge_shown x) ≡ Null ∷ charge_shown x
 stored x = rw (cast_null, cast_int (pos x.employer), cast_int (month_number x.month), cast_int (pos x.due), cast_int (pos x.cents), cast_int (pos x.left), cast_int (pos x.weight))
-
-pub stored_beside : (y : ℤ × KeptCharge) → cast_row charges_table (charge_values y) ≡ charge_values y
-stored_beside y = rw (cast_int y.0, cast_int (pos y.1.employer), cast_int (month_number y.1.month), cast_int (pos y.1.due), cast_int (pos y.1.cents), cast_int (pos y.1.left), cast_int (pos y.1.weight))
 
 abbrev pub charges : KeyedTable KeptCharge
 charges = record {
@@ -30,7 +27,6 @@ charges = record {
   keys = record { of = charge_key; index = automatic charges_table 0 (1 ∷ 2 ∷ []) 20 } ∷ [];
   first = automatic charges_table 0 (1 ∷ 2 ∷ []) 20;
   given = charge_shown;
-  to_row = charge_values;
   held = is_held charge_key;
   held_is = λ x xs. or_false _;
   leads = inl refl;
@@ -39,8 +35,7 @@ charges = record {
   uncounted = refl;
   guarded = refl;
   kept_by = (record { order = refl; agrees = keys_agree }, tt);
-  numbered = λ _. refl;
-  stored = λ y. stored (content y);
+  stored = stored;
   typed = λ _ _. refl;
   present = λ _ _. refl;
   checked = λ _ _. refl;
@@ -82,10 +77,10 @@ settle_says = record { said = (refl, refl, refl) }
 abbrev columns : List Term
 columns = col 1 1 ∷ col 1 2 ∷ col 1 3 ∷ col 1 4 ∷ col 1 5 ∷ col 1 6 ∷ []
 
-abbrev pub get : List ℕ
+abbrev get : List ℕ
 get = codes "SELECT employer, month, due, cents, open, weight FROM charges WHERE employer = ?1 AND month = ?2"
 
-get_says : SaysQuery get (plain_program 19 by_month columns [])
+pub get_says : SaysQuery get (plain_program 19 by_month columns [])
 unfolding everything
 get_says = record { names = _; said = (refl, refl, refl) }
 
@@ -119,14 +114,14 @@ list_open_says = record { names = _; said = (refl, refl, refl) }
 abbrev pub is_of : ℕ → ℕ → KeptCharge → Bool
 is_of e m row = is_key (charge_key row) (e ∷ m ∷ [])
 
-pub of_month : (e m : ℕ) (rest : Row) (y : ℤ × KeptCharge) → meets by_month (number e ∷ month m ∷ rest) (charge_values y) ≡ is_of e m (content y)
+pub of_month : (e m : ℕ) (rest : Row) (y : ℤ × KeptCharge) → meets by_month (number e ∷ month m ∷ rest) (keyed_row charge_shown y) ≡ is_of e m (content y)
 of_month e m rest y = rw (equal_numbers (content y).employer e, equal_months (content y).month m) refl
 
 -- the row of a key, unless it keeps the contribution of this one
 abbrev pub is_to_change : KeptCharge → KeptCharge → Bool
 is_to_change row x = is_of row.employer row.month x && not (keeps_contribution row x)
 
-pub of_other : (row : KeptCharge) (y : ℤ × KeptCharge) → meets where_other (charge_shown row) (charge_values y) ≡ is_to_change row (content y)
+pub of_other : (row : KeptCharge) (y : ℤ × KeptCharge) → meets where_other (charge_shown row) (keyed_row charge_shown y) ≡ is_to_change row (content y)
 of_other row y =
     rw (equal_numbers (content y).employer row.employer, equal_months (content y).month row.month, others_differ (content y).due row.due (content y).cents row.cents)
     (together ((content y).employer == row.employer) ((content y).month == row.month) ((content y).due == row.due) ((content y).cents == row.cents))
@@ -154,14 +149,14 @@ is_that row x e =
 abbrev pub is_by : ℕ → KeptCharge → Bool
 is_by e row = row.employer == e
 
-of_firm : (e : ℕ) (y : ℤ × KeptCharge) → meets by_firm (number e ∷ []) (charge_values y) ≡ is_by e (content y)
+of_firm : (e : ℕ) (y : ℤ × KeptCharge) → meets by_firm (number e ∷ []) (keyed_row charge_shown y) ≡ is_by e (content y)
 of_firm e y = rw (equal_numbers (content y).employer e) (and-true ((content y).employer == e))
 
 -- a part of the row is open, and it is of a firm
 abbrev pub is_open_by : ℕ → KeptCharge → Bool
 is_open_by e row = (row.employer == e) && nat_lt 0 row.left
 
-open_of_firm : (e : ℕ) (y : ℤ × KeptCharge) → meets by_open (number e ∷ []) (charge_values y) ≡ is_open_by e (content y)
+open_of_firm : (e : ℕ) (y : ℤ × KeptCharge) → meets by_open (number e ∷ []) (keyed_row charge_shown y) ≡ is_open_by e (content y)
 open_of_firm e y = rw (equal_numbers (content y).employer e, is_above (content y).left 0) (two_met ((content y).employer == e) (nat_lt 0 (content y).left))
 
 -- what ORDER BY goes by
@@ -172,9 +167,6 @@ rises : (conditions : List Term) (a b : KeptCharge) → by_key charge_key a b �
 rises conditions a b less = rw (numbers_compare a.employer b.employer, months_compare a.month b.month) less
 
 module _ {S : Type 0} (g : Ghosts S) (t : Tables) (db : Database) (has : HasTables t db) where
-  pub answers : (e m : ℕ) → AnswersJust g get (month_given e m) db (map charge_shown (filter (is_of e m) t.charges))
-  answers e m = finds charges g t db has (month_given e m) charge_shown (is_of e m) (of_month e m []) get_says (λ _. refl) (few charges t db has (e ∷ m ∷ []))
-
   pub answers_of : (e : ℕ) → AnswersJust g list (number e ∷ []) db (map charge_shown (filter (is_by e) t.charges))
   answers_of e = lists charges g t db has (number e ∷ []) charge_shown (is_by e) (of_firm e) list_says sorted (λ _. refl) (rises by_firm)
 

@@ -1,8 +1,8 @@
 -- The counts: one row, under the number 1.
-use Rattle.clear_columns.proofs.Words.{◌≡◌, arith, pos, ℕ, true, List, [], ◌∷◌, Some, map, slice_get, refl, sym, ap, subst, ◌∙◌, inl, codes, cast_row, Binary, Update, Database, Row, Ghosts, Term, lit, col, op2, Trees, Null, Int, passes, Datatype, Compare, Eq, Tables, IsNumbered, meets, plain_program, HasTables, meta_table, store_schema, meta_values, cast_int, cast_maybe, cast_null, equal_ints, maybe_typed, numbers_keep, AnswersJust}
+use Rattle.clear_columns.proofs.Words.{◌≡◌, arith, pos, ℕ, true, List, [], ◌∷◌, Some, map, slice_get, refl, sym, ap, subst, ◌∙◌, inl, codes, cast_row, Binary, Update, Database, Row, Ghosts, Term, lit, col, op2, Trees, Null, Int, passes, Datatype, Compare, Eq, Tables, IsNumbered, meets, plain_program, HasTables, meta_table, store_schema, cast_int, cast_maybe, cast_null, equal_ints, maybe_typed, numbers_keep, AnswersJust, numbered_row}
 use Rattle.sqlite_tied.specs.Compute.{everything}
 use Rattle.clear_schema.specs.Held.{this_schema}
-use Rattle.clear_schema.specs.Values.{Counts, counts_of, with_counts}
+use Rattle.clear_schema.specs.Values.{Counts, counts_of, meta_shown, with_counts}
 use Rattle.clear_schema.proofs.Changes.{counts_changed}
 use Rattle.clear_columns.proofs.NumberedTable.{NumberedTable, finds}
 use Rattle.clear_columns.proofs.Says.{Says, SaysQuery}
@@ -14,13 +14,10 @@ abbrev pub with_first : Tables → List Counts → Tables
 with_first t [] = t
 with_first t (c ∷ rows) = with_counts c t
 
-abbrev pub meta_row : Counts → Row
-meta_row = meta_values this_schema
-
-pub stored : (c : Counts) → cast_row meta_table (meta_row c) ≡ meta_row c
+pub stored : (c : Counts) → cast_row meta_table (numbered_row (meta_shown this_schema) c) ≡ numbered_row (meta_shown this_schema) c
 stored c = rw (cast_int (pos 1), cast_null, cast_maybe c.day, cast_int (pos c.entries), cast_int (pos c.serial), cast_int (pos c.claims), cast_int (pos c.lists), cast_int (pos c.runs))
 
-pub typed : (db : Trees) (c : Counts) → passes Datatype store_schema db meta_table (meta_row c) ≡ true
+pub typed : (db : Trees) (c : Counts) → passes Datatype store_schema db meta_table (numbered_row (meta_shown this_schema) c) ≡ true
 typed db c = rw (maybe_typed c.day)
 
 abbrev pub counts : NumberedTable Counts
@@ -33,8 +30,7 @@ counts = record {
   number = λ c. 1;
   as_int = λ n. pos n;
   in_order = numbers_keep;
-  given = counts_given;
-  to_row = meta_row;
+  given = meta_shown this_schema;
   placed = refl;
   listed = inl refl;
   uncounted = refl;
@@ -47,7 +43,7 @@ counts = record {
   has = λ t db has. has.meta;
   changed = λ t old new has schema sound xs fits same it.
       subst (λ (xs : List Counts). HasTables (with_first t xs) new) (sym fits.1)
-      (counts_changed t old new has schema sound fits.0 same (subst (λ (xs : List Counts). IsNumbered (λ c. pos 1) meta_row xs (new.trees 0)) fits.1 it));
+      (counts_changed t old new has schema sound fits.0 same (subst (λ (xs : List Counts). IsNumbered (λ c. pos 1) (numbered_row (meta_shown this_schema)) xs (new.trees 0)) fits.1 it));
 }
 
 abbrev the_one : List Term
@@ -71,7 +67,7 @@ unfolding everything
 get_says = record { names = _; said = (refl, refl, refl) }
 
 -- every row is the one
-pub is_one : (params : Row) (c : Counts) → meets the_one params (meta_row c) ≡ true
+pub is_one : (params : Row) (c : Counts) → meets the_one params (numbered_row (meta_shown this_schema) c) ≡ true
 is_one params c = rw (equal_ints (pos 1) (pos 1))
 
 pub answers : {S : Type 0} (g : Ghosts S) (t : Tables) (db : Database) → HasTables t db → AnswersJust g get [] db (map counts_given (counts_of t ∷ []))

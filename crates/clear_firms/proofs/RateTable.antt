@@ -1,15 +1,15 @@
 -- The rates: under their first months.
 use Rattle.std.proofs.Common.{zero, suc, ◌+◌, ◌<◌, ◌≤◌, length, take, get_or, add-one}
-use Rattle.clear_columns.proofs.Words.{◌≡◌, arith, pos, ℕ, List, [], ◌∷◌, map, refl, sym, subst, inl, inr, codes, cast_row, Insert, Database, Values, Ghosts, Term, lit, col, Null, Tables, plain_program, HasTables, rates_table, rate_values, month_number, cast_int, cast_null, months_keep, AnswersJust}
+use Rattle.clear_columns.proofs.Words.{◌≡◌, arith, pos, ℕ, List, [], ◌∷◌, map, refl, sym, subst, inl, inr, codes, cast_row, Insert, Database, Values, Ghosts, Term, lit, col, Null, Tables, plain_program, HasTables, rates_table, month_number, cast_int, cast_null, months_keep, AnswersJust, numbered_row}
 use Rattle.sqlite_tied.specs.Compute.{everything}
 use Rattle.clear_money.specs.Rates.{Rate, IsRising, last_first}
 use Rattle.clear_values.specs.Ranges.{AreRates}
 use Rattle.clear_schema.proofs.Changes.{rates_changed}
 use Rattle.clear_columns.proofs.NumberedTable.{NumberedTable, by_number, lists_all}
 use Rattle.clear_columns.proofs.Says.{Says, SaysQuery}
-use Rattle.clear_firms.specs.Shown.{rate_shown}
+use Rattle.clear_schema.specs.Values.{rate_shown}
 
-pub stored : (r : Rate) → cast_row rates_table (rate_values r) ≡ rate_values r
+pub stored : (r : Rate) → cast_row rates_table (numbered_row rate_shown r) ≡ numbered_row rate_shown r
 stored r = rw (cast_int (month_number r.first), cast_null, cast_int (pos r.contribution_rate), cast_int (pos r.report_day), cast_int (pos r.due_day), cast_int (pos r.interest_rate), cast_int (pos r.entitlement_rate))
 
 abbrev pub rates : NumberedTable Rate
@@ -23,7 +23,6 @@ rates = record {
   as_int = month_number;
   in_order = months_keep;
   given = rate_shown;
-  to_row = rate_values;
   placed = refl;
   listed = inr (inl refl);
   uncounted = refl;

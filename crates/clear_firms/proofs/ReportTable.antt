@@ -1,23 +1,20 @@
 -- The reports: under their firms and months.
-use Rattle.clear_columns.proofs.Words.{◌≡◌, ◌==◌, ℤ, pos, ℕ, Bool, true, List, [], ◌∷◌, Less, map, filter, refl, inl, inr, is_eq, codes, cast_row, Binary, Insert, Update, Database, Row, Values, Ghosts, Term, lit, col, op2, Null, automatic, agree, Compare, Eq, Key, is_key, Tables, ReportRow, report_key, meets, output_cmp, plain_program, plain_query, content, HasTables, by_key, reports_table, report_values, month, month_number, number, cast_int, cast_null, equal_months, equal_numbers, key_is, months_compare, numbers_compare, AnswersJust, and-true}
+use Rattle.clear_columns.proofs.Words.{◌≡◌, ◌==◌, ℤ, pos, ℕ, Bool, true, List, [], ◌∷◌, Less, map, filter, refl, inl, inr, is_eq, codes, cast_row, Binary, Insert, Update, Database, Row, Values, Ghosts, Term, lit, col, op2, Null, automatic, agree, Compare, Eq, Key, is_key, Tables, ReportRow, report_key, meets, output_cmp, plain_program, plain_query, content, HasTables, by_key, reports_table, month, month_number, number, cast_int, cast_null, equal_months, equal_numbers, key_is, months_compare, numbers_compare, AnswersJust, and-true, keyed_row}
 use Rattle.sqlite_tied.specs.Compute.{everything}
 use Rattle.sqlite_value.specs.Keys.{ascending, first_key, plain}
 use Rattle.clear_values.proofs.KeyedLemmas.{is_key-true}
 use Rattle.clear_schema.proofs.Changes.{reports_changed}
-use Rattle.clear_columns.proofs.KeyedTable.{KeyedTable, few, finds, lists, lists_all, or_false}
+use Rattle.clear_columns.proofs.KeyedTable.{KeyedTable, lists, lists_all, or_false}
 use Rattle.clear_columns.proofs.Says.{Says, SaysQuery}
 use Rattle.clear_values.specs.Keyed.{is_held}
-use Rattle.clear_firms.specs.Shown.{month_given, report_shown}
+use Rattle.clear_schema.specs.Values.{report_shown}
 
-pub keys_agree : (a b : ℤ × ReportRow) → agree plain (1 ∷ 2 ∷ []) (report_values a) (1 ∷ 2 ∷ []) (report_values b) ≡ is_eq (by_key report_key (content b) (content a))
+pub keys_agree : (a b : ℤ × ReportRow) → agree plain (1 ∷ 2 ∷ []) (keyed_row report_shown a) (1 ∷ 2 ∷ []) (keyed_row report_shown b) ≡ is_eq (by_key report_key (content b) (content a))
 unfolding first_key
 keys_agree a b = rw (equal_numbers (content a).employer (content b).employer, equal_months (content a).month (content b).month) (key_is report_key (content b) (content a))
 
 pub stored : (x : ReportRow) → cast_row reports_table (Null ∷ report_shown x) ≡ Null ∷ report_shown x
 stored x = rw (cast_null, cast_int (pos x.employer), cast_int (month_number x.month), cast_int (pos x.version))
-
-pub stored_beside : (y : ℤ × ReportRow) → cast_row reports_table (report_values y) ≡ report_values y
-stored_beside y = rw (cast_int y.0, cast_int (pos y.1.employer), cast_int (month_number y.1.month), cast_int (pos y.1.version))
 
 abbrev pub reports : KeyedTable ReportRow
 reports = record {
@@ -29,7 +26,6 @@ reports = record {
   keys = record { of = report_key; index = automatic reports_table 0 (1 ∷ 2 ∷ []) 4 } ∷ [];
   first = automatic reports_table 0 (1 ∷ 2 ∷ []) 4;
   given = report_shown;
-  to_row = report_values;
   held = is_held report_key;
   held_is = λ x xs. or_false _;
   leads = inl refl;
@@ -38,8 +34,7 @@ reports = record {
   uncounted = refl;
   guarded = refl;
   kept_by = (record { order = refl; agrees = keys_agree }, tt);
-  numbered = λ _. refl;
-  stored = λ y. stored (content y);
+  stored = stored;
   typed = λ _ _. refl;
   present = λ _ _. refl;
   checked = λ _ _. refl;
@@ -69,10 +64,10 @@ update_says = record { said = (refl, refl, refl) }
 abbrev columns : List Term
 columns = col 1 1 ∷ col 1 2 ∷ col 1 3 ∷ []
 
-abbrev pub get : List ℕ
+abbrev get : List ℕ
 get = codes "SELECT employer, month, version FROM reports WHERE employer = ?1 AND month = ?2"
 
-get_says : SaysQuery get (plain_program 3 by_month columns [])
+pub get_says : SaysQuery get (plain_program 3 by_month columns [])
 unfolding everything
 get_says = record { names = _; said = (refl, refl, refl) }
 
@@ -102,7 +97,7 @@ all_says = record { names = _; said = (refl, refl, refl) }
 abbrev pub is_of : ℕ → ℕ → ReportRow → Bool
 is_of e m row = is_key (report_key row) (e ∷ m ∷ [])
 
-pub of_month : (e m : ℕ) (rest : Row) (y : ℤ × ReportRow) → meets by_month (number e ∷ month m ∷ rest) (report_values y) ≡ is_of e m (content y)
+pub of_month : (e m : ℕ) (rest : Row) (y : ℤ × ReportRow) → meets by_month (number e ∷ month m ∷ rest) (keyed_row report_shown y) ≡ is_of e m (content y)
 of_month e m rest y = rw (equal_numbers (content y).employer e, equal_months (content y).month m) refl
 
 -- the row with another version
@@ -121,7 +116,7 @@ is_that row x e =
 abbrev pub is_by : ℕ → ReportRow → Bool
 is_by e row = row.employer == e
 
-of_firm : (e : ℕ) (y : ℤ × ReportRow) → meets by_firm (number e ∷ []) (report_values y) ≡ is_by e (content y)
+of_firm : (e : ℕ) (y : ℤ × ReportRow) → meets by_firm (number e ∷ []) (keyed_row report_shown y) ≡ is_by e (content y)
 of_firm e y = rw (equal_numbers (content y).employer e) (and-true ((content y).employer == e))
 
 -- what ORDER BY goes by
@@ -132,9 +127,6 @@ rises : (a b : ReportRow) → by_key report_key a b ≡ Less → output_cmp (pla
 rises a b less = rw (numbers_compare a.employer b.employer, months_compare a.month b.month) less
 
 module _ {S : Type 0} (g : Ghosts S) (t : Tables) (db : Database) (has : HasTables t db) where
-  pub answers : (e m : ℕ) → AnswersJust g get (month_given e m) db (map report_shown (filter (is_of e m) t.reports))
-  answers e m = finds reports g t db has (month_given e m) report_shown (is_of e m) (of_month e m []) get_says (λ _. refl) (few reports t db has (e ∷ m ∷ []))
-
   pub answers_of : (e : ℕ) → AnswersJust g list (number e ∷ []) db (map report_shown (filter (is_by e) t.reports))
   answers_of e = lists reports g t db has (number e ∷ []) report_shown (is_by e) (of_firm e) list_says sorted (λ _. refl) rises
 

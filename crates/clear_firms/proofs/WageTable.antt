@@ -1,14 +1,15 @@
 -- The wages: under their firms, months and workers.
-use Rattle.clear_columns.proofs.Words.{◌≡◌, ◌==◌, ℤ, pos, ℕ, Bool, ◌&&◌, List, [], ◌∷◌, Less, map, filter, refl, ◌∙◌, inl, inr, is_eq, codes, cast_row, Binary, Delete, Insert, Database, Row, Values, Ghosts, Term, lit, col, op2, Null, automatic, agree, Compare, Eq, Key, Tables, WageRow, is_wage_key_of, wage_key, meets, output_cmp, plain_program, plain_query, content, HasTables, by_key, wages_table, wage_values, month, month_number, number, cast_int, cast_null, equal_months, equal_numbers, key_is, months_compare, numbers_compare, turned_nat, AnswersJust, and-true, two_met}
+use Rattle.clear_columns.proofs.Words.{◌≡◌, ◌==◌, ℤ, pos, ℕ, Bool, ◌&&◌, List, [], ◌∷◌, Less, map, filter, refl, ◌∙◌, inl, inr, is_eq, codes, cast_row, Binary, Delete, Insert, Database, Row, Values, Ghosts, Term, lit, col, op2, Null, automatic, agree, Compare, Eq, Key, Tables, WageRow, is_wage_key_of, wage_key, meets, output_cmp, plain_program, plain_query, content, HasTables, by_key, wages_table, month, month_number, number, cast_int, cast_null, equal_months, equal_numbers, key_is, months_compare, numbers_compare, turned_nat, AnswersJust, and-true, two_met, keyed_row}
 use Rattle.sqlite_tied.specs.Compute.{everything}
 use Rattle.sqlite_value.specs.Keys.{ascending, first_key, plain}
 use Rattle.clear_schema.proofs.Changes.{wages_changed}
 use Rattle.clear_columns.proofs.KeyedTable.{KeyedTable, lists, or_false}
 use Rattle.clear_columns.proofs.Says.{Says, SaysQuery}
 use Rattle.clear_values.specs.Keyed.{is_held}
-use Rattle.clear_firms.specs.Shown.{month_given, wage_shown}
+use Rattle.clear_schema.specs.Values.{wage_shown}
+use Rattle.clear_firms.specs.Shown.{month_given}
 
-pub keys_agree : (a b : ℤ × WageRow) → agree plain (1 ∷ 2 ∷ 3 ∷ []) (wage_values a) (1 ∷ 2 ∷ 3 ∷ []) (wage_values b) ≡ is_eq (by_key wage_key (content b) (content a))
+pub keys_agree : (a b : ℤ × WageRow) → agree plain (1 ∷ 2 ∷ 3 ∷ []) (keyed_row wage_shown a) (1 ∷ 2 ∷ 3 ∷ []) (keyed_row wage_shown b) ≡ is_eq (by_key wage_key (content b) (content a))
 unfolding first_key
 keys_agree a b =
     rw (
@@ -31,7 +32,6 @@ wages = record {
   keys = record { of = wage_key; index = automatic wages_table 0 (1 ∷ 2 ∷ 3 ∷ []) 6 } ∷ [];
   first = automatic wages_table 0 (1 ∷ 2 ∷ 3 ∷ []) 6;
   given = wage_shown;
-  to_row = wage_values;
   held = is_held wage_key;
   held_is = λ x xs. or_false _;
   leads = inl refl;
@@ -40,8 +40,7 @@ wages = record {
   uncounted = refl;
   guarded = refl;
   kept_by = (record { order = refl; agrees = keys_agree }, tt);
-  numbered = λ _. refl;
-  stored = λ y. stored (content y);
+  stored = stored;
   typed = λ _ _. refl;
   present = λ _ _. refl;
   checked = λ _ _. refl;
@@ -84,7 +83,7 @@ list_says = record { names = _; said = (refl, refl, refl) }
 abbrev pub is_of : ℕ → ℕ → WageRow → Bool
 is_of e m row = is_wage_key_of e m (wage_key row)
 
-pub of_month : (e m : ℕ) (y : ℤ × WageRow) → meets by_month (month_given e m) (wage_values y) ≡ is_of e m (content y)
+pub of_month : (e m : ℕ) (y : ℤ × WageRow) → meets by_month (month_given e m) (keyed_row wage_shown y) ≡ is_of e m (content y)
 of_month e m y =
     rw (equal_numbers (content y).employer e, equal_months (content y).month m)
     (two_met ((content y).employer == e) ((content y).month == m) ∙ (λ i. turned_nat (content y).employer e i && turned_nat (content y).month m i))
@@ -115,7 +114,7 @@ of_worker_says = record { names = _; said = (refl, refl, refl) }
 abbrev pub is_for : ℕ → WageRow → Bool
 is_for w row = row.worker == w
 
-for_worker : (w : ℕ) (y : ℤ × WageRow) → meets by_worker (number w ∷ []) (wage_values y) ≡ is_for w (content y)
+for_worker : (w : ℕ) (y : ℤ × WageRow) → meets by_worker (number w ∷ []) (keyed_row wage_shown y) ≡ is_for w (content y)
 for_worker w y = rw (equal_numbers (content y).worker w) (and-true ((content y).worker == w))
 
 rises_for : (a b : WageRow) → by_key wage_key a b ≡ Less → output_cmp (plain_query 5 by_worker columns order) (sorted a, wage_shown a) (sorted b, wage_shown b) ≡ Less

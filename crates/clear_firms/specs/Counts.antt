@@ -1,9 +1,10 @@
 -- The counts of an office, as a program has them and as a statement is given them.
-use Rattle.std.specs.Prelude.{[], ◌∷◌, ◌≤◌, IfSome}
+use Rattle.std.specs.Prelude.{◌≤◌, IfSome}
 use Rattle.sqlite.specs.Order.{Row}
 use Rattle.clear_money.specs.Calendar.{IsDay}
 use Rattle.clear_values.specs.Limits.{most_entries, most_serials}
-use Rattle.clear_schema.specs.Values.{Counts, number, maybe}
+use Rattle.clear_schema.specs.Values.{Counts}
+pub use Rattle.clear_schema.specs.Values.{counts_shown as counts_given}
 use Rattle.clear_firms.specs.declared.counts.Counts.{Counts as Told}
 
 abbrev pub as_stored : Told → Counts
@@ -25,11 +26,6 @@ as_told c = record {
   lists = c.lists;
   runs = c.runs;
 }
-
-abbrev pub counts_given : Counts → Row
-counts_given c =
-    maybe c.day ∷ number c.entries ∷ number c.serial ∷ number c.claims ∷ number c.lists
-    ∷ number c.runs ∷ []
 
 -- what a query shows of them
 abbrev pub counts_shown : Told → Row

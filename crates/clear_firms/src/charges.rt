@@ -7,7 +7,7 @@ ghost use Rattle.clear_values.specs.RowRanges.{IsKeptCharge};
 ghost use Rattle.clear_values.specs.Tables.{charge_key, corrected};
 ghost use Rattle.clear_schema.specs.Frame.{Finds, Lists, Writes};
 ghost use Rattle.clear_firms.specs.Amounts.{AreInRange};
-ghost use Rattle.clear_firms.specs.Shown.{charge_shown};
+ghost use Rattle.clear_schema.specs.Values.{charge_shown};
 
 use crate::parameters::month_values;
 use clear_columns::columns::{contribution_at, day_at, employer_at, month_at, weight_at};
@@ -142,7 +142,7 @@ pub struct Charges;
 
 impl StoredTable for Charges {
     ghost use Rattle.clear_values.specs.RowRanges.{IsKeptCharge};
-    ghost use Rattle.clear_firms.specs.Shown.{charge_shown};
+    ghost use Rattle.clear_schema.specs.Values.{charge_shown};
 
     type Row = KeptCharge;
 

@@ -9,7 +9,7 @@ ghost use Rattle.clear_values.specs.RowRanges.{IsEmployerRow};
 ghost use Rattle.clear_values.specs.Tables.{employer_key};
 ghost use Rattle.clear_schema.specs.Frame.{Finds, Lists, LooksUp, Writes};
 ghost use Rattle.clear_columns.specs.Reading.{HasSomeTables, IsLeft, ReadsOn};
-ghost use Rattle.clear_firms.specs.Shown.{employer_shown};
+ghost use Rattle.clear_schema.specs.Values.{employer_shown};
 
 use clear_columns::columns::{employer_at, maybe_month_at, month_at, name_at};
 use clear_columns::parameters::{employer, maybe_month};
@@ -112,7 +112,7 @@ pub struct Employers;
 
 impl StoredTable for Employers {
     ghost use Rattle.clear_values.specs.RowRanges.{IsEmployerRow};
-    ghost use Rattle.clear_firms.specs.Shown.{employer_shown};
+    ghost use Rattle.clear_schema.specs.Values.{employer_shown};
 
     type Row = EmployerRow;
 

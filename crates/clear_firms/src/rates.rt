@@ -1,11 +1,10 @@
 //! The table of rates.
 ghost use Rattle.std.specs.Prelude.{◌≡◌, ◌≢◌, IfErr, IfOk};
-ghost use Rattle.sqlite.specs.Values.{bound};
 ghost use Rattle.clear_money.specs.Rates.{IsRate};
 ghost use Rattle.clear_values.specs.Keyed.{is_held, with_row};
 ghost use Rattle.clear_values.specs.Ranges.{AreRates};
 ghost use Rattle.clear_schema.specs.Frame.{Lists, LooksUp, Writes};
-ghost use Rattle.clear_firms.specs.Shown.{rate_key, rate_shown};
+ghost use Rattle.clear_firms.specs.Shown.{rate_key};
 
 use clear_columns::columns::{month_at, month_day_at, rate_at};
 use clear_columns::queries::list;
@@ -13,10 +12,9 @@ use clear_columns::rows::StoredTable;
 use clear_money::rates::{PushFault, RateRow, RateTable};
 use clear_schema::fault::Fault;
 use clear_schema::statement::put;
-use clear_schema::values::{month, number};
+use clear_schema::values::rate_values;
 use clear_values::causes::StoreCause;
 use sqlite::{Alter, Row, Transaction};
-use sqlite_value::value::ValueRef;
 use std::alloc::Global;
 
 /// Adds a row of rates whose first month is that of no other. It stands at its place among them.
@@ -85,7 +83,7 @@ fn table_of(alloc: Global, rows: &[RateRow]) -> Result<RateTable, Fault>
 pub struct Rates;
 
 impl StoredTable for Rates {
-    ghost use Rattle.clear_firms.specs.Shown.{rate_shown};
+    ghost use Rattle.clear_schema.specs.Values.{rate_shown};
     ghost use Rattle.clear_money.specs.Rates.{IsRate};
 
     type Row = RateRow;
@@ -113,18 +111,4 @@ impl StoredTable for Rates {
             None => Err(Fault::Store(StoreCause::Row)),
         }
     }
-}
-
-// What a statement is given of a row.
-fn rate_values(row: &RateRow) -> [ValueRef<'static>; 6]
-    ensures { bound result ≡ rate_shown row.now }
-{
-    [
-        month(row.first()),
-        number(u64::from(row.contribution_rate())),
-        number(u64::from(row.report_day())),
-        number(u64::from(row.due_day())),
-        number(u64::from(row.interest_rate())),
-        number(u64::from(row.entitlement_rate())),
-    ]
 }

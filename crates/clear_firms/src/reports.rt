@@ -10,7 +10,7 @@ ghost use Rattle.clear_values.specs.RowRanges.{IsReportRow};
 ghost use Rattle.clear_values.specs.Tables.{report_key};
 ghost use Rattle.clear_schema.specs.Frame.{Finds, Lists, Writes};
 ghost use Rattle.clear_columns.specs.Reading.{HasSomeTables, IsLeft, ReadsOn};
-ghost use Rattle.clear_firms.specs.Shown.{report_shown};
+ghost use Rattle.clear_schema.specs.Values.{report_shown};
 
 use crate::parameters::month_values;
 use clear_columns::columns::{employer_at, month_at, version_at};
@@ -119,7 +119,7 @@ pub struct Reports;
 
 impl StoredTable for Reports {
     ghost use Rattle.clear_values.specs.RowRanges.{IsReportRow};
-    ghost use Rattle.clear_firms.specs.Shown.{report_shown};
+    ghost use Rattle.clear_schema.specs.Values.{report_shown};
 
     type Row = ReportRow;
 

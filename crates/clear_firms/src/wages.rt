@@ -6,7 +6,7 @@ ghost use Rattle.clear_values.specs.Limits.{most_gross};
 ghost use Rattle.clear_values.specs.RowRanges.{IsWageRow};
 ghost use Rattle.clear_values.specs.Tables.{is_wage_key_of, wage_key};
 ghost use Rattle.clear_schema.specs.Frame.{Lists, Writes};
-ghost use Rattle.clear_firms.specs.Shown.{wage_shown};
+ghost use Rattle.clear_schema.specs.Values.{wage_shown};
 
 use crate::parameters::month_values;
 use clear_columns::columns::{employer_at, gross_at, month_at, worker_at};
@@ -99,7 +99,7 @@ pub struct Wages;
 
 impl StoredTable for Wages {
     ghost use Rattle.clear_values.specs.RowRanges.{IsWageRow};
-    ghost use Rattle.clear_firms.specs.Shown.{wage_shown};
+    ghost use Rattle.clear_schema.specs.Values.{wage_shown};
 
     type Row = WageRow;
 

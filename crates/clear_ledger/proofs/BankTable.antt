@@ -1,36 +1,37 @@
 -- The bank lines: under their references, and with their serials unique too.
-use Rattle.clear_columns.proofs.Words.{◌≡◌, ℤ, pos, Bool, true, false, ◌&&◌, ◌||◌, List, [], ◌∷◌, Less, Option, Some, None, Row, is_none, ℕ, map, filter, refl, sym, ap, ◌∙◌, inl, inr, is_eq, Equal, codes, ordering_then, cast_row, Binary, Insert, Update, Database, Values, Ghosts, Term, lit, col, op2, Trees, Null, Text, automatic, agree, passes, Datatype, NotNull, Compare, Is, Eq, Key, value_cmp-Text, Purpose, Contribution, Interest, is_key, is_in_suspense, number, numbers_compare, output_cmp, plain_query, Tables, bank_key, BankRow, meets, plain_program, content, HasTables, by_key, bank_table, store_schema, bank_values, cast_int, cast_null, equal_ints, equal_texts, AnswersJust, turned, is_key_is, by_key_total, key_is, cast_maybe, cast_purpose, maybe_typed, purpose_typed, same_numbers, and-true}
-use Rattle.clear_ledger.specs.Shown.{bank_shown, is_line_held, serial_key}
+use Rattle.clear_columns.proofs.Words.{◌≡◌, ℤ, pos, Bool, true, false, ◌&&◌, ◌||◌, List, [], ◌∷◌, Less, Option, Some, None, Row, is_none, ℕ, map, filter, refl, sym, ap, ◌∙◌, inl, inr, is_eq, Equal, codes, ordering_then, cast_row, Binary, Insert, Update, Database, Values, Ghosts, Term, lit, col, op2, Trees, Null, Text, automatic, agree, passes, Datatype, NotNull, Compare, Is, Eq, Key, value_cmp-Text, Purpose, Contribution, Interest, is_key, is_in_suspense, number, numbers_compare, output_cmp, plain_query, Tables, bank_key, BankRow, meets, plain_program, content, HasTables, by_key, bank_table, store_schema, cast_int, cast_null, equal_ints, equal_texts, AnswersJust, turned, is_key_is, by_key_total, key_is, cast_maybe, cast_purpose, maybe_typed, purpose_typed, same_numbers, and-true, keyed_row}
+use Rattle.clear_schema.specs.Values.{bank_shown}
+use Rattle.clear_ledger.specs.Shown.{is_line_held, serial_key}
 use Rattle.std.specs.Float.Ieee
 use Rattle.sqlite.specs.Ops.{binary}
 use Rattle.sqlite_tied.specs.Compute.{everything}
 use Rattle.sqlite_value.specs.Keys.{ascending, first_key, plain}
 use Rattle.sqlite_value.specs.Order.{value_cmp}
 use Rattle.clear_values.specs.Keyed.{in_key_order}
-use Rattle.clear_columns.proofs.KeyedTable.{KeyedTable, finds, few, lists_all}
+use Rattle.clear_columns.proofs.KeyedTable.{KeyedTable, lists_all}
 use Rattle.clear_columns.proofs.OrderLemmas.{lists_by}
 use Rattle.clear_columns.proofs.Says.{Says, SaysQuery}
 use Rattle.clear_columns.proofs.CountLemmas.{counts, one, one_shown}
 use Rattle.clear_schema.proofs.Changes.{bank_changed}
 
-pub references_agree : (a b : ℤ × BankRow) → agree plain (1 ∷ []) (bank_values a) (1 ∷ []) (bank_values b) ≡ is_eq (by_key bank_key (content b) (content a))
+pub references_agree : (a b : ℤ × BankRow) → agree plain (1 ∷ []) (keyed_row bank_shown a) (1 ∷ []) (keyed_row bank_shown b) ≡ is_eq (by_key bank_key (content b) (content a))
 unfolding first_key
 references_agree a b = rw (equal_texts (content a).line.reference (content b).line.reference) (and-true _ ∙ turned (by_key bank_key (content b) (content a)) _ ((by_key_total bank_key).antisymm (content a) (content b)))
 
-pub serials_agree : (a b : ℤ × BankRow) → agree plain (2 ∷ []) (bank_values a) (2 ∷ []) (bank_values b) ≡ is_eq (by_key serial_key (content b) (content a))
+pub serials_agree : (a b : ℤ × BankRow) → agree plain (2 ∷ []) (keyed_row bank_shown a) (2 ∷ []) (keyed_row bank_shown b) ≡ is_eq (by_key serial_key (content b) (content a))
 unfolding first_key
 serials_agree a b = rw (equal_ints (pos (content a).serial) (pos (content b).serial)) (ap (λ b. b && true) (same_numbers (content a).serial (content b).serial) ∙ key_is serial_key (content b) (content a))
 
 pub stored : (x : BankRow) → cast_row bank_table (Null ∷ bank_shown x) ≡ Null ∷ bank_shown x
 stored x = rw (cast_null, cast_int (pos x.serial), cast_int (pos x.line.value), cast_maybe x.line.employer, cast_maybe x.employer, cast_int (pos x.line.cents), cast_purpose x.line.purpose)
 
-pub typed : (db : Trees) (y : ℤ × BankRow) → passes Datatype store_schema db bank_table (bank_values y) ≡ true
+pub typed : (db : Trees) (y : ℤ × BankRow) → passes Datatype store_schema db bank_table (keyed_row bank_shown y) ≡ true
 typed db y = rw (maybe_typed y.1.line.employer, maybe_typed y.1.employer, purpose_typed y.1.line.purpose)
 
-pub present : (db : Trees) (y : ℤ × BankRow) → passes NotNull store_schema db bank_table (bank_values y) ≡ true
+pub present : (db : Trees) (y : ℤ × BankRow) → passes NotNull store_schema db bank_table (keyed_row bank_shown y) ≡ true
 present db y = there y.1.line.purpose
   where
-    there : (p : Purpose) → passes NotNull store_schema db bank_table (bank_values (y.0, record y.1 { line = record y.1.line { purpose = p } })) ≡ true
+    there : (p : Purpose) → passes NotNull store_schema db bank_table (keyed_row bank_shown (y.0, record y.1 { line = record y.1.line { purpose = p } })) ≡ true
     there Contribution = refl
     there Interest = refl
 
@@ -49,7 +50,6 @@ bank = record {
   keys = record { of = bank_key; index = automatic bank_table 0 (1 ∷ []) 8 } ∷ record { of = serial_key; index = automatic bank_table 1 (2 ∷ []) 9 } ∷ [];
   first = automatic bank_table 0 (1 ∷ []) 8;
   given = bank_shown;
-  to_row = bank_values;
   held = is_line_held;
   held_is = λ x xs. held_is _ _;
   leads = inl refl;
@@ -58,17 +58,13 @@ bank = record {
   uncounted = refl;
   guarded = refl;
   kept_by = (record { order = refl; agrees = references_agree }, (record { order = refl; agrees = serials_agree }, tt));
-  numbered = λ _. refl;
-  stored = λ y. stored (content y);
+  stored = stored;
   typed = typed;
   present = present;
   checked = λ _ _. refl;
   has = λ t db has. has.bank;
   changed = λ t old new has schema sound. bank_changed t old new has schema sound;
 }
-
-pub stored_beside : (y : ℤ × BankRow) → cast_row bank_table (bank_values y) ≡ bank_values y
-stored_beside y = rw (cast_int y.0, cast_int (pos y.1.serial), cast_int (pos y.1.line.value), cast_maybe y.1.line.employer, cast_maybe y.1.employer, cast_int (pos y.1.line.cents), cast_purpose y.1.line.purpose)
 
 -- ---- the texts
 
@@ -92,10 +88,10 @@ update_says = record { said = (refl, refl, refl) }
 abbrev columns : List Term
 columns = col 1 1 ∷ col 1 2 ∷ col 1 3 ∷ col 1 4 ∷ col 1 5 ∷ col 1 6 ∷ col 1 7 ∷ col 1 8 ∷ []
 
-abbrev pub get : List ℕ
+abbrev get : List ℕ
 get = codes "SELECT reference, serial, value, named, employer, cents, purpose, note FROM bank WHERE reference = ?1"
 
-get_says : SaysQuery get (plain_program 7 by_reference columns [])
+pub get_says : SaysQuery get (plain_program 7 by_reference columns [])
 unfolding everything
 get_says = record { names = _; said = (refl, refl, refl) }
 
@@ -135,14 +131,14 @@ all_says = record { names = _; said = (refl, refl, refl) }
 abbrev pub is_of : List ℕ → BankRow → Bool
 is_of k row = is_key (bank_key row) k
 
-pub of_reference : (k : List ℕ) (rest : Row) (y : ℤ × BankRow) → meets by_reference (Text k ∷ rest) (bank_values y) ≡ is_of k (content y)
+pub of_reference : (k : List ℕ) (rest : Row) (y : ℤ × BankRow) → meets by_reference (Text k ∷ rest) (keyed_row bank_shown y) ≡ is_of k (content y)
 of_reference k rest y = rw (equal_texts (content y).line.reference k) (and-true _ ∙ sym (is_key_is (content y).line.reference k))
 
-no_firm : (y : ℤ × BankRow) → meets without_firm [] (bank_values y) ≡ is_in_suspense (content y)
+no_firm : (y : ℤ × BankRow) → meets without_firm [] (keyed_row bank_shown y) ≡ is_in_suspense (content y)
 unfolding binary value_cmp Ieee.lt Ieee.is_nan
 no_firm y = of_employer (content y).employer
   where
-    of_employer : (e : Option ℕ) → meets without_firm [] (bank_values (y.0, record (content y) { employer = e })) ≡ is_none e
+    of_employer : (e : Option ℕ) → meets without_firm [] (keyed_row bank_shown (y.0, record (content y) { employer = e })) ≡ is_none e
     of_employer None = refl
     of_employer (Some e) = refl
 
@@ -160,9 +156,6 @@ serials_rise : (a b : BankRow) → by_key serial_key a b ≡ Less → output_cmp
 serials_rise a b h = rw (numbers_compare a.serial b.serial) h
 
 module _ {S : Type 0} (g : Ghosts S) (t : Tables) (db : Database) (has : HasTables t db) where
-  pub answers : (k : List ℕ) → AnswersJust g get (Text k ∷ []) db (map bank_shown (filter (is_of k) t.bank))
-  answers k = finds bank g t db has (Text k ∷ []) bank_shown (is_of k) (of_reference k []) get_says (λ _. refl) (few bank t db has k)
-
   pub answers_count : AnswersJust g count [] db (map one_shown (filter is_in_suspense t.bank))
   answers_count = counts bank g t db has [] is_in_suspense no_firm count_says
 

@@ -1,34 +1,26 @@
 -- The claims: under their numbers.
-use Rattle.clear_columns.proofs.Words.{◌≡◌, ◌==◌, pos, ℕ, Bool, true, false, List, [], ◌∷◌, map, filter, refl, sym, subst, inl, inr, codes, cast_row, Binary, Insert, Update, Database, Row, Values, Ghosts, Term, lit, col, op2, Trees, Null, passes, Datatype, Compare, Eq, Ge, is_key, Tables, ClaimRow, ClaimState, Open, Withdrawn, Released, IsNumbered, meets, plain_program, HasTables, claims_table, store_schema, claim_values, maybe, number, cast_int, cast_null, cast_maybe, equal_maybe, equal_numbers, maybe_from, maybe_typed, numbers_keep, AnswersJust, and-true}
+use Rattle.clear_columns.proofs.Words.{◌≡◌, ◌==◌, pos, ℕ, Bool, true, false, List, [], ◌∷◌, map, filter, refl, sym, subst, inl, inr, codes, cast_row, Binary, Insert, Update, Database, Row, Values, Ghosts, Term, lit, col, op2, Trees, Null, passes, Datatype, Compare, Eq, Ge, Tables, ClaimRow, ClaimState, Open, Withdrawn, Released, meets, plain_program, HasTables, claims_table, store_schema, number, cast_int, cast_null, cast_maybe, equal_maybe, equal_numbers, maybe_from, maybe_typed, numbers_keep, AnswersJust, and-true, numbered_row}
 use Rattle.std.proofs.Common.{◌∙◌, nat_le}
 use Rattle.std.specs.Option.{option_map_or}
 use Rattle.sqlite_tied.specs.Compute.{everything}
-use Rattle.clear_values.specs.Tables.{claim_key}
-use Rattle.clear_values.proofs.KeyedLemmas.{is_key-true}
 use Rattle.clear_schema.proofs.Changes.{claims_changed}
-use Rattle.clear_columns.proofs.NumberedTable.{NumberedTable, by_number, few, finds, lists, lists_all}
+use Rattle.clear_columns.proofs.NumberedTable.{NumberedTable, by_no, by_number, lists, lists_all}
 use Rattle.clear_columns.proofs.Says.{Says, SaysQuery}
 use Rattle.clear_values.specs.Payouts.{is_on, is_released_since}
-use Rattle.clear_ledger.specs.Shown.{claim_shown, columns_of}
-use Rattle.clear_ledger.specs.declared.states.StateColumns.{StateColumns}
+use Rattle.clear_schema.specs.Held.{HasNumbered}
+use Rattle.clear_schema.specs.Values.{claim_shown as claim_stored}
+use Rattle.clear_ledger.specs.Shown.{claim_shown, columns_of, shown_with}
 
--- a claim's row, whose state these columns tell
-abbrev pub row_with : ClaimRow → StateColumns → Row
-row_with x s =
-    number x.claim ∷ Null ∷ number x.employer ∷ number x.worker ∷ number x.cents ∷ number s.code ∷ number x.made ∷ maybe s.released ∷ number s.settlement.to_contributions ∷ number s.settlement.to_interest ∷ number s.settlement.paid ∷ maybe s.list ∷ []
-
-abbrev pub claim_row : ClaimRow → Row
-claim_row x = row_with x (columns_of x.state)
-
-pub values_are : (x : ClaimRow) → claim_values x ≡ claim_row x
+-- as a claim stands in the table, these columns tell its state
+pub values_are : (x : ClaimRow) → claim_stored x ≡ claim_shown x
 values_are x = of x.state
   where
-    of : (s : ClaimState) → claim_values (record x { state = s }) ≡ row_with x (columns_of s)
+    of : (s : ClaimState) → claim_stored (record x { state = s }) ≡ shown_with x (columns_of s)
     of Open = refl
     of Withdrawn = refl
     of (Released r) = refl
 
-pub stored : (x : ClaimRow) → cast_row claims_table (claim_row x) ≡ claim_row x
+pub stored : (x : ClaimRow) → cast_row claims_table (numbered_row claim_shown x) ≡ numbered_row claim_shown x
 stored x =
     let s = columns_of x.state in
     rw (
@@ -46,7 +38,7 @@ stored x =
       cast_maybe s.list,
     )
 
-pub typed : (db : Trees) (x : ClaimRow) → passes Datatype store_schema db claims_table (claim_row x) ≡ true
+pub typed : (db : Trees) (x : ClaimRow) → passes Datatype store_schema db claims_table (numbered_row claim_shown x) ≡ true
 typed db x = rw (maybe_typed (columns_of x.state).released, maybe_typed (columns_of x.state).list)
 
 abbrev pub claims : NumberedTable ClaimRow
@@ -60,7 +52,6 @@ claims = record {
   as_int = λ n. pos n;
   in_order = numbers_keep;
   given = claim_shown;
-  to_row = claim_row;
   placed = refl;
   listed = inr (inr (inr (inr (inr (inr (inr (inl refl)))))));
   uncounted = refl;
@@ -70,8 +61,8 @@ claims = record {
   typed = typed;
   present = λ _ _. refl;
   checked = λ _ _. refl;
-  has = λ t db has. subst (λ (v : ClaimRow → Row). IsNumbered (λ x. pos x.claim) v t.claims (db.trees 12)) (λ i x. values_are x i) has.claims;
-  changed = λ t old new has schema sound xs fits same it. claims_changed t old new has schema sound xs same (subst (λ (v : ClaimRow → Row). IsNumbered (λ x. pos x.claim) v xs (new.trees 12)) (λ i x. sym (values_are x) i) it);
+  has = λ t db has. subst (λ (v : ClaimRow → Row). HasNumbered (λ x. x.claim) v t.claims (db.trees 12)) (λ i x. values_are x i) has.claims;
+  changed = λ t old new has schema sound xs fits same it. claims_changed t old new has schema sound xs same (subst (λ (v : ClaimRow → Row). HasNumbered (λ x. x.claim) v xs (new.trees 12)) (λ i x. sym (values_are x) i) it);
 }
 
 -- ---- the texts
@@ -83,9 +74,6 @@ pub insert_says : Says (codes "INSERT INTO claims (no, employer, worker, cents, 
 unfolding everything
 insert_says = record { said = (refl, refl, refl) }
 
-abbrev pub by_no : List Term
-by_no = op2 (Compare Eq Binary) (col 1 0) (col 0 0) ∷ []
-
 abbrev pub update_terms : List Term
 update_terms = col 1 0 ∷ col 1 0 ∷ lit Null ∷ col 0 1 ∷ col 0 2 ∷ col 0 3 ∷ col 0 4 ∷ col 0 5 ∷ col 0 6 ∷ col 0 7 ∷ col 0 8 ∷ col 0 9 ∷ col 0 10 ∷ []
 
@@ -96,10 +84,10 @@ update_says = record { said = (refl, refl, refl) }
 abbrev columns : List Term
 columns = col 1 0 ∷ col 1 2 ∷ col 1 3 ∷ col 1 4 ∷ col 1 5 ∷ col 1 6 ∷ col 1 7 ∷ col 1 8 ∷ col 1 9 ∷ col 1 10 ∷ col 1 11 ∷ []
 
-abbrev pub get : List ℕ
+abbrev get : List ℕ
 get = codes "SELECT no, employer, worker, cents, state, made, released, to_contributions, to_interest, paid, list FROM claims WHERE no = ?1"
 
-get_says : SaysQuery get (plain_program 12 by_no columns [])
+pub get_says : SaysQuery get (plain_program 12 by_no columns [])
 unfolding everything
 get_says = record { names = _; said = (refl, refl, refl) }
 
@@ -140,35 +128,17 @@ all_says : SaysQuery all (plain_program 12 [] columns by_number)
 unfolding everything
 all_says = record { names = _; said = (refl, refl, refl) }
 
--- ---- what they do
-
--- the claim has a number
-abbrev pub is_no : ℕ → ClaimRow → Bool
-is_no n x = is_key (claim_key x) (n ∷ [])
-
-pub of_no : (n : ℕ) (rest : Row) (x : ClaimRow) → meets by_no (number n ∷ rest) (claim_row x) ≡ is_no n x
-of_no n rest x = rw (equal_numbers x.claim n) refl
-
--- a claim with the number of another
-abbrev pub numbered_as : ClaimRow → ClaimRow → ClaimRow
-numbered_as row x = record row { claim = x.claim }
-
--- is the claim of this number, where it has it
-pub is_that : (row x : ClaimRow) → is_key (claim_key x) (claim_key row) ≡ true → numbered_as row x ≡ row
-is_that row x e =
-    let same : claim_key x ≡ claim_key row = is_key-true (claim_key x) (claim_key row) e in
-    let claim_is : x.claim ≡ row.claim = cc in
-    (λ i. record row { claim = claim_is i })
+-- ---- what they answer
 
 -- the claim is for a worker
 abbrev pub is_for : ℕ → ClaimRow → Bool
 is_for w x = x.worker == w
 
-for_worker : (w : ℕ) (x : ClaimRow) → meets by_worker (number w ∷ []) (claim_row x) ≡ is_for w x
+for_worker : (w : ℕ) (x : ClaimRow) → meets by_worker (number w ∷ []) (numbered_row claim_shown x) ≡ is_for w x
 for_worker w x = rw (equal_numbers x.worker w) (and-true (x.worker == w))
 
 -- a day of release stands just where there is a release
-from_day : (d : ℕ) (x : ClaimRow) → meets by_release (number d ∷ []) (claim_row x) ≡ is_released_since d x.state
+from_day : (d : ℕ) (x : ClaimRow) → meets by_release (number d ∷ []) (numbered_row claim_shown x) ≡ is_released_since d x.state
 from_day d x = rw (maybe_from (columns_of x.state).released d) (and-true _ ∙ of x.state)
   where
     of : (s : ClaimState) → option_map_or (λ m. nat_le d m) (columns_of s).released false ≡ is_released_since d s
@@ -177,7 +147,7 @@ from_day d x = rw (maybe_from (columns_of x.state).released d) (and-true _ ∙ o
     of (Released r) = refl
 
 -- and so does a list
-meets_list : (l : ℕ) (x : ClaimRow) → meets by_list (number l ∷ []) (claim_row x) ≡ is_on l x.state
+meets_list : (l : ℕ) (x : ClaimRow) → meets by_list (number l ∷ []) (numbered_row claim_shown x) ≡ is_on l x.state
 meets_list l x = rw (equal_maybe (columns_of x.state).list l) (and-true _ ∙ of x.state)
   where
     of : (s : ClaimState) → option_map_or (λ m. m == l) (columns_of s).list false ≡ is_on l s
@@ -186,9 +156,6 @@ meets_list l x = rw (equal_maybe (columns_of x.state).list l) (and-true _ ∙ of
     of (Released r) = refl
 
 module _ {S : Type 0} (g : Ghosts S) (t : Tables) (db : Database) (has : HasTables t db) where
-  pub answers : (n : ℕ) → AnswersJust g get (number n ∷ []) db (map claim_shown (filter (is_no n) t.claims))
-  answers n = finds claims g t db has (number n ∷ []) claim_shown (is_no n) (of_no n []) get_says (λ _. refl) (few claims t db has n)
-
   pub answers_for : (w : ℕ) → AnswersJust g of_worker (number w ∷ []) db (map claim_shown (filter (is_for w) t.claims))
   answers_for w = lists claims g t db has (number w ∷ []) claim_shown (is_for w) (for_worker w) of_worker_says (λ _. refl)
 

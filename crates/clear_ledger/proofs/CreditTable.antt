@@ -1,10 +1,11 @@
 -- The credits: under their firms, purposes, days and serials.
-use Rattle.clear_columns.proofs.Words.{◌≡◌, ℤ, pos, ℕ, Bool, true, false, ◌&&◌, List, [], ◌∷◌, map, filter, refl, inl, inr, is_eq, Less, codes, cast_row, Binary, Insert, Database, Row, output_cmp, Values, Ghosts, Term, lit, col, op2, Trees, Null, automatic, agree, passes, Datatype, NotNull, Compare, Eq, Key, Purpose, Contribution, Interest, credit_key, is_credit_of, Tables, CreditRow, meets, plain_program, plain_query, content, HasTables, by_key, credits_table, store_schema, credit_values, number, purpose, cast_int, cast_null, AnswersJust, key_is, cast_purpose, purpose_typed, equal_numbers, equal_ranks, equal_purposes, numbers_compare, purposes_compare, ◌||◌, ◌==◌, ◌∙◌, nat_lt, And, Ge, Gt, Or, Some, ap, arith, comes_from, maybe_from, nat_tests, subst, sym, two_met}
+use Rattle.clear_columns.proofs.Words.{◌≡◌, ℤ, pos, ℕ, Bool, true, false, ◌&&◌, List, [], ◌∷◌, map, filter, refl, inl, inr, is_eq, Less, codes, cast_row, Binary, Insert, Database, Row, output_cmp, Values, Ghosts, Term, lit, col, op2, Trees, Null, automatic, agree, passes, Datatype, NotNull, Compare, Eq, Key, Purpose, Contribution, Interest, credit_key, is_credit_of, Tables, CreditRow, meets, plain_program, plain_query, content, HasTables, by_key, credits_table, store_schema, number, purpose, cast_int, cast_null, AnswersJust, key_is, cast_purpose, purpose_typed, equal_numbers, equal_ranks, equal_purposes, numbers_compare, purposes_compare, ◌||◌, ◌==◌, ◌∙◌, nat_lt, And, Ge, Gt, Or, Some, ap, arith, comes_from, maybe_from, nat_tests, subst, sym, two_met, keyed_row}
 use Rattle.std.proofs.Common.{nat_le}
 use Rattle.std.proofs.lemmas.Simd.{map-map}
 use Rattle.clear_values.specs.Lines.{same_purpose}
 use Rattle.clear_ledger.specs.From.{is_credit_from}
-use Rattle.clear_ledger.specs.Shown.{credit_shown, number_shown}
+use Rattle.clear_schema.specs.Values.{credit_shown}
+use Rattle.clear_ledger.specs.Shown.{number_shown}
 use Rattle.clear_values.specs.Keyed.{is_held}
 use Rattle.sqlite_tied.specs.Compute.{everything}
 use Rattle.sqlite_value.specs.Keys.{ascending, first_key, plain}
@@ -13,7 +14,7 @@ use Rattle.clear_columns.proofs.Says.{Says, SaysQuery}
 use Rattle.clear_columns.proofs.CountLemmas.{counts, one, one_shown}
 use Rattle.clear_schema.proofs.Changes.{credits_changed}
 
-pub keys_agree : (a b : ℤ × CreditRow) → agree plain (1 ∷ 2 ∷ 3 ∷ 4 ∷ []) (credit_values a) (1 ∷ 2 ∷ 3 ∷ 4 ∷ []) (credit_values b) ≡ is_eq (by_key credit_key (content b) (content a))
+pub keys_agree : (a b : ℤ × CreditRow) → agree plain (1 ∷ 2 ∷ 3 ∷ 4 ∷ []) (keyed_row credit_shown a) (1 ∷ 2 ∷ 3 ∷ 4 ∷ []) (keyed_row credit_shown b) ≡ is_eq (by_key credit_key (content b) (content a))
 unfolding first_key
 keys_agree a b =
     rw (
@@ -27,13 +28,13 @@ keys_agree a b =
 pub stored : (x : CreditRow) → cast_row credits_table (Null ∷ credit_shown x) ≡ Null ∷ credit_shown x
 stored x = rw (cast_null, cast_int (pos x.employer), cast_purpose x.purpose, cast_int (pos x.day), cast_int (pos x.serial), cast_int (pos x.cents))
 
-pub typed : (db : Trees) (y : ℤ × CreditRow) → passes Datatype store_schema db credits_table (credit_values y) ≡ true
+pub typed : (db : Trees) (y : ℤ × CreditRow) → passes Datatype store_schema db credits_table (keyed_row credit_shown y) ≡ true
 typed db y = rw (purpose_typed y.1.purpose)
 
-pub present : (db : Trees) (y : ℤ × CreditRow) → passes NotNull store_schema db credits_table (credit_values y) ≡ true
+pub present : (db : Trees) (y : ℤ × CreditRow) → passes NotNull store_schema db credits_table (keyed_row credit_shown y) ≡ true
 present db y = there y.1.purpose
   where
-    there : (p : Purpose) → passes NotNull store_schema db credits_table (credit_values (y.0, record y.1 { purpose = p })) ≡ true
+    there : (p : Purpose) → passes NotNull store_schema db credits_table (keyed_row credit_shown (y.0, record y.1 { purpose = p })) ≡ true
     there Contribution = refl
     there Interest = refl
 
@@ -47,7 +48,6 @@ credits = record {
   keys = record { of = credit_key; index = automatic credits_table 0 (1 ∷ 2 ∷ 3 ∷ 4 ∷ []) 11 } ∷ [];
   first = automatic credits_table 0 (1 ∷ 2 ∷ 3 ∷ 4 ∷ []) 11;
   given = credit_shown;
-  to_row = credit_values;
   held = is_held credit_key;
   held_is = λ x xs. or_false _;
   leads = inl refl;
@@ -56,8 +56,7 @@ credits = record {
   uncounted = refl;
   guarded = refl;
   kept_by = (record { order = refl; agrees = keys_agree }, tt);
-  numbered = λ _. refl;
-  stored = λ y. stored (content y);
+  stored = stored;
   typed = typed;
   present = present;
   checked = λ _ _. refl;
@@ -120,7 +119,7 @@ list_from_says = record { names = _; said = (refl, refl, refl) }
 
 -- ---- what they answer
 
-of_firm : (e : ℕ) (p : Purpose) (y : ℤ × CreditRow) → meets by_purpose (number e ∷ purpose p ∷ []) (credit_values y) ≡ is_credit_of e p (content y)
+of_firm : (e : ℕ) (p : Purpose) (y : ℤ × CreditRow) → meets by_purpose (number e ∷ purpose p ∷ []) (keyed_row credit_shown y) ≡ is_credit_of e p (content y)
 of_firm e p y = rw (equal_numbers (content y).employer e, equal_purposes (content y).purpose p) (two_met _ _)
 
 -- what ORDER BY goes by
@@ -152,7 +151,7 @@ place e p d n = number e ∷ purpose p ∷ number d ∷ number n ∷ []
 from_place : (d n a b : ℕ) → (nat_le d a && (nat_lt d a || ((d == a) && nat_le n b))) ≡ (nat_lt d a || ((a == d) && nat_le n b))
 from_place d n a b = grind (arith, nat_tests)
 
-goes_from : (e : ℕ) (p : Purpose) (d n : ℕ) (y : ℤ × CreditRow) → meets by_place (place e p d n) (credit_values y) ≡ is_credit_from e p d n (content y)
+goes_from : (e : ℕ) (p : Purpose) (d n : ℕ) (y : ℤ × CreditRow) → meets by_place (place e p d n) (keyed_row credit_shown y) ≡ is_credit_from e p d n (content y)
 goes_from e p d n y =
     let row = content y in
     rw (equal_numbers row.employer e, equal_purposes row.purpose p, maybe_from (Some row.day) d, comes_from row.day row.serial d n)

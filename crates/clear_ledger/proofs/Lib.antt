@@ -3,7 +3,6 @@ pub mod ClaimTable
 pub mod CreditTable
 pub mod GreatestLemmas
 pub mod ListTable
-pub mod OneLemmas
 pub mod PieceTable
 pub mod ReminderTable
 pub mod ReplyLemmas

@@ -1,5 +1,5 @@
 -- The pieces: under their firms and months, and the days and serials of their credits.
-use Rattle.clear_columns.proofs.Words.{◌≡◌, ◌==◌, ℤ, pos, Bool, true, false, ◌&&◌, ◌||◌, List, [], ◌∷◌, refl, ◌∙◌, inl, inr, is_eq, nat_lt, codes, cast_row, Binary, Delete, Insert, Values, Term, lit, col, op2, Null, automatic, agree, And, Compare, Eq, Ge, Gt, Key, Or, PieceRow, Tables, is_piece_key_from, piece_key, meets, plain_program, plain_query, content, HasTables, AnswersJust, Database, Ghosts, Row, Less, by_key, filter, map, month, number, output_cmp, pieces_table, piece_values, month_number, months_compare, cast_int, cast_null, comes_from, equal_months, equal_numbers, key_is, months_from, numbers_compare, ℕ, turned_nat, and-true}
+use Rattle.clear_columns.proofs.Words.{◌≡◌, ◌==◌, ℤ, pos, Bool, true, false, ◌&&◌, ◌||◌, List, [], ◌∷◌, refl, ◌∙◌, inl, inr, is_eq, nat_lt, codes, cast_row, Binary, Delete, Insert, Values, Term, lit, col, op2, Null, automatic, agree, And, Compare, Eq, Ge, Gt, Key, Or, PieceRow, Tables, is_piece_key_from, piece_key, meets, plain_program, plain_query, content, HasTables, AnswersJust, Database, Ghosts, Row, Less, by_key, filter, map, month, number, output_cmp, pieces_table, month_number, months_compare, cast_int, cast_null, comes_from, equal_months, equal_numbers, key_is, months_from, numbers_compare, ℕ, turned_nat, and-true, keyed_row}
 use Rattle.std.proofs.Common.{nat_le}
 use Rattle.sqlite_tied.specs.Compute.{everything}
 use Rattle.sqlite_value.specs.Keys.{ascending, first_key, plain}
@@ -7,10 +7,11 @@ use Rattle.clear_schema.proofs.Changes.{pieces_changed}
 use Rattle.clear_columns.proofs.KeyedTable.{KeyedTable, lists, or_false}
 use Rattle.clear_columns.proofs.Says.{Says, SaysQuery}
 use Rattle.clear_values.specs.Keyed.{is_held}
-use Rattle.clear_ledger.specs.Shown.{first_piece_given, piece_shown}
+use Rattle.clear_schema.specs.Values.{piece_shown}
+use Rattle.clear_ledger.specs.Shown.{first_piece_given}
 use Rattle.clear_ledger.specs.declared.pieces.PieceFrom.{PieceFrom}
 
-pub keys_agree : (a b : ℤ × PieceRow) → agree plain (1 ∷ 2 ∷ 3 ∷ 4 ∷ []) (piece_values a) (1 ∷ 2 ∷ 3 ∷ 4 ∷ []) (piece_values b) ≡ is_eq (by_key piece_key (content b) (content a))
+pub keys_agree : (a b : ℤ × PieceRow) → agree plain (1 ∷ 2 ∷ 3 ∷ 4 ∷ []) (keyed_row piece_shown a) (1 ∷ 2 ∷ 3 ∷ 4 ∷ []) (keyed_row piece_shown b) ≡ is_eq (by_key piece_key (content b) (content a))
 unfolding first_key
 keys_agree a b =
     rw (
@@ -34,7 +35,6 @@ pieces = record {
   keys = record { of = piece_key; index = automatic pieces_table 0 (1 ∷ 2 ∷ 3 ∷ 4 ∷ []) 22 } ∷ [];
   first = automatic pieces_table 0 (1 ∷ 2 ∷ 3 ∷ 4 ∷ []) 22;
   given = piece_shown;
-  to_row = piece_values;
   held = is_held piece_key;
   held_is = λ x xs. or_false _;
   leads = inl refl;
@@ -43,8 +43,7 @@ pieces = record {
   uncounted = refl;
   guarded = refl;
   kept_by = (record { order = refl; agrees = keys_agree }, tt);
-  numbered = λ _. refl;
-  stored = λ y. stored (content y);
+  stored = stored;
   typed = λ _ _. refl;
   present = λ _ _. refl;
   checked = λ _ _. refl;
@@ -94,7 +93,7 @@ of_employer_says = record { names = _; said = (refl, refl, refl) }
 abbrev pub is_from : PieceFrom → PieceRow → Bool
 is_from from row = is_piece_key_from from.employer from.month from.day from.serial (piece_key row)
 
-pub goes_from : (from : PieceFrom) (y : ℤ × PieceRow) → meets where_from (first_piece_given from) (piece_values y) ≡ is_from from (content y)
+pub goes_from : (from : PieceFrom) (y : ℤ × PieceRow) → meets where_from (first_piece_given from) (keyed_row piece_shown y) ≡ is_from from (content y)
 goes_from from y =
     let row = content y in
     rw (equal_numbers row.employer from.employer, months_from row.month from.month, comes_from row.day row.serial from.day from.serial)
@@ -113,7 +112,7 @@ goes_from from y =
 abbrev pub is_of : ℕ → PieceRow → Bool
 is_of e row = row.employer == e
 
-of_firm : (e : ℕ) (y : ℤ × PieceRow) → meets by_employer (number e ∷ []) (piece_values y) ≡ is_of e (content y)
+of_firm : (e : ℕ) (y : ℤ × PieceRow) → meets by_employer (number e ∷ []) (keyed_row piece_shown y) ≡ is_of e (content y)
 of_firm e y = rw (equal_numbers (content y).employer e) (and-true _)
 
 -- what ORDER BY goes by

@@ -1,7 +1,7 @@
 -- The reminders: under their runs and firms.
-use Rattle.clear_columns.proofs.Words.{◌≡◌, ◌==◌, ℤ, pos, ℕ, true, List, [], ◌∷◌, map, filter, refl, inl, inr, is_eq, ordering_then, Equal, Less, codes, cast_row, Binary, Insert, Database, Row, output_cmp, Values, Ghosts, Term, lit, col, op2, Trees, Null, automatic, agree, passes, Datatype, Compare, Eq, Key, reminder_key, Tables, ReminderRow, first_program, meets, plain_program, plain_query, content, HasTables, by_key, reminders_table, store_schema, reminder_values, number, cast_int, cast_null, cast_maybe_month, maybe_month_typed, AnswersJust, key_is, equal_numbers, numbers_compare, and-true}
+use Rattle.clear_columns.proofs.Words.{◌≡◌, ◌==◌, ℤ, pos, ℕ, true, List, [], ◌∷◌, map, filter, refl, inl, inr, is_eq, ordering_then, Equal, Less, codes, cast_row, Binary, Insert, Database, Row, output_cmp, Values, Ghosts, Term, lit, col, op2, Trees, Null, automatic, agree, passes, Datatype, Compare, Eq, Key, reminder_key, Tables, ReminderRow, first_program, meets, plain_program, plain_query, content, HasTables, by_key, reminders_table, store_schema, number, cast_int, cast_null, cast_maybe_month, maybe_month_typed, AnswersJust, key_is, equal_numbers, numbers_compare, and-true, keyed_row}
 use Rattle.std.proofs.Common.{Ordering, Greater, take}
-use Rattle.clear_ledger.specs.Shown.{reminder_shown}
+use Rattle.clear_schema.specs.Values.{reminder_shown}
 use Rattle.clear_values.specs.Keyed.{is_held}
 use Rattle.sqlite_tied.specs.Compute.{everything}
 use Rattle.sqlite_value.specs.Keys.{ascending, first_key, plain}
@@ -10,14 +10,14 @@ use Rattle.clear_columns.proofs.LastLemmas.{as_one, finds_last, from_last}
 use Rattle.clear_columns.proofs.Says.{Says, SaysQuery}
 use Rattle.clear_schema.proofs.Changes.{reminders_changed}
 
-pub keys_agree : (a b : ℤ × ReminderRow) → agree plain (1 ∷ 2 ∷ []) (reminder_values a) (1 ∷ 2 ∷ []) (reminder_values b) ≡ is_eq (by_key reminder_key (content b) (content a))
+pub keys_agree : (a b : ℤ × ReminderRow) → agree plain (1 ∷ 2 ∷ []) (keyed_row reminder_shown a) (1 ∷ 2 ∷ []) (keyed_row reminder_shown b) ≡ is_eq (by_key reminder_key (content b) (content a))
 unfolding first_key
 keys_agree a b = rw (equal_numbers (content a).run (content b).run, equal_numbers (content a).employer (content b).employer) (key_is reminder_key (content b) (content a))
 
 pub stored : (x : ReminderRow) → cast_row reminders_table (Null ∷ reminder_shown x) ≡ Null ∷ reminder_shown x
 stored x = rw (cast_null, cast_int (pos x.run), cast_int (pos x.employer), cast_int (pos x.level), cast_int (pos x.missing), cast_maybe_month x.first, cast_int (pos x.arrears), cast_int (pos x.interest))
 
-pub typed : (db : Trees) (y : ℤ × ReminderRow) → passes Datatype store_schema db reminders_table (reminder_values y) ≡ true
+pub typed : (db : Trees) (y : ℤ × ReminderRow) → passes Datatype store_schema db reminders_table (keyed_row reminder_shown y) ≡ true
 typed db y = rw (maybe_month_typed y.1.first)
 
 abbrev pub reminders : KeyedTable ReminderRow
@@ -30,7 +30,6 @@ reminders = record {
   keys = record { of = reminder_key; index = automatic reminders_table 0 (1 ∷ 2 ∷ []) 16 } ∷ [];
   first = automatic reminders_table 0 (1 ∷ 2 ∷ []) 16;
   given = reminder_shown;
-  to_row = reminder_values;
   held = is_held reminder_key;
   held_is = λ x xs. or_false _;
   leads = inl refl;
@@ -39,8 +38,7 @@ reminders = record {
   uncounted = refl;
   guarded = refl;
   kept_by = (record { order = refl; agrees = keys_agree }, tt);
-  numbered = λ _. refl;
-  stored = λ y. stored (content y);
+  stored = stored;
   typed = typed;
   present = λ _ _. refl;
   checked = λ _ _. refl;
@@ -89,10 +87,10 @@ of_run_says = record { names = _; said = (refl, refl, refl) }
 
 -- ---- what they answer
 
-to_firm : (e : ℕ) (y : ℤ × ReminderRow) → meets by_employer (number e ∷ []) (reminder_values y) ≡ ((content y).employer == e)
+to_firm : (e : ℕ) (y : ℤ × ReminderRow) → meets by_employer (number e ∷ []) (keyed_row reminder_shown y) ≡ ((content y).employer == e)
 to_firm e y = rw (equal_numbers (content y).employer e) (and-true _)
 
-in_run : (n : ℕ) (y : ℤ × ReminderRow) → meets by_run (number n ∷ []) (reminder_values y) ≡ ((content y).run == n)
+in_run : (n : ℕ) (y : ℤ × ReminderRow) → meets by_run (number n ∷ []) (keyed_row reminder_shown y) ≡ ((content y).run == n)
 in_run n y = rw (equal_numbers (content y).run n) (and-true _)
 
 -- of one firm's reminders the later is that of the later run

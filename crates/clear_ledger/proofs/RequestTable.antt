@@ -1,32 +1,33 @@
 -- The kept requests: under their callers and numbers.
-use Rattle.clear_columns.proofs.Words.{◌≡◌, ◌==◌, ℤ, pos, ℕ, true, List, [], ◌∷◌, Equal, Less, drop, map, filter, refl, subst, sym, ap, inl, inr, is_eq, ordering_then, Key, first_program, numbers_compare, output_cmp, codes, cast_row, Binary, Insert, Database, Row, output, Values, Ghosts, Term, lit, col, op2, Trees, Null, Int, Blob, automatic, agree, passes, Datatype, NotNull, Compare, Eq, is_key, RequestRow, Tables, meets, plain_program, plain_query, content, HasTables, by_key, request_key, requests_table, store_schema, caller_number, number, request_values, cast_int, cast_null, AnswersJust, key_is, equal_numbers, and-true}
-use Rattle.std.proofs.Common.{Greater, Ordering}
-use Rattle.std.specs.Option.{option_to_list}
+use Rattle.clear_columns.proofs.Words.{◌≡◌, ◌==◌, ℤ, pos, ℕ, true, List, [], ◌∷◌, Equal, Less, map, filter, refl, subst, sym, ap, inl, inr, is_eq, ordering_then, Key, first_program, numbers_compare, output_cmp, codes, cast_row, Binary, Insert, Database, Row, Values, Ghosts, Term, lit, col, op2, Null, Blob, automatic, agree, Compare, Eq, is_key, RequestRow, Tables, meets, plain_program, plain_query, content, HasTables, by_key, request_key, requests_table, caller_number, number, cast_int, cast_null, AnswersJust, key_is, equal_numbers, and-true, keyed_row}
+use Rattle.std.proofs.Common.{Greater, Option, Ordering, slice_get, take}
+use Rattle.std.specs.Option.{option_map, option_to_list}
 use Rattle.clear_values.specs.Keyed.{is_held}
 use Rattle.sqlite_tied.specs.Compute.{everything}
 use Rattle.sqlite_value.specs.Keys.{first_key, plain}
 use Rattle.clear_columns.proofs.LastLemmas.{as_one, finds_last, from_last, last_of}
 use Rattle.clear_values.specs.declared.callers.Caller.{Caller}
 use Rattle.clear_ledger.specs.Kept.{greatest_number, requests_of}
+use Rattle.clear_schema.specs.Held.{HasKeyed}
+use Rattle.clear_schema.specs.Values.{request_shown as request_stored}
 use Rattle.clear_ledger.specs.Shown.{kept_shown, number_shown, numbers_of, request_shown}
-use Rattle.clear_ledger.proofs.OneLemmas.{first_shown}
 use Rattle.clear_columns.proofs.KeyedTable.{KeyedTable, few, finds, or_false}
 use Rattle.clear_ledger.proofs.ReplyLemmas.{columns_are}
 use Rattle.clear_columns.proofs.Says.{Says, SaysQuery}
 use Rattle.clear_schema.proofs.Changes.{requests_changed}
 
--- a row's columns beside its number
-pub values_are : (y : ℤ × RequestRow) → request_values y ≡ Int y.0 ∷ request_shown y.1
-values_are y = ap (λ (l : Row). Int y.0 ∷ number (caller_number y.1.caller) ∷ number y.1.number ∷ number y.1.day ∷ Blob y.1.command ∷ l) (columns_are y.1.reply)
+-- as a request stands in the table, the numbers of its reply are columns
+pub values_are : (x : RequestRow) → request_stored x ≡ request_shown x
+values_are x = ap (λ (l : Row). number (caller_number x.caller) ∷ number x.number ∷ number x.day ∷ Blob x.command ∷ l) (columns_are x.reply)
 
-pub keys_agree : (a b : ℤ × RequestRow) → agree plain (1 ∷ 2 ∷ []) (request_values a) (1 ∷ 2 ∷ []) (request_values b) ≡ is_eq (by_key request_key (content b) (content a))
+pub keys_agree : (a b : ℤ × RequestRow) → agree plain (1 ∷ 2 ∷ []) (keyed_row request_shown a) (1 ∷ 2 ∷ []) (keyed_row request_shown b) ≡ is_eq (by_key request_key (content b) (content a))
 unfolding first_key
 keys_agree a b =
     rw (equal_numbers (caller_number (content a).caller) (caller_number (content b).caller), equal_numbers (content a).number (content b).number)
     (key_is request_key (content b) (content a))
 
-pub stored : (n : ℤ) (x : RequestRow) → cast_row requests_table (Null ∷ request_shown x) ≡ Null ∷ drop 1 (request_values (n, x))
-stored n x =
+pub stored : (x : RequestRow) → cast_row requests_table (Null ∷ request_shown x) ≡ Null ∷ request_shown x
+stored x =
     rw (
       cast_null,
       cast_int (pos (caller_number x.caller)),
@@ -37,13 +38,6 @@ stored n x =
       cast_int (pos (numbers_of x.reply).b),
       cast_int (pos (numbers_of x.reply).c),
     )
-    (ap (λ (r : Row). Null ∷ drop 1 r) (sym (values_are (n, x))))
-
-pub typed : (db : Trees) (y : ℤ × RequestRow) → passes Datatype store_schema db requests_table (request_values y) ≡ true
-typed db y = subst (λ (r : Row). passes Datatype store_schema db requests_table r ≡ true) (sym (values_are y)) refl
-
-pub present : (db : Trees) (y : ℤ × RequestRow) → passes NotNull store_schema db requests_table (request_values y) ≡ true
-present db y = subst (λ (r : Row). passes NotNull store_schema db requests_table r ≡ true) (sym (values_are y)) refl
 
 abbrev pub requests : KeyedTable RequestRow
 requests = record {
@@ -55,7 +49,6 @@ requests = record {
   keys = record { of = request_key; index = automatic requests_table 0 (1 ∷ 2 ∷ []) 18 } ∷ [];
   first = automatic requests_table 0 (1 ∷ 2 ∷ []) 18;
   given = request_shown;
-  to_row = request_values;
   held = is_held request_key;
   held_is = λ x xs. or_false _;
   leads = inl refl;
@@ -64,13 +57,12 @@ requests = record {
   uncounted = refl;
   guarded = refl;
   kept_by = (record { order = refl; agrees = keys_agree }, tt);
-  numbered = λ _. refl;
-  stored = λ y. stored y.0 (content y);
-  typed = typed;
-  present = present;
+  stored = stored;
+  typed = λ _ _. refl;
+  present = λ _ _. refl;
   checked = λ _ _. refl;
-  has = λ t db has. has.requests;
-  changed = λ t old new has schema sound. requests_changed t old new has schema sound;
+  has = λ t db has. subst (λ (v : RequestRow → Row). HasKeyed request_key v t.requests (db.trees 17)) (λ i x. values_are x i) has.requests;
+  changed = λ t old new has schema sound xs same it. requests_changed t old new has schema sound xs same (subst (λ (v : RequestRow → Row). HasKeyed request_key v xs (new.trees 17)) (λ i x. sym (values_are x) i) it);
 }
 
 -- ---- the texts
@@ -114,19 +106,21 @@ greatest_says = record { names = _; said = (refl, refl, refl) }
 
 -- ---- what they answer
 
-of_number : (c n : ℕ) (y : ℤ × RequestRow) → meets by_number (number c ∷ number n ∷ []) (request_values y) ≡ is_key (request_key (content y)) (c ∷ n ∷ [])
+of_number : (c n : ℕ) (y : ℤ × RequestRow) → meets by_number (number c ∷ number n ∷ []) (keyed_row request_shown y) ≡ is_key (request_key (content y)) (c ∷ n ∷ [])
 of_number c n y = rw (equal_numbers (caller_number (content y).caller) c, equal_numbers (content y).number n) refl
 
-shows : (params : Row) (y : ℤ × RequestRow) → output (plain_query 17 by_number columns []) (params ∷ request_values y ∷ []) ≡ ([], kept_shown (content y))
-shows params y = ap (λ (r : Row). output (plain_query 17 by_number columns []) (params ∷ r ∷ [])) (values_are y)
-
 pub answers : {S : Type 0} (g : Ghosts S) (t : Tables) (db : Database) (c n : ℕ) → HasTables t db → AnswersJust g get (number c ∷ number n ∷ []) db (map kept_shown (filter (λ row. is_key (request_key row) (c ∷ n ∷ [])) t.requests))
-answers g t db c n has = finds requests g t db has (number c ∷ number n ∷ []) kept_shown (λ row. is_key (request_key row) (c ∷ n ∷ [])) (of_number c n) get_says (shows (number c ∷ number n ∷ [])) (few requests t db has (c ∷ n ∷ []))
+answers g t db c n has = finds requests g t db has (number c ∷ number n ∷ []) kept_shown (λ row. is_key (request_key row) (c ∷ n ∷ [])) (of_number c n) get_says (λ _. refl) (few requests t db has (c ∷ n ∷ []))
 
 -- ---- the greatest number of a caller
 
-of_caller : (c : ℕ) (y : ℤ × RequestRow) → meets by_caller (number c ∷ []) (request_values y) ≡ (caller_number (content y).caller == c)
+of_caller : (c : ℕ) (y : ℤ × RequestRow) → meets by_caller (number c ∷ []) (keyed_row request_shown y) ≡ (caller_number (content y).caller == c)
 of_caller c y = rw (equal_numbers (caller_number (content y).caller) c) (and-true (caller_number (content y).caller == c))
+
+-- what is shown of the first of some rows
+first_shown : {X Y Z : Type 0} (f : X → Y) (show : Y → Z) (rows : List X) (row : Option X) → slice_get (take 1 rows) 0 ≡ row → map (λ x. show (f x)) (take 1 rows) ≡ map show (option_to_list (option_map f row))
+first_shown f show [] row is = ap (λ o. map show (option_to_list (option_map f o))) is
+first_shown f show (x ∷ rows) row is = ap (λ o. map show (option_to_list (option_map f o))) is
 
 -- of one caller's requests the later has the greater number
 by_numbers : (callers numbers : Ordering) → callers ≡ Equal → ordering_then callers (ordering_then numbers Equal) ≡ Less → ordering_then numbers Equal ≡ Less

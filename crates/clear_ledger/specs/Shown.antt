@@ -1,5 +1,5 @@
--- What a statement is given of a row and a query shows of it, and when a row that is to be added
--- finds its key held.
+-- What statements are given and queries show that is no row as it stands, or the row by its parts; and
+-- when a row that is to be added finds its key held.
 use Rattle.std.specs.Prelude.{ℕ, ◌<◌, ◌^◌, Bool, ◌||◌, List, [], ◌∷◌, Option, Some, None}
 use Rattle.sqlite.specs.declared.types.Value.TheVariants.{Blob, Text}
 use Rattle.sqlite.specs.Order.{Row}
@@ -8,39 +8,15 @@ use Rattle.clear_values.specs.declared.rows.BankRow.{BankRow}
 use Rattle.clear_values.specs.declared.rows.ClaimRow.{ClaimRow}
 use Rattle.clear_values.specs.declared.rows.ClaimState.{ClaimState}
 use Rattle.clear_values.specs.declared.rows.ClaimState.TheVariants.{Open, Withdrawn, Released}
-use Rattle.clear_values.specs.declared.rows.CreditRow.{CreditRow}
-use Rattle.clear_values.specs.declared.rows.ListRow.{ListRow}
-use Rattle.clear_values.specs.declared.rows.PieceRow.{PieceRow}
-use Rattle.clear_values.specs.declared.rows.ReminderRow.{ReminderRow}
-use Rattle.clear_values.specs.declared.rows.RunRow.{RunRow}
 use Rattle.clear_values.specs.declared.replies.Reply.{Reply}
 use Rattle.clear_values.specs.declared.replies.Reply.TheVariants.{Done, Reported, Imported, Claimed}
 use Rattle.clear_values.specs.declared.replies.Reply.TheVariants.{Released as reply_of_release}
 use Rattle.clear_values.specs.declared.replies.Reply.TheVariants.{Listed, Reminded}
-use Rattle.clear_schema.specs.Values.{caller_number, number, maybe, month, maybe_month, purpose}
+use Rattle.clear_schema.specs.Values.{caller_number, number, maybe, month}
 use Rattle.clear_values.specs.Keyed.{is_held}
 use Rattle.clear_ledger.specs.declared.pieces.PieceFrom.{PieceFrom}
 use Rattle.clear_ledger.specs.declared.replies.ReplyNumbers.{ReplyNumbers}
 use Rattle.clear_ledger.specs.declared.states.StateColumns.{StateColumns}
-
--- a bank line
-abbrev pub bank_shown : BankRow → Row
-bank_shown row =
-    Text row.line.reference ∷ number row.serial ∷ number row.line.value
-    ∷ maybe row.line.employer ∷ maybe row.employer ∷ number row.line.cents
-    ∷ purpose row.line.purpose ∷ Text row.line.note ∷ []
-
--- a credit
-abbrev pub credit_shown : CreditRow → Row
-credit_shown row =
-    number row.employer ∷ purpose row.purpose ∷ number row.day ∷ number row.serial
-    ∷ number row.cents ∷ Text row.reference ∷ []
-
--- a piece
-abbrev pub piece_shown : PieceRow → Row
-piece_shown row =
-    number row.employer ∷ month row.month ∷ number row.day ∷ number row.serial
-    ∷ number row.cents ∷ Text row.reference ∷ []
 
 -- the firm, the month and the credit from which pieces go
 abbrev pub first_piece_given : PieceFrom → Row
@@ -96,24 +72,6 @@ shown_with row columns =
 -- a claim
 abbrev pub claim_shown : ClaimRow → Row
 claim_shown row = shown_with row (columns_of row.state)
-
--- ---- payout lists
-
--- a payout list
-abbrev pub list_shown : ListRow → Row
-list_shown row = number row.list ∷ number row.day ∷ number row.items ∷ number row.total ∷ []
-
--- ---- reminder runs
-
--- a reminder run
-abbrev pub run_shown : RunRow → Row
-run_shown row = number row.run ∷ number row.day ∷ number row.firms ∷ []
-
--- a reminder
-abbrev pub reminder_shown : ReminderRow → Row
-reminder_shown row =
-    number row.run ∷ number row.employer ∷ number row.level ∷ number row.missing
-    ∷ maybe_month row.first ∷ number row.arrears ∷ number row.interest ∷ []
 
 -- ---- requests
 

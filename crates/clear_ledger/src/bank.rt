@@ -8,7 +8,8 @@ ghost use Rattle.clear_values.specs.Keyed.{find_row, in_key_order, with_row};
 ghost use Rattle.clear_values.specs.Credits.{is_in_suspense};
 ghost use Rattle.clear_values.specs.RowRanges.{IsBankRow, IsSerial};
 ghost use Rattle.clear_values.specs.Tables.{bank_key};
-ghost use Rattle.clear_ledger.specs.Shown.{assignment_given, bank_shown, for_firm, is_line_held};
+ghost use Rattle.clear_schema.specs.Values.{bank_shown};
+ghost use Rattle.clear_ledger.specs.Shown.{assignment_given, for_firm, is_line_held};
 ghost use Rattle.clear_ledger.specs.Shown.{serial_key};
 ghost use Rattle.clear_columns.specs.Keys.{changed_at};
 ghost use Rattle.clear_columns.specs.Reading.{HasSomeTables, IsLeft, ReadsOn};
@@ -132,7 +133,7 @@ pub fn read_suspense<S: Alter>(conn: &mut Connection<S>) -> Result<Rows<'_, S>, 
 pub struct Bank;
 
 impl StoredTable for Bank {
-    ghost use Rattle.clear_ledger.specs.Shown.{bank_shown};
+    ghost use Rattle.clear_schema.specs.Values.{bank_shown};
     ghost use Rattle.clear_values.specs.RowRanges.{IsBankRow};
 
     type Row = BankRow;

@@ -10,7 +10,7 @@ ghost use Rattle.clear_values.specs.Keyed.{is_held, with_row};
 ghost use Rattle.clear_values.specs.Credits.{is_credit_of};
 ghost use Rattle.clear_values.specs.RowRanges.{IsCreditRow, IsSerial};
 ghost use Rattle.clear_ledger.specs.From.{is_credit_from};
-ghost use Rattle.clear_ledger.specs.Shown.{credit_shown};
+ghost use Rattle.clear_schema.specs.Values.{credit_shown};
 ghost use Rattle.clear_columns.specs.Reading.{HasSomeTables, IsLeft, ReadsOn};
 ghost use Rattle.clear_schema.specs.Frame.{Lists, LooksUp, Writes};
 
@@ -149,7 +149,7 @@ pub fn read_credits<S: Alter>(
 pub struct Credits;
 
 impl StoredTable for Credits {
-    ghost use Rattle.clear_ledger.specs.Shown.{credit_shown};
+    ghost use Rattle.clear_schema.specs.Values.{credit_shown};
     ghost use Rattle.clear_values.specs.RowRanges.{IsCreditRow};
 
     type Row = CreditRow;

@@ -9,7 +9,7 @@ ghost use Rattle.clear_values.specs.Keyed.{find_row, is_held, with_row};
 ghost use Rattle.clear_values.specs.RowRanges.{IsListRow, IsReply};
 ghost use Rattle.clear_values.specs.Tables.{list_key};
 ghost use Rattle.clear_columns.specs.Reading.{HasSomeTables, IsLeft, ReadsOn};
-ghost use Rattle.clear_ledger.specs.Shown.{list_shown};
+ghost use Rattle.clear_schema.specs.Values.{list_shown};
 ghost use Rattle.clear_schema.specs.Frame.{Finds, Writes};
 
 use clear_columns::columns::{count_at, day_at, number_at};
@@ -78,7 +78,7 @@ pub fn read_list<S: Alter>(conn: &mut Connection<S>, list: u32) -> Result<Rows<'
 pub struct Lists;
 
 impl StoredTable for Lists {
-    ghost use Rattle.clear_ledger.specs.Shown.{list_shown};
+    ghost use Rattle.clear_schema.specs.Values.{list_shown};
     ghost use Rattle.clear_values.specs.RowRanges.{IsListRow};
 
     type Row = ListRow;

@@ -8,7 +8,8 @@ ghost use Rattle.clear_values.specs.Keyed.{is_held, with_row, without_rows};
 ghost use Rattle.clear_values.specs.RowRanges.{IsPieceRow, IsSerial};
 ghost use Rattle.clear_values.specs.Tables.{is_piece_key_from, piece_key};
 ghost use Rattle.clear_columns.specs.Reading.{HasSomeTables, IsLeft, ReadsOn};
-ghost use Rattle.clear_ledger.specs.Shown.{first_piece_given, piece_shown};
+ghost use Rattle.clear_schema.specs.Values.{piece_shown};
+ghost use Rattle.clear_ledger.specs.Shown.{first_piece_given};
 ghost use Rattle.clear_schema.specs.Frame.{Writes};
 
 use clear_columns::columns::{
@@ -107,7 +108,7 @@ pub fn read_pieces<S: Alter>(
 pub struct Pieces;
 
 impl StoredTable for Pieces {
-    ghost use Rattle.clear_ledger.specs.Shown.{piece_shown};
+    ghost use Rattle.clear_schema.specs.Values.{piece_shown};
     ghost use Rattle.clear_values.specs.RowRanges.{IsPieceRow};
 
     type Row = PieceRow;

@@ -10,7 +10,7 @@ ghost use Rattle.clear_values.specs.Keyed.{is_held, with_row};
 ghost use Rattle.clear_values.specs.RowRanges.{IsReminderRow};
 ghost use Rattle.clear_values.specs.Tables.{reminder_key};
 ghost use Rattle.clear_columns.specs.Reading.{HasSomeTables, IsLeft, ReadsOn};
-ghost use Rattle.clear_ledger.specs.Shown.{reminder_shown};
+ghost use Rattle.clear_schema.specs.Values.{reminder_shown};
 ghost use Rattle.clear_schema.specs.Frame.{Finds, Writes};
 
 use clear_columns::columns::{
@@ -91,7 +91,7 @@ pub fn read_reminders<S: Alter>(conn: &mut Connection<S>, run: RunNo) -> Result<
 pub struct Reminders;
 
 impl StoredTable for Reminders {
-    ghost use Rattle.clear_ledger.specs.Shown.{reminder_shown};
+    ghost use Rattle.clear_schema.specs.Values.{reminder_shown};
     ghost use Rattle.clear_values.specs.RowRanges.{IsReminderRow};
 
     type Row = ReminderRow;

@@ -9,7 +9,7 @@ ghost use Rattle.clear_values.specs.Keyed.{find_row, is_held, with_row};
 ghost use Rattle.clear_values.specs.RowRanges.{IsReply, IsRunRow};
 ghost use Rattle.clear_values.specs.Tables.{run_key};
 ghost use Rattle.clear_columns.specs.Reading.{HasSomeTables, IsLeft, ReadsOn};
-ghost use Rattle.clear_ledger.specs.Shown.{run_shown};
+ghost use Rattle.clear_schema.specs.Values.{run_shown};
 ghost use Rattle.clear_schema.specs.Frame.{Finds, Writes};
 
 use clear_columns::columns::{count_at, day_at, number_at};
@@ -74,7 +74,7 @@ pub fn read_run<S: Alter>(conn: &mut Connection<S>, run: u32) -> Result<Rows<'_,
 pub struct Runs;
 
 impl StoredTable for Runs {
-    ghost use Rattle.clear_ledger.specs.Shown.{run_shown};
+    ghost use Rattle.clear_schema.specs.Values.{run_shown};
     ghost use Rattle.clear_values.specs.RowRanges.{IsRunRow};
 
     type Row = RunRow;

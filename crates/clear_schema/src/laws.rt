@@ -6,7 +6,7 @@ ghost use Rattle.clear_values.specs.Tables.{Tables};
 ghost use Rattle.clear_schema.specs.Held.{HasOtherLayout, HasTables, IsStore, TellsSchema};
 ghost use Rattle.clear_schema.specs.Later.{later_layout, later_schema, more_layout};
 ghost use Rattle.clear_schema.specs.Schema.{Layout};
-ghost use Rattle.clear_schema.specs.Values.{Counts, meta_values};
+ghost use Rattle.clear_schema.specs.Values.{Counts, meta_shown, numbered_row};
 
 /// A store of any layout tells the number of its schema, and so does any database of a schema with a
 /// table and an index more than ours.
@@ -14,7 +14,8 @@ pub fn law_tells_schema()
     ensures ours { (layout : Layout) (t : Tables) (db : Database) → IsStore layout t db
         → TellsSchema layout.number db }
     ensures later { (number : ℕ) (counts : Counts) (db : Database) → db.schema ≡ later_schema
-        → db.trees 0 ≡ meta_values number counts ∷ [] → IsDatabase db → TellsSchema number db }
+        → db.trees 0 ≡ numbered_row (meta_shown number) counts ∷ [] → IsDatabase db
+        → TellsSchema number db }
 {}
 
 /// A store of a later layout is no store of this program: it tells another number, or, where it has

@@ -5,8 +5,8 @@ use Rattle.clear_columns.proofs.KeyLemmas.{corrects}
 use Rattle.clear_columns.proofs.ListLemmas.{fewer_pass}
 use Rattle.clear_columns.proofs.KeyedTable.{few, sets}
 use Rattle.clear_firms.specs.Amounts.{AreInRange}
-use Rattle.clear_firms.specs.Shown.{charge_shown}
-use Rattle.clear_firms.proofs.ChargeTable.{charges, correct_says, is_of, is_that, is_to_change, of_other, stored_beside, with_amounts}
+use Rattle.clear_schema.specs.Values.{charge_shown}
+use Rattle.clear_firms.proofs.ChargeTable.{charges, correct_says, is_of, is_that, is_to_change, of_other, with_amounts}
 use Rattle.clear_firms.proofs.charges.correct_charge.Goals as goal
 
 pub returns-clause-writes : goal.returns-clause-writes
@@ -17,7 +17,7 @@ returns-clause-writes g c =
     let within : AreInRange c.args.row = search rules in
     writes_as g.S.Store old new c.put.result _ _ _ _
     (λ t has. ap (λ rows. record t { charges = rows }) (corrects charge_key t.charges row (keeps_contribution row) (with_amounts row) (λ _. refl) (is_that row) has.charges.rises))
-    (sets charges g.S.Store old new correct_says (charge_shown row) (is_to_change row) (with_amounts row) (λ _. refl) ((λ y r same. same), tt) (of_other row) (λ _. refl) stored_beside
+    (sets charges g.S.Store old new correct_says (charge_shown row) (is_to_change row) (with_amounts row) (λ _. refl) ((λ y r same. same), tt) (of_other row) (λ _. refl)
     (λ t db has. let fewer = fewer_pass (is_of row.employer row.month) (λ x. not (keeps_contribution row x)) t.charges in let one = few charges t db has (charge_key row) in omega (arith, fewer, one))
     c.put.result _ (λ out. out within) (rw c.charge_values.ensures at c.put.ensures.runs))
 

@@ -1,6 +1,6 @@
 use Rattle.clear_values.specs.RowRanges.{IsKeptCharge}
 use Rattle.clear_schema.proofs.FrameLemmas.{lists}
-use Rattle.clear_firms.specs.Shown.{charge_shown}
+use Rattle.clear_schema.specs.Values.{charge_shown}
 use Rattle.clear_firms.proofs.ChargeTable.{answers_open}
 use Rattle.clear_firms.proofs.charges.open_charges_of.Goals as goal
 

@@ -1,6 +1,6 @@
 use Rattle.clear_values.specs.RowRanges.{IsEmployerRow}
 use Rattle.clear_schema.proofs.FrameLemmas.{lists}
-use Rattle.clear_firms.specs.Shown.{employer_shown}
+use Rattle.clear_schema.specs.Values.{employer_shown}
 use Rattle.clear_firms.proofs.EmployerTable.{answers_all}
 use Rattle.clear_firms.proofs.employers.all_employers.Goals as goal
 

@@ -1,14 +1,8 @@
-use Rattle.std.proofs.Common.{[], ◌∷◌, filter}
+use Rattle.std.proofs.Common.{refl}
 use Rattle.clear_values.specs.RowRanges.{IsEmployerRow}
-use Rattle.clear_values.specs.Tables.{employer_key}
-use Rattle.clear_schema.proofs.FrameLemmas.{finds}
-use Rattle.clear_columns.proofs.KeyLemmas.{first_found}
-use Rattle.clear_firms.specs.Shown.{employer_shown}
-use Rattle.clear_firms.proofs.EmployerTable.{answers, is_no}
+use Rattle.clear_columns.proofs.NumberedTable.{finds_one}
+use Rattle.clear_firms.proofs.EmployerTable.{get_says, employers}
 use Rattle.clear_firms.proofs.employers.find_employer.Goals as goal
 
 pub returns-clause-looks : goal.returns-clause-looks
-returns-clause-looks g c =
-    let k = c.args.no ∷ [] in
-    finds g.S.Store c.args.tx.now.conn.now c.find.new.tx.conn.now employer_shown IsEmployerRow _ _ c.find.result (λ t. filter (is_no c.args.no) t.employers) _ (λ t. first_found employer_key t.employers k)
-    (λ t has. answers g.S.Store t _ has c.args.no) (rw c.employer.ensures at c.find.ensures.looks)
+returns-clause-looks g c = finds_one employers g.S.Store get_says c.args.no (λ _. refl) c.args.tx.now.conn.now c.find.new.tx.conn.now IsEmployerRow c.find.result (rw c.employer.ensures at c.find.ensures.looks)

@@ -1,7 +1,7 @@
 use Rattle.std.proofs.Common.{refl}
 use Rattle.clear_columns.proofs.ReadingLemmas.{left_on, reads_on}
 use Rattle.clear_firms.proofs.EmployerTable.{answers_all}
-use Rattle.clear_firms.specs.Shown.{employer_shown}
+use Rattle.clear_schema.specs.Values.{employer_shown}
 use Rattle.clear_firms.proofs.employers.read_employers.Goals as goal
 
 pub returns : goal.returns

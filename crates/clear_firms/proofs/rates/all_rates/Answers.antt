@@ -1,6 +1,6 @@
 use Rattle.clear_money.specs.Rates.{IsRate}
 use Rattle.clear_schema.proofs.FrameLemmas.{lists}
-use Rattle.clear_firms.specs.Shown.{rate_shown}
+use Rattle.clear_schema.specs.Values.{rate_shown}
 use Rattle.clear_firms.proofs.RateTable.{answers}
 use Rattle.clear_firms.proofs.rates.all_rates.Goals as goal
 

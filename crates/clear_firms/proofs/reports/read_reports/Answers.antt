@@ -1,7 +1,7 @@
 use Rattle.std.proofs.Common.{refl}
 use Rattle.clear_columns.proofs.ReadingLemmas.{left_on, reads_on}
 use Rattle.clear_firms.proofs.ReportTable.{answers_all}
-use Rattle.clear_firms.specs.Shown.{report_shown}
+use Rattle.clear_schema.specs.Values.{report_shown}
 use Rattle.clear_firms.proofs.reports.read_reports.Goals as goal
 
 pub returns : goal.returns

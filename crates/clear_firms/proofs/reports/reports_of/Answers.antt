@@ -1,6 +1,6 @@
 use Rattle.clear_values.specs.RowRanges.{IsReportRow}
 use Rattle.clear_schema.proofs.FrameLemmas.{lists}
-use Rattle.clear_firms.specs.Shown.{report_shown}
+use Rattle.clear_schema.specs.Values.{report_shown}
 use Rattle.clear_firms.proofs.ReportTable.{answers_of}
 use Rattle.clear_firms.proofs.reports.reports_of.Goals as goal
 

@@ -1,6 +1,6 @@
 use Rattle.clear_values.specs.RowRanges.{IsWageRow}
 use Rattle.clear_schema.proofs.FrameLemmas.{lists}
-use Rattle.clear_firms.specs.Shown.{wage_shown}
+use Rattle.clear_schema.specs.Values.{wage_shown}
 use Rattle.clear_firms.proofs.WageTable.{answers_for}
 use Rattle.clear_firms.proofs.wages.worker_wages.Goals as goal
 

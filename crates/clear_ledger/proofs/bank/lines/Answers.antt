@@ -1,7 +1,7 @@
 use Rattle.std.proofs.Common.{refl}
 use Rattle.clear_columns.proofs.ReadingLemmas.{left_on, reads_on}
 use Rattle.clear_ledger.proofs.BankTable.{answers_all}
-use Rattle.clear_ledger.specs.Shown.{bank_shown}
+use Rattle.clear_schema.specs.Values.{bank_shown}
 use Rattle.clear_ledger.proofs.bank.lines.Goals as goal
 
 pub returns : goal.returns

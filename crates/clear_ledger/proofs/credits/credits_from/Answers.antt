@@ -1,5 +1,5 @@
 use Rattle.clear_values.specs.RowRanges.{IsCreditRow}
-use Rattle.clear_ledger.specs.Shown.{credit_shown}
+use Rattle.clear_schema.specs.Values.{credit_shown}
 use Rattle.clear_ledger.proofs.CreditTable.{answers_from}
 use Rattle.clear_schema.proofs.FrameLemmas.{lists}
 use Rattle.clear_ledger.proofs.credits.credits_from.Goals as goal

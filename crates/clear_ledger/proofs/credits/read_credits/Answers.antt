@@ -2,7 +2,7 @@ use Rattle.std.proofs.Common.{filter, refl}
 use Rattle.clear_values.specs.Credits.{is_credit_of}
 use Rattle.clear_columns.proofs.ReadingLemmas.{left_on, reads_on}
 use Rattle.clear_ledger.proofs.CreditTable.{answers}
-use Rattle.clear_ledger.specs.Shown.{credit_shown}
+use Rattle.clear_schema.specs.Values.{credit_shown}
 use Rattle.clear_ledger.proofs.credits.read_credits.Goals as goal
 
 pub returns : goal.returns

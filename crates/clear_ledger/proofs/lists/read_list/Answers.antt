@@ -3,14 +3,15 @@ use Rattle.clear_columns.proofs.ReadingLemmas.{left_on, reads_on}
 use Rattle.std.specs.Option.{option_to_list}
 use Rattle.clear_values.specs.Keyed.{find_row}
 use Rattle.clear_values.specs.Tables.{list_key}
-use Rattle.clear_ledger.proofs.ListTable.{answers_one}
-use Rattle.clear_ledger.specs.Shown.{list_shown}
+use Rattle.clear_columns.proofs.NumberedTable.{answers_one}
+use Rattle.clear_ledger.proofs.ListTable.{get_says, lists}
+use Rattle.clear_schema.specs.Values.{list_shown}
 use Rattle.clear_ledger.proofs.lists.read_list.Goals as goal
 
 pub returns : goal.returns
 returns g c =
     let old = c.args.conn.now in
     let made = c.begin_rows.result in (
-      (refl, c.begin_rows.follows.holds, left_on g.S.Store old _ _ _ _ (λ t has. answers_one g.S.Store t _ has c.args.list) made c.begin_rows.follows.holds-at-none),
-      record { refused = tt; same_reference = c.begin_rows.ensures.same_reference; begun = reads_on g.S.Store old _ _ _ list_shown (λ t. option_to_list (find_row list_key t.lists (c.args.list ∷ []))) (λ t has. answers_one g.S.Store t _ has c.args.list) made (rw (c.number.ensures, c.from.ensures) at c.begin_rows.ensures.begun) },
+      (refl, c.begin_rows.follows.holds, left_on g.S.Store old _ _ _ _ (λ t has. answers_one lists g.S.Store get_says c.args.list (λ _. refl) t _ has) made c.begin_rows.follows.holds-at-none),
+      record { refused = tt; same_reference = c.begin_rows.ensures.same_reference; begun = reads_on g.S.Store old _ _ _ list_shown (λ t. option_to_list (find_row list_key t.lists (c.args.list ∷ []))) (λ t has. answers_one lists g.S.Store get_says c.args.list (λ _. refl) t _ has) made (rw (c.number.ensures, c.from.ensures) at c.begin_rows.ensures.begun) },
     )

@@ -1,7 +1,7 @@
 use Rattle.std.proofs.Common.{◌==◌, filter, refl}
 use Rattle.clear_columns.proofs.ReadingLemmas.{left_on, reads_on}
 use Rattle.clear_ledger.proofs.PieceTable.{answers}
-use Rattle.clear_ledger.specs.Shown.{piece_shown}
+use Rattle.clear_schema.specs.Values.{piece_shown}
 use Rattle.clear_ledger.proofs.pieces.read_pieces.Goals as goal
 
 pub returns : goal.returns

@@ -2,7 +2,7 @@ use Rattle.std.proofs.Common.{◌==◌, filter, take}
 use Rattle.clear_values.specs.RowRanges.{IsReminderRow}
 use Rattle.clear_columns.proofs.LastLemmas.{from_last, last_of}
 use Rattle.clear_ledger.proofs.ReminderTable.{answers_last}
-use Rattle.clear_ledger.specs.Shown.{reminder_shown}
+use Rattle.clear_schema.specs.Values.{reminder_shown}
 use Rattle.clear_schema.proofs.FrameLemmas.{finds}
 use Rattle.clear_ledger.proofs.reminders.last_reminder.Goals as goal
 

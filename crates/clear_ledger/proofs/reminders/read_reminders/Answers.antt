@@ -1,7 +1,7 @@
 use Rattle.std.proofs.Common.{◌==◌, filter, refl}
 use Rattle.clear_columns.proofs.ReadingLemmas.{left_on, reads_on}
 use Rattle.clear_ledger.proofs.ReminderTable.{answers_of}
-use Rattle.clear_ledger.specs.Shown.{reminder_shown}
+use Rattle.clear_schema.specs.Values.{reminder_shown}
 use Rattle.clear_ledger.proofs.reminders.read_reminders.Goals as goal
 
 pub returns : goal.returns

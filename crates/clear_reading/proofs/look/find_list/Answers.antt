@@ -2,7 +2,7 @@ use Rattle.std.proofs.Common.{[], ◌∷◌, rules}
 use Rattle.clear_values.specs.Keyed.{find_row}
 use Rattle.clear_values.specs.RowRanges.{IsListRow}
 use Rattle.clear_values.specs.Tables.{list_key}
-use Rattle.clear_ledger.specs.Shown.{list_shown}
+use Rattle.clear_schema.specs.Values.{list_shown}
 use Rattle.clear_reading.proofs.FirstLemmas.{one_in_range, tells_one}
 use Rattle.clear_reading.proofs.look.find_list.Goals as goal
 

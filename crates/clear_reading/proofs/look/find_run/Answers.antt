@@ -2,7 +2,7 @@ use Rattle.std.proofs.Common.{[], ◌∷◌, rules}
 use Rattle.clear_values.specs.Keyed.{find_row}
 use Rattle.clear_values.specs.RowRanges.{IsRunRow}
 use Rattle.clear_values.specs.Tables.{run_key}
-use Rattle.clear_ledger.specs.Shown.{run_shown}
+use Rattle.clear_schema.specs.Values.{run_shown}
 use Rattle.clear_reading.proofs.FirstLemmas.{one_in_range, tells_one}
 use Rattle.clear_reading.proofs.look.find_run.Goals as goal
 

@@ -1,7 +1,7 @@
 use Rattle.std.proofs.Common.{rules}
 use Rattle.sqlite_keyed.proofs.ListLemmas.{all-filter}
 use Rattle.clear_values.specs.RowRanges.{IsReminderRow}
-use Rattle.clear_ledger.specs.Shown.{reminder_shown}
+use Rattle.clear_schema.specs.Values.{reminder_shown}
 use Rattle.clear_reading.proofs.TellingLemmas.{tells_tables}
 use Rattle.clear_reading.proofs.reminders.tell_reminders.Goals as goal
 

@@ -1,6 +1,6 @@
 use Rattle.std.proofs.Common.{rules}
 use Rattle.clear_values.specs.RowRanges.{IsEmployerRow}
-use Rattle.clear_firms.specs.Shown.{employer_shown}
+use Rattle.clear_schema.specs.Values.{employer_shown}
 use Rattle.clear_reading.proofs.TellingLemmas.{nothing_added, tells_tables}
 use Rattle.clear_reading.proofs.row_counts.count_firms.Goals as goal
 

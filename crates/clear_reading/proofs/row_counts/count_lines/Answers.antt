@@ -1,5 +1,5 @@
 use Rattle.std.proofs.Common.{rules}
-use Rattle.clear_ledger.specs.Shown.{bank_shown}
+use Rattle.clear_schema.specs.Values.{bank_shown}
 use Rattle.clear_reading.proofs.SuspenseLemmas.{lines_addable}
 use Rattle.clear_reading.proofs.TellingLemmas.{tells_tables}
 use Rattle.clear_reading.proofs.row_counts.count_lines.Goals as goal

@@ -1,6 +1,6 @@
 use Rattle.std.proofs.Common.{rules}
 use Rattle.clear_values.specs.RowRanges.{IsReportRow}
-use Rattle.clear_firms.specs.Shown.{report_shown}
+use Rattle.clear_schema.specs.Values.{report_shown}
 use Rattle.clear_reading.proofs.TellingLemmas.{nothing_added, tells_tables}
 use Rattle.clear_reading.proofs.row_counts.count_reports.Goals as goal
 

@@ -1,5 +1,5 @@
 use Rattle.std.proofs.Common.{rules}
-use Rattle.clear_ledger.specs.Shown.{piece_shown}
+use Rattle.clear_schema.specs.Values.{piece_shown}
 use Rattle.clear_reading.proofs.TellingLemmas.{tells_tables}
 use Rattle.clear_reading.proofs.statement.tell_statement.Goals as goal
 

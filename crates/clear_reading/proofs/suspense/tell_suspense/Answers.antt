@@ -1,5 +1,5 @@
 use Rattle.std.proofs.Common.{rules}
-use Rattle.clear_ledger.specs.Shown.{bank_shown}
+use Rattle.clear_schema.specs.Values.{bank_shown}
 use Rattle.clear_reading.proofs.TellingLemmas.{tells_tables}
 use Rattle.clear_reading.proofs.SuspenseLemmas.{addable}
 use Rattle.clear_reading.proofs.suspense.tell_suspense.Goals as goal
