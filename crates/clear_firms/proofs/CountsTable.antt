@@ -2,12 +2,13 @@
 use Rattle.clear_columns.proofs.Words.{◌≡◌, arith, pos, ℕ, true, List, [], ◌∷◌, Some, map, slice_get, refl, sym, ap, subst, ◌∙◌, inl, codes, cast_row, Binary, Update, Database, Row, Ghosts, Term, lit, col, op2, Trees, Null, Int, passes, Datatype, Compare, Eq, Tables, IsNumbered, meets, plain_program, HasTables, meta_table, store_schema, cast_int, cast_maybe, cast_null, equal_ints, maybe_typed, numbers_keep, AnswersJust, numbered_row}
 use Rattle.sqlite_tied.specs.Compute.{everything}
 use Rattle.clear_schema.specs.Held.{this_schema}
-use Rattle.clear_schema.specs.Values.{Counts, counts_of, meta_shown, with_counts}
+use Rattle.clear_schema.specs.Values.{counts_of, counts_shown, meta_shown, with_counts}
+use Rattle.clear_schema.specs.declared.counts.Counts.{Counts}
 use Rattle.clear_schema.proofs.Changes.{counts_changed}
 use Rattle.clear_columns.proofs.NumberedTable.{NumberedTable, finds}
 use Rattle.clear_columns.proofs.Says.{Says, SaysQuery}
 use Rattle.clear_values.specs.RowRanges.{AreInRange}
-use Rattle.clear_firms.specs.Counts.{AreCounts, counts_given}
+use Rattle.clear_firms.specs.Counts.{AreCounts}
 
 -- the tables with the counts of a row
 abbrev pub with_first : Tables → List Counts → Tables
@@ -70,11 +71,11 @@ get_says = record { names = _; said = (refl, refl, refl) }
 pub is_one : (params : Row) (c : Counts) → meets the_one params (numbered_row (meta_shown this_schema) c) ≡ true
 is_one params c = rw (equal_ints (pos 1) (pos 1))
 
-pub answers : {S : Type 0} (g : Ghosts S) (t : Tables) (db : Database) → HasTables t db → AnswersJust g get [] db (map counts_given (counts_of t ∷ []))
-answers g t db has = finds counts g t db has [] counts_given (λ c. true) (is_one []) get_says (λ _. refl) (omega arith)
+pub answers : {S : Type 0} (g : Ghosts S) (t : Tables) (db : Database) → HasTables t db → AnswersJust g get [] db (map counts_shown (counts_of t ∷ []))
+answers g t db has = finds counts g t db has [] counts_shown (λ c. true) (is_one []) get_says (λ _. refl) (omega arith)
 
 -- the first row of the answer is the one
-pub first_row : (rows : List Row) (c : Counts) (row : Row) → Some row ≡ slice_get rows 0 → rows ≡ counts_given c ∷ [] → row ≡ counts_given c
+pub first_row : (rows : List Row) (c : Counts) (row : Row) → Some row ≡ slice_get rows 0 → rows ≡ counts_shown c ∷ [] → row ≡ counts_shown c
 first_row rows c row is same = let e = is ∙ ap (λ l. slice_get l 0) same in cc
 
 -- the counts of tables in their ranges are in theirs

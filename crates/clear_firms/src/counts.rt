@@ -6,15 +6,14 @@ ghost use Rattle.sqlite.specs.Values.{bound};
 ghost use Rattle.sqlite.specs.contracts.connection.Connection.{the_row};
 ghost use Rattle.clear_columns.specs.Reading.{HasSomeTables, IsLeft, ReadsOn};
 ghost use Rattle.clear_schema.specs.Frame.{LooksUp, Writes};
-ghost use Rattle.clear_schema.specs.Values.{Counts as Stored, counts_of, with_counts};
-ghost use Rattle.clear_firms.specs.Counts.{AreCountable, AreCounts, as_stored, as_told};
-ghost use Rattle.clear_firms.specs.Counts.{counts_given, counts_shown};
+ghost use Rattle.clear_schema.specs.Values.{counts_of, counts_shown, with_counts};
+ghost use Rattle.clear_firms.specs.Counts.{AreCountable, AreCounts};
 
 use clear_columns::columns::{entry_count_at, given_count_at, maybe_day_at, serial_count_at};
 use clear_columns::parameters::maybe_day;
 use clear_columns::ranges::is_entry_count;
 use clear_columns::rows::{StoredTable, begin_rows};
-use clear_money::days::Day;
+use clear_schema::counts::Counts;
 use clear_schema::fault::Fault;
 use clear_schema::statement::{look, put};
 use clear_schema::values::number;
@@ -26,23 +25,11 @@ use sqlite_value::value::ValueRef;
 // The counts that stand.
 const COUNTS: &str = "SELECT day, entries, serial, claims, lists, runs FROM meta WHERE one = 1";
 
-/// The day of the last accepted request, how many there were, and the last numbers given.
-#[derive(Clone, Copy)]
-pub struct Counts {
-    pub day: Option<Day>,
-    pub entries: u64,
-    /// Of bank lines and releases.
-    pub serial: u64,
-    pub claims: u32,
-    pub lists: u32,
-    pub runs: u32,
-}
-
 /// The counts that stand.
 pub fn find_counts<S: Alter>(tx: &mut Transaction<'_, S>) -> Result<Counts, Fault>
     ensures same_reference { tx.new.conn.ghost_name ≡ tx.old.conn.ghost_name }
     ensures looks { LooksUp S.Store tx.old.conn.now tx.new.conn.now result
-        (λ t found. as_stored found ≡ counts_of t) (λ found. AreCounts (as_stored found))
+        (λ t found. found ≡ counts_of t) AreCounts
         (λ t. ¬ AreCounts (counts_of t)) }
 {
     let rows = look(tx, COUNTS, &[])?;
@@ -51,12 +38,12 @@ pub fn find_counts<S: Alter>(tx: &mut Transaction<'_, S>) -> Result<Counts, Faul
 
 // The one row of an answer.
 fn first_counts(rows: &[Row]) -> Result<Counts, Fault>
-    ensures read { IfOk result (λ found. (c : Stored) → rows.now ≡ counts_given c ∷ []
-        → as_stored found ≡ c) }
-    ensures good { IfOk result (λ found. AreCounts (as_stored found)) }
+    ensures read { IfOk result (λ found. (c : Counts) → rows.now ≡ counts_shown c ∷ []
+        → found ≡ c) }
+    ensures good { IfOk result AreCounts }
     ensures cause { IfErr result (λ fault. fault ≢ Fault.Store StoreCause.Constraint) }
     ensures range { IfErr result (λ fault. fault ≡ Fault.Store StoreCause.Row
-        → (c : Stored) → rows.now ≡ counts_given c ∷ [] → ¬ AreCounts c) }
+        → (c : Counts) → rows.now ≡ counts_shown c ∷ [] → ¬ AreCounts c) }
 {
     match rows.first() {
         Some(row) => shown_counts(row),
@@ -66,12 +53,12 @@ fn first_counts(rows: &[Row]) -> Result<Counts, Fault>
 
 // The counts that an answer shows.
 fn shown_counts(row: &Row) -> Result<Counts, Fault>
-    ensures read { IfOk result (λ found. (c : Stored) → row.now ≡ counts_given c
-        → as_stored found ≡ c) }
-    ensures good { IfOk result (λ found. AreCounts (as_stored found)) }
+    ensures read { IfOk result (λ found. (c : Counts) → row.now ≡ counts_shown c
+        → found ≡ c) }
+    ensures good { IfOk result AreCounts }
     ensures cause { IfErr result (λ fault. fault ≢ Fault.Store StoreCause.Constraint) }
     ensures range { IfErr result (λ fault. fault ≡ Fault.Store StoreCause.Row
-        → (c : Stored) → row.now ≡ counts_given c → ¬ AreCounts c) }
+        → (c : Counts) → row.now ≡ counts_shown c → ¬ AreCounts c) }
 {
     Ok(Counts {
         day: maybe_day_at(row, 0)?,
@@ -90,7 +77,7 @@ pub fn read_counts<S: Alter>(conn: &mut Connection<S>) -> Result<Rows<'_, S>, Er
         (IsLeft S.Store conn.old (HasSomeTables (state S.Store conn.old).now) result)) }
     ensures same_reference { IfOk result (λ rows. rows.conn.ghost_name ≡ conn.entry.ghost_name) }
     ensures begun { IfOk result (λ rows. ReadsOn S.Store conn.old rows.conn.now counts_shown
-        (λ t. as_told (counts_of t) ∷ [])) }
+        (λ t. counts_of t ∷ [])) }
 {
     begin_rows::<Meta, S>(conn, COUNTS, &[])
 }
@@ -99,13 +86,14 @@ pub fn read_counts<S: Alter>(conn: &mut Connection<S>) -> Result<Rows<'_, S>, Er
 pub struct Meta;
 
 impl StoredTable for Meta {
-    ghost use Rattle.clear_firms.specs.Counts.{AreCounts, as_stored, counts_shown};
+    ghost use Rattle.clear_firms.specs.Counts.{AreCounts};
+    ghost use Rattle.clear_schema.specs.Values.{counts_shown};
 
     type Row = Counts;
 
     ghost shown = { counts_shown };
 
-    ghost is_in_range = { λ counts. AreCounts (as_stored counts) };
+    ghost is_in_range = { AreCounts };
 
     fn read(row: &Row) -> Result<Counts, Fault> {
         shown_counts(row)
@@ -119,7 +107,7 @@ pub fn put_counts<S: Alter>(tx: &mut Transaction<'_, S>, counts: &Counts) -> Res
     ensures same_reference { tx.new.conn.ghost_name ≡ tx.old.conn.ghost_name }
     ensures writes { Writes S.Store tx.old.conn.now tx.new.conn.now result
         (¬ AreCountable counts.now)
-        (λ _. false) (λ t. with_counts (as_stored counts.now) t) }
+        (λ _. false) (λ t. with_counts counts.now t) }
 {
     if !are_countable(counts) {
         return Err(Fault::Store(StoreCause::Row));
@@ -146,7 +134,7 @@ fn are_countable(counts: &Counts) -> bool
 // What the statement is given of the counts.
 fn counts_values(counts: &Counts) -> [ValueRef<'static>; 6]
     requires { AreCountable counts.now }
-    ensures { bound result ≡ counts_given (as_stored counts.now) }
+    ensures { bound result ≡ counts_shown counts.now }
 {
     [
         maybe_day(counts.day),

@@ -24,9 +24,8 @@ use Rattle.clear_values.proofs.PutRowsLemmas.{all_put}
 use Rattle.clear_laws.proofs.LinesLemmas.{references_standing, standing_once}
 use Rattle.clear_laws.proofs.RowRangeLemmas.{rows_in_range}
 use Rattle.sqlite_keyed.proofs.ListLemmas.{all_weaker}
-use Rattle.clear_schema.specs.Values.{Counts as Stored, counts_of}
-use Rattle.clear_firms.specs.declared.counts.Counts.{Counts}
-use Rattle.clear_firms.specs.Counts.{as_stored}
+use Rattle.clear_schema.specs.Values.{counts_of}
+use Rattle.clear_schema.specs.declared.counts.Counts.{Counts}
 use Rattle.clear_ledger.specs.Shown.{serial_key}
 use Rattle.clear_store.specs.Changes.{AreGross, HasRoom, IsFree, IsInRange, IsPuttable, IsThere, taken_by}
 use Rattle.clear_store.proofs.ChangeLemmas.{counted}
@@ -146,25 +145,25 @@ rows_puttable t x (AddRun row reminders) there within = (
 )
 
 -- so the change can be put
-pub change_puttable : (next : Book) (t : Tables) (x : Entry) (change : Change) (counts : Counts) → IsLawful next → Stands next (noted x (changed change t)) → as_stored counts ≡ counts_of t → IsThere change t → IsPuttable counts change
+pub change_puttable : (next : Book) (t : Tables) (x : Entry) (change : Change) (counts : Counts) → IsLawful next → Stands next (noted x (changed change t)) → counts ≡ counts_of t → IsThere change t → IsPuttable counts change
 change_puttable next t x change counts lawful stands same there =
     let within = rows_in_range next (noted x (changed change t)) lawful stands in
     (rows_puttable t x change there within, room within)
   where
     entries : counts.entries ≡ t.entries
-    entries = ap (λ (c : Stored). c.entries) same
+    entries = ap (λ (c : Counts). c.entries) same
 
     serial : counts.serial ≡ t.serial
-    serial = ap (λ (c : Stored). c.serial) same
+    serial = ap (λ (c : Counts). c.serial) same
 
     claims : counts.claims ≡ t.last_claim
-    claims = ap (λ (c : Stored). c.claims) same
+    claims = ap (λ (c : Counts). c.claims) same
 
     lists : counts.lists ≡ t.last_list
-    lists = ap (λ (c : Stored). c.lists) same
+    lists = ap (λ (c : Counts). c.lists) same
 
     runs : counts.runs ≡ t.last_run
-    runs = ap (λ (c : Stored). c.runs) same
+    runs = ap (λ (c : Counts). c.runs) same
 
     -- the counts that are put are those of the tables after the change
     room : AreInRange (noted x (changed change t)) → HasRoom counts (taken_by change)

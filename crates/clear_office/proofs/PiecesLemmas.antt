@@ -24,13 +24,12 @@ use Rattle.clear_laws.proofs.CreditsLemmas.{table_credits-credits_of}
 use Rattle.clear_laws.proofs.KeptChargesLemmas.{kept_charges-charges_of}
 use Rattle.clear_laws.proofs.RowRangeLemmas.{rows_in_range}
 use Rattle.clear_laws.proofs.TableAccountLemmas.{account_of_tables}
-use Rattle.clear_firms.specs.declared.counts.Counts.{Counts}
-use Rattle.clear_firms.specs.Counts.{as_stored}
 use Rattle.clear_schema.specs.declared.fault.Fault.{Fault}
 use Rattle.clear_schema.specs.declared.fault.Fault.TheVariants.{Store}
 use Rattle.clear_schema.specs.Faults.{IsOfDisk}
 use Rattle.clear_schema.specs.Held.{HasTables}
 use Rattle.clear_schema.specs.Values.{counts_of}
+use Rattle.clear_schema.specs.declared.counts.Counts.{Counts}
 use Rattle.clear_store.proofs.OnceLemmas.{all_with}
 use Rattle.clear_pieces.specs.Keeping.{AreAccounts, AreFollowing, HasCharge, IsPut, TellsStood}
 use Rattle.clear_office.specs.Bodies.{HasFollowing, HasPieces, IsFitting, MayPut}
@@ -149,7 +148,7 @@ module _ (b next : Book) (t : Tables) (x : Entry) (change : Change) (lawful : Is
         last_run = within.last_run;
       }
 
-  pub may_put : (counts : Counts) → as_stored counts ≡ counts_of t → HasPieces t → MayPut x.day counts change t
+  pub may_put : (counts : Counts) → counts ≡ counts_of t → HasPieces t → MayPut x.day counts change t
   may_put counts same pieces = record {
     free = change_free next t x change lawful_next stands_next;
     puttable = change_puttable next t x change counts lawful_next stands_next same fits.0;

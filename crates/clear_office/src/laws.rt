@@ -13,8 +13,7 @@ ghost use Rattle.clear_values.specs.Tables.{Tables, changed, request_key};
 ghost use Rattle.clear_book.specs.Tables.{Stands, noted};
 ghost use Rattle.clear_schema.specs.First.{first_tables};
 ghost use Rattle.clear_schema.specs.Values.{counts_of};
-ghost use Rattle.clear_firms.specs.declared.counts.Counts.{Counts};
-ghost use Rattle.clear_firms.specs.Counts.{as_stored};
+ghost use Rattle.clear_schema.specs.declared.counts.Counts.{Counts};
 ghost use Rattle.clear_store.specs.Changes.{IsFree, IsPuttable, IsThere};
 
 /// A change that takes tables to those of a lawful book finds each key that it adds free, and the
@@ -25,7 +24,7 @@ pub fn law_lawful_change()
         → IsLawful next → Stands next (noted x (changed change t)) → IsFree change t }
     ensures puttable { (next : Book) (t : Tables) (x : Entry) (change : Change) (counts : Counts)
         → IsLawful next → Stands next (noted x (changed change t))
-        → as_stored counts ≡ counts_of t → IsThere change t → IsPuttable counts change }
+        → counts ≡ counts_of t → IsThere change t → IsPuttable counts change }
     ensures number { (next : Book) (t : Tables) (x : Entry) (change : Change)
         → Stands next (noted x (changed change t))
         → find_row request_key t.requests (request_number x.caller x.number) ≡ None }

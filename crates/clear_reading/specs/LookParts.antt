@@ -8,7 +8,6 @@ use Rattle.clear_values.specs.declared.rows.BankRow.{BankRow}
 use Rattle.clear_values.specs.declared.rows.ClaimRow.{ClaimRow}
 use Rattle.clear_book.specs.Lines.{suspense_count}
 use Rattle.clear_book.specs.Workers.{is_open, is_payable}
-use Rattle.clear_firms.specs.Counts.{as_told}
 use Rattle.clear_ledger.specs.Kept.{greatest_number}
 use Rattle.clear_schema.specs.Values.{counts_of}
 use Rattle.clear_texts.specs.declared.look.Look.{Look}
@@ -21,7 +20,7 @@ use Rattle.clear_reading.specs.declared.look.Latest.{Latest}
 abbrev pub latest_of : Tables → Latest
 latest_of t =
     record {
-      counts = as_told (counts_of t);
+      counts = counts_of t;
       greatest = greatest_number Clerk t.requests;
       list = find_row list_key t.lists (t.last_list ∷ []);
       run = find_row run_key t.runs (t.last_run ∷ []);

@@ -3,7 +3,6 @@ ghost use Rattle.std.specs.Prelude.{◌≡◌, [], ◌∷◌, Some, false};
 ghost use Rattle.clear_values.specs.declared.callers.Caller.TheVariants.{Clerk};
 ghost use Rattle.clear_values.specs.Keyed.{find_row};
 ghost use Rattle.clear_values.specs.Tables.{list_key, run_key};
-ghost use Rattle.clear_firms.specs.Counts.{as_told};
 ghost use Rattle.clear_ledger.specs.Kept.{greatest_number};
 ghost use Rattle.clear_schema.specs.Values.{counts_of};
 ghost use Rattle.clear_reading.specs.Look.{AreFewSuspended, look_of};
@@ -12,10 +11,11 @@ ghost use Rattle.clear_reading.specs.Reader.{TellsTables};
 
 use crate::row_counts::{RowCounts, count_tables};
 use crate::stored::first_row;
-use clear_firms::counts::{Counts, Meta, read_counts};
+use clear_firms::counts::{Meta, read_counts};
 use clear_ledger::lists::{Lists, read_list};
 use clear_ledger::requests::{RequestNumbers, read_greatest};
 use clear_ledger::runs::{Runs, read_run};
+use clear_schema::counts::Counts;
 use clear_schema::fault::Fault;
 use clear_texts::look::Look;
 use clear_values::callers::Caller;
@@ -90,7 +90,7 @@ fn find_latest<S: Alter>(conn: &mut Connection<S>) -> Result<Latest, Fault>
 fn find_counts<S: Alter>(conn: &mut Connection<S>) -> Result<Counts, Fault>
     requires outside { conn.old.in_transaction ≡ false }
     ensures mode { conn.new.in_transaction ≡ false }
-    ensures tells { TellsTables S.Store conn.old conn.new (λ t. as_told (counts_of t))
+    ensures tells { TellsTables S.Store conn.old conn.new (λ t. counts_of t)
         (λ t. Unit {0}) result }
 {
     match first_counts(conn)? {
@@ -103,7 +103,7 @@ fn find_counts<S: Alter>(conn: &mut Connection<S>) -> Result<Counts, Fault>
 fn first_counts<S: Alter>(conn: &mut Connection<S>) -> Result<Option<Counts>, Fault>
     requires outside { conn.old.in_transaction ≡ false }
     ensures mode { conn.new.in_transaction ≡ false }
-    ensures tells { TellsTables S.Store conn.old conn.new (λ t. Some (as_told (counts_of t)))
+    ensures tells { TellsTables S.Store conn.old conn.new (λ t. Some (counts_of t))
         (λ t. Unit {0}) result }
 {
     let mut rows = read_counts(conn)?;

@@ -9,7 +9,6 @@ ghost use Rattle.clear_book.specs.Book.{Book};
 ghost use Rattle.clear_book.specs.Machine.{IsLawful};
 ghost use Rattle.clear_book.specs.Tables.{Stands, Tables};
 ghost use Rattle.clear_book.specs.Workers.{is_payable, paid_out};
-ghost use Rattle.clear_firms.specs.Counts.{as_stored};
 ghost use Rattle.clear_rules.specs.Views.PayoutList.{IsPayoutView};
 ghost use Rattle.clear_schema.specs.Frame.{Leaves};
 ghost use Rattle.clear_schema.specs.Faults.{IsOfDisk};
@@ -17,11 +16,11 @@ ghost use Rattle.clear_schema.specs.Held.{HasTables};
 ghost use Rattle.clear_schema.specs.Values.{counts_of};
 ghost use Rattle.clear_reading.specs.Payout.{AreAmong, AreSince, IsViewOf, day_of_list};
 
-use clear_firms::counts::Counts;
 use clear_ledger::claims::claims_released_since;
 use clear_ledger::lists::find_list;
 use clear_money::days::Day;
 use clear_rules::decide::payout::PayoutView;
+use clear_schema::counts::Counts;
 use clear_schema::fault::Fault;
 use clear_texts::payout::paid_cents;
 use clear_values::causes::StoreCause;
@@ -47,11 +46,11 @@ pub fn payout_view<S: Alter>(
         → IfOk result (λ view. AreAmong view.payable.items t.claims) }
     ensures view { HasCleanDisk (state S.Store tx.new.conn.now)
         → (t : Tables) → HasTables t (state S.Store tx.old.conn.now).now
-        → as_stored counts.now ≡ counts_of t → (b : Book) → IsLawful b → Stands b t
+        → counts.now ≡ counts_of t → (b : Book) → IsLawful b → Stands b t
         → IfOk result (IsPayoutView b) }
     ensures fault { HasCleanDisk (state S.Store tx.new.conn.now)
         → (t : Tables) → HasTables t (state S.Store tx.old.conn.now).now
-        → as_stored counts.now ≡ counts_of t → (b : Book) → IsLawful b → Stands b t
+        → counts.now ≡ counts_of t → (b : Book) → IsLawful b → Stands b t
         → IfErr result IsOfDisk }
     ensures leaves { Leaves S.Store tx.old.conn.now tx.new.conn.now result }
 {

@@ -11,7 +11,6 @@ ghost use Rattle.clear_book.specs.Reminders.{as_last, last_among};
 ghost use Rattle.clear_book.specs.RowRanges.{AreInRange, IsReminderRow};
 ghost use Rattle.clear_book.specs.Tables.{Tables};
 ghost use Rattle.clear_book.specs.Workers.{employers_of};
-ghost use Rattle.clear_firms.specs.Counts.{as_stored};
 ghost use Rattle.clear_rules.specs.Views.RemindRun.{IsRemindView, firm_on_day, last_viewed};
 ghost use Rattle.clear_schema.specs.Frame.{Leaves};
 ghost use Rattle.clear_schema.specs.Faults.{IsOfDisk};
@@ -22,7 +21,6 @@ ghost use Rattle.clear_views.specs.Overdue.{IsFirm};
 use clear_book::numbers::RunNo;
 use clear_book::rows::{EmployerRow, ReminderRow};
 use clear_book::rules::StoreCause;
-use clear_firms::counts::Counts;
 use clear_firms::employers::all_employers;
 use clear_firms::rates::rate_table;
 use clear_ledger::reminders::last_reminder;
@@ -31,6 +29,7 @@ use clear_money::days::Day;
 use clear_money::numbers::EmployerNo;
 use clear_money::rates::RateTable;
 use clear_rules::decide::remind::{LastReminder, OverdueFirm, RemindView};
+use clear_schema::counts::Counts;
 use clear_schema::fault::Fault;
 use clear_views::overdue::{is_day_back, read_overdue};
 use sqlite::{Alter, Transaction};
@@ -54,12 +53,12 @@ pub fn remind_view<S: Alter>(
     ensures same_reference { tx.new.conn.ghost_name ≡ tx.old.conn.ghost_name }
     ensures view { HasCleanDisk (state S.Store tx.new.conn.now)
         → (t : Tables) → HasTables t (state S.Store tx.old.conn.now).now
-        → as_stored counts.now ≡ counts_of t → (b : Book) → IsLawful b → StandsWeighed b t
+        → counts.now ≡ counts_of t → (b : Book) → IsLawful b → StandsWeighed b t
         → IfOk result (IsRemindView b day) }
     // On a day that isn't before the ledger day, as it is judged to be before.
     ensures fault { HasCleanDisk (state S.Store tx.new.conn.now)
         → (t : Tables) → HasTables t (state S.Store tx.old.conn.now).now
-        → as_stored counts.now ≡ counts_of t → day_back t.day day ≡ None
+        → counts.now ≡ counts_of t → day_back t.day day ≡ None
         → (b : Book) → IsLawful b → StandsWeighed b t → IfErr result IsOfDisk }
     ensures leaves { Leaves S.Store tx.old.conn.now tx.new.conn.now result }
 {

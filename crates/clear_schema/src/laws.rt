@@ -6,7 +6,8 @@ ghost use Rattle.clear_values.specs.Tables.{Tables};
 ghost use Rattle.clear_schema.specs.Held.{HasOtherLayout, HasTables, IsStore, TellsSchema};
 ghost use Rattle.clear_schema.specs.Later.{later_layout, later_schema, more_layout};
 ghost use Rattle.clear_schema.specs.Schema.{Layout};
-ghost use Rattle.clear_schema.specs.Values.{Counts, meta_shown, numbered_row};
+ghost use Rattle.clear_schema.specs.Values.{meta_shown, numbered_row};
+ghost use Rattle.clear_schema.specs.declared.counts.Counts.{Counts};
 
 /// A store of any layout tells the number of its schema, and so does any database of a schema with a
 /// table and an index more than ours.

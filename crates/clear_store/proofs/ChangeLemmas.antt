@@ -6,10 +6,10 @@ use Rattle.sqlite.specs.Store.{Ghosts}
 use Rattle.clear_values.specs.declared.rows.Change.{Change}
 use Rattle.clear_values.specs.declared.rows.Change.TheVariants.{AddRate, AddEmployer, EndMembership, AddReport, ReplaceReport, AddBankLines, AssignLine, AddClaim, WithdrawClaim, ReleaseClaim, AddList, AddRun}
 use Rattle.clear_values.specs.Tables.{Tables, changed, dated}
-use Rattle.clear_schema.specs.Values.{Counts, counts_of, with_counts}
+use Rattle.clear_schema.specs.Values.{counts_of, with_counts}
+use Rattle.clear_schema.specs.declared.counts.Counts.{Counts}
 use Rattle.clear_schema.specs.declared.fault.Fault.{Fault}
-use Rattle.clear_firms.specs.Counts.{AreCountable, as_stored}
-use Rattle.clear_firms.specs.declared.counts.Counts.{Counts as Told}
+use Rattle.clear_firms.specs.Counts.{AreCountable}
 use Rattle.clear_store.specs.Changes.{HasRoom, IsFree, IsInRange, IsPuttable, IsThere, Puts, counts_after, taken_by}
 use Rattle.clear_store.specs.declared.changes.Taken.{Taken}
 use Rattle.clear_store.proofs.JoinLemmas.{Always, put_then, second_alone, turned}
@@ -82,16 +82,16 @@ dated_is day change c t same =
     subst (λ (d : Counts). rows_put change (with_counts (counts_with day change d) t) ≡ dated day (changed change t)) (sym same) (counted day change t)
 
 -- the counts, and then the rows of a change
-pub put_changed : {S A B : Type 0} {g : Ghosts S} {old mid new : Held S} {x : A} {r : Result B Fault} (counts : Told) (day : ℕ) (change : Change)
-    → Puts g old mid (Ok x) Always Always (HasRoom counts (taken_by change)) (with_counts (counts_with day change (as_stored counts)))
+pub put_changed : {S A B : Type 0} {g : Ghosts S} {old mid new : Held S} {x : A} {r : Result B Fault} (counts : Counts) (day : ℕ) (change : Change)
+    → Puts g old mid (Ok x) Always Always (HasRoom counts (taken_by change)) (with_counts (counts_with day change counts))
     → Puts g mid new r (IsThere change) (IsFree change) (IsInRange change) (rows_put change)
-    → Puts g old new r (λ t. (as_stored counts ≡ counts_of t) × IsThere change t) (IsFree change) (IsPuttable counts change) (λ t. dated day (changed change t))
+    → Puts g old new r (λ t. (counts ≡ counts_of t) × IsThere change t) (IsFree change) (IsPuttable counts change) (λ t. dated day (changed change t))
 put_changed counts day change noted rows =
-    let after = counts_with day change (as_stored counts) in
-    put_then noted rows (λ t there. there_with change after t there.1) (λ t there. dated_is day change (as_stored counts) t there.0) (λ t. free_with change after t) turned
+    let after = counts_with day change counts in
+    put_then noted rows (λ t there. there_with change after t there.1) (λ t there. dated_is day change counts t there.0) (λ t. free_with change after t) turned
 
 -- counts can be written just where there was room for them
-pub has_room : (next before : Told) (day : ℕ) (taken : Taken) → as_stored next ≡ counts_after day taken (as_stored before) → HasRoom before taken ↔ (¬ (¬ AreCountable next))
+pub has_room : (next before : Counts) (day : ℕ) (taken : Taken) → next ≡ counts_after day taken before → HasRoom before taken ↔ (¬ (¬ AreCountable next))
 has_room next before day taken is =
     let entries_are : next.entries ≡ before.entries + 1 = ap (λ (c : Counts). c.entries) is in
     let serial_is : next.serial ≡ before.serial + taken.serials = ap (λ (c : Counts). c.serial) is in

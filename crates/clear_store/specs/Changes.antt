@@ -30,8 +30,7 @@ use Rattle.clear_values.specs.declared.causes.StoreCause.TheVariants.{Constraint
 use Rattle.clear_schema.specs.Held.{HasTables}
 use Rattle.clear_schema.specs.declared.fault.Fault.{Fault}
 use Rattle.clear_schema.specs.declared.fault.Fault.TheVariants.{Store}
-use Rattle.clear_schema.specs.Values.{Counts as Stored}
-use Rattle.clear_firms.specs.declared.counts.Counts.{Counts}
+use Rattle.clear_schema.specs.declared.counts.Counts.{Counts}
 use Rattle.clear_firms.specs.Amounts.{AreInRange}
 use Rattle.clear_firms.specs.Shown.{rate_key}
 use Rattle.clear_ledger.specs.Shown.{for_firm, serial_key}
@@ -204,7 +203,7 @@ abbrev pub IsPuttable : Counts → Change → Type 0
 IsPuttable c change = IsInRange change × HasRoom c (taken_by change)
 
 -- the counts after one entry more, of this day, that took these numbers
-abbrev pub counts_after : ℕ → Taken → Stored → Stored
+abbrev pub counts_after : ℕ → Taken → Counts → Counts
 counts_after day taken c =
     record c {
       day = Some day;

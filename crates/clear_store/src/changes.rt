@@ -2,7 +2,6 @@
 ghost use Rattle.std.specs.Prelude.{◌≡◌, None, IfSome};
 ghost use Rattle.clear_values.specs.Tables.{changed, dated};
 ghost use Rattle.clear_schema.specs.Values.{counts_of, with_counts};
-ghost use Rattle.clear_firms.specs.Counts.{as_stored};
 ghost use Rattle.clear_store.specs.Changes.{HasRoom, IsFree, IsInRange, IsPuttable, IsThere, Puts};
 ghost use Rattle.clear_store.specs.Changes.{counts_after, taken_by};
 
@@ -13,8 +12,9 @@ use crate::lists::add_list;
 use crate::month_report::{add_report, put_report};
 use crate::runs::add_run;
 use crate::suspense::put_line;
-use clear_firms::counts::{Counts, put_counts};
+use clear_firms::counts::put_counts;
 use clear_money::days::Day;
+use clear_schema::counts::Counts;
 use clear_schema::fault::Fault;
 use clear_values::causes::StoreCause;
 use clear_values::rows::Change;
@@ -38,7 +38,7 @@ pub fn put_change<S: Alter>(
 ) -> Result<(), Fault>
     ensures same_reference { tx.new.conn.ghost_name ≡ tx.old.conn.ghost_name }
     ensures puts { Puts S.Store tx.old.conn.now tx.new.conn.now result
-        (λ t. (as_stored counts.now ≡ counts_of t) × IsThere change.now t) (IsFree change.now)
+        (λ t. (counts.now ≡ counts_of t) × IsThere change.now t) (IsFree change.now)
         (IsPuttable counts.now change.now) (λ t. dated day (changed change.now t)) }
 {
     let taken = taken_by(change);
@@ -133,7 +133,7 @@ fn note<S: Alter>(
     ensures same_reference { tx.new.conn.ghost_name ≡ tx.old.conn.ghost_name }
     ensures puts { Puts S.Store tx.old.conn.now tx.new.conn.now result (λ _. Unit {0})
         (λ _. Unit {0}) (HasRoom counts.now taken.now)
-        (with_counts (counts_after day taken.now (as_stored counts.now))) }
+        (with_counts (counts_after day taken.now counts.now)) }
 {
     match next_counts(counts, day, taken) {
         Some(next) => put_counts(tx, &next),
@@ -144,7 +144,7 @@ fn note<S: Alter>(
 // The counts after one entry more. None where a count would pass its bits.
 fn next_counts(counts: &Counts, day: Day, taken: &Taken) -> Option<Counts>
     ensures next { IfSome result (λ next.
-        as_stored next ≡ counts_after day taken.now (as_stored counts.now)) }
+        next ≡ counts_after day taken.now counts.now) }
     ensures none { result ≡ None → ¬ HasRoom counts.now taken.now }
 {
     let entries = counts.entries.checked_add(1)?;

@@ -9,7 +9,6 @@ ghost use Rattle.clear_book.specs.Lines.{credit_count};
 ghost use Rattle.clear_book.specs.Own.Assign.{is_full, is_suspended};
 ghost use Rattle.clear_book.specs.RowRanges.{AreInRange};
 ghost use Rattle.clear_book.specs.Tables.{Stands, Tables, bank_key};
-ghost use Rattle.clear_firms.specs.Counts.{as_stored};
 ghost use Rattle.clear_rules.specs.Views.Assign.{IsAssignView};
 ghost use Rattle.clear_schema.specs.Frame.{Leaves};
 ghost use Rattle.clear_schema.specs.Faults.{IsOfDisk};
@@ -22,11 +21,11 @@ use clear_bank::lines::Purpose;
 use clear_book::calls::Assignment;
 use clear_book::limits::MAX_CREDITS;
 use clear_book::rows::BankRow;
-use clear_firms::counts::Counts;
 use clear_ledger::bank::find_line;
 use clear_ledger::credits::credit_count;
 use clear_money::numbers::EmployerNo;
 use clear_rules::decide::assign::AssignView;
+use clear_schema::counts::Counts;
 use clear_schema::fault::Fault;
 use sqlite::{Alter, Transaction};
 
@@ -49,7 +48,7 @@ pub fn assign_view<S: Alter>(
         → IfOk result (λ view. view.line ≡ find_row bank_key t.bank assignment.now.reference) }
     ensures view { HasCleanDisk (state S.Store tx.new.conn.now)
         → (t : Tables) → HasTables t (state S.Store tx.old.conn.now).now
-        → as_stored counts.now ≡ counts_of t → (b : Book) → Stands b t
+        → counts.now ≡ counts_of t → (b : Book) → Stands b t
         → IfOk result (IsAssignView b assignment.now) }
     ensures fault { HasCleanDisk (state S.Store tx.new.conn.now)
         → (t : Tables) → HasTables t (state S.Store tx.old.conn.now).now

@@ -5,7 +5,6 @@ ghost use Rattle.sqlite.specs.State.{HasCleanDisk};
 ghost use Rattle.clear_book.specs.Book.{Book};
 ghost use Rattle.clear_book.specs.Machine.{IsLawful};
 ghost use Rattle.clear_book.specs.Tables.{Stands, Tables};
-ghost use Rattle.clear_firms.specs.Counts.{as_stored};
 ghost use Rattle.clear_rules.specs.Views.Claim.{IsClaimView};
 ghost use Rattle.clear_schema.specs.Frame.{Leaves};
 ghost use Rattle.clear_schema.specs.Faults.{IsOfDisk};
@@ -19,8 +18,8 @@ use crate::member::find_member;
 use claimed::read_claimed;
 use clear_book::calls::HolidayClaim;
 use clear_book::rules::StoreCause;
-use clear_firms::counts::Counts;
 use clear_rules::decide::claim::ClaimView;
+use clear_schema::counts::Counts;
 use clear_schema::fault::Fault;
 use earned::read_earned;
 use sqlite::{Alter, Transaction};
@@ -41,11 +40,11 @@ pub fn claim_view<S: Alter>(
     ensures same_reference { tx.new.conn.ghost_name ≡ tx.old.conn.ghost_name }
     ensures view { HasCleanDisk (state S.Store tx.new.conn.now)
         → (t : Tables) → HasTables t (state S.Store tx.old.conn.now).now
-        → as_stored counts.now ≡ counts_of t → (b : Book) → IsLawful b → Stands b t
+        → counts.now ≡ counts_of t → (b : Book) → IsLawful b → Stands b t
         → IfOk result (IsClaimView b claim.now) }
     ensures fault { HasCleanDisk (state S.Store tx.new.conn.now)
         → (t : Tables) → HasTables t (state S.Store tx.old.conn.now).now
-        → as_stored counts.now ≡ counts_of t → (b : Book) → IsLawful b → Stands b t
+        → counts.now ≡ counts_of t → (b : Book) → IsLawful b → Stands b t
         → IfErr result IsOfDisk }
     ensures leaves { Leaves S.Store tx.old.conn.now tx.new.conn.now result }
 {

@@ -7,7 +7,6 @@ ghost use Rattle.clear_book.specs.Lines.{lines_in};
 ghost use Rattle.clear_book.specs.Machine.{IsLawful};
 ghost use Rattle.clear_book.specs.RowRanges.{AreInRange};
 ghost use Rattle.clear_book.specs.Tables.{Stands, Tables};
-ghost use Rattle.clear_firms.specs.Counts.{as_stored};
 ghost use Rattle.clear_rules.specs.Views.ImportBank.{IsImportView};
 ghost use Rattle.clear_schema.specs.Frame.{Leaves};
 ghost use Rattle.clear_schema.specs.Faults.{IsOfDisk};
@@ -25,8 +24,9 @@ use clear_bank::lines::BankLine;
 use clear_book::limits::{MAX_CREDITS, MAX_SUSPENSE};
 use clear_book::numbers::SerialCount;
 use clear_book::rules::StoreCause;
-use clear_firms::counts::{Counts, find_counts};
+use clear_firms::counts::find_counts;
 use clear_rules::decide::import::ImportView;
+use clear_schema::counts::Counts;
 use clear_schema::fault::Fault;
 use each::found_each;
 use firms::view_firms;
@@ -54,12 +54,12 @@ pub fn import_view<S: Alter>(
     ensures same_reference { tx.new.conn.ghost_name ≡ tx.old.conn.ghost_name }
     ensures view { HasCleanDisk (state S.Store tx.new.conn.now)
         → (t : Tables) → HasTables t (state S.Store tx.old.conn.now).now
-        → as_stored counts.now ≡ counts_of t → (b : Book) → IsLawful b → Stands b t
+        → counts.now ≡ counts_of t → (b : Book) → IsLawful b → Stands b t
         → (file : List ℕ) → lines.now ≡ lines_in file
         → IfOk result (λ view. IsImportView b file view) }
     ensures fault { HasCleanDisk (state S.Store tx.new.conn.now)
         → (t : Tables) → HasTables t (state S.Store tx.old.conn.now).now
-        → as_stored counts.now ≡ counts_of t → AreInRange t → IfErr result IsOfDisk }
+        → counts.now ≡ counts_of t → AreInRange t → IfErr result IsOfDisk }
     ensures leaves { Leaves S.Store tx.old.conn.now tx.new.conn.now result }
 {
     let Some(serials) = SerialCount::new(counts.serial) else {

@@ -10,7 +10,6 @@ ghost use Rattle.clear_schema.specs.Frame.{Leaves};
 ghost use Rattle.clear_schema.specs.Faults.{IsOfDisk};
 ghost use Rattle.clear_schema.specs.Held.{HasTables};
 ghost use Rattle.clear_schema.specs.Values.{counts_of};
-ghost use Rattle.clear_firms.specs.Counts.{as_stored};
 ghost use Rattle.clear_rules.specs.Views.Register.{IsRegisterView};
 ghost use Rattle.clear_views.specs.Bounds.{bound_or_count};
 ghost use Rattle.clear_views.specs.Reads.{LeavesOpen};
@@ -19,9 +18,9 @@ use crate::lookups::rate_for;
 use crate::member::find_member;
 use clear_book::calls::Registration;
 use clear_book::limits::MAX_EMPLOYERS;
-use clear_firms::counts::Counts;
 use clear_firms::employers::employer_count;
 use clear_rules::decide::register::RegisterView;
+use clear_schema::counts::Counts;
 use clear_schema::fault::Fault;
 use sqlite::{Alter, Transaction};
 
@@ -38,7 +37,7 @@ pub fn register_view<S: Alter>(
     ensures same_reference { tx.new.conn.ghost_name ≡ tx.old.conn.ghost_name }
     ensures view { HasCleanDisk (state S.Store tx.new.conn.now)
         → (t : Tables) → HasTables t (state S.Store tx.old.conn.now).now
-        → as_stored counts.now ≡ counts_of t → (b : Book) → Stands b t
+        → counts.now ≡ counts_of t → (b : Book) → Stands b t
         → IfOk result (IsRegisterView b registration.now) }
     ensures fault { HasCleanDisk (state S.Store tx.new.conn.now)
         → (t : Tables) → HasTables t (state S.Store tx.old.conn.now).now

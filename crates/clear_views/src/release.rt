@@ -14,7 +14,6 @@ ghost use Rattle.clear_book.specs.Machine.{IsLawful};
 ghost use Rattle.clear_book.specs.Own.Release.{debts_of};
 ghost use Rattle.clear_book.specs.RowRanges.{AreInRange};
 ghost use Rattle.clear_book.specs.Tables.{Tables, claim_key};
-ghost use Rattle.clear_firms.specs.Counts.{as_stored};
 ghost use Rattle.clear_rules.specs.Views.Release.{AreDebts, IsReleaseView};
 ghost use Rattle.clear_schema.specs.Frame.{Leaves};
 ghost use Rattle.clear_schema.specs.Faults.{IsOfDisk};
@@ -29,7 +28,6 @@ use clear_bank::lines::Purpose;
 use clear_book::limits::MAX_CREDITS;
 use clear_book::numbers::{ClaimNo, SerialCount};
 use clear_book::rules::StoreCause;
-use clear_firms::counts::Counts;
 use clear_firms::employers::find_employer;
 use clear_firms::rates::rate_table;
 use clear_ledger::claims::find_claim;
@@ -37,6 +35,7 @@ use clear_ledger::credits::credit_count;
 use clear_money::days::Day;
 use clear_money::numbers::EmployerNo;
 use clear_rules::decide::release::{FirmDebts, OwingClaim, ReleaseView};
+use clear_schema::counts::Counts;
 use clear_schema::fault::Fault;
 use sqlite::{Alter, Transaction};
 use std::alloc::Global;
@@ -66,12 +65,12 @@ pub fn release_view<S: Alter>(
         ≡ find_row claim_key t.claims (claim ∷ [])) }
     ensures view { HasCleanDisk (state S.Store tx.new.conn.now)
         → (t : Tables) → HasTables t (state S.Store tx.old.conn.now).now
-        → as_stored counts.now ≡ counts_of t → (b : Book) → IsLawful b → StandsWeighed b t
+        → counts.now ≡ counts_of t → (b : Book) → IsLawful b → StandsWeighed b t
         → IfOk result (IsReleaseView b day claim) }
     // On a day that isn't before the ledger day, as it is judged to be before.
     ensures fault { HasCleanDisk (state S.Store tx.new.conn.now)
         → (t : Tables) → HasTables t (state S.Store tx.old.conn.now).now
-        → as_stored counts.now ≡ counts_of t → day_back t.day day ≡ None
+        → counts.now ≡ counts_of t → day_back t.day day ≡ None
         → (b : Book) → IsLawful b → StandsWeighed b t → IfErr result IsOfDisk }
     ensures leaves { Leaves S.Store tx.old.conn.now tx.new.conn.now result }
 {

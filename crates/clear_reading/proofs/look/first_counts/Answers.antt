@@ -1,5 +1,5 @@
 use Rattle.std.proofs.Common.{rules}
-use Rattle.clear_firms.specs.Counts.{counts_shown}
+use Rattle.clear_schema.specs.Values.{counts_shown}
 use Rattle.clear_firms.proofs.CountsTable.{counts_in_range}
 use Rattle.clear_reading.proofs.TellingLemmas.{tells_tables}
 use Rattle.clear_reading.proofs.look.first_counts.Goals as goal

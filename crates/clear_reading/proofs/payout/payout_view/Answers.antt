@@ -1,7 +1,7 @@
 use Rattle.std.proofs.Common.{◌≡◌, ◌+◌, ℕ, ap, arith, subst, sym}
 use Rattle.std.proofs.lemmas.Result.{IfOk-weaker}
 use Rattle.clear_laws.proofs.RowRangeLemmas.{rows_in_range}
-use Rattle.clear_schema.specs.Values.{Counts}
+use Rattle.clear_schema.specs.declared.counts.Counts.{Counts}
 use Rattle.clear_reading.specs.Payout.{AreSince}
 use Rattle.clear_reading.proofs.PayoutLemmas.{few_claims, payout_viewed, since_first_day, since_last}
 use Rattle.clear_reading.proofs.payout.payout_view.Goals as goal

@@ -1,7 +1,6 @@
 use Rattle.std.proofs.Common.{ap, refl}
 use Rattle.clear_schema.specs.Values.{with_counts}
 use Rattle.clear_schema.proofs.FrameLemmas.{writes_as}
-use Rattle.clear_firms.specs.Counts.{as_stored}
 use Rattle.clear_store.specs.Changes.{counts_after}
 use Rattle.clear_store.proofs.ChangeLemmas.{has_room}
 use Rattle.clear_store.proofs.JoinLemmas.{not_put, put_by}
@@ -11,7 +10,7 @@ use Rattle.clear_store.proofs.changes.note.Goals as goal
 pub returns-in-Some-clause-puts : goal.returns-in-Some-clause-puts
 returns-in-Some-clause-puts g c =
     let is = c.in-Some.ensures.next in
-    let after = counts_after c.args.day c.args.taken.now (as_stored c.args.counts.now) in
+    let after = counts_after c.args.day c.args.taken.now c.args.counts.now in
     put_by (writes_as g.S.Store c.args.tx.now.conn.now c.put_counts.new.tx.conn.now c.put_counts.result _ _ _ _ (λ t has. ap (λ k. with_counts k t) {y = after} is) c.put_counts.ensures.writes)
     (λ t. no_key) (has_room c.in-Some.next c.args.counts.now c.args.day c.args.taken.now is)
 

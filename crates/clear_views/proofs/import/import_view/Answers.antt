@@ -1,6 +1,6 @@
 use Rattle.std.proofs.Common.{ap, ◌∙◌}
 use Rattle.std.proofs.lemmas.Result.{IfOk-weaker}
-use Rattle.clear_schema.specs.Values.{Counts}
+use Rattle.clear_schema.specs.declared.counts.Counts.{Counts}
 use Rattle.clear_views.proofs.ImportLemmas.{view_of_read}
 use Rattle.clear_views.proofs.import.import_view.Goals as goal
 
