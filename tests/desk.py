@@ -109,6 +109,18 @@ class Forms(DeskUnderTest):
         self.assertEqual(worker["claims"], [{"claim": 1, "employer": 1001, "state": "released", "cents": "80000"}])
         self.assertEqual((worker["worker"], worker["day"], worker["balance"]), (7, DAY, "205007"))
 
+    def test_a_claim_that_is_to_be_released(self):
+        self.to_the_payout_day()
+        told = {"claim": 1, "employer": 1001, "worker": 7, "cents": 80000}
+        self.assertEqual(self.faults(409, "unconfirmed", self.command("release", False, claim="1")), {"values": told})
+        # The store goes back to a backup of before the claim.
+        self.close_office()
+        for path in self.folder.glob("fund.db*"):
+            path.unlink()
+        self.open_office(port=self.server.port)
+        told = {"claim": 1, "unknown": "–"}
+        self.assertEqual(self.faults(409, "unconfirmed", self.command("release", False, claim="1")), {"values": told})
+
     def test_suspense_and_assignment(self):
         self.does(DONE, self.register())
         note = '<img src=x onerror="alert(1)">'
@@ -209,6 +221,9 @@ class Fields(DeskUnderTest):
                 ("register", {**register, "name": " "}, "name", "name"),
                 ("register", {**register, "name": "a\nb"}, "name", "name"),
                 ("register", {**register, "name": "\ud800"}, "name", "name"),
+                ("register", {**register, "name": "Bau \u202eGbR"}, "name", "name-turned"),
+                ("register", {**register, "name": "\u2067Bau\u2069"}, "name", "name-turned"),
+                ("register", {**register, "name": "Bau\u200f"}, "name", "name-turned"),
                 ("register", {**register, "start": "2024-13"}, "start", "month"),
                 ("register", {"employer": "1001", "name": "Bau"}, "start", "missing"),
                 ("release", {"claim": "50000001"}, "claim", "claim"),
@@ -235,6 +250,35 @@ class Fields(DeskUnderTest):
         # What is to be confirmed is what the desk has read.
         self.assertEqual(carried, {"values": {"employer": 1001, "name": "Bau", "start": "2024-01"}})
         self.assertEqual(self.lines("numbers.jsonl"), [])
+
+
+class Claims(DeskUnderTest):
+    """What is told of a claim before its release is what the office says of it now."""
+
+    def answer(self, request):
+        if request.startswith(b"POST"):
+            return answer_bytes(200, {"claim": 1})
+        self.assertTrue(request.startswith(b"GET /workers/7 "), request)
+        return self.document
+
+    def told(self, claims):
+        self.document = claims
+        if isinstance(claims, str):
+            text = f"worker 7 2024-04-30\n{claims}balance           0.00\n"
+            self.document = answer_bytes(200, text.encode(), "text/plain; charset=utf-8")
+        return self.faults(409, "unconfirmed", self.command("release", False, claim="1"))["values"]
+
+    def test_a_claim_by_the_log_and_by_the_office(self):
+        self.open_desk(FakeOffice(self, self.answer).port)
+        # This desk knows nothing of it, and asks nothing.
+        self.assertEqual(self.told(None), {"claim": 1, "unknown": "–"})
+        self.does({"claim": 1}, self.command("claim", employer="1001", worker="7", amount="10,00"))
+        known = {"claim": 1, "employer": 1001, "worker": 7, "cents": 1000}
+        self.assertEqual(self.told("claim 1 employer 1001 open          10.00\n"), known)
+        for other in ("", "claim 1 employer 1002 open          10.00\n", "claim 1 employer 1001 open         500.00\n",
+                      "claim 1 employer 1001 released          10.00\n", "claim 2 employer 1001 open          10.00\n",
+                      "something new\n", None, answer_bytes(500, FAILED)):
+            self.assertEqual(self.told(other), {"claim": 1, "unknown": "–"}, other)
 
 
 class BankCheck(DeskUnderTest):
@@ -372,6 +416,21 @@ class Lost(DeskUnderTest):
         self.assertIsNone(self.session["state"]["pending"])
         self.assertFalse((self.log_folder / "pending.json").exists())
 
+    def test_a_number_that_the_page_has_rounded(self):
+        """An earlier desk took greater numbers, and its request is settled all the same."""
+        self.log_folder.mkdir(0o700)
+        pending = {"number": 123456789012345678, "time": "", "kind": "payouts", "method": "POST",
+                   "path": "/payouts", "values": {}, "body": ""}
+        (self.log_folder / "pending.json").write_text(json.dumps(pending))
+        office = FakeOffice(self, lambda request: answer_bytes(200, {"items": 1, "list": 1, "total": 5}))
+        self.open_desk(office.port)
+        for other in (123456789012345662, 123456789012345695, 0, 10 ** 4_000):
+            self.faults(409, "not-pending", self.send_again(other))
+        # What JavaScript makes of 123456789012345678, as it writes it.
+        self.assertEqual(self.send_again(123456789012345680)[1]["entry"]["number"], 123456789012345678)
+        self.assertIn(b"\r\nRequest-Number: 123456789012345678\r\n", office.requests[0])
+        self.faults(409, "numbers-full", self.command("payouts"))
+
     def test_giving_up(self):
         self.open_desk(free_port())
         self.register()
@@ -379,6 +438,51 @@ class Lost(DeskUnderTest):
         status, told = self.post("/api/pending/give-up", "give-up", {"number": 1})
         self.assertEqual((status, told["entry"]["outcome"], told["state"]["pending"]), (200, "given-up", None))
         self.assertEqual([it[:2] for it in self.logged()], [(1, "lost"), (1, "given-up")])
+
+    def send_again(self, number):
+        return self.post("/api/pending/send-again", "send-again", {"number": number})
+
+    def test_a_key_that_was_changed_after_a_lost_answer(self):
+        """The claim is done and its three answers are lost. Then the office knows a new key alone."""
+        self.open_desk(self.between((3, 4, 5)))
+        self.does(DONE, self.register())
+        self.does({"charge": 200000, "version": 1}, self.report("2024-01", "7,1000000\n"))
+        claim = {"employer": "1001", "worker": "7", "amount": "10,00"}
+        self.assertEqual(self.command("claim", **claim)[1]["entry"]["outcome"], "lost")
+        self.close_office()
+        self.write("callers.toml", "new = 0\n")
+        self.open_office(port=self.server.port)
+        # That the key isn't taken says nothing of the claim: it stays in front of all others.
+        status, told = self.send_again(3)
+        self.assertEqual((status, told["entry"]["outcome"], told["entry"]["reply"]),
+                         (503, "undecided", {"rule": 6, "name": "UnknownKey", "detail": ""}))
+        self.assertEqual(told["state"]["pending"]["number"], 3)
+        self.faults(409, "pending", self.command("claim", **claim))
+        self.kill_desk()
+        self.write("desk.key", "new\n")
+        self.open_desk(self.proxy.port)
+        self.does({"claim": 1}, self.send_again(3), "repeated")
+        self.assertEqual(self.claims(), [1])
+
+    def test_a_refusal_of_what_was_sent_before(self):
+        """Rules 1 to 8 are judged before the office looks whether it was done, and all further ones behind."""
+        answers = []
+        office = FakeOffice(self, lambda request: answers.pop(0))
+        self.open_desk(office.port)
+        for number, rule in enumerate((1, 2, 6, 7, 8, 9, 10, 33), 1):
+            refusal = {"rule": rule, "name": "Named", "detail": ""}
+            answers[:] = [None, answer_bytes(400, refusal)]
+            told = self.command("payouts")[1]
+            if rule > 8:
+                self.assertEqual((told["entry"]["outcome"], told["state"]["pending"]), ("refused", None), rule)
+                continue
+            self.assertEqual((told["entry"]["outcome"], told["entry"]["reply"]), ("undecided", refusal), rule)
+            self.assertEqual(told["state"]["pending"]["number"], number)
+            answers[:] = [answer_bytes(200, {"items": 1, "list": number, "total": 5})]
+            self.assertEqual(self.send_again(number)[1]["entry"]["outcome"], "repeated")
+        # What was never sent before is refused for good by any of them.
+        answers[:] = [answer_bytes(401, {"rule": 6, "name": "UnknownKey", "detail": ""})]
+        self.refuses(6, "UnknownKey", "", self.command("payouts"))
 
     def test_a_list_that_was_made_before(self):
         """Under a number that made a list before, the office answers with that one, and the desk tells it."""

@@ -18,8 +18,10 @@ from program_under_test import ROOT, run_tests  # noqa: E402
 
 sys.path.append(str(ROOT / "tools"))
 from desk_server import amounts, assets, documents, joined, numbers  # noqa: E402
+from desk_server.desk import UNWRITTEN  # noqa: E402
 from desk_server.faults import Fault  # noqa: E402
 from desk_server.forms import FORMS  # noqa: E402
+from desk_server.journal import SETTLED  # noqa: E402
 
 PAGE = ROOT / "tools/desk_page"
 SERVER = ROOT / "tools/desk_server"
@@ -101,13 +103,18 @@ class Words(unittest.TestCase):
         self.assertGreater(len(codes), 15)
         for code in codes - {"no-answer"}:
             self.assertIn(f"fault.{code}", WORDS["en"])
-        for reason in ("absent", "silent", "broken", "foreign"):
+        for reason in ("absent", "silent", "broken", "foreign", "stranger", "unseen"):
             self.assertIn(f"fault.no-answer.{reason}", WORDS["en"])
         fields = set(re.findall(r'number\("([a-z]+)"', source))
         fields |= set(re.findall(r'FieldFault\([a-z"]+, "([a-z-]+)"\)', source))
         self.assertGreater(len(fields), 8)
         for reason in fields | {"report_day", "due_day"}:
             self.assertIn(f"field.{reason}", WORDS["en"])
+        for outcome in SETTLED:
+            self.assertIn(f"outcome.{outcome}", WORDS["en"])
+            # Nothing is given up before the log has it.
+            if outcome != "given-up":
+                self.assertIn(f"outcome.{outcome}{UNWRITTEN}", WORDS["en"])
         for kind in (*FORMS, "bank"):
             self.assertIn(f"kind.{kind}", WORDS["en"])
             self.assertIn(f"subject.{kind}", WORDS["en"])
@@ -232,8 +239,11 @@ class Readers(unittest.TestCase):
             self.assertRaises(Fault, numbers.next_number, last, day, 1, None)
         self.assertEqual(numbers.next_number(7, day, 1, 5), 8)
         self.assertEqual(numbers.next_number(0, day, 1, 5), 5)
-        self.assertRaises(Fault, numbers.next_number, 999_999_999_999_999_999, day, 1, 5)
-        self.assertLess(numbers.next_number(0, datetime.date(9999, 12, 31), 99, None), 10 ** 18)
+        self.assertEqual(numbers.next_number(9_007_199_254_740_989, day, 1, 5), 9_007_199_254_740_990)
+        for last in (9_007_199_254_740_990, 9_007_199_254_740_991, 999_999_999_999_999_999):
+            for first in (5, None):
+                self.assertRaises(Fault, numbers.next_number, last, day, 1, first)
+        self.assertLess(numbers.next_number(0, datetime.date(9999, 12, 31), 99, None), 2 ** 53 - 1)
 
     def test_statements(self):
         """The parts that the manual's story has not: set-offs, payments of interest, an end, amounts

@@ -6,7 +6,9 @@ folder.
 PROGRAM is crates/clear_app/out/clear_app where it isn't given, as `rt ci` leaves it.
 """
 
+import contextlib
 import datetime
+import errno
 import json
 import os
 import resource
@@ -14,6 +16,8 @@ import signal
 import socket
 import sys
 import unittest
+from pathlib import Path
+from unittest import mock
 
 # No __pycache__ is left beside the sources.
 sys.dont_write_bytecode = True
@@ -23,6 +27,9 @@ from program_under_test import NOBODY, ROOT, run_tests  # noqa: E402
 
 sys.path.append(str(ROOT / "tools"))
 from desk_server import owners  # noqa: E402
+from desk_server.commands import command  # noqa: E402
+from desk_server.journal import Journal, Lines  # noqa: E402
+from desk_server.office import NoAnswer, Office  # noqa: E402
 
 WORDS = ["--office", "8080", "--key-file", "desk.key", "--port", "0"]
 
@@ -40,7 +47,7 @@ class CommandLine(DeskUnderTest):
         code, output, errors = self.run_desk("--help")
         self.assertEqual((code, errors), (0, ""))
         for word in ("--office", "--key-file", "--port", "--log", "--clearing", "--rates", "--desk",
-                     "--first-number"):
+                     "--first-number", "9007199254740990", "--office-user"):
             self.assertIn(word, output)
 
     def test_wrong_words(self):
@@ -48,6 +55,12 @@ class CommandLine(DeskUnderTest):
                       [*WORDS, "--desk", "0"], [*WORDS, "--desk", "100"], [*WORDS, "--first-number", "01"],
                       [*WORDS, "--first-number", "1" * 19], [*WORDS, "more"]):
             self.refuses_to_start("usage: desk ", *words)
+        told = "no-such-user is no user of this machine\n"
+        self.refuses_to_start(told, *WORDS, "--office-user", "no-such-user")
+        # From 2^53 on a page knows no whole number from the next one.
+        for number in (2 ** 53 - 1, 2 ** 53 + 1, 10 ** 17 + 1):
+            told = f"{number} isn't from 1 to 9007199254740990\n"
+            self.refuses_to_start(told, *WORDS, "--first-number", str(number))
 
     def test_wrong_files(self):
         good = ["--office", "8080", "--port", "0", "--key-file"]
@@ -197,19 +210,75 @@ class Safety(DeskUnderTest):
 
     @unittest.skipUnless(NOBODY, "only root can be another user")
     def test_another_user_of_the_machine(self):
+        """No page at all, whatever is asked for."""
         host = f" HTTP/1.1\r\nHost: 127.0.0.1:{self.port}\r\nOrigin: {self.own}\r\n\r\n".encode()
-        for request in (b"GET /api/session", b"GET /api/suspense/0", b"GET /documents/suspense.txt",
+        for request in (b"GET /", b"GET /desk.js", b"GET /api/session", b"GET /documents/suspense.txt",
                         b"POST /api/commands/payouts"):
-            os.seteuid(NOBODY)
-            try:
-                peer = socket.create_connection(("127.0.0.1", self.port), timeout=30)
-            finally:
-                os.seteuid(0)
-            with peer:
+            with self.connect_as_another() as peer, contextlib.suppress(ConnectionError):
                 peer.sendall(request + host)
-                answer = read_message(peer)
-            self.assertTrue(answer.startswith(b"HTTP/1.1 403 "), answer)
-            self.assertTrue(answer.endswith(b'\r\n\r\n{"fault": "user", "carried": {}}'), answer)
+                self.assertEqual(read_message(peer), b"")
+
+    @unittest.skipUnless(NOBODY, "only root can be another user")
+    def test_another_user_who_holds_connections(self):
+        """They take none of the desk's 32 places."""
+        held = [self.connect_as_another() for _ in range(40)]
+        for peer in held:
+            self.addCleanup(peer.close)
+            with contextlib.suppress(OSError):
+                peer.sendall(b"G")
+        with socket.create_connection(("127.0.0.1", self.port), timeout=10) as own:
+            own.sendall(f"GET /api/session HTTP/1.1\r\nHost: 127.0.0.1:{self.port}\r\n\r\n".encode())
+            self.assertTrue(read_message(own).startswith(b"HTTP/1.1 200 "))
+
+    def connect_as_another(self):
+        with as_another():
+            return socket.create_connection(("127.0.0.1", self.port), timeout=30)
+
+
+@contextlib.contextmanager
+def as_another(user=NOBODY):
+    """As another user of this machine, whose are the sockets that are made here."""
+    os.seteuid(user)
+    try:
+        yield
+    finally:
+        os.seteuid(0)
+
+
+class OfficesPort(DeskUnderTest):
+    """The key goes to the office alone, whoever else listens on its port."""
+
+    @unittest.skipUnless(NOBODY, "only root can be another user")
+    def test_another_user_on_the_offices_port(self):
+        with as_another(NOBODY - 1):
+            stranger = FakeOffice(self, lambda request: answer_bytes(200, DONE))
+        self.open_desk(stranger.port)
+        told = {"reason": "stranger", "port": stranger.port}
+        self.assertEqual(self.faults(502, "no-answer", self.get("/api/suspense/0")), told)
+        status, members = self.register()
+        self.assertEqual((status, members["entry"]["outcome"], members["entry"]["reply"]), (502, "lost", told))
+        self.assertEqual(members["state"]["pending"]["number"], 1)
+        # What was taken is two connections and not a byte of them.
+        self.assertEqual(stranger.requests, [b"", b""])
+        stranger.end()
+        self.open_office(port=stranger.port)
+        self.does(DONE, self.post("/api/pending/send-again", "send-again", {"number": 1}), "repeated")
+
+    @unittest.skipUnless(NOBODY, "only root can be another user")
+    def test_an_office_of_a_user_of_its_own(self):
+        with as_another():
+            office = FakeOffice(self, lambda request: answer_bytes(200, DONE))
+        # As the tests start a desk, it is told of that user.
+        self.open_desk(office.port)
+        self.does(DONE, self.register())
+
+    def test_a_listener_that_the_kernel_does_not_tell(self):
+        office = FakeOffice(self, lambda request: answer_bytes(200, DONE))
+        with mock.patch.object(owners, "listener", return_value=None):
+            with self.assertRaises(NoAnswer) as told:
+                Office(office.port, "desk").document("/suspense")
+        self.assertEqual(told.exception.reason, "unseen")
+        self.wait_for(lambda: office.requests == [b""])
 
 
 class Owners(unittest.TestCase):
@@ -241,11 +310,8 @@ class Owners(unittest.TestCase):
 
     @unittest.skipUnless(NOBODY, "only root can be another user")
     def test_a_connection_of_another_user(self):
-        os.seteuid(NOBODY)
-        try:
+        with as_another():
             _, peer, here = self.connect()
-        finally:
-            os.seteuid(0)
         self.assertEqual(self.owners(peer, here), NOBODY)
         self.assertFalse(owners.is_own(peer, here))
 
@@ -257,6 +323,46 @@ class Owners(unittest.TestCase):
         for one, two in ((peer, here), (here, peer), (peer, nobody), (here, nobody)):
             self.assertIsNone(self.owners(one, two))
             self.assertFalse(owners.is_own(one, two))
+
+    def listeners(self, address):
+        """By the kernel's answer where it answers, and by the list."""
+        listed = owners.listed_listener(address)
+        self.assertEqual(owners.listener(address), listed)
+        return listed
+
+    def test_who_listens(self):
+        address = self.listener.getsockname()
+        self.assertEqual(self.listeners(address), os.geteuid())
+        # Connections of the port change nothing, nor that who listens does so for all addresses.
+        self.connect()
+        self.assertEqual(self.listeners(address), os.geteuid())
+        with socket.create_server(("0.0.0.0", 0)) as everywhere:
+            self.assertEqual(self.listeners(("127.0.0.1", everywhere.getsockname()[1])), os.geteuid())
+        self.listener.close()
+        self.assertIsNone(self.listeners(address))
+
+    @unittest.skipUnless(NOBODY, "only root can be another user")
+    def test_another_user_who_listens(self):
+        for host in ("127.0.0.1", "0.0.0.0"):
+            with as_another():
+                other = socket.create_server((host, 0))
+            with other:
+                self.assertEqual(self.listeners(("127.0.0.1", other.getsockname()[1])), NOBODY)
+
+    @unittest.skipUnless(NOBODY and socket.has_dualstack_ipv6(), "only root can be another user")
+    def test_another_user_who_listens_by_both_protocols(self):
+        with as_another():
+            other = socket.create_server(("::", 0), family=socket.AF_INET6, dualstack_ipv6=True)
+        with other:
+            self.assertIn(owners.listener(("127.0.0.1", other.getsockname()[1])), (None, NOBODY))
+
+    def test_no_list_is_made_where_the_kernel_answers(self):
+        other, peer, here = self.connect()
+        other.close()
+        if not owners.is_asked():
+            self.skipTest("the kernel answers no questions here")
+        with mock.patch.object(owners, "listed_owner", side_effect=AssertionError):
+            self.assertFalse(owners.is_own(peer, here))
 
 
 class Numbers(DeskUnderTest):
@@ -291,6 +397,17 @@ class Numbers(DeskUnderTest):
         self.open_desk(office.port, "--desk", "6", first=None)
         self.faults(409, "numbers-end", self.register())
 
+    def test_the_last_number_of_all(self):
+        office = FakeOffice(self, lambda request: answer_bytes(200, DONE))
+        self.open_desk(office.port, first="9007199254740990")
+        self.assertEqual(self.register()[1]["entry"]["number"], 9_007_199_254_740_990)
+        self.faults(409, "numbers-full", self.register())
+        self.kill_desk()
+        # So it is where they begin anew by date, desk and count.
+        self.open_desk(office.port, first=None)
+        self.faults(409, "numbers-full", self.register())
+        self.assertEqual(len(office.requests), 1)
+
     def test_two_desks_on_one_folder(self):
         self.open_desk(free_port())
         code, output, errors = self.run_desk(*WORDS)
@@ -306,6 +423,60 @@ class Numbers(DeskUnderTest):
         self.open_desk(office.port, preexec_fn=so_small)
         self.faults(500, "journal", self.register())
         self.assertEqual((office.requests, (self.log_folder / "numbers.jsonl").read_bytes()), ([], b""))
+
+    def fill_the_log(self):
+        """A desk with a long log, whose files don't get longer than that from now on."""
+        line = {"time": "2024-01-01T08:00:00+01:00", "number": 1, "outcome": "refused", "kind": "claim",
+                "words": "x" * 4_000, "values": {"employer": 1, "worker": 1, "cents": 1}, "reply": {}}
+        self.log_folder.mkdir(0o700)
+        (self.log_folder / "log.jsonl").write_text(json.dumps(line) + "\n")
+        self.open_desk(FakeOffice(self, lambda request: self.answers.pop(0)).port, first="2")
+        self.limit_files(len(json.dumps(line)) + 1)
+
+    def limit_files(self, size):
+        resource.prlimit(self.desk.pid, resource.RLIMIT_FSIZE, (size, resource.RLIM_INFINITY))
+
+    def test_a_log_that_takes_no_more(self):
+        """The request was sent and done, and so it is told. Nothing further is sent before the log has it."""
+        self.answers = [answer_bytes(200, {"claim": 1}), answer_bytes(200, {"claim": 2})]
+        self.fill_the_log()
+        claim = {"employer": "1001", "worker": "7", "amount": "10,00"}
+        told = self.does({"claim": 1}, self.command("claim", **claim), "done-unwritten")
+        self.assertEqual((told["entry"]["number"], told["state"]["pending"]), (2, None))
+        self.assertFalse((self.log_folder / "pending.json").exists())
+        # The page's log has it, as it is in no file.
+        self.assertEqual(self.get("/api/log")[1]["log"][-1]["outcome"], "done")
+        self.assertEqual(self.faults(500, "journal", self.command("claim", **claim)), {"why": "File too large"})
+        self.assertEqual([it["number"] for it in self.lines("numbers.jsonl")], [2])
+        self.limit_files(resource.RLIM_INFINITY)
+        self.does({"claim": 2}, self.command("claim", **claim))
+        self.assertEqual([it[:2] for it in self.logged()[1:]], [(2, "done"), (3, "done")])
+
+    def test_a_log_that_takes_no_more_and_no_answer(self):
+        """The request stays; it isn't dropped where that can't be written down."""
+        self.answers = [None, None, None, answer_bytes(409, {"rule": 29, "name": "NothingToPay", "detail": ""})]
+        self.fill_the_log()
+        status, told = self.command("payouts")
+        self.assertEqual((status, told["entry"]["outcome"], told["state"]["pending"]["number"]), (502, "lost", 2))
+        dropped = self.post("/api/pending/give-up", "give-up", {"number": 2})
+        self.assertEqual(self.faults(500, "not-dropped", dropped), {"why": "File too large"})
+        self.assertEqual(dropped[1]["state"]["pending"]["number"], 2)
+        status, told = self.post("/api/pending/send-again", "send-again", {"number": 2})
+        self.assertEqual((status, told["entry"]["outcome"], told["entry"]["reply"]["rule"], told["state"]["pending"]),
+                         (409, "refused-unwritten", 29, None))
+
+    def test_a_folder_that_takes_nothing_any_more(self):
+        """Neither can the answer be written nor the request be dropped: it stays, to be sent again."""
+        journal = Journal(self.log_folder, 1, 2)
+        numbered = journal.take(command("payouts", "/payouts", None, {}))
+        full = OSError(errno.EROFS, "Read-only file system")
+        reply = {"items": 1, "list": 1, "total": 5}
+        with mock.patch.object(Lines, "append", side_effect=full), mock.patch.object(Path, "unlink", side_effect=full):
+            self.assertEqual(journal.note(numbered, "done", reply)[1], False)
+        self.assertEqual(journal.pending, numbered)
+        self.assertEqual(journal.note(numbered, "repeated", reply)[1], True)
+        self.assertIsNone(journal.pending)
+        self.assertEqual([it[:2] for it in self.logged()], [(2, "done"), (2, "repeated")])
 
     def test_who_may_read_the_folder(self):
         self.open_desk(FakeOffice(self, lambda request: answer_bytes(200, DONE)).port)

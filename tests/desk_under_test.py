@@ -4,6 +4,7 @@ talked to."""
 import contextlib
 import http.client
 import json
+import pwd
 import re
 import socket
 import subprocess
@@ -11,8 +12,10 @@ import sys
 import threading
 import time
 
-from program_under_test import DAY, ROOT, ProgramUnderTest
+from program_under_test import DAY, NOBODY, ROOT, ProgramUnderTest
 
+# Root's tests start the office as another user.
+OFFICE_USER = ["--office-user", pwd.getpwuid(NOBODY).pw_name] if NOBODY else []
 DESK = ROOT / "tools/desk"
 READY = re.compile(r"desk on http://127\.0\.0\.1:([0-9]+)/, office on 127\.0\.0\.1:[0-9]+\n")
 LENGTH = re.compile(rb"\r\nContent-Length: ([0-9]+)")
@@ -43,11 +46,10 @@ def length_of(head):
 
 
 class FakeOffice:
-    """Takes requests on a port of its own, and answers each as `answer` says: bytes, or None to end the
-    connection."""
+    """Takes requests on a port, and answers each as `answer` says: bytes, or None to end the connection."""
 
-    def __init__(self, test, answer):
-        self.listener = socket.create_server(("127.0.0.1", 0))
+    def __init__(self, test, answer, port=0):
+        self.listener = socket.create_server(("127.0.0.1", port))
         self.port = self.listener.getsockname()[1]
         self.requests = []
         self.answer = answer
@@ -121,7 +123,7 @@ class DeskUnderTest(ProgramUnderTest):
         self.session = self.get("/api/session")[1]
 
     def start_desk(self, office, *further, key="desk.key", first="1", **options):
-        words = ["--office", str(office), "--key-file", key, "--port", "0", *further]
+        words = ["--office", str(office), "--key-file", key, "--port", "0", *OFFICE_USER, *further]
         words += ["--first-number", first] if first else []
         desk = subprocess.Popen([sys.executable, "-B", str(DESK), *words], cwd=self.folder, stdin=subprocess.DEVNULL,
                                 stdout=subprocess.PIPE, stderr=subprocess.PIPE, text=True, **options)

@@ -20,6 +20,8 @@ YEAR_FIRST = re.compile(r"(2[01][0-9]{2})-(0[1-9]|1[0-2])")
 MONTH_FIRST = re.compile(r"(0?[1-9]|1[0-2])[./](2[01][0-9]{2})")
 REFERENCE = re.compile(r"[!-~]{1,35}")
 CONTROL = re.compile(r"[\x00-\x1f\x7f]")
+# Marks, embeddings, overrides and isolates: what stands behind one may be shown in another order than it has.
+TURNING = re.compile("[\u061c\u200e\u200f\u202a-\u202e\u2066-\u2069]")
 
 
 def read_cents(text: str, language: str) -> int | None:
@@ -85,6 +87,8 @@ def name(field: str, text: str) -> str:
         raise FieldFault(field, "name") from None
     if not 1 <= size <= NAME_BYTES or CONTROL.search(text):
         raise FieldFault(field, "name")
+    if TURNING.search(text):
+        raise FieldFault(field, "name-turned")
     return text
 
 

@@ -2,6 +2,7 @@
 
 import argparse
 import os
+import pwd
 import re
 import signal
 import sys
@@ -41,15 +42,25 @@ def desk_number(word: str) -> int:
 
 
 def request_number(word: str) -> int:
-    if not re.fullmatch("[1-9][0-9]{0,17}", word):
+    if not re.fullmatch("[1-9][0-9]{0,17}", word) or int(word) > LAST_NUMBER:
         raise argparse.ArgumentTypeError(f"{word} isn't from 1 to {LAST_NUMBER}")
     return int(word)
+
+
+def user(word: str) -> int:
+    try:
+        return pwd.getpwnam(word).pw_uid
+    except (KeyError, ValueError):
+        raise argparse.ArgumentTypeError(f"{word} is no user of this machine") from None
 
 
 def parser() -> argparse.ArgumentParser:
     made = argparse.ArgumentParser(prog="desk", description=DESCRIPTION, epilog=STATUSES)
     made.add_argument("--office", type=port, required=True, metavar="PORT",
                       help="the port on which the office is served")
+    made.add_argument("--office-user", type=user, metavar="NAME",
+                      help="the user who serves the office, where that is neither the desk's user nor root; "
+                           "another user's program on that port gets neither key nor request")
     made.add_argument("--key-file", type=Path, required=True, metavar="FILE",
                       help="a file of a clerk's key alone")
     made.add_argument("--port", type=port, required=True, help="the port of the page; 0 takes a free one")
@@ -62,7 +73,8 @@ def parser() -> argparse.ArgumentParser:
     made.add_argument("--desk", type=desk_number, default=1, metavar="N",
                       help="the number of this desk, 1 to 99, another one for each desk of the fund (1)")
     made.add_argument("--first-number", type=request_number, metavar="NUMBER",
-                      help="where the request numbers begin, in the place of date, desk and count")
+                      help="where the request numbers begin, in the place of date, desk and count; "
+                           f"{LAST_NUMBER} is the most")
     return made
 
 
@@ -88,7 +100,8 @@ def make_server(words: argparse.Namespace) -> Server:
     if journal.pending is not None:
         told = f"request {journal.pending.number} ({journal.pending.command.words})"
         print(f"{told} has no answer yet: the page offers it", file=sys.stderr)
-    server.routes = Routes(Desk(Office(words.office, key), journal, rates, program), Tokens(), settings)
+    office = Office(words.office, key, words.office_user)
+    server.routes = Routes(Desk(office, journal, rates, program), Tokens(), settings)
     return server
 
 

@@ -8,18 +8,22 @@ from pathlib import Path
 from typing import Any, Iterator
 
 from .commands import FINAL, REPLIES, Command, Numbered
+from .documents import NotUnderstood, read_worker
 from .faults import Fault
-from .journal import Journal
-from .office import Answer, NoAnswer, Office
+from .journal import Journal, is_settled
+from .numbers import is_meant
+from .office import UNSENT, Answer, NoAnswer, Office
 from .rates import RateRow, contribution_of, rate_in_force
 from .recent import Recent
 
 # In seconds: the pauses in front of each attempt to send a request.
 PAUSES = (0, 0.2, 1)
 # An attempt that ended so isn't made again by itself: the next one would take as long, or fare no better.
-NO_USE = ("silent", "foreign")
+NO_USE = ("silent", "foreign", "stranger", "unseen")
 # How long a command waits for the one before it.
 TURN_SECONDS = 90
+# What the page is told behind an outcome that isn't in the log.
+UNWRITTEN = "-unwritten"
 
 
 class Refused(Exception):
@@ -79,14 +83,35 @@ class Desk:
                 raise Fault("stopped", 409)
             if self.journal.pending is not None:
                 raise Fault("pending", 409)
-            return self.send(self.journal.take(command), is_repeat=False)
+            return self.send(self.take(command), is_repeat=False)
+
+    def take(self, command: Command) -> Numbered:
+        """The command under its number. What can't be written down is told and not sent."""
+        try:
+            return self.journal.take(command)
+        except OSError as why:
+            raise Fault("journal", 500, why=why.strerror or "") from why
 
     def facts(self, command: Command) -> dict[str, Any]:
-        """What the page tells before the second click: the values as they were read, and what is known of
-        a claim."""
-        claim = self.journal.history.claims.get(command.values.get("claim", 0), {})
-        known = {name: claim[name] for name in ("employer", "worker", "cents") if name in claim}
-        return {**command.values, **known}
+        """What the page tells before the second click: the values as they were read; of a claim that is to be
+        released what this desk's log knows, where the office says the same."""
+        if command.kind != "release":
+            return command.values
+        claim = self.journal.history.claims.get(command.values["claim"])
+        if claim is None or not self.stands(claim):
+            return {**command.values, "unknown": "–"}
+        return {**command.values, **{name: claim[name] for name in ("employer", "worker", "cents")}}
+
+    def stands(self, claim: dict[str, Any]) -> bool:
+        """Whether the office has a claim as the log has it: under its number it has another one where its
+        store went back to a backup of before."""
+        try:
+            claims = read_worker(self.query(f"/workers/{claim['worker']}"))["claims"]
+        except (Fault, Refused, NotUnderstood):
+            return False
+        known = {"claim": claim["claim"], "employer": claim["employer"], "state": claim["state"],
+                 "cents": str(claim["cents"])}
+        return known in claims
 
     def send_again(self, number: int) -> dict[str, Any]:
         """Sends the request that has no answer again, with the same bytes under the same number."""
@@ -96,23 +121,26 @@ class Desk:
     def give_up(self, number: int) -> dict[str, Any]:
         """Drops the request that has no answer. It may have been done."""
         with self.turn():
-            return self.told(self.journal.note(self.pending(number), "given-up", {}))
+            pending = self.pending(number)
+            try:
+                entry = self.journal.give_up(pending)
+            except OSError as why:
+                raise Fault("not-dropped", 500, why=why.strerror or "") from why
+            return self.told(entry)
 
     def pending(self, number: int) -> Numbered:
         pending = self.journal.pending
-        if pending is None or pending.number != number:
+        if pending is None or not is_meant(number, pending.number):
             raise Fault("not-pending", 409)
         return pending
 
     @contextlib.contextmanager
     def turn(self) -> Iterator[None]:
-        """One command after another; what can't be written down is told and not sent."""
+        """One command after another."""
         if not self.turns.acquire(timeout=TURN_SECONDS):
             raise Fault("busy", 503)
         try:
             yield
-        except OSError as why:
-            raise Fault("journal", 500, why=why.strerror or "") from why
         finally:
             self.turns.release()
 
@@ -126,21 +154,29 @@ class Desk:
                 return self.settle(numbered, answer, is_repeat)
             except NoAnswer as why:
                 reason = why.reason
-            # Where nobody took the connection, nothing was sent.
-            is_repeat = is_repeat or reason != "absent"
+            is_repeat = is_repeat or reason not in UNSENT
             if reason in NO_USE:
                 break
-        return self.told(self.journal.note(numbered, "lost", {"reason": reason, "port": self.office.port}))
+        return self.noted(numbered, "lost", {"reason": reason, "port": self.office.port})
 
     def settle(self, numbered: Numbered, answer: Answer, is_repeat: bool) -> dict[str, Any]:
         self.notice(answer)
-        if answer.is_undecided:
+        if answer.is_undecided or (is_repeat and answer.says_nothing_of_before):
             outcome = "undecided"
         elif answer.is_refused:
             outcome = "refused"
         else:
             outcome = "repeated" if is_repeat else "done"
-        return self.told(self.journal.note(numbered, outcome, answer.members))
+        return self.noted(numbered, outcome, answer.members)
+
+    def noted(self, numbered: Numbered, outcome: str, reply: dict[str, Any]) -> dict[str, Any]:
+        """Logs what became of a request; what the page is told, also of an entry that the disk didn't take.
+        A request that stays is told as such in any case."""
+        entry, is_written = self.journal.note(numbered, outcome, reply)
+        told = self.told(entry)
+        if not is_written and is_settled(entry):
+            told["entry"] = {**entry, "outcome": f"{outcome}{UNWRITTEN}"}
+        return told
 
     def told(self, entry: dict[str, Any]) -> dict[str, Any]:
         """What the page is told of an entry of the log, with the state in which the desk is then."""

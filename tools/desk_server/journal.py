@@ -3,8 +3,12 @@
 `numbers.jsonl` and `pending.json` are written to the disk before a request is sent, `log.jsonl` once it
 has an answer, and `pending.json` goes last. So after a crash at any moment either nothing was sent, or
 what was sent stands in `pending.json` and is sent again under its number.
+
+Where the disk takes no more of `log.jsonl`, the answer holds all the same: it is told, the entry waits in
+front of the next number, and no further request is sent before it is written.
 """
 
+import contextlib
 import datetime
 import fcntl
 import json
@@ -107,6 +111,8 @@ class Journal:
         taken = self.numbers.read()
         self.last = max((entry["number"] for entry in taken), default=0)
         self.history = History()
+        # Entries that the disk didn't take.
+        self.unwritten: list[dict[str, Any]] = []
         self.pending = self.read_pending(self.read_log())
 
     def read_log(self) -> set[int]:
@@ -143,8 +149,9 @@ class Journal:
         return next_number(self.last, now().date(), self.desk, self.first)
 
     def take(self, command: Command) -> Numbered:
-        """Gives the command the next number, and writes both down. OSError if that fails: then it isn't
-        to be sent."""
+        """Gives the command the next number, and writes both down. OSError if that fails, or if an entry
+        still can't be written: then it isn't to be sent."""
+        self.write_log()
         numbered = Numbered(self.next_number(), time_text(), command)
         self.numbers.append(numbered.entry())
         self.last = numbered.number
@@ -158,17 +165,49 @@ class Journal:
         sync_folder(self.folder)
         return numbered
 
-    def note(self, numbered: Numbered, outcome: str, reply: dict[str, Any]) -> dict[str, Any]:
-        """Logs what became of a request, and drops it where that settles it. The entry."""
-        told = numbered.command
-        entry = {"time": time_text(), "number": numbered.number, "outcome": outcome, "kind": told.kind,
-                 "words": told.words, "values": told.values, "reply": reply}
+    def note(self, numbered: Numbered, outcome: str, reply: dict[str, Any]) -> tuple[dict[str, Any], bool]:
+        """Logs what became of a request, and drops it where that settles it. The entry, and whether the
+        disk took it."""
+        entry = entry_of(numbered, outcome, reply)
+        self.history.add(entry)
+        self.unwritten.append(entry)
+        with contextlib.suppress(OSError):
+            self.write_log()
+        is_written = not self.unwritten
+        if is_settled(entry):
+            self.drop_pending(is_written)
+        return entry, is_written
+
+    def give_up(self, numbered: Numbered) -> dict[str, Any]:
+        """Logs that a request is given up, and drops it. The entry; OSError where the disk doesn't take it,
+        and the request stays."""
+        self.write_log()
+        entry = entry_of(numbered, "given-up", {})
         self.log.append(entry)
         self.history.add(entry)
-        if is_settled(entry):
-            self.pending = None
-            self.pending_path.unlink(missing_ok=True)
+        self.drop_pending(is_written=True)
         return entry
+
+    def write_log(self) -> None:
+        while self.unwritten:
+            self.log.append(self.unwritten[0])
+            del self.unwritten[0]
+
+    def drop_pending(self, is_written: bool) -> None:
+        """A request that neither has its entry nor can be dropped stays, and is sent again under its
+        number."""
+        try:
+            self.pending_path.unlink(missing_ok=True)
+        except OSError:
+            if not is_written:
+                return
+        self.pending = None
+
+
+def entry_of(numbered: Numbered, outcome: str, reply: dict[str, Any]) -> dict[str, Any]:
+    told = numbered.command
+    return {"time": time_text(), "number": numbered.number, "outcome": outcome, "kind": told.kind,
+            "words": told.words, "values": told.values, "reply": reply}
 
 
 def is_settled(entry: dict[str, Any]) -> bool:

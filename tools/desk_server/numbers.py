@@ -9,7 +9,9 @@ import datetime
 
 from .faults import Fault
 
-LAST_NUMBER = 999_999_999_999_999_999
+# The office takes greater ones, but a page reads a number as a float, and from 2^53 on it may send another
+# one back.
+LAST_NUMBER = 9_007_199_254_740_990
 COUNTS = 100_000
 DESKS = 100
 
@@ -21,11 +23,10 @@ def first_of_day(day: datetime.date, desk: int) -> int:
 def next_number(last: int, day: datetime.date, desk: int, first: int | None) -> int:
     """The next number above the last one that was used (0 before the first). `first` is where the clerk
     lets them begin, in the place of date, desk and count."""
+    if last >= LAST_NUMBER:
+        raise Fault("numbers-full", 409)
     if first is not None:
-        number = max(first, last + 1)
-        if number > LAST_NUMBER:
-            raise Fault("numbers-end", 409)
-        return number
+        return max(first, last + 1)
     begin = first_of_day(day, desk)
     if last < begin:
         return begin
@@ -33,3 +34,9 @@ def next_number(last: int, day: datetime.date, desk: int, first: int | None) -> 
         # The next one would be another desk's.
         raise Fault("numbers-end", 409)
     return last + 1
+
+
+def is_meant(told: int, number: int) -> bool:
+    """Whether a page that tells this number means that one, which it has rounded where an earlier desk took
+    it above the last one of today."""
+    return told == number or (LAST_NUMBER < number < 2 * told < 4 * number and float(told) == float(number))

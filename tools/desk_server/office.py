@@ -2,8 +2,11 @@
 
 import http.client
 import json
+import os
 from dataclasses import dataclass
 from typing import Any
+
+from . import owners
 
 HOST = "127.0.0.1"
 CONNECT_SECONDS = 5
@@ -13,12 +16,20 @@ MOST_ANSWER = 64 * 1_048_576
 MOST_BODY = 1_048_576
 # The rules by which nothing is decided yet: no memory, and records that couldn't be read or written.
 MEMORY, STORE, FAILED = 40, 41, 42
+# The rules up to this one are judged before the office looks whether the request was done already
+# (docs/http.md, docs/rules.md): its head, its path, its key, its body, and whose the key is.
+LAST_BEFORE_REPEATS = 8
+
+
+# The reasons for which nothing was sent.
+UNSENT = ("absent", "stranger", "unseen")
+ROOT = 0
 
 
 class NoAnswer(Exception):
-    """Nothing came that an office says. The reason is `absent` (nobody takes the connection), `silent`
-    (no answer in time), `broken` (the connection ended before) or `foreign` (what answers is no
-    office)."""
+    """Nothing came that an office says. The reason is `absent` (nobody takes the connection), `stranger`
+    (another user's program takes it), `unseen` (the kernel doesn't say whose takes it), `silent` (no answer
+    in time), `broken` (the connection ended before) or `foreign` (what answers is no office)."""
 
     def __init__(self, reason: str):
         super().__init__(reason)
@@ -47,11 +58,19 @@ class Answer:
         """Whether the request is to be sent again under its number."""
         return self.rule in (MEMORY, STORE, FAILED)
 
+    @property
+    def says_nothing_of_before(self) -> bool:
+        """Whether the request may have been done by an earlier attempt all the same."""
+        return self.is_undecided or 0 < self.rule <= LAST_BEFORE_REPEATS
+
 
 class Office:
-    def __init__(self, port: int, key: str, seconds: float = ANSWER_SECONDS):
+    """The office on a port of this machine, which this user, root or a further one has started."""
+
+    def __init__(self, port: int, key: str, user: int | None = None, seconds: float = ANSWER_SECONDS):
         self.port = port
         self.seconds = seconds
+        self.users = (os.getuid(), ROOT, user)
         self._key = key
 
     def document(self, path: str) -> Answer:
@@ -75,6 +94,7 @@ class Office:
         connection = http.client.HTTPConnection(HOST, self.port, timeout=CONNECT_SECONDS)
         try:
             connection.connect()
+            self.check_listener()
             connection.sock.settimeout(self.seconds)
             connection.request(method, path, body if method != "GET" else None, fields)
             response = connection.getresponse()
@@ -87,6 +107,16 @@ class Office:
             raise NoAnswer("broken") from None
         finally:
             connection.close()
+
+    def check_listener(self) -> None:
+        """Keeps key and request from whoever else listens on the port, as while the office is stopped."""
+        if not owners.are_told():
+            return
+        owner = owners.listener((HOST, self.port))
+        if owner is None:
+            raise NoAnswer("unseen")
+        if owner not in self.users:
+            raise NoAnswer("stranger")
 
 
 def read_body(response: http.client.HTTPResponse) -> bytes:

@@ -1,10 +1,12 @@
-"""Whose program holds the other end of a connection of this machine, as the kernel tells.
+"""Whose program holds the other end of a connection of this machine, or listens on a port, as the kernel
+tells.
 
-Linux tells it of one connection, by its two addresses, to whoever asks over a netlink socket (`man 7
-sock_diag`). Where it doesn't, it lists all connections in /proc/net/tcp; to make that list takes it
+Linux tells it of one of them, by its two addresses, to whoever asks over a netlink socket (`man 7
+sock_diag`). Where it doesn't, it lists all of them in /proc/net/tcp; to make that list takes it
 milliseconds.
 """
 
+import functools
 import os
 import socket
 import struct
@@ -13,7 +15,9 @@ from pathlib import Path
 Address = tuple[str, int]
 
 CONNECTIONS = Path("/proc/net/tcp")
-ESTABLISHED = 1
+ESTABLISHED, LISTENING = 1, 10
+# The other end of a socket that is listened on.
+NO_END = ("0.0.0.0", 0)
 
 NETLINK_SOCK_DIAG = 4
 SOCK_DIAG_BY_FAMILY = 20
@@ -37,18 +41,18 @@ def ends(one: Address, other: Address) -> bytes:
     return PORTS.pack(one[1], other[1]) + addresses
 
 
-def question(connection: bytes) -> bytes:
-    body = QUESTION.pack(socket.AF_INET, socket.IPPROTO_TCP, 0, 1 << ESTABLISHED) + connection + ANY
+def question(connection: bytes, state: int) -> bytes:
+    body = QUESTION.pack(socket.AF_INET, socket.IPPROTO_TCP, 0, 1 << state) + connection + ANY
     return HEAD.pack(HEAD.size + len(body), SOCK_DIAG_BY_FAMILY, NLM_F_REQUEST, 1, 0) + body
 
 
-def asked_owner(peer: Address, here: Address) -> int | None:
+def asked_owner(peer: Address, here: Address, state: int = ESTABLISHED) -> int | None:
     """The user by the kernel's answer to a question; None where it tells no such connection."""
     connection = ends(peer, here)
     try:
         with socket.socket(socket.AF_NETLINK, socket.SOCK_RAW, NETLINK_SOCK_DIAG) as kernel:
             kernel.settimeout(SECONDS)
-            kernel.send(question(connection))
+            kernel.send(question(connection, state))
             answer, (sender, _) = kernel.recvfrom(4_096)
     except OSError:
         return None
@@ -57,8 +61,11 @@ def asked_owner(peer: Address, here: Address) -> int | None:
     if sender != 0 or len(answer) < told + len(connection) + len(ANY) + USER.size:
         return None
     kind = HEAD.unpack_from(answer)[1]
-    state = STATE.unpack_from(answer, HEAD.size)[1]
-    if kind != SOCK_DIAG_BY_FAMILY or state != ESTABLISHED or not answer.startswith(connection, told):
+    if kind != SOCK_DIAG_BY_FAMILY or STATE.unpack_from(answer, HEAD.size)[1] != state:
+        return None
+    # Who listens may do so for all addresses of the machine, which is told then.
+    same = connection if state == ESTABLISHED else connection[:PORTS.size]
+    if not answer.startswith(same, told):
         return None
     return USER.unpack_from(answer, told + len(connection) + len(ANY))[0]
 
@@ -69,9 +76,9 @@ def kernel_name(address: Address) -> str:
     return f"{host.hex().upper()}:{address[1]:04X}"
 
 
-def listed_owner(peer: Address, here: Address) -> int | None:
-    """The user by the kernel's list; None where such a connection isn't there."""
-    wanted = [kernel_name(peer), kernel_name(here), f"{ESTABLISHED:02X}"]
+def listed(wanted: list[str]) -> int | None:
+    """The user of the line of the kernel's list that has these addresses and this state; None where there is
+    none."""
     for line in CONNECTIONS.read_text(encoding="ascii").splitlines()[1:]:
         fields = line.split()
         if fields[1:4] == wanted:
@@ -79,12 +86,43 @@ def listed_owner(peer: Address, here: Address) -> int | None:
     return None
 
 
+def listed_owner(peer: Address, here: Address) -> int | None:
+    """The user of a connection's other end by the kernel's list."""
+    return listed([kernel_name(peer), kernel_name(here), f"{ESTABLISHED:02X}"])
+
+
+def listed_listener(here: Address) -> int | None:
+    """The user of who listens here, or at all addresses of the machine, by the kernel's list."""
+    for host in (here[0], NO_END[0]):
+        owner = listed([kernel_name((host, here[1])), kernel_name(NO_END), f"{LISTENING:02X}"])
+        if owner is not None:
+            return owner
+    return None
+
+
+@functools.cache
+def is_asked() -> bool:
+    """Whether the kernel answers questions at all: tried once, on a socket that is there. Where it does, no
+    list is made of a connection that isn't there any more, or whoever opens and ends many would keep the
+    desk at that."""
+    with socket.create_server(("127.0.0.1", 0)) as own:
+        return asked_owner(own.getsockname(), NO_END, LISTENING) is not None
+
+
+def are_told() -> bool:
+    """Whether the kernel tells of connections. On other systems than Linux it doesn't, and all users of the
+    machine count as this one."""
+    return CONNECTIONS.exists()
+
+
 def is_own(peer: Address, here: Address) -> bool:
-    """Whether this user's program holds the other end. Where the kernel tells of no connections, as on
-    other systems than Linux, all users count as this one."""
-    if not CONNECTIONS.exists():
+    """Whether this user's program holds the other end."""
+    if not are_told():
         return True
-    owner = asked_owner(peer, here)
-    if owner is None:
-        owner = listed_owner(peer, here)
+    owner = asked_owner(peer, here) if is_asked() else listed_owner(peer, here)
     return owner == os.getuid()
+
+
+def listener(here: Address) -> int | None:
+    """The user whose program takes the connections to this address; None where nobody does."""
+    return asked_owner(here, NO_END, LISTENING) if is_asked() else listed_listener(here)

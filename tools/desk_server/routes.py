@@ -8,7 +8,7 @@ from typing import Any, Callable
 
 from .amounts import CONTROL
 from .bank_check import check_bank
-from .desk import Desk, Refused
+from .desk import UNWRITTEN, Desk, Refused
 from .documents import NotUnderstood, read_payout, read_reminders, read_statement, read_suspense, read_worker
 from .faults import Fault
 from .forms import FORMS, Form, bank
@@ -177,7 +177,7 @@ class Routes:
         return self.answered(lambda: answer(request))
 
     def outcome(self, told: dict[str, Any]) -> Response:
-        return json_response(told, HTTP_STATUS[told["entry"]["outcome"]])
+        return json_response(told, HTTP_STATUS[told["entry"]["outcome"].removesuffix(UNWRITTEN)])
 
     def command(self, request: Request) -> Response:
         command = FORMS[request.word](Form(request.members()))

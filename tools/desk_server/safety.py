@@ -4,7 +4,8 @@ else.
 - `Host` and `Origin`: another page in the clerk's browser can't reach the desk, whatever name it gave
   this machine.
 - Tokens: each form has one, made of a secret of this process, which only the page could read.
-- The user: the desk has the clerk's key, so a connection of another user of this machine is refused.
+- The user: the desk has the clerk's key, so the server takes no connection of another user of this machine
+  (`owners`).
 """
 
 import hashlib
@@ -13,7 +14,6 @@ import secrets
 from email.message import Message
 
 from .faults import Fault
-from .owners import Address, is_own
 
 HEADERS = {
     "Content-Security-Policy": (
@@ -62,8 +62,3 @@ def check_site(headers: Message) -> None:
     anywhere."""
     if one(headers, "Sec-Fetch-Site") not in (None, "none", "same-origin"):
         raise Fault("origin", 403)
-
-
-def check_user(peer: Address, here: Address) -> None:
-    if not is_own(peer, here):
-        raise Fault("user", 403)

@@ -13,8 +13,9 @@ from typing import Any, Callable
 
 from .assets import Asset
 from .faults import Fault
+from .owners import is_own
 from .routes import MOST_REQUEST, Request, Response, Routes, json_response
-from .safety import HEADERS, check_site, check_source, check_user, one
+from .safety import HEADERS, check_site, check_source, one
 
 HOST = "127.0.0.1"
 # In seconds, for each read and write of a connection.
@@ -78,7 +79,7 @@ class Handler(http.server.BaseHTTPRequestHandler):
             raise Fault("path", 404)
         if asset := self.server.assets.get(path):
             return Response(200, asset.content, asset.kind)
-        self.check_peer()
+        check_site(self.headers)
         response = self.server.routes.get(path)
         if response is None:
             raise Fault("path", 404)
@@ -88,7 +89,7 @@ class Handler(http.server.BaseHTTPRequestHandler):
         form = self.server.routes.form_of(self.path)
         if form is None:
             raise Fault("path", 404)
-        self.check_peer()
+        check_site(self.headers)
         self.server.routes.tokens.check(form, one(self.headers, "Desk-Token"))
         request = Request(
             word=form, body=self.read_body(), kind=self.headers.get_content_type(),
@@ -96,12 +97,6 @@ class Handler(http.server.BaseHTTPRequestHandler):
             file_name=one(self.headers, "Desk-File") or "",
         )
         return self.server.routes.post(self.path, request)
-
-    def check_peer(self) -> None:
-        """Another page, or another user of this machine, gets the files of the page, which are no secret,
-        and nothing of the office."""
-        check_site(self.headers)
-        check_user(self.client_address, self.connection.getsockname())
 
     def read_body(self) -> bytes:
         if one(self.headers, "Transfer-Encoding") is not None:
@@ -155,6 +150,14 @@ class Server(http.server.ThreadingHTTPServer):
         self.routes: Routes
         self.places = threading.BoundedSemaphore(MOST_CONNECTIONS)
         super().__init__((HOST, port), Handler)
+
+    def verify_request(self, request: socket.socket, client_address: Any) -> bool:
+        """Whether this user's program has made the connection. It is judged before the connection takes a
+        place, so that nobody else fills them."""
+        try:
+            return is_own(client_address, request.getsockname())
+        except OSError:
+            return False
 
     def process_request(self, request: socket.socket, client_address: Any) -> None:
         self.places.acquire()

@@ -1,0 +1,87 @@
+"""What the desk's page tells in a browser where the desk's folder, the office's port or its key isn't as it
+should be.
+
+    python3 tests/desk_told.py [PROGRAM]
+
+PROGRAM is crates/clear_app/out/clear_app where it isn't given, as `rt ci` leaves it. It needs what
+tests/desk_browser.py needs, and is left out where that is.
+"""
+
+import resource
+import sys
+import unittest
+
+# No __pycache__ is left beside the sources.
+sys.dont_write_bytecode = True
+from browser import what_is_missing  # noqa: E402
+from desk_browser import InBrowser  # noqa: E402
+from desk_safety import as_another  # noqa: E402
+from desk_under_test import DONE, FakeOffice, answer_bytes  # noqa: E402
+from program_under_test import NOBODY, run_tests  # noqa: E402
+
+
+def setUpModule():
+    if missing := what_is_missing():
+        raise unittest.SkipTest(missing)
+
+
+class Told(InBrowser):
+    def register_by_the_page(self):
+        self.go("new")
+        self.type_in("register", employer="1003", name="Bau Ost", start="2024-04")
+        self.browser.click("#register-send")
+        self.confirm("1003", "Bau Ost")
+
+    def test_a_log_that_takes_no_more(self):
+        """The registration is done, and the page says so."""
+        for _ in range(5):
+            # These entries make the log the longest of the desk's files, and none gets longer from now on.
+            self.refuses(11, "UnknownEmployer", "", self.command("withdraw", employer="1001", claim="1"))
+        size = (self.log_folder / "log.jsonl").stat().st_size
+        resource.prlimit(self.desk.pid, resource.RLIMIT_FSIZE, (size, resource.RLIM_INFINITY))
+        self.register_by_the_page()
+        self.answers("! done, but the desk can't write it into its log", "Registration: 1003 Bau Ost")
+        self.assertFalse(self.browser.is_shown("#pending"))
+        self.open_firm("1003")
+        self.assertEqual(self.browser.text("#firm-title"), "1003 · Bau Ost")
+
+    def test_a_key_that_is_not_taken_any_more(self):
+        """The page says so, and keeps the request on top."""
+        self.close_office()
+        self.register_by_the_page()
+        self.answers("no answer", "nobody answers on 127.0.0.1")
+        self.write("callers.toml", "new = 0\n")
+        self.open_office(port=self.server.port)
+        self.browser.click("#pending-send-again")
+        self.browser.wait_for_text("#answer", "not decided")
+        self.answers("Refused by rule 6, UnknownKey", "the key is missing, given twice or nobody's",
+                     "the request stands above with its number")
+        self.assertIn("Registration: 1003 Bau Ost", self.browser.text("#pending-what"))
+
+    @unittest.skipUnless(NOBODY, "only root can be another user")
+    def test_another_user_on_the_offices_port(self):
+        self.close_office()
+        with as_another(NOBODY - 1):
+            stranger = FakeOffice(self, lambda request: answer_bytes(200, DONE), self.server.port)
+        self.register_by_the_page()
+        self.answers("no answer", "Another user of this machine listens on the office's port, "
+                                  f"127.0.0.1:{stranger.port}, and nothing was sent there.")
+        self.assertEqual(set(stranger.requests), {b""})
+
+    def test_a_claim_that_the_desk_does_not_know(self):
+        self.go("morning")
+        self.type_in("release", claim="9")
+        self.browser.click("#release-send")
+        self.confirm("A release is for good", "Not known at this desk: firm, worker and amount")
+        self.answers("refused", "rule 26, UnknownClaim")
+
+    def test_a_name_that_turns_the_direction_of_writing(self):
+        self.go("new")
+        self.type_in("register", employer="1003", name="Bau \u202eOst", start="2024-04")
+        self.browser.click("#register-send")
+        self.browser.wait_for_text("#form-register .field-fault", "no invisible signs that turn the direction")
+        self.assertEqual(self.browser.focus(), "register-name")
+
+
+if __name__ == "__main__":
+    run_tests()
