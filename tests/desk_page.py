@@ -118,6 +118,7 @@ class Words(unittest.TestCase):
         for kind in (*FORMS, "bank"):
             self.assertIn(f"kind.{kind}", WORDS["en"])
             self.assertIn(f"subject.{kind}", WORDS["en"])
+            self.assertIn(f"look.{kind}", WORDS["en"])
 
 
 class Page(unittest.TestCase):

@@ -6,7 +6,9 @@ import { byId, make, pairs } from "./elements.js";
 import { day, euros, month, percent } from "./formats.js";
 import { hasWords, say } from "./words.js";
 
-const MARKS = { done: "✓", repeated: "✓", refused: "✕", undecided: "!", lost: "!", "given-up": "–" };
+const MARKS = { done: "✓", repeated: "✓", refused: "✕", "given-up": "–" };
+// What stands behind an outcome that the desk can't write into its log.
+const UNWRITTEN = "-unwritten";
 const BANK_FIELDS = ["", "reference", "value_date", "employer", "cents", "purpose", "note"];
 const AMOUNTS = ["cents", "gross", "charge", "paid", "to_contributions", "to_interest", "total"];
 const MONTHS = ["month", "start", "last", "from"];
@@ -32,7 +34,10 @@ export function subject(entry) {
   return what ? `${say(`kind.${entry.kind}`)}: ${what}` : say(`kind.${entry.kind}`);
 }
 
-export const outcomeText = (entry) => `${MARKS[entry.outcome] ?? ""} ${say(`outcome.${entry.outcome}`)}`;
+/** Whether a command was done, now or before. */
+export const isDone = (told) => ["done", "repeated"].includes(told.entry?.outcome.replace(UNWRITTEN, ""));
+
+export const outcomeText = (entry) => `${MARKS[entry.outcome] ?? "!"} ${say(`outcome.${entry.outcome}`)}`;
 
 /** What a refusal carries, in words. */
 function detailText(rule, detail) {
@@ -143,7 +148,6 @@ export function tellAnswer(told, further = []) {
     return false;
   }
   const { entry } = told;
-  const isDone = ["done", "repeated"].includes(entry.outcome);
   const text = replyText(entry);
   const said = entry.reply.rule
     ? refusalLines(entry.reply)
@@ -156,8 +160,8 @@ export function tellAnswer(told, further = []) {
     ["lost", "undecided"].includes(entry.outcome) ? make("p", {}, say("answer.pending")) : null,
     make("p", { class: "quiet" }, say("answer.number", { number: entry.number })),
   ];
-  showAnswer(isDone ? "good" : "bad", lines);
-  return isDone;
+  showAnswer(isDone(told) && !entry.outcome.endsWith(UNWRITTEN) ? "good" : "bad", lines);
+  return isDone(told);
 }
 
 let stop = null;
@@ -180,6 +184,7 @@ export function showState(state) {
   if (pending) {
     byId("pending-what").textContent = `${say("answer.number", pending)} · ${subject(pending)}`;
     byId("pending").dataset.number = String(pending.number);
+    byId("pending").dataset.kind = pending.kind;
   }
   for (const form of document.querySelectorAll("form[data-form], #form-bank, #form-report")) {
     form.toggleAttribute("inert", stop !== null);
@@ -208,7 +213,7 @@ export function confirmed(kind, facts) {
   });
 }
 
-/** Sends the request without an answer again, or drops it. */
+/** Sends the request without an answer again, or drops it, and calls this with what became of it. */
 export function beginPending(done) {
   const number = () => Number(byId("pending").dataset.number);
   byId("pending-send-again").addEventListener("click", async () => {
@@ -219,7 +224,8 @@ export function beginPending(done) {
     done(told);
   });
   byId("pending-give-up").addEventListener("click", async () => {
-    if (await confirmed("give-up", [])) {
+    const { kind } = byId("pending").dataset;
+    if (await confirmed("give-up", [["label.look", say(`look.${kind}`)]])) {
       const told = await sendForm("/api/pending/give-up", "give-up", { number: number() }, true);
       tellAnswer(told);
       done(told);

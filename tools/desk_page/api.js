@@ -17,12 +17,12 @@ export function onState(listener) {
   heard = listener;
 }
 
-async function ask(path, options) {
+async function ask(path, options, read = (answer) => answer.json()) {
   let answer;
   let told;
   try {
     answer = await fetch(path, { cache: "no-store", redirect: "error", ...options });
-    told = await answer.json();
+    told = await read(answer);
   } catch {
     return { fault: "no-desk", carried: {} };
   }
@@ -33,6 +33,10 @@ async function ask(path, options) {
 }
 
 export const get = (path) => ask(path, {});
+
+/** The file at a path; where the desk has none, why not. */
+export const getFile = (path) =>
+  ask(path, {}, async (answer) => (answer.ok ? { file: await answer.blob() } : answer.json()));
 
 export async function beginSession() {
   const told = await get("/api/session");
@@ -69,12 +73,18 @@ export function fieldsOf(form) {
   return fields;
 }
 
-/** Sends a file as it is. */
-export function sendFile(path, form, file) {
+/** Sends a file as it is. A browser doesn't read one that has changed since it was chosen. */
+export async function sendFile(path, form, file) {
   const headers = {
     "Content-Type": "application/octet-stream",
     "Desk-Confirmed": "yes",
     "Desk-File": encodeURIComponent(file.name),
   };
-  return post(path, form, file, headers);
+  let body;
+  try {
+    body = await file.arrayBuffer();
+  } catch {
+    return { fault: "file-unread", carried: {} };
+  }
+  return post(path, form, body, headers);
 }

@@ -2,7 +2,8 @@
 
 import { clearAnswer, confirmed, tellAnswer } from "./answers.js";
 import { MOST_BYTES, get, sendFile } from "./api.js";
-import { beginDrop, byId, make } from "./elements.js";
+import { beginDrop } from "./drop.js";
+import { byId, make } from "./elements.js";
 import { euros } from "./formats.js";
 import { say } from "./words.js";
 
@@ -47,7 +48,8 @@ async function choose(file) {
   }
 }
 
-function clear() {
+/** Empties the form, where its file is imported. */
+export function clearBank() {
   chosen = null;
   byId("form-bank").reset();
   byId("bank-hint").hidden = false;
@@ -70,10 +72,14 @@ async function importFile(done) {
   const further = after.suspense
     ? [say("bank.after", { count: after.suspense.count, total: euros(after.suspense.total) })]
     : [];
-  if (tellAnswer(told, further)) {
-    clear();
-  } else {
-    byId("bank-import").disabled = false;
+  const isOver = tellAnswer(told, further) || told.fault === "file-unread";
+  // Another file may have been chosen meanwhile.
+  if (chosen === file) {
+    if (isOver) {
+      clearBank();
+    } else {
+      byId("bank-import").disabled = false;
+    }
   }
   done(told);
 }

@@ -1,12 +1,14 @@
 // The page begins here: its words, its session with the desk, and the view that the address names.
 
-import { beginPending, clearAnswer, clearFault, showState, tellFault } from "./answers.js";
-import { beginSession, onState, theSession } from "./api.js";
-import { byId } from "./elements.js";
+import { beginPending, clearAnswer, clearFault, isDone, showState, tellAnswer, tellFault } from "./answers.js";
+import { beginSession, getFile, onState, theSession } from "./api.js";
+import { clearBank } from "./bank.js";
+import { byId, make } from "./elements.js";
 import { askFirm, beginFirm, showFirm, showRecent } from "./firm.js";
 import { beginFinder, beginForm } from "./forms.js";
 import { askLog, showLog } from "./log.js";
 import { askMorning, beginMorning, openMorning } from "./morning.js";
+import { clearReport } from "./report.js";
 import { askWorker, beginWorker, showWorker } from "./worker.js";
 import { beginWords, say, sayWords } from "./words.js";
 
@@ -78,29 +80,78 @@ function goTo(hash) {
   }
 }
 
-function begin() {
-  onState((told) => {
-    state = told;
-    showState(told);
-  });
-  showState(state ?? {});
+/** Saves the text that a link names, or tells why it can't be had: a browser would tell nothing. */
+async function save(link) {
+  clearAnswer();
+  const told = await getFile(link.href);
+  if (!told.file) {
+    tellAnswer(told);
+    return;
+  }
+  const href = URL.createObjectURL(told.file);
+  make("a", { href, download: link.href.split("/").at(-1) }).click();
+  // The browser has begun to save it by then.
+  setTimeout(() => URL.revokeObjectURL(href), 60_000);
+}
+
+/** Empties the form of a command that is done: one more click would do it a second time. */
+function clearForm(kind) {
+  if (kind === "bank") {
+    clearBank();
+  } else if (["report", "correct"].includes(kind)) {
+    clearReport();
+  } else {
+    byId(`form-${kind}`).reset();
+  }
+}
+
+function beginForms() {
   beginMorning();
   beginFirm();
   beginWorker();
   beginForm("form-register", (told) => {
-    if (["done", "repeated"].includes(told.entry.outcome)) {
+    if (isDone(told)) {
       keepsAnswer = true;
       goTo(`#/firm/${told.entry.values.employer}`);
     }
   });
   beginForm("form-rates", () => {});
   beginFinder("find-firm", (number) => goTo(`#/firm/${number}`));
-  beginPending(() => show());
-  byId("stopped-again").addEventListener("click", () => show());
+  beginPending((told) => {
+    if (isDone(told)) {
+      clearForm(told.entry.kind);
+    }
+    show();
+  });
+}
+
+function beginLinks() {
+  byId("stopped-again").addEventListener("click", async () => {
+    // Not every view asks the office.
+    await askMorning();
+    show();
+  });
+  byId("main").addEventListener("click", (event) => {
+    const link = event.target.closest("a[download]");
+    if (link) {
+      event.preventDefault();
+      save(link);
+    }
+  });
   byId("skip").addEventListener("click", (event) => {
     event.preventDefault();
     byId("main").focus();
   });
+}
+
+function begin() {
+  onState((told) => {
+    state = told;
+    showState(told);
+  });
+  showState(state ?? {});
+  beginForms();
+  beginLinks();
   addEventListener("hashchange", () => {
     for (const dialog of document.querySelectorAll("dialog[open]")) {
       dialog.close();

@@ -31,24 +31,6 @@ export function button(text, act, attributes = {}) {
   return made;
 }
 
-/** Has a place take one file, dropped there or chosen by its input. */
-export function beginDrop(id, take) {
-  const place = byId(id);
-  const takeOne = (files) => {
-    if (files.length === 1) {
-      take(files[0]);
-    }
-  };
-  place.querySelector("input").addEventListener("change", (event) => takeOne(event.target.files));
-  for (const kind of ["dragover", "dragleave", "drop"]) {
-    place.addEventListener(kind, (event) => {
-      event.preventDefault();
-      place.classList.toggle("over", kind === "dragover");
-    });
-  }
-  place.addEventListener("drop", (event) => takeOne(event.dataTransfer.files));
-}
-
 /** A table with a caption and headers. A column is the key of its words and the class of its cells; a row is
  * an array of cells, each a text or an element, the first of them its header. The roles are said, since the
  * styles of a narrow window, where a row is a block, take them away. */

@@ -5,7 +5,7 @@ import { get, theSession } from "./api.js";
 import { button, byId, make, makeSvg, pairs, row, table } from "./elements.js";
 import { beginForm, claimActions, clearFields } from "./forms.js";
 import { day, euros, month } from "./formats.js";
-import { beginReport, openReport } from "./report.js";
+import { beginReport, clearReport, openReport } from "./report.js";
 import { say } from "./words.js";
 
 // What stands empty where the desk doesn't understand the statement.
@@ -17,6 +17,8 @@ const MOST_PAYMENTS = 4;
 const BAR_WIDTH = 160;
 const BAR_HEIGHT = 12;
 let shown = null;
+// The firm that the forms are for: they change with a firm that is shown, and not with one that isn't there.
+let formsOf = null;
 // The firms that are offered now.
 let offered = null;
 
@@ -174,7 +176,6 @@ export const askFirm = (number) => (number ? get(`/api/firms/${number}`) : null)
 
 /** Shows the firm of this number; without one, those that were opened last. */
 export async function showFirm(number, asked = askFirm(number)) {
-  const isOther = shown !== number;
   shown = number;
   byId("firm-choose").hidden = Boolean(number);
   byId("firm-shown").hidden = true;
@@ -193,7 +194,7 @@ export async function showFirm(number, asked = askFirm(number)) {
   theSession().recent = told.recent;
   showStatement(told);
   showClaims(told.claims);
-  if (isOther) {
+  if (formsOf !== number) {
     openForms(number);
   }
   byId("firm-download").href = `/documents/statement-${number}.txt`;
@@ -202,12 +203,13 @@ export async function showFirm(number, asked = askFirm(number)) {
 
 /** Empties the forms for another firm. */
 function openForms(number) {
+  formsOf = number;
   for (const kind of ["report", "claim", "withdraw", "end"]) {
     byId(`form-${kind}`).reset();
     clearFields(byId(`form-${kind}`));
     byId(`${kind}-employer`).value = number;
   }
-  openReport(null, null);
+  clearReport();
 }
 
 export function beginFirm() {

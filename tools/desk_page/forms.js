@@ -5,6 +5,8 @@ import { fieldsOf, get, sendForm } from "./api.js";
 import { button, byId, make } from "./elements.js";
 import { currentLanguage, say } from "./words.js";
 
+// The most digits of a number that is asked for; nine of any other.
+const MOST_DIGITS = { employer: 8 };
 // Forms that name a firm which should be there: its name is shown before the second click.
 const OF_A_FIRM = ["assign", "end"];
 
@@ -157,7 +159,7 @@ export function beginFinder(id, show) {
     clearFields(form);
     const field = form.querySelector("input");
     const number = field.value.trim();
-    if (/^[1-9][0-9]{0,8}$/.test(number)) {
+    if (/^[1-9][0-9]*$/.test(number) && number.length <= (MOST_DIGITS[field.name] ?? 9)) {
       show(number);
     } else {
       tellField(form, { fault: "field", carried: { field: field.name, reason: field.name } });

@@ -1,7 +1,7 @@
 // The morning's work: lines in suspense, the bank's file, reminder runs and payout lists. The view asks the
 // office one question.
 
-import { clearFault, noteAnswer, tellAnswer, tellFault, whatStops } from "./answers.js";
+import { clearFault, isDone, noteAnswer, tellAnswer, tellFault, whatStops } from "./answers.js";
 import { get } from "./api.js";
 import { beginBank } from "./bank.js";
 import { button, byId, make, pairs, row, table } from "./elements.js";
@@ -51,7 +51,12 @@ function suspenseRow(line) {
 
 function turnTo(place) {
   first = place;
-  showMorning();
+  return showMorning();
+}
+
+/** Whether the lines of a page that isn't the first are all gone, as its last one was assigned. */
+function isBehind({ suspense }) {
+  return Boolean(suspense) && suspense.first > 0 && suspense.first >= suspense.count;
 }
 
 function pager({ first: from, lines, count }) {
@@ -148,7 +153,7 @@ async function showDocument(kind, number) {
 async function showMade(kind, { entry, known }) {
   await showMorning();
   const made = await showDocument(kind, entry.reply[kind === "payouts" ? "list" : "run"]);
-  if (entry.outcome === "done" && !known && made !== null && made !== officeDay) {
+  if (entry.outcome.startsWith("done") && !known && made !== null && made !== officeDay) {
     noteAnswer(say("document.known"));
   }
 }
@@ -163,13 +168,13 @@ async function showMorning(asked = ask(first)) {
     tellFault(told);
     return;
   }
+  if (isBehind(told)) {
+    await turnTo(Math.max(0, told.suspense.first - PAGE));
+    return;
+  }
   showSuspense(told);
   showKnown("payouts", told.lists, (number) => showDocument("payouts", number));
   showKnown("reminders", told.runs, (number) => showDocument("reminders", number));
-}
-
-function isDone(told) {
-  return ["done", "repeated"].includes(told.entry.outcome);
 }
 
 export function beginMorning() {

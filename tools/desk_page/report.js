@@ -2,15 +2,22 @@
 
 import { clearAnswer, tellAnswer } from "./answers.js";
 import { MOST_BYTES, fieldsOf, sendForm } from "./api.js";
-import { beginDrop, byId, make, row, table } from "./elements.js";
+import { beginDrop } from "./drop.js";
+import { byId, make, row, table } from "./elements.js";
 import { clearFields, tellField } from "./forms.js";
 import { euros, month, percent } from "./formats.js";
 import { say } from "./words.js";
 
 // What was expected of the lines that were checked last.
 let expected = null;
+// How often what was checked was forgotten: a check or an answer that comes late isn't taken for the lines that
+// stand there now.
+let turns = 0;
+// The file that is being read.
+let chosen = null;
 
 function forget() {
+  turns += 1;
   expected = null;
   byId("report-check-result").replaceChildren();
   byId("report-send").disabled = true;
@@ -31,6 +38,13 @@ export function openReport(text, version) {
     byId("report-file").focus();
     byId("report-title").scrollIntoView({ block: "start" });
   }
+}
+
+/** Empties the form, where what stood there is done. */
+export function clearReport() {
+  chosen = null;
+  byId("report-csv").value = "";
+  openReport(null, null);
 }
 
 function expectedText(told) {
@@ -64,8 +78,12 @@ function showFaults(told) {
 async function check() {
   const form = byId("form-report");
   forget();
+  const turn = turns;
   clearFields(form);
   const told = await sendForm("/api/check/report", "check-report", fieldsOf(form));
+  if (turn !== turns) {
+    return;
+  }
   if (told.fault) {
     if (!tellField(form, told)) {
       tellAnswer(told);
@@ -81,13 +99,12 @@ async function check() {
   byId("report-send").disabled = false;
 }
 
-/** What the answer says against what was expected. */
-function compare(told) {
-  const { reply } = told.entry;
-  if (!expected || reply.charge === undefined || String(reply.charge) === expected.cents) {
+/** What the answer says against what was expected of the lines that were sent. */
+function compare({ reply }, awaited) {
+  if (!awaited || reply.charge === undefined || String(reply.charge) === awaited.cents) {
     return [];
   }
-  return [say("report.differs", { amount: euros(expected.cents) })];
+  return [say("report.differs", { amount: euros(awaited.cents) })];
 }
 
 async function send(done) {
@@ -96,15 +113,18 @@ async function send(done) {
   clearFields(form);
   clearAnswer();
   byId("report-send").disabled = true;
+  const turn = turns;
+  const awaited = expected;
   const told = await sendForm(`/api/commands/${kind}`, kind, fieldsOf(form));
-  byId("report-send").disabled = false;
+  const isSame = turn === turns;
+  if (isSame) {
+    byId("report-send").disabled = false;
+  }
   if (tellField(form, told)) {
     return;
   }
-  if (tellAnswer(told, told.entry ? compare(told) : [])) {
-    byId("report-csv").value = "";
-    byId("report-file").value = "";
-    openReport(null, null);
+  if (tellAnswer(told, told.entry ? compare(told.entry, awaited) : []) && isSame) {
+    clearReport();
   }
   if (told.entry) {
     done(told);
@@ -112,13 +132,31 @@ async function send(done) {
 }
 
 async function read(file) {
+  chosen = file;
   forget();
   if (file.size > MOST_BYTES) {
     tellAnswer({ fault: "file-too-large", carried: {} });
     return;
   }
-  byId("report-csv").value = await file.text();
+  const text = await file.text().catch(() => null);
+  // Another file may have been chosen meanwhile, or another firm opened.
+  if (chosen !== file) {
+    return;
+  }
+  if (text === null) {
+    tellAnswer({ fault: "file-unread", carried: {} });
+    return;
+  }
+  byId("report-csv").value = text;
   check();
+}
+
+/** Checks the lines where they can't be sent yet: Enter does nothing by itself then. */
+function checkByEnter(event) {
+  if (event.key === "Enter" && byId("report-send").disabled) {
+    event.preventDefault();
+    check();
+  }
 }
 
 export function beginReport(done) {
@@ -128,13 +166,12 @@ export function beginReport(done) {
   for (const id of ["report-csv", "report-month"]) {
     byId(id).addEventListener("input", forget);
   }
+  for (const id of ["report-month", "report-version"]) {
+    byId(id).addEventListener("keydown", checkByEnter);
+  }
   beginDrop("report-drop", read);
   form.addEventListener("submit", (event) => {
     event.preventDefault();
-    if (byId("report-send").disabled) {
-      check();
-    } else {
-      send(done);
-    }
+    send(done);
   });
 }

@@ -8,6 +8,8 @@ import { beginFinder, claimActions } from "./forms.js";
 import { day, euros, month } from "./formats.js";
 import { say } from "./words.js";
 
+// What stands empty where the desk doesn't understand the document.
+const READ_PARTS = ["worker-figures", "worker-claims", "worker-earned"];
 let shown = null;
 
 function claimRow(claim) {
@@ -65,6 +67,10 @@ export async function showWorker(number, asked = askWorker(number)) {
       ["worker.earned", euros(sum(worker.earned)), { id: "worker-earned-sum" }],
       ["worker.claimed", euros(sum(worker.claims)), { id: "worker-claimed" }]);
     showTables(worker);
+  } else {
+    for (const id of READ_PARTS) {
+      byId(id).replaceChildren();
+    }
   }
   byId("worker-shown").hidden = false;
 }
