@@ -243,6 +243,11 @@ class Files(Mishaps):
         self.browser.click("#report-send")
         self.answers("done", "gross wages €2,500.00", "Contribution €500.00")
 
+    def test_a_file_that_is_dropped_beside_its_place(self):
+        """The browser doesn't open it."""
+        drop = "const drop = new Event('drop', { bubbles: true, cancelable: true });"
+        self.assertTrue(self.browser.run(f"{drop} document.body.dispatchEvent(drop); return drop.defaultPrevented"))
+
     def test_a_bank_file_that_changes_after_its_check(self):
         path = self.choose("bank-file", "bank.csv", BANK_HEADER + "B1,2024-02-25,1001,150000,C,\n")
         self.browser.wait_for_text("#bank-check", "the file can be read")

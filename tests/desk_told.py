@@ -42,8 +42,8 @@ class Told(InBrowser):
         self.register_by_the_page()
         self.answers("! done, but the desk can't write it into its log", "Registration: 1003 Bau Ost")
         self.assertFalse(self.browser.is_shown("#pending"))
-        self.open_firm("1003")
-        self.assertEqual(self.browser.text("#firm-title"), "1003 · Bau Ost")
+        # What was done opens the firm's page, written down or not.
+        self.browser.wait_for_text("#firm-title", "1003 · Bau Ost")
 
     def test_a_key_that_is_not_taken_any_more(self):
         """The page says so, and keeps the request on top."""

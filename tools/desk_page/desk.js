@@ -131,6 +131,10 @@ function beginLinks() {
     await askMorning();
     show();
   });
+  for (const kind of ["dragover", "drop"]) {
+    // A file that is dropped beside its place would be opened, and the page with what is typed in it be gone.
+    document.addEventListener(kind, (event) => event.preventDefault());
+  }
   byId("main").addEventListener("click", (event) => {
     const link = event.target.closest("a[download]");
     if (link) {
