@@ -2,20 +2,25 @@
 
 Sends the requests of a file, one a line: method, path, number or `-`, and the body as JSON or
 nothing. Appends each to LOG with its answer and the time, as a line of JSON. What LOG has answered
-already is skipped, so the same command goes on with a batch that broke off. A refusal is an
-answer, but neither that of a key that is nobody's (HTTP status 401), nor that of an office that
-could not do it (500 and above).
+already is skipped, so the same command goes on with a batch that broke off, and tells all its
+refusals. A refusal is an answer, but neither that of a key that is nobody's (HTTP status 401), nor
+that of an office that could not do it (500 and above), nor one for the day on which the office is
+served (rules 10, 14 and 22): what had it is sent again.
 """
 
+import fcntl
 import json
 import re
-from collections import Counter
+from collections import defaultdict
 from datetime import datetime
 
-from office import Fault, Office, command_line, read_text, run, stops
+from office import Answer, Fault, Office, command_line, read_text, run, stops
 
 REQUEST = re.compile(r"(GET|POST|PUT) (/[!-~]*) (?:-|([1-9][0-9]{0,17}))(?: (.*))?")
 
+# The rules that refuse a request for the day of the office: before the ledger day, a month or a value
+# date ahead.
+OF_THE_DAY = (10, 14, 22)
 # Of each entry.
 BEGINNING = b'{"time": "'
 
@@ -36,25 +41,35 @@ def read_requests(path):
 
 
 def read_answered(log):
-    """How often the log has answered each request. A last line that broke off is taken out."""
+    """By request whether each of its answers in the log is a refusal. A last line that broke off is taken
+    out."""
     log.seek(0)
     *lines, rest = log.read().split(b"\n")
+    answered = defaultdict(list)
     try:
-        entries = [json.loads(line) for line in lines]
-        answered = Counter(it["request"] for it in entries if not stops(int(it["status"][:3])))
-    except (KeyError, TypeError, ValueError):
+        for entry in map(json.loads, lines):
+            status = int(entry["status"][:3])
+            if stops(status):
+                continue
+            rule = Answer(status, entry["status"][4:], entry["answer"]).rule
+            if rule not in OF_THE_DAY:
+                answered[entry["request"]].append(rule != 0)
+    except (Fault, KeyError, TypeError, ValueError):
         raise Fault(f"{log.name}: no answer log", 2) from None
     # Nothing is cut off a file that is something else.
     if not BEGINNING.startswith(rest[:len(BEGINNING)]):
         raise Fault(f"{log.name}: no answer log", 2)
-    log.truncate(log.tell() - len(rest))
+    if rest:
+        log.truncate(log.tell() - len(rest))
     return answered
 
 
 def send(office, request, log):
-    """The answer to a request, which is in the log by then."""
+    """The answer to a request, which is in the log by then, and its rule. What no office answers is a Fault,
+    and not in the log."""
     line, method, target, number, body = request
     answer = office.ask(method, target, number, body)
+    rule = answer.rule
     entry = {
         "time": datetime.now().astimezone().isoformat(timespec="seconds"),
         "request": line,
@@ -63,7 +78,28 @@ def send(office, request, log):
     }
     log.write(json.dumps(entry, ensure_ascii=False).encode() + b"\n")
     log.flush()
-    return answer
+    return answer, rule
+
+
+def send_all(office, requests, log):
+    """Sends what the log has not answered, and tells how many were sent, skipped and refused, also where a
+    Fault ends it. How many are refused."""
+    answered = read_answered(log)
+    sent = skipped = refused = 0
+    try:
+        for request in requests:
+            if answered[request[0]]:
+                skipped += 1
+                refused += answered[request[0]].pop(0)
+                continue
+            answer, rule = send(office, request, log)
+            sent += 1
+            refused += rule != 0
+            if stops(answer.status):
+                raise Fault(f"stopped: {answer.refusal}", 1)
+    finally:
+        print(f"sent: {sent}, skipped: {skipped}, refused: {refused}")
+    return refused
 
 
 def main():
@@ -73,19 +109,12 @@ def main():
         ("log", {"help": "it is made where it isn't there"}),
     )
     requests = read_requests(words.requests)
-    office, sent, refused = Office(words.address, words.key), 0, 0
     with open(words.log, "a+b") as log:
-        answered = read_answered(log)
-        for request in requests:
-            if answered[request[0]]:
-                answered[request[0]] -= 1
-                continue
-            answer = send(office, request, log)
-            sent += 1
-            refused += answer.rule != 0
-            if stops(answer.status):
-                raise Fault(f"stopped: {answer.refusal}", 1)
-    print(f"sent: {sent}, skipped: {len(requests) - sent}, refused: {refused}")
+        try:
+            fcntl.flock(log, fcntl.LOCK_EX | fcntl.LOCK_NB)
+        except BlockingIOError:
+            raise Fault(f"{words.log}: another batch is written into it", 2) from None
+        refused = send_all(Office(words.address, words.key), requests, log)
     return 1 if refused else 0
 
 

@@ -3,7 +3,8 @@
 A clerk's month end: the statement of each firm, the lines in suspense, a reminder run under NUMBER
 and a payout list under NUMBER + 1. Each document comes into a file of FOLDER that is named by its
 first line. FIRMS is an employer number, a range FIRST-LAST, or a text file of these; a number
-without a firm is skipped. Run again under the same NUMBER it makes no second run or list.
+without a firm is skipped, and without any firm nothing is made. Run again under the same NUMBER it
+makes no second run or list.
 """
 
 import itertools
@@ -11,10 +12,9 @@ import re
 from pathlib import Path
 from typing import NamedTuple
 
-from office import Fault, Office, command_line, read_text, request_number, run
+from office import Fault, Office, check_numbers, command_line, read_text, request_number, run, write_whole
 
 FIRMS = re.compile(r"([1-9][0-9]{0,7})(?:-([1-9][0-9]{0,7}))?")
-TITLE = re.compile(r"[a-z]+( [0-9-]+)+")
 # So many of the skipped numbers are told.
 MOST_TOLD = 10
 UNKNOWN_EMPLOYER = 11
@@ -43,21 +43,28 @@ def read_firms(words):
             if not firms:
                 raise Fault(f"{word}: {part} is neither an employer number nor FIRST-LAST", 2)
             ranges.append(firms)
+    if not ranges:
+        raise Fault(f"{' '.join(words)}: no firm is named", 2)
     return ranges
 
 
-def save(folder, document):
-    """Writes a document into its file. Its first line, which names it and its day."""
-    title = document.partition("\n")[0]
-    if not TITLE.fullmatch(title):
-        raise Fault(f"no document of an office: {title[:60]}", 3)
-    (folder / f"{title.replace(' ', '-')}.txt").write_bytes(document.encode())
+def file_of(folder, title):
+    """The file of a document by its first line, which names it and its day."""
+    return folder / f"{title.replace(' ', '-')}.txt"
+
+
+def save(folder, answer):
+    """Writes a document into its file. Its first line."""
+    title = answer.done().title
+    if title is None:
+        raise Fault(f"no document of an office: {answer.text[:60]}", 3)
+    write_whole(file_of(folder, title), answer.text.encode())
     return title
 
 
-def save_and_tell(folder, document):
-    title = save(folder, document)
-    print(f"{title}: {' '.join(document.splitlines()[-1].split())}")
+def save_and_tell(folder, answer):
+    title = save(folder, answer)
+    print(f"{title}: {' '.join(answer.text.splitlines()[-1].split())}")
     return title
 
 
@@ -68,13 +75,15 @@ def save_statements(office, folder, firms):
         if answer.rule == UNKNOWN_EMPLOYER:
             skipped.append(firm)
         else:
-            save(folder, answer.done().text)
+            save(folder, answer)
             count += 1
     print(f"statements: {count}")
     if skipped:
         told = " ".join(map(str, skipped[:MOST_TOLD]))
         more = " .." if len(skipped) > MOST_TOLD else ""
         print(f"numbers without a firm: {len(skipped)} ({told}{more})")
+    if not count:
+        raise Fault("no number is a firm's, so no run and no list is made", 2)
 
 
 def make_and_save(office, folder, kind, number, day):
@@ -84,9 +93,13 @@ def make_and_save(office, folder, kind, number, day):
         print(f"{kind.path[1:]}: {answer.refusal}")
         return
     made = answer.done().members[kind.member]
-    title = save_and_tell(folder, office.ask("GET", f"{kind.path}/{made}").done().text)
+    document = office.ask("GET", f"{kind.path}/{made}").done()
+    stood = document.title is not None and file_of(folder, document.title).exists()
+    title = save_and_tell(folder, document)
     if title.split()[-1] != day:
         print(f"number {number} made it on an earlier day; a new one needs a new number")
+    elif stood:
+        print(f"number {number} made it before; a new one needs a new number")
 
 
 def main():
@@ -97,11 +110,12 @@ def main():
         ("firms", {"nargs": "+", "help": "a number, FIRST-LAST, or a file of these"}),
     )
     firms = read_firms(words.firms)
+    check_numbers(words.number, 2)
     words.folder.mkdir(parents=True, exist_ok=True)
     office = Office(words.address, words.key)
     # What only asks comes first: a run and a list can't be taken back.
     save_statements(office, words.folder, itertools.chain(*firms))
-    title = save_and_tell(words.folder, office.ask("GET", "/suspense").done().text)
+    title = save_and_tell(words.folder, office.ask("GET", "/suspense"))
     day = title.split()[-1]
     make_and_save(office, words.folder, REMINDERS, words.number, day)
     make_and_save(office, words.folder, PAYOUTS, words.number + 1, day)

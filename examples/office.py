@@ -16,8 +16,11 @@ from typing import NamedTuple
 # In seconds. The office serves one connection after another, so others may come first.
 TIMEOUT = 60
 LAST_NUMBER = 999_999_999_999_999_999
-ADDRESS = re.compile(r"([^:/\s]+):([0-9]{1,5})")
+# The key goes unenciphered, so to this machine alone, or into a tunnel that begins here.
+ADDRESS = re.compile(r"(127\.0\.0\.1|localhost):([0-9]{1,5})")
 KEY = re.compile(r"[!-~]{1,64}")
+# The first line of a document.
+TITLE = re.compile(r"[a-z]+( [0-9-]+)+")
 
 
 class Fault(Exception):
@@ -35,17 +38,36 @@ class Answer(NamedTuple):
     text: str
 
     @property
+    def title(self):
+        """The first line of a document; None of another body."""
+        title = self.text.partition("\n")[0]
+        return title if TITLE.fullmatch(title) else None
+
+    @property
     def members(self):
         """The members of a body in JSON, which is any but that of a document."""
         try:
-            return dict(json.loads(self.text))
+            members = json.loads(self.text)
         except ValueError:
-            raise Fault(f"no answer of an office: {self.status} {self.reason}", 3) from None
+            members = None
+        if not isinstance(members, dict):
+            raise self.foreign()
+        return members
 
     @property
     def rule(self):
-        """The number of the rule that refuses the request, 0 where it is done."""
-        return 0 if self.status == 200 else self.members.get("rule")
+        """The number of the rule that refuses the request, 0 where it is done. A Fault of what no office
+        answers."""
+        if self.status == 200 and self.title:
+            return 0
+        members = self.members
+        rule = 0 if self.status == 200 else members.get("rule")
+        if not isinstance(rule, int):
+            raise self.foreign()
+        return rule
+
+    def foreign(self):
+        return Fault(f"no answer of an office: {self.status} {self.reason}", 3)
 
     @property
     def refusal(self):
@@ -117,7 +139,7 @@ def read_key(path):
 def read_address(word):
     found = ADDRESS.fullmatch(word)
     if not found or int(found[2]) > 65_535:
-        raise argparse.ArgumentTypeError(f"{word} isn't HOST:PORT")
+        raise argparse.ArgumentTypeError(f"{word} isn't 127.0.0.1:PORT: the key is sent to this machine alone")
     return found[1], int(found[2])
 
 
@@ -125,6 +147,26 @@ def request_number(word):
     if not re.fullmatch("[1-9][0-9]{0,17}", word):
         raise argparse.ArgumentTypeError(f"{word} isn't from 1 to {LAST_NUMBER}")
     return int(word)
+
+
+def check_numbers(first, count):
+    """Ends the script before anything is sent where its numbers don't serve for all of it."""
+    if first + count - 1 > LAST_NUMBER:
+        raise Fault(f"{count} numbers from {first} on go past {LAST_NUMBER}", 2)
+
+
+def write_whole(path, content):
+    """Writes a file whole or not at all; one that stands there is replaced."""
+    part = path.with_name(f"{path.name}.part")
+    try:
+        with open(part, "wb") as file:
+            file.write(content)
+            file.flush()
+            os.fsync(file.fileno())
+        os.replace(part, path)
+    except OSError:
+        part.unlink(missing_ok=True)
+        raise
 
 
 def command_line(text, *arguments):

@@ -6,7 +6,8 @@
 -- day, whether it is kept or recomputed, and its values. Contributions are set beside the latest
 -- reports and the rates, payments beside the bank lines that have a firm and the set-offs of
 -- releases, pieces beside contributions and payments, and what is open of a contribution, with its
--- weight, beside the pieces.
+-- weight, beside the pieces. Of a claim the three parts of its release have to come to it, and a
+-- payout list has to have the claims that are on it, with their sum.
 
 SELECT 'contribution', employer, printf('%d-%02d', 2000 + month / 12, month % 12 + 1),
   CASE WHEN sum(side) > 0 THEN 'kept' ELSE 'recomputed' END, date(due * 86400, 'unixepoch'), cents
@@ -75,3 +76,11 @@ FROM (
   LEFT JOIN pieces AS piece ON piece.employer = owed.employer AND piece.month = owed.month
   GROUP BY owed.employer, owed.month)
 GROUP BY employer, month, open, weight HAVING sum(side) <> 0;
+
+SELECT 'release', employer, no, 'kept', cents, to_contributions, to_interest, paid
+FROM claims WHERE CASE state WHEN 2 THEN cents ELSE 0 END <> to_contributions + to_interest + paid;
+
+SELECT 'list', list.no, date(list.day * 86400, 'unixepoch'), 'kept', list.items, list.total,
+  'recomputed', count(claim.no), coalesce(sum(claim.paid), 0)
+FROM lists AS list LEFT JOIN claims AS claim ON claim.list = list.no
+GROUP BY list.no HAVING list.items <> count(claim.no) OR list.total <> coalesce(sum(claim.paid), 0);

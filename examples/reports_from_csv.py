@@ -12,7 +12,7 @@ import json
 import re
 import sys
 
-from office import Fault, Office, command_line, euros, read_text, request_number, run, stops
+from office import Fault, Office, check_numbers, command_line, euros, read_text, request_number, run, stops
 
 HEADER = ["employer", "month", "worker", "gross"]
 MONTH = re.compile(r"2[01][0-9]{2}-(0[1-9]|1[0-2])")
@@ -95,6 +95,7 @@ def main():
     if faults:
         print(*faults, f"{words.file}: nothing is sent", sep="\n", file=sys.stderr)
         return 2
+    check_numbers(words.number, len(reports))
     refused = send(Office(words.address, words.key), words.number, reports)
     print(f"reports: {len(reports)}, refused: {refused}")
     return 1 if refused else 0

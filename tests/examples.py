@@ -8,9 +8,11 @@ here from docs/rules.md alone.
 
 import contextlib
 import datetime
+import fcntl
 import json
 import os
 import re
+import resource
 import shutil
 import socket
 import sqlite3
@@ -261,7 +263,10 @@ class Fund(Scripts):
         before = self.files("january")
         # Once more under the same numbers, and the firms from a file.
         self.write("range.txt", f"{FIRST - 2}-{FIRST + FIRMS - 1}\n{FIRST + FIRMS}-{FIRST + FIRMS + 8}\n")
-        self.assertEqual(self.script(*words[:-1], "range.txt"), said)
+        told = "number {} made it before; a new one needs a new number\n"
+        *first, payout = said.splitlines(keepends=True)
+        again = "".join([*first, told.format(30_001), payout, told.format(30_002)])
+        self.assertEqual(self.script(*words[:-1], "range.txt"), again)
         self.assertEqual(self.files("january"), before)
         # Under new numbers nothing is due, which is no fault.
         self.assertEqual(self.script("month_end", "again", 30_003, FIRST), f"statements: 1\n"
@@ -310,6 +315,41 @@ class MonthEnd(Scripts):
         # Nobody else may read it.
         for path in (self.folder / "april", *(self.folder / "april").iterdir()):
             self.assertEqual(path.stat().st_mode & 0o077, 0, path)
+
+    def test_the_same_number_on_the_same_day(self):
+        self.script("month_end", "april", 2, "1001")
+        said = self.script("month_end", "april", 2, "1001")
+        self.assertEqual(said, "statements: 1\nsuspense 2024-04-30: total 0.00\nreminders 1 2024-04-30: firms 1\n"
+                               "number 2 made it before; a new one needs a new number\n"
+                               "payouts: rule 29 NothingToPay\n")
+
+    def test_no_firm(self):
+        """Nothing is made that can't be taken back."""
+        said = self.script("month_end", "april", 2, "1002-1003", status=2,
+                           errors="no number is a firm's, so no run and no list is made\n")
+        self.assertEqual(said, "statements: 0\nnumbers without a firm: 2 (1002 1003)\n")
+        self.assertEqual(list((self.folder / "april").iterdir()), [])
+        self.write("none.txt", " \n")
+        self.refuses_to_start("none.txt: no firm is named\n", "month_end", "april", 2, "none.txt")
+
+    def test_a_disk_that_is_full(self):
+        """A document that stands there stays as it is."""
+        self.script("month_end", "april", 2, "1001")
+        statement = self.folder / "april/statement-1001-2024-04-30.txt"
+        before = statement.read_text()
+        words = self.command("month_end", "april", 2, "1001")
+        ran = subprocess.run(words, cwd=self.folder, capture_output=True, timeout=60, check=False,
+                             preexec_fn=lambda: resource.setrlimit(resource.RLIMIT_FSIZE, (10, 10)))
+        self.assertEqual((ran.returncode, ran.stderr), (2, b"[Errno 27] File too large\n"))
+        self.assertEqual(statement.read_text(), before)
+        self.assertEqual([it.name for it in (self.folder / "april").iterdir() if it.suffix != ".txt"], [])
+
+    def test_numbers_that_do_not_serve_for_all(self):
+        last = 999_999_999_999_999_999
+        fault = f"2 numbers from {last} on go past {last}\n"
+        self.refuses_to_start(fault, "month_end", "april", last, 1001)
+        self.write("wages.csv", JANUARY + "1001,2024-02,7,1000000\n")
+        self.refuses_to_start(fault, "reports_from_csv", last, "wages.csv")
 
     def test_refusals(self):
         self.write("no.key", "nobody\n")
@@ -400,7 +440,8 @@ class AnswerLog(Scripts):
         self.write("batch", first + "GET /employers/1001/owed -\n" * 1_000 + REPORT_LINE)
         self.open_office(count=1)
         fault = f"no answer from {self.address}: [Errno 111] Connection refused\n"
-        self.assertEqual(self.script("answer_log", "batch", "log", status=3, errors=fault), "")
+        said = self.script("answer_log", "batch", "log", status=3, errors=fault)
+        self.assertEqual(said, "sent: 1000, skipped: 0, refused: 0\n")
         self.assertEqual(len(self.entries()), 1_000)
         with open(self.folder / "log", "a", encoding="utf-8") as log:
             log.write('{"time": "2024-')
@@ -422,14 +463,60 @@ class AnswerLog(Scripts):
         self.assertEqual(said, "sent: 2, skipped: 0, refused: 2\n")
         self.assertEqual([(it["status"], json.loads(it["answer"])["rule"]) for it in self.entries()],
                          [("409 Conflict", 11), ("400 Bad Request", 8)])
-        # A refusal is an answer.
-        self.assertEqual(self.script("answer_log", "batch", "log"), "sent: 0, skipped: 2, refused: 0\n")
+        # A refusal is an answer, and is told by each run.
+        self.assertEqual(self.script("answer_log", "batch", "log", status=1), "sent: 0, skipped: 2, refused: 2\n")
         # A wrong key ends the batch, and the right one goes on with it.
         self.write("no.key", "nobody\n")
         self.write("batch", REGISTRATION_LINE + "GET /suspense -\n")
         fault = "stopped: rule 6 UnknownKey\n"
         self.script("answer_log", "batch", "log", key="no.key", status=1, errors=fault)
         self.assertEqual(self.script("answer_log", "batch", "log"), "sent: 2, skipped: 0, refused: 0\n")
+
+    def test_what_the_day_refuses_is_sent_again(self):
+        self.open_office()
+        self.ask_desk(REGISTRATION)
+        self.close_office()
+        self.open_office("2024-04-29")
+        # (the ledger day is the 30th)
+        self.write("batch", 'POST /employers 2 {"employer":1002,"name":"Bau West","start":"2024-01"}\n')
+        self.assertEqual(self.script("answer_log", "batch", "log", status=1), "sent: 1, skipped: 0, refused: 1\n")
+        self.close_office()
+        self.open_office()
+        self.assertEqual(self.script("answer_log", "batch", "log"), "sent: 1, skipped: 0, refused: 0\n")
+        self.assertEqual([it["status"] for it in self.entries()], ["409 Conflict", "200 OK"])
+
+    def test_a_page_that_is_no_offices(self):
+        """It is no answer: the request is sent by the next run."""
+        self.open_office()
+        right = self.address
+        self.write("batch", REGISTRATION_LINE)
+        for page in (b"HTTP/1.1 400 Bad Request\r\nContent-Length: 6\r\n\r\n<html>",
+                     b"HTTP/1.1 404 Not Found\r\nContent-Length: 2\r\n\r\n{}",
+                     b"HTTP/1.1 200 OK\r\nContent-Length: 4\r\n\r\nnull"):
+            with socket.create_server(("127.0.0.1", 0)) as listener:
+                self.address = f"127.0.0.1:{listener.getsockname()[1]}"
+
+                def answer(page=page, listener=listener):
+                    peer, _ = listener.accept()
+                    with peer:
+                        read_answer(peer)
+                        peer.sendall(page)
+
+                threading.Thread(target=answer, daemon=True).start()
+                told = page[9:page.index(b"\r")].decode()
+                said = self.script("answer_log", "batch", "log", status=3, errors=f"no answer of an office: {told}\n")
+                self.assertEqual((said, self.entries()), ("sent: 0, skipped: 0, refused: 0\n", []))
+        self.address = right
+        self.assertEqual(self.script("answer_log", "batch", "log"), "sent: 1, skipped: 0, refused: 0\n")
+
+    def test_two_batches_at_once(self):
+        self.open_office()
+        self.write("batch", "GET /suspense -\n")
+        self.assertEqual(self.script("answer_log", "batch", "log"), "sent: 1, skipped: 0, refused: 0\n")
+        with open(self.folder / "log", "ab") as log:
+            fcntl.flock(log, fcntl.LOCK_EX)
+            self.refuses_to_start("log: another batch is written into it\n", "answer_log", "batch", "log")
+        self.assertEqual(len(self.entries()), 1)
 
     def test_what_is_no_answer(self):
         self.open_office()
@@ -514,6 +601,11 @@ class Client(Scripts):
                 self.assertEqual(ran.returncode, status)
                 self.assertIn(f"usage: python3 examples/{name}.py ADDRESS KEYFILE ",
                               (ran.stdout + ran.stderr).decode())
+        self.address = "192.0.2.1:8080"
+        ran = subprocess.run(self.command("answer_log", "batch", "log"), cwd=self.folder, capture_output=True, timeout=60)
+        self.assertEqual(ran.returncode, 2)
+        self.assertIn(b"192.0.2.1:8080 isn't 127.0.0.1:PORT: the key is sent to this machine alone", ran.stderr)
+        self.address = "127.0.0.1:8080"
         for number in ("0", "01", "1e3", "1000000000000000000"):
             ran = subprocess.run(self.command("reports_from_csv", number, "wages.csv"), cwd=self.folder,
                                  capture_output=True, timeout=60)

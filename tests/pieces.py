@@ -441,6 +441,34 @@ class Pieces(ProgramUnderTest):
                 self.assertEqual({row[1] for row in rows}, {1001})
                 self.assertEqual(Counter((kind, when) for kind, _, when, *_ in rows), told)
 
+    def test_what_is_told_of_releases_and_lists(self):
+        """Two claims on one list, the first of which pays first what is owed."""
+        def end_the_month(office, firm):
+            # (contributions of 600,000 cents are due; a worker is entitled to 427,500)
+            office.bank([(firm, "2024-02-20", 550_000, "C")])
+            for cents in (100_000, 1_000):
+                body = json.dumps({"worker": firm.number, "cents": cents})
+                office.done("POST", f"/employers/{firm.number}/claims", body)
+            for path in ("/claims/1/release", "/claims/2/release", "/payouts"):
+                office.done("POST", path)
+
+        reports = [lambda office, firm, month=month: office.report(firm, month, 1_000_000) for month in (1, 2, 3)]
+        self.one_firm(*reports, end_the_month)
+        self.assertEqual(self.recomputed(), [])
+        whole = (self.folder / "fund.db").read_bytes()
+        for statement, told in {
+            "UPDATE claims SET paid = paid + 1 WHERE no = 1": {("release", 1001), ("list", 1)},
+            "UPDATE claims SET cents = cents + 1 WHERE no = 2": {("release", 1001)},
+            "UPDATE claims SET state = 1 WHERE no = 1": {("release", 1001)},
+            "UPDATE claims SET list = NULL WHERE no = 2": {("list", 1)},
+            "UPDATE lists SET items = 3": {("list", 1)},
+            "UPDATE lists SET total = total + 100000": {("list", 1)},
+        }.items():
+            with self.subTest(statement):
+                self.write("fund.db", whole)
+                self.change(statement)
+                self.assertEqual({row[:2] for row in self.recomputed()}, told)
+
     def change(self, statement):
         store = sqlite3.connect(self.folder / "fund.db")
         store.execute(statement)

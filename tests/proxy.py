@@ -168,6 +168,28 @@ class Proxy(program.Program):
         self.assertLess(time.monotonic() - begun, 8)
         self.assertIn(b'"version":1', self.ask(slow, JANUARY[-5:])[1])
 
+    def test_one_address_has_so_many_requests_at_a_time(self):
+        slow = [self.firm() for _ in range(20)]
+        self.ask(slow[0], REGISTRATION)
+        for peer in slow:
+            peer.sendall(JANUARY[:-5])
+        # Until nginx has read the last of their heads the next one is answered.
+        for _ in range(100):
+            if status(self.ask(self.firm(), OWED)[0]) == 503:
+                break
+            time.sleep(0.05)
+        else:
+            raise AssertionError("a further request is answered")
+        self.assertIn(b'"version":1', self.ask(slow[0], JANUARY[-5:])[1])
+        for peer in slow:
+            peer.close()
+        for _ in range(100):
+            if status(self.ask(self.firm(), OWED)[0]) == 200:
+                break
+            time.sleep(0.05)
+        else:
+            raise AssertionError("no further request is answered")
+
     def test_an_office_that_is_stopped(self):
         peer = self.firm()
         self.ask(peer, REGISTRATION)
