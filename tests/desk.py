@@ -578,7 +578,7 @@ class Offices(DeskUnderTest):
         self.assertEqual((told["state"]["failure"], told["state"]["pending"]["number"]), (STORE_FAILED, 1))
         self.heals = True
         told = self.does(DONE, self.post("/api/pending/send-again", "send-again", {"number": 1}), "repeated")
-        self.assertEqual(told["state"], {"failure": None, "pending": None})
+        self.assertEqual((told["state"]["failure"], told["state"]["pending"]), (None, None))
         posts = [it for it in self.office.requests if it.startswith(b"POST")]
         self.assertEqual(posts[0], posts[1])
 

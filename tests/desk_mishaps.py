@@ -330,6 +330,20 @@ class Stopped(MadeAnswers):
             self.browser.click("#stopped-again")
             self.browser.wait(lambda: not self.browser.is_shown("#stopped"), view)
 
+    def test_an_answer_from_before_that_comes_late(self):
+        """It doesn't take away what a later one has said."""
+        self.heals = True
+        self.open_page(self.answer)
+        self.browser.run(Late.HOLD, "/api/log")
+        self.browser.run("location.hash = '#/log'")
+        self.browser.wait(lambda: self.browser.run("return globalThis.isHeld ?? false"), "the answer that is held")
+        self.heals = False
+        self.browser.run("location.hash = '#/morning'")
+        self.browser.wait(lambda: self.browser.is_shown("#stopped"), "what stops the forms")
+        self.browser.run("letGo()")
+        self.browser.wait(lambda: self.browser.run("return globalThis.isRead ?? false"), "the answer that comes late")
+        self.assertTrue(self.browser.is_shown("#stopped"))
+
 
 class Late(Mishaps):
     """Answers that come when the page shows other lines, or another firm, than those they are about."""
@@ -339,7 +353,11 @@ class Late(Mishaps):
         const held = new Promise((resolve) => { globalThis.letGo = resolve; });
         globalThis.fetch = async (...told) => {
           const answer = await real(...told);
-          if (told[0] === path) await held;
+          if (told[0] === path) {
+            globalThis.isHeld = true;
+            await held;
+            setTimeout(() => { globalThis.isRead = true; }, 200);
+          }
           return answer;
         };"""
 

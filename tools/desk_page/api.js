@@ -7,6 +7,8 @@ export const MOST_BYTES = 1_048_576;
 
 let session = null;
 let heard = () => {};
+// The time of the state that was heard last.
+let heardAt = 0;
 
 /** What the desk said at the beginning: the tokens of the forms, how it was started, the firms that were
  * opened last. */
@@ -26,7 +28,9 @@ async function ask(path, options, read = (answer) => answer.json()) {
   } catch {
     return { fault: "no-desk", carried: {} };
   }
-  if (told.state) {
+  // An answer may come behind a later one.
+  if (told.state && told.state.at > heardAt) {
+    heardAt = told.state.at;
     heard(told.state);
   }
   return told;

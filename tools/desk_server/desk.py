@@ -44,6 +44,9 @@ class Desk:
         # What the office said when its records failed. It stops the forms until the office answers again.
         self.failure: dict[str, Any] | None = None
         self.turns = threading.Lock()
+        # By which the page knows the later one of two states.
+        self.told_at = 0
+        self.telling = threading.Lock()
 
     # ---- questions
 
@@ -188,9 +191,13 @@ class Desk:
         return told
 
     def state(self) -> dict[str, Any]:
-        pending = self.journal.pending
-        return {"failure": self.failure, "pending": None if pending is None else {
-            **pending.entry(), "kind": pending.command.kind, "values": pending.command.values}}
+        """What stops the forms, and the request without an answer. Its time, in microseconds since the machine
+        started, is later than that of each state before, also of a desk before this one."""
+        with self.telling:
+            self.told_at = max(self.told_at + 1, time.monotonic_ns() // 1_000)
+            pending = self.journal.pending
+            return {"at": self.told_at, "failure": self.failure, "pending": None if pending is None else {
+                **pending.entry(), "kind": pending.command.kind, "values": pending.command.values}}
 
     # ---- what a report will be charged
 
