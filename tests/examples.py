@@ -8,7 +8,6 @@ here from docs/rules.md alone.
 
 import contextlib
 import datetime
-import fcntl
 import json
 import os
 import re
@@ -430,115 +429,6 @@ class Reports(Scripts):
                          "1 1001 2024-01: 10000000.00 euros, version 1\nreports: 1, refused: 0\n")
 
 
-class AnswerLog(Scripts):
-    def entries(self):
-        return [json.loads(line) for line in (self.folder / "log").read_text().splitlines()]
-
-    def test_a_batch_that_broke_off_is_gone_on_with(self):
-        # The office ends its connection behind the 1,000th answer, and here itself with it.
-        first = 'POST /employers 1 {"employer":1001,"name":"Bau Süd","start":"2024-01"}\n'
-        self.write("batch", first + "GET /employers/1001/owed -\n" * 1_000 + REPORT_LINE)
-        self.open_office(count=1)
-        fault = f"no answer from {self.address}: [Errno 111] Connection refused\n"
-        said = self.script("answer_log", "batch", "log", status=3, errors=fault)
-        self.assertEqual(said, "sent: 1000, skipped: 0, refused: 0\n")
-        self.assertEqual(len(self.entries()), 1_000)
-        with open(self.folder / "log", "a", encoding="utf-8") as log:
-            log.write('{"time": "2024-')
-        self.open_office()
-        said = self.script("answer_log", "batch", "log")
-        self.assertEqual(said, "sent: 2, skipped: 1000, refused: 0\n")
-        self.assertEqual(self.script("answer_log", "batch", "log"), "sent: 0, skipped: 1002, refused: 0\n")
-        entries = self.entries()
-        self.assertEqual(len(entries), 1_002)
-        for entry in entries:
-            datetime.datetime.fromisoformat(entry.pop("time"))
-        self.assertEqual(entries[0], {"request": first.strip(), "status": "200 OK", "answer": '{"done":true}'})
-        self.assertEqual(entries[-1]["answer"], '{"charge":20,"version":1}')
-
-    def test_refusals(self):
-        self.open_office()
-        self.write("batch", REPORT_LINE + "POST /payouts -\n")
-        said = self.script("answer_log", "batch", "log", status=1)
-        self.assertEqual(said, "sent: 2, skipped: 0, refused: 2\n")
-        self.assertEqual([(it["status"], json.loads(it["answer"])["rule"]) for it in self.entries()],
-                         [("409 Conflict", 11), ("400 Bad Request", 8)])
-        # A refusal is an answer, and is told by each run.
-        self.assertEqual(self.script("answer_log", "batch", "log", status=1), "sent: 0, skipped: 2, refused: 2\n")
-        # A wrong key ends the batch, and the right one goes on with it.
-        self.write("no.key", "nobody\n")
-        self.write("batch", REGISTRATION_LINE + "GET /suspense -\n")
-        fault = "stopped: rule 6 UnknownKey\n"
-        self.script("answer_log", "batch", "log", key="no.key", status=1, errors=fault)
-        self.assertEqual(self.script("answer_log", "batch", "log"), "sent: 2, skipped: 0, refused: 0\n")
-
-    def test_what_the_day_refuses_is_sent_again(self):
-        self.open_office()
-        self.ask_desk(REGISTRATION)
-        self.close_office()
-        self.open_office("2024-04-29")
-        # (the ledger day is the 30th)
-        self.write("batch", 'POST /employers 2 {"employer":1002,"name":"Bau West","start":"2024-01"}\n')
-        self.assertEqual(self.script("answer_log", "batch", "log", status=1), "sent: 1, skipped: 0, refused: 1\n")
-        self.close_office()
-        self.open_office()
-        self.assertEqual(self.script("answer_log", "batch", "log"), "sent: 1, skipped: 0, refused: 0\n")
-        self.assertEqual([it["status"] for it in self.entries()], ["409 Conflict", "200 OK"])
-
-    def test_a_page_that_is_no_offices(self):
-        """It is no answer: the request is sent by the next run."""
-        self.open_office()
-        right = self.address
-        self.write("batch", REGISTRATION_LINE)
-        for page in (b"HTTP/1.1 400 Bad Request\r\nContent-Length: 6\r\n\r\n<html>",
-                     b"HTTP/1.1 404 Not Found\r\nContent-Length: 2\r\n\r\n{}",
-                     b"HTTP/1.1 200 OK\r\nContent-Length: 4\r\n\r\nnull"):
-            with socket.create_server(("127.0.0.1", 0)) as listener:
-                self.address = f"127.0.0.1:{listener.getsockname()[1]}"
-
-                def answer(page=page, listener=listener):
-                    peer, _ = listener.accept()
-                    with peer:
-                        read_answer(peer)
-                        peer.sendall(page)
-
-                threading.Thread(target=answer, daemon=True).start()
-                told = page[9:page.index(b"\r")].decode()
-                said = self.script("answer_log", "batch", "log", status=3, errors=f"no answer of an office: {told}\n")
-                self.assertEqual((said, self.entries()), ("sent: 0, skipped: 0, refused: 0\n", []))
-        self.address = right
-        self.assertEqual(self.script("answer_log", "batch", "log"), "sent: 1, skipped: 0, refused: 0\n")
-
-    def test_two_batches_at_once(self):
-        self.open_office()
-        self.write("batch", "GET /suspense -\n")
-        self.assertEqual(self.script("answer_log", "batch", "log"), "sent: 1, skipped: 0, refused: 0\n")
-        with open(self.folder / "log", "ab") as log:
-            fcntl.flock(log, fcntl.LOCK_EX)
-            self.refuses_to_start("log: another batch is written into it\n", "answer_log", "batch", "log")
-        self.assertEqual(len(self.entries()), 1)
-
-    def test_what_is_no_answer(self):
-        self.open_office()
-        # The office had no memory.
-        self.write("log", '{"request": "GET /suspense -", "status": "503 Service Unavailable"}\n')
-        self.write("batch", "GET /suspense -\n")
-        self.assertEqual(self.script("answer_log", "batch", "log"), "sent: 1, skipped: 0, refused: 0\n")
-
-    def test_wrong_files(self):
-        for line in ("DELETE /employers 1", "POST employers 1", "POST /employers 01 {}", "POST /employers",
-                     'POST /employers 1 {"employer":1001'):
-            self.write("batch", f"GET /suspense -\n\n{line}\n")
-            self.refuses_to_start("batch: line 3 is no request\n", "answer_log", "batch", "log")
-        self.write("batch", "GET /suspense -\n")
-        entry = '{"request": "GET /suspense -", "status": "200 OK"}\n'
-        for text in ("a line of something else\n", "a line without an end", "[1]\n", entry + "GET /suspense -",
-                     '{"request": "GET /suspense -"}\n'):
-            path = self.write("log", text)
-            self.refuses_to_start("log: no answer log\n", "answer_log", "batch", "log")
-            self.assertEqual(path.read_text(), text)
-
-
 class Client(Scripts):
     def test_an_answer_that_is_lost(self):
         """The office does the report, its answer is lost, and the client sends it once more."""
@@ -602,7 +492,8 @@ class Client(Scripts):
                 self.assertIn(f"usage: python3 examples/{name}.py ADDRESS KEYFILE ",
                               (ran.stdout + ran.stderr).decode())
         self.address = "192.0.2.1:8080"
-        ran = subprocess.run(self.command("answer_log", "batch", "log"), cwd=self.folder, capture_output=True, timeout=60)
+        ran = subprocess.run(self.command("answer_log", "batch", "log"), cwd=self.folder, capture_output=True,
+                             timeout=60)
         self.assertEqual(ran.returncode, 2)
         self.assertIn(b"192.0.2.1:8080 isn't 127.0.0.1:PORT: the key is sent to this machine alone", ran.stderr)
         self.address = "127.0.0.1:8080"

@@ -1,0 +1,189 @@
+"""What tools/bank-file doesn't read, and its command line, its files and what it tells.
+
+    python3 tests/bank_file_words.py [PROGRAM]
+
+PROGRAM is crates/clear_app/out/clear_app where it isn't given, as `rt ci` leaves it. It needs what tests/bank_file.py
+needs.
+"""
+
+import os
+import stat
+import subprocess
+import sys
+
+# No __pycache__ is left beside the sources.
+sys.dont_write_bytecode = True
+import bank_file  # noqa: E402
+from bank_file import AT_FIRST, HEADER, TOOL, BankFiles  # noqa: E402
+from bank_statements import ACCOUNT, DECLARED, LATIN, LATIN_LINES, NAMESPACE, packed  # noqa: E402
+from program_under_test import run_tests  # noqa: E402
+
+setUpModule = bank_file.setUpModule
+
+
+class NotRead(BankFiles):
+    def test_other_messages(self):
+        wanted = "the statement of the day, camt.053, is wanted"
+        ours = "only camt.053.001.02 and camt.053.001.08 are read"
+        for message, said in (("camt.052.001.08", f"a report within the day, which isn't final; {wanted}"),
+                              ("camt.054.001.02", f"a notification of single payments; {wanted}"),
+                              ("camt.053.001.04", ours), ("pain.001.001.09", ours)):
+            self.misread(LATIN.replace("camt.053.001.08", message), f": {message}: {said}")
+        root = ": the XML is no camt.053 statement; its root is"
+        self.misread("<html><p/></html>", f"{root} html")
+        self.misread(LATIN.replace(f' xmlns="{NAMESPACE}08"', ""), f"{root} Document")
+        self.misread(LATIN.replace("BkToCstmrStmt", "BkToCstmrAcctRpt"),
+                     ": no statement (BkToCstmrStmt/Stmt) in it")
+
+    def test_no_xml(self):
+        for content in ("", " \n"):
+            self.misread(content, ": the file is empty")
+        self.misread("%PDF-1.7\n", ": a PDF; the statement is wanted as camt.053, in XML")
+        for content in (HEADER, ":20:STARTUMS\n", b"\x00\x01"):
+            self.misread(content, ": no XML; the statement is wanted as camt.053, not as CSV or MT940")
+        self.misread("<a></b>", ": no XML: line 1, column 6: mismatched tag")
+
+    def test_a_file_that_is_cut_off(self):
+        for size in (50, len(LATIN) // 2, len(LATIN) - 5):
+            line = LATIN[:size].count("\n") + 1
+            self.misread(LATIN[:size], f": the XML stops in line {line}, before its end: the file isn't whole")
+
+    def test_bytes_that_are_not_what_is_declared(self):
+        told = ("has bytes that aren't UTF-8, and the file doesn't declare another encoding: it is Latin-1 or the "
+                "like, or damaged")
+        self.misread(LATIN.encode("latin-1"), f": line 6 {told}")
+        self.misread(LATIN.replace(DECLARED, "").encode("latin-1"), f": line 5 {told}")
+        self.misread(LATIN.replace("UTF-8", "latin-9000"),
+                     ": its encoding isn't read: unknown encoding: latin-9000")
+
+    def test_document_types_and_entities(self):
+        levels = "".join(f'<!ENTITY l{at} "{f"&l{at - 1};" * 10}">' for at in range(1, 10))
+        for declared in (f'<!DOCTYPE d [<!ENTITY l0 "lol">{levels}]>', "<!DOCTYPE d>",
+                         '<!DOCTYPE d [<!ENTITY l9 SYSTEM "file:///etc/hostname">]>',
+                         '<!DOCTYPE d SYSTEM "http://127.0.0.1:1/d.dtd">'):
+            content = LATIN.replace(DECLARED, DECLARED + declared).replace("März", "&l9;")
+            self.misread(content, ": it declares a document type or entities, as no bank does; it isn't read")
+        before, _, behind = LATIN.partition("März")
+        place = f"line {before.count(chr(10)) + 1}, column {len(before) - before.rindex(chr(10))}"
+        self.misread(f"{before}&l9;{behind}", f": no XML: {place}: undefined entity")
+
+    def test_names_in_a_zip(self):
+        for name in ("a.pdf", "a/b.xml", "../a.xml", "/a.xml", "..\\a.xml", ".xml", ".a.xml"):
+            self.misread(packed((name, LATIN)),
+                         f": the zip has {name}, which is no plain name that ends in .xml")
+        self.misread(packed(("a\x1b[2J.xml", LATIN)),
+                     ": the zip has a [2J.xml, which is no plain name that ends in .xml")
+        self.misread(packed(("a.xml", LATIN), ("a.xml", LATIN)), ": the zip has 2 files of the name a.xml")
+
+    def test_zips_that_are_not_read(self):
+        self.misread(packed(), ": the zip has no file")
+        self.misread(packed(("a.xml", LATIN))[:-30], ": a zip that can't be unpacked: File is not a zip file")
+        broken = bytearray(packed(("a.xml", LATIN)))
+        broken[60] ^= 255
+        self.write("statement", bytes(broken))
+        status, output, told = self.tool("statement", "--firms", "firms.csv")
+        self.assertEqual((status, output), (2, ""))
+        self.assertRegex(told, "^statement: a zip that can't be unpacked: ")
+        self.misread(packed(("a.xml", packed(("b.xml", LATIN)))),
+                     ", a.xml: no XML; the statement is wanted as camt.053, not as CSV or MT940")
+        closed = bytearray(packed(("a.xml", LATIN)))
+        closed[closed.index(b"PK\x01\x02") + 8] |= 1
+        self.misread(bytes(closed), ": a.xml is encrypted; unpack the zip with its password first")
+
+    def test_what_an_entry_lacks(self):
+        amount = '<Amt Ccy="EUR">1.00</Amt>'
+        direction = "<CdtDbtInd>CRDT</CdtDbtInd><Sts>"
+        for old, new, said in (
+                ("<Sts><Cd>BOOK</Cd></Sts>", "", f"{AT_FIRST}: Sts/Cd or Sts/Prtry or Sts is missing"),
+                (direction, "<Sts>", f"{AT_FIRST}: CdtDbtInd is missing"),
+                (direction, direction.replace("CRDT", "X\x85"),
+                 f"{AT_FIRST}: CdtDbtInd is X, neither CRDT nor DBIT"),
+                (amount + direction, direction, f"{AT_FIRST}: Amt is missing"),
+                (amount + direction, "<Amt>1.00</Amt>" + direction,
+                 f"{AT_FIRST}: 1.00 is no amount with a currency"),
+                ("<Id>S1</Id>", "", "statement: Id is missing"),
+                (f"<IBAN>{ACCOUNT}</IBAN>", "", "statement: Acct/Id/IBAN or Acct/Id/Othr/Id is missing")):
+            self.assertIn(old, LATIN)
+            self.refuses(LATIN.replace(old, new), said, status=2)
+
+
+class CommandLine(BankFiles):
+    words = ("statement", "--firms", "firms.csv")
+
+    def setUp(self):
+        super().setUp()
+        self.write("statement", LATIN)
+
+    def test_the_file_is_written_whole_and_over_no_other(self):
+        self.assertEqual(self.tool(*self.words, "--out", "bank.csv")[:2], (0, ""))
+        written = self.folder / "bank.csv"
+        self.assertEqual(stat.S_IMODE(written.stat().st_mode), 0o600)
+        (self.folder / "link").symlink_to("nowhere")
+        for name in ("bank.csv", "link", "."):
+            self.assertEqual(self.tool(*self.words, "--out", name),
+                             (2, "", f"{name}: there is such a file already\nnothing is written\n"))
+        status, output, told = self.tool(*self.words, "--out", "missing/bank.csv")
+        self.assertEqual((status, output), (2, ""))
+        self.assertIn("No such file or directory", told)
+        self.assertEqual(written.read_text(), f"{HEADER}{LATIN_LINES[0]}\n")
+        self.assertEqual([it.name for it in self.folder.iterdir() if it.name.startswith(".")], [])
+
+    def test_a_file_system_without_second_names(self):
+        self.write("sitecustomize.py", "import errno, os\ndef link(*names):\n"
+                   "    raise OSError(errno.EPERM, 'no second names')\nos.link = link\n")
+        environment = {**os.environ, "PYTHONPATH": str(self.folder)}
+        self.assertEqual(self.tool(*self.words, "--out", "bank.csv", env=environment)[:2], (0, ""))
+        self.assertEqual((self.folder / "bank.csv").read_text(), f"{HEADER}{LATIN_LINES[0]}\n")
+        self.assertEqual([it.name for it in self.folder.iterdir() if it.name.startswith(".")], [])
+
+    def test_a_folder_that_cannot_be_read(self):
+        self.write("sitecustomize.py", "import os\ntrue_open = os.open\ndef open_files(path, *rest, **options):\n"
+                   "    if os.path.isdir(path):\n        raise PermissionError(path)\n"
+                   "    return true_open(path, *rest, **options)\nos.open = open_files\n")
+        environment = {**os.environ, "PYTHONPATH": str(self.folder)}
+        self.assertEqual(self.tool(*self.words, "--out", "bank.csv", env=environment)[:2], (0, ""))
+        self.assertEqual((self.folder / "bank.csv").read_text(), f"{HEADER}{LATIN_LINES[0]}\n")
+
+    def test_where_nothing_can_be_told(self):
+        for streams in ("2>/dev/full", "2>&-"):
+            with self.subTest(streams):
+                line = f"exec {TOOL} {' '.join(self.words)} {streams}"
+                ran = subprocess.run(["sh", "-c", line], cwd=self.folder, stdout=subprocess.PIPE, check=False)
+                self.assertEqual((ran.returncode, ran.stdout.decode()), (0, f"{HEADER}{LATIN_LINES[0]}\n"))
+        closed = ["sh", "-c", f"exec {TOOL} {' '.join(self.words)} >&-"]
+        ran = subprocess.run(closed, cwd=self.folder, stderr=subprocess.PIPE, check=False)
+        self.assertEqual((ran.returncode, ran.stderr), (2, b"[Errno 9] Bad file descriptor\n"))
+
+    def test_files_that_are_not_there(self):
+        for words in ("missing --firms firms.csv", "statement --firms missing", ". --firms firms.csv",
+                      "statement --firms firms.csv --earlier missing"):
+            status, output, told = self.tool(*words.split())
+            self.assertEqual((status, output), (2, ""), told)
+            self.assertRegex(told, r"^\[Errno \d+\] (No such file or|Is a) directory: '(missing|\.)'\n$")
+
+    def test_a_disk_that_is_full(self):
+        with open("/dev/full", "wb") as full:
+            status, _, told = self.tool(*self.words, stdout=full)
+        self.assertEqual((status, told), (2, "[Errno 28] No space left on device\n"))
+
+    def test_words(self):
+        status, output, _ = self.tool("--help")
+        self.assertEqual(status, 0)
+        for word in ("STATEMENT", "--firms TABLE", "--interest-word WORD", "--number-word WORD", "--earlier FILE",
+                     "--out FILE"):
+            self.assertIn(word, output)
+        for words in ("", "statement", "--firms firms.csv", "statement --firms firms.csv more",
+                      "statement --firms firms.csv --interest-word a-b",
+                      "statement --firms firms.csv --ou x"):
+            status, output, told = self.tool(*words.split())
+            self.assertEqual((status, output, told[:6]), (2, "", "usage:"))
+
+    def test_without_defusedxml(self):
+        self.write("defusedxml.py", "raise ImportError")
+        status, output, told = self.tool(*self.words, env={**os.environ, "PYTHONPATH": str(self.folder)})
+        self.assertEqual((status, output), (2, ""))
+        self.assertIn("    apt-get install python3-defusedxml\n", told)
+
+
+if __name__ == "__main__":
+    run_tests()
