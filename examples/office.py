@@ -51,7 +51,7 @@ class Answer(NamedTuple):
         except ValueError:
             members = None
         if not isinstance(members, dict):
-            raise self.foreign()
+            raise self.no_answer_of_an_office()
         return members
 
     @property
@@ -63,10 +63,11 @@ class Answer(NamedTuple):
         members = self.members
         rule = 0 if self.status == 200 else members.get("rule")
         if not isinstance(rule, int):
-            raise self.foreign()
+            raise self.no_answer_of_an_office()
         return rule
 
-    def foreign(self):
+    def no_answer_of_an_office(self):
+        """The Fault of an answer that something else gave, as a proxy."""
         return Fault(f"no answer of an office: {self.status} {self.reason}", 3)
 
     @property

@@ -345,6 +345,9 @@ class LeftOut(BankFiles):
                      payment("1.00", "1001", "", ACCOUNT, "A"), entry("1.00", transaction("", "1001", more=code))):
             told = self.makes(one("0", "1.00", back), [])
             self.assertIn("left out in all, returned transfer (a credit): 1, 1.00 EUR\n", told)
+        taken_back = entry("1.00", direction="DBIT").replace("<BkTxCd/>", code)
+        self.assertIn("left out in all, returned payment (a debit): 1, 1.00 EUR\n",
+                      self.makes(one("1.00", "0", taken_back), []))
         # The transfer itself is a debit as others.
         out = entry("1.00", transaction("", "", "", ACCOUNT, "A", "L1-C1"), direction="DBIT")
         self.assertIn("left out in all, debit: 1, 1.00 EUR\n", self.makes(one("1.00", "0", out), []))
