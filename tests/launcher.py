@@ -19,7 +19,7 @@ from pathlib import Path
 ROOT = Path(__file__).resolve().parent.parent
 NOBODY = 65534 if os.geteuid() == 0 else None
 # All that the scripts call. The PATH of a test has these, and rt.
-TOOLS = "awk bash cat dirname env find flock mkdir nproc readlink sed sh sleep touch wc".split()
+TOOLS = "awk bash cat dirname env find flock mkdir nproc readlink sed sh sha256sum sleep sort stat wc".split()
 CRATES = """# as in the repository
 clear_money: std_of_the_kit
 clear_http: clear_money
@@ -117,6 +117,14 @@ class Launcher(unittest.TestCase):
         path.parent.mkdir(parents=True, exist_ok=True)
         path.write_text(text)
         return path
+
+    def change(self, name, when=None):
+        """Changes a source, which then has this time of change, be it an earlier one, as an unpacked file may have."""
+        path = self.root / name
+        with path.open("a") as source:
+            source.write("# changed\n")
+        if when is not None:
+            os.utime(path, (when, when))
 
     def start(self, *words, script="checkout/clearing", folder=None, **options):
         """Starts a script. Where this is run in the background, SIGINT is ignored, which the script would inherit."""
@@ -227,20 +235,33 @@ class Builds(Launcher):
         for it in ("crates.txt", "crates/clear_money/specs/low.antt", "crates/clear_http/proofs/deep/high.antt", "crates/clear_http/src/lib.rt",
                    "crates/clear_app/src/main.rt"):
             with self.subTest(it):
-                os.utime(self.root / it)
+                self.change(it)
                 self.builds()
                 self.runs_at_once()
-        # The program doesn't stand on this one.
-        os.utime(self.root / "crates/other/src/lib.rt")
+        # The program doesn't stand on this one, and a time alone changes nothing.
+        self.change("crates/other/src/lib.rt")
+        os.utime(self.root / "crates.txt")
         self.runs_at_once()
-        (self.root / "crates/clear_money/specs/low.antt").unlink()
+        (self.root / "crates/clear_money/specs/low.antt").rename(self.root / "crates/clear_money/specs/lower.antt")
         self.builds()
+        (self.root / "crates/clear_money/specs/lower.antt").unlink()
+        self.builds()
+
+    def test_sources_of_any_time(self):
+        """A release that is unpacked over another one may be older than the program, or come from a clock that is ahead."""
+        self.runs()
+        self.calls()
+        for hours in (-2, 2):
+            with self.subTest(hours=hours):
+                self.change("crates/clear_http/src/lib.rt", time.time() + hours * 3_600)
+                self.builds()
+                self.runs_at_once()
 
     def test_a_source_that_is_saved_during_the_build(self):
         held = self.holds("run")
         first = self.start()
         self.wait_for(lambda: self.program.exists())
-        os.utime(self.root / "crates/clear_money/src/lib.rt")
+        self.change("crates/clear_money/src/lib.rt")
         held.unlink()
         self.assertEqual(self.ended(first)[0], 3)
         self.calls()
@@ -255,13 +276,28 @@ class Builds(Launcher):
                 self.runs_at_once()
                 self.write(it, "another kit\n")
                 self.builds()
-                self.assertEqual(self.kit.read_text(), "another kit\n")
+                self.assertEqual(self.kit.read_text().splitlines()[0], "another kit")
                 self.runs_at_once()
 
     def test_what_rt_ci_leaves_is_run(self):
         self.runs()
         self.calls()
         self.kit.unlink()
+        self.runs_at_once()
+        self.change("crates/clear_money/src/lib.rt", time.time() - 7_200)
+        self.builds()
+
+    def test_what_rt_ci_leaves_behind_a_build_of_other_sources(self):
+        self.runs()
+        self.calls()
+        source = self.root / "crates/clear_money/src/lib.rt"
+        built = source.read_text()
+        self.change("crates/clear_money/src/lib.rt")
+        self.write("checkout/crates/clear_app/out/clear_app", PROGRAM + "# changed\n")
+        self.runs_at_once()
+        # The sources of that build stand there again.
+        source.write_text(built)
+        self.builds()
         self.runs_at_once()
 
     def test_without_rt_the_program_runs_where_it_is_built(self):
@@ -290,7 +326,7 @@ class Builds(Launcher):
         first = self.start()
         self.wait_for(lambda: (self.state / "calls").read_text().count("run") == 2 and self.kit.read_text())
         # It still reads its standard input.
-        os.utime(self.root / "crates.txt")
+        self.change("crates.txt")
         self.runs()
         self.assertIsNone(first.poll())
         self.assertEqual(self.ended(first)[0], 3)
@@ -360,7 +396,9 @@ class Faults(Launcher):
         self.builds()
         self.make_writable(False)
         self.runs_at_once(user=NOBODY)
-        os.utime(self.root / "crates.txt")
+        self.make_writable(True)
+        self.change("crates.txt")
+        self.make_writable(False)
         self.assertEqual(len(self.fails("no file can be written", user=NOBODY)), 1)
 
 
