@@ -214,6 +214,16 @@ class Builds(Launcher):
             self.assertEqual(self.run_script("a word", **closed)[0], 3)
         self.assertEqual(len(self.calls()), 3)
 
+    def test_no_standard_error(self):
+        with open("/dev/full", "w") as full:
+            for how in ({"preexec_fn": lambda: os.close(2)}, {"stderr": full}):
+                with self.subTest(str(how)):
+                    status, output, _ = self.run_script("a word", stdin="input", folder=self.state, **how)
+                    self.assertEqual(output, "state\na word\ninput")
+                    self.assertEqual(len(self.calls()), 3)
+                    self.kit.unlink()
+                    self.program.unlink()
+
     def test_through_links(self):
         links = self.folder / "elsewhere"
         links.mkdir()
