@@ -262,6 +262,18 @@ last run 1 2024-05-17
                 self.expect(["look", path], 3, "", refused[path] + told)
         self.assertEqual(self.content(), before)
 
+    def test_a_store_with_a_second_name(self):
+        self.filled()
+        os.link(self.folder / "fund.db", self.folder / "second.db")
+        for name in ("fund.db", "second.db"):
+            self.expect(["look", name], 3, "", "rule 41 Store\nthis file can't be opened\n")
+        (self.folder / "second.db").unlink()
+        # By a symbolic link it is the same store, with the same log.
+        os.symlink("fund.db", self.folder / "link.db")
+        self.expect(["import", "link.db", DAY, "13", "bank.csv"], 0, "new 0 repeats 4\n")
+        self.assertFalse((self.folder / "link.db-wal").exists())
+        self.assertEqual(self.run_program("look", "fund.db")[1].splitlines()[2], "requests 9")
+
     def test_a_store_that_is_held(self):
         self.filled()
         server = self.serving(1)
@@ -403,6 +415,21 @@ class Backup(Stores):
         self.write("copy.db-wal", "")
         self.expect(["backup", "fund.db", "copy.db"], 2, "", "fault file\n")
         self.assertFalse((self.folder / "copy.db").exists())
+
+    def test_a_look_at_an_earlier_copy_leaves_a_log(self):
+        self.filled()
+        for told in ("copied, ledger day 2024-04-30\n", ""):
+            self.expect(["backup", "fund.db", "copy.db"], 0 if told else 2, told, "" if told else "fault file\n")
+            self.run_program("look", "copy.db")
+            (self.folder / "copy.db").unlink(missing_ok=True)
+        (self.folder / "copy.db-wal").unlink()
+        self.expect(["backup", "fund.db", "copy.db"], 0, "copied, ledger day 2024-04-30\n")
+
+    def test_a_closed_output(self):
+        self.filled()
+        with open("/dev/full", "wb") as full:
+            self.expect(["backup", "fund.db", "copy.db"], 3, "", "fault stream\n", stdout=full)
+        self.assertEqual((self.folder / "copy.db").read_bytes(), (self.folder / "fund.db").read_bytes())
 
     def test_what_an_earlier_copy_left(self):
         self.filled()
