@@ -40,6 +40,19 @@ def read_requests(path):
     return requests
 
 
+def logged_rule(entry):
+    """The rule of an answer in the log, 0 where the request was done. None where it is to be sent again, as
+    where an earlier build of this script took a page for an answer that no office gives."""
+    status = int(entry["status"][:3])
+    if stops(status):
+        return None
+    answer = Answer(status, entry["status"][4:], entry["answer"])
+    try:
+        return None if answer.rule in OF_THE_DAY else answer.rule
+    except Fault:
+        return None
+
+
 def read_answered(log):
     """By request whether each of its answers in the log is a refusal. A last line that broke off is taken
     out."""
@@ -48,13 +61,10 @@ def read_answered(log):
     answered = defaultdict(list)
     try:
         for entry in map(json.loads, lines):
-            status = int(entry["status"][:3])
-            if stops(status):
-                continue
-            rule = Answer(status, entry["status"][4:], entry["answer"]).rule
-            if rule not in OF_THE_DAY:
+            rule = logged_rule(entry)
+            if rule is not None:
                 answered[entry["request"]].append(rule != 0)
-    except (Fault, KeyError, TypeError, ValueError):
+    except (KeyError, TypeError, ValueError):
         raise Fault(f"{log.name}: no answer log", 2) from None
     # Nothing is cut off a file that is something else.
     if not BEGINNING.startswith(rest[:len(BEGINNING)]):

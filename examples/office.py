@@ -21,6 +21,18 @@ ADDRESS = re.compile(r"(127\.0\.0\.1|localhost):([0-9]{1,5})")
 KEY = re.compile(r"[!-~]{1,64}")
 # The first line of a document.
 TITLE = re.compile(r"[a-z]+( [0-9-]+)+")
+# The members of what else an office answers: of a refusal, and of each reply.
+REFUSAL = {"detail", "name", "rule"}
+REPLIES = (
+    {"done"},
+    {"charge", "version"},
+    {"claim"},
+    {"paid", "to_contributions", "to_interest"},
+    {"items", "list", "total"},
+    {"firms", "run"},
+    {"new", "repeats"},
+    {"arrears", "charged", "credited", "prepaid"},
+)
 
 
 class Fault(Exception):
@@ -61,10 +73,11 @@ class Answer(NamedTuple):
         if self.status == 200 and self.title:
             return 0
         members = self.members
-        rule = 0 if self.status == 200 else members.get("rule")
-        if not isinstance(rule, int):
-            raise self.no_answer_of_an_office()
-        return rule
+        if self.status == 200 and set(members) in REPLIES:
+            return 0
+        if self.status != 200 and set(members) == REFUSAL and isinstance(members["rule"], int):
+            return members["rule"]
+        raise self.no_answer_of_an_office()
 
     def no_answer_of_an_office(self):
         """The Fault of an answer that something else gave, as a proxy."""

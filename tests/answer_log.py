@@ -82,7 +82,10 @@ class AnswerLog(Scripts):
         self.write("batch", REGISTRATION_LINE)
         for page in (b"HTTP/1.1 400 Bad Request\r\nContent-Length: 6\r\n\r\n<html>",
                      b"HTTP/1.1 404 Not Found\r\nContent-Length: 2\r\n\r\n{}",
-                     b"HTTP/1.1 200 OK\r\nContent-Length: 4\r\n\r\nnull"):
+                     b"HTTP/1.1 404 Not Found\r\nContent-Length: 10\r\n\r\n{\"rule\":4}",
+                     b"HTTP/1.1 200 OK\r\nContent-Length: 4\r\n\r\nnull",
+                     b"HTTP/1.1 200 OK\r\nContent-Length: 2\r\n\r\n{}",
+                     b"HTTP/1.1 200 OK\r\nContent-Length: 15\r\n\r\n{\"status\":\"up\"}"):
             with socket.create_server(("127.0.0.1", 0)) as listener:
                 self.address = f"127.0.0.1:{listener.getsockname()[1]}"
 
@@ -98,6 +101,18 @@ class AnswerLog(Scripts):
                 self.assertEqual((said, self.entries()), ("sent: 0, skipped: 0, refused: 0\n", []))
         self.address = right
         self.assertEqual(self.script("answer_log", "batch", "log"), "sent: 1, skipped: 0, refused: 0\n")
+
+    def test_a_log_in_which_pages_stand_for_answers(self):
+        """As an earlier build wrote it: what stands behind them was never sent."""
+        self.open_office()
+        requests = [REGISTRATION_LINE, "GET /employers/1001/owed -\n", "GET /suspense -\n"]
+        pages = ("400 Bad Request", "<html>"), ("200 OK", "{}"), ("200 OK", "suspense 2024-04-30\nlines 0\n")
+        self.write("batch", "".join(requests))
+        self.write("log", "".join(
+            f'{json.dumps({"time": "", "request": request.strip(), "status": status, "answer": page})}\n'
+            for request, (status, page) in zip(requests, pages)))
+        self.assertEqual(self.script("answer_log", "batch", "log"), "sent: 2, skipped: 1, refused: 0\n")
+        self.assertEqual([it["answer"][:15] for it in self.entries()[3:]], ['{"done":true}', '{"arrears":0,"c'])
 
     def test_two_batches_at_once(self):
         self.open_office()

@@ -468,6 +468,16 @@ class Client(Scripts):
                 listener.accept()[0].close()
             self.assertRaises(BlockingIOError, listener.accept)
 
+    def test_each_answer_of_an_office(self):
+        """As docs/http.md has them."""
+        text = (ROOT / "docs/http.md").read_text()
+        bodies = re.findall(r"^\| [A-Z]\w+ \| `(\{.*?\})`", text, re.M)
+        self.assertEqual(len(bodies), 8)
+        for body in bodies:
+            self.assertEqual(office.Answer(200, "OK", body).rule, 0)
+        refusal, = re.findall(r"^\| a refusal \| `(.*)` \|$", text, re.M)
+        self.assertEqual(office.Answer(409, "Conflict", refusal).rule, 10)
+
     def test_what_is_no_office(self):
         with socket.create_server(("127.0.0.1", 0)) as listener:
             client = office.Office(listener.getsockname(), "desk", timeout=10)
