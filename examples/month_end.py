@@ -69,20 +69,20 @@ def save_and_tell(folder, answer):
 
 
 def save_statements(office, folder, firms):
-    count, skipped = 0, []
+    # A number may stand in several ranges.
+    saved, skipped = set(), {}
     for firm in firms:
         answer = office.ask("GET", f"/employers/{firm}/statement")
         if answer.rule == UNKNOWN_EMPLOYER:
-            skipped.append(firm)
+            skipped[firm] = None
         else:
-            save(folder, answer)
-            count += 1
-    print(f"statements: {count}")
+            saved.add(save(folder, answer))
+    print(f"statements: {len(saved)}")
     if skipped:
-        told = " ".join(map(str, skipped[:MOST_TOLD]))
+        told = " ".join(map(str, itertools.islice(skipped, MOST_TOLD)))
         more = " .." if len(skipped) > MOST_TOLD else ""
         print(f"numbers without a firm: {len(skipped)} ({told}{more})")
-    if not count:
+    if not saved:
         raise Fault("no number is a firm's, so no run and no list is made", 2)
 
 
@@ -99,7 +99,8 @@ def make_and_save(office, folder, kind, number, day):
     if title.split()[-1] != day:
         print(f"number {number} made it on an earlier day; a new one needs a new number")
     elif stood:
-        print(f"number {number} made it before; a new one needs a new number")
+        print(f"its file stood in the folder: number {number} made it before, and a new one needs a new number, "
+              "unless the store went back to a backup since")
 
 
 def main():

@@ -262,9 +262,8 @@ class Fund(Scripts):
         before = self.files("january")
         # Once more under the same numbers, and the firms from a file.
         self.write("range.txt", f"{FIRST - 2}-{FIRST + FIRMS - 1}\n{FIRST + FIRMS}-{FIRST + FIRMS + 8}\n")
-        told = "number {} made it before; a new one needs a new number\n"
         *first, payout = said.splitlines(keepends=True)
-        again = "".join([*first, told.format(30_001), payout, told.format(30_002)])
+        again = "".join([*first, made_before(30_001), payout, made_before(30_002)])
         self.assertEqual(self.script(*words[:-1], "range.txt"), again)
         self.assertEqual(self.files("january"), before)
         # Under new numbers nothing is due, which is no fault.
@@ -287,6 +286,11 @@ class Fund(Scripts):
                              sum(of_firm(firm, self.day) for firm in firms), name)
         paid = sum(cents for firm in firms for _, cents in firm.payments)
         self.assertEqual(amounts_in_cents(r"^  paid [0-9-]+ +([0-9.]+) ", text), paid)
+
+
+def made_before(number):
+    return (f"its file stood in the folder: number {number} made it before, and a new one needs a new number, "
+            "unless the store went back to a backup since\n")
 
 
 class MonthEnd(Scripts):
@@ -319,8 +323,27 @@ class MonthEnd(Scripts):
         self.script("month_end", "april", 2, "1001")
         said = self.script("month_end", "april", 2, "1001")
         self.assertEqual(said, "statements: 1\nsuspense 2024-04-30: total 0.00\nreminders 1 2024-04-30: firms 1\n"
-                               "number 2 made it before; a new one needs a new number\n"
-                               "payouts: rule 29 NothingToPay\n")
+                               f"{made_before(2)}payouts: rule 29 NothingToPay\n")
+
+    def test_a_number_that_stands_in_several_ranges(self):
+        """A firm has one statement, and a number without a firm is told once."""
+        said = self.script("month_end", "april", 2, "1001", "1000-1002", "1002")
+        self.assertEqual(said.splitlines()[:2], ["statements: 1", "numbers without a firm: 2 (1000 1002)"])
+
+    def test_a_store_that_went_back_to_a_backup(self):
+        """The run is made anew, and its file of before stands in the folder: no more is told than is known."""
+        self.close_office()
+        self.expect(["backup", "fund.db", "copy.db"], 0, "copied, ledger day 2024-04-30\n")
+        for _ in range(2):
+            self.open_office()
+            said = self.script("month_end", "april", 2, "1001")
+            self.close_office()
+            for path in self.folder.glob("fund.db*"):
+                path.unlink()
+            shutil.copy(self.folder / "copy.db", self.folder / "fund.db")
+            (self.folder / "fund.db").chmod(0o666)
+        self.assertIn(f"reminders 1 2024-04-30: firms 1\n{made_before(2)}", said)
+        self.assertIn("unless the store went back to a backup", said)
 
     def test_no_firm(self):
         """Nothing is made that can't be taken back."""
