@@ -7,6 +7,7 @@ the logs, the certificate and the passing files, are others. It needs nginx and 
 """
 
 import re
+import resource
 import shutil
 import socket
 import ssl
@@ -21,6 +22,8 @@ import program  # noqa: E402
 from program import FIRST_ANSWERS, FIRST_REQUESTS, HEADER, JANUARY, REGISTRATION, post  # noqa: E402
 from program_under_test import ROOT, run_tests  # noqa: E402
 
+# So few files a process has where the proxy is started, that the test is short; commonly they are 1,024.
+FILES = 64
 LENGTH = re.compile(rb"\r\nContent-Length: ([0-9]+)")
 OWED = b"GET /employers/1001/owed HTTP/1.1\r\nHost: fund\r\nOffice-Key: k1001\r\n\r\n"
 MAX_BODY = 1_048_576
@@ -74,8 +77,10 @@ class Proxy(program.Program):
             text = text.replace(here, there)
         configuration = self.write("nginx.conf", text)
         words = ["nginx", "-e", "stderr", "-c", str(configuration), "-g", f"daemon off; pid {self.folder}/nginx.pid;"]
+        files = FILES, resource.getrlimit(resource.RLIMIT_NOFILE)[1]
         self.nginx = subprocess.Popen(words, cwd=self.folder, stdin=subprocess.DEVNULL, stdout=subprocess.DEVNULL,
-                                      stderr=subprocess.PIPE)
+                                      stderr=subprocess.PIPE,
+                                      preexec_fn=lambda: resource.setrlimit(resource.RLIMIT_NOFILE, files))
         # By SIGTERM, so that nginx ends its workers.
         self.addCleanup(self.nginx.communicate)
         self.addCleanup(self.nginx.terminate)
@@ -190,6 +195,16 @@ class Proxy(program.Program):
         else:
             raise AssertionError("no further request is answered")
 
+    def test_connections_without_a_request_keep_nobody_out(self):
+        endless = self.firm()
+        endless.sendall(OWED[:9])
+        for _ in range(FILES):
+            self.addCleanup(socket.create_connection(("127.0.0.1", self.port), timeout=60).close)
+        self.assertEqual(status(self.ask(self.firm(), REGISTRATION)[0]), 200)
+        # A head has 10 seconds; nginx by itself leaves it 60.
+        endless.settimeout(40)
+        self.assertEqual(endless.recv(1), b"")
+
     def test_an_office_that_is_stopped(self):
         peer = self.firm()
         self.ask(peer, REGISTRATION)
@@ -204,13 +219,19 @@ class Proxy(program.Program):
         peer = self.firm()
         for request in (REGISTRATION, JANUARY, OWED):
             self.ask(peer, request)
+        # A key below a blank line that stands too early, and a body that is longer than its length says.
+        for request, refused in ((OWED.replace(b"Office-Key", b"\r\nOffice-Key"), 1),
+                                 (JANUARY.replace(b"Content-Length: 40", b"Content-Length: 9"), 2)):
+            with self.firm() as other:
+                other.sendall(request + b"\r\n")
+                self.assertEqual(self.read_all(other).count(b"HTTP/1.1 400 Bad Request"), refused)
         self.server.kill()
         self.server.communicate()
         self.ask(peer, OWED)
         self.nginx.terminate()
         self.nginx.wait()
         logs = (self.folder / "access.log").read_text(), (self.folder / "error.log").read_text()
-        self.assertEqual(logs[0].count("/employers/1001/owed"), 2)
+        self.assertEqual(logs[0].count("/employers/1001/owed"), 3)
         self.assertIn("Connection refused", logs[1])
         for log in logs:
             self.assertNotRegex(log, "desk|k1001|Nord|gross")
