@@ -2,8 +2,8 @@
 --
 --     sqlite3 copy.db < examples/recompute.sql
 --
--- Nothing is told where they are equal. Else a line has what it is of, the firm, the month or the
--- day, whether it is kept or recomputed, and its values. Contributions are set beside the latest
+-- Nothing is told where they are equal. Else a line has what it is of, the firm or the list, the month
+-- or the day, whether it is kept or recomputed, and its values. Contributions are set beside the latest
 -- reports and the rates, payments beside the bank lines that have a firm and the set-offs of
 -- releases, pieces beside contributions and payments, and what is open of a contribution, with its
 -- weight, beside the pieces. Of a claim the three parts of its release have to come to it, and a
@@ -22,7 +22,7 @@ FROM (
       * rate.contribution + 5000) / 10000,
     -1
   FROM reports AS reported
-  JOIN rates AS rate ON rate.first = (SELECT max(first) FROM rates WHERE first <= reported.month))
+  LEFT JOIN rates AS rate ON rate.first = (SELECT max(first) FROM rates WHERE first <= reported.month))
 GROUP BY employer, month, due, cents HAVING sum(side) <> 0;
 
 SELECT 'payment', employer, date(day * 86400, 'unixepoch'),
@@ -35,9 +35,9 @@ FROM (
   SELECT employer, purpose, value, serial, cents, reference, -1 FROM bank WHERE employer IS NOT NULL
   UNION ALL
   SELECT employer, 'C', released, 0, to_contributions, 'set-off ' || no, -1 FROM claims
-    WHERE to_contributions > 0
+    WHERE to_contributions <> 0
   UNION ALL
-  SELECT employer, 'I', released, 0, to_interest, 'set-off ' || no, -1 FROM claims WHERE to_interest > 0)
+  SELECT employer, 'I', released, 0, to_interest, 'set-off ' || no, -1 FROM claims WHERE to_interest <> 0)
 GROUP BY employer, purpose, day, serial, cents, ref HAVING sum(side) <> 0;
 
 SELECT 'piece', employer, printf('%d-%02d', 2000 + month / 12, month % 12 + 1),
@@ -80,7 +80,10 @@ GROUP BY employer, month, open, weight HAVING sum(side) <> 0;
 SELECT 'release', employer, no, 'kept', cents, to_contributions, to_interest, paid
 FROM claims WHERE CASE state WHEN 2 THEN cents ELSE 0 END <> to_contributions + to_interest + paid;
 
-SELECT 'list', list.no, date(list.day * 86400, 'unixepoch'), 'kept', list.items, list.total,
-  'recomputed', count(claim.no), coalesce(sum(claim.paid), 0)
-FROM lists AS list LEFT JOIN claims AS claim ON claim.list = list.no
-GROUP BY list.no HAVING list.items <> count(claim.no) OR list.total <> coalesce(sum(claim.paid), 0);
+SELECT 'list', no, date(max(day) * 86400, 'unixepoch'),
+  CASE WHEN sum(side) > 0 THEN 'kept' ELSE 'recomputed' END, items, total
+FROM (
+  SELECT no, day, items, total, 1 AS side FROM lists
+  UNION ALL
+  SELECT list, NULL, count(*), sum(paid), -1 FROM claims WHERE list IS NOT NULL GROUP BY list)
+GROUP BY no, items, total HAVING sum(side) <> 0;

@@ -1,5 +1,6 @@
 """The kept contributions, what is open of them, their weights and their pieces in stores of the built program, read by
-Python's sqlite3: against an allocation of its own, and by the statements of examples/recompute.sql.
+Python's sqlite3: against an allocation of its own, and by the statements of examples/recompute.sql and of
+docs/formats.md.
 
     python3 tests/pieces.py [PROGRAM]
 
@@ -9,6 +10,7 @@ PROGRAM is crates/clear_app/out/clear_app where it isn't given, as `rt ci` leave
 import http.client
 import json
 import random
+import re
 import sqlite3
 import sys
 from collections import Counter
@@ -429,6 +431,7 @@ class Pieces(ProgramUnderTest):
             "DELETE FROM pieces": {
                 ("piece", january): 2, ("piece", february): 1, ("paid", january): 2, ("paid", february): 2},
             "DELETE FROM charges WHERE month = 289": {("contribution", february): 1, ("piece", february): 1},
+            "INSERT INTO reports VALUES (1001, 280, 1)": {("contribution", "2023-05"): 1},
             "UPDATE bank SET cents = cents + 1 WHERE reference = 'B2'": {("payment", late): 2},
             "UPDATE credits SET cents = cents + 1 WHERE purpose = 'I'": {("payment", late): 2},
             "DELETE FROM credits WHERE ref = 'B2'": {
@@ -440,6 +443,36 @@ class Pieces(ProgramUnderTest):
                 rows = self.recomputed()
                 self.assertEqual({row[1] for row in rows}, {1001})
                 self.assertEqual(Counter((kind, when) for kind, _, when, *_ in rows), told)
+
+    def test_the_sums_of_the_formats(self):
+        """What the three sums of docs/formats.md find: a contribution, a firm, a payment."""
+        text = (ROOT / "docs/formats.md").read_text()
+        sums = re.findall(r"(?<=\n\n)    SELECT.*\n(?:    .*\n)*", text)
+        self.assertEqual(len(sums), 3)
+        self.one_firm(
+            lambda office, firm: office.report(firm, 1, 1_000_000),
+            lambda office, firm: office.report(firm, 2, 500_050),
+            lambda office, firm: office.bank(
+                [(firm, "2024-02-25", 200_000, "C"), (firm, "2024-04-21", 150_000, "C")]))
+        whole = (self.folder / "fund.db").read_bytes()
+        firm, first, second = [(1001,)], (1001, "B1"), (1001, "B2")
+        # 300,010 are owed, and 350,000 were paid.
+        for statement, found in {
+            "UPDATE charges SET open = 1 WHERE month = 289": [[(1001, 289)], [], []],
+            "UPDATE pieces SET cents = cents - 1 WHERE ref = 'B1'": [[(1001, 288)], firm, []],
+            "UPDATE pieces SET cents = cents + 1 WHERE ref = 'B1'": [[(1001, 288)], firm, [first]],
+            "DELETE FROM pieces": [[(1001, 288), (1001, 289)], firm, []],
+            "DELETE FROM charges WHERE month = 289": [[], firm, []],
+            "DELETE FROM charges": [[], firm, []],
+            "DELETE FROM credits WHERE ref = 'B2'": [[], firm, [second]],
+            "UPDATE credits SET day = day - 1 WHERE ref = 'B2'": [[], [], [second]],
+            "UPDATE credits SET cents = 100009 WHERE ref = 'B2'": [[], firm, [second]],
+        }.items():
+            with self.subTest(statement):
+                self.write("fund.db", whole)
+                self.assertEqual([self.rows(it) for it in sums], [[], [], []])
+                self.change(statement)
+                self.assertEqual([self.rows(it) for it in sums], found)
 
     def test_what_is_told_of_releases_and_lists(self):
         """Two claims on one list, the first of which pays first what is owed."""
@@ -460,7 +493,12 @@ class Pieces(ProgramUnderTest):
             "UPDATE claims SET paid = paid + 1 WHERE no = 1": {("release", 1001), ("list", 1)},
             "UPDATE claims SET cents = cents + 1 WHERE no = 2": {("release", 1001)},
             "UPDATE claims SET state = 1 WHERE no = 1": {("release", 1001)},
+            "UPDATE claims SET paid = paid + 1, to_interest = to_interest - 1 WHERE no = 2": {
+                ("payment", 1001), ("list", 1)},
             "UPDATE claims SET list = NULL WHERE no = 2": {("list", 1)},
+            "UPDATE claims SET list = 2 WHERE no = 2": {("list", 1), ("list", 2)},
+            "UPDATE lists SET no = 2": {("list", 1), ("list", 2)},
+            "DELETE FROM lists": {("list", 1)},
             "UPDATE lists SET items = 3": {("list", 1)},
             "UPDATE lists SET total = total + 100000": {("list", 1)},
         }.items():
