@@ -101,6 +101,12 @@ class Proxy(program.Program):
         self.addCleanup(peer.close)
         return peer
 
+    def slow_firm(self):
+        """A connection on which the end of a body is still to come. Its head has come in time."""
+        peer = self.firm()
+        peer.sendall(JANUARY[:-5])
+        return peer
+
     def ask(self, peer, request):
         """The head and the body of the answer to a request."""
         peer.sendall(request)
@@ -163,9 +169,9 @@ class Proxy(program.Program):
         self.assertIn(b'"charged":0', self.ask(peer, OWED)[1])
 
     def test_a_slow_firm_keeps_nobody_waiting(self):
-        slow, other = self.firm(), self.firm()
+        other = self.firm()
         self.ask(other, REGISTRATION)
-        slow.sendall(JANUARY[:-5])
+        slow = self.slow_firm()
         time.sleep(0.5)
         begun = time.monotonic()
         self.assertIn(b'"charged":0', self.ask(other, OWED)[1])
@@ -174,10 +180,8 @@ class Proxy(program.Program):
         self.assertIn(b'"version":1', self.ask(slow, JANUARY[-5:])[1])
 
     def test_one_address_has_so_many_requests_at_a_time(self):
-        slow = [self.firm() for _ in range(20)]
-        self.ask(slow[0], REGISTRATION)
-        for peer in slow:
-            peer.sendall(JANUARY[:-5])
+        self.ask(self.firm(), REGISTRATION)
+        slow = [self.slow_firm() for _ in range(20)]
         # Until nginx has read the last of their heads the next one is answered.
         for _ in range(100):
             if status(self.ask(self.firm(), OWED)[0]) == 503:
