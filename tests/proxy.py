@@ -168,6 +168,17 @@ class Proxy(program.Program):
         self.assertEqual(status(peer.recv(65536)), 405)
         self.assertIn(b'"charged":0', self.ask(peer, OWED)[1])
 
+    def test_what_the_proxy_refuses_by_itself(self):
+        for request, wanted in (
+                (OWED.replace(b"Host: fund\r\n", b""), 400),
+                (with_field(OWED, b"X: " + b"y" * 8_200), 400),
+                (OWED.replace(b"GET", b"TRACE"), 405),
+                (OWED.replace(b"/owed", b"/" + b"o" * 8_200), 414),
+                (with_field(OWED, b"Transfer-Encoding: gzip"), 501),
+                (OWED.replace(b"HTTP/1.1", b"HTTP/2.0"), 505)):
+            head, body = self.ask(self.firm(), request)
+            self.assertEqual((status(head), body[:6]), (wanted, b"<html>"))
+
     def test_a_slow_firm_keeps_nobody_waiting(self):
         other = self.firm()
         self.ask(other, REGISTRATION)
