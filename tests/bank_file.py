@@ -194,6 +194,26 @@ class Firms(BankFiles):
                      "DE89370400440532013000 1001"):
             self.finds("1001", text, table=table)
 
+    def test_numbers_that_go_with_others(self):
+        """A day with its month and year, amounts on both sides of a currency, and what the bank cut in two."""
+        firms = (3, 5, 12, 24, 25, 500, 1001, 1002, 3704, 4898)
+        self.write("firms.csv", "iban,employer\n" + "".join(f",{firm}\n" for firm in firms))
+        none = ("30. April 24", "1 Mai 24", "Jan-24", "Mai/24", "24-Apr-2024", "5.Mai.24", "Jaenner 24",
+                "May 5, 2024", "12. 05. 2024", "12. 4. 23", "12.4. 24", "03/ 24", "03 /24", "Mai 24/25",
+                "1001 EUR 500", "24 EUR 7", "EUR 1001/1002", "EUR = 1001", "1001,– €",
+                "IBAN DE 12 5001 0517 0648 4898 90", ["Betrag 1001", ",50"], ["1001,", "50 EUR"],
+                ["12.", "5.2024"], ["1001 10", "02"], ["1001", "24.50"],
+                ["IBAN DE89 3704 0044", "0532 0130 00"], ["IBAN DE12 50", "01 0517 0648 4898 90"])
+        known = ("1001 / 03/2024", "1001/Mai 24", "Mai/1001", "Betrieb 1001 - EUR 500", "1001, 12.04.2024",
+                 "KW24 Betrieb 1001", ["Beitrag 03/2024,", "Betrieb 1001"], ["EUR 500", "Betrieb 1001", "Mai 24"],
+                 ["Nr.", "1001", "-Mai"])
+        texts = [*none, *known]
+        entries = [payment("1.00", text, "", STRANGE, f"N-{at}") for at, text in enumerate(texts)]
+        output, _ = self.made(one("0", str(len(texts)), *entries))
+        found = [line.split(",")[2] for line in output.splitlines()]
+        wanted = [""] * len(none) + ["1001"] * len(known)
+        self.assertEqual([*zip(texts, found)], [*zip(texts, wanted)])
+
     def test_numbers_behind_a_word(self):
         self.write("firms.csv", "iban,employer\n,1001\n,2024\n")
         for text, firm in (("Betrieb 2024", "2024"), ("BETRIEB: 2024, 1001", "2024"), ("Betrieb Nr. 1001", "1001"),

@@ -72,15 +72,6 @@ class Transaction:
     def text(self) -> str:
         return " ".join(self.texts)
 
-    @property
-    def searched_text(self) -> str:
-        """The text, in which digits don't end one part and begin the next: such a number may be cut in two."""
-        joined = ""
-        for part in self.texts:
-            seam = "_" if joined[-1:].isdigit() and part[0].isdigit() else " "
-            joined += seam + part
-        return joined[1:]
-
 
 @dataclass(frozen=True)
 class Entry:

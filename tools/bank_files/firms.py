@@ -3,7 +3,7 @@
 from __future__ import annotations
 
 import re
-from collections.abc import Iterable, Iterator
+from collections.abc import Iterable
 from dataclasses import dataclass, field
 from enum import Enum
 
@@ -15,27 +15,36 @@ IBAN = re.compile("[A-Z]{2}[0-9]{2}[A-Z0-9]{11,30}")
 EMPLOYER = re.compile("[1-9][0-9]{0,7}")
 MOST_FAULTS = 20
 # Digits that are a word: no part of a longer word, a date or a fraction.
-NUMBER_WORD = re.compile(r"(?<!\w)(?<![0-9][.,:/-])[0-9]+(?!\w)(?![.,:/-][0-9])")
+NUMBER_WORD = re.compile(r"(?<!\w)(?<![0-9_][.,:/-])[0-9]+(?!\w)(?![.,:/-][0-9])")
 WORD_BEFORE = re.compile(r"(\w+)\W{1,3}\Z")
 # A number that may be a year counts only behind a word that the clerk has named.
 YEAR = re.compile("19[0-9]{2}|2[01][0-9]{2}|2200")
-MONTH = ("(?:januar|jänner|january|jan|februar|feber|february|feb|märz|maerz|march|mär|mrz|april|apr|mai|may|"
-         "juni|june|jun|juli|july|jul|august|aug|september|sept|sep|oktober|october|okt|oct|november|nov|"
+MONTH = ("(?:januar|jänner|jaenner|january|jan|februar|feber|february|feb|märz|maerz|march|mär|mrz|april|apr|"
+         "mai|may|juni|june|jun|juli|july|jul|august|aug|september|sept|sep|oktober|october|okt|oct|november|nov|"
          r"dezember|december|dez|dec)\b\.?")
+DAY_BEFORE = r"(?<![0-9])[0-3]?[0-9]\.?[ /-]?\b"
+DAY_OR_YEAR_BEHIND = "[ ./'’-]{0,2}[0-9]{1,2}(?![0-9])"
 CURRENCY = r"(?:\b(?:euros?|eur|usd|chf|gbp)\b|[€$£])"
 AMOUNT = r"(?<![0-9])(?:[0-9]{1,3}(?:[ .'’][0-9]{3})+|[0-9]+)(?:[.,][0-9]+)?(?![0-9])"
+AMOUNT_BEHIND = f"[ :.=]{{0,3}}{AMOUNT}"
 # What has digits and isn't a firm's number, of a text as casefold() leaves it.
 OTHER_NUMBERS = re.compile("|".join((
     # An IBAN.
-    r"\b[a-z]{2}[0-9]{2}(?: ?[a-z0-9]{4}){2,7}(?: ?[a-z0-9]{1,3})?\b",
-    # An amount, by its currency or its dash; a percentage; digits in groups.
-    rf"{CURRENCY}[ :.]{{0,2}}{AMOUNT}",
-    rf"{AMOUNT} ?(?:{CURRENCY}|[.,]-|%)",
+    r"\b(?:de ?|[a-z]{2})[0-9]{2}(?: ?[a-z0-9]{4}){2,7}(?: ?[a-z0-9]{1,3})?\b",
+    # An amount on either side of its currency, or with a dash; a percentage; digits in groups.
+    f"{AMOUNT} ?{CURRENCY}(?:{AMOUNT_BEHIND})?",
+    f"{CURRENCY}{AMOUNT_BEHIND}",
+    f"{AMOUNT} ?(?:[.,][-–]|%)",
     r"(?<![0-9])[0-9]{1,3}(?:[ '’][0-9]{3})+(?:[.,][0-9]+)?(?![0-9])",
-    # A day of a month, and a month of a year.
-    rf"(?<![0-9])[0-3]?[0-9]\.? ?\b{MONTH}",
-    rf"\b{MONTH} ?['’]?[0-9]{{2}}(?![0-9])",
+    # A day of a month, a month of a year, or both.
+    f"{DAY_BEFORE}{MONTH}(?:{DAY_OR_YEAR_BEHIND})?",
+    rf"\b{MONTH}{DAY_OR_YEAR_BEHIND}",
+    # The same in digits with spaces.
+    r"(?<![0-9])[0-3]?[0-9]\. ?[01]?[0-9]\.(?: ?(?:19|2[01])?[0-9]{2}(?![0-9]))?",
+    "(?<![0-9])[01]?[0-9] ?/ ?[0-9]{2}(?![0-9])",
 )))
+# Where a number may go on from one part of a text to the next.
+SEAM = re.compile(r"(?<=[0-9])\n(?=[.,:/'’-]?[0-9])|(?<=[0-9][.,:/'’-])\n(?=[0-9])")
 
 
 class Found(Enum):
@@ -54,25 +63,28 @@ class Firms:
     # As casefold() leaves them; where there are any, a number counts only behind one of them.
     number_words: frozenset[str] = field(default=frozenset())
 
-    def firm_of(self, iban: str, text: str) -> tuple[str, Found]:
-        """The firm that paid from this account with this text; empty where none is found."""
+    def firm_of(self, iban: str, texts: Iterable[str]) -> tuple[str, Found]:
+        """The firm that paid from this account with these parts of a text; empty where none is found."""
         firm = self.by_iban.get(without_spaces(iban))
         if firm:
             return firm, Found.BY_IBAN
-        told = [*self.numbers.intersection(self.numbers_of(text))]
-        return (told[0], Found.BY_NUMBER) if len(told) == 1 else ("", Found.NOT_FOUND)
+        # The bank may have cut a number in two, so it has to stand there also once the parts are put together.
+        parts = "\n".join(texts).casefold()
+        apart, together = self.numbers_of(parts), self.numbers_of(SEAM.sub("", parts))
+        told = self.numbers & (apart | together)
+        is_one = len(told) == 1 and told <= apart & together
+        return (*told, Found.BY_NUMBER) if is_one else ("", Found.NOT_FOUND)
 
-    def numbers_of(self, text: str) -> Iterator[str]:
+    def numbers_of(self, text: str) -> set[str]:
         """The numbers in a text that may be those of firms."""
-        searched = OTHER_NUMBERS.sub(" _ ", text.casefold())
-        for found in NUMBER_WORD.finditer(searched):
-            if self.number_words:
-                before = WORD_BEFORE.search(searched, 0, found.start())
-                is_one = before is not None and before[1] in self.number_words
-            else:
-                is_one = not YEAR.fullmatch(found[0])
-            if is_one:
-                yield found[0]
+        searched = OTHER_NUMBERS.sub("_", text.replace("\n", " "))
+        return {it[0] for it in NUMBER_WORD.finditer(searched) if self.may_be_a_firm(it)}
+
+    def may_be_a_firm(self, number: re.Match) -> bool:
+        if not self.number_words:
+            return not YEAR.fullmatch(number[0])
+        before = WORD_BEFORE.search(number.string, 0, number.start())
+        return before is not None and before[1] in self.number_words
 
 
 def without_spaces(iban: str) -> str:
