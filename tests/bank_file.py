@@ -195,7 +195,7 @@ class Firms(BankFiles):
             self.finds("1001", text, table=table)
 
     def test_numbers_that_go_with_others(self):
-        """A day with its month and year, amounts on both sides of a currency, and what the bank cut in two."""
+        """Days with months and years, amounts on both sides of a currency, and what the bank cut in two."""
         firms = (3, 5, 12, 24, 25, 500, 1001, 1002, 3704, 4898)
         self.write("firms.csv", "iban,employer\n" + "".join(f",{firm}\n" for firm in firms))
         none = ("30. April 24", "1 Mai 24", "Jan-24", "Mai/24", "24-Apr-2024", "5.Mai.24", "Jaenner 24",
@@ -205,8 +205,8 @@ class Firms(BankFiles):
                 ["12.", "5.2024"], ["1001 10", "02"], ["1001", "24.50"],
                 ["IBAN DE89 3704 0044", "0532 0130 00"], ["IBAN DE12 50", "01 0517 0648 4898 90"])
         known = ("1001 / 03/2024", "1001/Mai 24", "Mai/1001", "Betrieb 1001 - EUR 500", "1001, 12.04.2024",
-                 "KW24 Betrieb 1001", ["Beitrag 03/2024,", "Betrieb 1001"], ["EUR 500", "Betrieb 1001", "Mai 24"],
-                 ["Nr.", "1001", "-Mai"])
+                 "KW24 Betrieb 1001", ["Beitrag 03/2024,", "Betrieb 1001"], ["Nr.", "1001", "-Mai"],
+                 ["EUR 500", "Betrieb 1001", "Mai 24"])
         texts = [*none, *known]
         entries = [payment("1.00", text, "", STRANGE, f"N-{at}") for at, text in enumerate(texts)]
         output, _ = self.made(one("0", str(len(texts)), *entries))
@@ -274,9 +274,16 @@ class Firms(BankFiles):
         # Of another payer or text it is another payment, which the office refuses under that reference.
         self.write("made.csv", HEADER + "E-1,2024-04-30,1001,200,C,z\n")
         self.makes(content, ["E-1,2024-04-30,5,200,C,x", "E-2,2024-04-30,5,300,C,y"], "--earlier", "made.csv")
+        words = "--firms", "firms.csv", "--earlier", "made.csv"
         self.write("made.csv", "reference,cents\n")
-        self.refuses(content, f"made.csv: the first line isn't {HEADER.strip()}", 2,
-                     words=("--firms", "firms.csv", "--earlier", "made.csv"))
+        self.refuses(content, f"made.csv: the first line isn't {HEADER.strip()}", 2, words=words)
+        # As a spreadsheet writes it anew, no payment of it would be known.
+        for line, said in (("E-1,30.04.2024,1001,200,C,x", "value_date is 30.04.2024"),
+                           ('E-1,2024-04-30,"1.001",200,C,x', "employer is 1.001"),
+                           ("E-1,2024-04-30,1001,2E+02,C,x", "cents is 2E+02")):
+            self.write("made.csv", f"{HEADER}{line}\n")
+            self.refuses(content, f"made.csv, line 2: {said}, which the office doesn't take; "
+                         "give the file as it was imported", 2, words=words)
 
 
 class Batches(BankFiles):
@@ -418,6 +425,18 @@ class Balances(BankFiles):
         self.refuses(document(*PAGES).replace(">120.00", ">121.00"), f"{S1}: the opening balance -10.00 EUR and "
                      "the booked entries make 120.00 EUR, but the closing balance is 121.00 EUR")
 
+    def test_balances_of_pages_by_their_sub_type(self):
+        def interim(code, amount):
+            return balance(code, amount).replace("</Tp>", "<SubTp><Cd>INTM</Cd></SubTp></Tp>")
+
+        first = page(balance("OPBD", "1.00") + interim("CLBD", "3.00"), payment("2.00", reference="A"),
+                     number="1", last="false")
+        second = page(interim("OPBD", "3.00") + balance("CLBD", "7.00"), payment("4.00", reference="B"),
+                      number="2")
+        self.makes(document(first, second), ["A,2024-04-30,,200,C,", "B,2024-04-30,,400,C,"])
+        self.refuses(document(first, second.replace(">3.00<", ">3.01<")),
+                     f"{S1}: the interim balances of page 2 don't agree with the other pages and the entries")
+
     def test_messages_of_version_02_by_pages(self):
         def message(number, last, *statements):
             paged = f"<MsgPgntn><PgNb>{number}</PgNb><LastPgInd>{last}</LastPgInd></MsgPgntn>"
@@ -476,6 +495,12 @@ class References(BankFiles):
                      words=words)
         self.write("made.csv", HEADER + "B,2024-04-30,,800,C,\n")
         self.makes(document(parted), ["T1,2024-04-30,,400,C,", "T2,2024-04-30,,500,C,"], "--earlier", "made.csv")
+
+    def test_two_entries_of_one_reference_in_two_statements(self):
+        both = [entry("3.00", transaction("3.00", reference=it), reference="E") for it in ("T1", "T2")]
+        twice = [statement("0", "6.00", *both, identifier=it) for it in ("S1", "S2")]
+        told = self.makes(document(*twice), ["T1,2024-04-30,,300,C,", "T2,2024-04-30,,300,C,"])
+        self.assertIn("left out in all, stands in two statements: 2, 6.00 EUR\n", told)
 
     def test_entries_of_other_references(self):
         part = transaction("3.00", reference="1")

@@ -204,7 +204,9 @@ def read_page_number(node: Node, path: str) -> int:
 def read_balance(node: Node) -> Balance:
     money = read_money(node, "Amt")
     amount = money.amount if read_direction(node) else -money.amount
-    return Balance(node.text("Tp/CdOrPrtry/Cd"), Money(amount, money.currency))
+    # One between two pages may have the code of an opening or a closing balance, and tell it by its sub type.
+    code = "ITBD" if node.text("Tp/SubTp/Cd") == "INTM" else node.text("Tp/CdOrPrtry/Cd")
+    return Balance(code, Money(amount, money.currency))
 
 
 def read_entry(node: Node, account: str) -> Entry:

@@ -6,12 +6,16 @@ the office would refuse a line that comes again as a conflict, unless it is writ
 
 from __future__ import annotations
 
+import re
 from collections.abc import Iterable
 from dataclasses import dataclass
 
 from .tables import read_rows
+from .texts import Fault, shown
 
 HEADER = ("reference", "value_date", "employer", "cents", "purpose", "note")
+# How the office has the fields before the note.
+WRITTEN = ("[!-~]{1,35}", "[0-9]{4}-[0-9]{2}-[0-9]{2}", "([1-9][0-9]{0,7})?", "[1-9][0-9]{0,11}", "[CI]?")
 
 
 @dataclass(frozen=True)
@@ -27,6 +31,15 @@ def read_earlier(paths: Iterable[str]) -> dict[str, EarlierLine]:
     """The lines of bank files by their references, of which the first one counts."""
     lines: dict[str, EarlierLine] = {}
     for path in paths:
-        for _, (reference, value, employer, cents, purpose, note) in read_rows(path, HEADER):
-            lines.setdefault(reference, EarlierLine(value, employer, cents, purpose, note))
+        for place, fields in read_rows(path, HEADER):
+            check_fields(place, fields)
+            lines.setdefault(fields[0], EarlierLine(*fields[1:]))
     return lines
+
+
+def check_fields(place: str, fields: list[str]) -> None:
+    """Refuses a line that was written anew, as by a spreadsheet: it wouldn't be known again."""
+    for name, written, field in zip(HEADER, WRITTEN, fields):
+        if not re.fullmatch(written, field):
+            raise Fault(f"{place}: {name} is {shown(field) or 'empty'}, which the office doesn't take; "
+                        "give the file as it was imported")

@@ -163,8 +163,8 @@ class BankFile:
     left_out: list[LeftOut] = field(default_factory=list)
     # Each line's payment by its reference.
     payments: dict[str, Payment] = field(default_factory=dict)
-    # The statement in which an entry first stood, and the references of its payments.
-    parts: dict[tuple, tuple[Statement, list[str]]] = field(default_factory=dict)
+    # The statement in which an entry first stood, and each time that it stood there its payments' references.
+    parts: dict[tuple, tuple[Statement, list[list[str]]]] = field(default_factory=dict)
 
     def add(self, statement: Statement) -> None:
         used: Counter[str] = Counter()
@@ -184,8 +184,10 @@ class BankFile:
             return
         own = [it.reference for it in payments]
         key = statement.account, entry.reference, entry.booked, entry.value, entry.money
-        first, parts = self.parts.setdefault(key, (statement, own))
-        if first is not statement and parts != own:
+        first, parts = self.parts.setdefault(key, (statement, []))
+        if first is statement:
+            parts.append(own)
+        elif own not in parts:
             raise Refusal(f"{called} stands in {first.called} with other references of its transactions, "
                           "so it would count twice; give one of the two statements")
         before = self.earlier.get(fit_reference(entry.reference, 1))
