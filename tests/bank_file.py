@@ -315,7 +315,13 @@ class Batches(BankFiles):
                                      (2, [transaction("4.00", "Zinsen")], "B,2024-04-30,,900,C,Zinsen")):
             batch = f"<Btch><NbOfTxs>{count}</NbOfTxs></Btch>"
             self.makes(one("0", "9.00", entry("9.00", *details, reference="B", batch=batch)), [line])
-        self.makes(one("0", "9.00", entry("9.00", nord, reference="B")), ["B,2024-04-30,,900,C,Bau Nord: Mai"])
+        for details, line in ((nord, "B,2024-04-30,,900,C,Bau Nord: Mai"),
+                              (transaction("4.00", more=RETURNED), "B,2024-04-30,,900,C,")):
+            self.makes(one("0", "9.00", entry("9.00", details, reference="B")), [line])
+        # What the bank takes back may have its fee in it.
+        taken = entry("9.00", transaction("4.00", more=RETURNED), direction="DBIT")
+        self.assertIn("left out in all, returned payment (a debit): 1, 9.00 EUR\n",
+                      self.makes(as_02(one("9.00", "0", taken)), []))
 
     def test_the_amounts_of_its_transactions_are_its_own(self):
         for content in (BATCH, as_02(BATCH)):

@@ -211,20 +211,19 @@ def read_balance(node: Node) -> Balance:
 
 def read_entry(node: Node, account: str) -> Entry:
     details = list(node.parts("NtryDtls"))
-    is_credit = read_direction(node)
+    is_credit, money = read_direction(node), read_money(node, "Amt")
+    transactions = tuple(
+        read_transaction(it, account if is_credit else None) for part in details for it in part.parts("TxDtls"))
     return Entry(
         status=node.need("Sts/Cd", "Sts/Prtry", "Sts"),
         is_credit=is_credit,
-        money=read_money(node, "Amt"),
+        money=money,
         is_reversal=node.flag("RvslInd") or came_back(node),
         reference=read_reference(node, "AcctSvcrRef"),
         booked=read_day(node, "BookgDt"),
         value=read_day(node, "ValDt"),
-        transactions=tuple(
-            read_transaction(it, account if is_credit else None)
-            for part in details for it in part.parts("TxDtls")
-        ),
-        is_detailed=all(map(has_all_transactions, details)),
+        transactions=transactions,
+        is_detailed=all(map(has_all_transactions, details)) and not (is_credit and is_part(transactions, money)),
     )
 
 
@@ -232,6 +231,12 @@ def has_all_transactions(details: Node) -> bool:
     """Whether as many transactions stand there as the batch is said to have, if it is said."""
     announced = details.text("Btch/NbOfTxs")
     return not announced or announced.lstrip("0") == str(sum(1 for _ in details.parts("TxDtls")))
+
+
+def is_part(transactions: tuple[Transaction, ...], whole: Money) -> bool:
+    """Whether a single transaction is less than its credit, so that others aren't told."""
+    credited = transactions[0].credited if len(transactions) == 1 else None
+    return credited is not None and credited.currency == whole.currency and credited.amount < whole.amount
 
 
 def read_transaction(node: Node, credited_account: str | None) -> Transaction:

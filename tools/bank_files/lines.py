@@ -133,15 +133,8 @@ def payments_of(statement: Statement, place: int, entry: Entry) -> Iterator[Paym
             value=entry.value or entry.booked,
             money=money,
             transactions=group,
-            is_detailed=entry.is_detailed and not is_part(own, entry),
+            is_detailed=entry.is_detailed,
         )
-
-
-def is_part(own: Transaction | None, entry: Entry) -> bool:
-    """Whether a single transaction is less than its entry, so that others aren't told."""
-    credited = own.credited if own and len(entry.transactions) == 1 else None
-    return (credited is not None and credited.currency == entry.money.currency
-            and credited.amount < entry.money.amount)
 
 
 def made_reference(kind: str, *parts: str) -> str:
