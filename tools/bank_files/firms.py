@@ -20,31 +20,33 @@ WORD_BEFORE = re.compile(r"(\w+)\W{1,3}\Z")
 # A number that may be a year counts only behind a word that the clerk has named.
 YEAR = re.compile("19[0-9]{2}|2[01][0-9]{2}|2200")
 MONTH = ("(?:januar|jänner|jaenner|january|jan|februar|feber|february|feb|märz|maerz|march|mär|mrz|april|apr|"
-         "mai|may|juni|june|jun|juli|july|jul|august|aug|september|sept|sep|oktober|october|okt|oct|november|nov|"
-         r"dezember|december|dez|dec)\b\.?")
-DAY_BEFORE = r"(?<![0-9])[0-3]?[0-9]\.?[ /-]?\b"
-DAY_OR_YEAR_BEHIND = "[ ./'’-]{0,2}[0-9]{1,2}(?![0-9])"
+         "mai|may|juni|june|jun|juli|july|jul|august|aug|september|sept|sep|oktober|october|okt|oct|"
+         r"november|nov|dezember|december|dez|dec)\b\.?")
+# A day of a month, and what may stand between a month and its year.
+DAY = rf"[0-3]?[0-9](?:\. ?[01]?[0-9]\.|\.?[ /-]?\b{MONTH})"
+BEHIND_MONTH = f"[ ./'’-]{{0,2}}(?!{DAY})"
 CURRENCY = r"(?:\b(?:euros?|eur|usd|chf|gbp)\b|[€$£])"
-AMOUNT = r"(?<![0-9])(?:[0-9]{1,3}(?:[ .'’][0-9]{3})+|[0-9]+)(?:[.,][0-9]+)?(?![0-9])"
-AMOUNT_BEHIND = f"[ :.=]{{0,3}}{AMOUNT}"
+GROUPS = "[0-9]{1,3}(?:[ .'’][0-9]{3})+"
+AMOUNT = rf"(?<![0-9])(?<![0-9][.,:/-])(?:{GROUPS}|[0-9]+)(?:[.,][0-9]+)?(?![0-9])"
+AMOUNT_BEHIND = f"[ :.=]{{0,3}}(?!{DAY}){AMOUNT}"
 # What has digits and isn't a firm's number, of a text as casefold() leaves it.
 OTHER_NUMBERS = re.compile("|".join((
     # An IBAN.
-    r"\b(?:de ?|[a-z]{2})[0-9]{2}(?: ?[a-z0-9]{4}){2,7}(?: ?[a-z0-9]{1,3})?\b",
+    r"\b(?:de ?|[a-z]{2})[0-9]{2} ?[a-z0-9]{4}(?: ?(?=[a-z]{0,3}[0-9])[a-z0-9]{4}){1,6}"
+    rf"(?: ?(?!{DAY})[0-9]{{1,3}})?\b",
     # An amount on either side of its currency, or with a dash; a percentage; digits in groups.
     f"{AMOUNT} ?{CURRENCY}(?:{AMOUNT_BEHIND})?",
     f"{CURRENCY}{AMOUNT_BEHIND}",
     f"{AMOUNT} ?(?:[.,][-–]|%)",
-    r"(?<![0-9])[0-9]{1,3}(?:[ '’][0-9]{3})+(?:[.,][0-9]+)?(?![0-9])",
-    # A day of a month, a month of a year, or both.
-    f"{DAY_BEFORE}{MONTH}(?:{DAY_OR_YEAR_BEHIND})?",
-    rf"\b{MONTH}{DAY_OR_YEAR_BEHIND}",
-    # The same in digits with spaces.
-    r"(?<![0-9])[0-3]?[0-9]\. ?[01]?[0-9]\.(?: ?(?:19|2[01])?[0-9]{2}(?![0-9]))?",
+    f"(?<![0-9]){GROUPS}(?:[.,][0-9]+)?(?![0-9])",
+    # A date, a month with its day or year, and a month of a year in digits.
+    f"(?<![0-9]){DAY}(?:{BEHIND_MONTH}(?:19|2[01])?[0-9]{{2}}(?![0-9]))?",
+    rf"\b{MONTH}{BEHIND_MONTH}[0-9]{{1,2}}(?![0-9])",
     "(?<![0-9])[01]?[0-9] ?/ ?[0-9]{2}(?![0-9])",
 )))
-# Where a number may go on from one part of a text to the next.
-SEAM = re.compile(r"(?<=[0-9])\n(?=[.,:/'’-]?[0-9])|(?<=[0-9][.,:/'’-])\n(?=[0-9])")
+# Where a number or a word may go on from one part of a text to the next.
+SEAM = re.compile(r"(?<=[^\W_])\n(?=[.,:/'’-])|(?<=[0-9][.,:/'’-])\n(?=[0-9])|(?<=[0-9])\n(?=[0-9])|"
+                  r"(?<=[^\W\d_])\n(?=[^\W\d_])")
 
 
 class Found(Enum):
@@ -68,23 +70,23 @@ class Firms:
         firm = self.by_iban.get(without_spaces(iban))
         if firm:
             return firm, Found.BY_IBAN
-        # The bank may have cut a number in two, so it has to stand there also once the parts are put together.
+        # The bank may have cut a number or a word in two, so the firm has to stand there by both readings.
         parts = "\n".join(texts).casefold()
-        apart, together = self.numbers_of(parts), self.numbers_of(SEAM.sub("", parts))
-        told = self.numbers & (apart | together)
-        is_one = len(told) == 1 and told <= apart & together
+        apart, together = numbers_in(parts), numbers_in(SEAM.sub("", parts))
+        told = self.numbers & {it[0] for it in (*apart, *together) if self.may_be_a_firm(it)}
+        is_one = len(told) == 1 and all(told <= {it[0] for it in reading} for reading in (apart, together))
         return (*told, Found.BY_NUMBER) if is_one else ("", Found.NOT_FOUND)
-
-    def numbers_of(self, text: str) -> set[str]:
-        """The numbers in a text that may be those of firms."""
-        searched = OTHER_NUMBERS.sub("_", text.replace("\n", " "))
-        return {it[0] for it in NUMBER_WORD.finditer(searched) if self.may_be_a_firm(it)}
 
     def may_be_a_firm(self, number: re.Match) -> bool:
         if not self.number_words:
             return not YEAR.fullmatch(number[0])
         before = WORD_BEFORE.search(number.string, 0, number.start())
         return before is not None and before[1] in self.number_words
+
+
+def numbers_in(text: str) -> list[re.Match]:
+    """The numbers in a text that are nothing else."""
+    return [*NUMBER_WORD.finditer(OTHER_NUMBERS.sub("_", text.replace("\n", " ")))]
 
 
 def without_spaces(iban: str) -> str:
