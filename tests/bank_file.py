@@ -227,7 +227,7 @@ class Firms(BankFiles):
             self.assertEqual((status, output.splitlines()[1].split(",")[2]), (0, firm), (text, told))
 
     def test_interest_by_a_word(self):
-        for text in ("Zinsen", "ZINSEN", "für Zinsen, Mai", "Zinsen/Mai"):
+        for text in ("Zinsen", "ZINSEN", "für Zinsen, Mai", "Zinsen/Mai", ["Mai und Zin", "sen"]):
             self.finds("", text, purpose="I")
         for text in ("Verzugszinsen", "Zins en", "Zinsen2"):
             self.finds("", text)

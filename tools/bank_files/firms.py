@@ -8,7 +8,7 @@ from dataclasses import dataclass, field
 from enum import Enum
 
 from .tables import read_rows
-from .texts import Fault, shown
+from .texts import Fault, readings, shown
 
 HEADER = ("iban", "employer")
 IBAN = re.compile("[A-Z]{2}[0-9]{2}[A-Z0-9]{11,30}")
@@ -32,7 +32,7 @@ AMOUNT_BEHIND = f"[ :.=]{{0,3}}(?!{DAY}){AMOUNT}"
 # What has digits and isn't a firm's number, of a text as casefold() leaves it.
 OTHER_NUMBERS = re.compile("|".join((
     # An IBAN.
-    r"\b(?:de ?|[a-z]{2})[0-9]{2} ?[a-z0-9]{4}(?: ?(?=[a-z]{0,3}[0-9])[a-z0-9]{4}){1,6}"
+    r"\b(?:de ?|[a-z]{2})[0-9]{2} ?[a-z0-9]{4}(?: ?(?=[a-z]?[0-9])[a-z0-9]{4}){1,6}"
     rf"(?: ?(?!{DAY})[0-9]{{1,3}})?\b",
     # An amount on either side of its currency, or with a dash; a percentage; digits in groups.
     f"{AMOUNT} ?{CURRENCY}(?:{AMOUNT_BEHIND})?",
@@ -44,9 +44,6 @@ OTHER_NUMBERS = re.compile("|".join((
     rf"\b{MONTH}{BEHIND_MONTH}[0-9]{{1,2}}(?![0-9])",
     "(?<![0-9])[01]?[0-9] ?/ ?[0-9]{2}(?![0-9])",
 )))
-# Where a number or a word may go on from one part of a text to the next.
-SEAM = re.compile(r"(?<=[^\W_])\n(?=[.,:/'’-])|(?<=[0-9][.,:/'’-])\n(?=[0-9])|(?<=[0-9])\n(?=[0-9])|"
-                  r"(?<=[^\W\d_])\n(?=[^\W\d_])")
 
 
 class Found(Enum):
@@ -70,11 +67,10 @@ class Firms:
         firm = self.by_iban.get(without_spaces(iban))
         if firm:
             return firm, Found.BY_IBAN
-        # The bank may have cut a number or a word in two, so the firm has to stand there by both readings.
-        parts = "\n".join(texts).casefold()
-        apart, together = numbers_in(parts), numbers_in(SEAM.sub("", parts))
-        told = self.numbers & {it[0] for it in (*apart, *together) if self.may_be_a_firm(it)}
-        is_one = len(told) == 1 and all(told <= {it[0] for it in reading} for reading in (apart, together))
+        # The firm has to stand there by both readings.
+        found = [numbers_in(reading) for reading in readings(texts)]
+        told = self.numbers & {it[0] for numbers in found for it in numbers if self.may_be_a_firm(it)}
+        is_one = len(told) == 1 and all(told <= {it[0] for it in numbers} for numbers in found)
         return (*told, Found.BY_NUMBER) if is_one else ("", Found.NOT_FOUND)
 
     def may_be_a_firm(self, number: re.Match) -> bool:
@@ -86,7 +82,7 @@ class Firms:
 
 def numbers_in(text: str) -> list[re.Match]:
     """The numbers in a text that are nothing else."""
-    return [*NUMBER_WORD.finditer(OTHER_NUMBERS.sub("_", text.replace("\n", " ")))]
+    return [*NUMBER_WORD.finditer(OTHER_NUMBERS.sub("_", text))]
 
 
 def without_spaces(iban: str) -> str:

@@ -19,7 +19,7 @@ from .camt import Entry, Money, Transaction
 from .earlier import HEADER, EarlierLine
 from .firms import Firms, Found
 from .statements import Statement
-from .texts import Refusal, cut, shown
+from .texts import Refusal, cut, readings, shown
 
 # The limits of the office (docs/formats.md).
 REFERENCE = re.compile("[!-~]{1,35}")
@@ -228,7 +228,7 @@ class BankFile:
         return min(found, key=lambda it: it[1].value)
 
     def is_interest(self, payment: Payment) -> bool:
-        words = [set(re.findall(r"\w+", it.text.casefold())) for it in payment.transactions]
+        words = [set(re.findall(r"\w+", " ".join(readings(it.texts)))) for it in payment.transactions]
         return payment.is_detailed and bool(words) and all(self.interest_words & it for it in words)
 
 

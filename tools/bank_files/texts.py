@@ -2,11 +2,15 @@
 
 import re
 import unicodedata
+from collections.abc import Iterable
 from enum import IntEnum
 
 # Control characters, and those without a width that hide something or turn the direction of writing.
 UNSHOWN = re.compile("[\x00-\x1f\x7f-\x9f\u00ad\u061c\u200b-\u200f\u2028-\u202e\u2060-\u206f\ufeff]")
 MOST_SHOWN = 60
+# Where a number or a word may go on from one part of a text to the next.
+SEAM = re.compile(r"(?<=[^\W_])\n(?=[.,:/'’-])|(?<=[0-9][.,:/'’-])\n(?=[0-9])|(?<=[0-9])\n(?=[0-9])|"
+                  r"(?<=[^\W\d_])\n(?=[^\W\d_])")
 
 
 class Status(IntEnum):
@@ -38,6 +42,12 @@ def plain(text: str) -> str:
 def shown(text: str) -> str:
     """As much of a text as a message shows."""
     return plain(text)[:MOST_SHOWN]
+
+
+def readings(parts: Iterable[str]) -> tuple[str, str]:
+    """The parts of a text apart, and with what the bank may have cut in two put together, for a search."""
+    text = "\n".join(parts).casefold()
+    return text.replace("\n", " "), SEAM.sub("", text).replace("\n", " ")
 
 
 def cut(text: str, most_bytes: int) -> str:
