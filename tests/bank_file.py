@@ -119,7 +119,8 @@ class Good(BankFiles):
         self.makes(zipped, [*BATCH_LINES, "Z-1,2024-04-30,,100,C,", *LATIN_LINES])
 
     def test_other_encodings_that_are_declared(self):
-        self.makes("\ufeff" + LATIN, LATIN_LINES)
+        for declared in ("UTF-8", "ISO-8859-1"):
+            self.makes("\ufeff" + LATIN.replace("UTF-8", declared), LATIN_LINES)
         self.makes(LATIN.replace("UTF-8", "UTF-16").encode("utf-16"), LATIN_LINES)
         self.makes(LATIN.replace("UTF-8", "windows-1252").encode("cp1252"), LATIN_LINES)
         self.makes(LATIN.replace(DECLARED, ""), LATIN_LINES)

@@ -12,8 +12,9 @@ MOST_DEEP = 50
 MOST_ELEMENTS = 2_000_000
 NOT_INSTALLED = """this needs Python's defusedxml, which isn't installed for /usr/bin/python3; on Debian:
     apt-get install python3-defusedxml"""
+UTF_8_MARK = b"\xef\xbb\xbf"
 # The marks in front of a text in UTF-16 or UTF-8, or the first sign of one in UTF-16 without a mark.
-MARKS = (b"\xff\xfe", b"\xfe\xff", b"\xef\xbb\xbf", b"\x00<")
+MARKS = (b"\xff\xfe", b"\xfe\xff", UTF_8_MARK, b"\x00<")
 # How expat says that a text stops before its end.
 CUT_OFF = {
     errors.codes[error]
@@ -49,7 +50,9 @@ def read_root(name: str, content: bytes) -> Element:
     except ImportError:
         raise Fault(NOT_INSTALLED) from None
     check_beginning(name, content)
-    parser = DefusedXMLParser(target=LimitedBuilder(name), forbid_dtd=True)
+    # A text with the mark is in UTF-8 whatever it declares, as one that an editor has saved.
+    encoding = "utf-8" if content.startswith(UTF_8_MARK) else None
+    parser = DefusedXMLParser(target=LimitedBuilder(name), encoding=encoding, forbid_dtd=True)
     try:
         parser.feed(content)
         return parser.close()
