@@ -511,6 +511,12 @@ class References(BankFiles):
         twice = [statement("0", "6.00", *both, identifier=it) for it in ("S1", "S2")]
         told = self.makes(document(*twice), ["T1,2024-04-30,,300,C,", "T2,2024-04-30,,300,C,"])
         self.assertIn("left out in all, stands in two statements: 2, 6.00 EUR\n", told)
+        # One as a whole: the file that was made of them is known by the statement that it was made of.
+        content = one("0", "6.00", entry("3.00", reference="E"), both[1])
+        lines = ["E,2024-04-30,,300,C,", "T2,2024-04-30,,300,C,"]
+        self.makes(content, lines)
+        self.write("made.csv", HEADER + "\n".join(lines) + "\n")
+        self.makes(content, lines, "--earlier", "made.csv")
 
     def test_entries_of_other_references(self):
         part = transaction("3.00", reference="1")

@@ -185,7 +185,8 @@ class BankFile:
                           "so it would count twice; give one of the two statements")
         before = self.earlier.get(fit_reference(entry.reference, 1))
         whole = str(entry.value or entry.booked), f"{entry.money.amount * 100:.0f}"
-        if entry.reference not in own and before and (before.value, before.cents) == whole:
+        is_known = all(fit_reference(it, 1) in self.earlier for it in own)
+        if before and (before.value, before.cents) == whole and not is_known:
             raise Refusal(f"{called} stands in an earlier file as one line, {shown(entry.reference)}, and now comes "
                           "in its transactions, so it would count twice; give the statement that it was made of")
 
