@@ -186,7 +186,8 @@ export function showState(state) {
     byId("pending").dataset.number = String(pending.number);
     byId("pending").dataset.kind = pending.kind;
   }
-  for (const form of document.querySelectorAll("form[data-form], #form-bank, #form-report")) {
+  // What stands in a dialog can be left; the desk sends nothing of it.
+  for (const form of document.querySelectorAll("main form[data-form], #form-bank, #form-report")) {
     form.toggleAttribute("inert", stop !== null);
     form.classList.toggle("stopped", stop !== null);
   }
@@ -196,6 +197,8 @@ export function showState(state) {
 /** Asks for the second click, and tells what can't be taken back. Whether it was given. */
 export function confirmed(kind, facts) {
   const dialog = byId("confirm");
+  const title = `confirm.${kind}.title`;
+  byId("confirm-title").textContent = say(hasWords(title) ? title : "confirm.title");
   byId("confirm-text").textContent = say(`confirm.${kind}`);
   byId("confirm-yes").textContent = say(`confirm.${kind}.yes`);
   pairs(byId("confirm-facts"), ...facts);
@@ -204,7 +207,12 @@ export function confirmed(kind, facts) {
       resolve(is);
       dialog.close();
     };
-    byId("confirm-yes").onclick = end(true);
+    byId("confirm-yes").onclick = (event) => {
+      // The second half of a double click was meant for the button that led here.
+      if (event.detail < 2) {
+        end(true)();
+      }
+    };
     byId("confirm-no").onclick = end(false);
     // By Escape, or by going to another view.
     dialog.onclose = end(false);
@@ -225,8 +233,10 @@ export function beginPending(done) {
   });
   byId("pending-give-up").addEventListener("click", async () => {
     const { kind } = byId("pending").dataset;
+    // Another request may stand there by the second click.
+    const fields = { number: number() };
     if (await confirmed("give-up", [["label.look", say(`look.${kind}`)]])) {
-      const told = await sendForm("/api/pending/give-up", "give-up", { number: number() }, true);
+      const told = await sendForm("/api/pending/give-up", "give-up", fields, true);
       tellAnswer(told);
       done(told);
     }

@@ -14,7 +14,8 @@ let heardAt = 0;
  * opened last. */
 export const theSession = () => session;
 
-/** Calls this with the state of the desk whenever one comes: a request without an answer, a failure. */
+/** Calls this with the state of the desk whenever one comes: a request without an answer, a failure; and with
+ * the entry of the log that came with it. */
 export function onState(listener) {
   heard = listener;
 }
@@ -31,12 +32,24 @@ async function ask(path, options, read = (answer) => answer.json()) {
   // An answer may come behind a later one.
   if (told.state && told.state.at > heardAt) {
     heardAt = told.state.at;
-    heard(told.state);
+    heard(told.state, told.entry);
   }
   return told;
 }
 
 export const get = (path) => ask(path, {});
+
+/** Hands on an answer, or null where something was asked since: a view shows the last answer that it asked for,
+ * in whatever order they come. */
+export function lastOnly() {
+  let turns = 0;
+  return async (asked) => {
+    turns += 1;
+    const turn = turns;
+    const told = await asked;
+    return turn === turns ? told : null;
+  };
+}
 
 /** The file at a path; where the desk has none, why not. */
 export const getFile = (path) =>
@@ -57,7 +70,9 @@ async function post(path, form, body, fields) {
     // The desk was started anew: the next try has its new tokens.
     await beginSession();
   }
-  return told;
+  // The desk may have sent the command on before it stopped, or the machine slept.
+  const isUnanswered = told.fault === "no-desk" && path.startsWith("/api/commands/");
+  return isUnanswered ? { ...told, fault: "unanswered" } : told;
 }
 
 /** Sends a form of these fields to the desk; confirmed where the clerk has given the second click. */

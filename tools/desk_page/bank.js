@@ -4,6 +4,7 @@ import { clearAnswer, confirmed, tellAnswer } from "./answers.js";
 import { MOST_BYTES, get, sendFile } from "./api.js";
 import { beginDrop } from "./drop.js";
 import { byId, make } from "./elements.js";
+import { markSent } from "./forms.js";
 import { euros } from "./formats.js";
 import { say } from "./words.js";
 
@@ -75,6 +76,7 @@ async function importFile(done) {
   const isOver = tellAnswer(told, further) || told.fault === "file-unread";
   // Another file may have been chosen meanwhile.
   if (chosen === file) {
+    markSent(byId("form-bank"), told);
     if (isOver) {
       clearBank();
     } else {

@@ -1,14 +1,14 @@
 // The page begins here: its words, its session with the desk, and the view that the address names.
 
 import { beginPending, clearAnswer, clearFault, isDone, showState, tellAnswer, tellFault } from "./answers.js";
-import { beginSession, getFile, onState, theSession } from "./api.js";
+import { beginSession, get, getFile, onState, theSession } from "./api.js";
 import { clearBank } from "./bank.js";
 import { byId, make } from "./elements.js";
 import { askFirm, beginFirm, showFirm, showRecent } from "./firm.js";
-import { beginFinder, beginForm } from "./forms.js";
+import { beginFinder, beginForm, wasSentAs } from "./forms.js";
 import { askLog, showLog } from "./log.js";
 import { askMorning, beginMorning, openMorning } from "./morning.js";
-import { clearReport } from "./report.js";
+import { clearReport, showSend } from "./report.js";
 import { askWorker, beginWorker, showWorker } from "./worker.js";
 import { beginWords, say, sayWords } from "./words.js";
 
@@ -20,7 +20,11 @@ const VIEWS = {
   new: { ask: () => null, open: () => {} },
   log: { ask: askLog, open: showLog },
 };
-let state = null;
+// What the desk said last of its state, and what of it is shown.
+let state = {};
+let shown = {};
+// Whether the log is being asked for a request that was settled elsewhere.
+let isLooking = false;
 // How often a view was shown: one that comes late isn't taken for the one that is shown now.
 let turns = 0;
 // Whether the answer of a command stays where that leads to another view.
@@ -94,15 +98,55 @@ async function save(link) {
   setTimeout(() => URL.revokeObjectURL(href), 60_000);
 }
 
-/** Empties the form of a command that is done: one more click would do it a second time. */
-function clearForm(kind) {
+/** Empties the form of a command that is done: one more click would do it a second time. What else is typed
+ * in a form of its kind stays. */
+function clearForm({ kind, number }) {
+  const form = byId(`form-${kind === "correct" ? "report" : kind}`);
+  if (!wasSentAs(form, number)) {
+    return;
+  }
   if (kind === "bank") {
     clearBank();
-  } else if (["report", "correct"].includes(kind)) {
+  } else if (form.id === "form-report") {
     clearReport();
   } else {
-    byId(`form-${kind}`).reset();
+    form.reset();
   }
+}
+
+/** Tells what became of a request that was settled elsewhere, as in another window, and empties its form
+ * where it was done, or where the log doesn't have it any more. Whether the log could be asked. */
+async function tellSettled({ kind, number }) {
+  const { log } = await get("/api/log");
+  if (!log) {
+    return false;
+  }
+  const entry = log.findLast((it) => it.number === number);
+  if (!entry || isDone({ entry })) {
+    clearForm({ kind, number });
+  }
+  tellAnswer(entry ? { entry } : { fault: "not-pending", carried: {} });
+  return true;
+}
+
+/** Shows what the desk says of its state. Where a request was settled elsewhere, the forms wait until it is
+ * known what became of it. */
+async function takeState(told, entry) {
+  state = told;
+  if (isLooking) {
+    return;
+  }
+  const { pending } = shown;
+  if (pending && ![state.pending?.number, entry?.number].includes(pending.number)) {
+    isLooking = true;
+    const isKnown = await tellSettled(pending);
+    isLooking = false;
+    if (!isKnown) {
+      return;
+    }
+  }
+  shown = state;
+  showState(shown);
 }
 
 function beginForms() {
@@ -119,7 +163,7 @@ function beginForms() {
   beginFinder("find-firm", (number) => goTo(`#/firm/${number}`));
   beginPending((told) => {
     if (isDone(told)) {
-      clearForm(told.entry.kind);
+      clearForm(told.entry);
     }
     show();
   });
@@ -149,11 +193,8 @@ function beginLinks() {
 }
 
 function begin() {
-  onState((told) => {
-    state = told;
-    showState(told);
-  });
-  showState(state ?? {});
+  onState(takeState);
+  takeState(state);
   beginForms();
   beginLinks();
   addEventListener("hashchange", () => {
@@ -178,7 +219,8 @@ await Promise.all([beginSession(), beginWords()]);
 // Nothing stands there without its words, so that it is laid out and drawn once.
 document.body.prepend(byId("page").content);
 sayWords(() => {
-  showState(state ?? {});
+  showSend();
+  showState(shown);
   clearAnswer();
   show();
 });

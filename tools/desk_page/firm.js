@@ -1,7 +1,7 @@
 // A firm: what it owes, its statement month by month with bars, the office's text beside it, and its forms.
 
 import { tellFault } from "./answers.js";
-import { get, theSession } from "./api.js";
+import { get, lastOnly, theSession } from "./api.js";
 import { button, byId, make, makeSvg, pairs, row, table } from "./elements.js";
 import { beginForm, claimActions, clearFields } from "./forms.js";
 import { day, euros, month } from "./formats.js";
@@ -16,6 +16,7 @@ const READ_PARTS = [
 const MOST_PAYMENTS = 4;
 const BAR_WIDTH = 160;
 const BAR_HEIGHT = 12;
+const last = lastOnly();
 let shown = null;
 // The firm that the forms are for: they change with a firm that is shown, and not with one that isn't there.
 let formsOf = null;
@@ -176,6 +177,7 @@ export const askFirm = (number) => (number ? get(`/api/firms/${number}`) : null)
 
 /** Shows the firm of this number; without one, those that were opened last. */
 export async function showFirm(number, asked = askFirm(number)) {
+  const answer = last(asked);
   shown = number;
   byId("firm-choose").hidden = Boolean(number);
   byId("firm-shown").hidden = true;
@@ -183,8 +185,8 @@ export async function showFirm(number, asked = askFirm(number)) {
   if (!number) {
     return;
   }
-  const told = await asked;
-  if (shown !== number) {
+  const told = await answer;
+  if (!told) {
     return;
   }
   if (told.text === undefined) {

@@ -1,14 +1,19 @@
 // The forms of commands: a second click where nothing can be taken back, and faults beside their fields.
 
-import { clearAnswer, confirmed, tellAnswer, toldLines, written } from "./answers.js";
+import { clearAnswer, confirmed, outcomeText, subject, tellAnswer, toldLines, written } from "./answers.js";
 import { fieldsOf, get, sendForm } from "./api.js";
 import { button, byId, make } from "./elements.js";
+import { time } from "./formats.js";
 import { currentLanguage, say } from "./words.js";
 
 // The most digits of a number that is asked for; nine of any other.
 const MOST_DIGITS = { employer: 8 };
 // Forms that name a firm which should be there: its name is shown before the second click.
 const OF_A_FIRM = ["assign", "end"];
+// In the place of the number of a request of which the desk's answer was lost.
+const UNANSWERED = "unanswered";
+// So many entries of the log are told before such a form is sent again.
+const MOST_TOLD = 5;
 
 /** Takes away what an earlier try told beside the fields. */
 export function clearFields(form) {
@@ -78,10 +83,37 @@ async function sendCommand(kind, fields, tell, further = []) {
   return told;
 }
 
+/** Has a form know the request as which it was sent. */
+export function markSent(form, told) {
+  if (told.entry || told.fault === UNANSWERED) {
+    form.dataset.number = told.entry?.number ?? UNANSWERED;
+  }
+}
+
+/** Whether a form was sent as the request of this number. */
+export const wasSentAs = (form, number) => [String(number), UNANSWERED].includes(form.dataset.number);
+
+/** What stands in the fields of a form. */
+const typed = (form) => String(new URLSearchParams(new FormData(form)));
+
+/** Whether a form of which the last answer was lost is to be sent all the same. The log's last entries of its
+ * kind are told: it may be one of them. */
+async function isMeantAgain(kind, tell) {
+  const told = await get("/api/log");
+  if (!told.log) {
+    tell(told);
+    return false;
+  }
+  const last = told.log.filter((it) => it.kind === kind).slice(-MOST_TOLD).toReversed();
+  const lines = last.map((it) => `${time(it.time)} ${outcomeText(it)} · ${subject(it)}`);
+  return confirmed("again", [["label.last-entries", lines.join("\n") || say("dash")]]);
+}
+
 /** Tells of a form what isn't told beside its fields. */
 function teller(form) {
   const dialog = form.closest("dialog");
   return (told) => {
+    markSent(form, told);
     if (tellField(form, told)) {
       return;
     }
@@ -96,11 +128,23 @@ function teller(form) {
 
 /** Sends a form. What became of it; null where nothing was sent. */
 async function submit(form, further) {
+  const sent = typed(form);
+  const kind = form.dataset.form;
+  const tell = teller(form);
   clearFields(form);
-  const told = await sendCommand(form.dataset.form, fieldsOf(form), teller(form), further);
-  if (told) {
-    form.closest("dialog")?.close();
-    if (tellAnswer(told)) {
+  if (form.dataset.number === UNANSWERED && !await isMeantAgain(kind, tell)) {
+    return null;
+  }
+  const told = await sendCommand(kind, fieldsOf(form), tell, further);
+  if (!told) {
+    return null;
+  }
+  form.closest("dialog")?.close();
+  const wasDone = tellAnswer(told);
+  // The next one may have been typed meanwhile.
+  if (typed(form) === sent) {
+    markSent(form, told);
+    if (wasDone) {
       form.reset();
     }
   }
@@ -111,14 +155,19 @@ async function submit(form, further) {
  * more facts than its fields. */
 export function beginForm(id, done, further = () => []) {
   const form = byId(id);
+  let sent = null;
   form.addEventListener("submit", async (event) => {
     event.preventDefault();
-    if (form.dataset.isBusy) {
+    if (sent !== null) {
+      // A double click; or the next one, which has to wait.
+      if (typed(form) !== sent) {
+        teller(form)({ fault: "busy", carried: {} });
+      }
       return;
     }
-    form.dataset.isBusy = "yes";
+    sent = typed(form);
     const told = await submit(form, further());
-    delete form.dataset.isBusy;
+    sent = null;
     if (told) {
       done(told);
     }

@@ -1,7 +1,7 @@
 // The log of what was done, refused and repeated at this desk, the last entry first.
 
 import { outcomeText, replyText, subject, tellFault } from "./answers.js";
-import { get, theSession } from "./api.js";
+import { get, lastOnly, theSession } from "./api.js";
 import { byId, make, row, table } from "./elements.js";
 import { time } from "./formats.js";
 import { say } from "./words.js";
@@ -11,10 +11,15 @@ const COLUMNS = [
   ["column.reply", "note"],
 ];
 
+const last = lastOnly();
+
 export const askLog = () => get("/api/log");
 
 export async function showLog(_number, asked = askLog()) {
-  const told = await asked;
+  const told = await last(asked);
+  if (!told) {
+    return;
+  }
   if (!told.log) {
     tellFault(told);
     return;

@@ -2,7 +2,7 @@
 // office one question.
 
 import { clearFault, isDone, noteAnswer, tellAnswer, tellFault, whatStops } from "./answers.js";
-import { get } from "./api.js";
+import { get, lastOnly } from "./api.js";
 import { beginBank } from "./bank.js";
 import { button, byId, make, pairs, row, table } from "./elements.js";
 import { beginFinder, beginForm, clearFields } from "./forms.js";
@@ -10,6 +10,8 @@ import { day, euros, month, today } from "./formats.js";
 import { say } from "./words.js";
 
 const PAGE = 200;
+const last = lastOnly();
+const lastDocument = lastOnly();
 let first = 0;
 // The day on which the office works.
 let officeDay = null;
@@ -129,7 +131,10 @@ function documentTable(told) {
 /** Shows a payout list or a reminder run: its table, and the office's text. Its day, where it is there. */
 async function showDocument(kind, number) {
   clearFault();
-  const told = await get(`/api/${kind}/${number}`);
+  const told = await lastDocument(get(`/api/${kind}/${number}`));
+  if (!told) {
+    return null;
+  }
   const place = byId("document");
   if (told.text === undefined) {
     place.hidden = true;
@@ -161,7 +166,10 @@ async function showMade(kind, { entry, known }) {
 const ask = (place) => get(`/api/suspense/${place}`);
 
 async function showMorning(asked = ask(first)) {
-  const told = await asked;
+  const told = await last(asked);
+  if (!told) {
+    return;
+  }
   // Where the office doesn't answer, nothing is said of what is in suspense.
   byId("suspense").hidden = told.text === undefined;
   if (told.text === undefined) {

@@ -4,7 +4,7 @@ import { clearAnswer, tellAnswer } from "./answers.js";
 import { MOST_BYTES, fieldsOf, sendForm } from "./api.js";
 import { beginDrop } from "./drop.js";
 import { byId, make, row, table } from "./elements.js";
-import { clearFields, tellField } from "./forms.js";
+import { clearFields, markSent, tellField } from "./forms.js";
 import { euros, month, percent } from "./formats.js";
 import { say } from "./words.js";
 
@@ -23,7 +23,8 @@ function forget() {
   byId("report-send").disabled = true;
 }
 
-function showSend() {
+/** Says what the button sends: a report, or a correction. */
+export function showSend() {
   const isCorrection = byId("report-version").value.trim() !== "";
   byId("report-send").textContent = say(isCorrection ? "report.send-correction" : "report.send");
 }
@@ -119,6 +120,7 @@ async function send(done) {
   const isSame = turn === turns;
   if (isSame) {
     byId("report-send").disabled = false;
+    markSent(form, told);
   }
   if (tellField(form, told)) {
     return;
@@ -151,11 +153,14 @@ async function read(file) {
   check();
 }
 
-/** Checks the lines where they can't be sent yet: Enter does nothing by itself then. */
+/** Checks the lines where they can't be sent yet: Enter does nothing by itself then. A key that is held sends
+ * nothing. */
 function checkByEnter(event) {
-  if (event.key === "Enter" && byId("report-send").disabled) {
+  if (event.key === "Enter" && (event.repeat || byId("report-send").disabled)) {
     event.preventDefault();
-    check();
+    if (!event.repeat) {
+      check();
+    }
   }
 }
 

@@ -2,7 +2,7 @@
 // from here.
 
 import { tellFault } from "./answers.js";
-import { get } from "./api.js";
+import { get, lastOnly } from "./api.js";
 import { byId, make, pairs, row, table } from "./elements.js";
 import { beginFinder, claimActions } from "./forms.js";
 import { day, euros, month } from "./formats.js";
@@ -10,6 +10,7 @@ import { say } from "./words.js";
 
 // What stands empty where the desk doesn't understand the document.
 const READ_PARTS = ["worker-figures", "worker-claims", "worker-earned"];
+const last = lastOnly();
 let shown = null;
 
 function claimRow(claim) {
@@ -41,6 +42,7 @@ export const askWorker = (number) => (number ? get(`/api/workers/${number}`) : n
 
 /** Shows the worker of this number; without one, the form that asks for it. */
 export async function showWorker(number, asked = askWorker(number)) {
+  const answer = last(asked);
   shown = number;
   byId("worker-shown").hidden = true;
   byId("worker-title").textContent = number ? say("worker.heading", { worker: number }) : say("worker.title");
@@ -48,8 +50,8 @@ export async function showWorker(number, asked = askWorker(number)) {
     return;
   }
   byId("find-worker-number").value = number;
-  const told = await asked;
-  if (shown !== number) {
+  const told = await answer;
+  if (!told) {
     return;
   }
   if (told.text === undefined) {

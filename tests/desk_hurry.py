@@ -1,0 +1,320 @@
+"""What a clerk in a hurry does on the desk's page: double clicks, keys that are held, the next form before the
+answer, two windows, a try again where the answer was lost.
+
+    python3 tests/desk_hurry.py [PROGRAM]
+
+It needs what tests/desk_browser.py needs, and is left out where that is missing. What is expected is worked
+out from docs/rules.md by hand.
+"""
+
+import contextlib
+import sys
+
+# No __pycache__ is left beside the sources.
+sys.dont_write_bytecode = True
+import desk_mishaps  # noqa: E402
+from desk_browser import setUpModule  # noqa: E402, F401
+from desk_under_test import BANK_HEADER  # noqa: E402
+from program_under_test import run_tests  # noqa: E402
+
+PAYMENT = BANK_HEADER + "B1,2024-02-25,,150000,C,\n"
+
+
+class Hurry(desk_mishaps.Mishaps):
+    """An office with a firm, one of its months reported, which the desk's page is in front of."""
+
+    def value(self, field):
+        return self.browser.one(f"#{field}").get_attribute("value")
+
+    def hold(self, path):
+        """Holds the answers of this path back."""
+        self.browser.run(desk_mishaps.Late.HOLD, path)
+
+    def let_go(self):
+        """Hands on the answers that were held back, and waits until the page has taken them."""
+        self.browser.run("letGo()")
+        self.browser.wait(lambda: self.browser.run("return globalThis.isRead ?? false"), "the answer that is late")
+
+    def lose_the_answer(self, path):
+        """The first answer of this path is lost between desk and page."""
+        self.browser.run("""const [path] = arguments;
+            const real = globalThis.fetch;
+            globalThis.fetch = async (...told) => {
+              const answer = await real(...told);
+              if (told[0] === path) {
+                globalThis.fetch = real;
+                throw new TypeError("Failed to fetch");
+              }
+              return answer;
+            };""", path)
+
+    @contextlib.contextmanager
+    def another_window(self):
+        """Another window with the page; the first one again behind the block."""
+        driver = self.browser.driver
+        first = driver.current_window_handle
+        driver.switch_to.new_window("tab")
+        try:
+            self.browser.open(self.address + "?lang=en")
+            yield
+        finally:
+            driver.close()
+            driver.switch_to.window(first)
+
+    def open_the_payment(self):
+        """Opens the dialog in which the one payment in suspense is assigned, to a firm that is there."""
+        self.does({"new": 1, "repeats": 0}, self.bank(PAYMENT))
+        self.go("firm")
+        self.go("morning")
+        self.browser.click("#suspense-table .assign")
+        self.browser.type("#assign-employer", "1001")
+
+
+class Hands(Hurry):
+    """Mouse and keys."""
+
+    def mouse(self, selector):
+        """Where a mouse stands on an element."""
+        return self.browser.run("""const it = document.querySelector(arguments[0]).getBoundingClientRect();
+            return { x: it.x + it.width / 2, y: it.y + it.height / 2 }""", selector)
+
+    def press_and_release(self, place, count):
+        """The click of this count in one place, as a system tells a browser of it."""
+        for kind in ("mousePressed", "mouseReleased"):
+            told = {"type": kind, "button": "left", "buttons": 1, "clickCount": count, **place}
+            self.browser.driver.execute_cdp_cmd("Input.dispatchMouseEvent", told)
+
+    def press_enter(self, **further):
+        told = {"type": "keyDown", "key": "Enter", "code": "Enter", "windowsVirtualKeyCode": 13, "text": "\r"}
+        self.browser.driver.execute_cdp_cmd("Input.dispatchKeyEvent", {**told, **further})
+
+    def test_a_double_click_is_no_second_click(self):
+        """The button for good stands where the other one stood: a double click falls on both."""
+        self.open_the_payment()
+        place = self.mouse("#assign-send")
+        self.press_and_release(place, 1)
+        self.browser.wait(lambda: self.browser.is_shown("#confirm"), "the second click")
+        found = self.browser.run("return document.elementFromPoint(arguments[0].x, arguments[0].y).id", place)
+        self.assertEqual(found, "confirm-yes")
+        self.press_and_release(place, 2)
+        self.assertTrue(self.browser.is_shown("#confirm"))
+        self.assertEqual([it for it in self.logged() if "assign" in it[2]], [])
+        # A click that is meant.
+        self.press_and_release(place, 1)
+        self.answers("done", "B1 to 1001")
+
+    def test_a_key_that_is_held(self):
+        """It checks a report and doesn't send it."""
+        self.open_firm("1001")
+        self.browser.type("#report-csv", "worker,gross\n7,100000")
+        self.browser.type("#report-month", "2024-02")
+        self.press_enter()
+        self.browser.wait_for_text("#report-check-result", "€1,000.00")
+        self.browser.wait(lambda: self.browser.one("#report-send").is_enabled(), "checked lines")
+        self.press_enter(autoRepeat=True)
+        self.press_enter(type="keyUp")
+        self.assertTrue(self.browser.one("#report-send").is_enabled())
+        self.assertFalse(self.browser.is_shown("#answer"))
+        # Pressed anew it does.
+        self.press_enter()
+        self.press_enter(type="keyUp")
+        self.answers("done", "Report: 1001, Feb 2024")
+
+    def test_the_button_of_a_correction_in_another_language(self):
+        self.open_firm("1001")
+        self.browser.click("#statement-table .correct")
+        for language, text in (("de", "Korrektur senden"), ("en", "Send the correction")):
+            self.browser.click(f"#language-{language}")
+            self.browser.wait(lambda: self.browser.text("#report-send") == text, text)
+
+
+class Late(Hurry):
+    """An answer that isn't there yet."""
+
+    def test_the_next_claim_while_one_is_sent(self):
+        """It isn't sent, which is told, and stays in the form."""
+        self.open_firm("1001")
+        self.hold("/api/commands/claim")
+        self.claim("7", "10.00")
+        self.claim("7", "25.00")
+        self.answers("Another request takes long.")
+        self.let_go()
+        self.answers("done", "worker 7: €10.00", "The claim has the number 1.")
+        self.assertEqual((self.value("claim-worker"), self.value("claim-amount")), ("7", "25.00"))
+        self.browser.click("#claim-send")
+        self.browser.wait_for_text("#answer", "The claim has the number 2.")
+        self.answers("done", "worker 7: €25.00")
+
+    def test_a_statement_from_before(self):
+        """It isn't shown in the place of a later one."""
+        self.open_firm("1001")
+        self.browser.run("""const real = globalThis.fetch;
+            const held = new Promise((resolve) => { globalThis.letGo = resolve; });
+            globalThis.fetch = async (...told) => {
+              globalThis.fetch = real;
+              const answer = await real(...told);
+              await held;
+              setTimeout(() => { globalThis.isRead = true; }, 200);
+              return answer;
+            };
+            document.getElementById("find-firm-open").click();""")
+        self.does({"charge": 20000, "version": 1}, self.report("2024-02", "7,100000\n"))
+        row = "#statement-months [data-month='2024-02']"
+        self.browser.click("#find-firm-open")
+        self.browser.wait_for_text(row, "€200.00")
+        self.let_go()
+        self.assertIn("€200.00", self.browser.text(row))
+
+    def test_another_request_by_the_second_click(self):
+        """The request that the clerk has looked for is dropped, and no other one."""
+        self.open_firm("1001")
+        self.close_office()
+        self.claim("7", "10.00")
+        self.answers("no answer")
+        number = int(self.browser.one("#pending").get_attribute("data-number"))
+        # The log is asked for, which comes when the second click is asked for.
+        self.browser.run("""const real = globalThis.fetch;
+            const held = new Promise((resolve) => { globalThis.letGo = resolve; });
+            globalThis.fetch = async (...told) => {
+              await (told[0] === "/api/log" ? held : null);
+              return real(...told);
+            };
+            location.hash = "#/log";""")
+        self.browser.wait(lambda: self.browser.is_shown("#loading"), "the log is asked for")
+        self.browser.click("#pending-give-up")
+        self.browser.wait(lambda: self.browser.is_shown("#confirm"), "the second click")
+        # In another window the request is settled, and the next one has no answer.
+        self.come_back()
+        self.does({"claim": 1}, self.post("/api/pending/send-again", "send-again", {"number": number}), "repeated")
+        self.close_office()
+        self.assertEqual(self.report("2024-02", "7,100000\n")[1]["entry"]["outcome"], "lost")
+        self.browser.run("letGo()")
+        self.browser.wait(lambda: self.value_of_pending() == str(number + 1), "the next request")
+        self.browser.click("#confirm-yes")
+        self.browser.wait_for_text("#answer", "This request has its answer by now.")
+        self.assertNotIn("given-up", [it[1] for it in self.logged()])
+
+    def value_of_pending(self):
+        return self.browser.one("#pending").get_attribute("data-number")
+
+
+class Unanswered(Hurry):
+    """The desk's answer is lost on its way to the page, as where the machine slept."""
+
+    def test_a_claim_that_was_done(self):
+        self.open_firm("1001")
+        self.lose_the_answer("/api/commands/claim")
+        self.claim("7", "10.00")
+        self.answers("it isn't known whether this was done", "into the log, and only then do it again")
+        # Another window makes another one.
+        self.does({"claim": 2}, self.command("claim", employer="1001", worker="7", amount="33"))
+        self.browser.click("#claim-send")
+        self.browser.wait(lambda: self.browser.is_shown("#confirm"), "the second click")
+        for text in ("The last try has no answer", "done · Claim: 1001, worker 7: €10.00"):
+            self.assertIn(text, self.browser.text("#confirm"))
+        self.browser.click("#confirm-no")
+        self.assertEqual(self.worker("7").count("claim"), 2)
+        # Where it is meant, it is sent, and the form is as any other then.
+        self.browser.click("#claim-send")
+        self.confirm("It may have been done")
+        self.browser.wait_for_text("#answer", "The claim has the number 3.")
+        self.browser.wait(lambda: self.browser.is_shown("#firm-shown"), "the firm, which is shown anew")
+        self.claim("7", "5.00")
+        self.browser.wait_for_text("#answer", "The claim has the number 4.")
+
+    def test_a_claim_that_the_next_desk_still_has(self):
+        """Its form is empty once it is settled, though the page never knew its number."""
+        self.open_firm("1001")
+        self.close_office()
+        self.lose_the_answer("/api/commands/claim")
+        self.claim("7", "10.00")
+        self.answers("it isn't known whether this was done")
+        self.come_back()
+        self.go("log")
+        self.browser.wait(lambda: self.browser.is_shown("#pending"), "the request without an answer")
+        self.browser.click("#pending-send-again")
+        self.browser.wait_for_text("#answer", "The claim has the number 1.")
+        self.assertEqual((self.value("claim-worker"), self.value("claim-amount")), ("", ""))
+
+
+class TwoWindows(Hurry):
+    """Two windows with one desk."""
+
+    def lose_a_claim(self):
+        """A claim that has no answer, in this window."""
+        self.open_firm("1001")
+        self.close_office()
+        self.claim("7", "10.00")
+        self.answers("no answer")
+
+    def settle(self):
+        """Sends the request again, in another window."""
+        self.come_back()
+        self.browser.click("#pending-send-again")
+        self.browser.wait(lambda: not self.browser.is_shown("#pending"), "an answer")
+
+    def test_a_claim_that_another_window_settles(self):
+        """This window says what became of it, and its form is empty before it can be used."""
+        self.lose_a_claim()
+        with self.another_window():
+            self.settle()
+            self.answers("sent again, done once", "The claim has the number 1.")
+        self.browser.click("#pending-send-again")
+        self.browser.wait_for_text("#answer", "sent again, done once · Claim: 1001, worker 7: €10.00")
+        self.browser.wait(lambda: not self.browser.is_shown("#pending"), "the forms")
+        self.assertEqual((self.value("claim-worker"), self.value("claim-amount")), ("", ""))
+        self.assertEqual(self.worker("7").count("claim"), 1)
+
+    def test_the_log_is_asked_before_the_forms_go_on(self):
+        self.lose_a_claim()
+        with self.another_window():
+            self.settle()
+        self.hold("/api/log")
+        self.go("firm")
+        self.open_firm("1001")
+        self.assertTrue(self.browser.run("return document.getElementById('form-claim').inert"))
+        self.let_go()
+        self.answers("sent again, done once")
+        self.assertEqual(self.value("claim-worker"), "")
+        self.assertFalse(self.browser.run("return document.getElementById('form-claim').inert"))
+
+    def test_what_is_typed_in_the_other_window_stays(self):
+        """It is another claim than the one that is settled there."""
+        self.open_firm("1001")
+        with self.another_window():
+            self.open_firm("1001")
+            self.type_in("claim", worker="7", amount="33.00")
+            self.close_office()
+            self.assertEqual(self.command("claim", employer="1001", worker="7", amount="10")[1]["entry"]["outcome"],
+                             "lost")
+            self.go("log")
+            self.settle()
+            self.answers("The claim has the number 1.")
+            self.assertEqual((self.value("claim-worker"), self.value("claim-amount")), ("7", "33.00"))
+
+    def test_a_claim_that_is_refused_in_another_window(self):
+        """It stays in its form, to be mended."""
+        self.open_firm("1001")
+        self.close_office()
+        self.claim("7", "9,999.00")
+        self.answers("no answer")
+        with self.another_window():
+            self.settle()
+        self.go("log")
+        self.answers("refused", "OverBalance")
+        self.assertEqual(self.value("claim-amount"), "9,999.00")
+
+    def test_a_dialog_where_the_forms_stop(self):
+        """It can be left by its button."""
+        self.open_the_payment()
+        self.close_office()
+        self.assertEqual(self.report("2024-02", "7,100000\n")[1]["entry"]["outcome"], "lost")
+        self.browser.click("#assign-send")
+        self.browser.wait_for_text("#assign-dialog", "nobody answers on 127.0.0.1")
+        self.browser.click("#assign-cancel")
+        self.browser.wait(lambda: not self.browser.is_shown("#assign-dialog"), "the page")
+        self.assertTrue(self.browser.is_shown("#pending"))
+
+
+if __name__ == "__main__":
+    run_tests()
