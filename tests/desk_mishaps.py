@@ -14,7 +14,7 @@ import time
 # No __pycache__ is left beside the sources.
 sys.dont_write_bytecode = True
 from browser import what_is_missing  # noqa: E402
-from desk_browser import InBrowser, setUpModule  # noqa: E402, F401
+from desk_browser import CLOCK, InBrowser, setUpModule  # noqa: E402, F401
 from desk_under_test import BANK_HEADER, DONE, FakeOffice, answer_bytes  # noqa: E402
 from program_under_test import run_tests  # noqa: E402
 
@@ -478,6 +478,19 @@ class Small(Mishaps):
         self.assertFalse(self.browser.is_shown("#answer"))
         self.browser.press(Keys.ENTER)
         self.answers("done", "Report: 1001, Feb 2024")
+
+    def test_a_page_that_stands_open_over_night(self):
+        """It warns of the office's day, which is that of yesterday then."""
+        told = {"source": "globalThis.setInterval = (act) => { globalThis.nextMinute = act; };"}
+        driver = self.browser.driver
+        script = driver.execute_cdp_cmd("Page.addScriptToEvaluateOnNewDocument", told)
+        self.browser.open(self.address + "?lang=en")
+        driver.execute_cdp_cmd("Page.removeScriptToEvaluateOnNewDocument", script)
+        self.assertFalse(self.browser.is_shown("#morning-other-day"))
+        self.browser.run(CLOCK.replace("DAY", "2024-05-01"))
+        self.browser.run("nextMinute()")
+        self.assertTrue(self.browser.is_shown("#morning-other-day"))
+        self.assertIn("that isn't today (01 May 2024)", self.browser.text("#morning-other-day"))
 
     def test_the_text_is_saved(self):
         saved = self.folder / "saved"

@@ -10,6 +10,8 @@ import { day, euros, month, today } from "./formats.js";
 import { say } from "./words.js";
 
 const PAGE = 200;
+// In milliseconds.
+const MINUTE = 60_000;
 const last = lastOnly();
 const lastDocument = lastOnly();
 let first = 0;
@@ -74,6 +76,12 @@ function pager({ first: from, lines, count }) {
   return make("p", { class: "buttons" }, say("suspense.page", place), earlier, later);
 }
 
+/** Warns where the office works on another day than today. */
+function showOtherDay() {
+  byId("morning-other-day").textContent = say("morning.other-day", { today: day(today()) });
+  byId("morning-other-day").hidden = officeDay === null || officeDay === today();
+}
+
 function showSuspense(told) {
   byId("suspense-text").textContent = told.text;
   const { suspense } = told;
@@ -92,8 +100,7 @@ function showSuspense(told) {
   byId("suspense-lines").replaceChildren(lines, pager(suspense) ?? "");
   officeDay = suspense.day;
   byId("morning-day").textContent = say("morning.day", { day: day(suspense.day) });
-  byId("morning-other-day").textContent = say("morning.other-day", { today: day(today()) });
-  byId("morning-other-day").hidden = suspense.day === today();
+  showOtherDay();
 }
 
 function showKnown(kind, numbers, show) {
@@ -187,6 +194,8 @@ async function showMorning(asked = ask(first)) {
 
 export function beginMorning() {
   const again = () => showMorning();
+  // The page may stand open over night.
+  setInterval(showOtherDay, MINUTE);
   beginBank(again);
   beginForm("form-assign", again, () => lineFacts);
   beginForm("form-release", again);
