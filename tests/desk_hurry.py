@@ -165,6 +165,28 @@ class Late(Hurry):
         self.let_go()
         self.assertIn("€200.00", self.browser.text(row))
 
+    def test_a_second_click_that_is_asked_for_late(self):
+        """It doesn't take the place of one that is asked for meanwhile, and the form of this one goes on."""
+        self.open_firm("1001")
+        self.hold("/api/firms/1001")
+        self.type_in("end", last="06/2024")
+        self.browser.click("#end-send")
+        self.browser.wait(lambda: self.browser.run("return globalThis.isHeld ?? false"), "the name of the firm")
+        self.go("morning")
+        self.browser.click("#reminders-make")
+        self.browser.wait(lambda: self.browser.is_shown("#confirm"), "the second click")
+        self.let_go()
+        self.assertIn("A run can't be taken back", self.browser.text("#confirm"))
+        self.browser.click("#confirm-no")
+        self.browser.wait_for_text("#confirm", "The end is set once for good")
+        self.assertIn("1001 Bau Nord", self.browser.text("#confirm"))
+        self.browser.click("#confirm-no")
+        self.browser.wait(lambda: not self.browser.is_shown("#confirm"), "nothing")
+        self.assertEqual([it[2] for it in self.logged() if it[2].startswith(("end", "reminders"))], [])
+        self.browser.click("#reminders-make")
+        self.confirm("A run can't be taken back")
+        self.browser.wait_for_text("#answer", "Run 1. Firms reminded: 1.")
+
     def test_another_request_by_the_second_click(self):
         """The request that the clerk has looked for is dropped, and no other one."""
         self.open_firm("1001")

@@ -194,8 +194,8 @@ export function showState(state) {
   byId("pending-send-again").disabled = false;
 }
 
-/** Asks for the second click, and tells what can't be taken back. Whether it was given. */
-export function confirmed(kind, facts) {
+/** Asks for the second click. Whether it was given. */
+function askForIt(kind, facts) {
   const dialog = byId("confirm");
   const title = `confirm.${kind}.title`;
   byId("confirm-title").textContent = say(hasWords(title) ? title : "confirm.title");
@@ -203,22 +203,30 @@ export function confirmed(kind, facts) {
   byId("confirm-yes").textContent = say(`confirm.${kind}.yes`);
   pairs(byId("confirm-facts"), ...facts);
   return new Promise((resolve) => {
-    const end = (is) => () => {
-      resolve(is);
-      dialog.close();
-    };
+    let isGiven = false;
     byId("confirm-yes").onclick = (event) => {
       // The second half of a double click was meant for the button that led here.
       if (event.detail < 2) {
-        end(true)();
+        isGiven = true;
+        dialog.close();
       }
     };
-    byId("confirm-no").onclick = end(false);
-    // By Escape, or by going to another view.
-    dialog.onclose = end(false);
+    byId("confirm-no").onclick = () => dialog.close();
+    // Also by Escape, or by going to another view.
+    dialog.onclose = () => resolve(isGiven);
     dialog.showModal();
     byId("confirm-no").focus();
   });
+}
+
+// The last second click that was asked for.
+let lastAsked = Promise.resolve();
+
+/** Asks for the second click, and tells what can't be taken back. Whether it was given. One waits for the one
+ * before: what is read there is never changed under the hand. */
+export function confirmed(kind, facts) {
+  lastAsked = lastAsked.then(() => askForIt(kind, facts));
+  return lastAsked;
 }
 
 /** Sends the request without an answer again, or drops it, and calls this with what became of it. */
