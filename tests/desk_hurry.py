@@ -326,6 +326,16 @@ class TwoWindows(Hurry):
         self.answers("refused", "OverBalance")
         self.assertEqual(self.value("claim-amount"), "9,999.00")
 
+    def test_a_desk_with_a_new_folder(self):
+        """It doesn't know the request. The page says so, and doesn't say that it has its answer."""
+        self.lose_a_claim()
+        self.kill_desk()
+        self.desk = self.start_desk(self.server.port, "--port", str(self.port), "--log", "new-log", first="9")
+        self.go("log")
+        self.answers("the log doesn't have it. Look whether it was done")
+        self.assertFalse(self.browser.is_shown("#pending"))
+        self.assertEqual(self.value("claim-worker"), "")
+
     def test_a_dialog_where_the_forms_stop(self):
         """It can be left by its button."""
         self.open_the_payment()

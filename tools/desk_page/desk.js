@@ -115,7 +115,7 @@ function clearForm({ kind, number }) {
 }
 
 /** Tells what became of a request that was settled elsewhere, as in another window, and empties its form
- * where it was done, or where the log doesn't have it any more. Whether the log could be asked. */
+ * where it was done, or where the log doesn't have it. Whether the log could be asked. */
 async function tellSettled({ kind, number }) {
   const { log } = await get("/api/log");
   if (!log) {
@@ -125,7 +125,7 @@ async function tellSettled({ kind, number }) {
   if (!entry || isDone({ entry })) {
     clearForm({ kind, number });
   }
-  tellAnswer(entry ? { entry } : { fault: "not-pending", carried: {} });
+  tellAnswer(entry ? { entry } : { fault: "not-in-log", carried: { number } });
   return true;
 }
 
