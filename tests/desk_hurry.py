@@ -61,9 +61,9 @@ class Hurry(desk_mishaps.Mishaps):
             driver.close()
             driver.switch_to.window(first)
 
-    def open_the_payment(self):
-        """Opens the dialog in which the one payment in suspense is assigned, to a firm that is there."""
-        self.does({"new": 1, "repeats": 0}, self.bank(PAYMENT))
+    def open_the_payment(self, content=PAYMENT):
+        """Opens the dialog in which the first payment in suspense is assigned, to a firm that is there."""
+        self.does({"new": content.count("\n") - 1, "repeats": 0}, self.bank(content))
         self.go("firm")
         self.go("morning")
         self.browser.click("#suspense-table .assign")
@@ -186,6 +186,22 @@ class Late(Hurry):
         self.browser.click("#reminders-make")
         self.confirm("A run can't be taken back")
         self.browser.wait_for_text("#answer", "Run 1. Firms reminded: 1.")
+
+    def test_a_payment_whose_dialog_was_cancelled(self):
+        """It isn't asked for in the place of the next one."""
+        self.open_the_payment(PAYMENT + "B2,2024-02-26,,99,C,\n")
+        self.hold("/api/firms/1001")
+        self.browser.click("#assign-send")
+        self.browser.wait(lambda: self.browser.run("return globalThis.isHeld ?? false"), "the name of the firm")
+        self.browser.click("#assign-cancel")
+        self.browser.click("#suspense-table .assign[data-reference='B2']")
+        self.browser.type("#assign-employer", "1001")
+        self.let_go()
+        self.assertFalse(self.browser.is_shown("#confirm"))
+        self.browser.click("#assign-send")
+        self.confirm("B2", "€0.99")
+        self.answers("done", "B2 to 1001")
+        self.browser.wait_for_text("#suspense-summary", "1, together €1,500.00")
 
     def test_another_request_by_the_second_click(self):
         """The request that the clerk has looked for is dropped, and no other one."""

@@ -63,15 +63,15 @@ async function factsOf(kind, values, tell) {
 }
 
 /** Sends a command. Where it is for good, the desk first says what it has read, and wants a second click,
- * beside which these further facts stand. What became of it; null where nothing was sent, and `tell` has told
- * why. */
-async function sendCommand(kind, fields, tell, further = []) {
+ * beside which these further facts stand, if the command is still wanted then. What became of it; null where
+ * nothing was sent, and `tell` has told why. */
+async function sendCommand(kind, fields, tell, further = [], isWanted = () => true) {
   const path = `/api/commands/${kind}`;
   clearAnswer();
   let told = await sendForm(path, kind, fields);
   if (told.fault === "unconfirmed") {
     const facts = await factsOf(kind, told.carried.values, tell);
-    if (facts === null || !await confirmed(kind, [...facts, ...further])) {
+    if (facts === null || !isWanted() || !await confirmed(kind, [...facts, ...further])) {
       return null;
     }
     told = await sendForm(path, kind, fields, true);
@@ -135,11 +135,14 @@ async function submit(form, further) {
   if (form.dataset.number === UNANSWERED && !await isMeantAgain(kind, tell)) {
     return null;
   }
-  const told = await sendCommand(kind, fieldsOf(form), tell, further);
+  const dialog = form.closest("dialog");
+  // It may be cancelled, or another one typed, before all is there for the second click.
+  const isWanted = () => typed(form) === sent && dialog?.open !== false;
+  const told = await sendCommand(kind, fieldsOf(form), tell, further, isWanted);
   if (!told) {
     return null;
   }
-  form.closest("dialog")?.close();
+  dialog?.close();
   const wasDone = tellAnswer(told);
   // The next one may have been typed meanwhile.
   if (typed(form) === sent) {
