@@ -16,6 +16,7 @@ import signal
 import socket
 import sys
 import unittest
+from email.message import Message
 from pathlib import Path
 from unittest import mock
 
@@ -28,8 +29,10 @@ from program_under_test import NOBODY, ROOT, run_tests  # noqa: E402
 sys.path.append(str(ROOT / "tools"))
 from desk_server import owners  # noqa: E402
 from desk_server.commands import command  # noqa: E402
+from desk_server.faults import Fault  # noqa: E402
 from desk_server.journal import Journal, Lines  # noqa: E402
 from desk_server.office import NoAnswer, Office  # noqa: E402
+from desk_server.safety import check_source  # noqa: E402
 
 WORDS = ["--office", "8080", "--key-file", "desk.key", "--port", "0"]
 
@@ -140,8 +143,21 @@ class Safety(DeskUnderTest):
             # A link may lead to the page.
             self.assertEqual(self.ask("GET", "/", headers={"Sec-Fetch-Site": site})[0], 200)
         self.assertEqual(self.get("/api/session", Origin=self.own, **{"Sec-Fetch-Site": "same-origin"})[0], 200)
+
+    def test_a_name_by_which_another_user_is_reached(self):
+        """At ::1 another user may listen on this port. A page that a browser has from there, as localhost, is of
+        the same origin as one that it has from the desk by that name."""
         localhost = {"Host": f"localhost:{self.port}", "Origin": f"http://localhost:{self.port}"}
-        self.assertEqual(self.get("/api/session", **localhost)[0], 200)
+        for path in ("/", "/api/session"):
+            self.faults(403, "host", self.get(path, **localhost))
+        self.faults(403, "host", self.post_with({**self.headers("payouts"), **localhost}))
+
+    def test_the_port_that_a_browser_leaves_out(self):
+        own = Message()
+        own["Host"], own["Origin"] = "127.0.0.1", "http://127.0.0.1"
+        check_source(own, 80, True)
+        with self.assertRaises(Fault):
+            check_source(own, 8090, True)
 
     def test_a_wrong_token(self):
         for token in ("", "0" * 64, self.session["tokens"]["reminders"], "ä"):

@@ -2,7 +2,7 @@
 else.
 
 - `Host` and `Origin`: another page in the clerk's browser can't reach the desk, whatever name it gave
-  this machine.
+  this machine. `localhost` is such a name: a browser tries ::1 too, where any user may listen.
 - Tokens: each form has one, made of a secret of this process, which only the page could read.
 - The user: the desk has the clerk's key, so the server takes no connection of another user of this machine
   (`owners`).
@@ -10,6 +10,7 @@ else.
 
 import hashlib
 import hmac
+import http.client
 import secrets
 from email.message import Message
 
@@ -50,7 +51,8 @@ def one(headers: Message, name: str) -> str | None:
 def check_source(headers: Message, port: int, is_post: bool) -> None:
     """Refuses what another page, or a name that leads to this machine, has sent."""
     host = one(headers, "Host")
-    if host not in (f"127.0.0.1:{port}", f"localhost:{port}"):
+    # A browser leaves out the port that HTTP has by itself.
+    if host != ("127.0.0.1" if port == http.client.HTTP_PORT else f"127.0.0.1:{port}"):
         raise Fault("host", 403)
     origin = one(headers, "Origin")
     if origin != f"http://{host}" and (is_post or origin is not None):
