@@ -95,7 +95,7 @@ class Forms(DeskUnderTest):
         self.assertEqual([(it["claim"], it["worker"], it["cents"], it["state"]) for it in claims],
                          [(1, 7, 80000, "released"), (2, 7, 1000, "withdrawn")])
         self.assertEqual(claims[0]["reply"], released)
-        self.assertFalse(self.does({"items": 1, "list": 1, "total": 25990}, self.command("payouts"))["known"])
+        self.does({"items": 1, "list": 1, "total": 25990}, self.command("payouts"))
         payout = self.get("/api/payouts/1")[1]
         self.assertEqual(payout["text"], "payout 1 2024-04-30\nclaim 1 employer 1001 worker 7         259.90\n"
                                          "items 1\ntotal         259.90\n")
@@ -147,7 +147,7 @@ class Forms(DeskUnderTest):
         self.does(DONE, self.register("1002", "Bau West", "03/2024"))
         for month in ("2024-01", "2024-02", "2024-03"):
             self.does({"charge": 0, "version": 1}, self.report(month, ""))
-        self.assertFalse(self.does({"firms": 1, "run": 1}, self.command("reminders"))["known"])
+        self.does({"firms": 1, "run": 1}, self.command("reminders"))
         reminded = {"employer": 1002, "level": 1, "missing": 1, "first": "2024-03", "arrears": "0", "interest": "0"}
         self.assertEqual(self.get("/api/reminders/1")[1]["reminders"],
                          {"run": 1, "day": DAY, "firms": 1, "reminded": [reminded]})
@@ -483,14 +483,6 @@ class Lost(DeskUnderTest):
         # What was never sent before is refused for good by any of them.
         answers[:] = [answer_bytes(401, {"rule": 6, "name": "UnknownKey", "detail": ""})]
         self.refuses(6, "UnknownKey", "", self.command("payouts"))
-
-    def test_a_list_that_was_made_before(self):
-        """Under a number that made a list before, the office answers with that one, and the desk tells it."""
-        listed = answer_bytes(200, {"items": 1, "list": 7, "total": 5})
-        office = FakeOffice(self, lambda request: listed)
-        self.open_desk(office.port)
-        self.assertFalse(self.command("payouts")[1]["known"])
-        self.assertTrue(self.command("payouts")[1]["known"])
 
 
 class Offices(DeskUnderTest):

@@ -183,12 +183,7 @@ class Desk:
 
     def told(self, entry: dict[str, Any]) -> dict[str, Any]:
         """What the page is told of an entry of the log, with the state in which the desk is then."""
-        told = {"entry": entry, "state": self.state(), "known": False}
-        member = {"payouts": "list", "reminders": "run"}.get(entry["kind"])
-        if member in entry["reply"]:
-            history = self.journal.history
-            told["known"] = history.is_known(entry["kind"], entry["reply"][member], entry["number"])
-        return told
+        return {"entry": entry, "state": self.state()}
 
     def state(self) -> dict[str, Any]:
         """What stops the forms, and the request without an answer. Its time, in microseconds since the machine
@@ -204,7 +199,7 @@ class Desk:
     def expected(self, month: str, gross: int) -> dict[str, Any] | None:
         """The contribution that is to be expected of a month's gross wages, by the rate file and the
         rates that this desk added; None where they don't tell."""
-        row = rate_in_force([*(self.rates or []), *self.journal.history.rate_rows], month)
+        row = rate_in_force([*(self.rates or []), *self.journal.history.rates.values()], month)
         if self.rates is None or row is None:
             return None
         cents = contribution_of(gross, row.contribution)

@@ -2,6 +2,9 @@
 rates that it added.
 
 The office has no route for these. What other desks and the firms did isn't here.
+
+The numbers of claims, lists and runs rise, and so do the months of the rates. Where the office gives one that
+isn't above the last one here, its store went back to a backup: what is known from that one on is no more.
 """
 
 from collections import deque
@@ -13,12 +16,19 @@ MOST_ENTRIES = 500
 ACCEPTED = ("done", "repeated")
 
 
+def drop_from(known: dict[Any, Any], first: Any) -> None:
+    """Drops what is known from this one on, which stands last."""
+    while known and next(reversed(known)) >= first:
+        known.popitem()
+
+
 class History:
     def __init__(self) -> None:
         self.entries: deque[dict[str, Any]] = deque(maxlen=MOST_ENTRIES)
         self.claims: dict[int, dict[str, Any]] = {}
-        self.documents: dict[str, dict[int, int]] = {"payouts": {}, "reminders": {}}
-        self.rate_rows: list[RateRow] = []
+        # The lists and runs by their numbers, and the rates by their first months.
+        self.documents: dict[str, dict[int, None]] = {"payouts": {}, "reminders": {}}
+        self.rates: dict[str, RateRow] = {}
 
     def add(self, entry: dict[str, Any]) -> None:
         self.entries.append(entry)
@@ -26,32 +36,33 @@ class History:
             return
         learn = getattr(self, f"learn_{entry['kind']}", None)
         if learn is not None:
-            learn(entry["number"], entry["values"], entry["reply"])
+            learn(entry["values"], entry["reply"])
 
-    def learn_rates(self, _number: int, values: dict[str, Any], _reply: dict[str, Any]) -> None:
-        self.rate_rows.append(RateRow(values["from"], values["contribution"]))
+    def learn_rates(self, values: dict[str, Any], _reply: dict[str, Any]) -> None:
+        drop_from(self.rates, values["from"])
+        self.rates[values["from"]] = RateRow(values["from"], values["contribution"])
 
-    def learn_claim(self, _number: int, values: dict[str, Any], reply: dict[str, Any]) -> None:
+    def learn_claim(self, values: dict[str, Any], reply: dict[str, Any]) -> None:
+        drop_from(self.claims, reply["claim"])
         self.claims[reply["claim"]] = {"claim": reply["claim"], "state": "open", "reply": None, **values}
 
-    def learn_withdraw(self, _number: int, values: dict[str, Any], _reply: dict[str, Any]) -> None:
+    def learn_withdraw(self, values: dict[str, Any], _reply: dict[str, Any]) -> None:
         if values["claim"] in self.claims:
             self.claims[values["claim"]]["state"] = "withdrawn"
 
-    def learn_release(self, _number: int, values: dict[str, Any], reply: dict[str, Any]) -> None:
+    def learn_release(self, values: dict[str, Any], reply: dict[str, Any]) -> None:
         if values["claim"] in self.claims:
             self.claims[values["claim"]].update(state="released", reply=reply)
 
-    def learn_payouts(self, number: int, _values: dict[str, Any], reply: dict[str, Any]) -> None:
-        self.documents["payouts"].setdefault(reply["list"], number)
+    def learn_payouts(self, _values: dict[str, Any], reply: dict[str, Any]) -> None:
+        self.learn_document("payouts", reply["list"])
 
-    def learn_reminders(self, number: int, _values: dict[str, Any], reply: dict[str, Any]) -> None:
-        self.documents["reminders"].setdefault(reply["run"], number)
+    def learn_reminders(self, _values: dict[str, Any], reply: dict[str, Any]) -> None:
+        self.learn_document("reminders", reply["run"])
 
-    def is_known(self, kind: str, document: int, number: int) -> bool:
-        """Whether this list or run was made under another number, so that the office took the request for
-        that one."""
-        return self.documents[kind].get(document, number) != number
+    def learn_document(self, kind: str, number: int) -> None:
+        drop_from(self.documents[kind], number)
+        self.documents[kind][number] = None
 
     def claims_of(self, employer: int) -> list[dict[str, Any]]:
         return [claim for claim in list(self.claims.values()) if claim["employer"] == employer]
