@@ -6,12 +6,22 @@ PROGRAM is crates/clear_app/out/clear_app where it isn't given, as `rt ci` leave
 worked out from docs/rules.md by hand.
 """
 
+import errno
+import json
+import os
+import resource
 import sys
+from pathlib import Path
+from unittest import mock
 
 # No __pycache__ is left beside the sources.
 sys.dont_write_bytecode = True
-from desk_under_test import DONE, FIRST_BANK, DeskUnderTest  # noqa: E402
-from program_under_test import run_tests  # noqa: E402
+from desk_under_test import DONE, FIRST_BANK, DeskUnderTest, FakeOffice, answer_bytes  # noqa: E402
+from program_under_test import ROOT, run_tests  # noqa: E402
+
+sys.path.append(str(ROOT / "tools"))
+from desk_server.commands import command  # noqa: E402
+from desk_server.journal import Journal, Lines  # noqa: E402
 
 
 class StoreOfBefore(DeskUnderTest):
@@ -66,6 +76,79 @@ class StoreOfBefore(DeskUnderTest):
         self.assertEqual([(it["claim"], it["cents"], it["state"]) for it in claims], [(1, 5_000, "released")])
         self.add_rates("21")
         self.assertEqual(self.expected("2026-01", "7,10000\n"), {"cents": "2100", "rate": 2100, "from": "2026-01"})
+
+
+class Files(DeskUnderTest):
+    """A desk that is started anew knows what was done before, whatever a file didn't take or lost."""
+
+    def open_with_fake_office(self, *answers):
+        self.answers = list(answers)
+        self.office = FakeOffice(self, lambda request: self.answers.pop(0))
+        self.open_desk(self.office.port)
+
+    def start_anew(self):
+        self.desk.terminate()
+        self.desk.wait()
+        self.open_desk(self.office.port)
+
+    def test_a_file_of_numbers_that_is_older_than_the_log(self):
+        listed = [answer_bytes(200, {"items": 1, "list": number, "total": 5}) for number in (1, 2, 3)]
+        self.open_with_fake_office(*listed)
+        for _ in range(2):
+            self.command("payouts")
+        numbers = self.log_folder / "numbers.jsonl"
+        numbers.write_text(numbers.read_text().splitlines(keepends=True)[0])
+        self.start_anew()
+        # Under number 2 the office would tell list 2 again.
+        self.assertEqual(self.command("payouts")[1]["entry"]["number"], 3)
+
+    def test_a_desk_that_stops_before_its_log_is_written(self):
+        """What was done stays in front of all others, as the log doesn't have it, and is done once."""
+        claimed = answer_bytes(200, {"claim": 1})
+        self.open_with_fake_office(claimed, claimed)
+        claim = {"employer": "1001", "worker": "7", "amount": "10,00"}
+        size = self.fill_the_log()
+        resource.prlimit(self.desk.pid, resource.RLIMIT_FSIZE, (size, resource.RLIM_INFINITY))
+        told = self.does({"claim": 1}, self.command("claim", **claim), "done-unwritten")
+        self.assertIsNone(told["state"]["pending"])
+        self.start_anew()
+        self.assertEqual(self.session["state"]["pending"]["words"], "claim 1001 7 1000")
+        self.faults(409, "pending", self.command("claim", **claim))
+        told = self.post("/api/pending/send-again", "send-again", {"number": 1})
+        self.assertIsNone(self.does({"claim": 1}, told, "repeated")["state"]["pending"])
+        self.assertEqual(self.office.requests[0], self.office.requests[1])
+        self.assertEqual(self.logged()[-1], (1, "repeated", "claim 1001 7 1000"))
+
+    def fill_the_log(self):
+        """A log that is longer than the desk's other files. Its size."""
+        self.kill_desk()
+        line = {"time": "", "number": 0, "outcome": "given-up", "kind": "end", "words": "x" * 4_000, "values": {},
+                "reply": {}}
+        (self.log_folder / "log.jsonl").write_text(json.dumps(line) + "\n")
+        self.open_desk(self.office.port)
+        return len(json.dumps(line)) + 1
+
+    def test_a_folder_that_takes_nothing_any_more(self):
+        """Neither can the answer be written nor the request's file be removed."""
+        journal = Journal(self.log_folder, 1, 2)
+        numbered = journal.take(command("payouts", "/payouts", None, {}))
+        reply = {"items": 1, "list": 1, "total": 5}
+        full = OSError(errno.EROFS, "Read-only file system")
+        with mock.patch.object(Lines, "append", side_effect=full), mock.patch.object(Path, "unlink", side_effect=full):
+            self.assertFalse(journal.note(numbered, "done", reply)[1])
+        self.assertIsNone(journal.pending)
+        journal = self.anew(journal)
+        self.assertEqual(journal.pending, numbered)
+        with mock.patch.object(Path, "unlink", side_effect=full):
+            self.assertTrue(journal.note(numbered, "repeated", reply)[1])
+        journal = self.anew(journal)
+        self.assertIsNone(journal.pending)
+        self.assertFalse(journal.pending_path.exists())
+        self.assertEqual([it[:2] for it in self.logged()], [(2, "repeated")])
+
+    def anew(self, journal):
+        os.close(journal.lock)
+        return Journal(self.log_folder, 1, 2)
 
 
 if __name__ == "__main__":

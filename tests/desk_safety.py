@@ -8,7 +8,6 @@ PROGRAM is crates/clear_app/out/clear_app where it isn't given, as `rt ci` leave
 
 import contextlib
 import datetime
-import errno
 import json
 import os
 import resource
@@ -17,7 +16,6 @@ import socket
 import sys
 import unittest
 from email.message import Message
-from pathlib import Path
 from unittest import mock
 
 # No __pycache__ is left beside the sources.
@@ -28,9 +26,7 @@ from program_under_test import NOBODY, ROOT, run_tests  # noqa: E402
 
 sys.path.append(str(ROOT / "tools"))
 from desk_server import owners  # noqa: E402
-from desk_server.commands import command  # noqa: E402
 from desk_server.faults import Fault  # noqa: E402
-from desk_server.journal import Journal, Lines  # noqa: E402
 from desk_server.office import NoAnswer, Office  # noqa: E402
 from desk_server.safety import check_source  # noqa: E402
 
@@ -459,7 +455,6 @@ class Numbers(DeskUnderTest):
         claim = {"employer": "1001", "worker": "7", "amount": "10,00"}
         told = self.does({"claim": 1}, self.command("claim", **claim), "done-unwritten")
         self.assertEqual((told["entry"]["number"], told["state"]["pending"]), (2, None))
-        self.assertFalse((self.log_folder / "pending.json").exists())
         # The page's log has it, as it is in no file.
         self.assertEqual(self.get("/api/log")[1]["log"][-1]["outcome"], "done")
         self.assertEqual(self.faults(500, "journal", self.command("claim", **claim)), {"why": "File too large"})
@@ -480,19 +475,6 @@ class Numbers(DeskUnderTest):
         status, told = self.post("/api/pending/send-again", "send-again", {"number": 2})
         self.assertEqual((status, told["entry"]["outcome"], told["entry"]["reply"]["rule"], told["state"]["pending"]),
                          (409, "refused-unwritten", 29, None))
-
-    def test_a_folder_that_takes_nothing_any_more(self):
-        """Neither can the answer be written nor the request be dropped: it stays, to be sent again."""
-        journal = Journal(self.log_folder, 1, 2)
-        numbered = journal.take(command("payouts", "/payouts", None, {}))
-        full = OSError(errno.EROFS, "Read-only file system")
-        reply = {"items": 1, "list": 1, "total": 5}
-        with mock.patch.object(Lines, "append", side_effect=full), mock.patch.object(Path, "unlink", side_effect=full):
-            self.assertEqual(journal.note(numbered, "done", reply)[1], False)
-        self.assertEqual(journal.pending, numbered)
-        self.assertEqual(journal.note(numbered, "repeated", reply)[1], True)
-        self.assertIsNone(journal.pending)
-        self.assertEqual([it[:2] for it in self.logged()], [(2, "done"), (2, "repeated")])
 
     def test_who_may_read_the_folder(self):
         self.open_desk(FakeOffice(self, lambda request: answer_bytes(200, DONE)).port)

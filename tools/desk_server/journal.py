@@ -5,7 +5,7 @@ has an answer, and `pending.json` goes last. So after a crash at any moment eith
 what was sent stands in `pending.json` and is sent again under its number.
 
 Where the disk takes no more of `log.jsonl`, the answer holds all the same: it is told, the entry waits in
-front of the next number, and no further request is sent before it is written.
+front of the next number, and no further request is sent before it is written. `pending.json` stays until then.
 """
 
 import contextlib
@@ -108,17 +108,18 @@ class Journal:
         self.numbers = Lines(folder / "numbers.jsonl")
         self.log = Lines(folder / "log.jsonl")
         sync_folder(folder)
-        taken = self.numbers.read()
-        self.last = max((entry["number"] for entry in taken), default=0)
+        taken, logged = self.numbers.read(), self.log.read()
+        # One of the two files may be an older copy.
+        self.last = max((entry["number"] for entry in (*taken, *logged)), default=0)
         self.history = History()
         # Entries that the disk didn't take.
         self.unwritten: list[dict[str, Any]] = []
-        self.pending = self.read_pending(self.read_log())
+        self.pending = self.read_pending(self.learn(logged))
 
-    def read_log(self) -> set[int]:
-        """Reads what the desk did before. The numbers of the requests that are settled."""
+    def learn(self, logged: list[dict[str, Any]]) -> set[int]:
+        """Learns what the desk did before. The numbers of the requests that are settled."""
         settled = set()
-        for place, entry in enumerate(self.log.read(), 1):
+        for place, entry in enumerate(logged, 1):
             try:
                 self.history.add(entry)
             except (KeyError, TypeError, AttributeError):
@@ -173,10 +174,9 @@ class Journal:
         self.unwritten.append(entry)
         with contextlib.suppress(OSError):
             self.write_log()
-        is_written = not self.unwritten
         if is_settled(entry):
-            self.drop_pending(is_written)
-        return entry, is_written
+            self.drop_pending()
+        return entry, not self.unwritten
 
     def give_up(self, numbered: Numbered) -> dict[str, Any]:
         """Logs that a request is given up, and drops it. The entry; OSError where the disk doesn't take it,
@@ -185,7 +185,7 @@ class Journal:
         entry = entry_of(numbered, "given-up", {})
         self.log.append(entry)
         self.history.add(entry)
-        self.drop_pending(is_written=True)
+        self.drop_pending()
         return entry
 
     def write_log(self) -> None:
@@ -193,15 +193,13 @@ class Journal:
             self.log.append(self.unwritten[0])
             del self.unwritten[0]
 
-    def drop_pending(self, is_written: bool) -> None:
-        """A request that neither has its entry nor can be dropped stays, and is sent again under its
-        number."""
-        try:
-            self.pending_path.unlink(missing_ok=True)
-        except OSError:
-            if not is_written:
-                return
+    def drop_pending(self) -> None:
+        """Its file goes once the log has the entry, or a desk that is started anew would know of neither. One
+        that can't be removed is known by the entry then."""
         self.pending = None
+        if not self.unwritten:
+            with contextlib.suppress(OSError):
+                self.pending_path.unlink(missing_ok=True)
 
 
 def entry_of(numbered: Numbered, outcome: str, reply: dict[str, Any]) -> dict[str, Any]:
