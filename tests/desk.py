@@ -450,7 +450,7 @@ class Lost(DeskUnderTest):
         claim = {"employer": "1001", "worker": "7", "amount": "10,00"}
         self.assertEqual(self.command("claim", **claim)[1]["entry"]["outcome"], "lost")
         self.close_office()
-        self.write("callers.toml", "new = 0\n")
+        self.write("callers.toml", "new = 0\nk1001 = 1001\n")
         self.open_office(port=self.server.port)
         # That the key isn't taken says nothing of the claim: it stays in front of all others.
         status, told = self.send_again(3)
@@ -458,9 +458,13 @@ class Lost(DeskUnderTest):
                          (503, "undecided", {"rule": 6, "name": "UnknownKey", "detail": ""}))
         self.assertEqual(told["state"]["pending"]["number"], 3)
         self.faults(409, "pending", self.command("claim", **claim))
-        self.kill_desk()
-        self.write("desk.key", "new\n")
-        self.open_desk(self.proxy.port)
+        # Nor does it go with a firm's key: under the firm's number 3 it would be done once more.
+        for key in ("k1001", "new"):
+            self.kill_desk()
+            self.write("desk.key", key)
+            self.open_desk(self.server.port)
+            if key == "k1001":
+                self.assertEqual(self.send_again(3)[1]["entry"]["reply"], {"reason": "firm", "port": self.server.port})
         self.does({"claim": 1}, self.send_again(3), "repeated")
         self.assertEqual(self.claims(), [1])
 
@@ -509,6 +513,9 @@ class Offices(DeskUnderTest):
         self.write("firm.key", "k1001\n")
         self.open_desk(None, key="firm.key")
         self.assertEqual(self.get("/api/suspense/0")[1]["refusal"]["name"], "NotYours")
+        # Nor is anything done that the firm itself may do.
+        told = self.command("claim", employer="1001", worker="7", amount="10,00")[1]
+        self.assertEqual((told["entry"]["outcome"], told["entry"]["reply"]["reason"]), ("lost", "firm"))
 
     def test_what_is_no_office(self):
         for answer in (answer_bytes(404, b"<h1>none</h1>", "text/html"), answer_bytes(200, {"hello": "you"}),

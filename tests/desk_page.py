@@ -103,7 +103,7 @@ class Words(unittest.TestCase):
         self.assertGreater(len(codes), 15)
         for code in codes - {"no-answer"}:
             self.assertIn(f"fault.{code}", WORDS["en"])
-        for reason in ("absent", "silent", "broken", "foreign", "stranger", "unseen"):
+        for reason in ("absent", "silent", "broken", "foreign", "stranger", "unseen", "firm"):
             self.assertIn(f"fault.no-answer.{reason}", WORDS["en"])
         fields = set(re.findall(r'number\("([a-z]+)"', source))
         fields |= set(re.findall(r'FieldFault\([a-z"]+, "([a-z-]+)"\)', source))

@@ -45,8 +45,13 @@ def length_of(head):
     return int(found[1]) if found else 0
 
 
+# By which a desk sees that its key is a clerk's, before the first command.
+KEY_QUESTION = b"GET /workers/999999999 HTTP/1.1\r\n"
+
+
 class FakeOffice:
-    """Takes requests on a port, and answers each as `answer` says: bytes, or None to end the connection."""
+    """Takes requests on a port, and answers each as `answer` says: bytes, or None to end the connection. Each
+    key is a clerk's."""
 
     def __init__(self, test, answer, port=0):
         self.listener = socket.create_server(("127.0.0.1", port))
@@ -72,6 +77,9 @@ class FakeOffice:
                 return
             with peer:
                 request = read_message(peer)
+                if request.startswith(KEY_QUESTION):
+                    peer.sendall(answer_bytes(200, b"worker 999999999 2024-04-30\nbalance 0.00\n", "text/plain"))
+                    continue
                 self.requests.append(request)
                 answer = self.answer(request)
                 if answer is not None:

@@ -19,7 +19,7 @@ from .recent import Recent
 # In seconds: the pauses in front of each attempt to send a request.
 PAUSES = (0, 0.2, 1)
 # An attempt that ended so isn't made again by itself: the next one would take as long, or fare no better.
-NO_USE = ("silent", "foreign", "stranger", "unseen")
+NO_USE = ("silent", "foreign", "stranger", "unseen", "firm")
 # How long a command waits for the one before it.
 TURN_SECONDS = 90
 # What the page is told behind an outcome that isn't in the log.

@@ -5,7 +5,8 @@ has an answer, and `pending.json` goes last. So after a crash at any moment eith
 what was sent stands in `pending.json` and is sent again under its number.
 
 Where the disk takes no more of `log.jsonl`, the answer holds all the same: it is told, the entry waits in
-front of the next number, and no further request is sent before it is written. `pending.json` stays until then.
+front of the next number, and no further request is sent before it is written. Until then `pending.json`
+stays.
 """
 
 import contextlib

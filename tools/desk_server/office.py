@@ -19,17 +19,20 @@ MEMORY, STORE, FAILED = 40, 41, 42
 # The rules up to this one are judged before the office looks whether the request was done already
 # (docs/http.md, docs/rules.md): its head, its path, its key, its body, and whose the key is.
 LAST_BEFORE_REPEATS = 8
-
+# The rule by which a firm is refused what only a clerk may ask for, as for a worker.
+NOT_YOURS = 7
+CLERKS_QUESTION = "/workers/999999999"
 
 # The reasons for which nothing was sent.
-UNSENT = ("absent", "stranger", "unseen")
+UNSENT = ("absent", "stranger", "unseen", "firm")
 ROOT = 0
 
 
 class NoAnswer(Exception):
     """Nothing came that an office says. The reason is `absent` (nobody takes the connection), `stranger`
-    (another user's program takes it), `unseen` (the kernel doesn't say whose takes it), `silent` (no answer
-    in time), `broken` (the connection ended before) or `foreign` (what answers is no office)."""
+    (another user's program takes it), `unseen` (the kernel doesn't say whose takes it), `firm` (the key is a
+    firm's), `silent` (no answer in time), `broken` (the connection ended before) or `foreign` (what answers
+    is no office)."""
 
     def __init__(self, reason: str):
         super().__init__(reason)
@@ -72,6 +75,7 @@ class Office:
         self.seconds = seconds
         self.users = (os.getuid(), ROOT, user)
         self._key = key
+        self.is_clerks_key = False
 
     def document(self, path: str) -> Answer:
         """The document at a path, or a refusal."""
@@ -82,10 +86,21 @@ class Office:
 
     def send(self, method: str, path: str, number: int, body: bytes, reply: frozenset[str]) -> Answer:
         """The reply to a command, which has just these members, or a refusal."""
+        self.check_key()
         answer = self.ask(method, path, number, body)
         if not answer.is_refused and set(answer.members) != reply:
             raise NoAnswer("foreign")
         return answer
+
+    def check_key(self) -> None:
+        """Keeps commands from going with a firm's key: its numbers are the firm's own, so what went with a
+        clerk's key before would be done once more."""
+        if self.is_clerks_key:
+            return
+        answer = self.document(CLERKS_QUESTION)
+        if answer.rule == NOT_YOURS:
+            raise NoAnswer("firm")
+        self.is_clerks_key = not answer.is_refused
 
     def ask(self, method: str, path: str, number: int | None = None, body: bytes = b"") -> Answer:
         fields = {"Office-Key": self._key, "Connection": "close"}
