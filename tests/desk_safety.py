@@ -8,6 +8,7 @@ PROGRAM is crates/clear_app/out/clear_app where it isn't given, as `rt ci` leave
 
 import contextlib
 import datetime
+import http.client
 import json
 import os
 import resource
@@ -284,6 +285,25 @@ class OfficesPort(DeskUnderTest):
         self.open_desk(office.port)
         self.does(DONE, self.register())
 
+    @unittest.skipUnless(NOBODY, "only root can be another user")
+    def test_another_user_who_holds_the_other_end(self):
+        """An office listens on the port, and yet the connection isn't with it."""
+        with as_another(NOBODY - 1):
+            stranger = socket.create_server(("127.0.0.1", 0))
+        address = stranger.getsockname()
+        connection = socket.create_connection(address)
+        with as_another(NOBODY - 1), stranger:
+            taken, _ = stranger.accept()
+
+        def connect(request):
+            request.sock = connection
+
+        with taken, socket.create_server(address):
+            with mock.patch.object(http.client.HTTPConnection, "connect", connect):
+                with self.assertRaises(NoAnswer) as told:
+                    Office(address[1], "desk", seconds=1).document("/suspense")
+            self.assertEqual((told.exception.reason, taken.recv(100)), ("stranger", b""))
+
     def test_a_listener_that_the_kernel_does_not_tell(self):
         office = FakeOffice(self, lambda request: answer_bytes(200, DONE))
         with mock.patch.object(owners, "listener", return_value=None):
@@ -335,6 +355,24 @@ class Owners(unittest.TestCase):
         for one, two in ((peer, here), (here, peer), (peer, nobody), (here, nobody)):
             self.assertIsNone(self.owners(one, two))
             self.assertFalse(owners.is_own(one, two))
+
+    def holders(self, peer, here):
+        """By the kernel's answer where it answers, and by the list."""
+        listed = owners.listed_owner(peer, here, None)
+        self.assertIn(owners.holder(peer, here), (listed, os.geteuid()))
+        return listed
+
+    def test_who_holds_the_other_end(self):
+        peer = socket.create_connection(self.listener.getsockname())
+        self.addCleanup(peer.close)
+        # Nobody has accepted it yet.
+        self.assertIn(self.holders(peer.getpeername(), peer.getsockname()), (0, os.geteuid()))
+        connection, _ = self.listener.accept()
+        self.assertEqual(self.holders(peer.getpeername(), peer.getsockname()), os.geteuid())
+        # An office that has failed answers and ends before it reads.
+        connection.close()
+        self.assertIn(self.holders(peer.getpeername(), peer.getsockname()), (0, os.geteuid()))
+        self.assertIsNone(self.holders(("127.0.0.1", 1), peer.getsockname()))
 
     def listeners(self, address):
         """By the kernel's answer where it answers, and by the list."""

@@ -109,7 +109,7 @@ class Office:
         connection = http.client.HTTPConnection(HOST, self.port, timeout=CONNECT_SECONDS)
         try:
             connection.connect()
-            self.check_listener()
+            self.check_peer(connection.sock.getsockname())
             connection.sock.settimeout(self.seconds)
             connection.request(method, path, body if method != "GET" else None, fields)
             response = connection.getresponse()
@@ -123,15 +123,18 @@ class Office:
         finally:
             connection.close()
 
-    def check_listener(self) -> None:
-        """Keeps key and request from whoever else listens on the port, as while the office is stopped."""
+    def check_peer(self, here: owners.Address) -> None:
+        """Keeps key and request from whoever else listens on the port, as while the office is stopped, and from
+        whoever else holds the other end: two ends that connect to each other need nobody who listens. In this
+        order, as the other end has no holder before it is accepted."""
         if not owners.are_told():
             return
-        owner = owners.listener((HOST, self.port))
-        if owner is None:
-            raise NoAnswer("unseen")
-        if owner not in self.users:
-            raise NoAnswer("stranger")
+        office = (HOST, self.port)
+        for owner in (owners.listener(office), owners.holder(office, here)):
+            if owner is None:
+                raise NoAnswer("unseen")
+            if owner not in self.users:
+                raise NoAnswer("stranger")
 
 
 def read_body(response: http.client.HTTPResponse) -> bytes:

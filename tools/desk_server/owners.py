@@ -16,6 +16,7 @@ Address = tuple[str, int]
 
 CONNECTIONS = Path("/proc/net/tcp")
 ESTABLISHED, LISTENING = 1, 10
+ALL_STATES = 0xFFFF_FFFF
 # The other end of a socket that is listened on.
 NO_END = ("0.0.0.0", 0)
 
@@ -41,13 +42,15 @@ def ends(one: Address, other: Address) -> bytes:
     return PORTS.pack(one[1], other[1]) + addresses
 
 
-def question(connection: bytes, state: int) -> bytes:
-    body = QUESTION.pack(socket.AF_INET, socket.IPPROTO_TCP, 0, 1 << state) + connection + ANY
+def question(connection: bytes, state: int | None) -> bytes:
+    states = ALL_STATES if state is None else 1 << state
+    body = QUESTION.pack(socket.AF_INET, socket.IPPROTO_TCP, 0, states) + connection + ANY
     return HEAD.pack(HEAD.size + len(body), SOCK_DIAG_BY_FAMILY, NLM_F_REQUEST, 1, 0) + body
 
 
-def asked_owner(peer: Address, here: Address, state: int = ESTABLISHED) -> int | None:
-    """The user by the kernel's answer to a question; None where it tells no such connection."""
+def asked_owner(peer: Address, here: Address, state: int | None = ESTABLISHED) -> int | None:
+    """The user by the kernel's answer to a question; None where it tells no such connection in this state, or
+    in any where none is given."""
     connection = ends(peer, here)
     try:
         with socket.socket(socket.AF_NETLINK, socket.SOCK_RAW, NETLINK_SOCK_DIAG) as kernel:
@@ -61,10 +64,10 @@ def asked_owner(peer: Address, here: Address, state: int = ESTABLISHED) -> int |
     if sender != 0 or len(answer) < told + len(connection) + len(ANY) + USER.size:
         return None
     kind = HEAD.unpack_from(answer)[1]
-    if kind != SOCK_DIAG_BY_FAMILY or STATE.unpack_from(answer, HEAD.size)[1] != state:
+    if kind != SOCK_DIAG_BY_FAMILY or state not in (None, STATE.unpack_from(answer, HEAD.size)[1]):
         return None
     # Who listens may do so for all addresses of the machine, which is told then.
-    same = connection if state == ESTABLISHED else connection[:PORTS.size]
+    same = connection[:PORTS.size] if state == LISTENING else connection
     if not answer.startswith(same, told):
         return None
     return USER.unpack_from(answer, told + len(connection) + len(ANY))[0]
@@ -77,18 +80,18 @@ def kernel_name(address: Address) -> str:
 
 
 def listed(wanted: list[str]) -> int | None:
-    """The user of the line of the kernel's list that has these addresses and this state; None where there is
-    none."""
+    """The user of the line of the kernel's list that has these addresses, and this state where one is given;
+    None where there is none."""
     for line in CONNECTIONS.read_text(encoding="ascii").splitlines()[1:]:
         fields = line.split()
-        if fields[1:4] == wanted:
+        if fields[1:1 + len(wanted)] == wanted:
             return int(fields[7])
     return None
 
 
-def listed_owner(peer: Address, here: Address) -> int | None:
+def listed_owner(peer: Address, here: Address, state: int | None = ESTABLISHED) -> int | None:
     """The user of a connection's other end by the kernel's list."""
-    return listed([kernel_name(peer), kernel_name(here), f"{ESTABLISHED:02X}"])
+    return listed([kernel_name(peer), kernel_name(here), *([] if state is None else [f"{state:02X}"])])
 
 
 def listed_listener(here: Address) -> int | None:
@@ -126,3 +129,9 @@ def is_own(peer: Address, here: Address) -> bool:
 def listener(here: Address) -> int | None:
     """The user whose program takes the connections to this address; None where nobody does."""
     return asked_owner(here, NO_END, LISTENING) if is_asked() else listed_listener(here)
+
+
+def holder(peer: Address, here: Address) -> int | None:
+    """The user who holds the other end of a connection, whatever its state; None where there is no such end.
+    As long as nobody has accepted it, the kernel may tell root."""
+    return asked_owner(peer, here, None) if is_asked() else listed_owner(peer, here, None)
