@@ -8,6 +8,7 @@ PROGRAM is crates/clear_app/out/clear_app where it isn't given, as `rt ci` leave
 
 import contextlib
 import datetime
+import encodings.idna  # noqa: F401 (by which a socket reads a host; another user may not see this Python's folder)
 import http.client
 import json
 import os
@@ -17,6 +18,7 @@ import socket
 import sys
 import unittest
 from email.message import Message
+from pathlib import Path
 from unittest import mock
 
 # No __pycache__ is left beside the sources.
@@ -346,6 +348,15 @@ class Owners(unittest.TestCase):
             _, peer, here = self.connect()
         self.assertEqual(self.owners(peer, here), NOBODY)
         self.assertFalse(owners.is_own(peer, here))
+
+    @unittest.skipUnless(NOBODY, "only root can be another user")
+    def test_a_machine_without_the_list(self):
+        """As where /proc has nothing but processes: another user isn't taken for this one."""
+        with as_another():
+            _, peer, here = self.connect()
+        with mock.patch.object(owners, "CONNECTIONS", Path("/nowhere")):
+            self.assertFalse(owners.is_own(peer, here))
+            self.assertIsNone(owners.listed_listener(here))
 
     def test_no_connection(self):
         """Both ends of one that has ended, one that never was, and one in whose place a port is listened on."""

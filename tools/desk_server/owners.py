@@ -10,6 +10,7 @@ import functools
 import os
 import socket
 import struct
+import sys
 from pathlib import Path
 
 Address = tuple[str, int]
@@ -81,8 +82,12 @@ def kernel_name(address: Address) -> str:
 
 def listed(wanted: list[str]) -> int | None:
     """The user of the line of the kernel's list that has these addresses, and this state where one is given;
-    None where there is none."""
-    for line in CONNECTIONS.read_text(encoding="ascii").splitlines()[1:]:
+    None where there is none, or no list."""
+    try:
+        lines = CONNECTIONS.read_text(encoding="ascii").splitlines()[1:]
+    except OSError:
+        return None
+    for line in lines:
         fields = line.split()
         if fields[1:1 + len(wanted)] == wanted:
             return int(fields[7])
@@ -115,7 +120,7 @@ def is_asked() -> bool:
 def are_told() -> bool:
     """Whether the kernel tells of connections. On other systems than Linux it doesn't, and all users of the
     machine count as this one."""
-    return CONNECTIONS.exists()
+    return sys.platform == "linux"
 
 
 def is_own(peer: Address, here: Address) -> bool:
