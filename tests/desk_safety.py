@@ -16,6 +16,7 @@ import resource
 import signal
 import socket
 import sys
+import threading
 import unittest
 from email.message import Message
 from pathlib import Path
@@ -32,6 +33,7 @@ from desk_server import owners  # noqa: E402
 from desk_server.faults import Fault  # noqa: E402
 from desk_server.office import NoAnswer, Office  # noqa: E402
 from desk_server.safety import check_source  # noqa: E402
+from desk_server.server import MOST_CONNECTIONS, Server  # noqa: E402
 
 WORDS = ["--office", "8080", "--key-file", "desk.key", "--port", "0"]
 
@@ -258,6 +260,16 @@ def as_another(user=NOBODY):
         yield
     finally:
         os.seteuid(0)
+
+
+class Places(unittest.TestCase):
+    def test_threads_that_cannot_be_begun(self):
+        """As where the user has as many processes as may be. Each gives its place back."""
+        with Server(0, {}) as server, mock.patch.object(threading.Thread, "start", side_effect=RuntimeError):
+            for _ in range(MOST_CONNECTIONS):
+                with self.assertRaises(RuntimeError):
+                    server.process_request(None, None)
+            self.assertTrue(server.places.acquire(blocking=False))
 
 
 class OfficesPort(DeskUnderTest):

@@ -161,7 +161,12 @@ class Server(http.server.ThreadingHTTPServer):
 
     def process_request(self, request: socket.socket, client_address: Any) -> None:
         self.places.acquire()
-        super().process_request(request, client_address)
+        try:
+            super().process_request(request, client_address)
+        except BaseException:
+            # No thread was begun, which would give the place back.
+            self.places.release()
+            raise
 
     def process_request_thread(self, request: socket.socket, client_address: Any) -> None:
         try:
