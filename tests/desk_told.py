@@ -75,6 +75,20 @@ class Told(InBrowser):
         self.confirm("A release is for good", "Not known at this desk: firm, worker and amount")
         self.answers("refused", "rule 26, UnknownClaim")
 
+    def test_a_claim_that_the_firm_has_withdrawn_itself(self):
+        """The desk doesn't know of it, and the page doesn't say that the claim stands as it was left here."""
+        self.does(DONE, self.register())
+        self.report("2024-01", "7,1000000\n")
+        self.does({"claim": 1}, self.command("claim", employer="1001", worker="7", amount="10,00"))
+        withdrawal = (b"POST /employers/1001/claims/1/withdraw HTTP/1.1\r\nHost: fund\r\nOffice-Key: k1001\r\n"
+                      b"Request-Number: 1\r\nContent-Length: 0\r\n\r\n")
+        self.assertIn(b'{"done":true}', self.send(self.server, withdrawal))
+        self.open_firm("1001")
+        self.browser.wait_for_text("#firm-claims-table tbody", "open")
+        self.browser.wait_for_text("#firm-claims-table caption", "and what was done with them here")
+        self.browser.open(self.address + "#/worker/7", "worker/7")
+        self.browser.wait_for_text("#worker-claims", "There is no claim for the worker.")
+
     def test_a_name_that_turns_the_direction_of_writing(self):
         self.go("new")
         self.type_in("register", employer="1003", name="Bau \u202eOst", start="2024-04")
