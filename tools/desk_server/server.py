@@ -163,7 +163,7 @@ class Server(http.server.ThreadingHTTPServer):
         self.places.acquire()
         try:
             super().process_request(request, client_address)
-        except BaseException:
+        except Exception:
             # No thread was begun, which would give the place back.
             self.places.release()
             raise
