@@ -68,13 +68,15 @@ pub struct Walk {
 impl Walk {
     ghost use Rattle.std.specs.Prelude.{◌≡◌, ◌+◌, ◌^◌, ◌<◌, IfOk, length};
     ghost use Rattle.clear_account.specs.Account.{IsAccount, charged_up_to, credited};
+    ghost use Rattle.clear_account.specs.Places.{Ends};
     ghost use Rattle.clear_account.specs.Walk.{Stands, paid_charge};
 
-    /// A walk that begins behind so many cents of charges.
+    /// A walk that begins behind so many cents of charges, at the first payment that ends above them.
     pub fn behind(charged: u64, credits: &[Credit]) -> Walk
         requires { credited credits.now < 2 ^ 64 }
         ensures stands { Stands credits.now result }
         ensures charged { result.charged ≡ charged }
+        ensures place { Ends (λ k. k.cents) credits.now charged result.place }
     {
         let paid = credits_ended(credits, charged);
         Walk {

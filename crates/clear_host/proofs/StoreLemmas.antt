@@ -1,5 +1,5 @@
 -- What a connection on files sees, by what the files hold.
-use Rattle.std.proofs.Common.{◌≡◌, ◌∙◌, ℕ, sym, ap, subst}
+use Rattle.std.proofs.Common.{◌≡◌, ◌≢◌, ◌∙◌, ℕ, sym, ap, subst}
 use Rattle.sqlite_wal.specs.Recovery.{Image}
 use Rattle.sqlite_catalog.proofs.ReadLemmas.{lists_once}
 use Rattle.sqlite_trees.specs.Objects.{catalog_tree}
@@ -7,10 +7,10 @@ use Rattle.sqlite.specs.Files.{IsNothing}
 use Rattle.sqlite.specs.State.{State}
 use Rattle.sqlite.proofs.ListingLemmas.{empty_is_sound}
 use Rattle.clear_book.specs.Tables.{Tables}
-use Rattle.clear_schema.specs.Held.{HasOtherLayout, HasTables, StandsFor, StandsOtherwise, TellsAs, TellsSchema}
+use Rattle.clear_schema.specs.Held.{HasObjects, HasOtherLayout, HasTables, StandsFor, StandsOtherwise, TellsAs, TellsSchema}
 use Rattle.clear_schema.specs.Schema.{no_schema, this_layout}
 use Rattle.clear_schema.proofs.OpenLemmas.{is_seen, other_seen, tells_seen}
-use Rattle.clear_host.specs.Contents.{HoldsOtherLayout, HoldsSchema, HoldsStore}
+use Rattle.clear_host.specs.Contents.{HaveObjects, HoldsObjects, HoldsOtherLayout, HoldsSchema, HoldsStore}
 use Rattle.clear_host.specs.Seen.{SeesIn}
 use Rattle.clear_host.proofs.BlankLemmas.{none_found}
 
@@ -27,6 +27,11 @@ module _ (image : Image) (s : State) (seen : SeesIn image s) where
   told_seen number (trees, holds, tells) =
       let there : TellsAs number s.committed.trees = subst (TellsAs number) (sym (seen.1.holds trees holds)) tells in
       (there, tells_seen number s seen.0.0.clean seen.0.1 seen.0.0.is_open there)
+
+  -- or that it has a table, an index or a view
+  pub objects_seen : HoldsObjects image → s.now.schema ≢ no_schema
+  objects_seen (trees, holds, stands) =
+      (is_seen HasObjects (λ _ it. it.sound) s seen.0.0.clean seen.0.1 seen.0.0.is_open (subst HaveObjects (sym (seen.1.holds trees holds)) stands)).some
 
   -- or a database of another layout
   pub other_is_seen : HoldsOtherLayout image → StandsOtherwise s.committed.trees

@@ -1,6 +1,7 @@
 -- What the files of the program hold. No contract knows that, so clauses speak of each content.
 use Rattle.std.specs.Prelude.{◌≡◌, ◌≢◌, ◌≤◌, ⊤, ℕ, List, length, IfSome, None, Option, Result, Ok}
 use Rattle.sqlite_wal.specs.Recovery.{Image}
+use Rattle.sqlite.specs.Effect.{Database}
 use Rattle.sqlite.specs.Files.{HoldsDatabase}
 use Rattle.sqlite.specs.Held.{state}
 use Rattle.sqlite.specs.State.{HasCleanDisk}
@@ -10,7 +11,7 @@ use Rattle.clear_book.specs.Allocated.{Represents}
 use Rattle.clear_book.specs.Book.{Book}
 use Rattle.clear_book.specs.Tables.{Tables}
 use Rattle.clear_schema.specs.Faults.{other_layout}
-use Rattle.clear_schema.specs.Held.{StandsAs, StandsOtherwise, TellsAs}
+use Rattle.clear_schema.specs.Held.{HasObjects, StandsAs, StandsOtherwise, TellsAs}
 use Rattle.clear_schema.specs.Schema.{Layout, this_layout}
 use Rattle.clear_schema.specs.declared.fault.Fault.TheVariants.{Memory}
 use Rattle.clear_schema.specs.declared.fault.OpenFault.{OpenFault}
@@ -43,6 +44,14 @@ HoldsStore layout t image = (trees : Trees) × HoldsDatabase image trees × Stan
 abbrev pub HoldsSchema : ℕ → Image → Type 0
 HoldsSchema number image =
     (trees : Trees) × HoldsDatabase image trees × TellsAs number trees
+
+-- the trees are those of a database with a table, an index or a view
+abbrev pub HaveObjects : Trees → Type 0
+HaveObjects trees = (db : Database) × HasObjects db × (trees ≡ db.trees)
+
+-- they hold such a database
+abbrev pub HoldsObjects : Image → Type 0
+HoldsObjects image = (trees : Trees) × HoldsDatabase image trees × HaveObjects trees
 
 -- they hold a database that tells this program's number, but has other tables or indexes than this
 -- program's stores

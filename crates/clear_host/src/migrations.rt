@@ -15,7 +15,7 @@ ghost use Rattle.clear_host.specs.Seen.{Sees};
 
 use crate::hindrance::Hindrance;
 use crate::offices::NotOpened;
-use crate::stores::open_at;
+use crate::opening::open_database;
 use clear_migrate::schemas::{Migration, to_current};
 use sqlite::{Alter, Connection, FileStore};
 use sqlite_disk::Start;
@@ -56,7 +56,7 @@ pub fn bring_to_current<S: Start>(
     ensures empty { IsNothing (image_at S.Start)
         → IfErr result (IfRefused over_files (TellsOnly 0)) }
 {
-    let connection = open_at(rt, path, start)?;
+    let connection = open_database(rt, path, start)?;
     bring(connection)
 }
 

@@ -15,7 +15,7 @@ ghost use Rattle.clear_schema.specs.First.{first_tables};
 ghost use Rattle.clear_schema.specs.Held.{HasTables, this_schema};
 ghost use Rattle.clear_schema.specs.Schema.{this_layout};
 ghost use Rattle.clear_office.specs.Office.{Holds, IsHonest, Keeps};
-ghost use Rattle.clear_host.specs.Contents.{HoldsBook, HoldsOtherLayout, HoldsSchema};
+ghost use Rattle.clear_host.specs.Contents.{HoldsBook, HoldsObjects, HoldsOtherLayout, HoldsSchema};
 ghost use Rattle.clear_host.specs.Contents.{HoldsStore, IfRefused, TellsNone, TellsOnly, TellsOther};
 ghost use Rattle.clear_host.specs.Seen.{Sees};
 
@@ -58,8 +58,8 @@ pub struct NotOpened<S: Alter> {
 }
 
 /// Makes a store without requests, with these opening rates, in an empty database, and an office
-/// over it. Where the database has tables, `WrongVersion` with the number of its schema, 0 without
-/// one.
+/// over it. A database that has a table, an index or a view is refused: where it tells the number of a
+/// schema, by `WrongVersion` with that one.
 pub(crate) fn new_office<S: Alter>(
     alloc: Global,
     connection: Connection<S>,
@@ -74,8 +74,7 @@ pub(crate) fn new_office<S: Alter>(
         → IfOk result (λ opened. IsHonest S.Store opened.office → IsNothing image
         → Keeps S.Store opened.office (first_book rates.now)) }
     ensures only_new { (image : Image) → Sees S.Store image connection
-        → IfOk result (λ opened. IsHonest S.Store opened.office
-        → (number : ℕ) → ¬ HoldsSchema number image) }
+        → IfOk result (λ opened. IsHonest S.Store opened.office → ¬ HoldsObjects image) }
     ensures day { IfOk result (λ opened. opened.ledger_day ≡ None) }
     ensures version { (image : Image) → Sees S.Store image connection
         → (number : ℕ) → HoldsSchema number image

@@ -13,11 +13,14 @@ use sqlite::{Alter, Connection, Error, ErrorCode, FileStore, Files};
 use sqlite_disk::Start;
 use sqlite_std_file::{FileFrom, OpenError};
 use std::hash::{BuildHasher, RandomState};
-use std::io;
+use std::{fs, io};
 
 const CANNOT_OPEN: Error = Error::SqliteFailure(ErrorCode::CannotOpen);
 
-/// Opens the database in the file at a path, or makes one where no file is, or an empty one.
+const NO_MEMORY: Error = Error::SqliteFailure(ErrorCode::OutOfMemory);
+
+/// Opens the database in the file at a path. Where no file is, none is made. A file that is empty
+/// gets an empty database, which is no store.
 pub(crate) fn open_database<S: Start>(
     rt: &HostRuntime,
     path: &str,
@@ -35,7 +38,7 @@ pub(crate) fn open_database<S: Start>(
     }
 }
 
-// Opens the two files, and makes those that are missing.
+// Opens the two files: that of the database has to stand there, and a log that is missing is made.
 fn open_files<S: Start>(rt: &HostRuntime, path: &str, start: S) -> Result<Files<FileFrom<S>>, Error>
     ensures log { IfOk result (λ files. IsTrue (file_is_usable S.Start files.log)) }
     ensures db { IfOk result (λ files. IsTrue (file_is_usable S.Start files.db)) }
@@ -44,14 +47,24 @@ fn open_files<S: Start>(rt: &HostRuntime, path: &str, start: S) -> Result<Files<
     if is_no_file(path) {
         return Err(CANNOT_OPEN);
     }
+    if let Err(error) = fs::metadata(rt, path) {
+        return Err(error_of_file(&error));
+    }
     match sqlite_std_file::open(rt, path, start) {
         Ok(files) => Ok(files),
-        Err(OpenError::OutOfMemory) => Err(Error::SqliteFailure(ErrorCode::OutOfMemory)),
+        Err(OpenError::OutOfMemory) => Err(NO_MEMORY),
         Err(OpenError::Busy) => Err(Error::SqliteFailure(ErrorCode::DatabaseBusy)),
-        Err(OpenError::Io(error)) if error.kind() == io::ErrorKind::OutOfMemory => {
-            Err(Error::SqliteFailure(ErrorCode::OutOfMemory))
-        }
+        Err(OpenError::Io(error)) => Err(error_of_file(&error)),
         Err(_) => Err(CANNOT_OPEN),
+    }
+}
+
+// Want of memory, or a file that can't be opened.
+fn error_of_file(error: &io::Error) -> Error {
+    if error.kind() == io::ErrorKind::OutOfMemory {
+        NO_MEMORY
+    } else {
+        CANNOT_OPEN
     }
 }
 

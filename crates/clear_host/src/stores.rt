@@ -14,29 +14,26 @@ ghost use Rattle.clear_schema.specs.First.{first_tables};
 ghost use Rattle.clear_schema.specs.Held.{this_schema};
 ghost use Rattle.clear_schema.specs.Schema.{this_layout};
 ghost use Rattle.clear_office.specs.Office.{Holds, IsHonest, Keeps};
-ghost use Rattle.clear_host.specs.Contents.{HoldsBook, HoldsOtherLayout, HoldsSchema};
+ghost use Rattle.clear_host.specs.Contents.{HoldsBook, HoldsObjects, HoldsOtherLayout, HoldsSchema};
 ghost use Rattle.clear_host.specs.Contents.{HoldsStore, IfRefused, TellsNone, TellsOnly, TellsOther};
-ghost use Rattle.clear_host.specs.Seen.{Sees};
 
-use crate::hindrance::Hindrance;
 use crate::offices::{NotOpened, Opened, find_office, new_office};
 use crate::opening::{is_no_file, open_database};
 use clear_book::ranges::rates_in_range;
-use clear_book::rules::StoreCause;
 use clear_money::rates::RateTable;
-use clear_schema::fault::{Fault, OpenFault};
-use sqlite::{Connection, FileStore};
+use sqlite::FileStore;
 use sqlite_disk::Start;
 use sqlite_std_file::FileFrom;
+use std::fs;
 use std::os::unix::fs::OpenOptionsExt;
-use std::{fs, io};
 
 // Who may read and write a new store: its owner alone, since it holds wages.
 const OWNER_ALONE: u32 = 0o600;
 
 /// Makes a store without requests, with these opening rates, and an office over it, at a path where
-/// no file is, or an empty one, or one that an earlier call left half made. Where the file holds a
-/// database with tables, `WrongVersion` with the number of its schema, 0 without one.
+/// no file is, or an empty one, or one that an earlier call left half made. A database that has a
+/// table, an index or a view is refused: where it tells the number of a schema, by `WrongVersion` with
+/// that one.
 ///
 /// A file that is made can be read and written by its owner alone, and its log too.
 pub fn create_office<S: Start>(
@@ -54,7 +51,7 @@ pub fn create_office<S: Start>(
         → Keeps over_files opened.office (first_book rates.now)) }
     ensures lawful { IsLawful (first_book rates.now) }
     ensures only_new { IfOk result (λ opened. IsHonest over_files opened.office
-        → (number : ℕ) → ¬ HoldsSchema number (image_at S.Start)) }
+        → ¬ HoldsObjects (image_at S.Start)) }
     ensures day { IfOk result (λ opened. opened.ledger_day ≡ None) }
     ensures version { (number : ℕ) → HoldsSchema number (image_at S.Start)
         → IfErr result (IfRefused over_files (TellsOnly number)) }
@@ -101,29 +98,8 @@ pub fn open_office<S: Start>(
     ensures empty { IsNothing (image_at S.Start)
         → IfErr result (IfRefused over_files (TellsOnly 0)) }
 {
-    let connection = open_at(rt, path, start)?;
+    let connection = open_database(rt, path, start)?;
     find_office(rt.alloc(), connection)
-}
-
-/// Opens the database in the file at a path. Where no file is, none is made. A file that is empty
-/// gets an empty database, which is no store.
-pub(crate) fn open_at<S: Start>(
-    rt: &HostRuntime,
-    path: &str,
-    start: S,
-) -> Result<Connection<FileStore<FileFrom<S>>>, NotOpened<FileStore<FileFrom<S>>>>
-    ensures mode { IfOk result (λ connection. connection.in_transaction ≡ false) }
-    ensures sees { IfOk result (Sees over_files (image_at S.Start)) }
-    ensures none { IfErr result (λ refused. refused.connection ≡ None) }
-{
-    if let Err(error) = fs::metadata(rt, path) {
-        return Err(NotOpened {
-            fault: OpenFault::Failed(fault_of_file(&error)),
-            hindrance: Hindrance::NotReachable,
-            connection: None,
-        });
-    }
-    open_database(rt, path, start)
 }
 
 // Makes an empty file for a store, where no file is: one that stands keeps its mode. Why there is
@@ -135,12 +111,4 @@ fn make_private(rt: &HostRuntime, path: &str) {
     let mut how = fs::OpenOptions::new();
     how.write(true).create_new(true).mode(OWNER_ALONE);
     let _ = how.open(rt, path);
-}
-
-fn fault_of_file(error: &io::Error) -> Fault {
-    if error.kind() == io::ErrorKind::OutOfMemory {
-        Fault::Memory
-    } else {
-        Fault::Store(StoreCause::Other)
-    }
 }

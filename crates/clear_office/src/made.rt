@@ -1,5 +1,5 @@
 //! Offices over stores that are just made, whatever keeps them.
-ghost use Rattle.std.specs.Prelude.{◌≡◌, ◌≢◌, false, ℕ, IfErr, IfOk};
+ghost use Rattle.std.specs.Prelude.{◌≡◌, ◌≢◌, false, ℕ, IfErr, IfOk, OnOk};
 ghost use Rattle.sqlite.specs.Held.{state};
 ghost use Rattle.sqlite.specs.State.{HasCleanDisk};
 ghost use Rattle.clear_book.specs.Book.{first_book};
@@ -16,8 +16,8 @@ use sqlite::{Alter, Connection};
 use std::alloc::Global;
 
 /// Makes a store without requests, with these opening rates, in an empty database, and an office
-/// over it. On another database `WrongVersion` with the number of its schema, 0 without one. A
-/// refusal hands the connection back.
+/// over it. A database that has a table, an index or a view is refused: where it tells the number of a
+/// schema, by `WrongVersion` with that one. A refusal hands the connection back.
 pub fn make_office<S: Alter>(
     alloc: Global,
     connection: Connection<S>,
@@ -35,8 +35,7 @@ pub fn make_office<S: Alter>(
     ensures keeps { IfOk result (λ office. IsHonest S.Store office
         → (state S.Store connection).now.schema ≡ no_schema
         → Keeps S.Store office (first_book rates.now)) }
-    ensures only_empty { IfOk result (λ office. IsHonest S.Store office
-        → (number : ℕ) → ¬ TellsSchema number (state S.Store connection).now) }
+    ensures only_empty { OnOk result ((state S.Store connection).now.schema ≡ no_schema) }
     ensures there { IfErr result (λ left. HasCleanDisk (state S.Store left.connection)
         → (number : ℕ) → TellsSchema number (state S.Store connection).now
         → (told : ℕ) → left.fault ≡ WrongVersion told → told ≡ number) }

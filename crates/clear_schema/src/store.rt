@@ -36,8 +36,8 @@ pub struct Refusal<S: Alter> {
 
 impl<S: Alter> Store<S> {
     /// Makes the tables of an office without requests in an empty database, with its opening rates,
-    /// in one transaction. On another database `WrongVersion` with the number in `meta`, 0 without
-    /// one. A refusal hands the connection back.
+    /// in one transaction. A database that has a table, an index or a view is refused: where it tells a
+    /// number in `meta`, by `WrongVersion` with that one. A refusal hands the connection back.
     pub fn create(connection: Connection<S>, rates: &RateTable) -> Result<Store<S>, Refusal<S>>
         requires { connection.in_transaction ≡ false }
         ensures mode { IfOk result (λ store. store.conn.in_transaction ≡ false) }
@@ -65,8 +65,7 @@ impl<S: Alter> Store<S> {
         ensures there { IfErr result (λ left. HasCleanDisk (state S.Store left.connection)
             → (number : ℕ) → TellsSchema number (state S.Store connection).now
             → (told : ℕ) → left.fault ≡ OpenFault.WrongVersion told → told ≡ number) }
-        ensures only_empty { IfOk result (λ store. HasCleanDisk (state S.Store store.conn)
-            → (number : ℕ) → TellsSchema number (state S.Store connection).now → ⊥) }
+        ensures only_empty { OnOk result ((state S.Store connection).now.schema ≡ no_schema) }
         // Nothing changes in a database that tells a number already.
         ensures kept { IfErr result (λ left. HasCleanDisk (state S.Store left.connection)
             → (number : ℕ) → TellsSchema number (state S.Store connection).now

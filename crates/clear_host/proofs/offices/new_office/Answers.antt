@@ -1,6 +1,6 @@
 use Rattle.sqlite.specs.Held.{state}
 use Rattle.clear_host.proofs.RefusalLemmas.{tells_none, tells_only}
-use Rattle.clear_host.proofs.StoreLemmas.{nothing_seen, told_seen}
+use Rattle.clear_host.proofs.StoreLemmas.{nothing_seen, objects_seen, told_seen}
 use Rattle.clear_host.proofs.offices.new_office.Goals as goal
 
 pub returns-in-Ok-clause-created : goal.returns-in-Ok-clause-created
@@ -14,9 +14,9 @@ returns-in-Ok-clause-keeps g c image sees honest nothing =
     c.in-Ok.ensures.keeps honest (nothing_seen image (state g.S.Store c.args.connection) seen nothing)
 
 pub returns-in-Ok-clause-only_new : goal.returns-in-Ok-clause-only_new
-returns-in-Ok-clause-only_new g c image sees honest number holds =
+returns-in-Ok-clause-only_new g c image sees honest holds =
     let seen = sees (c.in-Ok.ensures.clean honest) in
-    c.in-Ok.ensures.only_empty honest number (told_seen image (state g.S.Store c.args.connection) seen number holds).1
+    objects_seen image (state g.S.Store c.args.connection) seen holds c.in-Ok.ensures.only_empty
 
 pub returns-in-Err-clause-version : goal.returns-in-Err-clause-version
 returns-in-Err-clause-version g c image sees number holds clean =

@@ -19,10 +19,6 @@ returns-clause-keeps g c honest bare =
     let it = c.in_ok-store.ensures.created (honest_store g.S.Store c.open.result c.in_ok-store.store.conn c.open.ensures.value honest) bare in
     keeps_book g.S.Store c.open.result c.in_ok-store.store.conn c.open.ensures.value (first_book rates) (first_tables rates) (first_represents rates) (record { now = it.0; committed = it.1; left = it.2 })
 
-pub returns-clause-only_empty : goal.returns-clause-only_empty
-returns-clause-only_empty g c honest =
-    c.in_ok-store.ensures.only_empty (honest_store g.S.Store c.open.result c.in_ok-store.store.conn c.open.ensures.value honest)
-
 pub returns-in_err-store-clause-there : goal.returns-in_err-store-clause-there
 returns-in_err-store-clause-there g c =
     let p = err_from_is_err_and c.from_residual.result c.from_residual.ensures.1 in
