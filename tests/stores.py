@@ -125,9 +125,13 @@ class Stores(ProgramUnderTest):
     def killed(self):
         """A store whose office was killed behind its answers, so that its log has what it accepted."""
         self.init()
+        self.is_killed(REGISTRATION + JANUARY)
+
+    def is_killed(self, requests):
+        """An office of the store is killed once it has done two requests."""
         server = self.serving(2)
         with self.connect(server) as peer:
-            peer.sendall(REGISTRATION + JANUARY)
+            peer.sendall(requests)
             answers = b""
             while answers.count(b"HTTP/1.1 200 OK") < 2 or not answers.endswith(b"}"):
                 answers += peer.recv(65536)
@@ -376,6 +380,44 @@ class Migrate(Stores):
             self.assertEqual(self.run_program("migrate", "fund.db", stdout=full), (3, "", "fault stream\n"))
 
 
+class EmptyFile(Stores):
+    """A file without bytes is no store. It stays as it is, so that `init` or its owner still finds it empty."""
+
+    def test_each_word_that_opens_a_store(self):
+        self.write("fund.db", "")
+        self.write("lines.csv", "reference,value_date,employer,cents,purpose,note\n")
+        refusal, told = "rule 43 WrongVersion 0\n", "this file is empty\n"
+        for words, errors in (
+            (["statement", "fund.db", DAY, "1001"], refusal),
+            (["import", "fund.db", DAY, "1", "lines.csv"], refusal),
+            (["serve", "fund.db", "callers.toml", DAY, "1024", "1"], refusal),
+            (["backup", "fund.db", "copy.db"], refusal),
+            (["migrate", "fund.db"], refusal),
+            (["look", "fund.db"], refusal + told),
+        ):
+            with self.subTest(words[0]):
+                self.expect(words, 3, "", errors)
+                self.assertEqual((self.folder / "fund.db").stat().st_size, 0)
+                self.assertFalse((self.folder / "fund.db-wal").exists())
+        self.init()
+
+    def test_a_log_alone(self):
+        """What a log has of a store that was moved away isn't dropped by a new store under its name."""
+        self.killed()
+        (self.folder / "fund.db").rename(self.folder / "moved.db")
+        log = (self.folder / "fund.db-wal").read_bytes()
+        self.expect(["init", "fund.db", "rates.toml"], 2, "", "fault file\n")
+        self.assertEqual((self.folder / "fund.db-wal").read_bytes(), log)
+        self.assertFalse((self.folder / "fund.db").exists())
+        (self.folder / "moved.db").rename(self.folder / "fund.db")
+        self.assertEqual(self.run_program("look", "fund.db")[1].splitlines()[2], "requests 2")
+
+    def test_what_a_start_meets_first(self):
+        """A file that is named wrongly is told before the store is asked for."""
+        self.write("fund.db", "")
+        self.expect(["serve", "fund.db", "none.toml", DAY, "1024", "1"], 2, "", "fault file\n")
+
+
 class Backup(Stores):
     def test_a_copy_opens_by_itself(self):
         self.filled()
@@ -400,6 +442,30 @@ class Backup(Stores):
         self.expect(["backup", "fund.db", "copy.db"], 0, "copied, ledger day 2024-04-30\n")
         for name in ("fund.db", "fund.db-wal"):
             (self.folder / name).unlink()
+        self.assertEqual(self.run_program("look", "copy.db")[1].splitlines()[2], "requests 2")
+
+    def test_a_store_behind_a_link(self):
+        self.init("real.db")
+        os.symlink("real.db", self.folder / "fund.db")
+        self.is_killed(REGISTRATION + JANUARY)
+        self.expect(["backup", "fund.db", "copy.db"], 0, "copied, ledger day 2024-04-30\n")
+        self.assertEqual(self.run_program("look", "copy.db")[1].splitlines()[2], "requests 2")
+
+    def test_no_room_for_what_a_log_has(self):
+        """The store's own file can't grow, so that it lacks what its log has: no copy is made of it."""
+        self.init()
+        size = (self.folder / "fund.db").stat().st_size
+        lines = ",".join(f'{{"worker":{10_000_000 + 7 * it},"gross":250000}}' for it in range(500))
+        report = request("/employers/1001/reports/2024-01", 900, f'{{"lines":[{lines}]}}', "k1001")
+        self.is_killed(REGISTRATION + report)
+
+        def full():
+            signal.signal(signal.SIGXFSZ, signal.SIG_IGN)
+            resource.setrlimit(resource.RLIMIT_FSIZE, (size, size))
+
+        self.expect(["backup", "fund.db", "copy.db"], 3, "", "rule 41 Store\n", preexec_fn=full)
+        self.assertEqual(sorted(path.name for path in self.folder.glob("copy*")), [])
+        self.expect(["backup", "fund.db", "copy.db"], 0, "copied, ledger day 2024-04-30\n")
         self.assertEqual(self.run_program("look", "copy.db")[1].splitlines()[2], "requests 2")
 
     def test_what_stands_is_left(self):

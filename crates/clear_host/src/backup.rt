@@ -1,6 +1,8 @@
 //! A copy of a store in one file. No contract knows what files hold.
 
 use crate::files::{FileFault, fault_of};
+use crate::logs::log_path;
+use crate::paths::is_free;
 use std::fs::File;
 use std::os::unix::fs::MetadataExt;
 use std::{fs, io};
@@ -13,7 +15,7 @@ use std::{fs, io};
 /// `.part` a link, a folder or that file itself, and where a file can't be read or written; nothing
 /// then stands at the new path but what stood there before.
 pub fn copy_whole(rt: &HostRuntime, path: &str, copy: &str) -> Result<(), FileFault> {
-    let Ok(log) = format!(in rt.alloc(); "{copy}-wal") else {
+    let Ok(log) = log_path(rt.alloc(), copy) else {
         return Err(FileFault::Memory);
     };
     let Ok(part) = format!(in rt.alloc(); "{copy}.part") else {
@@ -28,14 +30,6 @@ pub fn copy_whole(rt: &HostRuntime, path: &str, copy: &str) -> Result<(), FileFa
             let _ = fs::remove_file(rt, part.as_str());
             Err(fault_of(&error))
         }
-    }
-}
-
-// Nothing stands at the path, not even a link that leads nowhere.
-fn is_free(rt: &HostRuntime, path: &str) -> bool {
-    match fs::symlink_metadata(rt, path) {
-        Ok(_) => false,
-        Err(error) => error.kind() == io::ErrorKind::NotFound,
     }
 }
 

@@ -13,6 +13,7 @@ pub mod connections;
 pub mod files;
 pub mod hindrance;
 mod ledger;
+pub mod logs;
 pub mod migrations;
 pub mod named;
 pub mod offices;

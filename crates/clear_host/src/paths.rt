@@ -14,6 +14,14 @@ pub enum PathKind {
     Filled,
 }
 
+/// Nothing stands at the path, not even a link that leads nowhere.
+pub(crate) fn is_free(rt: &HostRuntime, path: &str) -> bool {
+    match fs::symlink_metadata(rt, path) {
+        Ok(_) => false,
+        Err(error) => error.kind() == io::ErrorKind::NotFound,
+    }
+}
+
 /// What stands at a path, through links too.
 pub fn path_kind(rt: &HostRuntime, path: &str) -> PathKind {
     match fs::metadata(rt, path) {

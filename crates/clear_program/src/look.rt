@@ -1,7 +1,7 @@
 //! A look at a store, and why there is none to look at.
 ghost use Rattle.std.specs.Prelude.{◌≤◌, IfOk};
 
-use crate::reasons::{reason, refused_path};
+use crate::reasons::reason;
 use crate::run::{close_store, open_whole};
 use crate::stop::{Stop, tell, write_front};
 use crate::work::{Done, say};
@@ -30,9 +30,6 @@ pub(crate) fn look_at<S: Start>(
     ensures { IfOk result (λ status. status ≤ 3) }
 {
     let kind = path_kind(rt, store);
-    if let Some(fault) = refused_path(kind) {
-        return Ok(tell_why(rt, kind, Hindrance::None, fault));
-    }
     match open_whole(rt, store, start, again) {
         Ok(opened) => {
             let done = look_into(rt.alloc(), opened);

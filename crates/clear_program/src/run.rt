@@ -3,11 +3,15 @@ ghost use Rattle.std.specs.Prelude.{◌≡◌, ◌≤◌, IfOk};
 
 use crate::look::look_at;
 use crate::migrate::migrate_at;
+use crate::reasons::refused_path;
 use crate::stop::{Stop, tell};
 use crate::tasks::{Task, Work, read_task, words_of};
 use crate::work::{say, serve_stream, work_on};
 use clear_callers::directory::Directory;
+use clear_host::hindrance::Hindrance;
+use clear_host::logs::{is_brought_over, is_left_log};
 use clear_host::offices::{NotOpened, Opened};
+use clear_host::paths::path_kind;
 use clear_host::stores::{create_office, open_office};
 use clear_money::days::Day;
 use clear_money::rates::RateTable;
@@ -16,11 +20,6 @@ use clear_wire::counted::Counted;
 use sqlite::{Connection, FileStore};
 use sqlite_disk::{Start, Unknown};
 use sqlite_std_file::FileFrom;
-use std::alloc::{AllocError, Global};
-use std::fs;
-
-// The greatest length that a close leaves of a store's log, in bytes.
-const LOG_OF_A_CLOSE: u64 = 41;
 
 // The status of a file that was checked and has a fault.
 const BAD_FILE: u8 = 2;
@@ -98,7 +97,12 @@ fn work_at<S: Start>(
     again: S,
 ) -> Result<String, Stop> {
     let opened = match &work {
-        Work::Init { rates } => create_office(rt, store, rates, start),
+        Work::Init { rates } => {
+            if is_left_log(rt, store)? {
+                return Err(Stop::File);
+            }
+            create_office(rt, store, rates, start)
+        }
         Work::Serve { .. } | Work::Import { .. } | Work::Statement { .. } | Work::Backup { .. } =>
             open_whole(rt, store, start, again),
     };
@@ -108,15 +112,23 @@ fn work_at<S: Start>(
 }
 
 // Opens the store at a path, with all that was accepted in its own file: where its log is longer
-// than a close leaves it, as a kill does, the store is closed and opened once more.
+// than a close leaves it, as a kill does, the store is closed and opened once more. A path that can
+// hold no store is refused before it is opened, so that an empty file stays empty.
 pub(crate) fn open_whole<S: Start>(
     rt: &HostRuntime,
     store: &str,
     start: S,
     again: S,
 ) -> Result<Opened<FileStore<FileFrom<S>>>, NotOpened<FileStore<FileFrom<S>>>> {
+    if let Some(fault) = refused_path(path_kind(rt, store)) {
+        return Err(NotOpened {
+            fault,
+            hindrance: Hindrance::None,
+            connection: None,
+        });
+    }
     let opened = open_office(rt, store, start)?;
-    if !has_long_log(rt, store) {
+    if is_brought_over(rt, store) {
         return Ok(opened);
     }
     close_store(opened.into_connection());
@@ -127,22 +139,4 @@ pub(crate) fn open_whole<S: Start>(
 // log into the database's file, isn't told.
 pub(crate) fn close_store<S: Start>(connection: Connection<FileStore<FileFrom<S>>>) {
     let _ = connection.close();
-}
-
-// The log of the store at a path is longer than a close leaves it.
-fn has_long_log(rt: &HostRuntime, store: &str) -> bool {
-    let Ok(log) = log_path(rt.alloc(), store) else {
-        return false;
-    };
-    match fs::metadata(rt, log.as_str()) {
-        Ok(found) => found.len() > LOG_OF_A_CLOSE,
-        Err(_) => false,
-    }
-}
-
-// The path of the log of the store at a path.
-fn log_path(alloc: Global, store: &str) -> Result<String, AllocError> {
-    let mut path = String::from_str(alloc, store)?;
-    path.push_str("-wal")?;
-    Ok(path)
 }

@@ -10,6 +10,7 @@ use clear_callers::directory::Directory;
 use clear_cli::ready::{copied_line, imported_line, ready_text, schema_line, served_line};
 use clear_host::backup::copy_whole;
 use clear_host::connections::{Ended, serve_connections};
+use clear_host::logs::is_brought_over;
 use clear_host::named::NamedFile;
 use clear_host::offices::{NotOpened, Opened};
 use clear_http::desk::serve;
@@ -25,6 +26,9 @@ use std::net::{Ipv4Addr, TcpListener};
 
 // The store isn't where it was opened.
 const STORE_GONE: Stop = Stop::Rule(Rule::Store(StoreCause::Other));
+
+// The store's log has what its file hasn't.
+const LOG_LEFT: Stop = Stop::Rule(Rule::Store(StoreCause::Other));
 
 /// Serves the requests of the input to its end, over a new office. There is none where there was no
 /// memory for it.
@@ -178,13 +182,17 @@ fn statement<S: Alter>(
     }
 }
 
-// Copies the file of the store at a path, which is open and held, and whole without its log.
+// Copies the file of the store at a path, which is open and held. Where its log couldn't be brought over,
+// as on a full disk, the file alone isn't the store, and nothing is copied.
 fn backup(
     rt: &HostRuntime,
     store: &str,
     copy: &str,
     ledger_day: &Option<Day>,
 ) -> Result<String, Stop> {
+    if !is_brought_over(rt, store) {
+        return Err(LOG_LEFT);
+    }
     copy_whole(rt, store, copy)?;
     Ok(copied_line(rt.alloc(), ledger_day)?)
 }

@@ -1,0 +1,41 @@
+//! The log of a store, which stands beside its file. No contract knows what files hold.
+
+use crate::paths::{PathKind, is_free, path_kind};
+use std::alloc::{AllocError, Global};
+use std::{fs, io};
+
+// The greatest length that a close leaves of a store's log, in bytes.
+const LOG_OF_A_CLOSE: u64 = 41;
+
+/// Whether all that was accepted stands in the file of the store at a path: the log, which stands beside
+/// the file that a link leads to, is no longer than a close leaves it. `false` where that can't be told,
+/// too.
+pub fn is_brought_over(rt: &HostRuntime, store: &str) -> bool {
+    let Ok(file) = fs::canonicalize(rt, store) else {
+        return false;
+    };
+    let Ok(log) = log_path(rt.alloc(), file.as_str()) else {
+        return false;
+    };
+    match fs::metadata(rt, log.as_str()) {
+        Ok(found) => found.len() <= LOG_OF_A_CLOSE,
+        Err(error) => error.kind() == io::ErrorKind::NotFound,
+    }
+}
+
+/// Whether a log stands beside a path where no file is, as where a store was moved away without it. Who
+/// makes a store there loses what that log has.
+pub fn is_left_log(rt: &HostRuntime, store: &str) -> Result<bool, AllocError> {
+    match path_kind(rt, store) {
+        PathKind::Missing => {
+            let log = log_path(rt.alloc(), store)?;
+            Ok(!is_free(rt, log.as_str()))
+        }
+        PathKind::Folder | PathKind::Empty | PathKind::Filled => Ok(false),
+    }
+}
+
+/// The path of the log of a store whose file is at a path.
+pub(crate) fn log_path(alloc: Global, file: &str) -> Result<String, AllocError> {
+    format!(in alloc; "{file}-wal")
+}
