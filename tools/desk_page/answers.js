@@ -155,7 +155,6 @@ export function tellAnswer(told, further = []) {
   const lines = [
     make("p", { class: "what" }, make("strong", {}, outcomeText(entry)), ` · ${subject(entry)}`),
     ...said,
-    told.known ? make("p", { class: "note strong" }, say("document.known")) : null,
     ...further.map((text) => make("p", { class: "note" }, text)),
     ["lost", "undecided"].includes(entry.outcome) ? make("p", {}, say("answer.pending")) : null,
     make("p", { class: "quiet" }, say("answer.number", { number: entry.number })),

@@ -162,10 +162,10 @@ async function showDocument(kind, number) {
 }
 
 /** Shows the list or run that was just made. One of an earlier day was made before, under the same number. */
-async function showMade(kind, { entry, known }) {
+async function showMade(kind, { entry }) {
   await showMorning();
   const made = await showDocument(kind, entry.reply[kind === "payouts" ? "list" : "run"]);
-  if (entry.outcome.startsWith("done") && !known && made !== null && made !== officeDay) {
+  if (entry.outcome.startsWith("done") && made !== null && made !== officeDay) {
     noteAnswer(say("document.known"));
   }
 }
