@@ -53,7 +53,8 @@ may_do (Firm e) (Release claim) = false
 may_do (Firm e) PayoutList = false
 may_do (Firm e) RemindRun = false
 
--- a firm may ask what it owes itself, and nothing of workers, lines in suspense, lists and runs
+-- a firm may ask what it owes itself and its own statement, and nothing of workers, lines in
+-- suspense, lists and runs
 abbrev pub may_query : Caller → Query → Bool
 may_query Clerk query = true
 may_query (Firm e) (Owed employer) = e == employer

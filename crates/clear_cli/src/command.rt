@@ -61,7 +61,11 @@ const SUBCOMMANDS: [(&str, &str, &[(&str, &str)]); 9] = [
         "Prints the statement of a firm",
         &[STORE, DAY, EMPLOYER],
     ),
-    ("migrate", "Brings a store to the current schema", &[STORE]),
+    (
+        "migrate",
+        "Says whether a store has this program's schema",
+        &[STORE],
+    ),
     ("look", "Tells what stands in a store", &[STORE]),
     (
         "check",

@@ -58,7 +58,7 @@ pub fn copied_line(alloc: Global, ledger_day: &Option<Day>) -> Result<String, Al
     Ok(line)
 }
 
-/// The line that tells the schema of a store that was made, or brought to it.
+/// The line that tells the schema of a store.
 pub fn schema_line(alloc: Global, schema: u64) -> Result<String, AllocError>
     ensures { IfOk result (λ line. string_bytes line ≡ schema_line schema) }
 {

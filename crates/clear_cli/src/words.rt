@@ -40,7 +40,7 @@ pub enum Words<'a> {
         day: Day,
         employer: EmployerNo,
     },
-    /// Brings a store to the current schema.
+    /// Says whether a store has this program's schema.
     Migrate {
         store: &'a str,
     },

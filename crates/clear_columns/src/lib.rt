@@ -1,7 +1,9 @@
-//! Values of the office's types on their way into a statement, and out of a row.
+//! What the crates of the tables have in common: the office's values on their way into a statement and
+//! out of a row, a table by how its rows are read (`StoredTable`), a look at the first row or at all
+//! rows of a query (`find`, `list`), and rows that are read one at a time (`begin_rows`, `next_row`).
 //!
-//! A number out of its type's range is a fault of the row. The tables' crates read and write by
-//! these; the lemmas beside them are those that their proofs share.
+//! A number out of its type's range is a fault of the row. The lemmas beside these are those that the
+//! tables' proofs share.
 #![tactic(auto)]
 
 pub mod columns;

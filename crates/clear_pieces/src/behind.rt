@@ -48,7 +48,7 @@ use std::alloc::{AllocError, Global};
 pub struct NewCredits {
     /// The first of them by day and serial.
     pub first: Credit,
-    /// How many they are.
+    /// How many they are, or fewer: a smaller number may cost steps, and changes no result.
     pub count: u64,
 }
 

@@ -1,4 +1,4 @@
-//! A store brought to the current schema.
+//! Whether a store has this program's schema.
 
 use crate::reasons::refused_path;
 use crate::run::close_store;
@@ -10,8 +10,8 @@ use clear_migrate::schemas::Migration;
 use clear_schema::store::SCHEMA;
 use sqlite_disk::Start;
 
-/// Brings the store at a path to the current schema, closes it, and says which that is. A path that
-/// can hold no store is refused before it is opened, so that an empty file stays empty.
+/// Says which schema the store at a path has, and closes it; a store of another one is refused. A path
+/// that can hold no store is refused before it is opened, so that an empty file stays empty.
 pub(crate) fn migrate_at<S: Start>(
     rt: &HostRuntime,
     store: &str,

@@ -39,7 +39,7 @@ pub enum Task<'a> {
     Look {
         store: &'a str,
     },
-    /// Brings the store at a path to the current schema.
+    /// Says whether the store at a path has this program's schema.
     Migrate {
         store: &'a str,
     },

@@ -1,5 +1,8 @@
-//! The store: how it is made and opened, its transactions, the rows of its tables, and the changes
-//! that decisions make of them.
+//! The changes that decisions make of the store: each is put into the tables as its meaning says
+//! (`put_change`), or refused, where a number is out of its range or a key isn't free.
+//!
+//! The rows of the tables are those of the crates below; what a decision reads of them, and the
+//! store itself, can be named by this crate, too.
 //!
 //! Any change may be refused for want of memory or for a fault of the store, whatever the tables hold:
 //! so a body that only refuses meets the contract of each, and tests show that changes succeed.

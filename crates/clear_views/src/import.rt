@@ -43,8 +43,8 @@ use std::alloc::Global;
 ///
 /// It costs n log n steps for n lines of the file, and one search for each of its references and
 /// for each firm that it names; where the serials don't serve, also one look at the key of each
-/// credit of these firms, and, where a line stays without a firm, one pass over all lines. More serials than an office gives
-/// are a fault of the store.
+/// credit of these firms, and, where a line stays without a firm, one pass over all lines. More
+/// serials than an office gives are a fault of the store.
 pub fn import_view<S: Alter>(
     alloc: Global,
     tx: &mut Transaction<'_, S>,
