@@ -1,18 +1,18 @@
 -- What is said on connections, one after another. `reads` says which call a request is, or what
 -- refuses it before the office sees it.
-use Rattle.std.specs.Prelude.{◌≡◌, ℕ, ◌<◌, Bool, List, [], ◌∷◌, length, Result}
+use Rattle.std.specs.Prelude.{◌≡◌, ℕ, ◌<◌, ◌⊎◌, Bool, false, List, [], ◌∷◌, length, Result}
 use Rattle.sqlite.specs.Store.{Ghosts}
 use Rattle.clear_book.specs.declared.calls.Call.{Call}
 use Rattle.clear_book.specs.Book.{Book}
 use Rattle.clear_book.specs.Machine.{IsLawful}
-use Rattle.clear_office.specs.Office.{AtOffice, IsHonest, Keeps}
+use Rattle.clear_office.specs.Office.{AtOffice, IsHonest, Keeps, LeavesOnly}
 use Rattle.clear_answers.specs.declared.said.Said.{Said}
 use Rattle.clear_routes.specs.declared.refused.Refused.{Refused}
 use Rattle.clear_wire.specs.Head.{Heading}
 use Rattle.clear_wire.specs.Stream.{NextItem}
 use Rattle.clear_http.specs.Guarded.{Admits}
 use Rattle.clear_http.specs.Serve.{Responds}
-use Rattle.clear_http.specs.Served.{ItemsTake}
+use Rattle.clear_http.specs.Served.{IsFailedRequest, ItemsTake}
 use Rattle.clear_host.specs.declared.connections.Ended.{Ended}
 use Rattle.clear_host.specs.declared.connections.Ended.TheVariants.{Served, StoreGone}
 
@@ -41,15 +41,23 @@ module _ (reads : Heading → List ℕ → Result Call Refused → Type 0) where
       (then : Bool) × (next : Book) × ItemsTake reads failed then b talk.items talk.saids next
       × TalksTake then end next talks last
 
+  -- the call as which a request of one of these reads whose answer tells of a fault of the store
+  abbrev pub IsFailedTalk : List Talk → Call → Type 0
+  IsFailedTalk [] call = ⊥
+  IsFailedTalk (talk ∷ talks) call =
+      IsFailedRequest reads talk.items talk.saids call ⊎ IsFailedTalk talks call
+
 module _ {S : Type 0} (g : Ghosts S) (reads : Heading → List ℕ → Result Call Refused → Type 0) where
   -- the clearing theorem over connections: whatever lawful book the office keeps, what was said is
   -- what the machine says over it, and the office then keeps the lawful book that it leaves, so far
-  -- as its disk returned what was written
+  -- as its disk returned what was written; of an office that hadn't failed, a crash leaves that book
+  -- or, besides, the request that met a fault of the store
   abbrev pub RunsTalks : AtOffice S → List Talk → AtOffice S → Type 0
   RunsTalks old talks new =
       IsHonest g new → (b : Book) → IsLawful b → Keeps g old b
       → (last : Book) × TalksTake reads old.failed new.failed b talks last × IsLawful last
       × Keeps g new last
+      × (old.failed ≡ false → LeavesOnly g (IsFailedTalk reads talks) new last)
 
   -- of so many connections those were served, one after another, that came before serving ended so
   pub record AreServed (ended : Ended) (count : ℕ) (old new : AtOffice S) : Type 0 where

@@ -16,13 +16,13 @@ use Rattle.clear_http.proofs.GuardedLemmas.{serves_as, serves_part_as}
 use Rattle.clear_http.proofs.ServedLemmas.{served, served_part}
 
 module _ {S : Type 0} (g : Ghosts S) (keys : List KeyOf) (day : ℕ) where
-  pub desk_served : (old : AtOffice S) (bytes written written' : Option (List ℕ)) (new : AtOffice S) (done : Served)
+  pub desk_served : (old : AtOffice S) → old.failed ≡ false → (bytes written written' : Option (List ℕ)) (new : AtOffice S) (done : Served)
       → Serves (MaySay g keys day) old bytes written written' new done
       → IsHonest g new → (b : Book) → IsLawful b → Keeps g old b
       → IsServed g (Reads keys day) old b bytes written written' new done
   desk_served = served g (Reads keys day) (MaySay g keys day) (λ old heading body told new said. (said.0, said.1))
 
-  pub desk_served_part : (old : AtOffice S) (bytes written written' : Option (List ℕ)) (new : AtOffice S) (answered : ℕ)
+  pub desk_served_part : (old : AtOffice S) → old.failed ≡ false → (bytes written written' : Option (List ℕ)) (new : AtOffice S) (answered : ℕ)
       → ServesPart (MaySay g keys day) old bytes written written' new answered
       → IsHonest g new → (b : Book) → IsLawful b → Keeps g old b
       → IsServedPart g (Reads keys day) old b bytes written written' new answered

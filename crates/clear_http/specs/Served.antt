@@ -1,6 +1,6 @@
 -- What is served over a book: the outcomes of the machine, and their answers. `reads` says which
 -- call a request is, or what refuses it before the office sees it.
-use Rattle.std.specs.Prelude.{◌≡◌, ℕ, ◌≤◌, ◌⊎◌, ◌++◌, Bool, List, [], ◌∷◌, length, Option}
+use Rattle.std.specs.Prelude.{◌≡◌, ℕ, ◌≤◌, ◌⊎◌, ◌++◌, Bool, true, List, [], ◌∷◌, length, Option}
 use Rattle.std.specs.Prelude.{Result, Ok, Err, IfSome}
 use Rattle.std.specs.Io.KnownBytes.{Appends}
 use Rattle.sqlite.specs.Store.{Ghosts}
@@ -10,7 +10,7 @@ use Rattle.clear_routes.specs.declared.refused.Refused.{Refused}
 use Rattle.clear_book.specs.declared.rules.Rule.TheVariants.{Memory}
 use Rattle.clear_book.specs.Book.{Book}
 use Rattle.clear_book.specs.Machine.{IsLawful, Goes}
-use Rattle.clear_office.specs.Office.{AtOffice, IsHonest, Keeps, Steps}
+use Rattle.clear_office.specs.Office.{Acts, AtOffice, IsHonest, Keeps, LeavesOnly, StaysFailed}
 use Rattle.clear_answers.specs.declared.said.Said.{Said}
 use Rattle.clear_answers.specs.declared.said.Said.TheVariants.{No}
 use Rattle.clear_answers.specs.Said.{by_stream, refused_by, said_of}
@@ -19,7 +19,8 @@ use Rattle.clear_wire.specs.Head.{Heading}
 use Rattle.clear_wire.specs.Limits.{request_limit}
 use Rattle.clear_wire.specs.Stream.{NextItem, whole, bad, ended}
 use Rattle.clear_http.specs.declared.serve.Served.{Served}
-use Rattle.clear_http.specs.Serve.{answer_text, ends_by_rule, IsCutBy, IsProper, NoneEnds}
+use Rattle.clear_http.specs.Serve.{answer_text, ends_by_rule, ends_stream, IsCutBy, IsProper}
+use Rattle.clear_http.specs.Serve.{NoneEnds}
 
 -- ---- over offices
 
@@ -32,11 +33,12 @@ module _ {S : Type 0} (g : Ghosts S) where
 
   -- want of memory is told, and nothing was done
   abbrev pub ForgetsMemory : Said → AtOffice S → AtOffice S → Type 0
-  ForgetsMemory told old new = (told ≡ refused_by Memory) × KeepsOn old new
+  ForgetsMemory told old new =
+      (told ≡ refused_by Memory) × KeepsOn old new × StaysFailed old new
 
   module _ (reads : Heading → List ℕ → Result Call Refused → Type 0) where
     abbrev pub CallSteps : Result Call Refused → AtOffice S → Said → AtOffice S → Type 0
-    CallSteps (Ok call) old told new = (o : Outcome) × (told ≡ said_of o) × Steps g old call o new
+    CallSteps (Ok call) old told new = (o : Outcome) × (told ≡ said_of o) × Acts g old call o new
     CallSteps (Err refused) old told new = (told ≡ No refused) × (new ≡ old)
 
     -- a request goes as its call, or is refused before; or there is no memory
@@ -73,10 +75,25 @@ module _ (reads : Heading → List ℕ → Result Call Refused → Type 0) where
   ItemsTake failed end b [] (told ∷ rest) last = ⊥
   ItemsTake failed end b (item ∷ items) [] last = ⊥
 
+  -- the call as which a request reads whose answer tells of a fault of the store
+  abbrev pub IsFailedItem : NextItem → Said → Call → Type 0
+  IsFailedItem (whole heading body) told call =
+      reads heading body (Ok call) × (ends_stream told ≡ true)
+  IsFailedItem (bad rule bare) told call = ⊥
+  IsFailedItem ended told call = ⊥
+
+  -- the call is that of one of these items
+  abbrev pub IsFailedRequest : List NextItem → List Said → Call → Type 0
+  IsFailedRequest (item ∷ items) (told ∷ saids) call =
+      IsFailedItem item told call ⊎ IsFailedRequest items saids call
+  IsFailedRequest [] saids call = ⊥
+  IsFailedRequest (item ∷ items) [] call = ⊥
+
 module _ {S : Type 0} (g : Ghosts S) (reads : Heading → List ℕ → Result Call Refused → Type 0) where
   -- all of a stream was served over a book: one outcome for each request in its bytes and for the
   -- rule that ends it, or, where the store has failed, for those up to this; the answers to these
-  -- were written and nothing else, and the office keeps the book that was left
+  -- were written and nothing else, and the office keeps the book that was left; a crash leaves that
+  -- or, besides, the request that met the fault
   pub record IsServed
       (old : AtOffice S) (b : Book) (bytes written written' : Option (List ℕ)) (new : AtOffice S)
       (served : Served)
@@ -91,9 +108,11 @@ module _ {S : Type 0} (g : Ghosts S) (reads : Heading → List ℕ → Result Ca
     pub rule : served.unread ≡ ends_by_rule items
     pub lawful : IsLawful last
     pub keeps : Keeps g new last
+    pub left : LeavesOnly g (IsFailedRequest reads items saids) new last
 
   -- a stream was served up to a fault: so many answers were written whole, at most one request more
-  -- was taken, and a part of its answer was written; the office keeps the book that was left
+  -- was taken, and a part of its answer was written; the office keeps the book that was left, and a
+  -- crash leaves that or, besides, the request that met a fault of the store
   pub record IsServedPart
       (old : AtOffice S) (b : Book) (bytes written written' : Option (List ℕ)) (new : AtOffice S)
       (answered : ℕ)
@@ -116,3 +135,4 @@ module _ {S : Type 0} (g : Ghosts S) (reads : Heading → List ℕ → Result Ca
     pub count : answered ≡ length items
     pub lawful : IsLawful last
     pub keeps : Keeps g new last
+    pub left : LeavesOnly g (IsFailedRequest reads (items ++ more) (saids ++ more_said)) new last

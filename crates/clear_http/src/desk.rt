@@ -5,7 +5,7 @@ ghost use Rattle.clear_book.specs.declared.outcomes.Outcome.{Outcome};
 ghost use Rattle.clear_book.specs.declared.rules.Rule.TheVariants.{NotYours as not_yours};
 ghost use Rattle.clear_book.specs.Book.{Book};
 ghost use Rattle.clear_book.specs.Machine.{IsLawful, is_allowed};
-ghost use Rattle.clear_office.specs.Office.{IsHonest, Keeps, Steps};
+ghost use Rattle.clear_office.specs.Office.{Acts, IsHonest, Keeps, StaysFailed};
 ghost use Rattle.clear_answers.specs.Said.{refused_by, said_of};
 ghost use Rattle.clear_wire.specs.Counted.{inner, has_failed, reads_of};
 ghost use Rattle.clear_wire.specs.Limits.{read_limit};
@@ -54,12 +54,13 @@ impl<S: Alter> Responder<Office<S>> for Desk<'_> {
 // Hands a call to the office, and says what it replies or answers.
 fn answer_call<S: Alter>(office: &mut Office<S>, call: &Call) -> Said
     ensures said { (outcome : Outcome) × (result ≡ said_of outcome)
-        × Steps S.Store office.old call.now outcome office.new }
+        × Acts S.Store office.old call.now outcome office.new }
     ensures access { office.old.failed ≡ false → is_allowed call.now ≡ false
         → (result ≡ refused_by not_yours) × (office.new ≡ office.old) }
     ensures stays { is_allowed call.now ≡ false → office.new ≡ office.old }
     ensures told { office.old.failed ≡ false → ends_stream result ≡ false
         → office.new.failed ≡ false }
+    ensures failed { StaysFailed office.old office.new }
     ensures undone { was_done result ≡ false → KeepsOn S.Store office.old office.new }
     ensures clean { IsHonest S.Store office.new → IsHonest S.Store office.old }
 {

@@ -10,7 +10,7 @@ returns-in-Err-clause-fault g c working =
     let keys = c.args.directory.now in
     let day = c.args.day in
     let office = c.args.office.now in
-    desk_served_part g.S.Store keys day office _ _ _ office 0 (nothing_served (MaySay g.S.Store keys day) office _ _)
+    desk_served_part g.S.Store keys day office working _ _ _ office 0 (nothing_served (MaySay g.S.Store keys day) office _ _)
 
 pub returns-in-Err-clause-access_fault : goal.returns-in-Err-clause-access_fault
 returns-in-Err-clause-access_fault g c working =
@@ -20,10 +20,10 @@ returns-in-Err-clause-access_fault g c working =
     desk_guarded_part g.S.Store keys day office working _ _ _ office 0 (nothing_served (MaySay g.S.Store keys day) office _ _)
 
 pub returns-clause-served : goal.returns-clause-served
-returns-clause-served g c working = IfOk-weaker c.serve_stream.result _ _ (λ served. desk_served g.S.Store _ _ _ _ _ _ _ served) c.serve_stream.ensures.served
+returns-clause-served g c working = IfOk-weaker c.serve_stream.result _ _ (λ served. desk_served g.S.Store _ _ _ working _ _ _ _ served) c.serve_stream.ensures.served
 
 pub returns-clause-fault : goal.returns-clause-fault
-returns-clause-fault g c working = IfErr-weaker c.serve_stream.result _ _ (λ fault. desk_served_part g.S.Store _ _ _ _ _ _ _ fault.answered) c.serve_stream.ensures.fault
+returns-clause-fault g c working = IfErr-weaker c.serve_stream.result _ _ (λ fault. desk_served_part g.S.Store _ _ _ working _ _ _ _ fault.answered) c.serve_stream.ensures.fault
 
 pub returns-clause-access : goal.returns-clause-access
 returns-clause-access g c working = IfOk-weaker c.serve_stream.result _ _ (λ served. desk_guarded g.S.Store _ _ _ working _ _ _ _ served) c.serve_stream.ensures.served

@@ -18,7 +18,7 @@ returns-in-Ok-clause-said g c =
 pub returns-in-Ok-clause-memory : goal.returns-in-Ok-clause-memory
 returns-in-Ok-clause-memory g c none = (
   c.answer_call.ensures.clean,
-  inr (refl, c.answer_call.ensures.undone none),
+  inr (refl, c.answer_call.ensures.undone none, c.answer_call.ensures.failed),
   (
     (λ working. ((λ call there denied. inr refl), λ _. c.answer_call.ensures.told working (not_ending _ none))),
     stays_unless _ _ _ _ _ _ c.in-Ok.call c.in-Ok.ensures c.answer_call.ensures.stays,
@@ -35,6 +35,6 @@ returns-in-Err-clause-said g c = (
 pub returns-in-Err-clause-memory : goal.returns-in-Err-clause-memory
 returns-in-Err-clause-memory g c none = (
   (λ honest. honest),
-  inr (refl, goes_on_unchanged g.S.Store _ _ refl),
+  inr (refl, goes_on_unchanged g.S.Store _ _ refl, λ was. refl),
   ((λ working. ((λ call there denied. inr refl), λ _. working)), inl refl),
 )
