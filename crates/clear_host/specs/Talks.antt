@@ -14,17 +14,19 @@ use Rattle.clear_http.specs.Guarded.{Admits}
 use Rattle.clear_http.specs.Serve.{Responds}
 use Rattle.clear_http.specs.Served.{IsFailedRequest, ItemsTake}
 use Rattle.clear_host.specs.declared.connections.Ended.{Ended}
-use Rattle.clear_host.specs.declared.connections.Ended.TheVariants.{Served, StoreGone}
+use Rattle.clear_host.specs.declared.connections.Ended.TheVariants.{NoConnections, Served, StoreGone}
 
 -- what was said on one connection: one thing to each item that was taken of what its peer sent
 pub record Talk : Type 0 where
   pub items : List NextItem
   pub saids : List Said
 
--- how many of so many connections were served: all of them, unless the store was gone before
+-- how many of so many connections were served: all of them, unless the store was gone before, or the
+-- system gave no more
 abbrev pub IsCount : Ended → ℕ → ℕ → Type 0
 IsCount Served count talks = talks ≡ count
 IsCount StoreGone count talks = talks < count
+IsCount NoConnections count talks = talks < count
 
 module _ {H : Type 0} (responds : H → Heading → List ℕ → Said → H → Type 0) where
   -- the items of each connection are answered, one connection after another

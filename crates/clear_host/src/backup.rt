@@ -3,25 +3,30 @@
 use crate::files::{FileFault, fault_of};
 use crate::logs::log_path;
 use crate::paths::is_free;
-use std::fs::File;
-use std::os::unix::fs::MetadataExt;
+use std::alloc::AllocError;
+use std::fs::{File, OpenOptions};
+use std::os::unix::fs::{MetadataExt, OpenOptionsExt};
 use std::{fs, io};
+
+// What owner, group and others may do with a file.
+const RIGHTS: u32 = 0o777;
 
 /// Copies the file at a path into a new file, whole or not at all.
 ///
 /// It is written beside that file, under its name with `.part` behind it, synced, and then renamed;
-/// what an earlier copy left there that was killed is written over. `Unusable` where something stands
-/// at the new path already, or a log of a store that was there (`-wal`), or under the name with
+/// what an earlier copy left there that was killed is removed. The copy has the rights of the file, but
+/// none that the process withholds, and is nobody else's. `Unusable` where something stands
+/// at the new path already, or a log or journal of a store that was there, or under the name with
 /// `.part` a link, a folder or that file itself, and where a file can't be read or written; nothing
 /// then stands at the new path but what stood there before.
 pub fn copy_whole(rt: &HostRuntime, path: &str, copy: &str) -> Result<(), FileFault> {
-    let Ok(log) = log_path(rt.alloc(), copy) else {
-        return Err(FileFault::Memory);
-    };
     let Ok(part) = format!(in rt.alloc(); "{copy}.part") else {
         return Err(FileFault::Memory);
     };
-    if !is_free(rt, copy) || !is_free(rt, log.as_str()) || !is_writable(rt, part.as_str(), path) {
+    let Ok(is_new) = is_new(rt, copy) else {
+        return Err(FileFault::Memory);
+    };
+    if !is_new || !is_writable(rt, part.as_str(), path) {
         return Err(FileFault::Unusable);
     }
     match copy_by(rt, path, part.as_str(), copy) {
@@ -31,6 +36,13 @@ pub fn copy_whole(rt: &HostRuntime, path: &str, copy: &str) -> Result<(), FileFa
             Err(fault_of(&error))
         }
     }
+}
+
+// Nothing stands at the path of the copy, nor beside it what would be taken for the copy's.
+fn is_new(rt: &HostRuntime, copy: &str) -> Result<bool, AllocError> {
+    let log = log_path(rt.alloc(), copy)?;
+    let journal = format!(in rt.alloc(); "{copy}-journal")?;
+    Ok(is_free(rt, copy) && is_free(rt, log.as_str()) && is_free(rt, journal.as_str()))
 }
 
 // Nothing stands at the path of the part, or a file as an earlier copy leaves it: not a link, and not
@@ -45,10 +57,18 @@ fn is_writable(rt: &HostRuntime, part: &str, path: &str) -> bool {
     }
 }
 
-// The copy, by a file of another name.
+// The copy, by a file of another name, which is made anew: one that another user made would be theirs.
 fn copy_by(rt: &HostRuntime, path: &str, part: &str, copy: &str) -> io::Result<()> {
-    fs::copy(rt, path, part)?;
-    File::open(rt, part)?.sync_all()?;
+    let mut source = File::open(rt, path)?;
+    let rights = source.metadata()?.mode() & RIGHTS;
+    if !is_free(rt, part) {
+        fs::remove_file(rt, part)?;
+    }
+    let mut options = OpenOptions::new();
+    options.write(true).create_new(true).mode(rights);
+    let mut target = options.open(rt, part)?;
+    io::copy(&mut source, &mut target)?;
+    target.sync_all()?;
     fs::rename(rt, part, copy)?;
     // The copy stands. Where its folder can't be synced, the file system keeps the name in its time.
     let _ = sync_folder(rt, folder_of(copy));

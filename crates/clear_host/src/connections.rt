@@ -18,7 +18,7 @@ ghost use Rattle.clear_http.specs.Desk.{MayServe};
 ghost use Rattle.clear_host.specs.Talks.{AreServed};
 ghost use Rattle.clear_host.specs.Told.{AreTold, end_lines, failing_lines, text_of};
 
-use crate::named::NamedFile;
+use crate::named::NamedStore;
 use crate::peer::{Peer, Taker, part};
 use clear_callers::directory::Directory;
 use clear_http::desk::serve;
@@ -38,7 +38,12 @@ pub enum Ended {
     Served,
     /// Before one of them the store didn't stand any more.
     StoreGone,
+    /// Before that, the system gave none for several times.
+    NoConnections,
 }
+
+// How often the system may refuse a connection, one time after another.
+const FAILURES: u32 = 10;
 
 /// How serving ended, and the error writer's first fault.
 #[derive(Drop)]
@@ -65,8 +70,9 @@ struct Talked {
 /// that reads as a call for which access says no is turned away, and the office stays but for a
 /// call that access allows. An office that has failed stays as it is.
 ///
-/// Each connection that is taken counts. Before it is served, the store has to stand at its path:
-/// where it has gone, nothing more is served.
+/// Each connection that is taken counts. Before it is served, the store has to stand at its path, with
+/// its log beside it: where one has gone, nothing more is served. One that the system refuses, as for
+/// want of descriptors, counts, too; after ten in turn nothing more is served.
 ///
 /// A peer has 30 seconds for a request, and 10 for each read and each write. Without a request its
 /// connection may stay open for 30 seconds, or until another one waits; a new one is left a second
@@ -81,7 +87,7 @@ pub fn serve_connections<S: Alter, E: Write>(
     office: &mut Office<S>,
     directory: &Directory,
     day: Day,
-    store: &NamedFile<'_>,
+    store: &NamedStore<'_>,
     errors: &mut E,
 ) -> Serving
     ensures served { AreServed S.Store (Reads directory.now day) result.ended count
@@ -93,11 +99,19 @@ pub fn serve_connections<S: Alter, E: Write>(
 {
     let mut told = Ok(());
     let mut next = None;
+    let mut failures = 0;
     for served in 0..count {
         let accepted = accept(listener, next);
         if !store.stands() {
             return Serving {
                 ended: Ended::StoreGone,
+                told,
+            };
+        }
+        failures = failures_with(&accepted, failures);
+        if failures > FAILURES {
+            return Serving {
+                ended: Ended::NoConnections,
                 told,
             };
         }
@@ -121,6 +135,14 @@ fn accept(listener: &TcpListener, taken: Option<TcpStream>) -> io::Result<TcpStr
             Ok((stream, _peer)) => Ok(stream),
             Err(error) => Err(error),
         },
+    }
+}
+
+// How many connections the system has refused in turn, with this one.
+fn failures_with(accepted: &io::Result<TcpStream>, before: u32) -> u32 {
+    match accepted {
+        Ok(_) => 0,
+        Err(_) => before.saturating_add(1),
     }
 }
 

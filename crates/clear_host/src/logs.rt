@@ -11,10 +11,7 @@ const LOG_OF_A_CLOSE: u64 = 41;
 /// the file that a link leads to, is no longer than a close leaves it. `false` where that can't be told,
 /// too.
 pub fn is_brought_over(rt: &HostRuntime, store: &str) -> bool {
-    let Ok(file) = fs::canonicalize(rt, store) else {
-        return false;
-    };
-    let Ok(log) = log_path(rt.alloc(), file.as_str()) else {
+    let Ok(Some(log)) = log_beside(rt, store) else {
         return false;
     };
     match fs::metadata(rt, log.as_str()) {
@@ -23,15 +20,25 @@ pub fn is_brought_over(rt: &HostRuntime, store: &str) -> bool {
     }
 }
 
-/// Whether a log stands beside a path where no file is, as where a store was moved away without it. Who
-/// makes a store there loses what that log has.
+/// Whether a log was left alone beside a path where no file is, or an empty one, as where a store was
+/// moved away without it. Who makes a store there loses what that log has. A store that was only begun
+/// has an empty file and no longer log than a close leaves.
 pub fn is_left_log(rt: &HostRuntime, store: &str) -> Result<bool, AllocError> {
     match path_kind(rt, store) {
         PathKind::Missing => {
             let log = log_path(rt.alloc(), store)?;
             Ok(!is_free(rt, log.as_str()))
         }
-        PathKind::Folder | PathKind::Empty | PathKind::Filled => Ok(false),
+        PathKind::Empty => Ok(!is_brought_over(rt, store)),
+        PathKind::Folder | PathKind::Filled => Ok(false),
+    }
+}
+
+// The path of the log of a store, beside the file that a link leads to. `None` where that can't be told.
+pub(crate) fn log_beside(rt: &HostRuntime, store: &str) -> Result<Option<String>, AllocError> {
+    match fs::canonicalize(rt, store) {
+        Ok(file) => Ok(Some(log_path(rt.alloc(), file.as_str())?)),
+        Err(_) => Ok(None),
     }
 }
 

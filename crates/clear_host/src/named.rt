@@ -1,34 +1,63 @@
-//! Whether a path still names the file that it named. No contract knows what a path names.
+//! Whether the files of a store still stand where they stood. No contract knows what a path names.
 
+use crate::logs::log_beside;
+use std::alloc::AllocError;
 use std::os::unix::fs::MetadataExt;
 use std::{fs, io};
 
-/// A path, and which file it named: the device that the file lies on, and its number there.
+// Which file it is: the device that it lies on, and its number there.
 #[derive(Clone, Copy)]
-pub struct NamedFile<'a> {
-    rt: &'a HostRuntime,
-    path: &'a str,
+struct FileId {
     device: u64,
     inode: u64,
 }
 
-impl<'a> NamedFile<'a> {
-    /// The file that a path names now, through links too. An `Err` says that it can't be asked for.
-    pub fn at(rt: &'a HostRuntime, path: &'a str) -> io::Result<NamedFile<'a>> {
-        let found = fs::metadata(rt, path)?;
-        Ok(NamedFile {
-            rt,
-            path,
-            device: found.dev(),
-            inode: found.ino(),
-        })
+/// The two files of a store that is open: the one at its path, and its log.
+#[derive(Drop)]
+pub struct NamedStore<'a> {
+    rt: &'a HostRuntime,
+    store: &'a str,
+    log: String,
+    store_id: FileId,
+    log_id: FileId,
+}
+
+impl<'a> NamedStore<'a> {
+    /// The files that stand now for the store at a path, through links too. `None` says that one can't
+    /// be asked for.
+    pub fn at(rt: &'a HostRuntime, store: &'a str) -> Result<Option<NamedStore<'a>>, AllocError> {
+        let Some(log) = log_beside(rt, store)? else {
+            return Ok(None);
+        };
+        match (id_at(rt, store), id_at(rt, log.as_str())) {
+            (Ok(store_id), Ok(log_id)) => Ok(Some(NamedStore {
+                rt,
+                store,
+                log,
+                store_id,
+                log_id,
+            })),
+            (_, _) => Ok(None),
+        }
     }
 
-    /// Whether the path still names this file: no other, and none that can't be asked for.
+    /// Whether both paths still name these files: no others, and none that can't be asked for.
     pub fn stands(&self) -> bool {
-        match fs::metadata(self.rt, self.path) {
-            Ok(found) => found.dev() == self.device && found.ino() == self.inode,
-            Err(_) => false,
-        }
+        names(self.rt, self.store, self.store_id) && names(self.rt, self.log.as_str(), self.log_id)
+    }
+}
+
+fn id_at(rt: &HostRuntime, path: &str) -> io::Result<FileId> {
+    let found = fs::metadata(rt, path)?;
+    Ok(FileId {
+        device: found.dev(),
+        inode: found.ino(),
+    })
+}
+
+fn names(rt: &HostRuntime, path: &str, id: FileId) -> bool {
+    match id_at(rt, path) {
+        Ok(found) => found.device == id.device && found.inode == id.inode,
+        Err(_) => false,
     }
 }

@@ -11,7 +11,7 @@ use clear_cli::ready::{copied_line, imported_line, ready_text, schema_line, serv
 use clear_host::backup::copy_whole;
 use clear_host::connections::{Ended, serve_connections};
 use clear_host::logs::is_brought_over;
-use clear_host::named::NamedFile;
+use clear_host::named::NamedStore;
 use clear_host::offices::{NotOpened, Opened};
 use clear_http::desk::serve;
 use clear_money::days::Day;
@@ -123,7 +123,7 @@ fn serve_at<S: Alter, E: Write>(
     count: u32,
     errors: &mut E,
 ) -> Result<String, Stop> {
-    let Ok(file) = NamedFile::at(rt, place.store) else {
+    let Some(files) = NamedStore::at(rt, place.store)? else {
         return Err(STORE_GONE);
     };
     let Ok(listener) = TcpListener::bind(rt, (Ipv4Addr::LOCALHOST, place.port)) else {
@@ -131,11 +131,12 @@ fn serve_at<S: Alter, E: Write>(
     };
     tell_ready(rt.alloc(), place.port, day, &opened.ledger_day, errors)?;
     let office = &mut opened.office;
-    let serving = serve_connections(rt, &listener, count, office, directory, day, &file, errors);
+    let serving = serve_connections(rt, &listener, count, office, directory, day, &files, errors);
     // What could not be told of a connection is lost.
     match serving.ended {
         Ended::Served => Ok(served_line(rt.alloc(), count)?),
         Ended::StoreGone => Err(STORE_GONE),
+        Ended::NoConnections => Err(Stop::Net),
     }
 }
 

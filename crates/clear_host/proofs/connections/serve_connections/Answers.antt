@@ -1,5 +1,5 @@
 use Rattle.std.proofs.Common.{◌≡◌, true, refl, ap, ◌∙◌, arith}
-use Rattle.clear_host.specs.declared.connections.Ended.TheVariants.{Served, StoreGone}
+use Rattle.clear_host.specs.declared.connections.Ended.TheVariants.{NoConnections, Served, StoreGone}
 use Rattle.clear_host.proofs.TalkLemmas.{clean, none_talked, one_more_talked, served}
 use Rattle.clear_host.proofs.ToldLemmas.{none_told, then_told}
 use Rattle.clear_host.proofs.connections.serve_connections.Goals as goal
@@ -29,6 +29,13 @@ returns-then-not-stands-clause-served g c =
 
 pub returns-then-not-stands-clause-clean : goal.returns-then-not-stands-clause-clean
 returns-then-not-stands-clause-clean g c = clean g.S.Store _ _ _ _ _ c.loop-served.invariant.talked
+
+pub returns-then-failures-gt-FAILURES-clause-served : goal.returns-then-failures-gt-FAILURES-clause-served
+returns-then-failures-gt-FAILURES-clause-served g c =
+    served g.S.Store _ _ NoConnections c.loop-served.served c.args.count _ _ c.loop-served-test.true c.loop-served.invariant.talked
+
+pub returns-then-failures-gt-FAILURES-clause-clean : goal.returns-then-failures-gt-FAILURES-clause-clean
+returns-then-failures-gt-FAILURES-clause-clean g c = clean g.S.Store _ _ _ _ _ c.loop-served.invariant.talked
 
 pub returns-clause-served : goal.returns-clause-served
 returns-clause-served g c =
