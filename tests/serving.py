@@ -10,6 +10,7 @@ PROGRAM is crates/clear_app/out/clear_app where it isn't given, as `rt ci` leave
 import contextlib
 import functools
 import http.client
+import itertools
 import os
 import re
 import socket
@@ -406,13 +407,13 @@ class Store(program.Program):
         self.assertEqual(self.ended(server), (0, "served 2\n", ""))
 
     def test_a_store_that_is_removed_or_replaced(self):
-        for replaced in (False, True):
+        for name, replaced in itertools.product(("one.db", "one.db-wal"), (False, True)):
             self.init("one.db")
             server = self.serving(3, store="one.db")
             self.assertIn(b'{"done":true}', self.send(server, REGISTRATION))
-            (self.folder / "one.db").rename(self.folder / "away.db")
+            (self.folder / name).rename(self.folder / "away.db")
             if replaced:
-                self.write("one.db", (self.folder / "away.db").read_bytes())
+                self.write(name, (self.folder / "away.db").read_bytes())
             with self.connect(server) as peer:
                 try:
                     peer.sendall(JANUARY)
@@ -420,6 +421,9 @@ class Store(program.Program):
                 except ConnectionError:
                     pass
             self.assertEqual(self.ended(server), (3, "", "rule 41 Store\n"))
+            if (name, replaced) == ("one.db-wal", False):
+                # What the log had was brought over at the end.
+                self.assertIn("requests 1\n", self.run_program("look", "one.db")[1])
             for left in self.folder.glob("*.db*"):
                 left.unlink()
 

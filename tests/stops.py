@@ -7,6 +7,7 @@ PROGRAM is crates/clear_app/out/clear_app where it isn't given, as `rt ci` leave
 
 import os
 import random
+import resource
 import signal
 import socket
 import sqlite3
@@ -33,6 +34,13 @@ class Stops(program.Program):
                 self.assertIn(b'{"done":true}', answer)
                 server.send_signal(ended)
                 self.assertEqual(self.ended(server), (-ended, "", ""), number)
+
+    def test_no_descriptors(self):
+        """Where the system gives no connections any more, serving ends, and says that it isn't done."""
+        self.init()
+        # Three streams, the store, its log and the listener are all that may be open.
+        server = self.serving(1_000_000, preexec_fn=lambda: resource.setrlimit(resource.RLIMIT_NOFILE, (6, 6)))
+        self.assertEqual(self.ended(server), (3, "", "fault net\n" * 11))
 
     def test_a_stopped_program_goes_on(self):
         self.init()

@@ -409,6 +409,10 @@ class EmptyFile(Stores):
         self.expect(["init", "fund.db", "rates.toml"], 2, "", "fault file\n")
         self.assertEqual((self.folder / "fund.db-wal").read_bytes(), log)
         self.assertFalse((self.folder / "fund.db").exists())
+        # Nor is it by one in an empty file, as it is made for another owner.
+        empty = self.write("fund.db", "")
+        self.expect(["init", "fund.db", "rates.toml"], 2, "", "fault file\n")
+        self.assertEqual((empty.stat().st_size, (self.folder / "fund.db-wal").read_bytes()), (0, log))
         (self.folder / "moved.db").rename(self.folder / "fund.db")
         self.assertEqual(self.run_program("look", "fund.db")[1].splitlines()[2], "requests 2")
 
@@ -477,10 +481,12 @@ class Backup(Stores):
             with self.subTest(path):
                 self.expect(["backup", "fund.db", path], 2, "", "fault file\n")
         self.assertEqual(self.content(), before)
-        # The log of a store that was there would be taken for that of the copy.
-        self.write("copy.db-wal", "")
-        self.expect(["backup", "fund.db", "copy.db"], 2, "", "fault file\n")
-        self.assertFalse((self.folder / "copy.db").exists())
+        # The log of a store that was there, or a journal of sqlite3, would be taken for that of the copy.
+        for name in ("copy.db-wal", "copy.db-journal"):
+            left = self.write(name, "")
+            self.expect(["backup", "fund.db", "copy.db"], 2, "", "fault file\n")
+            self.assertFalse((self.folder / "copy.db").exists())
+            left.unlink()
 
     def test_a_look_at_an_earlier_copy_leaves_a_log(self):
         self.filled()
@@ -502,7 +508,11 @@ class Backup(Stores):
         part = self.write("copy.db.part", "half of a copy")
         if NOBODY:
             os.chown(part, NOBODY, NOBODY)
-        self.expect(["backup", "fund.db", "copy.db"], 0, "copied, ledger day 2024-04-30\n")
+        with part.open("rb") as held:
+            self.expect(["backup", "fund.db", "copy.db"], 0, "copied, ledger day 2024-04-30\n")
+            # What another user may have made isn't written into: it would be theirs.
+            self.assertNotEqual((self.folder / "copy.db").stat().st_ino, os.fstat(held.fileno()).st_ino)
+            self.assertEqual(held.read(), b"half of a copy")
         self.assertEqual((self.folder / "copy.db").read_bytes(), (self.folder / "fund.db").read_bytes())
         self.assertFalse((self.folder / "copy.db.part").exists())
 
