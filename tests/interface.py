@@ -1,0 +1,182 @@
+"""Tries what docs/http.md and docs/formats.md tell one who writes a client: the commands and the transcript as they stand
+there, and sentences that no other script tries.
+
+    python3 tests/interface.py [PROGRAM]
+
+PROGRAM is crates/clear_app/out/clear_app where it isn't given, as `rt ci` leaves it. The commands need bash and curl.
+"""
+
+import json
+import re
+import subprocess
+import sys
+
+# No __pycache__ is left beside the sources.
+sys.dont_write_bytecode = True
+from documents import Documents, is_whole  # noqa: E402
+from program import HEADER, JANUARY, REGISTRATION, Program, post  # noqa: E402
+from program_under_test import DAY, ROOT, ProgramUnderTest, run_tests  # noqa: E402
+
+PAGE = (ROOT / "docs/http.md").read_text()
+REFUSED = {
+    1: b"no request\r\n\r\n",
+    2: REGISTRATION.replace(b"Length: 53", b"Length: 1048577"),
+    3: REGISTRATION.replace(b"Length: 53", b"Length: +53"),
+    4: REGISTRATION.replace(b"/employers", b"/employer"),
+    5: REGISTRATION.replace(b"POST", b"PUT"),
+    6: REGISTRATION.replace(b"desk", b"Desk"),
+    8: REGISTRATION.replace(b"Number: 1", b"Number: 01"),
+}
+
+
+def blocks_of_commands(text):
+    """Each block of indented lines as its commands, with where it begins and ends."""
+    for block in re.finditer(r"(?:^    .*\n)+", text, re.M):
+        commands = [""]
+        for line in block[0].splitlines():
+            commands[-1] += line[4:]
+            if is_whole(commands[-1]) and not line.endswith("|"):
+                commands.append("")
+            else:
+                commands[-1] += "\n"
+        yield block.start(), block.end(), commands[:-1]
+
+
+class Commands(Documents):
+    def setUp(self):
+        super().setUp()
+        (_, _, [init, serve]), = [it for it in blocks_of_commands(PAGE) if "./clearing serve" in it[2][-1]]
+        self.assertEqual(self.said(init), "schema 1\n")
+        server = self.bash("-c", f"exec {self.with_port(serve)}", stderr=subprocess.PIPE)
+        self.addCleanup(server.communicate)
+        self.addCleanup(server.kill)
+        self.assertIn(b"ready on", server.stderr.readline())
+
+    def said(self, command):
+        with self.bash("-c", self.with_port(command)) as running:
+            return running.communicate(timeout=60)[0].decode()
+
+    def test_each_answer_is_told(self):
+        """In their order, beside the block of their commands."""
+        text = PAGE[PAGE.index("## Each request, by `curl`"):PAGE.index("## A transcript")]
+        blocks = list(blocks_of_commands(text))
+        ends = [0, *(end for _, end, _ in blocks)]
+        starts = [*(start for start, _, _ in blocks), len(text)]
+        self.assertEqual(len(blocks), 6)
+        for place, (_, _, commands) in enumerate(blocks):
+            told = text[ends[place]:starts[place + 1]]
+            at = 0
+            for command in commands:
+                said = self.said(command)
+                if command.endswith("/employers/1001/statement -H 'Office-Key: desk'"):
+                    self.assertRegex(said, r"\Astatement 1001 2024-04-30\n(.*\n)+interest          10\.00\n\Z")
+                    continue
+                at = told.find(said, at)
+                self.assertGreaterEqual(at, 0, f"{command}: {said}")
+        again = command.replace("/reminders/1", "/reminders").replace("'Office-Key: desk'", "'Office-Key: desk' -d ''")
+        for number, answer in ((10, '{"firms":1,"run":1}'), (11, '{"detail":"","name":"NothingToRemind","rule":30}')):
+            self.assertEqual(self.said(f"{again} -H 'Request-Number: {number}'"), answer)
+            self.assertIn(answer, text[ends[-1]:])
+
+
+class Transcript(ProgramUnderTest):
+    maxDiff = None
+
+    def test_its_answers(self):
+        """Lines of a head end in CR LF. A body has a line end behind its last line where its length says so."""
+        shown = "".join(re.findall(r"```\n(.*?)```", PAGE[PAGE.index("## A transcript"):], re.S))
+        requests, answers = ([self.message(lines) for lines in re.findall(rf"(?:^{side}.*\n)+", shown, re.M)] for side in "><")
+        self.assertEqual(len(requests), 5)
+        said = self.run_program("stream", "rates.toml", "callers.toml", DAY, stdin="".join(requests).encode())
+        self.assertEqual(said, (0, "".join(answers), ""))
+
+    def message(self, lines):
+        head, _, body = re.sub("^[<>] ?", "", lines, flags=re.M).partition("\n\n")
+        length = re.search("Content-Length: ([0-9]+)", head)
+        if length and len(body.encode()) == int(length[1]) + 1:
+            body = body.removesuffix("\n")
+        self.assertEqual(len(body.encode()), int(length[1]) if length else 0, lines)
+        return head.replace("\n", "\r\n") + "\r\n\r\n" + body
+
+
+class Client(Program):
+    def stream(self, *requests):
+        """The bodies of the answers."""
+        status, output, errors = self.run_program("stream", "rates.toml", "callers.toml", DAY, stdin=b"".join(requests))
+        self.assertEqual((status, errors), (0, ""))
+        bodies = []
+        while output:
+            head, _, output = output.partition("\r\n\r\n")
+            length = int(re.search("Content-Length: ([0-9]+)", head)[1])
+            bodies.append(output.encode()[:length].decode())
+            output = output.encode()[length:].decode()
+        return bodies
+
+    def document(self, path):
+        return f"GET {path} HTTP/1.1\r\nHost: office\r\nOffice-Key: desk\r\n\r\n".encode()
+
+    def test_the_rules_of_a_request_have_their_names(self):
+        for rule, request in REFUSED.items():
+            refusal = json.loads(self.stream(request)[0])
+            self.assertEqual(refusal["rule"], rule)
+            self.assertIn(f"{rule}, {refusal['name']}", PAGE)
+
+    def test_a_detail_is_a_text(self):
+        _, _, again, _ = self.stream(REGISTRATION, JANUARY, JANUARY.replace(b"Number: 1", b"Number: 2"), REGISTRATION)
+        self.assertEqual(again, '{"detail":"1","name":"ReportExists","rule":15}')
+
+    def test_whose_a_number_is(self):
+        self.write("callers.toml", "desk = 0\nother = 0\nk1001 = 1001\nspare = 1001\n")
+        other = REGISTRATION.replace(b"desk", b"other")
+        done, same, reused, free, kept = self.stream(
+            REGISTRATION, other, other.replace(b"Nord", b"West"), JANUARY, JANUARY.replace(b"k1001", b"spare"))
+        self.assertEqual([done, same], ['{"done":true}'] * 2)
+        self.assertEqual(reused, '{"detail":"","name":"NumberReused","rule":9}')
+        self.assertEqual([free, kept], ['{"charge":200000,"version":1}'] * 2)
+
+    def test_the_same_values_and_the_same_bytes(self):
+        spelled = post("/employers", 1, ' {"start" : "2024-01", "name" : "\\u0042au Nord",\n"employer":1001}')
+        file = HEADER + "B1,2024-02-25,1001,150000,C,\n"
+        *done, reused = self.stream(
+            REGISTRATION, spelled, post("/bank", 2, file), post("/bank", 2, file), post("/bank", 2, file.replace("\n", "\r\n")))
+        self.assertEqual(done, ['{"done":true}'] * 2 + ['{"new":1,"repeats":0}'] * 2)
+        self.assertEqual(reused, '{"detail":"","name":"NumberReused","rule":9}')
+
+    def test_what_is_no_json_object(self):
+        def fault(employer):
+            return json.loads(self.stream(post("/employers", 1, f'{{"employer":{employer}}}'))[0])["detail"]
+
+        for employer, named in {
+            "1e3": "employer", "1.0": "employer", "-0": "employer", "1e308": "employer", "1.8e308": "body",
+            "1" + "0" * 308: "employer", "1" + "0" * 309: "body",
+            "[" * 126 + "]" * 126: "employer", "[" * 127 + "]" * 127: "body",
+        }.items():
+            self.assertEqual(fault(employer), named, employer)
+
+    def test_a_bank_file_of_another_program(self):
+        """Line ends of each kind, and a double quote within a field."""
+        lines = [HEADER[:-1], 'B1,2024-02-25,,5,,"say ""no"", thanks"', "B2,2024-02-25,,7,I,", ""]
+        for end in ("\n", "\r\n", "\r"):
+            new, told = self.stream(post("/bank", 1, end.join(lines)), self.document("/suspense"))
+            self.assertEqual(new, '{"new":2,"repeats":0}')
+            self.assertIn(' C -           0.05 say "no", thanks\nline B2 ', told)
+
+    def test_what_ends_no_line(self):
+        name, note = "Bau\u2028Nord", "a\u0085b\u2029c"
+        body = json.dumps({"employer": 1001, "name": name, "start": "2024-01"})
+        _, _, statement, suspense = self.stream(
+            post("/employers", 1, body), post("/bank", 2, f"{HEADER}B1,2024-02-25,,5,,{note}\n"),
+            self.document("/employers/1001/statement"), self.document("/suspense"))
+        self.assertEqual(statement.split("\n")[1], f"name {name}")
+        self.assertEqual(suspense.split("\n")[1], f"line B1 2024-02-25 C -           0.05 {note}")
+
+    def test_a_wide_amount(self):
+        lines = "".join(f"B{at},2024-02-25,,100000000000,,\n" for at in range(100))
+        first, all_ = (self.stream(post("/bank", 1, HEADER + it), self.document("/suspense"))[1].split("\n")
+                       for it in (lines[:lines.index("\n") + 1], lines))
+        self.assertEqual(first[-2], "total  1000000000.00")
+        self.assertEqual(all_[-2], "total 100000000000.00")
+
+
+if __name__ == "__main__":
+    run_tests()
