@@ -14,10 +14,11 @@ import sys
 # No __pycache__ is left beside the sources.
 sys.dont_write_bytecode = True
 from documents import Documents, is_whole  # noqa: E402
-from program import HEADER, JANUARY, REGISTRATION, Program, post  # noqa: E402
+from program import BANK, FEBRUARY, HEADER, JANUARY, REGISTRATION, Program, post  # noqa: E402
 from program_under_test import DAY, ROOT, ProgramUnderTest, run_tests  # noqa: E402
 
 PAGE = (ROOT / "docs/http.md").read_text()
+FORMATS = (ROOT / "docs/formats.md").read_text()
 REFUSED = {
     1: b"no request\r\n\r\n",
     2: REGISTRATION.replace(b"Length: 53", b"Length: 1048577"),
@@ -99,22 +100,31 @@ class Transcript(ProgramUnderTest):
         return head.replace("\n", "\r\n") + "\r\n\r\n" + body
 
 
-class Client(Program):
-    def stream(self, *requests):
+def document(path):
+    return f"GET {path} HTTP/1.1\r\nHost: office\r\nOffice-Key: desk\r\n\r\n".encode()
+
+
+def bodies_of(answers):
+    bodies = []
+    while answers:
+        head, _, answers = answers.partition(b"\r\n\r\n")
+        length = int(re.search(b"Content-Length: ([0-9]+)", head)[1])
+        bodies.append(answers[:length].decode())
+        answers = answers[length:]
+    return bodies
+
+
+class Streams(Program):
+    maxDiff = None
+
+    def stream(self, *requests, day=DAY):
         """The bodies of the answers."""
-        status, output, errors = self.run_program("stream", "rates.toml", "callers.toml", DAY, stdin=b"".join(requests))
+        status, output, errors = self.run_program("stream", "rates.toml", "callers.toml", day, stdin=b"".join(requests))
         self.assertEqual((status, errors), (0, ""))
-        bodies = []
-        while output:
-            head, _, output = output.partition("\r\n\r\n")
-            length = int(re.search("Content-Length: ([0-9]+)", head)[1])
-            bodies.append(output.encode()[:length].decode())
-            output = output.encode()[length:].decode()
-        return bodies
+        return bodies_of(output.encode())
 
-    def document(self, path):
-        return f"GET {path} HTTP/1.1\r\nHost: office\r\nOffice-Key: desk\r\n\r\n".encode()
 
+class Client(Streams):
     def test_the_rules_of_a_request_have_their_names(self):
         for rule, request in REFUSED.items():
             refusal = json.loads(self.stream(request)[0])
@@ -157,7 +167,7 @@ class Client(Program):
         """Line ends of each kind, and a double quote within a field."""
         lines = [HEADER[:-1], 'B1,2024-02-25,,5,,"say ""no"", thanks"', "B2,2024-02-25,,7,I,", ""]
         for end in ("\n", "\r\n", "\r"):
-            new, told = self.stream(post("/bank", 1, end.join(lines)), self.document("/suspense"))
+            new, told = self.stream(post("/bank", 1, end.join(lines)), document("/suspense"))
             self.assertEqual(new, '{"new":2,"repeats":0}')
             self.assertIn(' C -           0.05 say "no", thanks\nline B2 ', told)
 
@@ -166,16 +176,68 @@ class Client(Program):
         body = json.dumps({"employer": 1001, "name": name, "start": "2024-01"})
         _, _, statement, suspense = self.stream(
             post("/employers", 1, body), post("/bank", 2, f"{HEADER}B1,2024-02-25,,5,,{note}\n"),
-            self.document("/employers/1001/statement"), self.document("/suspense"))
+            document("/employers/1001/statement"), document("/suspense"))
         self.assertEqual(statement.split("\n")[1], f"name {name}")
         self.assertEqual(suspense.split("\n")[1], f"line B1 2024-02-25 C -           0.05 {note}")
 
     def test_a_wide_amount(self):
         lines = "".join(f"B{at},2024-02-25,,100000000000,,\n" for at in range(100))
-        first, all_ = (self.stream(post("/bank", 1, HEADER + it), self.document("/suspense"))[1].split("\n")
+        first, all_ = (self.stream(post("/bank", 1, HEADER + it), document("/suspense"))[1].split("\n")
                        for it in (lines[:lines.index("\n") + 1], lines))
         self.assertEqual(first[-2], "total  1000000000.00")
         self.assertEqual(all_[-2], "total 100000000000.00")
+
+
+class Examples(Streams):
+    """Each document that docs/formats.md shows comes so, byte for byte."""
+
+    def numbered(self, *commands, first=1):
+        """The clerk's requests of these paths and bodies, with numbers from the first one on."""
+        return [post(path, number, body if isinstance(body, str) else json.dumps(body))
+                for number, (path, body) in enumerate(commands, first)]
+
+    def firm(self, number, *months):
+        """Its registration, and a report for each month from January on: a worker's wage, or nobody's."""
+        yield "/employers", {"employer": number, "name": "Bau Nord", "start": "2024-01"}
+        for at, wages in enumerate(months, 1):
+            lines = [{"worker": wages[0], "gross": wages[1]}] if wages else []
+            yield f"/employers/{number}/reports/2024-{at:02}", {"lines": lines}
+
+    def expect_example(self, heading, document):
+        section = FORMATS[FORMATS.index(f"\n## {heading}\n"):]
+        self.assertEqual(document, re.search(r"```\n(.*?)```", section, re.S)[1])
+
+    def test_a_statement(self):
+        *_, said = self.stream(REGISTRATION, JANUARY, FEBRUARY, post("/bank", 2, BANK), document("/employers/1001/statement"))
+        self.expect_example("A firm's statement", said)
+
+    def test_a_payout_list(self):
+        requests = self.numbered(
+            *self.firm(1002, (9, 400_000)), *self.firm(1004, (9, 250_000)),
+            ("/bank", HEADER + "B1,2024-02-21,1004,20000,C,\n"), ("/employers/1004/claims", {"cents": 80_000, "worker": 9}),
+            ("/claims/1/release", ""), ("/payouts", ""))
+        *_, said = self.stream(*requests, document("/payouts/1"), day="2024-03-10")
+        self.expect_example("A payout list", said)
+
+    def test_a_worker(self):
+        requests = self.numbered(*self.firm(1001, (7, 100_000)), *self.firm(1002, (7, 50_000)))
+        self.expect_example("A worker", self.stream(*requests, document("/workers/7"))[-1])
+
+    def test_lines_in_suspense(self):
+        file = HEADER + "B9,2024-03-01,,5000,,no number\nB10,2024-03-01,1099,700,I,\n"
+        self.expect_example("Lines in suspense", self.stream(post("/bank", 1, file), document("/suspense"))[-1])
+
+    def test_a_reminder_run(self):
+        """Of 1004, 11.00 of interest came up by then, and 6.00 were paid."""
+        self.init()
+        paid = HEADER + "B3,2024-02-21,1004,20000,C,\nB4,2024-05-02,1004,600,I,\n"
+        first = self.numbered(*self.firm(1001, (7, 1_000_000), (7, 500_050)), ("/bank", BANK), ("/reminders", ""))
+        second = self.numbered(*self.firm(1004, (9, 250_000), None, None), ("/bank", paid), ("/reminders", ""), first=11)
+        for day, requests in ((DAY, first), ("2024-05-14", [*second, document("/reminders/2")])):
+            server = self.serving(1, day)
+            said = bodies_of(self.send(server, b"".join(requests)))
+            self.assertEqual(self.ended(server), (0, "served 1\n", ""))
+        self.expect_example("A reminder run", said[-1])
 
 
 if __name__ == "__main__":
