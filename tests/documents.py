@@ -72,8 +72,8 @@ class Documents(ProgramUnderTest):
     def setUp(self):
         super().setUp()
         shutil.copytree(ROOT / "examples", self.folder / "examples")
-        # No meter where curl doesn't write to a terminal.
-        self.write(".curlrc", "silent\nshow-error\n")
+        # No meter where curl doesn't write to a terminal, and no proxy of the machine.
+        self.write(".curlrc", 'silent\nshow-error\nnoproxy = "*"\n')
         self.environment = {**os.environ, "CURL_HOME": str(self.folder), "LC_ALL": "C.UTF-8"}
         with socket.create_server(("127.0.0.1", 0)) as probe:
             self.port = str(probe.getsockname()[1])
