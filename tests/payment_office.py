@@ -178,7 +178,7 @@ total         547.49
         for command, printed in shown:
             command = command.replace("127.0.0.1:8080", f"127.0.0.1:{self.server.port}")
             ran = subprocess.run(["bash", "-c", command], cwd=self.folder, timeout=60,
-                                 env={**os.environ, "LC_ALL": "C.UTF-8"},
+                                 env={**os.environ, "LC_ALL": "C.UTF-8", "no_proxy": "*"},
                                  stdout=subprocess.PIPE, stderr=subprocess.STDOUT)
             self.assertEqual(ran.stdout.decode(), printed, command)
         made, again = ((self.folder / name).read_text() for name in ("list-1.xml", "again.xml"))
