@@ -8,6 +8,7 @@ PROGRAM is crates/clear_app/out/clear_app where it isn't given, as `rt ci` leave
 
 import json
 import re
+import sqlite3
 import subprocess
 import sys
 
@@ -238,6 +239,40 @@ class Examples(Streams):
             said = bodies_of(self.send(server, b"".join(requests)))
             self.assertEqual(self.ended(server), (0, "served 1\n", ""))
         self.expect_example("A reminder run", said[-1])
+
+
+class Tables(Streams):
+    """A new store has the tables and indexes that docs/formats.md names, and no other ones."""
+
+    def setUp(self):
+        super().setUp()
+        self.init()
+        self.store = sqlite3.connect(self.folder / "fund.db")
+        self.addCleanup(self.store.close)
+        self.section = FORMATS[FORMATS.index("## The tables of a store"):FORMATS.index("### Looking into a store")]
+
+    def names(self, kind):
+        made = "SELECT name FROM sqlite_schema WHERE type = ? AND sql IS NOT NULL"
+        return {name for name, in self.store.execute(made, (kind,))}
+
+    def test_each_table(self):
+        told = dict(re.findall(r"^\| `(\w+)` \| ([^|]*;[^|]*) \|$", self.section, re.M))
+        self.assertEqual(told.keys(), self.names("table"))
+        for table, text in told.items():
+            key, rest = (re.findall(r"`(\w+)`", it) for it in re.sub(r"\([^)]*\)", "", text).split(";", 1))
+            empty = set(re.findall(r"`(\w+)` \([^)]*NULL", text))
+            columns = self.store.execute(f"PRAGMA table_info({table})").fetchall()
+            self.assertEqual([name for _, name, *_ in columns], key + rest, table)
+            self.assertEqual([name for _, name, *_, place in columns if place], key, table)
+            self.assertEqual({name for _, name, _, full, _, place in columns if not full and not place}, empty, table)
+
+    def test_each_index(self):
+        told = re.findall(r"^\| `(\w+)` \| `(\w+)` \((.*?)\) \|", self.section, re.M)
+        self.assertEqual({name for name, *_ in told}, self.names("index"))
+        for name, table, columns in told:
+            self.assertIn((table,), self.store.execute("SELECT tbl_name FROM sqlite_schema WHERE name = ?", (name,)))
+            found = [column for _, _, column in self.store.execute(f"PRAGMA index_info({name})")]
+            self.assertEqual(found, re.findall(r"\w+", columns))
 
 
 if __name__ == "__main__":
