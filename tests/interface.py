@@ -6,6 +6,7 @@ there, and sentences that no other script tries.
 PROGRAM is crates/clear_app/out/clear_app where it isn't given, as `rt ci` leaves it. The commands need bash and curl.
 """
 
+import contextlib
 import json
 import re
 import sqlite3
@@ -190,12 +191,42 @@ class Client(Streams):
 
 
 class Examples(Streams):
-    """Each document that docs/formats.md shows comes so, byte for byte."""
+    """Each document that docs/formats.md shows comes so, byte for byte, and each command is kept so."""
 
     def numbered(self, *commands, first=1):
         """The clerk's requests of these paths and bodies, with numbers from the first one on."""
         return [post(path, number, body if isinstance(body, str) else json.dumps(body))
                 for number, (path, body) in enumerate(commands, first)]
+
+    def kept(self, store, *requests):
+        """The bytes of the commands that a new store keeps of these requests, all of which are done."""
+        self.init(store)
+        server = self.serving(1, store=store)
+        said = bodies_of(self.send(server, b"".join(requests)))
+        self.assertEqual([body for body in said if "rule" in body], [])
+        self.assertEqual(self.ended(server), (0, "served 1\n", ""))
+        with contextlib.closing(sqlite3.connect(self.folder / store)) as opened:
+            return {command.decode() for command, in opened.execute("SELECT command FROM requests")}
+
+    def test_the_bytes_of_each_command(self):
+        rates = {"contribution": 1900, "due_day": 20, "entitlement": 1425, "from": "2025-03", "interest": 90, "report_day": 15}
+        firm = ("/employers", {"employer": 1001, "name": "Bau Nord", "start": "2024-01"})
+        lines = [{"worker": 7, "gross": 1_000_000}, {"worker": 8, "gross": 50_000}]
+        report, claim = "/employers/1001/reports/2024-01", ("/employers/1001/claims", {"worker": 7, "cents": 10_000})
+        file = HEADER + "B9,2024-03-01,,5000,,no number\n"
+        *_, correction = self.numbered((report, {"version": 1, "lines": [{"worker": 7, "gross": 500_000}]}), first=99)
+        kept = self.kept(
+            "fund.db", *self.numbered(
+                firm, (report, {"lines": lines}), ("/rates", rates), ("/bank", file), ("/reminders", ""), claim,
+                ("/assign", {"employer": 1001, "reference": "B9"}), ("/employers/1001/claims/1/withdraw", ""),
+                ("/employers/1001/end", {"last": "2024-02"})), correction.replace(b"POST", b"PUT"))
+        kept |= self.kept("other.db", *self.numbered(
+            firm, (report, {"lines": lines}), ("/bank", HEADER + "B1,2024-02-20,1001,210000,C,\n"),
+            ("/employers/1001/end", {"last": "2024-01"}), claim, ("/claims/1/release", ""), ("/payouts", "")))
+        told = re.findall(r"^\| [A-Z]\w+ \| `([^`]+)`", FORMATS[FORMATS.index("| Command | Bytes |"):], re.M)
+        self.assertEqual(len(told), 12)
+        for command in told:
+            self.assertIn(command + file if command == "bank " else command, kept)
 
     def firm(self, number, *months):
         """Its registration, and a report for each month from January on: a worker's wage, or nobody's."""
