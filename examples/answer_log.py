@@ -2,7 +2,7 @@
 
 Sends the requests of a file, one a line: method, path, number or `-`, and the body as JSON or
 nothing. Appends each to LOG with its answer and the time, as a line of JSON. What LOG has answered
-already is skipped, so the same command goes on with a batch that broke off, and tells all its
+already is skipped, so the same command goes on with a batch that broke off, and tells each of its
 refusals. A refusal is an answer, but neither that of a key that is nobody's (HTTP status 401), nor
 that of an office that could not do it (500 and above), nor one for the day on which the office is
 served (rules 10, 14 and 22): what had it is sent again.
@@ -40,30 +40,33 @@ def read_requests(path):
     return requests
 
 
-def logged_rule(entry):
-    """The rule of an answer in the log, 0 where the request was done. None where it is to be sent again, as
-    where an earlier build of this script took a page for an answer that no office gives."""
+def logged_refusal(entry):
+    """The refusal of an answer in the log, empty where the request was done. None where it is to be sent again,
+    as where an earlier build of this script took a page for an answer that no office gives."""
     status = int(entry["status"][:3])
     if stops(status):
         return None
     answer = Answer(status, entry["status"][4:], entry["answer"])
     try:
-        return None if answer.rule in OF_THE_DAY else answer.rule
+        return None if answer.rule in OF_THE_DAY else refusal_of(answer)
     except Fault:
         return None
 
 
+def refusal_of(answer):
+    return answer.refusal if answer.rule else ""
+
+
 def read_answered(log):
-    """By request whether each of its answers in the log is a refusal. A last line that broke off is taken
-    out."""
+    """By request the refusal of each of its answers in the log. A last line that broke off is taken out."""
     log.seek(0)
     *lines, rest = log.read().split(b"\n")
     answered = defaultdict(list)
     try:
         for entry in map(json.loads, lines):
-            rule = logged_rule(entry)
-            if rule is not None:
-                answered[entry["request"]].append(rule != 0)
+            refusal = logged_refusal(entry)
+            if refusal is not None:
+                answered[entry["request"]].append(refusal)
     except (KeyError, TypeError, ValueError):
         raise Fault(f"{log.name}: no answer log", 2) from None
     # Nothing is cut off a file that is something else.
@@ -75,11 +78,11 @@ def read_answered(log):
 
 
 def send(office, request, log):
-    """The answer to a request, which is in the log by then, and its rule. What no office answers is a Fault,
-    and not in the log."""
+    """The refusal of a request, empty where it is done; the answer is in the log by then. What no office
+    answers is a Fault, and not in the log."""
     line, method, target, number, body = request
     answer = office.ask(method, target, number, body)
-    rule = answer.rule
+    refusal = refusal_of(answer)
     entry = {
         "time": datetime.now().astimezone().isoformat(timespec="seconds"),
         "request": line,
@@ -88,27 +91,31 @@ def send(office, request, log):
     }
     log.write(json.dumps(entry, ensure_ascii=False).encode() + b"\n")
     log.flush()
-    return answer, rule
+    if stops(answer.status):
+        raise Fault(f"stopped: {refusal}", 1)
+    return refusal
 
 
 def send_all(office, requests, log):
-    """Sends what the log has not answered, and tells how many were sent, skipped and refused, also where a
-    Fault ends it. How many are refused."""
+    """Sends what the log has not answered, and tells each refusal, and how many were sent, skipped and refused
+    and are left, also where a Fault ends it. How many are refused."""
     answered = read_answered(log)
     sent = skipped = refused = 0
     try:
         for request in requests:
-            if answered[request[0]]:
+            line, method, target, number, _ = request
+            if answered[line]:
+                refusal = answered[line].pop(0)
                 skipped += 1
-                refused += answered[request[0]].pop(0)
-                continue
-            answer, rule = send(office, request, log)
-            sent += 1
-            refused += rule != 0
-            if stops(answer.status):
-                raise Fault(f"stopped: {answer.refusal}", 1)
+            else:
+                refusal = send(office, request, log)
+                sent += 1
+            if refusal:
+                refused += 1
+                print(f"{method} {target} {number or '-'}: {refusal}")
     finally:
-        print(f"sent: {sent}, skipped: {skipped}, refused: {refused}")
+        left = len(requests) - sent - skipped
+        print(f"sent: {sent}, skipped: {skipped}, refused: {refused}" + (f", left: {left}" if left else ""))
     return refused
 
 

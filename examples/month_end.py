@@ -92,7 +92,9 @@ def make_and_save(office, folder, kind, number, day):
     if answer.rule == kind.nothing:
         print(f"{kind.path[1:]}: {answer.refusal}")
         return
-    made = answer.done().members[kind.member]
+    if answer.rule:
+        raise Fault(f"{kind.path[1:]} under number {number}: {answer.refusal}", 1)
+    made = answer.members[kind.member]
     document = office.ask("GET", f"{kind.path}/{made}").done()
     stood = document.title is not None and file_of(folder, document.title).exists()
     title = save_and_tell(folder, document)

@@ -21,6 +21,7 @@ ADDRESS = re.compile(r"(127\.0\.0\.1|localhost):([0-9]{1,5})")
 KEY = re.compile(r"[!-~]{1,64}")
 # The first line of a document.
 TITLE = re.compile(r"[a-z]+( [0-9-]+)+")
+AGAIN = "run the same command again: nothing is done twice"
 # The members of what else an office answers: of a refusal, and of each reply.
 REFUSAL = {"detail", "name", "rule"}
 REPLIES = (
@@ -203,7 +204,12 @@ def run(script):
         sys.exit(script())
     except Fault as fault:
         print(fault, file=sys.stderr)
+        if fault.status == 3:
+            print(f"when the office answers, {AGAIN}", file=sys.stderr)
         sys.exit(fault.status)
+    except KeyboardInterrupt:
+        print(f"broken off; to go on, {AGAIN}", file=sys.stderr)
+        sys.exit(130)
     except OSError as why:
         print(why, file=sys.stderr)
         sys.exit(2)

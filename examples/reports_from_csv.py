@@ -1,9 +1,10 @@
-"""Usage: python3 examples/reports_from_csv.py ADDRESS KEYFILE NUMBER FILE
+"""Usage: python3 examples/reports_from_csv.py ADDRESS KEYFILE NUMBER FILE [VERSION]
 
 Reports months from a CSV file with the header `employer,month,worker,gross`, gross amounts in
 cents. The lines of one firm and month are one report. The reports have the numbers from NUMBER on,
 in the order in which they first appear. If a line is wrong, nothing is sent. The same file may be
-sent again under the same NUMBER, also after it broke off: each report is done once.
+sent again under the same NUMBER, also after it broke off: each report is done once. With VERSION
+the file has one report, all lines of its month, which is sent as the correction of this version.
 """
 
 import csv
@@ -66,14 +67,20 @@ def read_reports(text):
     return reports, faults
 
 
-def send(office, number, reports):
-    """Sends the reports, and tells each answer. How many are refused."""
+def send(office, number, reports, version):
+    """Sends the reports, or the correction of a version, and tells each answer. How many are refused."""
     refused = 0
     for sent, ((employer, month), wages) in enumerate(reports.items()):
-        lines = [{"gross": gross, "worker": worker} for worker, gross in wages.items()]
+        body = {"lines": [{"gross": gross, "worker": worker} for worker, gross in wages.items()]}
+        if version:
+            body["version"] = version
         path = f"/employers/{employer}/reports/{month}"
-        answer = office.ask("POST", path, number + sent, json.dumps({"lines": lines}))
-        if answer.rule == 0:
+        try:
+            answer = office.ask("PUT" if version else "POST", path, number + sent, json.dumps(body))
+            accepted = answer.rule == 0
+        except Fault as fault:
+            raise Fault(f"{fault}\n{len(reports) - sent} reports have no answer", fault.status) from fault
+        if accepted:
             reported = answer.members
             told = f"{euros(reported['charge'])} euros, version {reported['version']}"
         else:
@@ -90,13 +97,16 @@ def main():
         __doc__,
         ("number", {"type": request_number, "help": "the caller's next number"}),
         ("file", {"help": "the CSV file"}),
+        ("version", {"type": request_number, "nargs": "?", "help": "the version that is corrected"}),
     )
     reports, faults = read_reports(read_text(words.file))
+    if words.version and len(reports) != 1 and not faults:
+        faults.append(f"{len(reports)} reports; a correction is of one")
     if faults:
         print(*faults, f"{words.file}: nothing is sent", sep="\n", file=sys.stderr)
         return 2
     check_numbers(words.number, len(reports))
-    refused = send(Office(words.address, words.key), words.number, reports)
+    refused = send(Office(words.address, words.key), words.number, reports, words.version)
     print(f"reports: {len(reports)}, refused: {refused}")
     return 1 if refused else 0
 

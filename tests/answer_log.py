@@ -14,7 +14,7 @@ import threading
 
 # No __pycache__ is left beside the sources.
 sys.dont_write_bytecode = True
-from examples import REGISTRATION_LINE, REPORT_LINE, Scripts  # noqa: E402
+from examples import AGAIN, REGISTRATION_LINE, REPORT_LINE, Scripts  # noqa: E402
 from program import REGISTRATION  # noqa: E402
 from program_under_test import run_tests  # noqa: E402
 from serving import read_answer  # noqa: E402
@@ -29,9 +29,9 @@ class AnswerLog(Scripts):
         first = 'POST /employers 1 {"employer":1001,"name":"Bau Süd","start":"2024-01"}\n'
         self.write("batch", first + "GET /employers/1001/owed -\n" * 1_000 + REPORT_LINE)
         self.open_office(count=1)
-        fault = f"no answer from {self.address}: [Errno 111] Connection refused\n"
+        fault = f"no answer from {self.address}: [Errno 111] Connection refused\n{AGAIN}"
         said = self.script("answer_log", "batch", "log", status=3, errors=fault)
-        self.assertEqual(said, "sent: 1000, skipped: 0, refused: 0\n")
+        self.assertEqual(said, "sent: 1000, skipped: 0, refused: 0, left: 2\n")
         self.assertEqual(len(self.entries()), 1_000)
         with open(self.folder / "log", "a", encoding="utf-8") as log:
             log.write('{"time": "2024-')
@@ -49,17 +49,21 @@ class AnswerLog(Scripts):
     def test_refusals(self):
         self.open_office()
         self.write("batch", REPORT_LINE + "POST /payouts -\n")
+        refusals = ("POST /employers/1001/reports/2024-02 2: rule 11 UnknownEmployer\n"
+                    "POST /payouts -: rule 8 BadBody Request-Number\n")
         said = self.script("answer_log", "batch", "log", status=1)
-        self.assertEqual(said, "sent: 2, skipped: 0, refused: 2\n")
+        self.assertEqual(said, f"{refusals}sent: 2, skipped: 0, refused: 2\n")
         self.assertEqual([(it["status"], json.loads(it["answer"])["rule"]) for it in self.entries()],
                          [("409 Conflict", 11), ("400 Bad Request", 8)])
         # A refusal is an answer, and is told by each run.
-        self.assertEqual(self.script("answer_log", "batch", "log", status=1), "sent: 0, skipped: 2, refused: 2\n")
+        self.assertEqual(self.script("answer_log", "batch", "log", status=1),
+                         f"{refusals}sent: 0, skipped: 2, refused: 2\n")
         # A wrong key ends the batch, and the right one goes on with it.
         self.write("no.key", "nobody\n")
         self.write("batch", REGISTRATION_LINE + "GET /suspense -\n")
         fault = "stopped: rule 6 UnknownKey\n"
-        self.script("answer_log", "batch", "log", key="no.key", status=1, errors=fault)
+        said = self.script("answer_log", "batch", "log", key="no.key", status=1, errors=fault)
+        self.assertEqual(said, "sent: 0, skipped: 0, refused: 0, left: 2\n")
         self.assertEqual(self.script("answer_log", "batch", "log"), "sent: 2, skipped: 0, refused: 0\n")
 
     def test_what_the_day_refuses_is_sent_again(self):
@@ -69,7 +73,8 @@ class AnswerLog(Scripts):
         self.open_office("2024-04-29")
         # (the ledger day is the 30th)
         self.write("batch", 'POST /employers 2 {"employer":1002,"name":"Bau West","start":"2024-01"}\n')
-        self.assertEqual(self.script("answer_log", "batch", "log", status=1), "sent: 1, skipped: 0, refused: 1\n")
+        self.assertEqual(self.script("answer_log", "batch", "log", status=1),
+                         "POST /employers 2: rule 10 DayBack 2024-04-30\nsent: 1, skipped: 0, refused: 1\n")
         self.close_office()
         self.open_office()
         self.assertEqual(self.script("answer_log", "batch", "log"), "sent: 1, skipped: 0, refused: 0\n")
@@ -97,8 +102,8 @@ class AnswerLog(Scripts):
 
                 threading.Thread(target=answer, daemon=True).start()
                 told = page[9:page.index(b"\r")].decode()
-                said = self.script("answer_log", "batch", "log", status=3, errors=f"no answer of an office: {told}\n")
-                self.assertEqual((said, self.entries()), ("sent: 0, skipped: 0, refused: 0\n", []))
+                said = self.script("answer_log", "batch", "log", status=3, errors=f"no answer of an office: {told}\n{AGAIN}")
+                self.assertEqual((said, self.entries()), ("sent: 0, skipped: 0, refused: 0, left: 1\n", []))
         self.address = right
         self.assertEqual(self.script("answer_log", "batch", "log"), "sent: 1, skipped: 0, refused: 0\n")
 

@@ -31,6 +31,8 @@ import office  # noqa: E402
 
 CSV_HEADER = "employer,month,worker,gross\n"
 JANUARY = CSV_HEADER + "1001,2024-01,7,1000000\n"
+# Where no office answers.
+AGAIN = "when the office answers, run the same command again: nothing is done twice\n"
 REGISTRATION_LINE = 'POST /employers 1 {"employer":1001,"name":"Bau Nord","start":"2024-01"}\n'
 REPORT_LINE = 'POST /employers/1001/reports/2024-02 2 {"lines":[{"gross":100,"worker":8}]}\n'
 
@@ -378,7 +380,8 @@ class MonthEnd(Scripts):
         for key, number, said, errors in (
                 ("no.key", 2, "", "rule 6 UnknownKey\n"),
                 ("firm.key", 2, "statements: 1\n", "rule 7 NotYours\n"),
-                ("desk.key", 1, "statements: 1\nsuspense 2024-04-30: total 0.00\n", "rule 9 NumberReused\n")):
+                ("desk.key", 1, "statements: 1\nsuspense 2024-04-30: total 0.00\n",
+                 "reminders under number 1: rule 9 NumberReused\n")):
             printed = self.script("month_end", "april", number, 1001, key=key, status=1, errors=errors)
             self.assertEqual(printed, said)
 

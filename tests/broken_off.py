@@ -1,0 +1,95 @@
+"""What the scripts of `examples` say where they are broken off, refused on the way, or correct a report.
+
+    python3 tests/broken_off.py [PROGRAM]
+
+PROGRAM is crates/clear_app/out/clear_app where it isn't given, as `rt ci` leaves it.
+"""
+
+import signal
+import socket
+import subprocess
+import sys
+
+# No __pycache__ is left beside the sources.
+sys.dont_write_bytecode = True
+from examples import AGAIN, CSV_HEADER, JANUARY, REGISTRATION_LINE, REPORT_LINE, Scripts  # noqa: E402
+from program import REGISTRATION  # noqa: E402
+from program_under_test import run_tests  # noqa: E402
+
+
+class BrokenOff(Scripts):
+    def setUp(self):
+        super().setUp()
+        self.write("batch", REGISTRATION_LINE + "GET /suspense -\n")
+        self.write("wages.csv", JANUARY + "1001,2024-02,7,1000000\n")
+
+    def test_the_office_is_away(self):
+        with socket.create_server(("127.0.0.1", 0)) as listener:
+            self.address = f"127.0.0.1:{listener.getsockname()[1]}"
+        fault = f"no answer from {self.address}: [Errno 111] Connection refused\n"
+        for name, words, more, said in (
+                ("month_end", ["april", 2, 1001], "", ""),
+                ("reports_from_csv", [1, "wages.csv"], "2 reports have no answer\n", ""),
+                ("answer_log", ["batch", "log"], "", "sent: 0, skipped: 0, refused: 0, left: 2\n")):
+            self.assertEqual(self.script(name, *words, status=3, errors=f"{fault}{more}{AGAIN}"), said)
+
+    def test_control_c(self):
+        """It is told without a trace of the program, with what is to be done."""
+        said = "broken off; to go on, run the same command again: nothing is done twice\n"
+        for name, words, told in (("month_end", ["april", 2, 1001], ""), ("reports_from_csv", [1, "wages.csv"], ""),
+                                  ("answer_log", ["batch", "log"], "sent: 0, skipped: 0, refused: 0, left: 2\n")):
+            with socket.create_server(("127.0.0.1", 0)) as silent:
+                self.address = f"127.0.0.1:{silent.getsockname()[1]}"
+                # Where this is run in the background, SIGINT is ignored, which the script would inherit.
+                running = subprocess.Popen(
+                    self.command(name, *words), cwd=self.folder, stdout=subprocess.PIPE, stderr=subprocess.PIPE,
+                    text=True, preexec_fn=lambda: signal.signal(signal.SIGINT, signal.default_int_handler))
+                with running, silent.accept()[0] as peer:
+                    peer.recv(1)
+                    running.send_signal(signal.SIGINT)
+                    self.assertEqual(running.communicate(timeout=60), (told, said))
+                self.assertEqual(running.returncode, 130)
+
+    def test_a_number_of_a_month_end_that_is_taken(self):
+        """The run is made, and it is told that the list isn't."""
+        self.open_office()
+        self.write("batch", REGISTRATION_LINE.replace(" 1 ", " 3 "))
+        self.script("answer_log", "batch", "log")
+        said = self.script("month_end", "april", 2, 1001, status=1,
+                           errors="payouts under number 3: rule 9 NumberReused\n")
+        self.assertTrue(said.endswith("\nreminders 1 2024-04-30: firms 1\n"), said)
+
+    def test_a_batch_tells_its_refusals(self):
+        self.open_office()
+        self.write("batch", REPORT_LINE + REGISTRATION_LINE + "GET /payouts/5 -\n")
+        refusals = ("POST /employers/1001/reports/2024-02 2: rule 11 UnknownEmployer\n"
+                    "GET /payouts/5 -: rule 33 UnknownDocument\n")
+        self.assertEqual(self.script("answer_log", "batch", "log", status=1),
+                         f"{refusals}sent: 3, skipped: 0, refused: 2\n")
+        # Those of the log too.
+        self.assertEqual(self.script("answer_log", "batch", "log", status=1),
+                         f"{refusals}sent: 0, skipped: 3, refused: 2\n")
+
+
+class Corrections(Scripts):
+    def test_a_correction(self):
+        self.open_office()
+        self.ask_desk(REGISTRATION)
+        self.write("wages.csv", JANUARY)
+        self.script("reports_from_csv", 1, "wages.csv", key="firm.key")
+        self.write("better.csv", CSV_HEADER + "1001,2024-01,7,500000\n1001,2024-01,8,250025\n")
+        told = "2 1001 2024-01: 1500.05 euros, version 2\nreports: 1, refused: 0\n"
+        for _ in range(2):
+            self.assertEqual(self.script("reports_from_csv", 2, "better.csv", 1, key="firm.key"), told)
+        said = self.script("reports_from_csv", 3, "wages.csv", 1, key="firm.key", status=1)
+        self.assertEqual(said, "3 1001 2024-01: rule 16 StaleVersion 2\nreports: 1, refused: 1\n")
+
+    def test_a_correction_is_of_one_report(self):
+        for lines, count in (("", 0), ("1001,2024-01,7,1\n1001,2024-02,7,1\n", 2)):
+            self.write("wages.csv", CSV_HEADER + lines)
+            self.refuses_to_start(f"{count} reports; a correction is of one\nwages.csv: nothing is sent\n",
+                                  "reports_from_csv", 1, "wages.csv", 1)
+
+
+if __name__ == "__main__":
+    run_tests()
