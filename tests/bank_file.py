@@ -128,7 +128,8 @@ class Good(BankFiles):
             self.makes(LATIN.replace("UTF-8", "UTF-16").encode(f"utf-16-{byte_order}"), LATIN_LINES)
 
     def test_no_booked_credit(self):
-        self.assertEqual(self.makes(one("5.00", "5.00"), []), "written: 0 lines, 0.00 EUR\n")
+        self.assertEqual(self.makes(one("5.00", "5.00"), []),
+                         f"written: 0 lines, 0.00 EUR\n{S1}: balance 5.00 EUR to 5.00 EUR\n")
 
     def test_days(self):
         entries = [payment("0.01", reference="D-1", value="<Dt>2000-01-01+01:00</Dt>"),
@@ -373,7 +374,7 @@ class LeftOut(BankFiles):
             "left out in all, other currency: 1, 5.00 JPY",
             "left out in all, amount of 0: 2, 0.00 EUR",
             "written: 1 line, 80.00 EUR", "  without a firm: 1 line, 80.00 EUR",
-            "  value dates 2024-04-30 to 2024-04-30"])
+            "  value dates 2024-04-30 to 2024-04-30", f"{S1}: balance 100.00 EUR to 176.00 EUR"])
 
     def test_transfers_of_the_fund_that_came_back(self):
         code = "<BkTxCd><Domn><Cd>PMNT</Cd><Fmly><Cd>ICDT</Cd><SubFmlyCd>RRTN</SubFmlyCd></Fmly></Domn></BkTxCd>"

@@ -33,7 +33,7 @@ class Statement:
     def check(self) -> None:
         """Refuses a statement of which a page is missing, or whose balances and entries disagree."""
         self.check_page_numbers()
-        opening, closing = self.balance("opening", OPENING), self.balance("closing", CLOSING)
+        opening, closing = self.balances()
         if opening.currency != closing.currency:
             raise self.refusal(f"its balances are in {opening.currency} and {closing.currency}")
         balance = opening.amount
@@ -44,6 +44,10 @@ class Statement:
             made = Money(balance, opening.currency)
             raise self.refusal(f"the opening balance {opening} and the booked entries make {made}, "
                                f"but the closing balance is {closing}")
+
+    def balances(self) -> tuple[Money, Money]:
+        """The opening and the closing balance."""
+        return self.balance("opening", OPENING), self.balance("closing", CLOSING)
 
     def check_page_numbers(self) -> None:
         numbers = [page.number for page in self.pages]
