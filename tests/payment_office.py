@@ -10,6 +10,7 @@ worked out by hand.
 import os
 import re
 import shutil
+import signal
 import socket
 import subprocess
 import sys
@@ -58,6 +59,19 @@ class Peers(Tool):
         request, *fields = self.asked.removesuffix("\r\n\r\n").split("\r\n")
         self.assertEqual(request, "GET /payouts/7 HTTP/1.1")
         self.assertIn("Office-Key: desk", fields)
+
+    def test_control_c(self):
+        with socket.create_server(("127.0.0.1", 0)) as silent:
+            words = ["--office", f"127.0.0.1:{silent.getsockname()[1]}", "--key-file", "desk.key", "--number", "7"]
+            # Where this is run in the background, SIGINT is ignored, which the tool would inherit.
+            running = subprocess.Popen(
+                [TOOL, *words, *self.words[2:]], cwd=self.folder, stdout=subprocess.PIPE, stderr=subprocess.PIPE,
+                text=True, preexec_fn=lambda: signal.signal(signal.SIGINT, signal.default_int_handler))
+            with running, silent.accept()[0] as peer:
+                peer.recv(1)
+                running.send_signal(signal.SIGINT)
+                self.assertEqual(running.communicate(timeout=60), ("", "broken off\n"))
+            self.assertEqual(running.returncode, 130)
 
     def test_what_is_no_answer_of_an_office(self):
         for answer, fault in (
