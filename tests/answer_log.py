@@ -102,7 +102,8 @@ class AnswerLog(Scripts):
 
                 threading.Thread(target=answer, daemon=True).start()
                 told = page[9:page.index(b"\r")].decode()
-                said = self.script("answer_log", "batch", "log", status=3, errors=f"no answer of an office: {told}\n{AGAIN}")
+                said = self.script("answer_log", "batch", "log", status=3,
+                                   errors=f"no answer of an office: {told}\n{AGAIN}")
                 self.assertEqual((said, self.entries()), ("sent: 0, skipped: 0, refused: 0, left: 1\n", []))
         self.address = right
         self.assertEqual(self.script("answer_log", "batch", "log"), "sent: 1, skipped: 0, refused: 0\n")
