@@ -20,7 +20,8 @@ WRONG_HEADER = "record 1: the header has to be reference,value_date,employer,cen
 OWN_EXPORT = "this looks like a bank's own export: its fields are parted by ;\n"
 DAYS = "a day is written YYYY-MM-DD: 2024-04-01 for 01.04.2024\n"
 CENTS = "cents are whole numbers: 1500 for 15,00 or 15.00\n"
-LATIN = "this text is Latin-1 or the like; the office reads UTF-8\n"
+XML = "this is a bank's statement in XML: tools/bank-file makes a bank file of it\n"
+LATIN = "this text is Latin-1, UTF-16 or the like; the office reads UTF-8\n"
 
 
 class Checked(ProgramUnderTest):

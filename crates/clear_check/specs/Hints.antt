@@ -10,9 +10,11 @@ when applies line = if applies then line else []
 -- a line for each hint that applies
 unfoldable pub hint_lines : Hints → List ℕ
 hint_lines hints = concat (
-    when hints.semicolons
+    when hints.xml
+    (codes "this is a bank's statement in XML: tools/bank-file makes a bank file of it\n")
+    ∷ when hints.semicolons
     (codes "this looks like a bank's own export: its fields are parted by ;\n")
     ∷ when hints.pointed_day (codes "a day is written YYYY-MM-DD: 2024-04-01 for 01.04.2024\n")
     ∷ when hints.parted_amount (codes "cents are whole numbers: 1500 for 15,00 or 15.00\n")
-    ∷ when hints.other_text (codes "this text is Latin-1 or the like; the office reads UTF-8\n")
+    ∷ when hints.other_text (codes "this text is Latin-1, UTF-16 or the like; the office reads UTF-8\n")
     ∷ [])

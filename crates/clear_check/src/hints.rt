@@ -12,6 +12,8 @@ use std::str;
 /// What a bank file looks like that isn't taken.
 #[derive(Clone, Copy)]
 pub struct Hints {
+    /// It is a statement of the bank in XML, as banks give it.
+    pub xml: bool,
     /// Its fields are parted by semicolons.
     pub semicolons: bool,
     /// A day is written as 01.04.2024.
@@ -30,6 +32,10 @@ impl Hints {
     {
         let parts = [
             when(
+                self.xml,
+                "this is a bank's statement in XML: tools/bank-file makes a bank file of it\n",
+            ),
+            when(
                 self.semicolons,
                 "this looks like a bank's own export: its fields are parted by ;\n",
             ),
@@ -43,7 +49,7 @@ impl Hints {
             ),
             when(
                 self.other_text,
-                "this text is Latin-1 or the like; the office reads UTF-8\n",
+                "this text is Latin-1, UTF-16 or the like; the office reads UTF-8\n",
             ),
         ];
         joined(alloc, &parts)
@@ -64,8 +70,10 @@ pub(crate) fn hints_of(
     records: &[ByteRecord],
     fault: BankFault,
 ) -> Result<Hints, AllocError> {
+    let xml = is_xml(bytes);
     let mut hints = Hints {
-        semicolons: has_semicolons(bytes),
+        xml,
+        semicolons: !xml && has_semicolons(bytes),
         pointed_day: false,
         parted_amount: false,
         other_text: str::from_utf8(bytes).is_err(),
@@ -77,6 +85,12 @@ pub(crate) fn hints_of(
         look_at_field(&mut hints, record_at(records, line), field);
     }
     Ok(hints)
+}
+
+// The first sign, behind a byte order mark and spaces, is that of XML.
+fn is_xml(bytes: &[u8]) -> bool {
+    let text = bytes.strip_prefix(b"\xEF\xBB\xBF").unwrap_or(bytes);
+    text.trim_ascii_start().starts_with(b"<")
 }
 
 // In the header, or in the whole file, more semicolons stand than commas.
