@@ -36,11 +36,11 @@ class Stops(program.Program):
                 self.assertEqual(self.ended(server), (-ended, "", ""), number)
 
     def test_no_descriptors(self):
-        """Where the system gives no connections any more, serving ends, and says that it isn't done."""
+        """Where the system gives no connections for 10 seconds, serving ends, and says that it isn't done."""
         self.init()
         # Three streams, the store, its log and the listener are all that may be open.
         server = self.serving(1_000_000, preexec_fn=lambda: resource.setrlimit(resource.RLIMIT_NOFILE, (6, 6)))
-        self.assertEqual(self.ended(server), (3, "", "fault net\n" * 11))
+        self.assertEqual(self.ended(server), (3, "", "fault net\n" * 101))
 
     def test_a_stopped_program_goes_on(self):
         self.init()

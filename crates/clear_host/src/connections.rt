@@ -27,9 +27,10 @@ use clear_money::days::Day;
 use clear_office::office::Office;
 use clear_wire::counted::Counted;
 use sqlite::Alter;
-use std::io;
 use std::io::Write;
 use std::net::{TcpListener, TcpStream};
+use std::time::Duration;
+use std::{io, thread};
 
 /// How serving ended.
 #[derive(Clone, Copy)]
@@ -42,8 +43,11 @@ pub enum Ended {
     NoConnections,
 }
 
-// How often the system may refuse a connection, one time after another.
-const FAILURES: u32 = 10;
+// How often the system may refuse a connection, one time after another, and how many milliseconds pass
+// after each time.
+const FAILURES: u32 = 100;
+
+const PAUSE: u64 = 100;
 
 /// How serving ended, and the error writer's first fault.
 #[derive(Drop)]
@@ -72,7 +76,8 @@ struct Talked {
 ///
 /// Each connection that is taken counts. Before it is served, the store has to stand at its path, with
 /// its log beside it: where one has gone, nothing more is served. One that the system refuses, as for
-/// want of descriptors, counts, too; after ten in turn nothing more is served.
+/// want of descriptors, counts, too, and takes a tenth of a second; after a hundred in turn nothing more
+/// is served.
 ///
 /// A peer has 30 seconds for a request, and 10 for each read and each write. Without a request its
 /// connection may stay open for 30 seconds, or until another one waits; a new one is left a second
@@ -101,7 +106,7 @@ pub fn serve_connections<S: Alter, E: Write>(
     let mut next = None;
     let mut failures = 0;
     for served in 0..count {
-        let accepted = accept(listener, next);
+        let accepted = accept(rt, listener, next);
         if !store.stands() {
             return Serving {
                 ended: Ended::StoreGone,
@@ -127,13 +132,21 @@ pub fn serve_connections<S: Alter, E: Write>(
     }
 }
 
-// The connection that was taken already, or else the next one that comes.
-fn accept(listener: &TcpListener, taken: Option<TcpStream>) -> io::Result<TcpStream> {
+// The connection that was taken already, or else the next one that comes. Where the system refuses it at
+// once, some time passes, in which it may find what it wants.
+fn accept(
+    rt: &HostRuntime,
+    listener: &TcpListener,
+    taken: Option<TcpStream>,
+) -> io::Result<TcpStream> {
     match taken {
         Some(stream) => Ok(stream),
         None => match listener.accept() {
             Ok((stream, _peer)) => Ok(stream),
-            Err(error) => Err(error),
+            Err(error) => {
+                thread::sleep(rt, Duration::from_millis(PAUSE));
+                Err(error)
+            }
         },
     }
 }
