@@ -7,7 +7,8 @@
 -- reports and the rates, payments beside the bank lines that have a firm and the set-offs of
 -- releases, pieces beside contributions and payments, and what is open of a contribution, with its
 -- weight, beside the pieces. Of a claim the three parts of its release have to come to it, and a
--- payout list has to have the claims that are on it, with their sum.
+-- payout list has to have the claims that are on it, with their sum. Behind these, `requests` has what
+-- the tables count and what the accepted requests come to, as where a part is of another book.
 
 SELECT 'contribution', employer, printf('%d-%02d', 2000 + month / 12, month % 12 + 1),
   CASE WHEN sum(side) > 0 THEN 'kept' ELSE 'recomputed' END, date(due * 86400, 'unixepoch'), cents
@@ -87,3 +88,33 @@ FROM (
   UNION ALL
   SELECT list, NULL, count(*), sum(paid), -1 FROM claims WHERE list IS NOT NULL GROUP BY list)
 GROUP BY no, items, total HAVING sum(side) <> 0;
+
+WITH request AS (SELECT kind, a, b, CAST(substr(command, 1, 9) AS TEXT) AS begin FROM requests)
+SELECT 'requests', what, 'kept', kept, 'recomputed', recomputed FROM (
+  SELECT 'requests' AS what, entries AS kept, (SELECT count(*) FROM requests) AS recomputed FROM meta
+  UNION ALL
+  SELECT 'ledger day', date(day * 86400, 'unixepoch'),
+    (SELECT date(max(day) * 86400, 'unixepoch') FROM requests) FROM meta
+  UNION ALL
+  SELECT 'firms', count(*), (SELECT count(*) FROM request WHERE begin LIKE 'employer %') FROM employers
+  UNION ALL
+  SELECT 'ends', count(last), (SELECT count(*) FROM request WHERE begin LIKE 'end %') FROM employers
+  UNION ALL
+  -- Each report has the version 1, and each correction the next one.
+  SELECT 'reports', coalesce(sum(version), 0), (SELECT count(*) FROM request WHERE kind = 2) FROM reports
+  UNION ALL
+  SELECT 'bank lines', count(*), (SELECT coalesce(sum(a), 0) FROM request WHERE kind = 3) FROM bank
+  UNION ALL
+  SELECT 'claims', count(*), (SELECT count(*) FROM request WHERE kind = 4) FROM claims
+  UNION ALL
+  SELECT 'withdrawals', coalesce(sum(state = 1), 0), (SELECT count(*) FROM request WHERE begin LIKE 'withdraw%')
+    FROM claims
+  UNION ALL
+  SELECT 'releases', coalesce(sum(state = 2), 0), (SELECT count(*) FROM request WHERE kind = 5) FROM claims
+  UNION ALL
+  SELECT 'lists', count(*), (SELECT count(*) FROM request WHERE kind = 6) FROM lists
+  UNION ALL
+  SELECT 'runs', count(*), (SELECT count(*) FROM request WHERE kind = 7) FROM runs
+  UNION ALL
+  SELECT 'reminders', count(*), (SELECT coalesce(sum(b), 0) FROM request WHERE kind = 7) FROM reminders)
+WHERE kept IS NOT recomputed;

@@ -21,6 +21,7 @@ sys.dont_write_bytecode = True
 from program_under_test import ROOT, ProgramUnderTest, run_tests  # noqa: E402
 
 DAY = "2024-04-10"
+DAY_SERVED = "2024-04-30"
 JANUARY, FEBRUARY = 24 * 12, 24 * 12 + 1
 HEADER = "reference,value_date,employer,cents,purpose,note\n"
 FIRMS = range(1001, 1301)
@@ -278,7 +279,7 @@ class Pieces(ProgramUnderTest):
 
     def one_firm(self, *steps):
         self.init()
-        server = self.serving(1_000, "2024-04-30")
+        server = self.serving(1_000, DAY_SERVED)
         self.connect(server).close()
         office = Office(server, [1001])
         firm = office.firms[1001]
@@ -440,7 +441,7 @@ class Pieces(ProgramUnderTest):
             with self.subTest(statement):
                 self.write("fund.db", whole)
                 self.change(statement)
-                rows = self.recomputed()
+                rows = [row for row in self.recomputed() if row[0] != "requests"]
                 self.assertEqual({row[1] for row in rows}, {1001})
                 self.assertEqual(Counter((kind, when) for kind, _, when, *_ in rows), told)
 
@@ -492,13 +493,14 @@ class Pieces(ProgramUnderTest):
         for statement, told in {
             "UPDATE claims SET paid = paid + 1 WHERE no = 1": {("release", 1001), ("list", 1)},
             "UPDATE claims SET cents = cents + 1 WHERE no = 2": {("release", 1001)},
-            "UPDATE claims SET state = 1 WHERE no = 1": {("release", 1001)},
+            "UPDATE claims SET state = 1 WHERE no = 1": {
+                ("release", 1001), ("requests", "releases"), ("requests", "withdrawals")},
             "UPDATE claims SET paid = paid + 1, to_interest = to_interest - 1 WHERE no = 2": {
                 ("payment", 1001), ("list", 1)},
             "UPDATE claims SET list = NULL WHERE no = 2": {("list", 1)},
             "UPDATE claims SET list = 2 WHERE no = 2": {("list", 1), ("list", 2)},
             "UPDATE lists SET no = 2": {("list", 1), ("list", 2)},
-            "DELETE FROM lists": {("list", 1)},
+            "DELETE FROM lists": {("list", 1), ("requests", "lists")},
             "UPDATE lists SET items = 3": {("list", 1)},
             "UPDATE lists SET total = total + 100000": {("list", 1)},
         }.items():
@@ -507,6 +509,50 @@ class Pieces(ProgramUnderTest):
                 self.change(statement)
                 self.assertEqual({row[:2] for row in self.recomputed()}, told)
 
+    def test_what_is_told_of_the_requests(self):
+        """What the tables count is set beside what the accepted requests come to."""
+        self.one_firm(
+            lambda office, firm: office.report(firm, 1, 1_000_000),
+            lambda office, firm: office.bank([(firm, "2024-02-25", 150_000, "C")]),
+            lambda office, firm: office.done("POST", "/reminders"),
+            lambda office, firm: office.done("POST", "/employers/1001/end", '{"last":"2024-06"}'))
+        self.assertEqual(self.recomputed(), [])
+        whole = (self.folder / "fund.db").read_bytes()
+        for statement, told in {
+            "UPDATE meta SET entries = entries + 1": {("requests", 6, 5)},
+            "UPDATE meta SET day = day - 1": {("ledger day", "2024-04-29", DAY_SERVED)},
+            "INSERT INTO employers VALUES (1002, 'Bau', 288, NULL)": {("firms", 2, 1)},
+            "UPDATE employers SET last = NULL": {("ends", 0, 1)},
+            "UPDATE reports SET version = 2": {("reports", 2, 1)},
+            "DELETE FROM requests WHERE kind = 2": {("requests", 5, 4), ("reports", 1, 0)},
+            "INSERT INTO bank VALUES ('B7', 7, 0, NULL, NULL, 1, 'C', '')": {("bank lines", 2, 1)},
+            "INSERT INTO claims VALUES (1, 1001, 7, 1, 0, 0, NULL, 0, 0, 0, NULL)": {("claims", 1, 0)},
+            "DELETE FROM runs": {("runs", 0, 1)},
+            "DELETE FROM reminders": {("reminders", 0, 1)},
+        }.items():
+            with self.subTest(statement):
+                self.write("fund.db", whole)
+                self.change(statement)
+                rows = [row for row in self.recomputed() if row[0] == "requests"]
+                self.assertEqual({(what, kept, other) for _, what, _, kept, _, other in rows}, told)
+
+    def test_what_is_told_of_a_backup_beside_an_old_log(self):
+        """It opens as if nothing were wrong, and the firm's report isn't there any more."""
+        self.one_firm()
+        backup = (self.folder / "fund.db").read_bytes()
+        self.expect_done(*report(1001, "2024-01", 500_000))
+        server = self.serving(1_000, DAY_SERVED)
+        self.connect(server).close()
+        office = Office(server, [])
+        office.sent = 2_000
+        office.done(*register(1002))
+        office.connection.close()
+        server.kill()
+        server.communicate()
+        self.write("fund.db", backup)
+        self.assertEqual(self.run_program("look", "fund.db")[1].splitlines()[2:6:3], ["requests 3", "reports 0"])
+        self.assertEqual(self.recomputed(), [("requests", "reports", "kept", 0, "recomputed", 1)])
+
     def change(self, statement):
         store = sqlite3.connect(self.folder / "fund.db")
         store.execute(statement)
@@ -514,7 +560,7 @@ class Pieces(ProgramUnderTest):
         store.close()
 
     def expect_done(self, method, path, body):
-        server = self.serving(1_000, "2024-04-30")
+        server = self.serving(1_000, DAY_SERVED)
         self.connect(server).close()
         office = Office(server, [])
         office.sent = 1_000
