@@ -394,6 +394,22 @@ class Faults(Launcher):
             (self.folder / it).rename(self.bin / it)
         self.builds()
 
+    def test_a_kit_that_is_broken(self):
+        """It can't build; what it built before runs all the same."""
+        version = self.state / "version"
+        version.rename(self.state / "away")
+        self.fails("rt doesn't say its version")
+        self.assertFalse(self.kit.exists())
+        (self.state / "away").rename(version)
+        self.builds()
+        version.rename(self.state / "away")
+        self.runs()
+        self.assertEqual(self.calls(), [])
+        self.change("crates.txt")
+        self.fails("rt doesn't say its version")
+        (self.state / "away").rename(version)
+        self.builds()
+
     def test_a_program_that_cannot_be_run(self):
         self.runs()
         self.program.write_text("#!/no/such/shell\n")
