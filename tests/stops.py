@@ -11,6 +11,7 @@ import resource
 import signal
 import socket
 import sqlite3
+import struct
 import sys
 import time
 
@@ -19,7 +20,7 @@ sys.dont_write_bytecode = True
 import program  # noqa: E402
 from program import BANK, FEBRUARY, HEADER, JANUARY, REGISTRATION, post  # noqa: E402
 from program_under_test import DAY, run_tests  # noqa: E402
-from serving import OWED, ask, connect_when_ready  # noqa: E402
+from serving import OWED, ask, connect_when_ready, read_answer  # noqa: E402
 
 SECOND = '{"employer":1002,"name":"Bau Süd","start":"2024-01"}'
 
@@ -80,6 +81,29 @@ class Stops(program.Program):
         server.send_signal(signal.SIGSTOP)
         time.sleep(0.2)
         server.send_signal(signal.SIGCONT)
+
+    def test_a_window_that_is_stopped(self):
+        """As by Ctrl-S: what is told waits until it goes on, and so do the clients."""
+        self.init()
+        window, inside = os.openpty()
+        server = self.serving(2, stderr=inside)
+        with self.connect(server) as peer:
+            self.assertIn(b'{"done":true}', ask(peer, REGISTRATION))
+            os.write(window, b"\x13")
+            time.sleep(0.2)
+            # A reset, of which the office tells.
+            peer.setsockopt(socket.SOL_SOCKET, socket.SO_LINGER, struct.pack("ii", 1, 0))
+        with self.connect(server) as other:
+            other.sendall(OWED)
+            other.settimeout(1)
+            self.assertRaises(TimeoutError, other.recv, 1)
+            os.write(window, b"\x11")
+            other.settimeout(30)
+            self.assertIn(b'"charged":0', read_answer(other))
+        self.assertEqual(server.communicate(timeout=60), (b"served 2\n", None))
+        self.assertEqual(os.read(window, 1_000).splitlines()[1:], [b"fault net"])
+        os.close(inside)
+        os.close(window)
 
     def test_the_same_port_again(self):
         self.init()
