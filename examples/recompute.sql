@@ -89,16 +89,16 @@ FROM (
   SELECT list, NULL, count(*), sum(paid), -1 FROM claims WHERE list IS NOT NULL GROUP BY list)
 GROUP BY no, items, total HAVING sum(side) <> 0;
 
-WITH request AS (SELECT kind, a, b, CAST(substr(command, 1, 9) AS TEXT) AS begin FROM requests)
+WITH request AS (SELECT kind, a, b, CAST(substr(command, 1, 9) AS TEXT) AS verb FROM requests)
 SELECT 'requests', what, 'kept', kept, 'recomputed', recomputed FROM (
   SELECT 'requests' AS what, entries AS kept, (SELECT count(*) FROM requests) AS recomputed FROM meta
   UNION ALL
   SELECT 'ledger day', date(day * 86400, 'unixepoch'),
     (SELECT date(max(day) * 86400, 'unixepoch') FROM requests) FROM meta
   UNION ALL
-  SELECT 'firms', count(*), (SELECT count(*) FROM request WHERE begin LIKE 'employer %') FROM employers
+  SELECT 'firms', count(*), (SELECT count(*) FROM request WHERE verb LIKE 'employer %') FROM employers
   UNION ALL
-  SELECT 'ends', count(last), (SELECT count(*) FROM request WHERE begin LIKE 'end %') FROM employers
+  SELECT 'ends', count(last), (SELECT count(*) FROM request WHERE verb LIKE 'end %') FROM employers
   UNION ALL
   -- Each report has the version 1, and each correction the next one.
   SELECT 'reports', coalesce(sum(version), 0), (SELECT count(*) FROM request WHERE kind = 2) FROM reports
@@ -107,7 +107,7 @@ SELECT 'requests', what, 'kept', kept, 'recomputed', recomputed FROM (
   UNION ALL
   SELECT 'claims', count(*), (SELECT count(*) FROM request WHERE kind = 4) FROM claims
   UNION ALL
-  SELECT 'withdrawals', coalesce(sum(state = 1), 0), (SELECT count(*) FROM request WHERE begin LIKE 'withdraw%')
+  SELECT 'withdrawals', coalesce(sum(state = 1), 0), (SELECT count(*) FROM request WHERE verb LIKE 'withdraw%')
     FROM claims
   UNION ALL
   SELECT 'releases', coalesce(sum(state = 2), 0), (SELECT count(*) FROM request WHERE kind = 5) FROM claims
