@@ -235,6 +235,12 @@ class Bank(Checked):
         self.fault(export, said, OWN_EXPORT + DAYS + CENTS)
         self.fault(export.encode("cp1252"), said, OWN_EXPORT + DAYS + CENTS + LATIN)
 
+    def test_a_banks_statement(self):
+        statement = self.example("bank-statement.xml")
+        said = WRONG_HEADER + "it has 1 field"
+        self.fault(statement, said, XML)
+        self.fault(b"\xef\xbb\xbf\n " + statement, said, XML)
+
     def test_semicolons_in_place_of_commas(self):
         lines = (HEADER + LINE).replace(",", ";")
         self.fault(lines, WRONG_HEADER + "it has 1 field", OWN_EXPORT)
