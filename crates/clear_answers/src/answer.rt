@@ -9,7 +9,7 @@ ghost use Rattle.clear_answers.specs.Said.{refused_by};
 ghost use Rattle.clear_answers.specs.Answer.{framing_status, status_by, status_of, carried_text};
 ghost use Rattle.clear_answers.specs.Answer.{detail_of, quoted, refused_body, reply_body};
 ghost use Rattle.clear_answers.specs.Answer.{query_body, body_of, content_type, allow_field};
-ghost use Rattle.clear_answers.specs.Answer.{further_field, close_field, sent_body, first_lines};
+ghost use Rattle.clear_answers.specs.Answer.{further_field, first_lines};
 ghost use Rattle.clear_answers.specs.Answer.{answer_of, head_of};
 
 use crate::said::{Extra, Refused, Said};
@@ -274,18 +274,6 @@ fn further_field(alloc: Global, said: &Said) -> Result<Vec<u8>, AllocError>
     }
 }
 
-fn close_field(close: bool) -> &'static [u8]
-    ensures { result.now ≡ close_field close }
-{
-    if close { b"Connection: close\r\n" } else { b"" }
-}
-
-fn sent_body(bare: bool, body: &[u8]) -> &[u8]
-    ensures { result.now ≡ sent_body bare body.now }
-{
-    if bare { b"" } else { body }
-}
-
 /// The lines up to the length of the body.
 #[tactic(auto, unfolding(crate::specs::Answer::first_lines))]
 fn first_lines(alloc: Global, said: &Said, length: usize) -> Result<Vec<u8>, AllocError>
@@ -308,7 +296,8 @@ fn head_of(alloc: Global, said: &Said, length: usize, close: bool) -> Result<Vec
     let further = further_field(alloc, said)?;
     let mut head = first_lines(alloc, said, length)?;
     head.extend_from_slice(further.as_slice())?;
-    head.extend_from_slice(close_field(close))?;
+    let closing: &[u8] = if close { b"Connection: close\r\n" } else { b"" };
+    head.extend_from_slice(closing)?;
     head.extend_from_slice(b"\r\n")?;
     Ok(head)
 }
@@ -367,7 +356,10 @@ fn append_answer(
     let head = head_of(*out.allocator(), said, body.len(), close)?;
     let before = out.len();
     out.extend_from_slice(head.as_slice())?;
-    match out.extend_from_slice(sent_body(bare, body)) {
+    if bare {
+        return Ok(());
+    }
+    match out.extend_from_slice(body) {
         Ok(()) => Ok(()),
         Err(error) => {
             out.truncate(before);

@@ -1,19 +1,106 @@
 -- Of a desk: what is served by what it says, over a book, and whatever the records hold.
-use Rattle.std.proofs.Common.{◌≡◌, ℕ, Bool, false, List, [], ◌++◌, Option, Result, Ok, Err, IfOk, IfErr, subst}
+use Rattle.std.proofs.Common.{◌≡◌, ◌∙◌, ℕ, inl, inr, Bool, true, false, true≢false, List, [], ◌++◌, Option, Result, Ok, Err, IfOk, IfErr, refl, sym, ap, subst}
 use Rattle.sqlite.specs.Store.{Ghosts}
+use Rattle.clear_book.specs.declared.calls.Call.{Call}
+use Rattle.clear_book.specs.declared.calls.Call.TheVariants.{Ask, Do}
+use Rattle.clear_book.specs.declared.calls.Caller.{Caller}
+use Rattle.clear_book.specs.declared.calls.Command.{Command}
+use Rattle.clear_book.specs.declared.calls.Query.{Query}
+use Rattle.clear_book.specs.declared.outcomes.Answer.{Answer}
+use Rattle.clear_book.specs.declared.outcomes.Reply.{Reply}
+use Rattle.clear_book.specs.declared.rules.Rule.{Rule}
+use Rattle.clear_book.specs.declared.rules.StoreCause.{StoreCause}
+use Rattle.clear_book.specs.Calls.{may_do, may_query}
+use Rattle.clear_book.specs.declared.outcomes.Outcome.{Outcome}
+use Rattle.clear_book.specs.declared.outcomes.Outcome.TheVariants.{Refused}
+use Rattle.clear_book.specs.declared.rules.Rule.TheVariants.{Failed, Memory, NotYours, Store}
 use Rattle.clear_book.specs.Book.{Book}
-use Rattle.clear_book.specs.Machine.{IsLawful}
-use Rattle.clear_office.specs.Office.{AtOffice, IsHonest, Keeps}
+use Rattle.clear_book.specs.Machine.{IsLawful, is_allowed}
+use Rattle.clear_office.specs.Office.{Acts, AtOffice, IsHonest, Keeps, MayLeave, Steps, TellsStoreFault, answered, replied}
+use Rattle.clear_answers.specs.Said.{refused_by, said_of}
 use Rattle.clear_callers.specs.Callers.{KeyOf}
 use Rattle.clear_routes.specs.Reading.{Reads}
 use Rattle.clear_http.specs.Desk.{MaySay, MayServe}
 use Rattle.clear_http.specs.Guarded.{Guards}
-use Rattle.clear_http.specs.Serve.{Serves, ServesPart}
+use Rattle.clear_wire.specs.Head.{Heading}
+use Rattle.clear_http.specs.Serve.{ends_stream, Serves, ServesPart, was_done}
 use Rattle.clear_http.specs.declared.serve.ServeFault.{ServeFault}
 use Rattle.clear_http.specs.declared.serve.Served.{Served}
 use Rattle.clear_http.specs.Served.{IsServed, IsServedPart}
-use Rattle.clear_http.proofs.GuardedLemmas.{serves_as, serves_part_as}
-use Rattle.clear_http.proofs.ServedLemmas.{served, served_part}
+use Rattle.clear_http.proofs.GuardedLemmas.{guards_call, serves_as, serves_part_as, stays_unless}
+use Rattle.clear_http.proofs.ServeLemmas.{not_ending}
+use Rattle.clear_http.proofs.ServedLemmas.{goes_on_undone, served, served_part}
+
+-- what the office does with a call
+pub record Taken {S : Type 0} (g : Ghosts S) (old : AtOffice S) (call : Call) (outcome : Outcome) (new : AtOffice S) : Type 0 where
+  pub acts : Acts g old call outcome new
+  pub clean : IsHonest g new → IsHonest g old
+  pub access : old.failed ≡ false → is_allowed call ≡ false → (outcome ≡ Refused NotYours) × (new ≡ old)
+  pub told : old.failed ≡ false → new.failed ≡ true → TellsStoreFault outcome
+
+module _ {S : Type 0} (g : Ghosts S) (old new : AtOffice S) (clean : IsHonest g new → IsHonest g old) where
+  pub taken_command : (caller : Caller) (number day : ℕ) (command : Command) (result : Result Reply Rule)
+      → Steps g old (Do caller number day command) (replied result) new → MayLeave g old (Do caller number day command) new
+      → (old.failed ≡ false → may_do caller command ≡ false → (result ≡ Err NotYours) × (new ≡ old))
+      → (old.failed ≡ false → new.failed ≡ true → (cause : StoreCause) × (result ≡ Err (Store cause)))
+      → (old.failed ≡ true → (result ≡ Err Failed) × (new ≡ old))
+      → Taken g old (Do caller number day command) (replied result) new
+  taken_command caller number day command result steps leaves access told failed = record {
+    acts = record { steps = steps; leaves = leaves; stays = λ was. (failed was).1 };
+    clean = clean;
+    access = λ working denied. (let it = access working denied in (ap replied it.0, it.1));
+    told = λ working fails. (let it = told working fails in (it.0, ap replied it.1));
+  }
+
+  pub taken_query : (caller : Caller) (day : ℕ) (query : Query) (result : Result Answer Rule)
+      → Steps g old (Ask caller day query) (answered result) new → MayLeave g old (Ask caller day query) new
+      → (old.failed ≡ false → may_query caller query ≡ false → (result ≡ Err NotYours) × (new ≡ old))
+      → (old.failed ≡ false → new.failed ≡ true → (cause : StoreCause) × (result ≡ Err (Store cause)))
+      → (old.failed ≡ true → (result ≡ Err Failed) × (new ≡ old))
+      → Taken g old (Ask caller day query) (answered result) new
+  taken_query caller day query result steps leaves access told failed = record {
+    acts = record { steps = steps; leaves = leaves; stays = λ was. (failed was).1 };
+    clean = clean;
+    access = λ working denied. (let it = access working denied in (ap answered it.0, it.1));
+    told = λ working fails. (let it = told working fails in (it.0, ap answered it.1));
+  }
+
+-- so much may be said to the request that reads as it
+module _ {S : Type 0} (g : Ghosts S) (keys : List KeyOf) (day : ℕ) (heading : Heading) (body : List ℕ) (old new : AtOffice S) (call : Call) (outcome : Outcome)
+    (here : Reads keys day heading body (Ok call)) (taken : Taken g old call outcome new) where
+  stays : is_allowed call ≡ false → new ≡ old
+  stays denied = by old.failed refl
+    where
+      by : (f : Bool) → old.failed ≡ f → new ≡ old
+      by false is = (taken.access is denied).1
+      by true is = taken.acts.stays is
+
+  goes_on : old.failed ≡ false → ends_stream (said_of outcome) ≡ false → new.failed ≡ false
+  goes_on working none = by new.failed refl
+    where
+      by : (f : Bool) → new.failed ≡ f → new.failed ≡ false
+      by false is = is
+      by true is = absurd (true≢false (sym (ap (λ (o : Outcome). ends_stream (said_of o)) (taken.told working is).1) ∙ none))
+
+  pub call_said : MaySay g keys day old heading body (said_of outcome) new
+  call_said = (
+    taken.clean,
+    inl (Ok call, here, (outcome, refl, taken.acts)),
+    (
+      guards_call keys day heading body old.failed call (said_of outcome) new.failed here (λ working denied. ap said_of (taken.access working denied).0) goes_on,
+      stays_unless keys day heading body old new call here stays,
+    ),
+  )
+
+  pub call_forgotten : was_done (said_of outcome) ≡ false → MaySay g keys day old heading body (refused_by Memory) new
+  call_forgotten none = (
+    taken.clean,
+    inr (refl, goes_on_undone g old new call outcome none taken.acts.steps, taken.acts.stays),
+    (
+      (λ working. ((λ call there denied. inr refl), λ _. goes_on working (not_ending (said_of outcome) none))),
+      stays_unless keys day heading body old new call here stays,
+    ),
+  )
 
 module _ {S : Type 0} (g : Ghosts S) (keys : List KeyOf) (day : ℕ) where
   pub desk_served : (old : AtOffice S) → old.failed ≡ false → (bytes written written' : Option (List ℕ)) (new : AtOffice S) (done : Served)

@@ -1,19 +1,16 @@
 //! The desk: an office with the keys of its callers, on one day. It answers the requests of a
 //! stream.
 ghost use Rattle.std.specs.Prelude.{◌≡◌, ◌≢◌, ◌+◌, ◌≤◌, false, true, IfOk, IfErr};
-ghost use Rattle.clear_book.specs.declared.outcomes.Outcome.{Outcome};
-ghost use Rattle.clear_book.specs.declared.rules.Rule.TheVariants.{NotYours as not_yours};
 ghost use Rattle.clear_book.specs.Book.{Book};
-ghost use Rattle.clear_book.specs.Machine.{IsLawful, is_allowed};
-ghost use Rattle.clear_office.specs.Office.{Acts, IsHonest, Keeps, StaysFailed};
-ghost use Rattle.clear_answers.specs.Said.{refused_by, said_of};
+ghost use Rattle.clear_book.specs.Machine.{IsLawful};
+ghost use Rattle.clear_office.specs.Office.{IsHonest, Keeps};
 ghost use Rattle.clear_wire.specs.Counted.{inner, has_failed, reads_of};
 ghost use Rattle.clear_wire.specs.Limits.{read_limit};
 ghost use Rattle.clear_routes.specs.Reading.{Reads};
 ghost use Rattle.clear_http.specs.Desk.{MayServe};
 ghost use Rattle.clear_http.specs.Guarded.{Guards};
-ghost use Rattle.clear_http.specs.Serve.{ends_stream, was_done, Serves, ServesPart, TellsFailed};
-ghost use Rattle.clear_http.specs.Served.{KeepsOn, IsServed, IsServedPart};
+ghost use Rattle.clear_http.specs.Serve.{Serves, ServesPart, TellsFailed};
+ghost use Rattle.clear_http.specs.Served.{IsServed, IsServedPart};
 
 use crate::serve::{Fault, Responder, ServeFault, Served, serve_stream, tell_failed};
 use clear_answers::said::{Refused, Said};
@@ -44,40 +41,25 @@ impl<S: Alter> Responder<Office<S>> for Desk<'_> {
     ghost responds = { λ self. MaySay S.Store self.directory.now self.day };
 
     fn reply(&self, office: &mut Office<S>, request: &Request) -> Said {
-        match find_call(self.alloc, self.routes, self.directory, self.day, request) {
-            Ok(call) => answer_call(office, &call),
-            Err(refused) => Said::No(refused),
+        let call = match find_call(self.alloc, self.routes, self.directory, self.day, request) {
+            Ok(call) => call,
+            Err(refused) => return Said::No(refused),
+        };
+        match &call {
+            Call::Do {
+                caller,
+                number,
+                day,
+                command,
+            } => match office.submit(*caller, *number, *day, command) {
+                Ok(reply) => Said::Reply(reply),
+                Err(rule) => Said::No(Refused::by(rule)),
+            },
+            Call::Ask { caller, day, query } => match office.ask(*caller, *day, query) {
+                Ok(answer) => Said::Answer(answer),
+                Err(rule) => Said::No(Refused::by(rule)),
+            },
         }
-    }
-}
-
-// Hands a call to the office, and says what it replies or answers.
-fn answer_call<S: Alter>(office: &mut Office<S>, call: &Call) -> Said
-    ensures said { (outcome : Outcome) × (result ≡ said_of outcome)
-        × Acts S.Store office.old call.now outcome office.new }
-    ensures access { office.old.failed ≡ false → is_allowed call.now ≡ false
-        → (result ≡ refused_by not_yours) × (office.new ≡ office.old) }
-    ensures stays { is_allowed call.now ≡ false → office.new ≡ office.old }
-    ensures told { office.old.failed ≡ false → ends_stream result ≡ false
-        → office.new.failed ≡ false }
-    ensures failed { StaysFailed office.old office.new }
-    ensures undone { was_done result ≡ false → KeepsOn S.Store office.old office.new }
-    ensures clean { IsHonest S.Store office.new → IsHonest S.Store office.old }
-{
-    match call {
-        Call::Do {
-            caller,
-            number,
-            day,
-            command,
-        } => match office.submit(*caller, *number, *day, command) {
-            Ok(reply) => Said::Reply(reply),
-            Err(rule) => Said::No(Refused::by(rule)),
-        },
-        Call::Ask { caller, day, query } => match office.ask(*caller, *day, query) {
-            Ok(answer) => Said::Answer(answer),
-            Err(rule) => Said::No(Refused::by(rule)),
-        },
     }
 }
 

@@ -76,10 +76,11 @@ pub struct ServeFault {
     pub answered: u64,
 }
 
-// What follows an item that was answered: so many requests may come, or, where a rule of the stream
-// ended it, unread bytes.
+// How an item is answered, and what follows it: whether its answer has no body, and so many requests
+// may come, or, where a rule of the stream ended it, unread bytes.
 #[derive(Clone, Copy)]
 struct Behind {
+    bare: bool,
     after: u32,
     unread: bool,
 }
@@ -151,50 +152,34 @@ fn was_done(said: &Said) -> bool
     matches!(said, Said::Reply(_)) || ends_stream(said)
 }
 
-// How many requests may follow a request to which this is said.
-fn left_behind(request: &Request, said: &Said, left: u32) -> u32
-    requires { 0 < left }
-    ensures { result ≡ left_then left (whole (heading request.now.head) request.now.body.items)
-        said.now }
-{
-    if ends_stream(said) || request.head.closes {
-        0
-    } else {
-        left - 1
-    }
-}
-
-// What follows an item to which this is said.
+// How an item is answered to which this is said, and what follows it.
 fn what_follows(item: &Item, said: &Said, left: u32) -> Behind
     requires { 0 < left }
+    ensures bare { result.bare ≡ is_bare (next_item item.now) }
     ensures after { result.after ≡ left_then left (next_item item.now) said.now }
     ensures unread { result.unread ≡ is_bad (next_item item.now) }
     ensures falls { result.after < left }
 {
     match item {
         Item::Whole(request) => Behind {
-            after: left_behind(request, said, left),
+            bare: request.head.method.is_head(),
+            after: if ends_stream(said) || request.head.closes {
+                0
+            } else {
+                left - 1
+            },
             unread: false,
         },
-        Item::Bad { .. } => Behind {
+        Item::Bad { bare, .. } => Behind {
+            bare: *bare,
             after: 0,
             unread: true,
         },
         Item::End => Behind {
+            bare: false,
             after: 0,
             unread: false,
         },
-    }
-}
-
-// Whether the answer to an item has no body.
-fn is_bare(item: &Item) -> bool
-    ensures { result ≡ is_bare (next_item item.now) }
-{
-    match item {
-        Item::Whole(request) => request.head.method.is_head(),
-        Item::Bad { bare, .. } => *bare,
-        Item::End => false,
     }
 }
 
@@ -267,8 +252,7 @@ fn turn<T, H: Responder<T>, R: NotedRead, W: Write>(
         Item::End => return Ok(None),
     };
     let behind = what_follows(&item, &said, left);
-    let bare = is_bare(&item);
-    match write_answer(&said, behind.after == 0, bare, buffer, writer) {
+    match write_answer(&said, behind.after == 0, behind.bare, buffer, writer) {
         Ok(()) => Ok(Some(behind)),
         Err(fault) => Err(fault),
     }

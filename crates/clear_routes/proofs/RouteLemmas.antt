@@ -3,7 +3,7 @@ use Rattle.std.proofs.Common.{◌≡◌, ◌≢◌, ℕ, List, Option, Some, Non
 use Rattle.std.specs.Str.{IsAscii}
 use Rattle.clear_wire.specs.declared.method.Method.{Method}
 use Rattle.clear_wire.specs.declared.method.Method.TheVariants as method
-use Rattle.clear_routes.specs.Allowed.{Allows, HasRouteWith, IsUnrouted}
+use Rattle.clear_routes.specs.Allowed.{Allows, HasRoute, HasRouteWith, IsUnrouted}
 use Rattle.clear_routes.specs.Kinds.{kinds_in, AreOfKinds, spellings, parameters}
 use Rattle.clear_routes.specs.Laws.{OnePath, OneRoute}
 use Rattle.clear_routes.specs.Methods.{action_for, allow_of}
@@ -72,6 +72,9 @@ module _ (path : Path) (row : Row) (texts : List (List ℕ)) (target : List ℕ)
       none h.1 (subst (λ (r : Row). AreOfKinds (kinds_in r.kinds) h.1) row_is h.2.range) (ap (λ (r : Row). spellings (kinds_in r.kinds) h.1) (sym row_is) ∙ one.1)
 
 -- ---- routes
+
+pub no_route : (target : List ℕ) → ¬ (HasPath target) → ¬ (HasRoute target)
+no_route target none h = none (h.1.1.place.path, h.1.1.place.values, h.1.1.place.at)
 
 one_place : (m n : Methods) (a b : Parameters) (target : List ℕ) → IsPlace m a target → IsPlace n b target → (m ≡ n) × (a ≡ b)
 one_place m n a b target x y =

@@ -83,19 +83,8 @@ pub(crate) fn path_at<'t>(router: &Router<Row>, target: &'t [u8]) -> Option<Foun
     let Ok(text) = str::from_utf8(target) else {
         return None;
     };
-    path_of_text(router, text)
-}
-
-/// The same of a text. The router tells what parameters are only where they are text.
-fn path_of_text<'t>(router: &Router<Row>, target: &'t str) -> Option<Found<'t>>
-    requires { (router.now ≡ router_table) × IsAscii target.now }
-    ensures found { IfSome result (λ found.
-        (path : Path) × IsListed paths path × (path.1 ≡ found.row)
-        × Fits (pattern path.0) (texts_in found.texts) target.now) }
-    ensures only { IfNone result ((path : Path) (values : List (List ℕ))
-        → IsListed paths path → ¬ (Fits (pattern path.0) values target.now)) }
-{
-    match router.at(target) {
+    // The router tells what parameters are only where they are text.
+    match router.at(text) {
         Ok(found) => {
             let texts = texts_of(&found.params);
             Some(Found {

@@ -1,25 +1,17 @@
 //! The routes of the office, found by method and target.
-ghost use Rattle.std.specs.Prelude.{◌≡◌, IfOk, IfErr, IfSome, IfNone};
+ghost use Rattle.std.specs.Prelude.{◌≡◌, IfOk, IfErr};
 ghost use Rattle.matchit.specs.declared.error.InsertError.TheVariants.{OutOfMemory};
 ghost use Rattle.clear_routes.specs.Allowed.{IsUnrouted};
-ghost use Rattle.clear_routes.specs.Routes.{IsRoute, IsPlace, HasPath};
+ghost use Rattle.clear_routes.specs.Routes.{IsRoute};
 ghost use Rattle.clear_routes.specs.Table.{router_table};
 
-use crate::methods::Methods;
-use crate::parameters::{Parameters, parameters_in};
+use crate::parameters::parameters_in;
 use crate::paths::{path_at, router_over_paths};
 use crate::route::{Route, Unrouted};
 use crate::table::Row;
 use clear_wire::method::Method;
 use matchit::{InsertError, Router};
 use std::alloc::Global;
-
-/// The methods of a path and its parameters.
-#[derive(Clone, Copy)]
-struct Place {
-    methods: Methods,
-    parameters: Parameters,
-}
 
 /// The routes of the office.
 #[derive(Drop)]
@@ -43,33 +35,16 @@ impl Routes {
         ensures found { IfOk result (λ route. IsRoute method target.now route) }
         ensures only { IfErr result (λ unrouted. IsUnrouted method target.now unrouted) }
     {
-        let Some(place) = self.place(target) else {
+        let Some(found) = path_at(&self.router, target) else {
             return Err(Unrouted::NoRoute);
         };
-        match place.methods.action(method) {
-            Some(action) => Ok(Route {
-                action,
-                parameters: place.parameters,
-            }),
-            None => Err(Unrouted::BadMethod(place.methods.allow())),
-        }
-    }
-
-    /// The methods and the parameters of a target.
-    fn place(&self, target: &[u8]) -> Option<Place>
-        ensures found { IfSome result (λ place.
-            IsPlace place.methods place.parameters target.now) }
-        ensures only { IfNone result (¬ (HasPath target.now)) }
-    {
-        let Some(found) = path_at(&self.router, target) else {
-            return None;
-        };
         let Some(parameters) = parameters_in(found.row.kinds, found.texts) else {
-            return None;
+            return Err(Unrouted::NoRoute);
         };
-        Some(Place {
-            methods: found.row.methods,
-            parameters,
-        })
+        let methods = found.row.methods;
+        match methods.action(method) {
+            Some(action) => Ok(Route { action, parameters }),
+            None => Err(Unrouted::BadMethod(methods.allow())),
+        }
     }
 }

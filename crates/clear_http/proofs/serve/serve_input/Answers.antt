@@ -10,7 +10,7 @@ pub turns-preserved : goal.turns-preserved
 turns-preserved g c =
     let falls = rw c.in-Ok-Some.field-0-is at c.in-Ok-Some.ensures.falls in
     record {
-      progress = progress_more (g.H.Responder.responds c.args.responder.now) _ _ _ _ _ _ _ _ c.turns.invariant.progress c.turns-test.true _ _ _ _ (rw c.in-Ok-Some.field-0-is at c.in-Ok-Some.ensures.answered);
+      progress = progress_more (g.H.Responder.responds c.args.responder.now) _ _ _ _ _ _ _ _ c.turns.invariant.progress c.turns-test.true _ _ c.in-Ok-Some.behind _ (rw c.in-Ok-Some.field-0-is at c.in-Ok-Some.ensures.answered);
       borrow = c.in-Ok-Some.ensures.borrow ∙ c.turns.invariant.borrow;
       counts = omega (arith, c.in-Ok-Some.ensures.counts, c.turns.invariant.counts);
       reader = c.in-Ok-Some.ensures.reader (λ h. cc) ∙ c.turns.invariant.reader;

@@ -24,7 +24,7 @@ returns-in-Ok-write_answer-clause-answered g c =
     let f = c.what_follows-behind.ensures in
     let w = c.in-Ok-write_answer.ensures.wrote in
     let told = says (g.H.Responder.responds c.args.responder.now) c.args.state.now p wanted w.0 c.match-item.state e.1 e.2 w.3 in
-    let same = same_answer c.args.left p wanted w.0 c.is_bare-bare.result behind.after c.is_bare-bare.ensures f.after w.3 in (
+    let same = same_answer c.args.left p wanted w.0 behind.bare behind.after f.bare f.after w.3 in (
       p,
       w.0,
       e.0,
@@ -49,7 +49,7 @@ returns-clause-fault g c =
     let f = c.what_follows-behind.ensures in
     let w = c.in-Err-write_answer.ensures.wrote in
     let told = says (g.H.Responder.responds c.args.responder.now) c.args.state.now p wanted w.0 c.match-item.state e.1 e.2 w.3 in
-    let same = same_answer c.args.left p wanted w.0 c.is_bare-bare.result behind.after c.is_bare-bare.ensures f.after w.3 in (
+    let same = same_answer c.args.left p wanted w.0 behind.bare behind.after f.bare f.after w.3 in (
       p ∷ [],
       w.0 ∷ [],
       w.1,
