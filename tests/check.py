@@ -237,9 +237,9 @@ class Bank(Checked):
 
     def test_a_banks_statement(self):
         statement = self.example("bank-statement.xml")
-        said = WRONG_HEADER + "it has 1 field"
+        said = WRONG_HEADER + 'its field 1 is <?xml version="1.0" encoding="UTF-8"?>'
         self.fault(statement, said, XML)
-        self.fault(b"\xef\xbb\xbf\n " + statement, said, XML)
+        self.fault(b"\xef\xbb\xbf" + statement, said, XML)
 
     def test_semicolons_in_place_of_commas(self):
         lines = (HEADER + LINE).replace(",", ";")
