@@ -208,10 +208,12 @@ class Firms(BankFiles):
                 ["IBAN DE89 3704 0044", "0532 0130 00"], ["IBAN DE12 50", "01 0517 0648 4898 90"],
                 ["IBAN D", "E12 5001 0517 0648 4898 90"], ["bis 24. Apr", "il"], ["Ma", "i 24"], ["Feb", ". 24"],
                 ["1001 Eur", "o"], "7 EUR 12. 5. 2024", "Mai/24. 5. 2024", "5/1992 EUR 7",
-                "DE89370400440532013000 24. 5. 2024", "DE89370400440532013000 EUR 1001")
+                "DE89370400440532013000 24. 5. 2024", "DE89370400440532013000 EUR 1001",
+                "Betrieb 1001\n7", "Betrieb 1001\r\n  7", "Betrieb 1001&#x200b;7", "Betrieb 1001&#xad;7",
+                "Ma\ni 24")
         known = ("1001 / 03/2024", "1001/Mai 24", "Mai/1001", "Betrieb 1001 - EUR 500", "1001, 12.04.2024",
                  "KW24 Betrieb 1001", ["Beitrag 03/2024,", "Betrieb 1001"], ["Nr.", "1001", "-Mai"],
-                 ["EUR 500", "Betrieb 1001", "Mai 24"])
+                 ["EUR 500", "Betrieb 1001", "Mai 24"], "Beitrag\nBetrieb 1001\nMai 24")
         texts = [*none, *known]
         entries = [payment("1.00", text, "", STRANGE, f"N-{at}") for at, text in enumerate(texts)]
         output, _ = self.made(one("0", str(len(texts)), *entries))
@@ -229,7 +231,8 @@ class Firms(BankFiles):
             self.assertEqual((status, output.splitlines()[1].split(",")[2]), (0, firm), (text, told))
 
     def test_interest_by_a_word(self):
-        for text in ("Zinsen", "ZINSEN", "für Zinsen, Mai", "Zinsen/Mai", ["Mai und Zin", "sen"]):
+        for text in ("Zinsen", "ZINSEN", "für Zinsen, Mai", "Zinsen/Mai", ["Mai und Zin", "sen"], "Zin\nsen",
+                     "Zin&#xad;sen"):
             self.finds("", text, purpose="I")
         for text in ("Verzugszinsen", "Zins en", "Zinsen2"):
             self.finds("", text)
@@ -386,6 +389,12 @@ class LeftOut(BankFiles):
         taken_back = entry("1.00", direction="DBIT").replace("<BkTxCd/>", code)
         self.assertIn("left out in all, returned payment (a debit): 1, 1.00 EUR\n",
                       self.makes(one("1.00", "0", taken_back), []))
+        # Direct debits, and what only Germany's number says; then codes and numbers of others.
+        back, other = ("UPDD", "RCDD", "PRDD", "NDDT+181+00931", "NTRF+159"), ("ESDD", "NTRF+166+159", "159")
+        for code in (*back, *other):
+            own = f"<Domn><Fmly><SubFmlyCd>{code}</SubFmlyCd></Fmly></Domn><Prtry><Cd>{code}</Cd></Prtry>"
+            coded = payment("1.00", reference="A").replace("<BkTxCd/>", f"<BkTxCd>{own}</BkTxCd>")
+            self.makes(one("0", "1.00", coded), [] if code in back else ["A,2024-04-30,,100,C,"])
         # The transfer itself is a debit as others.
         out = entry("1.00", transaction("", "", "", ACCOUNT, "A", "L1-C1"), direction="DBIT")
         self.assertIn("left out in all, debit: 1, 1.00 EUR\n", self.makes(one("1.00", "0", out), []))

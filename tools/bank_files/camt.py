@@ -12,7 +12,7 @@ from datetime import date
 from decimal import Decimal
 from xml.etree.ElementTree import Element
 
-from .texts import Fault, plain, shown
+from .texts import UNSHOWN, Fault, plain, shown
 from .xml_text import read_root
 
 NAMESPACE = "urn:iso:std:iso:20022:tech:xsd:"
@@ -33,8 +33,10 @@ DIRECTIONS = {"CRDT": True, "DBIT": False}
 NO_REFERENCE = re.compile("NON-?REF|NOT ?PROVIDED|NONE|0+", re.IGNORECASE)
 # The end-to-end references of tools/payment-file.
 OF_A_PAYOUT = re.compile("L[1-9][0-9]{0,7}-C[1-9][0-9]{0,7}")
-# The bank's codes of a transfer that came back: undeliverable, or recalled.
-CAME_BACK = ("RRTN", "RPCR")
+# The bank's codes of what came back: a transfer that was undeliverable or recalled; a direct debit that wasn't
+# paid, was recalled or reversed. German banks have numbers for the same.
+CAME_BACK = ("RRTN", "RPCR", "UPDD", "RCDD", "PRDD")
+CAME_BACK_IN_GERMANY = re.compile(r"[A-Z]{4}\+(108|109|159|181|184)(\+.*)?", re.DOTALL)
 FLAGS = {"": False, "false": False, "0": False, "true": True, "1": True}
 
 
@@ -241,7 +243,9 @@ def is_part(transactions: tuple[Transaction, ...], whole: Money) -> bool:
 
 def read_transaction(node: Node, credited_account: str | None) -> Transaction:
     """A transaction of an entry, which credits an account or doesn't."""
-    texts = [plain(it.own_text()) for path in REMITTANCE for it in node.parts(path)]
+    parts = (it.own_text() for path in REMITTANCE for it in node.parts(path))
+    # Where a line ends, or a sign without a width stands, a number may go on as where one part follows another.
+    texts = [plain(piece) for part in parts for piece in UNSHOWN.split(part)]
     end_to_end = read_reference(node, "Refs/EndToEndId")
     iban = node.text("RltdPties/DbtrAcct/Id/IBAN")
     # A credit from the account itself, or with the reference of a payout, is a transfer that came back.
@@ -258,7 +262,8 @@ def read_transaction(node: Node, credited_account: str | None) -> Transaction:
 
 
 def came_back(node: Node) -> bool:
-    return node.text("BkTxCd/Domn/Fmly/SubFmlyCd") in CAME_BACK
+    own = node.text("BkTxCd/Prtry/Cd")
+    return node.text("BkTxCd/Domn/Fmly/SubFmlyCd") in CAME_BACK or bool(CAME_BACK_IN_GERMANY.fullmatch(own))
 
 
 def read_credited(node: Node) -> Money | None:
