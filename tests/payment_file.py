@@ -98,6 +98,11 @@ def in_euros(cents):
     return f"{cents // 100}.{cents % 100:02}"
 
 
+def iban_of(account):
+    """A German account's IBAN; its check digits come of the number with DE00 behind it, D being 13, E 14."""
+    return f"DE{98 - int(f'{account:018}131400') % 97:02}{account:018}"
+
+
 def summary(count, total, day="2024-05-02"):
     return f"payments {count}, total {total} euros, on {day}, message PAYOUT-7-2024-05-02\n"
 
@@ -284,7 +289,7 @@ class Names(Tool):
                 "A" * 70: "A" * 70,
             "ß" * 35: "s" * 70,
         }
-        rows = [f'{at},DE89370400440532013000,"{name}"\n' for at, name in enumerate(names, 1)]
+        rows = [f'{at},{iban_of(at)},"{name}"\n' for at, name in enumerate(names, 1)]
         self.write("accounts.csv", HEADER + "".join(rows))
         self.write_list(*((at, 100) for at in range(1, len(names) + 1)))
         made = self.make(*self.words, told=summary(len(names), f"{len(names)}.00"))
@@ -318,6 +323,19 @@ class Tables(Tool):
         self.write("accounts.csv", HEADER + "1001, ,Bau Nord & Söhne\n" + OST)
         self.refuse(1, "employer 77: isn't in the table\n"
                        "employer 1001 Bau Nord + Soehne: has no IBAN in the table\n", *self.words)
+
+    def test_the_funds_own_iban(self):
+        """What is transferred to the account that it leaves reaches no firm."""
+        self.write("accounts.csv", HEADER + NORD + "1004,DE02 1203 0000 0000 2020 51,Bau Ost\n")
+        self.refuse(1, "employer 1004 Bau Ost: has the fund's own IBAN in the table\n", *self.words)
+
+    def test_an_iban_of_two_names(self):
+        """An account has one name: one of the lines was copied wrongly."""
+        self.write("accounts.csv", HEADER + NORD + OST + "77,at61 1904 3002 3457 3201,Bau West\n")
+        told = "employer 1004 Bau Ost: its IBAN stands in the table as that of Bau West, too\n"
+        self.refuse(1, told, *self.words)
+        self.write("accounts.csv", HEADER + NORD + OST + "77,AT611904300234573201, Bau  Ost\n")
+        self.make(*self.words)
 
     def test_tables_as_spreadsheets_write_them(self):
         rows = HEADER + '"1001","DE89370400440532013000","Bau Nord GmbH"\n\n' + OST
