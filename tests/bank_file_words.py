@@ -7,6 +7,7 @@ needs.
 """
 
 import os
+import signal
 import stat
 import subprocess
 import sys
@@ -165,6 +166,17 @@ class CommandLine(BankFiles):
         with open("/dev/full", "wb") as full:
             status, _, told = self.tool(*self.words, stdout=full)
         self.assertEqual((status, told), (2, "[Errno 28] No space left on device\n"))
+
+    def test_control_c(self):
+        os.mkfifo(self.folder / "slow")
+        # Where this is run in the background, SIGINT is ignored, which the tool would inherit.
+        running = subprocess.Popen(
+            [TOOL, "slow", *self.words[1:]], cwd=self.folder, stdout=subprocess.PIPE, stderr=subprocess.PIPE, text=True,
+            preexec_fn=lambda: signal.signal(signal.SIGINT, signal.default_int_handler))
+        with running, open(self.folder / "slow", "wb"):
+            running.send_signal(signal.SIGINT)
+            self.assertEqual(running.communicate(timeout=60), ("", "broken off\n"))
+        self.assertEqual(running.returncode, 130)
 
     def test_words(self):
         status, output, _ = self.tool("--help")

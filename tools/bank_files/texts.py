@@ -17,6 +17,8 @@ class Status(IntEnum):
     DONE = 0
     REFUSED = 1
     UNREADABLE = 2
+    # As a shell tells of Ctrl-C.
+    BROKEN_OFF = 130
 
 
 class Fault(Exception):
