@@ -492,6 +492,9 @@ class Words(Tool):
         office = ("--office", "127.0.0.1:8080", "--key-file", "desk.key", "--number", "7")
         rest, together = self.words[2:], "--office needs --key-file and --number, and --list has neither\n"
         self.refuse(2, "one of the arguments --list --office is required\n", *rest)
+        self.refuse(2, "--list has no --office-user\n", *self.words, "--office-user", "root")
+        self.refuse(2, "argument --office-user: 'no user' is no user of this machine\n", *office, *rest,
+                    "--office-user", "no user")
         self.refuse(2, "argument --office: not allowed with argument --list\n", *self.words, *office)
         for words in (office[:4], office[:2] + office[4:], ("--list", "list.txt", *office[2:4]),
                       ("--list", "list.txt", *office[4:])):

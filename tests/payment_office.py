@@ -20,11 +20,13 @@ import xml.etree.ElementTree as ElementTree
 
 # No __pycache__ is left beside the sources.
 sys.dont_write_bytecode = True
+from desk_safety import as_another  # noqa: E402
+from desk_under_test import OFFICE_USER  # noqa: E402
 from documents import commands  # noqa: E402
 from payment_file import DEBTOR, HEADER, LIST, MADE, NORD, TOOL, Runs, Tool  # noqa: E402
 from payment_rules import leaves  # noqa: E402
 from program import REGISTRATION, post  # noqa: E402
-from program_under_test import ROOT, ProgramUnderTest, run_tests  # noqa: E402
+from program_under_test import NOBODY, ROOT, ProgramUnderTest, run_tests  # noqa: E402
 
 DOCUMENT = ROOT / "docs/tools.md"
 
@@ -83,6 +85,22 @@ class Peers(Tool):
                  "IncompleteRead(8 bytes read, 1 more expected)")):
             words = self.answered(answer)
             self.refuse(3, f"no answer from 127.0.0.1:{self.port}: {fault}\n", *words)
+
+    @unittest.skipUnless(NOBODY, "only root can be another user")
+    def test_another_user_on_the_offices_port(self):
+        """Not a byte goes there, unless that user is named."""
+        with as_another():
+            stranger = socket.create_server(("127.0.0.1", 0))
+        with stranger:
+            address = f"127.0.0.1:{stranger.getsockname()[1]}"
+            words = ["--office", address, "--key-file", "desk.key", "--number", "7", *self.words[2:]]
+            said = "another user's program takes it, or the kernel doesn't say whose; see --office-user"
+            self.refuse(3, f"no answer from {address}: {said}\n", *words)
+            with stranger.accept()[0] as peer:
+                self.assertEqual(peer.recv(100), b"")
+        with as_another():
+            words = self.answered(f"HTTP/1.1 200 OK\r\nContent-Length: {len(LIST)}\r\n\r\n{LIST}".encode())
+        self.make(*words, *OFFICE_USER)
 
     def test_other_answers(self):
         no_list = "the office's list 7: no payout list, or not a whole one\n"
@@ -144,7 +162,7 @@ total         547.49
 
     def words(self, number=1, key="desk.key"):
         address = f"127.0.0.1:{self.server.port}"
-        return ("--office", address, "--key-file", key, "--number", number,
+        return ("--office", address, *OFFICE_USER, "--key-file", key, "--number", number,
                 "--table", "accounts.csv", *DEBTOR)
 
     def test_from_the_office_to_the_bank(self):
@@ -191,6 +209,7 @@ total         547.49
         self.assertEqual(len(shown), 10)
         for command, printed in shown:
             command = command.replace("127.0.0.1:8080", f"127.0.0.1:{self.server.port}")
+            command = command.replace("--office ", " ".join([*OFFICE_USER, "--office "]))
             ran = subprocess.run(["bash", "-c", command], cwd=self.folder, timeout=60,
                                  env={**os.environ, "LC_ALL": "C.UTF-8", "no_proxy": "*"},
                                  stdout=subprocess.PIPE, stderr=subprocess.STDOUT)
