@@ -7,7 +7,6 @@ worked out by hand from the statements. It needs /usr/bin/python3 with defusedxm
 """
 
 import os
-import resource
 import shutil
 import subprocess
 import sys
@@ -547,36 +546,6 @@ class References(BankFiles):
         # What may change of an entry is no part of it.
         same = payment("1.00", "x", "y", NORD, value="<Dt>2024-04-29</Dt>")
         self.assertEqual(self.references(one("0", "1", same)), [here])
-
-
-class Limits(BankFiles):
-    def test_the_lines_of_a_file(self):
-        def entries(count, text=""):
-            return one("0", f"{count}", *(payment("1", text, reference=f"N{at:04}") for at in range(count)))
-
-        said = ("are more than the office takes in a file (10000 lines, 1048576 bytes); "
-                "give fewer statements at once")
-        self.makes(entries(10_000), [f"N{at:04},2024-04-30,,100,C," for at in range(10_000)])
-        self.refuses(entries(10_001), f"10001 lines of {49 + 25 * 10_001 + 1} bytes {said}")
-        self.refuses(entries(6_500, "x" * 140), f"6500 lines of {49 + 165 * 6_500} bytes {said}")
-
-    def test_files_that_are_too_large(self):
-        self.misread(LATIN.ljust(33_554_433), ": larger than 33554432 bytes")
-        deep = ": too many XML elements, or too deep within each other"
-        self.misread("<a>" * 100, deep)
-        self.misread(LATIN.replace("<BkTxCd/>", "<BkTxCd/>" * 2_000_000), deep)
-        bomb = packed(*((f"{at}.xml", b" " * 12_000_000) for at in range(3)))
-        self.assertLess(len(bomb), 100_000)
-        self.misread(bomb, ": the zip unpacks to more than 33554432 bytes")
-        # It isn't unpacked further than that, whatever it says of its size.
-        bomb = packed(("a.xml", bytes(300_000_000)))
-        self.misread(bomb.replace((300_000_000).to_bytes(4, "little"), (9).to_bytes(4, "little")),
-                     ": a zip that can't be unpacked: Bad CRC-32 for file 'a.xml'")
-        self.write("statement", bomb)
-        few = {"preexec_fn": lambda: resource.setrlimit(resource.RLIMIT_AS, (250_000_000, 250_000_000))}
-        self.assertEqual(self.tool("statement", "--firms", "firms.csv", **few)[0], 2)
-        many = packed(*((f"{at}.xml", "") for at in range(1_001)))
-        self.misread(many, ": the zip has more than 1000 files")
 
 
 class Document(BankFiles):

@@ -1,4 +1,4 @@
-"""What tools/bank-file doesn't read, and its command line, its files and what it tells.
+"""What tools/bank-file doesn't read, its limits, and its command line, its files and what it tells.
 
     python3 tests/bank_file_words.py [PROGRAM]
 
@@ -7,6 +7,7 @@ needs.
 """
 
 import os
+import resource
 import signal
 import stat
 import subprocess
@@ -16,7 +17,8 @@ import sys
 sys.dont_write_bytecode = True
 import bank_file  # noqa: E402
 from bank_file import AT_FIRST, HEADER, TOOL, BankFiles  # noqa: E402
-from bank_statements import ACCOUNT, DECLARED, LATIN, LATIN_LINES, NAMESPACE, packed  # noqa: E402
+from bank_statements import (  # noqa: E402
+    ACCOUNT, DECLARED, LATIN, LATIN_LINES, NAMESPACE, one, packed, payment)
 from program_under_test import run_tests  # noqa: E402
 
 setUpModule = bank_file.setUpModule
@@ -106,6 +108,59 @@ class NotRead(BankFiles):
                 (f"<IBAN>{ACCOUNT}</IBAN>", "", "statement: Acct/Id/IBAN or Acct/Id/Othr/Id is missing")):
             self.assertIn(old, LATIN)
             self.refuses(LATIN.replace(old, new), said, status=2)
+
+
+class Limits(BankFiles):
+    def test_the_lines_of_a_file(self):
+        """What is more than the office takes in one file comes in several, of which each is as it takes it."""
+        def entries(count, text=""):
+            return one("0", f"{count}", *(payment("1", text, reference=f"N{at:04}") for at in range(count)))
+
+        self.makes(entries(10_000), [f"N{at:04},2024-04-30,,100,C," for at in range(10_000)])
+        # 49 bytes of a header, and 165 of each line with a text.
+        for count, text, parts in ((10_001, "", (10_000, 1)), (6_355, "x" * 140, (6_354, 1))):
+            self.write("statement", entries(count, text))
+            status, output, told = self.tool("statement", "--firms", "firms.csv")
+            self.assertEqual((status, output), (1, ""))
+            self.assertIn("are more than the office takes in a file (10000 lines, 1048576 bytes); give fewer", told)
+            names = f"{count}.csv", f"{count}-2.csv"
+            status, output, told = self.tool("statement", "--firms", "firms.csv", "--out", names[0])
+            self.assertEqual((status, output), (0, ""))
+            self.assertIn(f"  in 2 files, each of which is to be imported: {', '.join(names)}\n", told)
+            found = []
+            for name, part in zip(names, parts):
+                header, *lines = (self.folder / name).read_text().splitlines()
+                self.assertEqual((f"{header}\n", len(lines)), (HEADER, part))
+                self.write("bank.csv", (self.folder / name).read_text())
+                self.assertEqual(self.run_program("check", "bank", "bank.csv")[0], 0)
+                found += lines
+            self.assertEqual(found, [f"N{at:04},2024-04-30,,100,C,{text}" for at in range(count)])
+
+    def test_one_of_several_files_stands_there(self):
+        self.write("many-2.csv", "")
+        self.write("statement", one("0", "10001", *(payment("1", reference=f"N{at}") for at in range(10_001))))
+        status, output, told = self.tool("statement", "--firms", "firms.csv", "--out", "many.csv")
+        said = "many-2.csv: there is such a file already\nnothing is written\n"
+        self.assertEqual((status, output, told), (2, "", said))
+        self.assertFalse((self.folder / "many.csv").exists())
+
+    def test_files_that_are_too_large(self):
+        self.misread(LATIN.ljust(33_554_433), ": larger than 33554432 bytes")
+        deep = ": too many XML elements, or too deep within each other"
+        self.misread("<a>" * 100, deep)
+        self.misread(LATIN.replace("<BkTxCd/>", "<BkTxCd/>" * 2_000_000), deep)
+        bomb = packed(*((f"{at}.xml", b" " * 12_000_000) for at in range(3)))
+        self.assertLess(len(bomb), 100_000)
+        self.misread(bomb, ": the zip unpacks to more than 33554432 bytes")
+        # It isn't unpacked further than that, whatever it says of its size.
+        bomb = packed(("a.xml", bytes(300_000_000)))
+        self.misread(bomb.replace((300_000_000).to_bytes(4, "little"), (9).to_bytes(4, "little")),
+                     ": a zip that can't be unpacked: Bad CRC-32 for file 'a.xml'")
+        self.write("statement", bomb)
+        few = {"preexec_fn": lambda: resource.setrlimit(resource.RLIMIT_AS, (250_000_000, 250_000_000))}
+        self.assertEqual(self.tool("statement", "--firms", "firms.csv", **few)[0], 2)
+        many = packed(*((f"{at}.xml", "") for at in range(1_001)))
+        self.misread(many, ": the zip has more than 1000 files")
 
 
 class CommandLine(BankFiles):

@@ -282,17 +282,24 @@ def note_of(payment: Payment) -> str:
     return cut(note.lstrip("=+-@ "), MOST_NOTE_BYTES)
 
 
-def bank_file_text(lines: list[Line]) -> bytes:
-    """The office's bank file."""
+def row_of(fields: tuple) -> bytes:
     text = io.StringIO()
-    rows = csv.writer(text, lineterminator="\n")
-    rows.writerow(HEADER)
-    rows.writerows(line.fields() for line in lines)
-    content = text.getvalue().encode()
-    if len(lines) > MOST_LINES or len(content) > MOST_BYTES:
-        raise Refusal(f"{len(lines)} lines of {len(content)} bytes are more than the office takes in a file "
-                      f"({MOST_LINES} lines, {MOST_BYTES} bytes); give fewer statements at once")
-    return content
+    csv.writer(text, lineterminator="\n").writerow(fields)
+    return text.getvalue().encode()
+
+
+def bank_file_texts(lines: list[Line]) -> list[bytes]:
+    """The office's bank files of the lines, in their order: one, or as many as hold them."""
+    header = row_of(HEADER)
+    files, size = [[header]], len(header)
+    for line in lines:
+        row = row_of(line.fields())
+        if len(files[-1]) > MOST_LINES or size + len(row) > MOST_BYTES:
+            files.append([header])
+            size = len(header)
+        files[-1].append(row)
+        size += len(row)
+    return [b"".join(rows) for rows in files]
 
 
 def total(lines: list[Line]) -> Money:
