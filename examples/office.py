@@ -155,7 +155,8 @@ def read_address(word):
     found = ADDRESS.fullmatch(word)
     if not found or int(found[2]) > 65_535:
         raise argparse.ArgumentTypeError(f"{word} isn't 127.0.0.1:PORT: the key is sent to this machine alone")
-    return found[1], int(found[2])
+    # By its name this machine may be ::1 too, where another user may listen on the same port.
+    return "127.0.0.1", int(found[2])
 
 
 def request_number(word):

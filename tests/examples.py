@@ -532,6 +532,8 @@ class Client(Scripts):
                              timeout=60)
         self.assertEqual(ran.returncode, 2)
         self.assertIn(b"192.0.2.1:8080 isn't 127.0.0.1:PORT: the key is sent to this machine alone", ran.stderr)
+        # Where ::1 is localhost too, another user may listen there.
+        self.assertEqual(office.read_address("localhost:8080"), ("127.0.0.1", 8080))
         self.address = "127.0.0.1:8080"
         for number in ("0", "01", "1e3", "1000000000000000000"):
             ran = subprocess.run(self.command("reports_from_csv", number, "wages.csv"), cwd=self.folder,
