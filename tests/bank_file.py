@@ -208,11 +208,13 @@ class Firms(BankFiles):
                 ["IBAN D", "E12 5001 0517 0648 4898 90"], ["bis 24. Apr", "il"], ["Ma", "i 24"], ["Feb", ". 24"],
                 ["1001 Eur", "o"], "7 EUR 12. 5. 2024", "Mai/24. 5. 2024", "5/1992 EUR 7",
                 "DE89370400440532013000 24. 5. 2024", "DE89370400440532013000 EUR 1001",
-                "Betrieb 1001\n7", "Betrieb 1001\r\n  7", "Betrieb 1001&#x200b;7", "Betrieb 1001&#xad;7",
-                "Ma\ni 24")
+                "EUR-1001", "EUR*1001*", "EUR -1001", "EUR (1001)", "EUR/1001", "1001-EUR", "1001/EUR",
+                "1001 *EUR*", "Betrieb 1001\n7", "Betrieb 1001\r\n  7", "Betrieb 1001&#x200b;7",
+                "Betrieb 1001&#xad;7", "Ma\ni 24")
         known = ("1001 / 03/2024", "1001/Mai 24", "Mai/1001", "Betrieb 1001 - EUR 500", "1001, 12.04.2024",
                  "KW24 Betrieb 1001", ["Beitrag 03/2024,", "Betrieb 1001"], ["Nr.", "1001", "-Mai"],
-                 ["EUR 500", "Betrieb 1001", "Mai 24"], "Beitrag\nBetrieb 1001\nMai 24")
+                 ["EUR 500", "Betrieb 1001", "Mai 24"], "Beitrag\nBetrieb 1001\nMai 24",
+                 "500 EUR - 1001")
         texts = [*none, *known]
         entries = [payment("1.00", text, "", STRANGE, f"N-{at}") for at, text in enumerate(texts)]
         output, _ = self.made(one("0", str(len(texts)), *entries))

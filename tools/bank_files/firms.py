@@ -35,8 +35,8 @@ OTHER_NUMBERS = re.compile("|".join((
     r"\b(?:de ?|[a-z]{2})[0-9]{2} ?[a-z0-9]{4}(?: ?(?=[a-z]?[0-9])[a-z0-9]{4}){1,6}"
     rf"(?: ?(?!{DAY})[0-9]{{1,3}})?\b",
     # An amount on either side of its currency, or with a dash; a percentage; digits in groups.
-    f"{AMOUNT} ?{CURRENCY}(?:{AMOUNT_BEHIND})?",
-    f"{CURRENCY}{AMOUNT_BEHIND}",
+    f"{AMOUNT} ?[-*/(]?{CURRENCY}(?:{AMOUNT_BEHIND})?",
+    f"{CURRENCY}[*/;|+( -]{{0,2}}{AMOUNT_BEHIND}",
     f"{AMOUNT} ?(?:[.,][-–]|%)",
     f"(?<![0-9]){GROUPS}(?:[.,][0-9]+)?(?![0-9])",
     # A date, a month with its day or year, and a month of a year in digits.
