@@ -400,6 +400,26 @@ class LeftOut(BankFiles):
         out = entry("1.00", transaction("", "", "", ACCOUNT, "A", "L1-C1"), direction="DBIT")
         self.assertIn("left out in all, debit: 1, 1.00 EUR\n", self.makes(one("1.00", "0", out), []))
 
+    def test_a_payment_that_is_taken_back_at_once(self):
+        """It is written, and all lines of its amount are told, but for those that were imported before."""
+        reversal = {"direction": "DBIT", "reversal": "<RvslInd>true</RvslInd>"}
+        content = one("0", "2.01", *(payment("1.00", reference=f"A{at}") for at in range(3)),
+                      payment("0.01", reference="B"), entry("1.00", **reversal))
+        lines = [*(f"A{at},2024-04-30,,100,C," for at in range(3)), "B,2024-04-30,,1,C,"]
+        taken = f"left out, returned payment (a debit): entry 5 of {S1}, 2024-04-30, 1.00 EUR\n"
+        by_hand = "if one was taken back, take it out by hand\n"
+        told = self.makes(content, lines)
+        self.assertTrue(told.startswith(f"{taken}  of this amount: A0, A1, A2; {by_hand}"), told)
+        self.write("made.csv", HEADER + f"{lines[0]}\n{lines[2]}\n")
+        told = self.makes(content, lines, "--earlier", "made.csv")
+        self.assertTrue(told.startswith(f"{taken}  of this amount: A1; {by_hand}"), told)
+        self.write("made.csv", HEADER + "".join(f"{line}\n" for line in lines))
+        told = self.makes(content, lines, "--earlier", "made.csv")
+        self.assertTrue(told.startswith(f"{taken}left out in all"), told)
+        seven = (payment("1.00", reference=f"A{at}") for at in range(7))
+        many = one("0", "6.00", *seven, entry("1.00", **reversal))
+        self.assertIn("  of this amount: A0, A1, A2, A3, A4 and 2 more; ", self.made(many)[1])
+
     def test_flags_that_say_nothing(self):
         for flag in ("True", "yes", "2"):
             self.refuses(one("0", "1.00", payment("1.00", reversal=f"<RvslInd>{flag}</RvslInd>")),
