@@ -64,6 +64,8 @@ def read_reports(text):
                 faults.append(f"line {rows.line_num}: {fault}")
     except csv.Error as why:
         faults.append(f"line {rows.line_num}: {why}")
+    if not reports and not faults:
+        faults.append("no lines; a month in which nobody worked is reported by hand (docs/clerk.md, section 3)")
     return reports, faults
 
 

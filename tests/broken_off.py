@@ -12,7 +12,7 @@ import sys
 
 # No __pycache__ is left beside the sources.
 sys.dont_write_bytecode = True
-from examples import AGAIN, CSV_HEADER, JANUARY, REGISTRATION_LINE, REPORT_LINE, Scripts  # noqa: E402
+from examples import AGAIN, CSV_HEADER, JANUARY, NO_LINES, REGISTRATION_LINE, REPORT_LINE, Scripts  # noqa: E402
 from program import REGISTRATION  # noqa: E402
 from program_under_test import run_tests  # noqa: E402
 
@@ -85,10 +85,10 @@ class Corrections(Scripts):
         self.assertEqual(said, "3 1001 2024-01: rule 16 StaleVersion 2\nreports: 1, refused: 1\n")
 
     def test_a_correction_is_of_one_report(self):
-        for lines, count in (("", 0), ("1001,2024-01,7,1\n1001,2024-02,7,1\n", 2)):
+        for lines, fault in (("", NO_LINES), ("1001,2024-01,7,1\n1001,2024-02,7,1\n",
+                                              "2 reports; a correction is of one")):
             self.write("wages.csv", CSV_HEADER + lines)
-            self.refuses_to_start(f"{count} reports; a correction is of one\nwages.csv: nothing is sent\n",
-                                  "reports_from_csv", 1, "wages.csv", 1)
+            self.refuses_to_start(f"{fault}\nwages.csv: nothing is sent\n", "reports_from_csv", 1, "wages.csv", 1)
 
 
 if __name__ == "__main__":

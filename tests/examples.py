@@ -31,6 +31,7 @@ import office  # noqa: E402
 
 CSV_HEADER = "employer,month,worker,gross\n"
 JANUARY = CSV_HEADER + "1001,2024-01,7,1000000\n"
+NO_LINES = "no lines; a month in which nobody worked is reported by hand (docs/clerk.md, section 3)"
 # Where no office answers.
 AGAIN = "when the office answers, run the same command again: nothing is done twice\n"
 REGISTRATION_LINE = 'POST /employers 1 {"employer":1001,"name":"Bau Nord","start":"2024-01"}\n'
@@ -439,6 +440,7 @@ class Reports(Scripts):
             "line 4: worker 7 stands twice in this firm's month": JANUARY + "\n1001,2024-01,007,1\n",
             "line 503: more than 500 lines in this firm's month": JANUARY + full + "1001,2024-02,501,1\n",
             "line 2: unexpected end of data": CSV_HEADER + '"1001,2024-01,7,1\n',
+            NO_LINES: CSV_HEADER + "\n",
         }
         for fault, text in faults.items():
             self.write("wages.csv", text)
