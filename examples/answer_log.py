@@ -3,9 +3,10 @@
 Sends the requests of a file, one a line: method, path, number or `-`, and the body as JSON or
 nothing. Appends each to LOG with its answer and the time, as a line of JSON. What LOG has answered
 already is skipped, so the same command goes on with a batch that broke off, and tells each of its
-refusals. A refusal is an answer, but neither that of a key that is nobody's (HTTP status 401), nor
-that of an office that could not do it (500 and above), nor one for the day on which the office is
-served (rules 10, 14 and 22): what had it is sent again.
+refusals. A refusal is an answer, but neither that of a key that is nobody's (HTTP status 401) or
+another's (rule 7), nor that of an office that could not do it (500 and above), nor one for the day
+on which the office is served (rules 10, 14 and 22): what had it is sent again. If a line is no
+request, or a command stands twice, nothing is sent.
 """
 
 import fcntl
@@ -18,16 +19,16 @@ from office import Answer, Fault, Office, command_line, read_text, run, stops
 
 REQUEST = re.compile(r"(GET|POST|PUT) (/[!-~]*) (?:-|([1-9][0-9]{0,17}))(?: (.*))?")
 
-# The rules that refuse a request for the day of the office: before the ledger day, a month or a value
-# date ahead.
-OF_THE_DAY = (10, 14, 22)
+# The rules that refuse a request for its key, or for the day of the office: before the ledger day, a
+# month or a value date ahead.
+OF_KEY_OR_DAY = (7, 10, 14, 22)
 # Of each entry.
 BEGINNING = b'{"time": "'
 
 
 def read_requests(path):
     """The requests of a file, each with its line, method, target, number and body."""
-    requests = []
+    requests, commands = [], {}
     for place, line in enumerate(map(str.strip, read_text(path).split("\n")), 1):
         if line:
             parts = REQUEST.fullmatch(line)
@@ -36,6 +37,9 @@ def read_requests(path):
             except (TypeError, ValueError):
                 raise Fault(f"{path}: line {place} is no request", 2) from None
             method, target, number, body = parts.groups(default="")
+            if method != "GET" and commands.setdefault(line, place) != place:
+                again = f"line {place} is line {commands[line]} again, under its number"
+                raise Fault(f"{path}: {again}: it would be done once", 2)
             requests.append((line, method, target, number or None, body))
     return requests
 
@@ -48,7 +52,7 @@ def logged_refusal(entry):
         return None
     answer = Answer(status, entry["status"][4:], entry["answer"])
     try:
-        return None if answer.rule in OF_THE_DAY else refusal_of(answer)
+        return None if answer.rule in OF_KEY_OR_DAY else refusal_of(answer)
     except Fault:
         return None
 

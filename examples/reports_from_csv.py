@@ -19,6 +19,7 @@ HEADER = ["employer", "month", "worker", "gross"]
 MONTH = re.compile(r"2[01][0-9]{2}-(0[1-9]|1[0-2])")
 DIGITS = re.compile(r"[0-9]{1,18}")
 MOST_LINES = 500
+NO_LINES = "no lines; a month in which nobody worked is reported by hand (docs/clerk.md, section 3)"
 RANGES = {"employer": (1, 99_999_999), "worker": (1, 999_999_999), "gross": (0, 10_000_000)}
 
 
@@ -65,7 +66,7 @@ def read_reports(text):
     except csv.Error as why:
         faults.append(f"line {rows.line_num}: {why}")
     if not reports and not faults:
-        faults.append("no lines; a month in which nobody worked is reported by hand (docs/clerk.md, section 3)")
+        faults.append(NO_LINES)
     return reports, faults
 
 

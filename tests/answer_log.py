@@ -80,6 +80,35 @@ class AnswerLog(Scripts):
         self.assertEqual(self.script("answer_log", "batch", "log"), "sent: 1, skipped: 0, refused: 0\n")
         self.assertEqual([it["status"] for it in self.entries()], ["409 Conflict", "200 OK"])
 
+    def test_what_the_key_refuses_is_sent_again(self):
+        """As with the key of another number of the firm: the log skips nothing under the right one."""
+        self.open_office()
+        self.ask_desk(REGISTRATION)
+        self.write("other.key", "k1002\n")
+        self.write("batch", REPORT_LINE)
+        refusal = "POST /employers/1001/reports/2024-02 2: rule 7 NotYours\n"
+        for _ in range(2):
+            self.assertEqual(self.script("answer_log", "batch", "log", key="other.key", status=1),
+                             f"{refusal}sent: 1, skipped: 0, refused: 1\n")
+        self.assertEqual(self.script("answer_log", "batch", "log", key="firm.key"),
+                         "sent: 1, skipped: 0, refused: 0\n")
+        self.assertEqual(self.entries()[-1]["answer"], '{"charge":20,"version":1}')
+
+    def test_a_command_that_stands_twice(self):
+        """Under one number it would be done once: nothing is sent. A question may come again, and so may a
+        number that a refusal left free."""
+        claim = 'POST /employers/1001/claims 3 {"cents":100,"worker":8}\n'
+        self.write("batch", claim + "\nGET /suspense -\n" + claim)
+        self.refuses_to_start("batch: line 4 is line 1 again, under its number: it would be done once\n",
+                              "answer_log", "batch", "log")
+        self.open_office()
+        self.write("batch", REPORT_LINE + REGISTRATION_LINE + 2 * "GET /employers/1001/owed 7\n"
+                   + REPORT_LINE.replace(":100,", ":200,"))
+        self.assertEqual(self.script("answer_log", "batch", "log", status=1),
+                         "POST /employers/1001/reports/2024-02 2: rule 11 UnknownEmployer\n"
+                         "sent: 5, skipped: 0, refused: 1\n")
+        self.assertEqual(self.entries()[-1]["answer"], '{"charge":40,"version":1}')
+
     def test_a_page_that_is_no_offices(self):
         """It is no answer: the request is sent by the next run."""
         self.open_office()

@@ -88,7 +88,8 @@ class Corrections(Scripts):
         for lines, fault in (("", NO_LINES), ("1001,2024-01,7,1\n1001,2024-02,7,1\n",
                                               "2 reports; a correction is of one")):
             self.write("wages.csv", CSV_HEADER + lines)
-            self.refuses_to_start(f"{fault}\nwages.csv: nothing is sent\n", "reports_from_csv", 1, "wages.csv", 1)
+            self.refuses_to_start(f"{fault}\nwages.csv: nothing is sent\n",
+                                  "reports_from_csv", 1, "wages.csv", 1)
 
 
 if __name__ == "__main__":
