@@ -35,6 +35,8 @@ class AnswerLog(Scripts):
         self.assertEqual(len(self.entries()), 1_000)
         with open(self.folder / "log", "a", encoding="utf-8") as log:
             log.write('{"time": "2024-')
+        # Its port is free before its store is.
+        self.server.wait(timeout=60)
         self.open_office()
         said = self.script("answer_log", "batch", "log")
         self.assertEqual(said, "sent: 2, skipped: 1000, refused: 0\n")
