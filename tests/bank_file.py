@@ -264,8 +264,8 @@ class Firms(BankFiles):
             f"firms.csv, line 2: {NORD[:-1]}1 is no IBAN, or a digit of it is wrong",
             "firms.csv, line 4: 0 is no number of a firm (1 to 99999999)",
             "firms.csv, line 5: 01 is no number of a firm (1 to 99999999)",
-            f"firms.csv, line 6: {WEST} stands twice",
-            f"firms.csv, line 7: {WEST} stands twice",
+            f"firms.csv, line 6: {WEST} stands twice; an account that pays for several firms stands at none",
+            f"firms.csv, line 7: {WEST} stands twice; an account that pays for several firms stands at none",
             "firms.csv, line 8: DE1 is no IBAN, or a digit of it is wrong",
             "firms.csv, line 9: 100000000 is no number of a firm (1 to 99999999)",
             # DE02 and DE99 are the same by their rest alone.

@@ -122,5 +122,5 @@ def fault_of(iban: str, employer: str, by_iban: dict[str, str]) -> str | None:
     if iban and not is_iban(iban):
         return f"{shown(iban)} is no IBAN, or a digit of it is wrong"
     if iban in by_iban:
-        return f"{iban} stands twice"
+        return f"{iban} stands twice; an account that pays for several firms stands at none"
     return None
