@@ -1,4 +1,4 @@
-use Rattle.std.proofs.Common.{◌≡◌, inl, inr, false, ap, refl, rules}
+use Rattle.std.proofs.Common.{◌≡◌, inl, inr, false, ap, refl, subst, rules}
 use Rattle.clear_book.specs.declared.calls.Call.TheVariants.{Do}
 use Rattle.clear_book.specs.declared.outcomes.Outcome.TheVariants.{Replied, Refused}
 use Rattle.clear_book.specs.Machine.{after, step}
@@ -7,8 +7,11 @@ use Rattle.clear_book.specs.Allocated.{KeepsKeys}
 use Rattle.clear_laws.proofs.LimitsLemmas.{takes_lawful}
 use Rattle.clear_laws.proofs.WeighedLemmas.{stands_weighed}
 use Rattle.clear_schema.specs.declared.fault.Fault.TheVariants as fault
-use Rattle.clear_office.specs.Bodies.{IsAdmitted}
-use Rattle.clear_office.specs.Office.{HasSame, LeavesNoMore, MayLeave, Steps, StepsBut}
+use Rattle.sqlite.specs.Held.{state}
+use Rattle.clear_book.specs.Tables.{Tables}
+use Rattle.clear_schema.specs.Held.{HasTables}
+use Rattle.clear_office.specs.Bodies.{IsAdmitted, IsUnused}
+use Rattle.clear_office.specs.Office.{HasSame, HasSameIf, LeavesNoMore, MayLeave, Steps, StepsBut}
 use Rattle.clear_office.proofs.PiecesLemmas.{keeps_plain}
 use Rattle.clear_office.proofs.StepLemmas.{accepted, accepted_leaves, accepted_tables, each_reached, ended, ended_leaves, ended_rests, ended_same, from_working, open_at, rolled_back_stays, still_working}
 use Rattle.clear_office.proofs.office.Office.submit.Goals as goal
@@ -21,7 +24,7 @@ returns-in-Ok-clause-step g c =
     let admitted : IsAdmitted call = search rules in
     still_working inside.store.conn inside.failed c.args.self.now c.self.view_is working c.within.new.conn (λ a b. Steps g.S.Store a call (Replied c.in-Ok.reply) b)
     (each_reached g.S.Store (open_at g.S.Store call inside.store.conn) (open_at g.S.Store call c.within.new.conn) call (Replied c.in-Ok.reply)
-    (accepted g.S.Store call inside.store.conn c.within.new.conn c.in-Ok.reply admitted c.in-Ok.ensures.done (λ row. row) keeps_plain))
+    (accepted g.S.Store call inside.store.conn c.within.new.conn c.in-Ok.reply admitted (λ clean t has. let got = c.in-Ok.ensures.done clean t has in (got.0, got.1.0, got.2, got.3, got.4)) (λ row. row) keeps_plain))
 
 pub returns-in-Ok-clause-blurred : goal.returns-in-Ok-clause-blurred
 returns-in-Ok-clause-blurred g c blur keeps =
@@ -30,7 +33,7 @@ returns-in-Ok-clause-blurred g c blur keeps =
     let working : inside.failed ≡ false = search rules in
     let admitted : IsAdmitted call = search rules in
     still_working inside.store.conn inside.failed c.args.self.now c.self.view_is working c.within.new.conn (λ a b. StepsBut blur g.S.Store a call (Replied c.in-Ok.reply) b)
-    (accepted g.S.Store call inside.store.conn c.within.new.conn c.in-Ok.reply admitted c.in-Ok.ensures.done blur keeps)
+    (accepted g.S.Store call inside.store.conn c.within.new.conn c.in-Ok.reply admitted (λ clean t has. let got = c.in-Ok.ensures.done clean t has in (got.0, got.1.0, got.2, got.3, got.4)) blur keeps)
 
 pub returns-in-Ok-clause-crash : goal.returns-in-Ok-clause-crash
 returns-in-Ok-clause-crash g c =
@@ -39,7 +42,14 @@ returns-in-Ok-clause-crash g c =
     let working : inside.failed ≡ false = search rules in
     let admitted : IsAdmitted call = search rules in
     still_working inside.store.conn inside.failed c.args.self.now c.self.view_is working c.within.new.conn (λ a b. MayLeave g.S.Store a call b)
-    (accepted_leaves g.S.Store call inside.store.conn c.within.new.conn c.in-Ok.reply admitted c.in-Ok.ensures.done)
+    (accepted_leaves g.S.Store call inside.store.conn c.within.new.conn c.in-Ok.reply admitted (λ clean t has. let got = c.in-Ok.ensures.done clean t has in (got.0, got.1.0, got.2, got.3, got.4)))
+
+pub returns-in-Ok-clause-kept : goal.returns-in-Ok-clause-kept
+returns-in-Ok-clause-kept g c stays =
+    let inside = c.self.inside in
+    let working : inside.failed ≡ false = search rules in
+    still_working inside.store.conn inside.failed c.args.self.now c.self.view_is working c.within.new.conn (λ a b. HasSameIf g.S.Store a b (λ t. ¬ IsUnused c.args.caller c.args.number t))
+    (λ clean t has used. let got = c.in-Ok.ensures.done clean t has in subst (λ (u : Tables). HasTables u (state g.S.Store c.within.new.conn).now) (got.1.1 used) got.2)
 
 pub returns-in-Err-clause-step : goal.returns-in-Err-clause-step
 returns-in-Err-clause-step g c =
@@ -59,7 +69,7 @@ returns-in-Err-clause-step g c =
     (λ clean t has on. rolled_back_stays g.S.Store inside.store.conn c.within.new.conn t (c.in-Err.ensures.stays clean t has) (c.in-Err.ensures.was_open clean t has) (c.is_autocommit-outside.ensures.settled (search rules)) has on)
     (λ blur keeps clean b lawful places t represents has trees may. elim ((c.within.ensures.crash t has).crash clean trees may) [
       | inl before ↦ inl before
-      | inr it ↦ inr (it.1.0, (accepted_tables blur keeps call t it.1.0 it.1.1 (it.1.2 admitted) admitted.0 b lawful places represents).1, (it.0, it.1.3, it.2))
+      | inr it ↦ inr (it.1.0, (accepted_tables blur keeps call t it.1.0 it.1.1 (it.1.2.0 admitted) admitted.0 b lawful places represents).1, (it.0, it.1.3, it.2))
     ])
     c.end.ensures.told c.end.ensures.failed c.end.ensures.open c.end.ensures.still c.end.ensures.survives
     (λ row. row) keeps_plain (λ trees on may. g.met.S.Store.settled c.end.new.self.conn.store trees on may)))
@@ -81,7 +91,7 @@ returns-in-Err-clause-blurred g c blur keeps =
     (λ clean t has on. rolled_back_stays g.S.Store inside.store.conn c.within.new.conn t (c.in-Err.ensures.stays clean t has) (c.in-Err.ensures.was_open clean t has) (c.is_autocommit-outside.ensures.settled (search rules)) has on)
     (λ blur keeps clean b lawful places t represents has trees may. elim ((c.within.ensures.crash t has).crash clean trees may) [
       | inl before ↦ inl before
-      | inr it ↦ inr (it.1.0, (accepted_tables blur keeps call t it.1.0 it.1.1 (it.1.2 admitted) admitted.0 b lawful places represents).1, (it.0, it.1.3, it.2))
+      | inr it ↦ inr (it.1.0, (accepted_tables blur keeps call t it.1.0 it.1.1 (it.1.2.0 admitted) admitted.0 b lawful places represents).1, (it.0, it.1.3, it.2))
     ])
     c.end.ensures.told c.end.ensures.failed c.end.ensures.open c.end.ensures.still c.end.ensures.survives
     blur keeps (λ trees on may. g.met.S.Store.settled c.end.new.self.conn.store trees on may))
@@ -103,7 +113,7 @@ returns-in-Err-clause-crash g c =
     (λ clean t has on. rolled_back_stays g.S.Store inside.store.conn c.within.new.conn t (c.in-Err.ensures.stays clean t has) (c.in-Err.ensures.was_open clean t has) (c.is_autocommit-outside.ensures.settled (search rules)) has on)
     (λ blur keeps clean b lawful places t represents has trees may. elim ((c.within.ensures.crash t has).crash clean trees may) [
       | inl before ↦ inl before
-      | inr it ↦ inr (it.1.0, (accepted_tables blur keeps call t it.1.0 it.1.1 (it.1.2 admitted) admitted.0 b lawful places represents).1, (it.0, it.1.3, it.2))
+      | inr it ↦ inr (it.1.0, (accepted_tables blur keeps call t it.1.0 it.1.1 (it.1.2.0 admitted) admitted.0 b lawful places represents).1, (it.0, it.1.3, it.2))
     ])
     c.end.ensures.told c.end.ensures.failed c.end.ensures.open c.end.ensures.still c.end.ensures.survives)
 
@@ -126,3 +136,12 @@ returns-in-Err-clause-unchanged g c stays =
     from_working inside.store.conn inside.failed c.args.self.now c.self.view_is working (λ a. HasSame g.S.Store a c.end.new.self)
     (ended_same g.S.Store call inside.store.conn c.within.new.conn c.in-Err.stop c.end.new.self c.end.result c.end.ensures.clean
     (λ clean t has on. rolled_back_stays g.S.Store inside.store.conn c.within.new.conn t (c.in-Err.ensures.stays clean t has) (c.in-Err.ensures.was_open clean t has) (c.is_autocommit-outside.ensures.settled (search rules)) has on) c.end.ensures.still stays)
+
+pub returns-in-Err-clause-kept : goal.returns-in-Err-clause-kept
+returns-in-Err-clause-kept g c stays =
+    let call = Do c.args.caller c.args.number c.args.day c.args.command.now in
+    let inside = c.self.inside in
+    let working : inside.failed ≡ false = search rules in
+    from_working inside.store.conn inside.failed c.args.self.now c.self.view_is working (λ a. HasSameIf g.S.Store a c.end.new.self (λ t. ¬ IsUnused c.args.caller c.args.number t))
+    (λ clean t has used. ended_same g.S.Store call inside.store.conn c.within.new.conn c.in-Err.stop c.end.new.self c.end.result c.end.ensures.clean
+    (λ clean t has on. rolled_back_stays g.S.Store inside.store.conn c.within.new.conn t (c.in-Err.ensures.stays clean t has) (c.in-Err.ensures.was_open clean t has) (c.is_autocommit-outside.ensures.settled (search rules)) has on) c.end.ensures.still stays clean t has)
