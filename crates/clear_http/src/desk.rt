@@ -7,7 +7,7 @@ ghost use Rattle.clear_office.specs.Office.{IsHonest, Keeps};
 ghost use Rattle.clear_wire.specs.Counted.{inner, has_failed, reads_of};
 ghost use Rattle.clear_wire.specs.Limits.{read_limit};
 ghost use Rattle.clear_routes.specs.Reading.{Reads};
-ghost use Rattle.clear_http.specs.Desk.{MayServe};
+ghost use Rattle.clear_http.specs.Desk.{MaySay, MayServe};
 ghost use Rattle.clear_http.specs.Guarded.{Guards};
 ghost use Rattle.clear_http.specs.Serve.{Serves, ServesPart, TellsFailed};
 ghost use Rattle.clear_http.specs.Served.{IsServed, IsServedPart};
@@ -70,8 +70,12 @@ impl<S: Alter> Responder<Office<S>> for Desk<'_> {
 ///
 /// Whatever lawful book the office keeps, the answers are those of the clearing machine over that
 /// book, and the office then keeps the book that it leaves, so far as its disk returned what was
-/// written. Whatever the records hold, a request that reads as a call for which access says no is
-/// answered by `NotYours`, or by `Memory`.
+/// written.
+///
+/// Whatever the records hold, the office changes only by a request in these bytes that reads as a
+/// call which access allows, and that has its answer among those written or, after a fault, is the
+/// one behind them. Of a reader whose bytes no contract knows, it is some such request. One that
+/// reads as a call for which access says no is answered by `NotYours`, or by `Memory`.
 ///
 /// After a fault, what was written is the answers to the first requests, so many as the fault says,
 /// and a front of the next one's that isn't all of it. `Read` and `Write` come only where a call of
@@ -106,6 +110,16 @@ pub fn serve<S: Alter, R: RequestRead, W: Write>(
         office.new fault.answered) }
     // These hold whatever the records are, also those of no lawful book.
     ensures said { MayServe S.Store directory.now day office.old office.new }
+    ensures answers { office.old.failed ≡ false
+        → IfOk result (λ served. Serves (MaySay S.Store directory.now day) office.old
+        (R.remaining (inner reader.old))
+        (W.contents (inner writer.old)) (W.contents (inner writer.new))
+        office.new served) }
+    ensures answers_fault { office.old.failed ≡ false
+        → IfErr result (λ fault. ServesPart (MaySay S.Store directory.now day) office.old
+        (R.remaining (inner reader.old))
+        (W.contents (inner writer.old)) (W.contents (inner writer.new))
+        office.new fault.answered) }
     ensures access { office.old.failed ≡ false
         → IfOk result (λ served. Serves (Guards (Reads directory.now day)) false
         (R.remaining (inner reader.old))

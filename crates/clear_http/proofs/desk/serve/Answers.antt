@@ -19,6 +19,9 @@ returns-in-Err-clause-access_fault g c working =
     let office = c.args.office.now in
     desk_guarded_part g.S.Store keys day office working _ _ _ office 0 (nothing_served (MaySay g.S.Store keys day) office _ _)
 
+pub returns-in-Err-clause-answers_fault : goal.returns-in-Err-clause-answers_fault
+returns-in-Err-clause-answers_fault g c working = nothing_served (MaySay g.S.Store c.args.directory.now c.args.day) c.args.office.now _ _
+
 pub returns-clause-served : goal.returns-clause-served
 returns-clause-served g c working = IfOk-weaker c.serve_stream.result _ _ (λ served. desk_served g.S.Store _ _ _ working _ _ _ _ served) c.serve_stream.ensures.served
 
