@@ -1,5 +1,5 @@
 -- Lemmas on empty lines and the end of a head.
-use Rattle.std.proofs.Common.{◌≡◌, ℕ, zero, suc, ◌+◌, ◌≤◌, true, false, eqb, ltb, ◌&&◌, List, [], ◌∷◌, ◌++◌, length, drop, Some, None, refl, sym, ap, ◌∙◌, arith, inl, inr}
+use Rattle.std.proofs.Common.{◌≡◌, ℕ, zero, suc, ◌+◌, ◌<◌, ◌≤◌, true, false, eqb, ltb, ◌&&◌, List, [], ◌∷◌, ◌++◌, length, drop, Some, None, refl, sym, ap, ◌∙◌, arith, inl, inr}
 use Rattle.std.proofs.lemmas.List.{append-nil}
 use Rattle.std.proofs.lemmas.Bool.{cases_Bool, false≢true, ltb-true}
 use Rattle.clear_wire.specs.Lines.{empty_line_len, skip_empty_lines, head_end}
@@ -123,6 +123,35 @@ empty_line-kept : (bytes more : List ℕ) → 2 ≤ length bytes → empty_line_
 empty_line-kept [] more long = absurd (omega arith)
 empty_line-kept (b ∷ []) more long = absurd (omega arith)
 empty_line-kept (b ∷ c ∷ bytes) more long = refl
+
+-- an empty line that came whole only with further bytes
+empty_line-behind : (bytes more : List ℕ) → ltb 0 (empty_line_len bytes) ≡ false → ltb 0 (empty_line_len (bytes ++ more)) ≡ true
+    → length bytes < empty_line_len (bytes ++ more)
+empty_line-behind [] more h k = ltb-true 0 (empty_line_len more) k
+empty_line-behind (b ∷ []) [] h k = absurd (cc (h, k))
+empty_line-behind (b ∷ []) (m ∷ more) h k = elim (cases_Bool (eqb b 10)) [
+  | inl d ↦ (let f = simp d at h in absurd (cc f))
+  | inr d ↦ elim (cases_Bool (eqb b 13 && eqb m 10)) [ inl f ↦ rw (d, f) (omega arith) | inr f ↦ (let g = simp (d, f) at k in absurd (cc g)) ]
+]
+empty_line-behind (b ∷ c ∷ bytes) more h k = absurd (cc (h, k))
+
+-- where none of the bytes ends a head, one that ends with further bytes has more than these
+pub head_end-behind : (at n : ℕ) (bytes more : List ℕ) → head_end at bytes ≡ None → head_end at (bytes ++ more) ≡ Some n → at + length bytes < n
+head_end-behind at n [] more none e = omega (arith, (head_end-bounds at n more e).0)
+head_end-behind at n (b ∷ bytes) more none e = elim (cases_Bool (eqb b 10)) [
+  | inl d ↦ elim (cases_Bool (ltb 0 (empty_line_len bytes))) [
+    | inl f ↦ (let g = simp (d, f) at none in absurd (cc g))
+    | inr f ↦ elim (cases_Bool (ltb 0 (empty_line_len (bytes ++ more)))) [
+      | inl h ↦ (
+          let k = simp (d, h) at e in
+          let same : at + 1 + empty_line_len (bytes ++ more) ≡ n = cc k in
+          omega (arith, same, empty_line-behind bytes more f h)
+          )
+      | inr h ↦ omega (arith, head_end-behind (at + 1) n bytes more (simp (d, f) at none) (simp (d, h) at e))
+    ]
+  ]
+  | inr d ↦ omega (arith, head_end-behind (at + 1) n bytes more (simp d at none) (simp d at e))
+]
 
 -- where none of the bytes ends a head, a search of these and further ones may leave out all but the last two
 pub head_end-searched : (k at : ℕ) (bytes more : List ℕ) → k + 2 ≤ length bytes → head_end at bytes ≡ None

@@ -6,7 +6,7 @@ use Rattle.std.proofs.Math.Seq.{take-append-add}
 use Rattle.clear_wire.specs.Limits.{head_limit}
 use Rattle.clear_wire.specs.Lines.{skip_empty_lines, head_end, head_len, HasNoEndBefore}
 use Rattle.clear_wire.specs.Stream.{unended, too_long, head, cut_at, front_of, front}
-use Rattle.clear_wire.proofs.LinesLemmas.{skip_kept, head_end-append, head_end-bounds, head_end-searched}
+use Rattle.clear_wire.proofs.LinesLemmas.{skip_kept, head_end-append, head_end-bounds, head_end-behind, head_end-searched}
 
 -- the first bytes of a longer stream
 take-longer : (n : ℕ) (u m : List ℕ) → length u ≤ n → take n (u ++ m) ≡ u ++ take (n - length u) m
@@ -68,6 +68,16 @@ searched-append limit n u v m count grown long short none =
     let place : n - 2 ≡ 0 + (n - 2) = omega arith in
     subst (λ (t : List ℕ). HasNoEndBefore (n - 2) t) (sym all)
     (ap (λ k. head_end k (drop (n - 2) (u ++ more))) place ∙ head_end-searched (n - 2) 0 u more (omega (arith, long, count)) found)
+
+-- further bytes came, and those before them end no head: one that ends now has more than those
+pub found_behind : (limit n : ℕ) (u v m : List ℕ) → v ≡ u ++ m → length u ≤ limit → head_len (take limit u) ≡ None → head_len (take limit v) ≡ Some n
+    → length u < n
+found_behind limit n u v m grown short none found =
+    let more = take (limit - length u) m in
+    let all : take limit v ≡ u ++ more = ap (take limit) grown ∙ take-longer limit u m short in
+    let before : head_len u ≡ None = ap head_len (sym (take_all limit u short)) ∙ none in
+    let after : head_len (u ++ more) ≡ Some n = ap head_len (sym all) ∙ found in
+    omega (arith, head_end-behind 0 n u more before after)
 
 pub searched-within : (limit n : ℕ) (u v m : List ℕ) → n ≡ length u → v ≡ u ++ m → length u ≤ limit → n - 2 ≤ length (take limit v)
 searched-within limit n u v m count grown short =

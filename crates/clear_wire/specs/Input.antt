@@ -8,6 +8,7 @@ use Rattle.clear_wire.specs.declared.input.Place.TheVariants as place
 use Rattle.clear_wire.specs.declared.input.ReadFault.{ReadFault}
 use Rattle.clear_wire.specs.declared.input.ReadFault.TheVariants.{Read, Reads, Memory}
 use Rattle.clear_wire.specs.Counted.{Noted}
+use Rattle.clear_wire.specs.Limits.{head_limit}
 use Rattle.clear_wire.specs.Stream.{Front, nothing, unended, too_long, head}
 
 -- the reader that an input reads
@@ -51,6 +52,13 @@ IsPlacedWithin (place.Head len) count = len ≤ count
 IsPlacedWithin place.Nothing count = ⊤
 IsPlacedWithin place.Unended count = ⊤
 IsPlacedWithin place.TooLong count = ⊤
+
+-- how many bytes are needed to find this at the front: fewer are there before the last read
+abbrev pub head_room : Place → ℕ
+head_room (place.Head len) = len
+head_room place.Nothing = head_limit
+head_room place.Unended = head_limit
+head_room place.TooLong = head_limit
 
 -- a call of the reader failed just if the result is the fault `Read`
 abbrev pub NotesFault : {R A : Type 0} → (R → Noted) → Input R → Input R → Result A ReadFault

@@ -20,3 +20,7 @@ request_limit = 1000
 -- how many times a stream may call its reader
 abbrev pub read_limit : ℕ
 read_limit = 1000000
+
+-- how many bytes one read asks for
+abbrev pub chunk_size : ℕ
+chunk_size = 4096

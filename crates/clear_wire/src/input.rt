@@ -1,20 +1,17 @@
 //! A stream of requests over a reader.
 ghost use Rattle.std.specs.Prelude.{◌≡◌, ◌≢◌, ℕ, ◌+◌, ◌<◌, ◌≤◌, true, false, Ok, Err, IfOk, OnOk};
-ghost use Rattle.std.specs.Prelude.{IsOkAnd, List, [], ◌++◌, length, take, drop};
+ghost use Rattle.std.specs.Prelude.{IsOkAnd, List, [], ◌++◌, length, take, drop, max};
 ghost use Rattle.std.specs.Io.KnownBytes.{Keeps, IsAtEnd};
 ghost use Rattle.clear_wire.specs.Limits.{read_limit};
 
 use crate::counted::NotedRead;
 use crate::head::{ParsedHead, RequestHead, parse_head};
-use crate::limits::{MAX_HEAD_BYTES, MAX_READS};
+use crate::limits::{CHUNK, MAX_HEAD_BYTES, MAX_READS};
 use crate::lines::{empty_lines_len, limited_head_len};
 use crate::request::{Item, Request};
 use crate::rule::{FramingStatus, StreamRule};
 use std::alloc::{AllocError, Global};
 use std::mem;
-
-/// How many bytes one read asks for.
-const CHUNK: usize = 4096;
 
 /// Why reading stopped before it could say what the stream goes on with.
 #[derive(Clone, Copy)]
@@ -134,12 +131,12 @@ impl<R> Input<R> {
 
 impl<R: NotedRead> Input<R> {
     ghost use Rattle.clear_wire.specs.Input.{unread, reader_of, unused_of, reads_made};
-    ghost use Rattle.clear_wire.specs.Input.{placed, IsPlacedWithin};
+    ghost use Rattle.clear_wire.specs.Input.{placed, IsPlacedWithin, head_room};
     ghost use Rattle.clear_wire.specs.Input.{failed_of, NotesFault, CountsReads, KeepsBorrow};
     ghost use Rattle.clear_wire.specs.Parsed.{heading};
     ghost use Rattle.clear_wire.specs.Known.{Leads};
     ghost use Rattle.clear_wire.specs.Lines.{skip_empty_lines};
-    ghost use Rattle.clear_wire.specs.Request.{next_item};
+    ghost use Rattle.clear_wire.specs.Request.{next_item, is_last};
     ghost use Rattle.clear_wire.specs.Stream.{front, head, taken, left_behind, NextAt};
 
     /// Reads once. It answers false at the end of the input. No byte is lost, whatever it answers.
@@ -148,6 +145,7 @@ impl<R: NotedRead> Input<R> {
         ensures end { result ≡ Ok false → IsAtEnd (R.remaining (reader_of self.new)) }
         ensures same { result ≡ Ok false → unused_of self.new ≡ unused_of self.old }
         ensures grows { (more : List ℕ) × (unused_of self.new ≡ unused_of self.old ++ more) }
+        ensures few { length (unused_of self.new) ≤ length (unused_of self.old) + CHUNK }
         ensures turn { IfOk result (λ _. reads_made self.new ≡ reads_made self.old + 1) }
         ensures limit { result ≡ Err ReadFault.Reads → reads_made self.new ≡ MAX_READS }
         ensures fault { NotesFault R.noted self.old self.new result }
@@ -176,6 +174,7 @@ impl<R: NotedRead> Input<R> {
         ensures skips { Leads (λ old new. skip_empty_lines new ≡ skip_empty_lines old)
             (unread R.remaining self.old) (unread R.remaining self.new) }
         ensures none_left { skip_empty_lines (unused_of self.new) ≡ unused_of self.new }
+        ensures fewer { length (unused_of self.new) ≤ length (unused_of self.old) }
         ensures reader { reader_of self.new ≡ reader_of self.old }
         ensures reads { reads_made self.new ≡ reads_made self.old }
     {
@@ -187,6 +186,7 @@ impl<R: NotedRead> Input<R> {
     fn begin(&mut self)
         ensures skips { Leads (λ old new. skip_empty_lines new ≡ skip_empty_lines old)
             (unread R.remaining self.old) (unread R.remaining self.new) }
+        ensures fewer { length (unused_of self.new) ≤ length (unused_of self.old) }
         ensures failed { failed_of R.noted self.new ≡ failed_of R.noted self.old }
         ensures reads { CountsReads R.noted self.old self.new }
         ensures borrow { KeepsBorrow R.noted self.old self.new }
@@ -206,6 +206,8 @@ impl<R: NotedRead> Input<R> {
             skip_empty_lines (unused_of self.new) ≡ unused_of self.new) }
         ensures begun { result ≡ Ok true → 2 ≤ length (unused_of self.new) }
         ensures short { result ≡ Ok false → length (unused_of self.new) < 2 }
+        ensures ahead { length (unused_of self.new)
+            < max (length (unused_of self.old) + 1) (2 + CHUNK) }
         ensures end { result ≡ Ok false → IsAtEnd (R.remaining (reader_of self.new)) }
         ensures limit { result ≡ Err ReadFault.Reads → reads_made self.new ≡ MAX_READS }
         ensures fault { NotesFault R.noted self.old self.new result }
@@ -232,6 +234,8 @@ impl<R: NotedRead> Input<R> {
             (unread R.remaining self.old) (unread R.remaining self.new)) }
         ensures within { IfOk result (λ place.
             IsPlacedWithin place (length (unused_of self.new))) }
+        ensures ahead { IfOk result (λ place. (2 ≤ head_room place) × (length (unused_of self.new)
+            < max (length (unused_of self.old) + 1) (head_room place + CHUNK))) }
         ensures some { IfOk result (λ place. place ≢ Place.Nothing) }
         ensures limit { result ≡ Err ReadFault.Reads → reads_made self.new ≡ MAX_READS }
         ensures fault { NotesFault R.noted self.old self.new result }
@@ -260,6 +264,8 @@ impl<R: NotedRead> Input<R> {
             (unread R.remaining self.old) (unread R.remaining self.new)) }
         ensures within { IfOk result (λ place.
             IsPlacedWithin place (length (unused_of self.new))) }
+        ensures ahead { IfOk result (λ place. length (unused_of self.new)
+            < max (length (unused_of self.old) + 1) (head_room place + CHUNK)) }
         ensures end { IsOkAnd result (λ place. place ≡ Place.Nothing)
             → IsAtEnd (R.remaining (reader_of self.new)) }
         ensures limit { result ≡ Err ReadFault.Reads → reads_made self.new ≡ MAX_READS }
@@ -279,6 +285,8 @@ impl<R: NotedRead> Input<R> {
     /// Reads until so many unused bytes are there. It answers false where the input ends before.
     fn fill(&mut self, len: usize) -> Result<bool, ReadFault>
         ensures keeps { Keeps (unread R.remaining self.old) (unread R.remaining self.new) }
+        ensures ahead { length (unused_of self.new)
+            < max (length (unused_of self.old) + 1) (len + CHUNK) }
         ensures filled { result ≡ Ok true → len ≤ length (unused_of self.new) }
         ensures short { result ≡ Ok false → length (unused_of self.new) < len }
         ensures end { result ≡ Ok false → IsAtEnd (R.remaining (reader_of self.new)) }
@@ -302,6 +310,8 @@ impl<R: NotedRead> Input<R> {
             ≡ taken (Ok (heading head, len)) bytes)
             (unread R.remaining self.old) (unread R.remaining self.new)) }
         ensures goes_on { IfOk result (λ item. item ≢ Item.End) }
+        ensures ahead { is_last result ≡ false → length (unused_of self.new) + len
+            < max (length (unused_of self.old) + 1) (len + CHUNK) }
         ensures limit { result ≡ Err ReadFault.Reads → reads_made self.new ≡ MAX_READS }
         ensures fault { NotesFault R.noted self.old self.new result }
         ensures reads { CountsReads R.noted self.old self.new }
@@ -327,6 +337,8 @@ impl<R: NotedRead> Input<R> {
             (left_behind (next_item item) rest))
             (unread R.remaining self.old) (unread R.remaining self.new)) }
         ensures goes_on { IfOk result (λ item. item ≢ Item.End) }
+        ensures ahead { is_last result ≡ false → length (unused_of self.new) + len
+            < max (length (unused_of self.old) + 1) (len + CHUNK) }
         ensures limit { result ≡ Err ReadFault.Reads → reads_made self.new ≡ MAX_READS }
         ensures fault { NotesFault R.noted self.old self.new result }
         ensures reads { CountsReads R.noted self.old self.new }

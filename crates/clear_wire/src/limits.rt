@@ -15,3 +15,6 @@ pub const MAX_REQUESTS: u32 = 1_000;
 
 /// How many times a stream may call its reader.
 pub const MAX_READS: u32 = 1_000_000;
+
+/// How many bytes one read asks for. Behind a request fewer are held, or no more than before it.
+pub const CHUNK: usize = 4_096;

@@ -1,7 +1,8 @@
 //! What a stream goes on with: its requests and its end.
-ghost use Rattle.std.specs.Prelude.{◌≡◌, true, false, IfOk, IsOkAnd, Ok, Err};
+ghost use Rattle.std.specs.Prelude.{◌≡◌, ◌+◌, ◌<◌, true, false, IfOk, IsOkAnd, Ok, Err, length, max};
 ghost use Rattle.std.specs.Io.KnownBytes.{IsAtEnd};
-ghost use Rattle.clear_wire.specs.Input.{reader_of, reads_made, has_ended, unread, stream};
+ghost use Rattle.clear_wire.specs.Input.{reader_of, unused_of, reads_made, has_ended};
+ghost use Rattle.clear_wire.specs.Input.{unread, stream};
 ghost use Rattle.clear_wire.specs.Input.{NotesFault, CountsReads, KeepsBorrow};
 ghost use Rattle.clear_wire.specs.Known.{Leads};
 ghost use Rattle.clear_wire.specs.Request.{next_item, is_last};
@@ -10,7 +11,7 @@ ghost use Rattle.clear_wire.specs.Stream.{left_behind, Next};
 use crate::counted::NotedRead;
 use crate::head::RequestHead;
 use crate::input::{Input, Place, ReadFault};
-use crate::limits::MAX_READS;
+use crate::limits::{CHUNK, MAX_READS};
 use crate::rule::StreamRule;
 
 /// A request with its body.
@@ -39,7 +40,8 @@ fn is_last(next: &Result<Item, ReadFault>) -> bool
     !matches!(next, Ok(Item::Whole(_)))
 }
 
-/// What the stream goes on with, reading as far as it needs.
+/// What the stream goes on with, reading as far as it needs: behind a request fewer bytes are held
+/// than one read asks for, or no more than before.
 ///
 /// After all but a whole request the stream has ended: a further call reads nothing and gives
 /// `Item::End`. The fault `Read` comes just if a call of the reader failed, and `Reads` only once
@@ -52,6 +54,8 @@ pub fn read_request<R: NotedRead>(input: &mut Input<R>) -> Result<Item, ReadFaul
         → (result ≡ Ok Item.End) × (input.new ≡ input.old) }
     ensures end { has_ended input.old ≡ false → IsOkAnd result (λ item. item ≡ Item.End)
         → IsAtEnd (R.remaining (reader_of input.new)) }
+    ensures ahead { is_last result ≡ false → length (unused_of input.new)
+        < max (length (unused_of input.old) + 1) CHUNK }
     ensures limit { result ≡ Err ReadFault.Reads → reads_made input.new ≡ MAX_READS }
     ensures fault { NotesFault R.noted input.old input.new result }
     ensures reads { CountsReads R.noted input.old input.new }
@@ -72,6 +76,8 @@ fn read_item<R: NotedRead>(input: &mut Input<R>) -> Result<Item, ReadFault>
         (unread R.remaining input.old) (unread R.remaining input.new)) }
     ensures end { IsOkAnd result (λ item. item ≡ Item.End)
         → IsAtEnd (R.remaining (reader_of input.new)) }
+    ensures ahead { is_last result ≡ false → length (unused_of input.new)
+        < max (length (unused_of input.old) + 1) CHUNK }
     ensures limit { result ≡ Err ReadFault.Reads → reads_made input.new ≡ MAX_READS }
     ensures fault { NotesFault R.noted input.old input.new result }
     ensures reads { CountsReads R.noted input.old input.new }

@@ -3,9 +3,9 @@ use Rattle.std.proofs.lemmas.List.{length-append}
 use Rattle.std.specs.Io.KnownBytes.{IsAtEnd}
 use Rattle.clear_wire.specs.Lines.{skip_empty_lines, head_len}
 use Rattle.clear_wire.specs.Stream.{front, front_of, head, too_long, unended}
-use Rattle.clear_wire.proofs.LinesLemmas.{skip_kept}
+use Rattle.clear_wire.proofs.LinesLemmas.{skip_kept, head_end-bounds}
 use Rattle.clear_wire.proofs.KnownLemmas.{Leads-kept, Leads-weaker}
-use Rattle.clear_wire.proofs.StreamLemmas.{front_head, front_too_long, front_unended, searched-append, searched-within}
+use Rattle.clear_wire.proofs.StreamLemmas.{front_head, front_too_long, front_unended, searched-append, searched-within, found_behind}
 use Rattle.clear_wire.proofs.input.Input.find_end.Goals as goal
 
 abbrev SkipsTo : List ℕ → List ℕ → Type 0
@@ -40,6 +40,13 @@ returns-then-not-branch-clause-front g c =
     ∙ front_unended u m (subst IsAtEnd e at_end) some c.reads.invariant.none_left found (search rules))
     (Leads-kept SkipsTo _ _ _ c.reads.invariant.same c.read_more.ensures.keeps)
 
+pub returns-in-Some-clause-ahead : goal.returns-in-Some-clause-ahead
+returns-in-Some-clause-ahead g c =
+    let u = c.reads.self.unused.items in
+    let len = c.in-Some.len in
+    let found : head_len (take 16384 u) ≡ Some len = sym (rw c.as_slice.ensures.value at c.in-Some.ensures.len) in
+    (omega (arith, (head_end-bounds 0 len (take 16384 u) found).0), c.reads.invariant.ahead_head len found)
+
 pub reads-preserved : goal.reads-preserved
 reads-preserved g c =
     let u = c.reads.self.unused.items in
@@ -47,6 +54,7 @@ reads-preserved g c =
     let more = c.read_more.ensures.grows.0 in
     let grown : v ≡ u ++ more = c.read_more.ensures.grows.1 in
     let found : head_len (take 16384 u) ≡ None = sym (rw c.as_slice.ensures.value at c.in_default.ensures.len) in
+    let under : length u < 16384 = search rules in
     let short : length u ≤ 16384 = search rules in
     let count : c.len-searched.result ≡ length u = search rules in
     record {
@@ -55,6 +63,12 @@ reads-preserved g c =
       begun = omega (arith, ap length grown, length-append u more, c.reads.invariant.begun);
       within = searched-within 16384 c.len-searched.result u v more count grown short;
       none_before = searched-append 16384 c.len-searched.result u v more count grown c.reads.invariant.begun short found;
+      ahead_head = λ n e. omega (
+        arith,
+        found_behind 16384 n u v more grown short found e,
+        c.read_more.ensures.few,
+      );
+      ahead = omega (arith, c.read_more.ensures.few, under);
       failed = c.in_ok-read_more.ensures.fault ∙ c.reads.invariant.failed;
       reads = omega (arith, c.read_more.ensures.reads, c.reads.invariant.reads);
       borrow = c.read_more.ensures.borrow ∙ c.reads.invariant.borrow;

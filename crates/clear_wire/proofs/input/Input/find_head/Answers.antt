@@ -1,5 +1,6 @@
 use Rattle.std.proofs.Common.{◌≡◌, ◌<◌, length, Ok, sym, ap, ◌∙◌, subst, arith}
 use Rattle.std.proofs.lemmas.Bool.Decides.{nat_tests}
+use Rattle.std.proofs.lemmas.Result.{IfOk-weaker}
 use Rattle.std.specs.Io.KnownBytes.{IsAtEnd}
 use Rattle.clear_wire.specs.Lines.{skip_empty_lines}
 use Rattle.clear_wire.specs.Stream.{front, front_of, unended}
@@ -17,3 +18,7 @@ returns-clause-front g c =
     Leads-weaker (λ old new. skip_empty_lines new ≡ skip_empty_lines old) (λ old new. front old ≡ unended) _ _ u
     (λ x m e p. ap front_of (sym p) ∙ front_short u m (subst IsAtEnd e at_end) some short c.in_ok-skip_lines.ensures.none_left)
     c.in_ok-skip_lines.ensures.skips
+
+pub returns-then-branch-clause-ahead : goal.returns-then-branch-clause-ahead
+returns-then-branch-clause-ahead g c =
+    IfOk-weaker c.find_end.result _ _ (λ place p. omega (arith, p.0, p.1, c.skip_lines.ensures.ahead)) c.find_end.ensures.ahead

@@ -1,13 +1,14 @@
-use Rattle.std.proofs.Common.{◌≡◌, ◌-◌}
-use Rattle.clear_wire.specs.Input.{unread, reads_made, failed_of, CountsReads, KeepsBorrow}
+use Rattle.std.proofs.Common.{◌≡◌, ◌+◌, ◌-◌, ◌<◌, length, max}
+use Rattle.clear_wire.specs.Input.{unread, unused_of, reads_made, failed_of, CountsReads, KeepsBorrow}
 use Rattle.clear_wire.specs.Known.{Leads}
 use Rattle.clear_wire.specs.Lines.{skip_empty_lines}
-use Rattle.clear_wire.specs.Limits.{read_limit}
+use Rattle.clear_wire.specs.Limits.{read_limit, chunk_size}
 use Rattle.clear_wire.proofs.input.Input.skip_lines.Given as goal
 
 abbrev pub invariant-reads : goal.invariant-reads
 invariant-reads g l = record {
   same : Leads (λ old new. skip_empty_lines new ≡ skip_empty_lines old) (unread g.R.Read.remaining l.fn.self) (unread g.R.Read.remaining l.self);
+  ahead : length (unused_of l.self) < max (length (unused_of l.fn.self) + 1) (2 + chunk_size);
   failed : failed_of g.R.NotedRead.noted l.self ≡ failed_of g.R.NotedRead.noted l.fn.self;
   reads : CountsReads g.R.NotedRead.noted l.fn.self l.self;
   borrow : KeepsBorrow g.R.NotedRead.noted l.fn.self l.self;
