@@ -47,7 +47,7 @@ module _ (old new : State) (settled : IsTrue old.is_open → old.now ≡ old.com
 -- ---- a text without words
 
 -- under any schema it is no query, and changes nothing
-nothing_plain : (schema : Schema) → IsPlain (understood schema [])
+pub nothing_plain : (schema : Schema) → IsPlain (understood schema [])
 unfolding understood everything
 nothing_plain schema = (refl, refl)
 

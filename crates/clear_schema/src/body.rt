@@ -139,6 +139,8 @@ pub fn confirm<S: Alter>(conn: &mut Connection<S>) -> Result<(), Fault>
         → OnOk result (HasTables t (state S.Store conn.new).now
         × HasTables t (state S.Store conn.new).committed
         × ((trees : Trees) → (state S.Store conn.new).may_leave trees → StandsFor t trees)) }
+    // No key and no row is to blame for a fault.
+    ensures cause { HasCleanDisk (state S.Store conn.new) → IfErr result IsOfDisk }
     ensures clean { HasCleanDisk (state S.Store conn.new) → HasCleanDisk (state S.Store conn.old) }
     ensures survives { Survives (state S.Store conn.old) (state S.Store conn.new) (λ _. ⊥) }
 {

@@ -6,9 +6,9 @@ ghost use Rattle.sqlite.specs.Tree.{Trees};
 ghost use Rattle.clear_values.specs.Tables.{Tables};
 ghost use Rattle.clear_schema.specs.Faults.{IsOfDisk, IsWrong, other_layout};
 ghost use Rattle.clear_schema.specs.First.{first_tables};
-ghost use Rattle.clear_schema.specs.Held.{HasTables, StandsFor, StandsOtherwise, TellsAs};
+ghost use Rattle.clear_schema.specs.Held.{HasMeta, HasTables, StandsFor, StandsOtherwise, TellsAs};
 ghost use Rattle.clear_schema.specs.Held.{TellsSchema, this_schema};
-ghost use Rattle.clear_schema.specs.Opening.{TellsOrIsEmpty};
+ghost use Rattle.clear_schema.specs.Opening.{HasMetaOrNothing, IsBelowZero, TellsOrIsEmpty};
 ghost use Rattle.clear_schema.specs.Schema.{no_schema, store_schema};
 ghost use Rattle.clear_schema.specs.Still.{IsStill};
 
@@ -74,6 +74,14 @@ impl<S: Alter> Store<S> {
         ensures survives { (number : ℕ)
             → TellsSchema number (state S.Store connection).now → IfErr result (λ left.
             Survives (state S.Store connection) (state S.Store left.connection) (λ _. ⊥)) }
+        // Nor does anything where `meta` stands first and tells none, or one below 0.
+        ensures rests { IfErr result (λ left. HasCleanDisk (state S.Store left.connection)
+            → HasMeta (state S.Store connection).now.schema
+            → IsTrue (state S.Store left.connection).is_open
+            → IsStill (state S.Store connection) (state S.Store left.connection)) }
+        ensures rests_after { HasMeta (state S.Store connection).now.schema
+            → IfErr result (λ left. Survives (state S.Store connection)
+            (state S.Store left.connection) (λ _. ⊥)) }
         ensures cause { IfErr result (λ left. HasCleanDisk (state S.Store left.connection)
             → TellsOrIsEmpty (state S.Store connection).now
             → (why : Fault) → left.fault ≡ OpenFault.Failed why → IsOfDisk why) }
@@ -118,6 +126,11 @@ impl<S: Alter> Store<S> {
         ensures empty { IfErr result (λ left. HasCleanDisk (state S.Store left.connection)
             → (state S.Store connection).now.schema ≡ no_schema
             → (told : ℕ) → left.fault ≡ OpenFault.WrongVersion told → told ≡ 0) }
+        ensures below_zero { IfErr result (λ left. HasCleanDisk (state S.Store left.connection)
+            → IsBelowZero (state S.Store connection).now
+            → (told : ℕ) → left.fault ≢ OpenFault.WrongVersion told) }
+        ensures not_below_zero { IfOk result (λ store. HasCleanDisk (state S.Store store.conn)
+            → ¬ IsBelowZero (state S.Store connection).now) }
         ensures open { IfOk result (λ store. HasCleanDisk (state S.Store store.conn)
             → (t : Tables) → StandsFor t (state S.Store connection).committed.trees
             → IsTrue (state S.Store connection).is_open → IsTrue (state S.Store store.conn).is_open) }
@@ -144,6 +157,17 @@ impl<S: Alter> Store<S> {
             → TellsAs number (state S.Store connection).committed.trees
             → IsTrue (state S.Store connection).is_open → IfErr result (λ left.
             Survives (state S.Store connection) (state S.Store left.connection) (λ _. ⊥)) }
+        // Nor does anything where `meta` stands first, whatever it tells, or in an empty database.
+        ensures rests { IfErr result (λ left. HasCleanDisk (state S.Store left.connection)
+            → HasMetaOrNothing (state S.Store connection).now.schema
+            → IsTrue (state S.Store left.connection).is_open
+            → IsStill (state S.Store connection) (state S.Store left.connection)) }
+        ensures rests_after { HasMetaOrNothing (state S.Store connection).now.schema
+            → IfOk result (λ store. Survives (state S.Store connection)
+            (state S.Store store.conn) (λ _. ⊥)) }
+        ensures rests_left { HasMetaOrNothing (state S.Store connection).now.schema
+            → IfErr result (λ left. Survives (state S.Store connection)
+            (state S.Store left.connection) (λ _. ⊥)) }
     {
         let mut connection = connection;
         match open_tables(&mut connection) {

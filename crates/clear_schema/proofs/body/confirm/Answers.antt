@@ -1,7 +1,9 @@
-use Rattle.std.proofs.Common.{◌≡◌, IsTrue}
+use Rattle.std.proofs.Common.{◌≡◌, IsTrue, subst, sym}
 use Rattle.sqlite.specs.Held.{state}
+use Rattle.clear_schema.specs.Faults.{IsOfDisk}
 use Rattle.clear_schema.specs.Held.{HasTables}
 use Rattle.clear_schema.proofs.ConfirmLemmas.{asked_still, asked_survives, asked_unchanged, kept_still, no_query, unchanged_still}
+use Rattle.clear_schema.proofs.LookLemmas.{asked_fails}
 use Rattle.clear_schema.proofs.body.confirm.Goals as goal
 
 pub returns-in-Ok-clause-open : goal.returns-in-Ok-clause-open
@@ -54,3 +56,7 @@ returns-in-Err-InvalidQuery-clause-survives g c = asked_survives (state g.S.Stor
 
 pub returns-in-Err-clause-survives : goal.returns-in-Err-clause-survives
 returns-in-Err-clause-survives g c = asked_survives (state g.S.Store c.args.conn.now) (state g.S.Store c.query_all.new.self) c.query_all.ensures.survives
+
+pub returns-in-Err-clause-cause : goal.returns-in-Err-clause-cause
+returns-in-Err-clause-cause g c clean =
+    subst IsOfDisk (sym c.fault_of.ensures) (asked_fails (state g.S.Store c.args.conn.now) (state g.S.Store c.query_all.new.self) _ (c.in-Err.ensures.err clean))
