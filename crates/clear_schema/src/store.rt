@@ -37,7 +37,8 @@ pub struct Refusal<S: Alter> {
 impl<S: Alter> Store<S> {
     /// Makes the tables of an office without requests in an empty database, with its opening rates,
     /// in one transaction. A database that has a table, an index or a view is refused: where it tells a
-    /// number in `meta`, by `WrongVersion` with that one. A refusal hands the connection back.
+    /// number in `meta`, by `WrongVersion` with that one. Nothing changes where a `meta` stands first,
+    /// whatever it tells. A refusal hands the connection back.
     pub fn create(connection: Connection<S>, rates: &RateTable) -> Result<Store<S>, Refusal<S>>
         requires { connection.in_transaction ≡ false }
         ensures mode { IfOk result (λ store. store.conn.in_transaction ≡ false) }
@@ -98,7 +99,8 @@ impl<S: Alter> Store<S> {
     }
 
     /// Finds the store in a database that it was made in. Where the database tells our number, but has
-    /// other tables or indexes than ours, `Store(Other)`. A refusal hands the connection back.
+    /// other tables or indexes than ours, `Store(Other)`. A refusal changes nothing where a `meta`
+    /// stands first, whatever it tells, or where nothing is there, and hands the connection back.
     pub fn open(connection: Connection<S>) -> Result<Store<S>, Refusal<S>>
         requires { connection.in_transaction ≡ false }
         ensures mode { IfOk result (λ store. store.conn.in_transaction ≡ false) }
