@@ -56,7 +56,7 @@ IsPlacedWithin place.TooLong count = ⊤
 -- how many bytes are needed to find this at the front: fewer are there before the last read
 abbrev pub head_room : Place → ℕ
 head_room (place.Head len) = len
-head_room place.Nothing = head_limit
+head_room place.Nothing = 0
 head_room place.Unended = head_limit
 head_room place.TooLong = head_limit
 

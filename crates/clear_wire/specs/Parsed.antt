@@ -26,3 +26,8 @@ heading head = record {
 abbrev pub meaning : ParsedHead → Meaning
 meaning (Asks head len) = Ok (heading head, len)
 meaning (Breaks rule bare) = Err (rule, bare)
+
+-- how many bytes of a body a `ParsedHead` asks for
+abbrev pub body_asked : ParsedHead → ℕ
+body_asked (Asks head len) = len
+body_asked (Breaks rule bare) = 0

@@ -1,6 +1,6 @@
 //! How long a request's body is, and whether a further request follows.
-ghost use Rattle.std.specs.Prelude.{◌≡◌, ◌+◌, min, List, [], ◌∷◌, ◌++◌, length, map, All};
-ghost use Rattle.std.specs.Prelude.{if◌then◌else◌};
+ghost use Rattle.std.specs.Prelude.{◌≡◌, ◌≤◌, ◌+◌, min, List, [], ◌∷◌, ◌++◌, length, map, All};
+ghost use Rattle.std.specs.Prelude.{if◌then◌else◌, IfOk};
 ghost use Rattle.std.specs.List.{list_any};
 ghost use Rattle.std.specs.Str.Parse.{digits_value};
 ghost use Rattle.httparse.specs.Spans.{IsHeaderWithin, header_bytes};
@@ -34,7 +34,8 @@ fn capped_number(text: &[u8]) -> Option<u64>
 
 /// The length that one `Content-Length` states.
 fn stated_len(text: &[u8]) -> Result<u64, StreamRule>
-    ensures { result ≡ stated_len text.now }
+    ensures len { result ≡ stated_len text.now }
+    ensures small { IfOk result (λ len. len ≤ MAX_BODY_BYTES) }
 {
     match capped_number(text) {
         None => Err(StreamRule::BadFraming(FramingStatus::BadRequest)),
@@ -45,7 +46,8 @@ fn stated_len(text: &[u8]) -> Result<u64, StreamRule>
 
 /// The length that the `Content-Length` fields give.
 fn len_by(method: Method, found: Found<'_>) -> Result<u64, StreamRule>
-    ensures { result ≡ len_by method (presence_found found.entry) }
+    ensures len { result ≡ len_by method (presence_found found.entry) }
+    ensures small { IfOk result (λ len. len ≤ MAX_BODY_BYTES) }
 {
     match found {
         Found::Absent if method.needs_length() => {
@@ -65,7 +67,8 @@ pub(crate) fn body_len(
     headers: &[HeaderSpan],
 ) -> Result<u64, StreamRule>
     requires { All (IsHeaderWithin (length buf.now)) headers.now }
-    ensures { result ≡ body_len minor method (map (header_bytes buf.now) headers.now) }
+    ensures len { result ≡ body_len minor method (map (header_bytes buf.now) headers.now) }
+    ensures small { IfOk result (λ len. len ≤ MAX_BODY_BYTES) }
 {
     if minor == 1 && !find(buf, headers, b"host").is_once() {
         return Err(StreamRule::BadHead);

@@ -5,11 +5,11 @@ ghost use Rattle.httparse.specs.Spans.{IsWithin, IsHeaderWithin, header_bytes, s
 ghost use Rattle.httparse.specs.Spans.{IsRequestOf, IsRequestWithin};
 ghost use Rattle.clear_wire.specs.Fields.{presence_found, only};
 ghost use Rattle.clear_wire.specs.Head.{meaning_from, line_count, HasNoHead, Parses};
-ghost use Rattle.clear_wire.specs.Parsed.{meaning, items_of};
+ghost use Rattle.clear_wire.specs.Parsed.{meaning, body_asked, items_of};
 
 use crate::fields::{Found, find};
 use crate::framing::{body_len, closes};
-use crate::limits::MAX_FIELD_LINES;
+use crate::limits::{MAX_BODY_BYTES, MAX_FIELD_LINES};
 use crate::method::Method;
 use crate::rule::StreamRule;
 use httparse::Status;
@@ -70,9 +70,10 @@ fn parse_parts(
     requires method { IsWithin (length head.now) spans.now.method }
     requires path { IsWithin (length head.now) spans.now.path }
     requires headers { All (IsHeaderWithin (length head.now)) headers.now }
-    ensures { IfOk result (λ parsed. meaning parsed
+    ensures meaning { IfOk result (λ parsed. meaning parsed
         ≡ meaning_from spans.now.version (span_bytes head.now spans.now.method)
         (span_bytes head.now spans.now.path) (map (header_bytes head.now) headers.now)) }
+    ensures small { IfOk result (λ parsed. body_asked parsed ≤ MAX_BODY_BYTES) }
 {
     let method = Method::from_name(spans.method.of(head));
     match body_len(spans.version, method, head, headers) {
@@ -117,7 +118,8 @@ fn parse_whole(head: &[u8], headers: &mut [HeaderSpan]) -> Option<RequestSpans>
 
 /// What the bytes of a head come to, from its first byte to the end of its empty line.
 pub(crate) fn parse_head(alloc: Global, head: &[u8]) -> Result<ParsedHead, AllocError>
-    ensures { IfOk result (λ parsed. Parses head.now (meaning parsed)) }
+    ensures parses { IfOk result (λ parsed. Parses head.now (meaning parsed)) }
+    ensures small { IfOk result (λ parsed. body_asked parsed ≤ MAX_BODY_BYTES) }
 {
     if count_lines(head) > MAX_LINES {
         return Ok(ParsedHead::Breaks {

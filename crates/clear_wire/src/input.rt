@@ -2,7 +2,7 @@
 ghost use Rattle.std.specs.Prelude.{◌≡◌, ◌≢◌, ℕ, ◌+◌, ◌<◌, ◌≤◌, true, false, Ok, Err, IfOk, OnOk};
 ghost use Rattle.std.specs.Prelude.{IsOkAnd, List, [], ◌++◌, length, take, drop, max};
 ghost use Rattle.std.specs.Io.KnownBytes.{Keeps, IsAtEnd};
-ghost use Rattle.clear_wire.specs.Limits.{read_limit};
+ghost use Rattle.clear_wire.specs.Limits.{body_limit, read_limit};
 
 use crate::counted::NotedRead;
 use crate::head::{ParsedHead, RequestHead, parse_head};
@@ -136,7 +136,7 @@ impl<R: NotedRead> Input<R> {
     ghost use Rattle.clear_wire.specs.Parsed.{heading};
     ghost use Rattle.clear_wire.specs.Known.{Leads};
     ghost use Rattle.clear_wire.specs.Lines.{skip_empty_lines};
-    ghost use Rattle.clear_wire.specs.Request.{next_item, is_last};
+    ghost use Rattle.clear_wire.specs.Request.{next_item, held_limit};
     ghost use Rattle.clear_wire.specs.Stream.{front, head, taken, left_behind, NextAt};
 
     /// Reads once. It answers false at the end of the input. No byte is lost, whatever it answers.
@@ -310,8 +310,8 @@ impl<R: NotedRead> Input<R> {
             ≡ taken (Ok (heading head, len)) bytes)
             (unread R.remaining self.old) (unread R.remaining self.new)) }
         ensures goes_on { IfOk result (λ item. item ≢ Item.End) }
-        ensures ahead { is_last result ≡ false → length (unused_of self.new) + len
-            < max (length (unused_of self.old) + 1) (len + CHUNK) }
+        ensures ahead { len ≤ body_limit → IfOk result (λ item. length (unused_of self.new)
+            < max (length (unused_of self.old) + 1) (held_limit item)) }
         ensures limit { result ≡ Err ReadFault.Reads → reads_made self.new ≡ MAX_READS }
         ensures fault { NotesFault R.noted self.old self.new result }
         ensures reads { CountsReads R.noted self.old self.new }
@@ -337,8 +337,8 @@ impl<R: NotedRead> Input<R> {
             (left_behind (next_item item) rest))
             (unread R.remaining self.old) (unread R.remaining self.new)) }
         ensures goes_on { IfOk result (λ item. item ≢ Item.End) }
-        ensures ahead { is_last result ≡ false → length (unused_of self.new) + len
-            < max (length (unused_of self.old) + 1) (len + CHUNK) }
+        ensures ahead { IfOk result (λ item. length (unused_of self.new) + len
+            < max (length (unused_of self.old) + 1) (len + held_limit item)) }
         ensures limit { result ≡ Err ReadFault.Reads → reads_made self.new ≡ MAX_READS }
         ensures fault { NotesFault R.noted self.old self.new result }
         ensures reads { CountsReads R.noted self.old self.new }

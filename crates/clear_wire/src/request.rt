@@ -5,13 +5,13 @@ ghost use Rattle.clear_wire.specs.Input.{reader_of, unused_of, reads_made, has_e
 ghost use Rattle.clear_wire.specs.Input.{unread, stream};
 ghost use Rattle.clear_wire.specs.Input.{NotesFault, CountsReads, KeepsBorrow};
 ghost use Rattle.clear_wire.specs.Known.{Leads};
-ghost use Rattle.clear_wire.specs.Request.{next_item, is_last};
+ghost use Rattle.clear_wire.specs.Request.{next_item, is_last, held_limit};
 ghost use Rattle.clear_wire.specs.Stream.{left_behind, Next};
 
 use crate::counted::NotedRead;
 use crate::head::RequestHead;
 use crate::input::{Input, Place, ReadFault};
-use crate::limits::{CHUNK, MAX_READS};
+use crate::limits::MAX_READS;
 use crate::rule::StreamRule;
 
 /// A request with its body.
@@ -54,8 +54,8 @@ pub fn read_request<R: NotedRead>(input: &mut Input<R>) -> Result<Item, ReadFaul
         → (result ≡ Ok Item.End) × (input.new ≡ input.old) }
     ensures end { has_ended input.old ≡ false → IsOkAnd result (λ item. item ≡ Item.End)
         → IsAtEnd (R.remaining (reader_of input.new)) }
-    ensures ahead { is_last result ≡ false → length (unused_of input.new)
-        < max (length (unused_of input.old) + 1) CHUNK }
+    ensures ahead { IfOk result (λ item. length (unused_of input.new)
+        < max (length (unused_of input.old) + 1) (held_limit item)) }
     ensures limit { result ≡ Err ReadFault.Reads → reads_made input.new ≡ MAX_READS }
     ensures fault { NotesFault R.noted input.old input.new result }
     ensures reads { CountsReads R.noted input.old input.new }
@@ -76,8 +76,8 @@ fn read_item<R: NotedRead>(input: &mut Input<R>) -> Result<Item, ReadFault>
         (unread R.remaining input.old) (unread R.remaining input.new)) }
     ensures end { IsOkAnd result (λ item. item ≡ Item.End)
         → IsAtEnd (R.remaining (reader_of input.new)) }
-    ensures ahead { is_last result ≡ false → length (unused_of input.new)
-        < max (length (unused_of input.old) + 1) CHUNK }
+    ensures ahead { IfOk result (λ item. length (unused_of input.new)
+        < max (length (unused_of input.old) + 1) (held_limit item)) }
     ensures limit { result ≡ Err ReadFault.Reads → reads_made input.new ≡ MAX_READS }
     ensures fault { NotesFault R.noted input.old input.new result }
     ensures reads { CountsReads R.noted input.old input.new }
