@@ -81,3 +81,7 @@ TellsOther fault = fault ≢ Failed Memory → fault ≡ other_layout
 abbrev pub IfRefused : {S : Type 0} (g : Ghosts S) → (OpenFault → Type 0) → NotOpened S → Type 0
 IfRefused g P refused =
     IfSome refused.connection (λ conn. HasCleanDisk (state g conn) → P refused.fault)
+
+-- where the files weren't even opened, the fault tells no number
+abbrev pub IsUntoldUnopened : {S : Type 0} → NotOpened S → Type 0
+IsUntoldUnopened refused = refused.connection ≡ None → TellsNone refused.fault

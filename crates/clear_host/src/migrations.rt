@@ -10,7 +10,7 @@ ghost use Rattle.clear_schema.specs.Faults.{IsWrong};
 ghost use Rattle.clear_schema.specs.Held.{HasTables, this_schema};
 ghost use Rattle.clear_schema.specs.Schema.{this_layout};
 ghost use Rattle.clear_host.specs.Contents.{HoldsOtherLayout, HoldsSchema, HoldsStore};
-ghost use Rattle.clear_host.specs.Contents.{IfRefused, TellsOnly, TellsOther};
+ghost use Rattle.clear_host.specs.Contents.{IfRefused, IsUntoldUnopened, TellsOnly, TellsOther};
 ghost use Rattle.clear_host.specs.Seen.{Sees};
 
 use crate::hindrance::Hindrance;
@@ -55,6 +55,7 @@ pub fn bring_to_current<S: Start>(
         → IfErr result (IfRefused over_files TellsOther) }
     ensures empty { IsNothing (image_at S.Start)
         → IfErr result (IfRefused over_files (TellsOnly 0)) }
+    ensures unopened { IfErr result IsUntoldUnopened }
 {
     let connection = open_database(rt, path, start)?;
     bring(connection)
@@ -85,6 +86,7 @@ fn bring<S: Alter>(connection: Connection<S>) -> Result<Brought<S>, NotOpened<S>
         → IfErr result (IfRefused S.Store TellsOther) }
     ensures empty { (image : Image) → Sees S.Store image connection → IsNothing image
         → IfErr result (IfRefused S.Store (TellsOnly 0)) }
+    ensures unopened { IfErr result IsUntoldUnopened }
 {
     let mut connection = connection;
     match to_current(&mut connection) {

@@ -2,62 +2,103 @@
 
 use crate::logs::log_beside;
 use std::alloc::AllocError;
+use std::fs::Metadata;
 use std::os::unix::fs::MetadataExt;
 use std::{fs, io};
 
-// Which file it is: the device that it lies on, and its number there.
+/// Which file it is: the device that it lies on, and its number there.
 #[derive(Clone, Copy)]
-struct FileId {
+pub(crate) struct FileId {
     device: u64,
     inode: u64,
+}
+
+impl FileId {
+    /// That of the file of which this is told.
+    pub(crate) fn of(found: &Metadata) -> FileId {
+        FileId {
+            device: found.dev(),
+            inode: found.ino(),
+        }
+    }
+
+    /// Whether this is told of the same file.
+    pub(crate) fn is_of(&self, found: &Metadata) -> bool {
+        found.dev() == self.device && found.ino() == self.inode
+    }
+}
+
+/// The file of a store: its path, and which file stood there.
+#[derive(Clone, Copy)]
+pub struct StoreFile<'a> {
+    pub path: &'a str,
+    id: FileId,
+}
+
+impl<'a> StoreFile<'a> {
+    /// The file that stands at a path now, through links too. `None` says that it can't be asked for.
+    /// Taken before the store is opened, it tells afterwards whether that file is the one that was opened.
+    pub fn at(rt: &HostRuntime, path: &'a str) -> Option<StoreFile<'a>> {
+        match id_at(rt, path) {
+            Ok(id) => Some(StoreFile { path, id }),
+            Err(_) => None,
+        }
+    }
+
+    /// Whether its path still names this file: no other, and none that can't be asked for.
+    pub fn stands(&self, rt: &HostRuntime) -> bool {
+        names(rt, self.path, &self.id)
+    }
+
+    /// Whether this is told of this file.
+    pub(crate) fn is_of(&self, found: &Metadata) -> bool {
+        self.id.is_of(found)
+    }
 }
 
 /// The two files of a store that is open: the one at its path, and its log.
 #[derive(Drop)]
 pub struct NamedStore<'a> {
     rt: &'a HostRuntime,
-    store: &'a str,
+    file: StoreFile<'a>,
     log: String,
-    store_id: FileId,
     log_id: FileId,
 }
 
 impl<'a> NamedStore<'a> {
-    /// The files that stand now for the store at a path, through links too. `None` says that one can't
-    /// be asked for.
-    pub fn at(rt: &'a HostRuntime, store: &'a str) -> Result<Option<NamedStore<'a>>, AllocError> {
-        let Some(log) = log_beside(rt, store)? else {
+    /// The file of a store, and the log that stands beside it now, through links too. `None` says that
+    /// the log can't be asked for.
+    pub fn with_log(
+        rt: &'a HostRuntime,
+        file: StoreFile<'a>,
+    ) -> Result<Option<NamedStore<'a>>, AllocError> {
+        let Some(log) = log_beside(rt, file.path)? else {
             return Ok(None);
         };
-        match (id_at(rt, store), id_at(rt, log.as_str())) {
-            (Ok(store_id), Ok(log_id)) => Ok(Some(NamedStore {
+        match id_at(rt, log.as_str()) {
+            Ok(log_id) => Ok(Some(NamedStore {
                 rt,
-                store,
+                file,
                 log,
-                store_id,
                 log_id,
             })),
-            (_, _) => Ok(None),
+            Err(_) => Ok(None),
         }
     }
 
     /// Whether both paths still name these files: no others, and none that can't be asked for.
     pub fn stands(&self) -> bool {
-        names(self.rt, self.store, self.store_id) && names(self.rt, self.log.as_str(), self.log_id)
+        self.file.stands(self.rt) && names(self.rt, self.log.as_str(), &self.log_id)
     }
 }
 
 fn id_at(rt: &HostRuntime, path: &str) -> io::Result<FileId> {
-    let found = fs::metadata(rt, path)?;
-    Ok(FileId {
-        device: found.dev(),
-        inode: found.ino(),
-    })
+    Ok(FileId::of(&fs::metadata(rt, path)?))
 }
 
-fn names(rt: &HostRuntime, path: &str, id: FileId) -> bool {
-    match id_at(rt, path) {
-        Ok(found) => found.device == id.device && found.inode == id.inode,
+fn names(rt: &HostRuntime, path: &str, id: &FileId) -> bool {
+    match fs::metadata(rt, path) {
+        Ok(found) => id.is_of(&found),
         Err(_) => false,
     }
 }

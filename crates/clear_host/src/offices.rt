@@ -16,7 +16,8 @@ ghost use Rattle.clear_schema.specs.Held.{HasTables, this_schema};
 ghost use Rattle.clear_schema.specs.Schema.{this_layout};
 ghost use Rattle.clear_office.specs.Office.{Holds, IsHonest, Keeps};
 ghost use Rattle.clear_host.specs.Contents.{HoldsBook, HoldsObjects, HoldsOtherLayout, HoldsSchema};
-ghost use Rattle.clear_host.specs.Contents.{HoldsStore, IfRefused, TellsNone, TellsOnly, TellsOther};
+ghost use Rattle.clear_host.specs.Contents.{HoldsStore, IfRefused, IsUntoldUnopened};
+ghost use Rattle.clear_host.specs.Contents.{TellsNone, TellsOnly, TellsOther};
 ghost use Rattle.clear_host.specs.Seen.{Sees};
 
 use crate::hindrance::Hindrance;
@@ -67,11 +68,9 @@ pub(crate) fn new_office<S: Alter>(
 ) -> Result<Opened<S>, NotOpened<S>>
     requires { connection.in_transaction ≡ false }
     ensures working { IfOk result (λ opened. opened.office.failed ≡ false) }
-    ensures created { (image : Image) → Sees S.Store image connection
-        → IfOk result (λ opened. IsHonest S.Store opened.office → IsNothing image
+    ensures created { IfOk result (λ opened. IsHonest S.Store opened.office
         → Holds S.Store opened.office.conn (first_tables rates.now)) }
-    ensures keeps { (image : Image) → Sees S.Store image connection
-        → IfOk result (λ opened. IsHonest S.Store opened.office → IsNothing image
+    ensures keeps { IfOk result (λ opened. IsHonest S.Store opened.office
         → Keeps S.Store opened.office (first_book rates.now)) }
     ensures only_new { (image : Image) → Sees S.Store image connection
         → IfOk result (λ opened. IsHonest S.Store opened.office → ¬ HoldsObjects image) }
@@ -81,6 +80,7 @@ pub(crate) fn new_office<S: Alter>(
         → IfErr result (IfRefused S.Store (TellsOnly number)) }
     ensures empty { (image : Image) → Sees S.Store image connection → IsNothing image
         → IfErr result (IfRefused S.Store TellsNone) }
+    ensures unopened { IfErr result IsUntoldUnopened }
 {
     match make_office(alloc, connection, rates) {
         Ok(office) => Ok(Opened {
@@ -130,6 +130,7 @@ pub(crate) fn find_office<S: Alter>(
         → IfErr result (IfRefused S.Store TellsOther) }
     ensures empty { (image : Image) → Sees S.Store image connection → IsNothing image
         → IfErr result (IfRefused S.Store (TellsOnly 0)) }
+    ensures unopened { IfErr result IsUntoldUnopened }
 {
     let store = find_store(connection)?;
     office_over(alloc, store)
@@ -157,6 +158,7 @@ fn find_store<S: Alter>(connection: Connection<S>) -> Result<Store<S>, NotOpened
         → IfErr result (IfRefused S.Store TellsOther) }
     ensures empty { (image : Image) → Sees S.Store image connection → IsNothing image
         → IfErr result (IfRefused S.Store (TellsOnly 0)) }
+    ensures unopened { IfErr result IsUntoldUnopened }
 {
     match Store::open(connection) {
         Ok(store) => confirm(store),
@@ -178,6 +180,7 @@ fn confirm<S: Alter>(store: Store<S>) -> Result<Store<S>, NotOpened<S>>
     ensures clean { IfOk result (λ confirmed. HasCleanDisk (state S.Store confirmed.conn)
         → HasCleanDisk (state S.Store store.conn)) }
     ensures untold { IfErr result (IfRefused S.Store TellsNone) }
+    ensures unopened { IfErr result IsUntoldUnopened }
     ensures clean_left { IfErr result (IfRefused S.Store (λ fault.
         HasCleanDisk (state S.Store store.conn))) }
 {
@@ -208,6 +211,7 @@ fn office_over<S: Alter>(alloc: Global, store: Store<S>) -> Result<Opened<S>, No
         → (t : Tables) → HasTables t (state S.Store store.conn).now
         → opened.ledger_day ≡ t.day) }
     ensures untold { IfErr result (IfRefused S.Store TellsNone) }
+    ensures unopened { IfErr result IsUntoldUnopened }
     ensures clean_left { IfErr result (IfRefused S.Store (λ fault.
         HasCleanDisk (state S.Store store.conn))) }
 {

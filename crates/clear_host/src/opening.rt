@@ -3,6 +3,7 @@ ghost use Rattle.std.specs.Prelude.{◌≡◌, false, true, None, IfErr, IfOk, I
 ghost use Rattle.sqlite.specs.Files.{over_files};
 ghost use Rattle.sqlite_std_file.specs.File.{file_is_usable, IsFresh};
 ghost use Rattle.sqlite_wal.specs.Files.{image_at};
+ghost use Rattle.clear_host.specs.Contents.{TellsNone};
 ghost use Rattle.clear_host.specs.Seen.{Sees};
 
 use crate::hindrance::hindrance_of;
@@ -29,6 +30,7 @@ pub(crate) fn open_database<S: Start>(
     ensures mode { IfOk result (λ connection. connection.in_transaction ≡ false) }
     ensures sees { IfOk result (Sees over_files (image_at S.Start)) }
     ensures none { IfErr result (λ refused. refused.connection ≡ None) }
+    ensures untold { IfErr result (λ refused. TellsNone refused.fault) }
 {
     let files = open_files(rt, path, start)?;
     let seed = random_seed(rt)?;
@@ -81,8 +83,9 @@ fn random_seed(rt: &HostRuntime) -> Result<u64, Error> {
 
 impl<S: Alter> From<Error> for NotOpened<S> {
     ghost use Rattle.std.specs.Prelude.{◌≡◌, None};
+    ghost use Rattle.clear_host.specs.Contents.{TellsNone};
 
-    ghost from_gives = { λ _ refused. refused.connection ≡ None };
+    ghost from_gives = { λ _ refused. (refused.connection ≡ None) × TellsNone refused.fault };
 
     fn from(error: Error) -> NotOpened<S> {
         let hindrance = hindrance_of(&error);

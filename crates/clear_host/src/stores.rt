@@ -15,7 +15,8 @@ ghost use Rattle.clear_schema.specs.Held.{this_schema};
 ghost use Rattle.clear_schema.specs.Schema.{this_layout};
 ghost use Rattle.clear_office.specs.Office.{Holds, IsHonest, Keeps};
 ghost use Rattle.clear_host.specs.Contents.{HoldsBook, HoldsObjects, HoldsOtherLayout, HoldsSchema};
-ghost use Rattle.clear_host.specs.Contents.{HoldsStore, IfRefused, TellsNone, TellsOnly, TellsOther};
+ghost use Rattle.clear_host.specs.Contents.{HoldsStore, IfRefused, IsUntoldUnopened};
+ghost use Rattle.clear_host.specs.Contents.{TellsNone, TellsOnly, TellsOther};
 
 use crate::offices::{NotOpened, Opened, find_office, new_office};
 use crate::opening::{is_no_file, open_database};
@@ -44,10 +45,8 @@ pub fn create_office<S: Start>(
 ) -> Result<Opened<FileStore<FileFrom<S>>>, NotOpened<FileStore<FileFrom<S>>>>
     ensures working { IfOk result (λ opened. opened.office.failed ≡ false) }
     ensures created { IfOk result (λ opened. IsHonest over_files opened.office
-        → IsNothing (image_at S.Start)
         → Holds over_files opened.office.conn (first_tables rates.now)) }
     ensures keeps { IfOk result (λ opened. IsHonest over_files opened.office
-        → IsNothing (image_at S.Start)
         → Keeps over_files opened.office (first_book rates.now)) }
     ensures lawful { IsLawful (first_book rates.now) }
     ensures only_new { IfOk result (λ opened. IsHonest over_files opened.office
@@ -57,6 +56,7 @@ pub fn create_office<S: Start>(
         → IfErr result (IfRefused over_files (TellsOnly number)) }
     ensures empty { IsNothing (image_at S.Start)
         → IfErr result (IfRefused over_files TellsNone) }
+    ensures unopened { IfErr result IsUntoldUnopened }
 {
     // No effect at run time: the proof reads from this call that the rates are lawful.
     rates_in_range(rates);
@@ -97,6 +97,7 @@ pub fn open_office<S: Start>(
         → IfErr result (IfRefused over_files TellsOther) }
     ensures empty { IsNothing (image_at S.Start)
         → IfErr result (IfRefused over_files (TellsOnly 0)) }
+    ensures unopened { IfErr result IsUntoldUnopened }
 {
     let connection = open_database(rt, path, start)?;
     find_office(rt.alloc(), connection)

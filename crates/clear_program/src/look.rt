@@ -31,8 +31,8 @@ pub(crate) fn look_at<S: Start>(
 {
     let kind = path_kind(rt, store);
     match open_whole(rt, store, start, again) {
-        Ok(opened) => {
-            let done = look_into(rt.alloc(), opened);
+        Ok(whole) => {
+            let done = look_into(rt.alloc(), whole.opened);
             close_store(done.connection);
             say(&mut rt.stdout(), done.said?.as_str())?;
             Ok(0)

@@ -43,6 +43,11 @@ pub enum Task<'a> {
     Migrate {
         store: &'a str,
     },
+    /// Makes the store at a path, with these opening rates.
+    Init {
+        store: &'a str,
+        rates: RateTable,
+    },
     /// Works on the store at a path.
     OnStore {
         store: &'a str,
@@ -50,13 +55,9 @@ pub enum Task<'a> {
     },
 }
 
-/// What is done with a store. It is made first, or opened.
+/// What is done with a store that was opened.
 #[derive(Drop)]
 pub enum Work<'a> {
-    /// Makes it, with these opening rates.
-    Init {
-        rates: RateTable,
-    },
     /// Serves so many connections on a port of this machine.
     Serve {
         directory: Directory,
@@ -115,7 +116,7 @@ pub fn read_task<'a>(rt: &HostRuntime, words: &'a [String]) -> Result<Task<'a>, 
 
 fn prepare<'a>(rt: &HostRuntime, words: Words<'a>) -> Result<Task<'a>, Stop> {
     match words {
-        Words::Init { store, rates } => on_store(store, init_work(rt, rates)),
+        Words::Init { store, rates } => init_task(rt, store, rates),
         Words::Stream {
             rates,
             callers,
@@ -152,9 +153,9 @@ fn on_store<'a>(store: &'a str, work: Result<Work<'a>, Stop>) -> Result<Task<'a>
     Ok(Task::OnStore { store, work })
 }
 
-fn init_work<'a>(rt: &HostRuntime, rates: &str) -> Result<Work<'a>, Stop> {
+fn init_task<'a>(rt: &HostRuntime, store: &'a str, rates: &str) -> Result<Task<'a>, Stop> {
     let rates = read_rate_file(rt, rates)?;
-    Ok(Work::Init { rates })
+    Ok(Task::Init { store, rates })
 }
 
 fn serve_work<'a>(

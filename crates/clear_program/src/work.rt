@@ -7,17 +7,16 @@ use clear_book::numbers::RequestNo;
 use clear_book::outcomes::{Answer, Reply};
 use clear_book::rules::{Rule, StoreCause};
 use clear_callers::directory::Directory;
-use clear_cli::ready::{copied_line, imported_line, ready_text, schema_line, served_line};
+use clear_cli::ready::{copied_line, imported_line, ready_text, served_line};
 use clear_host::backup::copy_whole;
 use clear_host::connections::{Ended, serve_connections};
 use clear_host::logs::is_brought_over;
-use clear_host::named::NamedStore;
-use clear_host::offices::{NotOpened, Opened};
+use clear_host::named::{NamedStore, StoreFile};
+use clear_host::offices::Opened;
 use clear_http::desk::serve;
 use clear_money::days::Day;
 use clear_money::numbers::EmployerNo;
 use clear_office::office::Office;
-use clear_schema::store::SCHEMA;
 use clear_wire::counted::{Counted, RequestRead};
 use sqlite::{Alter, Connection};
 use std::alloc::{AllocError, Global};
@@ -59,42 +58,37 @@ pub struct Done<S: Alter> {
     pub connection: Connection<S>,
 }
 
-/// Does the work on the store at a path that was just made or opened, if it was. That connections
-/// are taken, and why one ended early, is told on `errors`.
+/// Does the work on a store that was just opened, and which file it is. That connections are taken, and
+/// why one ended early, is told on `errors`.
 pub fn work_on<S: Alter + Drop, E: Write>(
     rt: &HostRuntime,
-    opened: Result<Opened<S>, NotOpened<S>>,
-    store: &str,
+    opened: Opened<S>,
+    file: &StoreFile<'_>,
     work: Work<'_>,
     errors: &mut E,
-) -> Result<Done<S>, Stop> {
-    match opened {
-        Ok(mut opened) => {
-            let said = do_work(rt, &mut opened, store, work, errors);
-            let connection = opened.into_connection();
-            Ok(Done { said, connection })
-        }
-        Err(refused) => Err(Stop::from(refused.fault)),
-    }
+) -> Done<S> {
+    let mut opened = opened;
+    let said = do_work(rt, &mut opened, file, work, errors);
+    let connection = opened.into_connection();
+    Done { said, connection }
 }
 
 fn do_work<S: Alter, E: Write>(
     rt: &HostRuntime,
     opened: &mut Opened<S>,
-    store: &str,
+    file: &StoreFile<'_>,
     work: Work<'_>,
     errors: &mut E,
 ) -> Result<String, Stop> {
     let alloc = rt.alloc();
     match work {
-        Work::Init { rates: _ } => Ok(schema_line(alloc, SCHEMA)?),
         Work::Serve {
             directory,
             day,
             port,
             count,
         } => {
-            let place = Place { store, port };
+            let place = Place { file: *file, port };
             serve_at(rt, opened, &directory, day, &place, count, errors)
         }
         Work::Import {
@@ -103,14 +97,14 @@ fn do_work<S: Alter, E: Write>(
             command,
         } => import(alloc, &mut opened.office, day, number, &command),
         Work::Statement { day, employer } => statement(alloc, &mut opened.office, day, employer),
-        Work::Backup { copy } => backup(rt, store, copy, &opened.ledger_day),
+        Work::Backup { copy } => backup(rt, file, copy, &opened.ledger_day),
     }
 }
 
-// Where an office is served: the path of its store, and the port.
+// Where an office is served: the file of its store, and the port.
 #[derive(Clone, Copy)]
 struct Place<'a> {
-    store: &'a str,
+    file: StoreFile<'a>,
     port: u16,
 }
 
@@ -123,7 +117,7 @@ fn serve_at<S: Alter, E: Write>(
     count: u32,
     errors: &mut E,
 ) -> Result<String, Stop> {
-    let Some(files) = NamedStore::at(rt, place.store)? else {
+    let Some(files) = NamedStore::with_log(rt, place.file)? else {
         return Err(STORE_GONE);
     };
     let Ok(listener) = TcpListener::bind(rt, (Ipv4Addr::LOCALHOST, place.port)) else {
@@ -183,18 +177,18 @@ fn statement<S: Alter>(
     }
 }
 
-// Copies the file of the store at a path, which is open and held. Where its log couldn't be brought over,
+// Copies the file of a store, which is open and held. Where its log couldn't be brought over,
 // as on a full disk, the file alone isn't the store, and nothing is copied.
 fn backup(
     rt: &HostRuntime,
-    store: &str,
+    file: &StoreFile<'_>,
     copy: &str,
     ledger_day: &Option<Day>,
 ) -> Result<String, Stop> {
-    if !is_brought_over(rt, store) {
+    if !is_brought_over(rt, file.path) {
         return Err(LOG_LEFT);
     }
-    copy_whole(rt, store, copy)?;
+    copy_whole(rt, file, copy)?;
     Ok(copied_line(rt.alloc(), ledger_day)?)
 }
 

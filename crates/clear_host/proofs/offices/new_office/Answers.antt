@@ -4,14 +4,10 @@ use Rattle.clear_host.proofs.StoreLemmas.{nothing_seen, objects_seen, told_seen}
 use Rattle.clear_host.proofs.offices.new_office.Goals as goal
 
 pub returns-in-Ok-clause-created : goal.returns-in-Ok-clause-created
-returns-in-Ok-clause-created g c image sees honest nothing =
-    let seen = sees (c.in-Ok.ensures.clean honest) in
-    c.in-Ok.ensures.created honest (nothing_seen image (state g.S.Store c.args.connection) seen nothing)
+returns-in-Ok-clause-created g c honest = c.in-Ok.ensures.created honest c.in-Ok.ensures.only_empty
 
 pub returns-in-Ok-clause-keeps : goal.returns-in-Ok-clause-keeps
-returns-in-Ok-clause-keeps g c image sees honest nothing =
-    let seen = sees (c.in-Ok.ensures.clean honest) in
-    c.in-Ok.ensures.keeps honest (nothing_seen image (state g.S.Store c.args.connection) seen nothing)
+returns-in-Ok-clause-keeps g c honest = c.in-Ok.ensures.keeps honest c.in-Ok.ensures.only_empty
 
 pub returns-in-Ok-clause-only_new : goal.returns-in-Ok-clause-only_new
 returns-in-Ok-clause-only_new g c image sees honest holds =

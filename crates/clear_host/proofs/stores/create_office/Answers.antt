@@ -6,10 +6,10 @@ use Rattle.clear_host.proofs.RefusalLemmas.{unconnected}
 use Rattle.clear_host.proofs.stores.create_office.Goals as goal
 
 pub returns-clause-created : goal.returns-clause-created
-returns-clause-created g c = c.new_office.ensures.created (image_at g.S.Start) c.in_ok-connection.ensures.sees
+returns-clause-created g c = c.new_office.ensures.created
 
 pub returns-clause-keeps : goal.returns-clause-keeps
-returns-clause-keeps g c = c.new_office.ensures.keeps (image_at g.S.Start) c.in_ok-connection.ensures.sees
+returns-clause-keeps g c = c.new_office.ensures.keeps
 
 pub returns-clause-only_new : goal.returns-clause-only_new
 returns-clause-only_new g c = c.new_office.ensures.only_new (image_at g.S.Start) c.in_ok-connection.ensures.sees
