@@ -5,7 +5,7 @@ use clear_money::days::Day;
 use clear_money::numbers::EmployerNo;
 
 /// What the program is to do. Each `store`, and each of `rates`, `callers` and `file`, is the path
-/// of a file.
+/// of a file; `rates` and `callers` of `Stream` may be the word `sample` instead.
 #[derive(Clone, Copy)]
 pub enum Words<'a> {
     /// Makes a store in a new file, with the rates of a rate file.

@@ -39,14 +39,14 @@ pub enum Ended {
     Served,
     /// Before one of them the store didn't stand any more.
     StoreGone,
-    /// Before that, the system gave none for several times.
+    /// Before that, the system refused a connection too often in turn.
     NoConnections,
 }
 
-// How often the system may refuse a connection, one time after another, and how many milliseconds pass
-// after each time.
+// How often the system may refuse a connection, one time after another.
 const FAILURES: u32 = 100;
 
+// How many milliseconds pass after each of these times.
 const PAUSE: u64 = 100;
 
 /// How serving ended, and the error writer's first fault.

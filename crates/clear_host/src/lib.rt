@@ -1,5 +1,5 @@
-//! What touches the host: files that are read whole, offices over stores in files, and the
-//! connections of a listener.
+//! What touches the host: files that are read whole, offices over stores in files, copies of such
+//! stores, stores that are brought to this schema, and the connections of a listener.
 //!
 //! No contract knows what a file holds, what a path names, or what a socket gives or takes. So
 //! rates and callers are said of any reader's bytes, and of a file to be those that some bytes say.

@@ -12,6 +12,8 @@
 //! lawful book the store stands for, what is said to the requests of a stream are the answers of
 //! the clearing machine over that book, and the store then stands for the book that the machine
 //! leaves. Whatever the store holds, what access doesn't allow is refused for that.
+//!
+//! What a stream needs, and what its requests are answered with, can be named by this crate, too.
 #![tactic(auto)]
 
 pub mod desk;

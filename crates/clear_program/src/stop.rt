@@ -22,9 +22,9 @@ pub enum Stop {
     /// The command line isn't understood.
     Line,
     /// A rate, caller or bank file can't be read, is too large, or is no such file, or a copy of a
-    /// store can't be made.
+    /// store can't be made, or where a store is to be made a log was left alone.
     File,
-    /// The port can't be bound.
+    /// The port can't be bound, or the system gives no more connections.
     Net,
     /// Standard input or output failed, or a stream took all reads that it may make.
     Stream,

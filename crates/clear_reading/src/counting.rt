@@ -73,7 +73,7 @@ fn count_source<T: Tally, S: Alter>(
     }
 }
 
-// The count of all rows that the source gives up to its end. More than 2^64 - 1 find no memory.
+// The count of all rows that the source gives up to its end. 2^64 - 1 or more find no memory.
 fn count_all<T: Tally, R: RowSource<Row = <T::Table as StoredTable>::Row>>(
     rows: &mut R,
 ) -> Result<T::Count, RowFault>

@@ -20,10 +20,14 @@ pub enum ColumnLayout {
     Blob(&'static str),
 }
 
-/// The places of columns that stand once.
+/// A key of a table: the places of the columns whose values stand together in one row at most.
+///
+/// In each list of places the number of a row has place 0, whatever column it stands in, and column
+/// `i`, counted from 0, has place `i + 1`.
 pub struct KeyLayout(pub &'static [usize]);
 
-/// A table, and the tree in which its rows are kept.
+/// A table, and the tree in which its rows are kept. `key` is the column, counted from 0, in which the
+/// number of a row stands, if there is one.
 pub struct TableLayout {
     pub name: &'static str,
     pub tree: u32,

@@ -7,6 +7,8 @@
 //! reminder run may always be answered `Memory`, so a body that answers nothing else meets these
 //! contracts too; that they succeed with memory at hand is shown by tests. No other decision answers
 //! it.
+//!
+//! What decisions are made of, and the laws, can be named by this crate, too.
 #![tactic(auto)]
 
 pub mod decide;
