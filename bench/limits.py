@@ -266,6 +266,17 @@ def read_store(store):
     return found
 
 
+def count_alike(served, put):
+    """How many rows two stores both have; ends where they aren't equal."""
+    if served.keys() != put.keys():
+        sys.exit(f"serving leaves tables {[*served]}, rows {[*put]}")
+    for table, rows in served.items():
+        for one, other in zip_longest(rows, put[table]):
+            if one != other:
+                sys.exit(f"{table} differs: serving leaves {str(one)[:400]}, rows {str(other)[:400]}")
+    return sum(len(rows) for table, rows in served.items() if table != "form")
+
+
 def look_alike(options, months, folder):
     """Ends where a store filled by rows isn't what serving the same requests leaves; gives their sizes."""
     firms = max(options.alike // (months + 1), 2)
@@ -277,13 +288,7 @@ def look_alike(options, months, folder):
         # Sqlite3 has brought in the log of the killed office.
         sizes.append(os.path.getsize(book.server.store()))
     served, put = stores
-    if served.keys() != put.keys():
-        sys.exit(f"serving leaves tables {[*served]}, rows {[*put]}")
-    for table, rows in served.items():
-        for one, other in zip_longest(rows, put[table]):
-            if one != other:
-                sys.exit(f"{table} differs: serving leaves {one}, rows {other}")
-    count = sum(len(rows) for table, rows in served.items() if table != "form")
+    count = count_alike(served, put)
     return (f"{count:,} rows in {len(served) - 1} tables, of {firms} firms over {months} months, are equal "
             f"by both ways; by serving the file has {sizes[0]:,} bytes, by rows {sizes[1]:,}.")
 

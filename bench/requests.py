@@ -25,21 +25,14 @@ in: from then on it looks at the key of each credit of its firms, and, where a l
 line. Nor is a registration measured, which counts all firms once there are 10,000 requests.
 """
 import argparse
-import glob
 import os
-import shutil
-import subprocess
 import sys
 import tempfile
 import time
 
-ROOT = os.path.dirname(os.path.dirname(os.path.abspath(__file__)))
-SOURCES = os.path.join(ROOT, "bench", "requests")
-COPY = os.path.join(tempfile.gettempdir(), "clearing-bench")
-CRATE = os.path.join(COPY, "crates", "bench_requests")
-PROGRAM = os.path.join(CRATE, "out", "bench_requests")
-# The program's line in crates.txt.
-LIBRARIES = "bench_requests: clear_office clear_schema clear_book clear_money sqlite sqlite_std_file\n"
+from programs import Program, least
+
+PROGRAM = Program("requests", "clear_office clear_schema clear_book clear_money sqlite sqlite_std_file")
 MEMORY = "/dev/shm"
 SIZES = (1_000, 100_000)
 # The kinds of requests in the program's order, and how many it takes of each.
@@ -49,41 +42,10 @@ LIST = "payout list of 100 claims"
 COUNTS = KINDS | {LIST: 10}
 
 
-def copy_crates():
-    """The crates as they stand. What was proved of them is copied once, and then kept."""
-    for name in os.listdir(os.path.join(ROOT, "crates")):
-        crate = os.path.join(COPY, "crates", name)
-        was_built = os.path.isdir(os.path.join(crate, "out"))
-        for part in glob.glob(os.path.join(crate, "*")):
-            if os.path.basename(part) != "out":
-                shutil.rmtree(part) if os.path.isdir(part) else os.remove(part)
-        left_out = shutil.ignore_patterns("out") if was_built else None
-        shutil.copytree(os.path.join(ROOT, "crates", name), crate, dirs_exist_ok=True, ignore=left_out)
-
-
-def build():
-    """Proves and builds the program where a source is newer; without words it does nothing."""
-    print(f"building in {COPY}", file=sys.stderr)
-    copy_crates()
-    os.makedirs(os.path.join(CRATE, "src"), exist_ok=True)
-    for name in os.listdir(SOURCES):
-        shutil.copy2(os.path.join(SOURCES, name), os.path.join(CRATE, "src", name.removesuffix(".in")))
-    with open(os.path.join(ROOT, "crates.txt")) as crates, open(os.path.join(COPY, "crates.txt"), "w") as copy:
-        copy.write(crates.read() + LIBRARIES)
-    made = subprocess.run(["rt", "run"], cwd=CRATE, stdin=subprocess.DEVNULL, capture_output=True, text=True)
-    if made.returncode != 0:
-        sys.exit(made.stdout + made.stderr)
-
-
-def run(*words):
-    """What the program prints."""
-    return subprocess.run([PROGRAM, *map(str, words)], check=True, stdout=subprocess.PIPE, text=True).stdout
-
-
 def make(store, size, pages):
     """Makes a store, and tells how long that took."""
     begun = time.perf_counter()
-    run(store, "make", size, pages)
+    PROGRAM.run(store, "make", size, pages)
     seconds = time.perf_counter() - begun
     kilobytes = os.path.getsize(store) // 1024
     print(f"made a book of {size:,} requests: {seconds:.1f} s, {kilobytes:,} kB", file=sys.stderr)
@@ -91,18 +53,9 @@ def make(store, size, pages):
 
 def measure(store, size, pages):
     """For each kind the microseconds of one request by processor time and by the clock, on a copy of a store."""
-    copy = store + ".copy"
-    shutil.copyfile(store, copy)
-    lines = run(copy, "measure", size, pages).splitlines()
-    for name in (copy, copy + "-wal"):
-        if os.path.exists(name):
-            os.remove(name)
+    lines = PROGRAM.run_on_copy(store, "measure", size, pages).splitlines()
     return [tuple(int(spent) / count / 1_000 for spent in line.split())
             for line, count in zip(lines, COUNTS.values(), strict=True)]
-
-
-def least(old, new):
-    return tuple(map(min, old, new)) if old else new
 
 
 def main():
@@ -111,7 +64,7 @@ def main():
     words.add_argument("repeats", type=int, nargs="?", default=3)
     words.add_argument("pages", type=int, nargs="?", default=2_000)
     given = words.parse_args()
-    build()
+    PROGRAM.build()
     found = {}
     with tempfile.TemporaryDirectory(dir=MEMORY if os.path.isdir(MEMORY) else None) as folder:
         stores = {size: os.path.join(folder, f"store{size}") for size in SIZES}

@@ -16,20 +16,13 @@ commit. Of each time the least is taken. The table has the microseconds of one c
 their ratio, and for calls that write the same of the commit, shared out over the calls that it commits.
 """
 import argparse
-import glob
 import os
-import shutil
-import subprocess
 import sys
 import tempfile
 
-ROOT = os.path.dirname(os.path.dirname(os.path.abspath(__file__)))
-SOURCES = os.path.join(ROOT, "bench", "rows")
-COPY = os.path.join(tempfile.gettempdir(), "clearing-bench")
-CRATE = os.path.join(COPY, "crates", "bench_rows")
-PROGRAM = os.path.join(CRATE, "out", "bench_rows")
-# The program's line in crates.txt.
-LIBRARIES = "bench_rows: clear_store clear_book clear_bank clear_money sqlite sqlite_std_file\n"
+from programs import Program, least
+
+PROGRAM = Program("rows", "clear_store clear_book clear_bank clear_money sqlite sqlite_std_file")
 SIZES = (1_000, 100_000)
 CALLS = 1_000
 LOOKS = ("find_employer", "find_report", "reports_of", "wages_of", "find_line", "credits_of",
@@ -40,50 +33,10 @@ WRITES = ("insert_employer", "insert_report", "replace_report", "insert_wage", "
 SCANS = ("all_rates",)
 
 
-def copy_crates():
-    """The crates as they stand. What was proved of them is copied once, and then kept."""
-    for name in os.listdir(os.path.join(ROOT, "crates")):
-        crate = os.path.join(COPY, "crates", name)
-        was_built = os.path.isdir(os.path.join(crate, "out"))
-        for part in glob.glob(os.path.join(crate, "*")):
-            if os.path.basename(part) != "out":
-                shutil.rmtree(part) if os.path.isdir(part) else os.remove(part)
-        left_out = shutil.ignore_patterns("out") if was_built else None
-        shutil.copytree(os.path.join(ROOT, "crates", name), crate, dirs_exist_ok=True, ignore=left_out)
-
-
-def build():
-    """Proves and builds the program where a source is newer; without words it does nothing."""
-    print(f"building in {COPY}", file=sys.stderr)
-    copy_crates()
-    os.makedirs(os.path.join(CRATE, "src"), exist_ok=True)
-    for name in os.listdir(SOURCES):
-        shutil.copy2(os.path.join(SOURCES, name), os.path.join(CRATE, "src", name.removesuffix(".in")))
-    with open(os.path.join(ROOT, "crates.txt")) as crates, open(os.path.join(COPY, "crates.txt"), "w") as copy:
-        copy.write(crates.read() + LIBRARIES)
-    made = subprocess.run(["rt", "run"], cwd=CRATE, stdin=subprocess.DEVNULL, capture_output=True, text=True)
-    if made.returncode != 0:
-        sys.exit(made.stdout + made.stderr)
-
-
-def run(*words):
-    """What the program prints."""
-    return subprocess.run([PROGRAM, *map(str, words)], check=True, stdout=subprocess.PIPE, text=True).stdout
-
-
 def measure(store, kind, size, pages):
     """The microseconds of one call and of its share of the commit, on a copy of a store."""
-    copy = store + ".copy"
-    shutil.copyfile(store, copy)
-    calls, commit = run(copy, kind, size, CALLS, pages).split()
-    for name in (copy, copy + "-wal"):
-        if os.path.exists(name):
-            os.remove(name)
+    calls, commit = PROGRAM.run_on_copy(store, kind, size, CALLS, pages).split()
     return int(calls) / CALLS / 1_000, int(commit) / CALLS / 1_000
-
-
-def least(old, new):
-    return tuple(map(min, old, new)) if old else new
 
 
 def main():
@@ -92,13 +45,13 @@ def main():
     words.add_argument("repeats", type=int, nargs="?", default=5)
     words.add_argument("pages", type=int, nargs="?", default=20_000)
     given = words.parse_args()
-    build()
+    PROGRAM.build()
     found = {}
     with tempfile.TemporaryDirectory() as folder:
         stores = {size: os.path.join(folder, f"store{size}") for size in SIZES}
         for size, store in stores.items():
             print(f"making a store of {size:,} rows a table", file=sys.stderr)
-            run(store, "make", size)
+            PROGRAM.run(store, "make", size)
         for turn in range(given.repeats):
             print(f"measuring, {turn + 1} of {given.repeats}", file=sys.stderr)
             for kind in LOOKS + WRITES + SCANS:
