@@ -22,8 +22,8 @@ import time
 
 sys.dont_write_bytecode = True
 from serve import row  # noqa: E402
-from server import Server, request  # noqa: E402
-from suspense import FILE, FIRST, HEADER, MEMORY  # noqa: E402
+from server import MEMORY, Server, request  # noqa: E402
+from suspense import FILE, FIRST, HEADER  # noqa: E402
 
 SLICE = 10
 KINDS = ("owed", "statement", "report", "import", "reminders")
@@ -128,7 +128,7 @@ def main():
     words.add_argument("--shapes", default="12x20x12,24x20x30,100x300x100")
     words.add_argument("--firms", type=int, default=100)
     words.add_argument("--each", type=int, default=100)
-    words.add_argument("--folder", default=MEMORY if os.path.isdir(MEMORY) else None)
+    words.add_argument("--folder", default=MEMORY)
     options = words.parse_args()
     programs = [("before", os.path.abspath(options.before)), ("after", os.path.abspath(options.after))]
     row("months x workers x payments", "request", "before, ms", "after, ms", "times", "before, a second", "after, a second")

@@ -17,7 +17,6 @@ clerk's, and has so many firms from 1001 on.
 
 The files lie below FOLDER, /dev/shm where there is one, so that the figures are the programs' and not the disk's.
 """
-import argparse
 import http.client
 import os
 import subprocess
@@ -34,8 +33,8 @@ sys.path.append(str(HERE.parent / "tests"))
 from browser import Browser, what_is_missing  # noqa: E402
 from limits import BODY, PAID, month_name  # noqa: E402
 from serve import row  # noqa: E402
-from server import Server  # noqa: E402
-from suspense import Desk, FILE, FIRST, HEADER, MEMORY, PROGRAM  # noqa: E402
+from server import Server, option_parser  # noqa: E402
+from suspense import Desk, FILE, FIRST, HEADER  # noqa: E402
 
 DESK = HERE.parent / "tools/desk"
 # What takes too long, in seconds.
@@ -180,13 +179,11 @@ def tell_asked(browser, address):
 
 
 def read_options():
-    parser = argparse.ArgumentParser(description=__doc__, formatter_class=argparse.RawDescriptionHelpFormatter)
-    parser.add_argument("program", nargs="?", default=str(PROGRAM))
+    parser = option_parser(__doc__)
     parser.add_argument("--firms", type=int, default=1_000)
     parser.add_argument("--months", type=int, default=24)
     parser.add_argument("--suspense", type=int, default=100)
     parser.add_argument("--times", type=int, default=20)
-    parser.add_argument("--folder", default=MEMORY if os.path.isdir(MEMORY) else None)
     parser.add_argument("--office", type=int, metavar="PORT", help="an office that is served already")
     return parser.parse_args()
 

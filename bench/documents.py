@@ -15,7 +15,6 @@ give one: its memory grows with the first answer, and is then used again.
 
 The files lie below FOLDER, /dev/shm where there is one, so that the figures are the program's and not the disk's.
 """
-import argparse
 import os
 import sys
 import tempfile
@@ -24,12 +23,10 @@ from pathlib import Path
 
 sys.dont_write_bytecode = True
 from serve import row  # noqa: E402
-from server import RATES, Server, request  # noqa: E402
+from server import RATES, Server, option_parser, request  # noqa: E402
 
 HERE = Path(__file__).resolve().parent
-PROGRAM = HERE.parent / "crates/clear_app/out/clear_app"
 PEER = HERE / "serve/peer.py"
-MEMORY = "/dev/shm"
 # The most lines that a report may have, so the workers of a firm.
 WORKERS = 500
 # Nothing that is reported of January is due, and no month is missing.
@@ -154,14 +151,11 @@ def documents(options, folder):
 
 
 def read_options():
-    parser = argparse.ArgumentParser(
-        description=__doc__, formatter_class=argparse.RawDescriptionHelpFormatter)
-    parser.add_argument("program", nargs="?", default=str(PROGRAM))
+    parser = option_parser(__doc__)
     parser.add_argument("--lists", default=[1_000, 10_000],
                         type=lambda text: [int(count) for count in text.split(",")])
     parser.add_argument("--months", type=int, default=2_400)
     parser.add_argument("--repeats", type=int, default=10)
-    parser.add_argument("--folder", default=MEMORY if os.path.isdir(MEMORY) else None)
     return parser.parse_args()
 
 

@@ -15,21 +15,17 @@ Of each time the least is taken: of a start, and of the requests of a kind on on
 time of the server's process, and the median by the clock, which has the client's part in it. The ratio is that of
 PROGRAM to OTHER.
 """
-import argparse
 import os
 import random
 import shutil
 import sys
 import tempfile
 from dataclasses import dataclass, field
-from pathlib import Path
 
 sys.dont_write_bytecode = True
 from serve import DAY, MONTHS, Taken, row  # noqa: E402
-from server import Server, request  # noqa: E402
+from server import Server, option_parser, request  # noqa: E402
 
-PROGRAM = Path(__file__).resolve().parent.parent / "crates/clear_app/out/clear_app"
-MEMORY = "/dev/shm"
 # How many workers each firm has, and with how many firms that makes 1,000 and 100,000 wage rows.
 WORKERS = 500
 SIZES = {1_000: 2, 100_000: 200}
@@ -126,12 +122,9 @@ class Build:
 
 
 def read_options():
-    parser = argparse.ArgumentParser(
-        description=__doc__, formatter_class=argparse.RawDescriptionHelpFormatter)
-    parser.add_argument("program", nargs="?", default=str(PROGRAM))
+    parser = option_parser(__doc__)
     parser.add_argument("other", nargs="?")
     parser.add_argument("--repeats", type=int, default=5)
-    parser.add_argument("--folder", default=MEMORY if os.path.isdir(MEMORY) else None)
     return parser.parse_args()
 
 

@@ -31,13 +31,10 @@ import sys
 import tempfile
 import time
 from dataclasses import dataclass, field
-from pathlib import Path
 
 sys.dont_write_bytecode = True
-from server import Server, request  # noqa: E402
+from server import PROGRAM, Server, request  # noqa: E402
 
-HERE = Path(__file__).resolve().parent
-PROGRAM = HERE.parent / "crates/clear_app/out/clear_app"
 DAY = "2025-12-31"
 OK = b"HTTP/1.1 200 OK"
 HEADER = "reference,value_date,employer,cents,purpose,note\n"

@@ -25,7 +25,6 @@ over pages is each program's own matter, so the sizes of these two files are tol
 The files lie below FOLDER, /dev/shm where there is one, so that the figures are the program's and not the
 disk's.
 """
-import argparse
 import contextlib
 import os
 import re
@@ -41,8 +40,8 @@ sys.dont_write_bytecode = True
 import server  # noqa: E402
 from pieces import Account, RATE_ROWS, begun_months, contribution  # noqa: E402
 from serve import row, tell  # noqa: E402
-from server import Server, request  # noqa: E402
-from suspense import Desk, FILE, FIRST, HEADER, MEMORY, PROGRAM  # noqa: E402
+from server import Server, option_parser, request  # noqa: E402
+from suspense import Desk, FILE, FIRST, HEADER  # noqa: E402
 
 MOST_FIRMS = 10_000
 MONTHS = 12
@@ -300,15 +299,12 @@ def shape(count):
 
 
 def read_options():
-    parser = argparse.ArgumentParser(
-        description=__doc__, formatter_class=argparse.RawDescriptionHelpFormatter)
-    parser.add_argument("program", nargs="?", default=str(PROGRAM))
+    parser = option_parser(__doc__)
     whole = lambda text: [int(count) for count in text.split(",")]  # noqa: E731
     parser.add_argument("--requests", type=whole, default=[10_000, 100_000, 1_000_000])
     parser.add_argument("--repeats", type=int, default=3)
     parser.add_argument("--rows", type=int, default=100_000, help="larger stores are filled by rows")
     parser.add_argument("--alike", type=int, default=2_600, help="requests of the stores that are compared")
-    parser.add_argument("--folder", default=MEMORY if os.path.isdir(MEMORY) else None)
     return parser.parse_args()
 
 

@@ -18,8 +18,10 @@ import sys
 import tempfile
 from pathlib import Path
 
+sys.dont_write_bytecode = True
+from server import PROGRAM  # noqa: E402
+
 HERE = Path(__file__).resolve().parent
-PROGRAM = HERE.parent / "crates/clear_app/out/clear_app"
 FILE = (
     "reference,value_date,employer,cents,purpose,note\n"
     "B1,2024-02-25,1001,150000,C,\nB2,2024-04-21,1001,200000,,January rest\n"

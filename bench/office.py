@@ -12,17 +12,15 @@ is 1 where a report costs more than twice the 10th, or an import more than twice
 
 The files lie below FOLDER, /dev/shm where there is one, so that the figures are the program's and not the disk's.
 """
-import argparse
 import json
 import subprocess
 import sys
 import tempfile
-from pathlib import Path
 from statistics import median
 
 sys.dont_write_bytecode = True
-from server import Server  # noqa: E402
-from suspense import DAY, Desk, FIRST, HEADER, MEMORY, PROGRAM  # noqa: E402
+from server import Server, option_parser  # noqa: E402
+from suspense import DAY, Desk, FIRST, HEADER  # noqa: E402
 
 # A request may cost so many times what an early one does.
 MOST = 2
@@ -129,10 +127,7 @@ def measure(kind, what, program, folder):
 
 
 def main():
-    parser = argparse.ArgumentParser()
-    parser.add_argument("program", nargs="?", default=str(PROGRAM))
-    parser.add_argument("--folder", default=MEMORY if Path(MEMORY).is_dir() else None)
-    given = parser.parse_args()
+    given = option_parser(__doc__).parse_args()
     with tempfile.TemporaryDirectory(dir=given.folder) as folder:
         ratios = [ratio for name, (kind, what) in KINDS.items()
                   for ratio in measure(kind, what, given.program, f"{folder}/{name}")]

@@ -45,7 +45,6 @@ other work on the machine hardly moves, the median by the clock, requests a seco
 client's own time included), and the larger books beside the smallest; beside them stands what is wanted. The
 files lie below FOLDER, /dev/shm where there is one, so that the figures are the program's.
 """
-import argparse
 import contextlib
 import os
 import random
@@ -60,15 +59,11 @@ from concurrent.futures import ThreadPoolExecutor
 from dataclasses import astuple, dataclass, field
 from datetime import date, timedelta
 from itertools import accumulate
-from pathlib import Path
 
 sys.dont_write_bytecode = True
 from serve import HEADER, MONTHS, Taken, print_machine, row, tell  # noqa: E402
-from server import RATES, Server, request  # noqa: E402
+from server import RATES, Server, option_parser, request  # noqa: E402
 
-HERE = Path(__file__).resolve().parent
-PROGRAM = HERE.parent / "crates/clear_app/out/clear_app"
-MEMORY = "/dev/shm"
 DAY = "2026-01-31"
 NEXT = "2026-01"
 # Payments come in the month behind a reported one, up to its 28th; what is measured comes behind them all.
@@ -583,15 +578,12 @@ def print_times(figures, names):
 
 
 def read_options():
-    parser = argparse.ArgumentParser(
-        description=__doc__, formatter_class=argparse.RawDescriptionHelpFormatter)
-    parser.add_argument("program", nargs="?", default=str(PROGRAM))
+    parser = option_parser(__doc__)
     parser.add_argument("--before")
     parser.add_argument("--firms", default=[200, 2_000],
                         type=lambda text: sorted(int(count) for count in text.split(",")))
     parser.add_argument("--each", type=int, default=100, help="0: the rows alone")
     parser.add_argument("--kinds", default=list(KINDS), type=lambda text: text.split(","))
-    parser.add_argument("--folder", default=MEMORY if os.path.isdir(MEMORY) else None)
     options = parser.parse_args()
     if options.firms[0] < 2:
         parser.error("a book has two firms at least")

@@ -13,7 +13,6 @@ the first line.
 
 The files lie below FOLDER, /dev/shm where there is one, so that the figures are the program's and not the disk's.
 """
-import argparse
 import contextlib
 import os
 import shutil
@@ -23,8 +22,8 @@ import tempfile
 
 sys.dont_write_bytecode = True
 from serve import row  # noqa: E402
-from server import Server, request  # noqa: E402
-from suspense import Desk, FILE, FIRST, HEADER, MEMORY, PROGRAM  # noqa: E402
+from server import Server, option_parser, request  # noqa: E402
+from suspense import Desk, FILE, FIRST, HEADER  # noqa: E402
 
 DAY = "2025-01-31"
 MONTHS = [f"2024-{month:02}" for month in range(1, 13)]
@@ -93,13 +92,11 @@ def prepare(options, folder):
 
 
 def read_options():
-    parser = argparse.ArgumentParser(description=__doc__, formatter_class=argparse.RawDescriptionHelpFormatter)
-    parser.add_argument("program", nargs="?", default=str(PROGRAM))
+    parser = option_parser(__doc__)
     whole = lambda text: [int(count) for count in text.split(",")]  # noqa: E731
     parser.add_argument("--firms", type=whole, default=[1_000, 10_000])
     parser.add_argument("--runs", type=whole, default=[0, 100])
     parser.add_argument("--repeats", type=int, default=3)
-    parser.add_argument("--folder", default=MEMORY if os.path.isdir(MEMORY) else None)
     return parser.parse_args()
 
 

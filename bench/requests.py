@@ -30,10 +30,11 @@ import sys
 import tempfile
 import time
 
-from programs import Program, least
+sys.dont_write_bytecode = True
+from programs import Program, least  # noqa: E402
+from server import MEMORY  # noqa: E402
 
 PROGRAM = Program("requests", "clear_office clear_schema clear_book clear_money sqlite sqlite_std_file")
-MEMORY = "/dev/shm"
 SIZES = (1_000, 100_000)
 # The kinds of requests in the program's order, and how many it takes of each.
 REQUESTS = 1_000
@@ -66,7 +67,7 @@ def main():
     given = words.parse_args()
     PROGRAM.build()
     found = {}
-    with tempfile.TemporaryDirectory(dir=MEMORY if os.path.isdir(MEMORY) else None) as folder:
+    with tempfile.TemporaryDirectory(dir=MEMORY) as folder:
         stores = {size: os.path.join(folder, f"store{size}") for size in SIZES}
         for size, store in stores.items():
             make(store, size, given.pages)

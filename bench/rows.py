@@ -20,7 +20,8 @@ import os
 import sys
 import tempfile
 
-from programs import Program, least
+sys.dont_write_bytecode = True
+from programs import Program, least  # noqa: E402
 
 PROGRAM = Program("rows", "clear_store clear_book clear_bank clear_money sqlite sqlite_std_file")
 SIZES = (1_000, 100_000)

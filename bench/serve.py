@@ -45,10 +45,9 @@ from pathlib import Path
 from statistics import median
 
 sys.dont_write_bytecode = True
-from server import Server, request  # noqa: E402
+from server import PROGRAM, Server, request  # noqa: E402
 
 HERE = Path(__file__).resolve().parent
-PROGRAM = HERE.parent / "crates/clear_app/out/clear_app"
 DAY = "2025-12-31"
 MONTHS = [f"{year}-{month:02}" for year in (2024, 2025) for month in range(1, 13)]
 # The first so many months of each firm are reported while the book grows.

@@ -1,4 +1,5 @@
 """A program that serves an office on a port, and one keep-alive connection to it, for the scripts here."""
+import argparse
 import atexit
 import os
 import re
@@ -7,7 +8,11 @@ import socket
 import subprocess
 import sys
 import time
+from pathlib import Path
 
+PROGRAM = Path(__file__).resolve().parent.parent / "crates/clear_app/out/clear_app"
+# Stores lie in memory where that can be, so that figures are the program's and not the disk's.
+MEMORY = "/dev/shm" if os.path.isdir("/dev/shm") else None
 RATES = """[[rate]]
 from = "2024-01"
 contribution = 2000
@@ -30,6 +35,14 @@ SILENCE = 5
 # So many seconds a store may take to open.
 OPENING = 300
 LENGTH = re.compile(rb"\r\nContent-Length: ([0-9]+)")
+
+
+def option_parser(text):
+    """The options of a script that measures a program: which one, and where its stores lie."""
+    parser = argparse.ArgumentParser(description=text, formatter_class=argparse.RawDescriptionHelpFormatter)
+    parser.add_argument("program", nargs="?", default=str(PROGRAM))
+    parser.add_argument("--folder", default=MEMORY)
+    return parser
 
 
 def request(method, path, key, number=None, body=""):

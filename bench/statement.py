@@ -25,7 +25,6 @@ serve, before any question, the most that it has had at the end, and by how much
 
 The files lie below FOLDER, /dev/shm where there is one, so that the figures are the program's and not the disk's.
 """
-import argparse
 import contextlib
 import json
 import os
@@ -42,8 +41,8 @@ from documents import Measured  # noqa: E402
 from limits import count_alike, day_number, read_store  # noqa: E402
 from pieces import Account, begun_months  # noqa: E402
 from serve import print_machine, row, tell  # noqa: E402
-from server import Server  # noqa: E402
-from suspense import Desk, FILE, HEADER, MEMORY, PROGRAM  # noqa: E402
+from server import Server, option_parser  # noqa: E402
+from suspense import Desk, FILE, HEADER  # noqa: E402
 
 RECOMPUTE = Path(__file__).resolve().parent.parent / "examples/recompute.sql"
 # What the last payment has more where all is paid.
@@ -304,11 +303,8 @@ def show(found):
 
 
 def read_options():
-    parser = argparse.ArgumentParser(
-        description=__doc__, formatter_class=argparse.RawDescriptionHelpFormatter)
-    parser.add_argument("program", nargs="?", default=str(PROGRAM))
+    parser = option_parser(__doc__)
     parser.add_argument("--repeats", type=int, default=10)
-    parser.add_argument("--folder", default=MEMORY if os.path.isdir(MEMORY) else None)
     return parser.parse_args()
 
 

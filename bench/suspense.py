@@ -14,21 +14,16 @@ request by the processor time of the server's process.
 
 The files lie below FOLDER, /dev/shm where there is one, so that the figures are the program's and not the disk's.
 """
-import argparse
 import contextlib
 import os
 import sqlite3
 import sys
 import tempfile
-from pathlib import Path
 
 sys.dont_write_bytecode = True
 from serve import row  # noqa: E402
-from server import Server, request  # noqa: E402
+from server import Server, option_parser, request  # noqa: E402
 
-HERE = Path(__file__).resolve().parent
-PROGRAM = HERE.parent / "crates/clear_app/out/clear_app"
-MEMORY = "/dev/shm"
 DAY = "2024-04-30"
 HEADER = "reference,value_date,employer,cents,purpose,note\n"
 FILE = 10_000
@@ -133,14 +128,11 @@ def measure(desks, repeats):
 
 
 def read_options():
-    parser = argparse.ArgumentParser(
-        description=__doc__, formatter_class=argparse.RawDescriptionHelpFormatter)
-    parser.add_argument("program", nargs="?", default=str(PROGRAM))
+    parser = option_parser(__doc__)
     parser.add_argument("--lines", default=[1_000, 90_000, 110_000, 1_000_000],
                         type=lambda text: [int(count) for count in text.split(",")])
     parser.add_argument("--suspense", type=int, default=1_000)
     parser.add_argument("--repeats", type=int, default=100)
-    parser.add_argument("--folder", default=MEMORY if os.path.isdir(MEMORY) else None)
     return parser.parse_args()
 
 
