@@ -1,5 +1,5 @@
-"""The page's scripts joined into one file, and its styles into another: a browser asks for each file over a
-connection of its own, and of modules for the next ones only when it has read those that name them.
+"""The page's scripts joined into one file: a browser asks for each file over a connection of its own, and of
+modules for the next ones only when it has read those that name them.
 
 A script is a module that imports what it names, `import { say } from "./words.js";`, and exports functions
 and constants where it makes them. Joined, each is a block, in which its names stay; what it exports is handed

@@ -215,5 +215,3 @@ def is_settled(entry: dict[str, Any]) -> bool:
 
 def private(path: str, flags: int) -> int:
     return os.open(path, flags, 0o600)
-
-
