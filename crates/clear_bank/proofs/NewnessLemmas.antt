@@ -77,13 +77,3 @@ module _ (known lines : List BankLine) (place : ℕ) (line : BankLine) (within :
     judging-conflict first found other =
         let e : first_conflict known lines ≡ Some (place, line) = h.conflicts ∙ conflict-step true (ap (has_other_content line) found ∙ ap not other) in
         ap (λ o. unless_conflict o (new_places known lines) (length lines - length (new_places known lines))) e
-
--- the whole file is judged
-pub judging-end : (known lines : List BankLine) (index : BTreeMap (Bor (List ℕ)) (Bor BankLine)) (place : ℕ) (new : List ℕ) (repeats : ℕ)
-    → Judging known lines index place new repeats → length lines ≤ place → place ≤ length lines → judgement known lines ≡ Ok (new, repeats)
-judging-end known lines index place new repeats h low high =
-    let none : drop place lines ≡ [] = drop_all place lines low in
-    let e : first_conflict known lines ≡ None = h.conflicts ∙ ap (λ ls. find (is_conflict known lines) (enumerate_from place ls)) none in
-    let p : new_places known lines ≡ new = h.places ∙ ap (λ ls. new ++ map (λ q. q.0) (filter (is_new known lines) (enumerate_from place ls))) none ∙ append-nil new in
-    let c : length lines - length (new_places known lines) ≡ repeats = omega (arith, h.count, ap (λ (ps : List ℕ). length ps) p) in
-    ap (λ o. unless_conflict o (new_places known lines) (length lines - length (new_places known lines))) e ∙ (λ i. Ok (p i, c i))

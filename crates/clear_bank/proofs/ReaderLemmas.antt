@@ -234,16 +234,6 @@ reading-ends text old new rows h r =
 pub reading-size : (text : List ℕ) (reader : Reader (Bor (List ℕ))) (rows : List Fields) → IsReading text reader rows → length rows ≤ length (records default_config text)
 reading-size text reader rows h = reached-size default_config text rows (reader_state reader) h.rest h.reached
 
--- a flexible reader of bytes fails only for the bytes underneath or for memory
-pub reading-fails : (text : List ℕ) (old new : Reader (Bor (List ℕ))) (rows : List Fields) (error : ErrorKind) → IsReading text old rows
-    → ExplainsRead (λ (s : Bor (List ℕ)). Some s.now) old new false error → stops_reader error ≡ true
-reading-fails text old new rows (kind.Io e) h x = refl
-reading-fails text old new rows kind.OutOfMemory h x = refl
-reading-fails text old new rows (kind.UnequalLengths pos expected len) h x = cc (h.flexible, x.0)
-reading-fails text old new rows (kind.Utf8 pos err) h x = cc x.0
-reading-fails text old new rows (kind.Serialize why) h x = absurd x
-reading-fails text old new rows (kind.Deserialize pos err) h x = absurd x
-
 -- ---- the limit
 
 no_more : (a b : ℕ) → b ≤ a + 1 → nat_lt a (b - 1) ≡ false

@@ -58,9 +58,3 @@ module _ (rows : List Row) (place : ℕ) (row : Row) (within : place < length ro
     reading-fault fault e =
         let step = left-step ∙ ap (λ r. r ∷ left rows (place + 1)) e in
         ap (λ faults. unless_faulty faults (filter_map result_ok (rows_read (map fields_of rows)))) (h.faults ∙ ap (filter_map result_err) step)
-
-pub reading-end : (rows : List Row) (place : ℕ) (lines : List BankLine) → length rows ≤ place → Reading rows place lines → all_lines (rows_read (map fields_of rows)) ≡ Ok lines
-reading-end rows place lines low h =
-    let none : left rows place ≡ [] = ap (λ (rs : List Row). map (λ p. line_of p.0 p.1) (enumerate_from (place + 2) (map fields_of rs))) (drop_all place rows low) in
-    ap (λ faults. unless_faulty faults (filter_map result_ok (rows_read (map fields_of rows)))) (h.faults ∙ ap (filter_map result_err) none)
-    ∙ ap Ok (h.so_far ∙ ap (λ rs. lines ++ filter_map result_ok rs) none ∙ append-nil lines)

@@ -31,11 +31,6 @@ rate_here [] i m d h l e = absurd (omega arith)
 rate_here (r ∷ rs) zero m d h l e = ap (λ o. cond (nat_le r.first m) (later_row r o) o) e ∙ grind (arith, nat_tests)
 rate_here (r ∷ rs) (suc i) m d h l e = rate_here rs i m d (omega arith) l e
 
-pub rate_not_here : (rs : List Rate) (i m : ℕ) (d : Rate) → i < length rs → m < (slice_index_or rs i d).first → rate_in_force (drop (suc i) rs) m ≡ None → rate_in_force (drop i rs) m ≡ None
-rate_not_here [] i m d h l e = absurd (omega arith)
-rate_not_here (r ∷ rs) zero m d h l e = ap (λ o. cond (nat_le r.first m) (later_row r o) o) e ∙ grind (arith, nat_tests)
-rate_not_here (r ∷ rs) (suc i) m d h l e = rate_not_here rs i m d (omega arith) l e
-
 pub rate_found : (rs : List Rate) (i j m : ℕ) (d q : Rate) → suc i ≡ j → j ≤ length rs → IsRising rs → rate_in_force (drop j rs) m ≡ None → q ≡ slice_index_or rs i d → q.first ≤ m → Some q ≡ rate_in_force rs m
 rate_found rs i j m d q e h rising none is l =
     let here = rate_here rs i m d (omega arith) (subst (λ (r : Rate). r.first ≤ m) is l) (subst (λ (n : ℕ). rate_in_force (drop n rs) m ≡ None) (sym e) none) in
