@@ -22,8 +22,8 @@ import time
 
 sys.dont_write_bytecode = True
 from serve import row  # noqa: E402
-from server import MEMORY, Server, request  # noqa: E402
-from suspense import FILE, FIRST, HEADER  # noqa: E402
+from server import HEADER, MEMORY, Server, request  # noqa: E402
+from suspense import FILE, FIRST  # noqa: E402
 
 SLICE = 10
 KINDS = ("owed", "statement", "report", "import", "reminders")

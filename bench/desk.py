@@ -33,8 +33,8 @@ sys.path.append(str(HERE.parent / "tests"))
 from browser import Browser, what_is_missing  # noqa: E402
 from limits import BODY, PAID, month_name  # noqa: E402
 from serve import row  # noqa: E402
-from server import Server, option_parser  # noqa: E402
-from suspense import Desk, FILE, FIRST, HEADER  # noqa: E402
+from server import HEADER, Server, option_parser  # noqa: E402
+from suspense import Desk, FILE, FIRST  # noqa: E402
 
 DESK = HERE.parent / "tools/desk"
 # What takes too long, in seconds.

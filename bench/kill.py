@@ -33,11 +33,10 @@ import time
 from dataclasses import dataclass, field
 
 sys.dont_write_bytecode = True
-from server import PROGRAM, Server, request  # noqa: E402
+from server import HEADER, PROGRAM, Server, request  # noqa: E402
 
 DAY = "2025-12-31"
 OK = b"HTTP/1.1 200 OK"
-HEADER = "reference,value_date,employer,cents,purpose,note\n"
 MONTHS = [(year, month) for year in (2024, 2025) for month in range(1, 13)]
 ROUND = 40
 

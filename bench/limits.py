@@ -40,8 +40,8 @@ sys.dont_write_bytecode = True
 import server  # noqa: E402
 from pieces import Account, RATE_ROWS, begun_months, contribution  # noqa: E402
 from serve import row, tell  # noqa: E402
-from server import Server, option_parser, request  # noqa: E402
-from suspense import Desk, FILE, FIRST, HEADER  # noqa: E402
+from server import HEADER, Server, option_parser, request  # noqa: E402
+from suspense import Desk, FILE, FIRST  # noqa: E402
 
 MOST_FIRMS = 10_000
 MONTHS = 12

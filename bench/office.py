@@ -19,8 +19,8 @@ import tempfile
 from statistics import median
 
 sys.dont_write_bytecode = True
-from server import Server, option_parser  # noqa: E402
-from suspense import DAY, Desk, FIRST, HEADER  # noqa: E402
+from server import HEADER, Server, option_parser  # noqa: E402
+from suspense import DAY, Desk, FIRST  # noqa: E402
 
 # A request may cost so many times what an early one does.
 MOST = 2

@@ -61,8 +61,8 @@ from datetime import date, timedelta
 from itertools import accumulate
 
 sys.dont_write_bytecode = True
-from serve import HEADER, MONTHS, Taken, print_machine, row, tell  # noqa: E402
-from server import RATES, Server, option_parser, request  # noqa: E402
+from serve import MONTHS, Taken, print_machine, row, tell  # noqa: E402
+from server import HEADER, RATES, Server, option_parser, request  # noqa: E402
 
 DAY = "2026-01-31"
 NEXT = "2026-01"

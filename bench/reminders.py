@@ -22,8 +22,8 @@ import tempfile
 
 sys.dont_write_bytecode = True
 from serve import row  # noqa: E402
-from server import Server, option_parser, request  # noqa: E402
-from suspense import Desk, FILE, FIRST, HEADER  # noqa: E402
+from server import HEADER, Server, option_parser, request  # noqa: E402
+from suspense import Desk, FILE, FIRST  # noqa: E402
 
 DAY = "2025-01-31"
 MONTHS = [f"2024-{month:02}" for month in range(1, 13)]

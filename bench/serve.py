@@ -45,7 +45,7 @@ from pathlib import Path
 from statistics import median
 
 sys.dont_write_bytecode = True
-from server import PROGRAM, Server, request  # noqa: E402
+from server import HEADER, PROGRAM, Server, request  # noqa: E402
 
 HERE = Path(__file__).resolve().parent
 DAY = "2025-12-31"
@@ -54,7 +54,6 @@ MONTHS = [f"{year}-{month:02}" for year in (2024, 2025) for month in range(1, 13
 REPORTED = 11
 FIRMS = 10_000
 LINES = 20
-HEADER = "reference,value_date,employer,cents,purpose,note\n"
 # So many months of each firm that claims are reported: none is missing on the day.
 ALL_REPORTED = 23
 # Commands that ten firms make: registrations, reports, a bank file.

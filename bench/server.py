@@ -28,6 +28,8 @@ due_day = 20
 interest = 90
 entitlement = 1425
 """
+# The header of a bank file.
+HEADER = "reference,value_date,employer,cents,purpose,note\n"
 # How many connections a server is told to take: more than come.
 CONNECTIONS = 1_000_000
 # The peer drops a connection that is silent for 10 seconds, the program one that is for 30.

@@ -41,8 +41,8 @@ from documents import Measured  # noqa: E402
 from limits import count_alike, day_number, read_store  # noqa: E402
 from pieces import Account, begun_months  # noqa: E402
 from serve import print_machine, row, tell  # noqa: E402
-from server import Server, option_parser  # noqa: E402
-from suspense import Desk, FILE, HEADER  # noqa: E402
+from server import HEADER, Server, option_parser  # noqa: E402
+from suspense import Desk, FILE  # noqa: E402
 
 RECOMPUTE = Path(__file__).resolve().parent.parent / "examples/recompute.sql"
 # What the last payment has more where all is paid.

@@ -22,10 +22,9 @@ import tempfile
 
 sys.dont_write_bytecode = True
 from serve import row  # noqa: E402
-from server import Server, option_parser, request  # noqa: E402
+from server import HEADER, Server, option_parser, request  # noqa: E402
 
 DAY = "2024-04-30"
-HEADER = "reference,value_date,employer,cents,purpose,note\n"
 FILE = 10_000
 BATCH = 20
 FIRMS = 100
