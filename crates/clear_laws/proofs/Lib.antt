@@ -22,6 +22,8 @@ pub mod FirstLemmas
 pub mod FollowsLemmas
 pub mod FrontLemmas
 pub mod ImportTablesLemmas
+pub mod HasTablesLemmas
+pub mod InForceLemmas
 pub mod JudgeLemmas
 pub mod KeptChargesLemmas
 pub mod KeptLemmas

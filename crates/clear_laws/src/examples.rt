@@ -1,14 +1,17 @@
 //! Examples: what definitions come to in small cases. Each is a law without parameters.
 ghost use Rattle.std.specs.Prelude.{◌≡◌, ℕ, ◌+◌, [], ◌∷◌, ◌++◌, codes, filter, map, None};
-ghost use Rattle.std.specs.Prelude.{Some};
+ghost use Rattle.std.specs.Prelude.{Err, Ok, Some};
 ghost use Rattle.clear_account.specs.Allocation.{prepaid, right_pieces};
+ghost use Rattle.clear_account.specs.Arrears.{arrears_on};
+ghost use Rattle.clear_bank.specs.declared.fault.BankFault.TheVariants.{RefConflict};
+ghost use Rattle.clear_bank.specs.Newness.{judgement};
 ghost use Rattle.clear_money.specs.Texts.{day_text};
 ghost use Rattle.clear_book.specs.declared.calls.Command.TheVariants.{Register, Report, Correct};
 ghost use Rattle.clear_book.specs.declared.calls.Command.TheVariants.{AddRate, EndMembership};
 ghost use Rattle.clear_book.specs.declared.calls.Command.TheVariants.{ImportBank, Assign};
 ghost use Rattle.clear_book.specs.declared.calls.Command.TheVariants.{Claim, Withdraw, Release};
 ghost use Rattle.clear_book.specs.declared.calls.Command.TheVariants.{PayoutList, RemindRun};
-ghost use Rattle.clear_values.specs.declared.lines.Purpose.TheVariants.{Contribution};
+ghost use Rattle.clear_values.specs.declared.lines.Purpose.TheVariants.{Contribution, Interest};
 ghost use Rattle.clear_values.specs.declared.replies.Reply.TheVariants.{Listed};
 ghost use Rattle.clear_values.specs.declared.rows.ClaimState.TheVariants.{Open};
 ghost use Rattle.clear_book.specs.Accounts.{credits_under};
@@ -17,9 +20,11 @@ ghost use Rattle.clear_book.specs.Documents.Amounts.{amount_text};
 ghost use Rattle.clear_book.specs.Documents.Lines.{missing_line};
 ghost use Rattle.clear_book.specs.Documents.Payout.{payout_text};
 ghost use Rattle.clear_book.specs.Documents.Reminders.{reminders_text};
+ghost use Rattle.clear_book.specs.Documents.Statement.{statement_text};
+ghost use Rattle.clear_book.specs.Documents.Suspense.{suspense_text};
 ghost use Rattle.clear_book.specs.Documents.Worker.{worker_text};
 ghost use Rattle.clear_book.specs.Examples.{charge, claim, credit, february, four_claims};
-ghost use Rattle.clear_book.specs.Examples.{january, last_of, piece, released, two_lines};
+ghost use Rattle.clear_book.specs.Examples.{january, last_of, line, piece, released, two_lines};
 ghost use Rattle.clear_book.specs.Examples.{two_reminders};
 ghost use Rattle.clear_book.specs.Lines.{credits_of_lines, is_in_suspense};
 ghost use Rattle.clear_book.specs.Own.PayoutList.{payout_list_reply};
@@ -182,4 +187,109 @@ pub fn law_amounts()
 /// A line of a statement.
 pub fn law_missing_line()
     ensures { missing_line (january + 2) ≡ codes "missing 2024-03\n" }
+{}
+
+/// Two lines in suspense: one that names no firm and has a note, and one for interest that names a
+/// firm.
+pub fn law_suspense_text()
+    ensures { (day value : ℕ) → suspense_text day
+        (record {
+          line = record {
+            reference = codes "B9";
+            value = value;
+            employer = None;
+            cents = 5000;
+            purpose = Contribution;
+            note = codes "no number";
+          };
+          serial = 1;
+          employer = None;
+        } ∷ record {
+          line = record {
+            reference = codes "B10";
+            value = value;
+            employer = Some 1099;
+            cents = 125;
+            purpose = Interest;
+            note = [];
+          };
+          serial = 2;
+          employer = None;
+        } ∷ [])
+        ≡ (codes "suspense " ++ day_text day ++ codes "\n")
+        ++ (codes "line B9 " ++ day_text value ++ codes " C -          50.00 no number\n")
+        ++ (codes "line B10 " ++ day_text value ++ codes " I 1099           1.25\n")
+        ++ codes "lines 2\ntotal          51.25\n" }
+{}
+
+/// A statement of a contribution that two payments pay and of one of 0 cents, with a set-off to
+/// interest and a missing month.
+pub fn law_statement_text()
+    ensures { (day due first second : ℕ) → statement_text (record {
+      firm = record {
+        employer = 1001;
+        day = day;
+        name = codes "Bau Nord";
+        start = january;
+        last = None;
+        prepaid = 49990;
+        arrears = 0;
+        interest = 4875;
+      };
+      charges = record {
+        state = record {
+          month = january;
+          due = due;
+          version = 1;
+          contribution = 200000;
+          left = 0;
+          interest = 3000;
+        };
+        pieces = record { day = first; cents = 150000; reference = codes "B1" }
+            ∷ record { day = second; cents = 50000; reference = codes "B2" } ∷ [];
+      } ∷ record {
+        state = record {
+          month = february;
+          due = due;
+          version = 2;
+          contribution = 0;
+          left = 0;
+          interest = 0;
+        };
+        pieces = [];
+      } ∷ [];
+      interest_credits = record { day = second; cents = 125; reference = codes "set-off 1" } ∷ [];
+      missing = (january + 2) ∷ [];
+    }) ≡ (codes "statement 1001 " ++ day_text day ++ codes "\nname Bau Nord\nmember 2024-01 -\n")
+        ++ (codes "charge 2024-01 due " ++ day_text due
+        ++ codes " version 1        2000.00           0.00          30.00\n")
+        ++ (codes "  paid " ++ day_text first ++ codes "        1500.00 B1\n")
+        ++ (codes "  paid " ++ day_text second ++ codes "         500.00 B2\n")
+        ++ (codes "charge 2024-02 due " ++ day_text due
+        ++ codes " version 2           0.00           0.00           0.00\n")
+        ++ (codes "interest-paid " ++ day_text second ++ codes "           1.25 set-off 1\n")
+        ++ codes "missing 2024-03\nprepaid         499.90\n"
+        ++ codes "arrears           0.00\ninterest          48.75\n" }
+{}
+
+/// A reference that stands twice in a file is a repeat where its content is the same, and else a
+/// conflict at the later record. So it is with a reference that was seen before.
+pub fn law_repeat_or_conflict()
+    ensures repeat { judgement [] ((line None 1 2000).line ∷ (line None 2 2000).line ∷ [])
+        ≡ Ok (0 ∷ [], 1) }
+    ensures conflict { judgement [] ((line None 1 2000).line ∷ (line None 2 2001).line ∷ [])
+        ≡ Err (RefConflict 3) }
+    ensures seen { judgement ((line None 1 2000).line ∷ []) ((line None 2 2000).line ∷ [])
+        ≡ Ok ([], 1) }
+{}
+
+/// A contribution is in arrears from the day after its due day on, less what was paid.
+pub fn law_arrears()
+    ensures due { (day : ℕ)
+        → arrears_on (record (charge january 200000) { due = day } ∷ []) [] day ≡ 0 }
+    ensures late { (day : ℕ)
+        → arrears_on (record (charge january 200000) { due = day } ∷ []) [] (day + 1) ≡ 200000 }
+    ensures paid { (day : ℕ)
+        → arrears_on (record (charge january 200000) { due = day } ∷ []) (credit 1 150000 ∷ [])
+        (day + 1) ≡ 50000 }
 {}

@@ -1,9 +1,9 @@
 //! Laws: what follows from the definitions alone. A law has no parameters and no effect; its
 //! contract is the law.
 ghost use Rattle.std.specs.Prelude.{◌≡◌, ◌↔◌, ℕ, ◌+◌, List, ◌∷◌, ◌++◌, Bool, true};
-ghost use Rattle.std.specs.Prelude.{◌==◌, ◌≤◌};
+ghost use Rattle.std.specs.Prelude.{◌==◌, ◌≤◌, ◌<◌};
 ghost use Rattle.std.specs.Prelude.{IfSome, IsSome, IsTrue, length, map};
-ghost use Rattle.std.specs.Prelude.{Option, Some};
+ghost use Rattle.std.specs.Prelude.{Option, None, Some};
 ghost use Rattle.std.specs.List.{AllByRecursion, list_any, range_with_len, Contains};
 ghost use Rattle.clear_money.specs.Rates.{Rate, rate_in_force};
 ghost use Rattle.clear_account.specs.Allocation.{right_pieces};
@@ -76,6 +76,16 @@ pub fn law_rates()
     ensures { (b : Book) → IsLawful b → AreRates (rates_of b) }
 {}
 
+/// The row in force for a month is one of the rows, begins not after the month, and no other row
+/// that begins not after the month begins later. Where none is in force, each row begins after it.
+pub fn law_in_force()
+    ensures found { (rates : List Rate) (m : ℕ) (r : Rate) → rate_in_force rates m ≡ Some r
+        → Contains rates r × (r.first ≤ m)
+        × AllByRecursion (λ q. q.first ≤ m → q.first ≤ r.first) rates }
+    ensures none { (rates : List Rate) (m : ℕ) → rate_in_force rates m ≡ None
+        → AllByRecursion (λ q. m < q.first) rates }
+{}
+
 /// A rate row is in force for each month of which a lawful book has a report, so a definition that
 /// says something of a month without one is never asked for it.
 pub fn law_rated()
@@ -120,6 +130,11 @@ pub fn law_store_fault()
 /// leaves its type. No payment has a day after that of the last request.
 pub fn law_small()
     ensures { (b : Book) → IsLawful b → IsSmall b }
+{}
+
+/// Each lawful book has tables that stand for it.
+pub fn law_has_tables()
+    ensures { (b : Book) → IsLawful b → (t : Tables) × Stands b t }
 {}
 
 /// Two tables that stand for one book keep the same contributions, and are equal but for what is
