@@ -10,6 +10,7 @@ import resource
 import signal
 import sqlite3
 import stat
+import struct
 import sys
 
 # No __pycache__ is left beside the sources.
@@ -420,6 +421,63 @@ class EmptyFile(Stores):
         """A file that is named wrongly is told before the store is asked for."""
         self.write("fund.db", "")
         self.expect(["serve", "fund.db", "none.toml", DAY, "1024", "1"], 2, "", "fault file\n")
+
+
+class Begun(Stores):
+    """What a new store begins with: an empty database, which a stop may leave half made."""
+
+    def page_size(self):
+        """The bytes of a page, as the head of the store's file has them."""
+        return int.from_bytes((self.folder / "fund.db").read_bytes()[16:18], "big")
+
+    def test_small_pages(self):
+        self.init()
+        self.assertEqual(self.page_size(), 1024)
+        self.remove_store()
+        empty = self.write("fund.db", "")
+        self.init()
+        self.assertEqual((self.page_size(), stat.S_IMODE(empty.stat().st_mode)), (1024, 0o666))
+
+    def test_a_file_that_was_left_half_made(self):
+        """`init` goes on with it, in the pages that were begun: those of an earlier build are of 4,096 bytes."""
+        for size in (1024, 4096):
+            for held in (b"\0", b"\0" + b"left" * 100, b"\0" * size):
+                with self.subTest(size=size, held=len(held)):
+                    self.remove_store()
+                    self.write("fund.db", held)
+                    self.write("fund.db-wal", begun_log(size))
+                    self.init()
+                    self.assertEqual(self.page_size(), 1024 if len(held) == 1 else size)
+                    self.expect(["look", "fund.db"], 0, NEW)
+
+    def test_a_file_that_only_looks_half_made(self):
+        """Without the log that was begun with it, a file that has lost its first byte is no new store."""
+        self.init()
+        made = (self.folder / "fund.db").read_bytes()
+        of_a_close = (self.folder / "fund.db-wal").read_bytes()
+        for held in (b"\0" * 1024, b"\0" + made[1:1024], b"\0" + made[1:]):
+            for log in (b"", of_a_close):
+                with self.subTest(held=len(held), log=len(log)):
+                    self.remove_store()
+                    self.write("fund.db", held)
+                    if log:
+                        self.write("fund.db-wal", log)
+                    self.expect(["init", "fund.db", "rates.toml"], 3, "", "rule 41 Store\n")
+                    self.assertEqual((self.folder / "fund.db").read_bytes(), held)
+
+    def remove_store(self):
+        for name in ("fund.db", "fund.db-wal"):
+            (self.folder / name).unlink(missing_ok=True)
+
+
+def begun_log(size):
+    """The log that stands beside a database of such pages before its first page is written: a head alone."""
+    head = struct.pack(">6I", 0x377F0682, 3_007_000, size, 0xFFFFFFFF, 0x01000001, 2)
+    first = second = 0
+    for low, high in struct.iter_unpack("<2I", head):
+        first = (first + low + second) % 2**32
+        second = (second + high + first) % 2**32
+    return head + struct.pack(">2I", first, second)
 
 
 class Backup(Stores):

@@ -13,7 +13,10 @@ use Rattle.sqlite_pool.specs.StoredLaws.{trimmed_some}
 use Rattle.sqlite_pool.proofs.ProbeLemmas.{first_byte}
 use Rattle.sqlite_trees.specs.Objects.{catalog_tree}
 use Rattle.sqlite_trees.specs.Tree.{Trees}
-use Rattle.sqlite.specs.Files.{AreFoundIn, IsNothing}
+use Rattle.sqlite_pool.specs.Opening.{IsBlankFile}
+use Rattle.sqlite_pool.specs.Stored.{reserved}
+use Rattle.sqlite_pool.proofs.ProbeLemmas.{not_blank}
+use Rattle.sqlite.specs.Files.{AreFoundIn, HoldsDatabase, IsNothing}
 
 -- the first page of a sound file begins with the letter S, and is longer than one byte
 module _ (size : ℕ) (image : Image) (pages : PageMap) (found : Adopts size image pages) (sound : IsSoundFile size pages) (page : List ℕ) (stands : found.stored 1 ≡ Some page) where
@@ -45,3 +48,9 @@ none_found image trees nothing (inl (size, pages, wanted, found, ours, is)) =
     let (page, stands) = some_value (found.stored 1) found.whole.first in
     absurd (∥∥₁_elim ours (λ a b. absurd a) (λ it. is_something size image pages found it.file.sound page stands nothing))
 none_found image trees nothing (inr (blank, empty)) = empty.1
+
+-- files that hold a database are none that have still to be made one of, whatever its pages
+pub none_held : (other : ℕ) → 0 < other → (image : Image) (trees : Trees) → HoldsDatabase image trees → ¬ IsBlankFile other image
+none_held other some image trees held =
+    let large : 504 ≤ held.0 = (let few : reserved held.0 ≤ 8 = grind arith in omega (arith, held.1.0)) in
+    not_blank held.0 image held.2.pages held.2.found large held.2.ours.file.sound other some

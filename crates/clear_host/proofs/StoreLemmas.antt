@@ -12,37 +12,36 @@ use Rattle.clear_schema.specs.Schema.{no_schema, this_layout}
 use Rattle.clear_schema.proofs.OpenLemmas.{is_seen, other_seen, tells_seen}
 use Rattle.clear_host.specs.Contents.{HaveObjects, HoldsObjects, HoldsOtherLayout, HoldsSchema, HoldsStore}
 use Rattle.clear_host.specs.Seen.{SeesIn}
-use Rattle.clear_host.proofs.BlankLemmas.{none_found}
 
 module _ (image : Image) (s : State) (seen : SeesIn image s) where
   -- the store that the files hold
   pub store_seen : (t : Tables) → HoldsStore this_layout t image → StandsFor t s.committed.trees
-  store_seen t (trees, holds, stands) = subst (StandsFor t) (sym (seen.1.holds trees holds)) stands
+  store_seen t (trees, holds, stands) = subst (StandsFor t) (sym (seen.holds trees holds)) stands
 
   pub tables_seen : (t : Tables) → HoldsStore this_layout t image → HasTables t s.now
-  tables_seen t holds = is_seen (HasTables t) (λ _ it. it.sound) s seen.0.0.clean seen.0.1 seen.0.0.is_open (store_seen t holds)
+  tables_seen t holds = is_seen (HasTables t) (λ _ it. it.sound) s seen.opened.0.clean seen.opened.1 seen.opened.0.is_open (store_seen t holds)
 
   -- or the number that their database tells
   pub told_seen : (number : ℕ) → HoldsSchema number image → TellsAs number s.committed.trees × TellsSchema number s.now
   told_seen number (trees, holds, tells) =
-      let there : TellsAs number s.committed.trees = subst (TellsAs number) (sym (seen.1.holds trees holds)) tells in
-      (there, tells_seen number s seen.0.0.clean seen.0.1 seen.0.0.is_open there)
+      let there : TellsAs number s.committed.trees = subst (TellsAs number) (sym (seen.holds trees holds)) tells in
+      (there, tells_seen number s seen.opened.0.clean seen.opened.1 seen.opened.0.is_open there)
 
   -- or that it has a table, an index or a view
   pub objects_seen : HoldsObjects image → s.now.schema ≢ no_schema
   objects_seen (trees, holds, stands) =
-      (is_seen HasObjects (λ _ it. it.sound) s seen.0.0.clean seen.0.1 seen.0.0.is_open (subst HaveObjects (sym (seen.1.holds trees holds)) stands)).some
+      (is_seen HasObjects (λ _ it. it.sound) s seen.opened.0.clean seen.opened.1 seen.opened.0.is_open (subst HaveObjects (sym (seen.holds trees holds)) stands)).some
 
   -- or a database of another layout
   pub other_is_seen : HoldsOtherLayout image → StandsOtherwise s.committed.trees
-  other_is_seen (trees, holds, stands) = subst StandsOtherwise (sym (seen.1.holds trees holds)) stands
+  other_is_seen (trees, holds, stands) = subst StandsOtherwise (sym (seen.holds trees holds)) stands
 
   pub other_layout_seen : HoldsOtherLayout image → HasOtherLayout s.now
-  other_layout_seen holds = other_seen s seen.0.0.clean seen.0.1 seen.0.0.is_open (other_is_seen holds)
+  other_layout_seen holds = other_seen s seen.opened.0.clean seen.opened.1 seen.opened.0.is_open (other_is_seen holds)
 
   -- or no table, where they hold no database yet
   pub nothing_seen : IsNothing image → s.now.schema ≡ no_schema
   nothing_seen nothing =
-      let bare = none_found image s.committed.trees nothing seen.1.reads in
-      let here = lists_once (s.committed.trees catalog_tree) s.committed.schema no_schema (seen.0.1 seen.0.0.is_open).1.lists (empty_is_sound s.committed.trees bare).lists in
-      ap (λ d. d.schema) seen.0.0.clean ∙ here
+      let bare = seen.bare nothing in
+      let here = lists_once (s.committed.trees catalog_tree) s.committed.schema no_schema (seen.opened.1 seen.opened.0.is_open).1.lists (empty_is_sound s.committed.trees bare).lists in
+      ap (λ d. d.schema) seen.opened.0.clean ∙ here

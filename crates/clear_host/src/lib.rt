@@ -10,6 +10,7 @@
 
 pub mod backup;
 pub mod connections;
+mod database;
 pub mod files;
 pub mod hindrance;
 mod ledger;

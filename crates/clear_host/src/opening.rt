@@ -6,6 +6,7 @@ ghost use Rattle.sqlite_wal.specs.Files.{image_at};
 ghost use Rattle.clear_host.specs.Contents.{TellsNone};
 ghost use Rattle.clear_host.specs.Seen.{Sees};
 
+use crate::database::open_in;
 use crate::hindrance::hindrance_of;
 use crate::offices::NotOpened;
 use clear_schema::fault::{OpenFault, fault_of};
@@ -34,10 +35,8 @@ pub(crate) fn open_database<S: Start>(
 {
     let files = open_files(rt, path, start)?;
     let seed = random_seed(rt)?;
-    match Connection::open_files(rt.alloc(), files, store_options(seed)) {
-        Ok(connection) => Ok(connection),
-        Err((error, _left)) => Err(NotOpened::from(error)),
-    }
+    let connection = open_in(rt.alloc(), files, store_options(seed))?;
+    Ok(connection)
 }
 
 // Opens the two files: that of the database has to stand there, and a log that is missing is made.

@@ -14,7 +14,7 @@ returns-in-Ok-clause-found g c image sees =
     let sound = honest clean in
     let seen = sees (c.in-Ok.ensures.clean sound) in
     let there = store_seen image (state g.S.Store c.args.connection) seen t holds in
-    kept clean t (c.in-Ok.ensures.found sound t there seen.0.0.is_open).0)
+    kept clean t (c.in-Ok.ensures.found sound t there seen.opened.0.is_open).0)
     c.confirm.ensures.kept c.confirm.ensures.clean
 
 pub returns-in-Ok-clause-only_this : goal.returns-in-Ok-clause-only_this
@@ -22,7 +22,7 @@ returns-in-Ok-clause-only_this g c image sees =
     IfOk-weaker c.confirm.result _ _ (λ store honest clean number holds.
     let sound = honest clean in
     let seen = sees (c.in-Ok.ensures.clean sound) in
-    c.in-Ok.ensures.right sound number (told_seen image (state g.S.Store c.args.connection) seen number holds).0 seen.0.0.is_open)
+    c.in-Ok.ensures.right sound number (told_seen image (state g.S.Store c.args.connection) seen number holds).0 seen.opened.0.is_open)
     c.confirm.ensures.clean
 
 pub returns-in-Ok-clause-only_stores : goal.returns-in-Ok-clause-only_stores
@@ -44,7 +44,7 @@ returns-in-Ok-clause-empty g c image sees nothing =
 pub returns-in-Err-clause-version : goal.returns-in-Err-clause-version
 returns-in-Err-clause-version g c image sees number holds clean =
     let seen = sees (c.in-Err.ensures.clean_left clean) in
-    c.in-Err.ensures.version clean number (told_seen image (state g.S.Store c.args.connection) seen number holds).0 seen.0.0.is_open
+    c.in-Err.ensures.version clean number (told_seen image (state g.S.Store c.args.connection) seen number holds).0 seen.opened.0.is_open
 
 pub returns-in-Err-clause-empty : goal.returns-in-Err-clause-empty
 returns-in-Err-clause-empty g c image sees nothing clean =
@@ -56,17 +56,17 @@ returns-in-Ok-clause-not_other g c image sees =
     IfOk-weaker c.confirm.result _ _ (λ store honest clean holds.
     let sound = honest clean in
     let seen = sees (c.in-Ok.ensures.clean sound) in
-    c.in-Ok.ensures.not_other sound seen.0.0.is_open (other_is_seen image (state g.S.Store c.args.connection) seen holds))
+    c.in-Ok.ensures.not_other sound seen.opened.0.is_open (other_is_seen image (state g.S.Store c.args.connection) seen holds))
     c.confirm.ensures.clean
 
 pub returns-in-Ok-clause-other : goal.returns-in-Ok-clause-other
 returns-in-Ok-clause-other g c image sees holds =
     refused_weaker g.S.Store (λ fault. HasCleanDisk (state g.S.Store c.in-Ok.store.conn)) TellsOther (λ fault sound.
     let seen = sees (c.in-Ok.ensures.clean sound) in
-    absurd (c.in-Ok.ensures.not_other sound seen.0.0.is_open (other_is_seen image (state g.S.Store c.args.connection) seen holds)))
+    absurd (c.in-Ok.ensures.not_other sound seen.opened.0.is_open (other_is_seen image (state g.S.Store c.args.connection) seen holds)))
     c.confirm.result c.confirm.ensures.clean_left
 
 pub returns-in-Err-clause-other : goal.returns-in-Err-clause-other
 returns-in-Err-clause-other g c image sees holds clean =
     let seen = sees (c.in-Err.ensures.clean_left clean) in
-    c.in-Err.ensures.other clean (other_is_seen image (state g.S.Store c.args.connection) seen holds) seen.0.0.is_open
+    c.in-Err.ensures.other clean (other_is_seen image (state g.S.Store c.args.connection) seen holds) seen.opened.0.is_open
