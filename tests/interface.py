@@ -173,6 +173,19 @@ class Client(Streams):
             self.assertEqual(new, '{"new":2,"repeats":0}')
             self.assertIn(' C -           0.05 say "no", thanks\nline B2 ', told)
 
+    def test_how_many_records_a_bank_file_has(self):
+        """Too many are told before what is wrong with any, but behind a first byte that is wrong."""
+        def refusal(file):
+            return json.loads(self.stream(post("/bank", 1, file))[0])
+
+        for file, name, detail in (
+                (HEADER + "x\n" * 10_000, "BadCsv", "2:0"), (HEADER + "x\n" * 10_001, "OverLimit", "file"),
+                (HEADER.replace("note", "text") + "x\n" * 10_001, "OverLimit", "file"),
+                ("r\n" + ",\n\n" * 10_001, "OverLimit", "file"), ("r\n" + ",\n\n" * 10_000, "BadCsv", "1:0"),
+                ("x\n" * 10_002, "BadCsv", "1:1"), ("\n" + HEADER + "x\n" * 10_001, "BadCsv", "1:1")):
+            told = refusal(file)
+            self.assertEqual((told["name"], told["detail"]), (name, detail))
+
     def test_what_ends_no_line(self):
         name, note = "Bau\u2028Nord", "a\u0085b\u2029c"
         body = json.dumps({"employer": 1001, "name": name, "start": "2024-01"})
