@@ -7,6 +7,7 @@ of message that can come today is met at least once. Where the tests run as root
 root may write everywhere.
 """
 
+import contextlib
 import os
 import resource
 import signal
@@ -340,6 +341,24 @@ class Stream(Program):
         with self.start(stdin=os.open(self.folder, os.O_RDONLY)) as running:
             output, errors = running.communicate(timeout=60)
         self.assertEqual((running.returncode, output, errors), (3, b"", b"fault stream\n"))
+
+    def test_the_most_reads(self):
+        """Each packet is a read. The request that ends with the last read is answered, one that needs a further one isn't."""
+        head = b"GET /suspense HTTP/1.1\r\nHost: office\r\nOffice-Key: desk\r\nConnection: close\r\nContent-Length: %06d\r\n\r\n"
+        told = "suspense 2024-04-30\nlines 0\ntotal           0.00\n"
+        for reads, status, errors in ((1_000_000, 0, ""), (1_000_001, 3, "fault stream\n")):
+            sent = head % (reads - len(head % 0))
+            sent += b"x" * (reads - len(sent))
+            mine, its = socket.socketpair(socket.AF_UNIX, socket.SOCK_SEQPACKET)
+            with self.start("stream", "sample", "sample", DAY, stdin=its) as running, mine:
+                its.close()
+                with contextlib.suppress(BrokenPipeError):
+                    for byte in sent:
+                        mine.send(bytes((byte,)))
+                output, said = running.communicate(timeout=60)
+            self.assertEqual((running.returncode, said.decode()), (status, errors))
+            self.assertEqual(output.decode().endswith(told), status == 0)
+            self.assertEqual(output == b"", status == 3)
 
     def test_other_rates_and_callers_than_the_samples(self):
         self.write("rates.toml", ROW_2024.replace("2000", "1500"))
