@@ -1,5 +1,7 @@
 -- The last row that is not after a month is the one in force.
 use Rattle.std.proofs.Common.{◌≡◌, ℕ, zero, suc, ◌+◌, ◌<◌, ◌≤◌, List, [], ◌∷◌, ◌++◌, get_or, length, drop, slice_index_or, Option, Some, None, cond, nat_le, refl, sym, ap, ◌∙◌, subst, arith}
+use Rattle.std.specs.List.{AllWithin}
+use Rattle.std.specs.List.Sorted.{IsPartitionedBy}
 use Rattle.std.proofs.lemmas.Bool.Decides.{nat_tests}
 use Rattle.clear_money.specs.Rates.{Rate, rate_in_force, later_row, AllAfter, IsRising, last_first}
 
@@ -35,6 +37,31 @@ pub rate_found : (rs : List Rate) (i j m : ℕ) (d q : Rate) → suc i ≡ j →
 rate_found rs i j m d q e h rising none is l =
     let here = rate_here rs i m d (omega arith) (subst (λ (r : Rate). r.first ≤ m) is l) (subst (λ (n : ℕ). rate_in_force (drop n rs) m ≡ None) (sym e) none) in
     sym (rate_behind rs i m q rising (here ∙ ap Some (sym is)))
+
+first_at : (f : ℕ) (rs : List Rate) (j : ℕ) (d : Rate) → AllAfter f rs → j < length rs → f < (slice_index_or rs j d).first
+first_at f [] j d h k = absurd (omega arith)
+first_at f (r ∷ rs) zero d h k = h.0
+first_at f (r ∷ rs) (suc j) d h k = first_at f rs j d h.1 (omega arith)
+
+-- the rows that are not after a month come first
+pub begun_first : (rs : List Rate) (m : ℕ) → IsRising rs → IsPartitionedBy (λ r. nat_le r.first m) rs
+begun_first [] m h i j d le k passes = absurd (omega arith)
+begun_first (r ∷ rs) m h zero zero d le k passes = passes
+begun_first (r ∷ rs) m h zero (suc j) d le k passes =
+    let low = first_at r.first rs j d h.0 (omega arith) in
+    grind (arith, nat_tests)
+begun_first (r ∷ rs) m h (suc i) zero d le k passes = absurd (omega arith)
+begun_first (r ∷ rs) m h (suc i) (suc j) d le k passes = begun_first rs m h.1 i j d (omega arith) (omega arith) passes
+
+-- where all rows from a place on are after a month, none of them is in force
+pub none_from : (rs : List Rate) (i m : ℕ) → AllWithin (λ r. m < r.first) rs i (length rs) → rate_in_force (drop i rs) m ≡ None
+none_from [] zero m after = refl
+none_from [] (suc i) m after = refl
+none_from (r ∷ rs) zero m after =
+    let later : m < r.first = after zero r (omega arith) (omega arith) in
+    let rest : rate_in_force rs m ≡ None = none_from rs zero m (λ k d low high. after (suc k) d (omega arith) (omega arith)) in
+    grind (arith, nat_tests)
+none_from (r ∷ rs) (suc i) m after = none_from rs i m (λ k d low high. after (suc k) d (omega arith) (omega arith))
 
 after_last : (f : ℕ) (r : Rate) (rs : List Rate) → AllAfter f (r ∷ rs) → f < last_first (r ∷ rs)
 after_last f r [] h = h.0

@@ -1,6 +1,7 @@
 //! Rate rows, the table of them, and the contribution at a rate.
 ghost use Rattle.std.specs.Prelude.{◌≡◌, ◌≤◌, ◌<◌, ◌++◌, ◌∷◌, [], IsSome, IfSome, IfOk, OnOk};
 ghost use Rattle.std.specs.Prelude.{OnErr, ◌↔◌, length, Err, option_copied};
+ghost use Rattle.std.specs.List.Sorted.{IsPartitionPoint};
 ghost use Rattle.clear_money.specs.Limits.{most_base};
 ghost use Rattle.clear_money.specs.Rates.{IsRate, IsDayOfEachMonth, contribution_of};
 ghost use Rattle.clear_money.specs.Rates.{rate_in_force, IsRising, last_first};
@@ -233,18 +234,23 @@ pub fn last_month(rows: &[RateRow]) -> Month
     rows[rows.len() - 1].first()
 }
 
-// The last row whose first month is not after the month.
+// The last row whose first month is not after the month, found by a search.
 fn find_in_force(rows: &[RateRow], month: Month) -> Option<&RateRow>
     requires { IsRising rows.now }
     ensures { option_copied result ≡ rate_in_force rows.now month }
 {
-    let mut i = rows.len();
-    while i > 0 {
-        i -= 1;
-        let row = &rows[i];
-        if row.first() <= month {
-            return Some(row);
-        }
+    let begun = count_begun(rows, month);
+    if begun == 0 {
+        return None;
     }
-    None
+    Some(&rows[begun - 1])
+}
+
+// How many rows have begun by a month: they are the first of all.
+fn count_begun(rows: &[RateRow], month: Month) -> usize
+    requires { IsRising rows.now }
+    ensures bound { result ≤ length rows.now }
+    ensures begun { IsPartitionPoint (λ r. r.first ≤ month) (λ r. month < r.first) rows.now result }
+{
+    rows.partition_point(|row| row.first() <= month)
 }
