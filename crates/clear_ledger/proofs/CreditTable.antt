@@ -1,18 +1,20 @@
 -- The credits: under their firms, purposes, days and serials.
-use Rattle.clear_columns.proofs.Words.{◌≡◌, ℤ, pos, ℕ, Bool, true, false, ◌&&◌, List, [], ◌∷◌, map, filter, refl, inl, inr, is_eq, Less, codes, cast_row, Binary, Insert, Database, Row, output_cmp, Values, Ghosts, Term, lit, col, op2, Trees, Null, automatic, agree, passes, Datatype, NotNull, Compare, Eq, Key, Purpose, Contribution, Interest, credit_key, is_credit_of, Tables, CreditRow, meets, plain_program, plain_query, content, HasTables, by_key, credits_table, store_schema, number, purpose, cast_int, cast_null, AnswersJust, key_is, cast_purpose, purpose_typed, equal_numbers, equal_ranks, equal_purposes, numbers_compare, purposes_compare, ◌||◌, ◌==◌, ◌∙◌, nat_lt, And, Ge, Gt, Or, Some, ap, arith, comes_from, maybe_from, nat_tests, subst, sym, two_met, keyed_row}
-use Rattle.std.proofs.Common.{nat_le}
+use Rattle.clear_columns.proofs.Words.{◌≡◌, ℤ, pos, ℕ, Bool, true, false, ◌&&◌, List, [], ◌∷◌, map, filter, refl, inl, inr, is_eq, Less, codes, cast_row, Binary, Insert, Database, Row, output_cmp, Values, Ghosts, Term, lit, col, op2, Trees, Null, automatic, agree, passes, Datatype, NotNull, Compare, Eq, Key, Purpose, Contribution, Interest, credit_key, is_credit_of, Tables, CreditRow, meets, plain_program, plain_query, content, HasTables, by_key, credits_table, store_schema, number, purpose, cast_int, cast_null, AnswersJust, key_is, cast_purpose, purpose_typed, equal_numbers, equal_ranks, equal_purposes, numbers_compare, purposes_compare, ◌||◌, ◌==◌, ◌∙◌, nat_lt, Ge, Some, ap, arith, cond, maybe_from, nat_tests, subst, sym, true≢false, two_met, keyed_row}
+use Rattle.std.proofs.Common.{nat_le, ◌+◌, ◌++◌}
 use Rattle.std.proofs.lemmas.Simd.{map-map}
 use Rattle.clear_values.specs.Lines.{same_purpose}
-use Rattle.clear_ledger.specs.From.{is_credit_from}
+use Rattle.clear_ledger.specs.From.{is_credit_from, is_credit_of_day, is_credit_since}
 use Rattle.clear_schema.specs.Values.{credit_shown}
 use Rattle.clear_ledger.specs.Shown.{number_shown}
-use Rattle.clear_values.specs.Keyed.{is_held}
+use Rattle.clear_values.specs.Credits.{rank_of}
+use Rattle.clear_values.specs.Keyed.{AllBehind, AreInOrder, is_before, is_held}
 use Rattle.sqlite_tied.specs.Compute.{everything}
 use Rattle.sqlite_value.specs.Keys.{ascending, first_key, plain}
 use Rattle.clear_columns.proofs.KeyedTable.{KeyedTable, lists, or_false}
 use Rattle.clear_columns.proofs.Says.{Says, SaysQuery}
 use Rattle.clear_columns.proofs.CountLemmas.{counts, one, one_shown}
 use Rattle.clear_schema.proofs.Changes.{credits_changed}
+use Rattle.clear_columns.proofs.KeyLemmas.{in_order_if_rising}
 
 pub keys_agree : (a b : ℤ × CreditRow) → agree plain (1 ∷ 2 ∷ 3 ∷ 4 ∷ []) (keyed_row credit_shown a) (1 ∷ 2 ∷ 3 ∷ 4 ∷ []) (keyed_row credit_shown b) ≡ is_eq (by_key credit_key (content b) (content a))
 unfolding first_key
@@ -106,16 +108,26 @@ count_says : SaysQuery count (plain_program 10 by_purpose (one ∷ []) [])
 unfolding everything
 count_says = record { names = _; said = (refl, refl, refl) }
 
--- `col 1 3` is the day, and `col 1 4` the serial; an index is sought by the test of the day alone
+-- `col 1 3` is the day, and `col 1 4` the serial
 abbrev by_place : List Term
-by_place = op2 (Compare Eq Binary) (col 1 1) (col 0 0) ∷ op2 (Compare Eq Binary) (col 1 2) (col 0 1) ∷ op2 (Compare Ge Binary) (col 1 3) (col 0 2) ∷ op2 Or (op2 (Compare Gt Binary) (col 1 3) (col 0 2)) (op2 And (op2 (Compare Eq Binary) (col 1 3) (col 0 2)) (op2 (Compare Ge Binary) (col 1 4) (col 0 3))) ∷ []
+by_place = op2 (Compare Eq Binary) (col 1 1) (col 0 0) ∷ op2 (Compare Eq Binary) (col 1 2) (col 0 1) ∷ op2 (Compare Eq Binary) (col 1 3) (col 0 2) ∷ op2 (Compare Ge Binary) (col 1 4) (col 0 3) ∷ []
 
-abbrev pub list_from : List ℕ
-list_from = codes "SELECT employer, purpose, day, serial, cents, ref FROM credits WHERE employer = ?1 AND purpose = ?2 AND day >= ?3 AND (day > ?3 OR (day = ?3 AND serial >= ?4)) ORDER BY employer, purpose, day, serial"
+abbrev pub list_of_day : List ℕ
+list_of_day = codes "SELECT employer, purpose, day, serial, cents, ref FROM credits WHERE employer = ?1 AND purpose = ?2 AND day = ?3 AND serial >= ?4 ORDER BY employer, purpose, day, serial"
 
-list_from_says : SaysQuery list_from (plain_program 10 by_place columns order)
+list_of_day_says : SaysQuery list_of_day (plain_program 10 by_place columns order)
 unfolding everything
-list_from_says = record { names = _; said = (refl, refl, refl) }
+list_of_day_says = record { names = _; said = (refl, refl, refl) }
+
+abbrev by_day : List Term
+by_day = op2 (Compare Eq Binary) (col 1 1) (col 0 0) ∷ op2 (Compare Eq Binary) (col 1 2) (col 0 1) ∷ op2 (Compare Ge Binary) (col 1 3) (col 0 2) ∷ []
+
+abbrev pub list_since : List ℕ
+list_since = codes "SELECT employer, purpose, day, serial, cents, ref FROM credits WHERE employer = ?1 AND purpose = ?2 AND day >= ?3 ORDER BY employer, purpose, day, serial"
+
+list_since_says : SaysQuery list_since (plain_program 10 by_day columns order)
+unfolding everything
+list_since_says = record { names = _; said = (refl, refl, refl) }
 
 -- ---- what they answer
 
@@ -143,20 +155,15 @@ answers_amounts g t db e p has =
 pub answers_count : {S : Type 0} (g : Ghosts S) (t : Tables) (db : Database) (e : ℕ) (p : Purpose) → HasTables t db → AnswersJust g count (number e ∷ purpose p ∷ []) db (map one_shown (filter (is_credit_of e p) t.credits))
 answers_count g t db e p has = counts credits g t db has (number e ∷ purpose p ∷ []) (is_credit_of e p) (of_firm e p) count_says
 
--- the parameters of a query for the credits from a place on
+-- the parameters of a query for the credits of a day from a serial on
 abbrev pub place : ℕ → Purpose → ℕ → ℕ → Row
 place e p d n = number e ∷ purpose p ∷ number d ∷ number n ∷ []
 
--- the test of the day alone adds nothing to that of day and serial
-from_place : (d n a b : ℕ) → (nat_le d a && (nat_lt d a || ((d == a) && nat_le n b))) ≡ (nat_lt d a || ((a == d) && nat_le n b))
-from_place d n a b = grind (arith, nat_tests)
-
-goes_from : (e : ℕ) (p : Purpose) (d n : ℕ) (y : ℤ × CreditRow) → meets by_place (place e p d n) (keyed_row credit_shown y) ≡ is_credit_from e p d n (content y)
-goes_from e p d n y =
+goes_of_day : (e : ℕ) (p : Purpose) (d n : ℕ) (y : ℤ × CreditRow) → meets by_place (place e p d n) (keyed_row credit_shown y) ≡ is_credit_of_day e p d n (content y)
+goes_of_day e p d n y =
     let row = content y in
-    rw (equal_numbers row.employer e, equal_purposes row.purpose p, maybe_from (Some row.day) d, comes_from row.day row.serial d n)
-    (joined (row.employer == e) (same_purpose row.purpose p) (nat_le d row.day) (nat_lt d row.day || ((d == row.day) && nat_le n row.serial))
-    ∙ ap (λ b. is_credit_of e p row && b) (from_place d n row.day row.serial))
+    rw (equal_numbers row.employer e, equal_purposes row.purpose p, equal_numbers row.day d, maybe_from (Some row.serial) n)
+    (joined (row.employer == e) (same_purpose row.purpose p) (row.day == d) (nat_le n row.serial))
   where
     joined : (a b c d : Bool) → (a && (b && (c && (d && true)))) ≡ ((a && b) && (c && d))
     joined true true true true = refl
@@ -165,5 +172,75 @@ goes_from e p d n y =
     joined true false c d = refl
     joined false b c d = refl
 
-pub answers_from : {S : Type 0} (g : Ghosts S) (t : Tables) (db : Database) (e : ℕ) (p : Purpose) (d n : ℕ) → HasTables t db → AnswersJust g list_from (place e p d n) db (map credit_shown (filter (is_credit_from e p d n) t.credits))
-answers_from g t db e p d n has = lists credits g t db has (place e p d n) credit_shown (is_credit_from e p d n) (goes_from e p d n) list_from_says sorted (λ _. refl) (rises by_place)
+pub answers_of_day : {S : Type 0} (g : Ghosts S) (t : Tables) (db : Database) (e : ℕ) (p : Purpose) (d n : ℕ) → HasTables t db → AnswersJust g list_of_day (place e p d n) db (map credit_shown (filter (is_credit_of_day e p d n) t.credits))
+answers_of_day g t db e p d n has = lists credits g t db has (place e p d n) credit_shown (is_credit_of_day e p d n) (goes_of_day e p d n) list_of_day_says sorted (λ _. refl) (rises by_place)
+
+-- the parameters of one for the credits from a day on
+abbrev pub since : ℕ → Purpose → ℕ → Row
+since e p d = number e ∷ purpose p ∷ number d ∷ []
+
+goes_since : (e : ℕ) (p : Purpose) (d : ℕ) (y : ℤ × CreditRow) → meets by_day (since e p d) (keyed_row credit_shown y) ≡ is_credit_since e p d (content y)
+goes_since e p d y =
+    let row = content y in
+    rw (equal_numbers row.employer e, equal_purposes row.purpose p, maybe_from (Some row.day) d)
+    (joined (row.employer == e) (same_purpose row.purpose p) (nat_le d row.day))
+  where
+    joined : (a b c : Bool) → (a && (b && (c && true))) ≡ ((a && b) && c)
+    joined true true true = refl
+    joined true true false = refl
+    joined true false c = refl
+    joined false b c = refl
+
+pub answers_since : {S : Type 0} (g : Ghosts S) (t : Tables) (db : Database) (e : ℕ) (p : Purpose) (d : ℕ) → HasTables t db → AnswersJust g list_since (since e p d) db (map credit_shown (filter (is_credit_since e p d) t.credits))
+answers_since g t db e p d has = lists credits g t db has (since e p d) credit_shown (is_credit_since e p d) (goes_since e p d) list_since_says sorted (λ _. refl) (rises by_day)
+
+-- ---- those from a place on
+
+-- behind one of a later day none is of the day
+none_behind : (e : ℕ) (p : Purpose) (d n : ℕ) (x y : CreditRow) → is_credit_since e p (d + 1) x ≡ true → is_before (credit_key x) (credit_key y) ≡ true → is_credit_of_day e p d n y ≡ false
+none_behind e p d n x y = go x.purpose y.purpose p x.employer y.employer x.day y.day x.serial y.serial
+  where
+    go : (q r p : Purpose) (f h a b k l : ℕ) → (((f == e) && same_purpose q p) && nat_le (d + 1) a) ≡ true → is_before (f ∷ rank_of q ∷ a ∷ k ∷ []) (h ∷ rank_of r ∷ b ∷ l ∷ []) ≡ true → (((h == e) && same_purpose r p) && ((b == d) && nat_le n l)) ≡ false
+    go Contribution Contribution Contribution f h a b k l here before = grind (arith, nat_tests)
+    go Contribution Interest Contribution f h a b k l here before = grind (arith, nat_tests)
+    go Contribution Contribution Interest f h a b k l here before = grind (arith, nat_tests)
+    go Contribution Interest Interest f h a b k l here before = grind (arith, nat_tests)
+    go Interest Contribution Contribution f h a b k l here before = grind (arith, nat_tests)
+    go Interest Interest Contribution f h a b k l here before = grind (arith, nat_tests)
+    go Interest Contribution Interest f h a b k l here before = grind (arith, nat_tests)
+    go Interest Interest Interest f h a b k l here before = grind (arith, nat_tests)
+
+none_of_day : (e : ℕ) (p : Purpose) (d n : ℕ) (x : CreditRow) (ys : List CreditRow) → is_credit_since e p (d + 1) x ≡ true → AllBehind credit_key (credit_key x) ys → filter (is_credit_of_day e p d n) ys ≡ []
+none_of_day e p d n x [] later behind = refl
+none_of_day e p d n x (y ∷ ys) later behind = rw (none_behind e p d n x y later behind.0) (none_of_day e p d n x ys later behind.1)
+
+-- what comes from a place on is of its day or of a later one, and not of both
+either : (a : Bool) (d n b l : ℕ) → (a && (nat_lt d b || ((b == d) && nat_le n l))) ≡ ((a && ((b == d) && nat_le n l)) || (a && nat_le (d + 1) b))
+either false d n b l = refl
+either true d n b l = grind (arith, nat_tests)
+
+not_both : (a : Bool) (d n b l : ℕ) → (a && ((b == d) && nat_le n l)) ≡ true → (a && nat_le (d + 1) b) ≡ false
+not_both false d n b l of = refl
+not_both true d n b l of = grind (arith, nat_tests)
+
+one_more : (u v : Bool) (x : CreditRow) (all first later : List CreditRow) → (u ≡ true → v ≡ false) → (v ≡ true → first ≡ []) → all ≡ first ++ later → cond (u || v) (x ∷ all) all ≡ cond u (x ∷ first) first ++ cond v (x ∷ later) later
+one_more true true x all first later apart none same = absurd (true≢false (apart refl))
+one_more true false x all first later apart none same = ap (λ l. x ∷ l) same
+one_more false false x all first later apart none same = same
+one_more false true x all first later apart none same =
+    subst (λ l. x ∷ all ≡ l ++ x ∷ later) (sym (none refl)) (ap (λ l. x ∷ l) (same ∙ ap (λ l. l ++ later) (none refl)))
+
+-- where credits come in order, those of the day from the serial on come first, then those of later days
+pub from_place : (e : ℕ) (p : Purpose) (d n : ℕ) (xs : List CreditRow) → AreInOrder credit_key xs → filter (is_credit_from e p d n) xs ≡ filter (is_credit_of_day e p d n) xs ++ filter (is_credit_since e p (d + 1)) xs
+from_place e p d n [] rise = refl
+from_place e p d n (x ∷ xs) rise =
+    let all = filter (is_credit_from e p d n) xs in
+    let first = filter (is_credit_of_day e p d n) xs in
+    let later = filter (is_credit_since e p (d + 1)) xs in
+    let of = is_credit_of e p x in
+    subst (λ b. cond b (x ∷ all) all ≡ cond (is_credit_of_day e p d n x) (x ∷ first) first ++ cond (is_credit_since e p (d + 1) x) (x ∷ later) later)
+    (sym (either of d n x.day x.serial))
+    (one_more (is_credit_of_day e p d n x) (is_credit_since e p (d + 1) x) x all first later (not_both of d n x.day x.serial) (λ is. none_of_day e p d n x xs is rise.0) (from_place e p d n xs rise.1))
+
+pub parted : (t : Tables) (db : Database) (e : ℕ) (p : Purpose) (d n : ℕ) → HasTables t db → filter (is_credit_from e p d n) t.credits ≡ filter (is_credit_of_day e p d n) t.credits ++ filter (is_credit_since e p (d + 1)) t.credits
+parted t db e p d n has = from_place e p d n t.credits (in_order_if_rising credit_key t.credits has.credits.rises)

@@ -3,6 +3,7 @@ pub mod ClaimTable
 pub mod CreditTable
 pub mod GreatestLemmas
 pub mod ListTable
+pub mod LookLemmas
 pub mod PieceTable
 pub mod ReminderTable
 pub mod ReplyLemmas

@@ -1,6 +1,7 @@
 //! The credits of firms, by firm, purpose, day and serial.
 ghost use Rattle.std.specs.Borrow.{sem, RestsIfErr};
-ghost use Rattle.std.specs.Prelude.{◌≡◌, ◌<◌, ◌^◌, ⊤, count_by, filter, map, IfOk};
+ghost use Rattle.std.specs.Prelude.{◌≡◌, ◌<◌, ◌+◌, ◌^◌, ◌++◌, ⊤, count_by, filter, map};
+ghost use Rattle.std.specs.Prelude.{IfErr, IfOk};
 ghost use Rattle.sqlite.specs.Held.{state};
 ghost use Rattle.sqlite.specs.Values.{bound};
 ghost use Rattle.sqlite.specs.contracts.connection.Connection.{the_row};
@@ -9,7 +10,7 @@ ghost use Rattle.clear_values.specs.Credits.{credit_key};
 ghost use Rattle.clear_values.specs.Keyed.{is_held, with_row};
 ghost use Rattle.clear_values.specs.Credits.{is_credit_of};
 ghost use Rattle.clear_values.specs.RowRanges.{IsCreditRow, IsSerial};
-ghost use Rattle.clear_ledger.specs.From.{is_credit_from};
+ghost use Rattle.clear_ledger.specs.From.{is_credit_from, is_credit_of_day, is_credit_since};
 ghost use Rattle.clear_schema.specs.Values.{credit_shown};
 ghost use Rattle.clear_columns.specs.Reading.{HasSomeTables, IsLeft, ReadsOn};
 ghost use Rattle.clear_schema.specs.Frame.{Lists, LooksUp, Writes};
@@ -69,7 +70,7 @@ pub fn credits_of<S: Alter>(
 }
 
 /// The credits of a firm for a purpose from a place on: those of a day and a serial, or of a later
-/// one, in the order of `credits_of`.
+/// one, in the order of `credits_of`. None of that day before the serial is read.
 pub fn credits_from<S: Alter>(
     tx: &mut Transaction<'_, S>,
     employer: EmployerNo,
@@ -82,13 +83,72 @@ pub fn credits_from<S: Alter>(
     ensures looks { Lists S.Store tx.old.conn.now tx.new.conn.now result IsCreditRow
         (λ t. filter (is_credit_from employer purpose from serial) t.credits) }
 {
+    match credits_of_day(tx, employer, purpose, from, serial) {
+        Ok(first) => match credits_behind(tx, employer, purpose, from) {
+            Ok(later) => join(first, later),
+            Err(fault) => Err(fault),
+        },
+        Err(fault) => Err(fault),
+    }
+}
+
+// Those of a day, from a serial on.
+fn credits_of_day<S: Alter>(
+    tx: &mut Transaction<'_, S>,
+    employer: EmployerNo,
+    purpose: Purpose,
+    of: Day,
+    serial: u64,
+) -> Result<Vec<CreditRow>, Fault>
+    requires stored { serial < 2 ^ 63 }
+    ensures same_reference { tx.new.conn.ghost_name ≡ tx.old.conn.ghost_name }
+    ensures looks { Lists S.Store tx.old.conn.now tx.new.conn.now result IsCreditRow
+        (λ t. filter (is_credit_of_day employer purpose of serial) t.credits) }
+{
     list::<S, Credits>(
         tx,
-        "SELECT employer, purpose, day, serial, cents, ref FROM credits \
-         WHERE employer = ?1 AND purpose = ?2 AND day >= ?3 \
-         AND (day > ?3 OR (day = ?3 AND serial >= ?4)) ORDER BY employer, purpose, day, serial",
-        &[firm(employer), payment(purpose), day(from), number(serial)],
+        "SELECT employer, purpose, day, serial, cents, ref FROM credits WHERE employer = ?1 \
+         AND purpose = ?2 AND day = ?3 AND serial >= ?4 ORDER BY employer, purpose, day, serial",
+        &[firm(employer), payment(purpose), day(of), number(serial)],
     )
+}
+
+// Those behind a day. A search for what is above a day begins with its rows, so the next day is
+// sought.
+fn credits_behind<S: Alter>(
+    tx: &mut Transaction<'_, S>,
+    employer: EmployerNo,
+    purpose: Purpose,
+    before: Day,
+) -> Result<Vec<CreditRow>, Fault>
+    ensures same_reference { tx.new.conn.ghost_name ≡ tx.old.conn.ghost_name }
+    ensures looks { Lists S.Store tx.old.conn.now tx.new.conn.now result IsCreditRow
+        (λ t. filter (is_credit_since employer purpose (before + 1)) t.credits) }
+{
+    let next = number_behind(before);
+    list::<S, Credits>(
+        tx,
+        "SELECT employer, purpose, day, serial, cents, ref FROM credits WHERE employer = ?1 \
+         AND purpose = ?2 AND day >= ?3 ORDER BY employer, purpose, day, serial",
+        &[firm(employer), payment(purpose), number(next)],
+    )
+}
+
+// The number of the day behind one.
+fn number_behind(day: Day) -> u64
+    ensures value { result ≡ day + 1 }
+    ensures range { result < 2 ^ 63 }
+{
+    u64::from(day.number()) + 1
+}
+
+// The later credits behind the first.
+fn join(mut first: Vec<CreditRow>, mut later: Vec<CreditRow>) -> Result<Vec<CreditRow>, Fault>
+    ensures joined { IfOk result (λ all. all.items ≡ first.items ++ later.items) }
+    ensures fault { IfErr result (λ fault. fault ≡ Fault.Memory) }
+{
+    first.append(&mut later)?;
+    Ok(first)
 }
 
 /// The amounts of a firm's credits for a purpose, in the order of `credits_of`.
