@@ -54,6 +54,7 @@ pub mod RemindedLemmas
 pub mod ReminderRangeLemmas
 pub mod RemindersLemmas
 pub mod RepeatLemmas
+pub mod RepresentsLemmas
 pub mod ReportTablesLemmas
 pub mod RequestLemmas
 pub mod RowRangeLemmas

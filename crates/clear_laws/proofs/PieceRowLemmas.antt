@@ -55,6 +55,11 @@ module _ (e : ℕ) where
   own_joined f each [] = tt
   own_joined f each (i ∷ is) = both IsOf (f i) (flat_map f is) (each i) (own_joined f each is)
 
+  pub pieces_for-own : (charges : List Charge) (rows : List CreditRow) → AllByRecursion (λ row. row.employer ≡ e) rows → AllByRecursion IsOf (pieces_for charges rows)
+  pieces_for-own charges rows all =
+      own_joined (pieces_of charges rows)
+      (λ i. own_behind (charge_at charges i).month (λ j. share charges (map row_credit rows) i j) 0 rows all) (places charges)
+
   pub pieces_left-own : (s p : ℕ) (charges : List Charge) (rows : List CreditRow) → AllByRecursion (λ row. row.employer ≡ e) rows → AllByRecursion IsOf (pieces_left s p charges rows)
   pieces_left-own s p charges rows all =
       own_joined (λ i. flat_map (λ placed. piece_of (charge_at charges i).month placed.1 (share_behind s p charges (map row_credit rows) i placed.0)) (enumerate_from 0 rows))

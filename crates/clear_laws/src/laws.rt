@@ -23,7 +23,7 @@ ghost use Rattle.clear_book.specs.declared.rules.Rule.TheVariants.{Failed, Store
 ghost use Rattle.clear_values.specs.declared.causes.StoreCause.{StoreCause};
 ghost use Rattle.clear_values.specs.declared.causes.StoreCause.TheVariants.{Other};
 ghost use Rattle.clear_book.specs.Accounts.{charges_of, credit_key, credits_of, credits_standing};
-ghost use Rattle.clear_book.specs.Allocated.{AreAllocated, AreSameCharges, StandsWeighed};
+ghost use Rattle.clear_book.specs.Allocated.{AreAllocated, AreSameCharges, Represents, StandsWeighed};
 ghost use Rattle.clear_book.specs.Book.{Book, Entry, entry, first_book, latest_lines};
 ghost use Rattle.clear_book.specs.Book.{ledger_day, rates_of};
 ghost use Rattle.clear_book.specs.Conserved.{firm_cents, interest_cents, pieces_cents};
@@ -132,9 +132,10 @@ pub fn law_small()
     ensures { (b : Book) → IsLawful b → IsSmall b }
 {}
 
-/// Each lawful book has tables that stand for it.
+/// Each lawful book has tables that represent it: they stand for it, with the pieces of each firm's
+/// account and what is open of its contributions.
 pub fn law_has_tables()
-    ensures { (b : Book) → IsLawful b → (t : Tables) × Stands b t }
+    ensures { (b : Book) → IsLawful b → (t : Tables) × Represents b t }
 {}
 
 /// Two tables that stand for one book keep the same contributions, and are equal but for what is

@@ -1,5 +1,5 @@
-use Rattle.clear_laws.proofs.HasTablesLemmas.{has_tables}
+use Rattle.clear_laws.proofs.RepresentsLemmas.{represents_lawful}
 use Rattle.clear_laws.proofs.laws.law_has_tables.Goals as goal
 
 pub returns : goal.returns
-returns c = λ b lawful. has_tables b.opening b.entries lawful
+returns c = λ b lawful. represents_lawful b lawful
