@@ -1,7 +1,7 @@
 -- Each lawful book has tables that represent it: what is open of the contributions is put to their rows firm by firm, and
 -- the pieces of the firms one after another.
-use Rattle.std.proofs.Common.{◌≡◌, ℕ, zero, suc, ◌+◌, ◌<◌, ◌≤◌, List, [], ◌∷◌, ◌++◌, map, filter, Bool, true, false, ◌==◌, nat_lt, refl, sym, ap, ◌∙◌, subst, arith}
-use Rattle.std.proofs.lemmas.Bool.{eq-eqb, eqb-true}
+use Rattle.std.proofs.Common.{◌≡◌, ℕ, zero, suc, ◌+◌, ◌<◌, ◌≤◌, List, [], ◌∷◌, ◌++◌, map, filter, Bool, true, false, ◌==◌, ◌⊎◌, inl, inr, refl, sym, ap, ◌∙◌, subst, arith}
+use Rattle.std.proofs.lemmas.Bool.{cases_lt, eq-eqb, eqb-true}
 use Rattle.std.proofs.lemmas.Bool.Decides.{nat_tests}
 use Rattle.std.proofs.lemmas.List.{append-nil, map-id}
 use Rattle.std.proofs.lemmas.List.Elements.{All-from_recursion, filter-append}
@@ -76,7 +76,7 @@ module _ (b : Book) (lawful : IsLawful b) where
         (settled_all n u.charges news below.stands.charges_in_order own _ below.stands.charges_paid
         (news_in_range 0 (kept_charges u n) (table_credits u n) news (account_of_tables b u lawful below.stands n) are))
 
-    next_weighed : (e : ℕ) → e < n + 1 → IsWeighed next e
+    next_weighed : (e : ℕ) → e < suc n → IsWeighed next e
     next_weighed e less = told (e == n) refl
       where
         told : (c : Bool) → (e == n) ≡ c → IsWeighed next e
@@ -86,14 +86,14 @@ module _ (b : Book) (lawful : IsLawful b) where
             lower : (e == n) ≡ false → e < n
             lower apart = grind (arith, nat_tests)
 
-    weighed_next : AreWeighedBelow (n + 1) next
+    weighed_next : AreWeighedBelow (suc n) next
     weighed_next = record { stands = next_stands; weighed = next_weighed }
 
   weighed_below : (n : ℕ) (t : Tables) → Stands b t → (u : Tables) × AreWeighedBelow n u
   weighed_below zero t stands = (t, record { stands = stands; weighed = λ e less. absurd (omega (arith, less)) })
   weighed_below (suc n) t stands =
       let before = weighed_below n t stands in
-      (next n before.0 before.1, subst (λ (k : ℕ). AreWeighedBelow k (next n before.0 before.1)) (omega arith) (weighed_next n before.0 before.1))
+      (next n before.0 before.1, weighed_next n before.0 before.1)
 
 -- ---- the pieces
 
@@ -185,18 +185,11 @@ module _ (b : Book) (lawful : IsLawful b) (t : Tables) (stands : Stands b t) whe
       same_of_none (x ∷ xs) ys same none = absurd (cc none)
 
   weighed_all : (e : ℕ) → IsWeighed u e
-  weighed_all e = told (nat_lt e n) refl
+  weighed_all e = told (cases_lt e n)
     where
-      less : nat_lt e n ≡ true → e < n
-      less is = grind (arith, nat_tests)
-
-      above : nat_lt e n ≡ false → n ≤ e
-      above is = grind (arith, nat_tests)
-
-      told : (c : Bool) → nat_lt e n ≡ c → IsWeighed u e
-      told true is = weighed_tables.1.weighed e (less is)
-      told false is =
-          subst (λ (rows : List KeptCharge). map weighed_in rows ≡ weighed_charges (map charge_in rows) (table_credits u e)) (sym (no_rows e (above is))) refl
+      told : (e < n) ⊎ (n ≤ e) → IsWeighed u e
+      told (inl less) = weighed_tables.1.weighed e less
+      told (inr above) = subst (λ (rows : List KeptCharge). map weighed_in rows ≡ weighed_charges (map charge_in rows) (table_credits u e)) (sym (no_rows e above)) refl
 
   own_pieces : (e : ℕ) → AllByRecursion (IsOf e) (table_pieces u e)
   own_pieces e = pieces_for-own e (kept_charges u e) (contribution_rows u e) (contribution_rows-own u e)
@@ -205,19 +198,13 @@ module _ (b : Book) (lawful : IsLawful b) (t : Tables) (stands : Stands b t) whe
   rising_pieces e = pieces_for-in_order e (kept_charges u e) (contribution_rows u e) (contribution_rows-own u e) (account_of_tables b u lawful u_stands e)
 
   pieces_are : (e : ℕ) → filter (of_firm e) (joined (table_pieces u) own_pieces n) ≡ table_pieces u e
-  pieces_are e = told (nat_lt e n) refl
+  pieces_are e = told (cases_lt e n)
     where
-      less : nat_lt e n ≡ true → e < n
-      less is = grind (arith, nat_tests)
-
-      above : nat_lt e n ≡ false → n ≤ e
-      above is = grind (arith, nat_tests)
-
-      told : (c : Bool) → nat_lt e n ≡ c → filter (of_firm e) (joined (table_pieces u) own_pieces n) ≡ table_pieces u e
-      told true is = joined_own (table_pieces u) own_pieces e n (less is)
-      told false is =
-          joined_none (table_pieces u) own_pieces e n (above is)
-          ∙ ap (λ (rows : List KeptCharge). pieces_for (map charge_in rows) (contribution_rows u e)) (sym (no_rows e (above is)))
+      told : (e < n) ⊎ (n ≤ e) → filter (of_firm e) (joined (table_pieces u) own_pieces n) ≡ table_pieces u e
+      told (inl less) = joined_own (table_pieces u) own_pieces e n less
+      told (inr above) =
+          joined_none (table_pieces u) own_pieces e n above
+          ∙ ap (λ (rows : List KeptCharge). pieces_for (map charge_in rows) (contribution_rows u e)) (sym (no_rows e above))
 
   abbrev whole : Tables
   whole = record u { pieces = joined (table_pieces u) own_pieces n }

@@ -1,6 +1,6 @@
 //! Laws: what follows from the definitions alone. A law has no parameters and no effect; its
 //! contract is the law.
-ghost use Rattle.std.specs.Prelude.{◌≡◌, ◌↔◌, ℕ, ◌+◌, List, ◌∷◌, ◌++◌, Bool, true};
+ghost use Rattle.std.specs.Prelude.{◌≡◌, ◌≢◌, ◌↔◌, ℕ, ◌+◌, List, ◌∷◌, ◌++◌, Bool, true};
 ghost use Rattle.std.specs.Prelude.{◌==◌, ◌≤◌, ◌<◌};
 ghost use Rattle.std.specs.Prelude.{IfSome, IsSome, IsTrue, length, map};
 ghost use Rattle.std.specs.Prelude.{Option, None, Some};
@@ -19,7 +19,8 @@ ghost use Rattle.clear_book.specs.declared.calls.Command.TheVariants.{ImportBank
 ghost use Rattle.clear_book.specs.declared.outcomes.Outcome.{Outcome};
 ghost use Rattle.clear_book.specs.declared.outcomes.Outcome.TheVariants.{Refused};
 ghost use Rattle.clear_values.specs.declared.replies.Reply.{Reply};
-ghost use Rattle.clear_book.specs.declared.rules.Rule.TheVariants.{Failed, Store};
+ghost use Rattle.clear_book.specs.declared.rules.Rule.{Rule};
+ghost use Rattle.clear_book.specs.declared.rules.Rule.TheVariants.{BadBody, Failed, Store};
 ghost use Rattle.clear_values.specs.declared.causes.StoreCause.{StoreCause};
 ghost use Rattle.clear_values.specs.declared.causes.StoreCause.TheVariants.{Other};
 ghost use Rattle.clear_book.specs.Accounts.{charges_of, credit_key, credits_of, credits_standing};
@@ -29,7 +30,7 @@ ghost use Rattle.clear_book.specs.Book.{ledger_day, rates_of};
 ghost use Rattle.clear_book.specs.Conserved.{firm_cents, interest_cents, pieces_cents};
 ghost use Rattle.clear_book.specs.Conserved.{prepaid_cents, set_off_cents, standing_cents};
 ghost use Rattle.clear_book.specs.Conserved.{suspense_cents};
-ghost use Rattle.clear_book.specs.Judge.{judge, kept_reply, new_reply, run_text};
+ghost use Rattle.clear_book.specs.Judge.{a_refusal, judge, kept_reply, new_reply, run_text};
 ghost use Rattle.clear_book.specs.Calls.{command_bytes, same_command};
 ghost use Rattle.clear_book.specs.Laws.{AreCounted, AreEmployers, AreNumbered, AreSorted, IsBy};
 ghost use Rattle.clear_book.specs.Laws.{IsSmall};
@@ -57,6 +58,7 @@ ghost use Rattle.clear_book.specs.Reached.{IsReached};
 ghost use Rattle.clear_book.specs.Reminded.{IsRunOf};
 ghost use Rattle.clear_book.specs.Reminders.{last_reminder, reminders_due, reminders_of, run_of};
 ghost use Rattle.clear_book.specs.Reminders.{runs_of};
+ghost use Rattle.clear_book.specs.Rules.{number_of};
 ghost use Rattle.clear_book.specs.Released.{IsReleaseOf, IsSettlement, KeepsList, with_list};
 
 /// A book without entries over a table of rates is lawful.
@@ -112,6 +114,13 @@ pub fn law_failed()
         → AllByRecursion (λ outcome. outcome ≡ Refused Failed) outcomes }
     ensures book { (end : Bool) (b : Book) (calls : List Call) (outcomes : List Outcome)
         (last : Book) → Runs true end b calls outcomes last → last ≡ b }
+{}
+
+/// The judge names only rules on a call that was read: none on how a request is sent or written,
+/// which are those up to 6 and `BadBody`, and none on memory or on the store, from 40 on.
+pub fn law_judged()
+    ensures { (b : Book) (call : Call) (rule : Rule) → judge b call ≡ a_refusal rule
+        → (7 ≤ number_of rule) × (number_of rule ≤ 33) × (rule ≢ BadBody) }
 {}
 
 /// A call that is answered with a fault of the store is so because the store failed: no key that
