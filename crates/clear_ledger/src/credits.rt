@@ -83,13 +83,9 @@ pub fn credits_from<S: Alter>(
     ensures looks { Lists S.Store tx.old.conn.now tx.new.conn.now result IsCreditRow
         (λ t. filter (is_credit_from employer purpose from serial) t.credits) }
 {
-    match credits_of_day(tx, employer, purpose, from, serial) {
-        Ok(first) => match credits_behind(tx, employer, purpose, from) {
-            Ok(later) => join(first, later),
-            Err(fault) => Err(fault),
-        },
-        Err(fault) => Err(fault),
-    }
+    let first = credits_of_day(tx, employer, purpose, from, serial)?;
+    let later = credits_behind(tx, employer, purpose, from)?;
+    join(first, later)
 }
 
 // Those of a day, from a serial on.
