@@ -14,7 +14,7 @@ use Rattle.clear_values.specs.declared.rows.KeptCharge.{KeptCharge}
 use Rattle.clear_values.specs.declared.rows.PieceRow.{PieceRow}
 use Rattle.clear_book.specs.Allocated.{AreAllocated, AreSameCharges, FirstCredit, FirstMonth, Follows, IsAllocated, KeepsKeys, LeavesChange, LeavesChanged, contribution_rows, kept_charges}
 use Rattle.clear_book.specs.Lines.{is_credit_of}
-use Rattle.clear_book.specs.Tables.{Tables, changed, charge_in, piece_key, table_credits}
+use Rattle.clear_book.specs.Tables.{Tables, charge_in, piece_key, table_credits}
 use Rattle.clear_laws.proofs.AccountChangeLemmas.{AddsCredits, ChangesCharge, contributions_in, no_new_credit}
 use Rattle.clear_laws.proofs.AllocatedLemmas.{charge_allocated, charge_left, charge_puttable, credits_allocated, credits_left, credits_puttable, leaves_before, others_left, pieces_from, pieces_from-own, pieces_in, still_allocated, with_pieces_put}
 use Rattle.clear_laws.proofs.PieceRowLemmas.{IsOf, pieces_for}

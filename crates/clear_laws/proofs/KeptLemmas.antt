@@ -201,9 +201,6 @@ lines_apart (l ∷ ls) (k ∷ ks) hl hk e =
 abbrev IsShort : ℕ → Type 0
 IsShort n = n < 2 ^ 64
 
-number_regroup : (n rest : List ℕ) → (codes " " ++ n) ++ rest ≡ 32 ∷ (n ++ rest)
-number_regroup n rest = refl
-
 numbers_begin : (ns : List ℕ) → Begins 32 (numbers_text ns)
 numbers_begin [] = tt
 numbers_begin (n ∷ ns) = refl

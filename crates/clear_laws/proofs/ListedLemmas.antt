@@ -274,11 +274,7 @@ turn_left list t claim next (inr turned) =
     let off = open_off list claim.state turned.0 in
     (fresh_off list t next.state turned.1 ∙ sym off, λ on. absurd (cc (sym off ∙ on)))
 
--- it makes no list, and each new claim is open
-none_listed : (t : ℕ) (reply : Reply) (command : Command) → is_payout_list command ≡ false → lists_by t reply command ≡ []
-none_listed t reply PayoutList other = absurd (cc other)
-none_listed t reply command other = refl
-
+-- each new claim is open
 new_open : (P : ClaimState → Type 0) → P Open → (last t : ℕ) (command : Command) → AllByRecursion (λ claim. P claim.state) (claims_by last t command)
 new_open P here last t (Claim c) = (here, tt)
 new_open P here last t command = tt
