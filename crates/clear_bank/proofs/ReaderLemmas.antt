@@ -5,9 +5,7 @@ use Rattle.std.proofs.lemmas.Bool.Decides.{nat_tests}
 use Rattle.std.specs.Cmp.Lexicographic.{pointwise}
 use Rattle.csv.specs.Machine.{Read, next_record, step, in_field, start_field, start_record, after_end, ends_with, is_byte, line_feed, is_end, ends_at_end, fields_after, field_after}
 use Rattle.csv.proofs.ReadFacts.{rows-more, rows-end}
-use Rattle.csv.specs.Reading.{ExplainsRead, ReadRecord, is_bom, Reached, Ready, default_config, is_flexible, names_headers, reader_config, reader_headers, reader_state, reader_trim, records, records_from, records_next, source_of, stops_reader, strip_bom, took_first}
-use Rattle.csv.specs.declared.error.ErrorKind.{ErrorKind}
-use Rattle.csv.specs.declared.error.ErrorKind.TheVariants as kind
+use Rattle.csv.specs.Reading.{ReadRecord, is_bom, Reached, Ready, default_config, is_flexible, names_headers, reader_config, reader_headers, reader_state, reader_trim, records, records_from, records_next, source_of, strip_bom, took_first}
 use Rattle.csv.specs.declared.reader.Reader.{Reader}
 use Rattle.csv.specs.declared.reader.Trim.TheVariants as trim
 use Rattle.csv.specs.declared.parser.Config.{Config}
