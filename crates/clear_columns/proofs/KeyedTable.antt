@@ -17,6 +17,7 @@ use Rattle.clear_rows.proofs.Edits.{appended_is, appended_row, deleted_is}
 use Rattle.clear_rows.proofs.Held.{number, key_was_free, held-delete_where, held-insert}
 use Rattle.clear_rows.proofs.KeepsKeys.{delete_never, delete_violates}
 use Rattle.clear_rows.proofs.Refused.{has_mapped, key_held}
+use Rattle.clear_rows.specs.Refused.{IsHeldIn}
 use Rattle.clear_rows.proofs.Statements.{deleted}
 use Rattle.clear_schema.proofs.FrameLemmas.{finds as finds_first}
 use Rattle.clear_schema.specs.Frame.{Finds, FindsFirst}
@@ -85,7 +86,7 @@ or_false true = refl
 or_false false = refl
 
 -- none of several passes
-none_from : {X : Type 0} (p : X → Bool) (xs : List X) → ((x : X) → Has xs x → p x ≡ false) → list_any p xs ≡ false
+pub none_from : {X : Type 0} (p : X → Bool) (xs : List X) → ((x : X) → Has xs x → p x ≡ false) → list_any p xs ≡ false
 none_from p [] each = refl
 none_from p (x ∷ xs) each = rw (each x (inl refl)) (none_from p xs (λ y h. each y (inr h)))
 
@@ -95,7 +96,7 @@ module _ {X : Type 0} (it : KeyedTable X) where
   stored_beside y = ap (λ (v : Value). v ∷ drop 1 (cast_row it.table (keyed_row it.given y))) (cast_int (number y)) ∙ ap (λ (r : Row). Int (number y) ∷ drop 1 r) (it.stored (content y))
 
   -- an index of the table keeps one of the keys
-  which : (i : Index) → Has all_indexes i → guards i it.table ≡ true → (k : UniqueKey X) × Has it.keys k × (i ≡ k.index)
+  pub which : (i : Index) → Has all_indexes i → guards i it.table ≡ true → (k : UniqueKey X) × Has it.keys k × (i ≡ k.index)
   which i listed on = has_mapped (λ (k : UniqueKey X). k.index) it.keys i (subst (λ l. Has l i) it.guarded (has_kept (λ (i : Index). guards i it.table) all_indexes i listed on))
 
   -- no two rows of a tree that keeps the indexes clash in one of the keys
@@ -109,6 +110,27 @@ module _ {X : Type 0} (it : KeyedTable X) where
       subst (λ o. clashes o k.index.columns tree row ≡ false) by.order (off (guards k.index it.table) (clashes k.index.order k.index.columns tree row) index.1
       (test_has (λ i. not (guards i it.table && clashes i.order i.columns tree row)) all_indexes k.index
       (all_has (λ row. passes Unique store_schema trees it.table row ≡ true) tree row (all_has (λ (u : Table). AllByRecursion (λ row. passes Unique store_schema trees u row ≡ true) (trees u.tree)) all_tables it.table keeps it.listed) known) index.0)))
+
+  -- where a row that is given the next number clashes with those of a tree, a key of it is held
+  pub holds : (rows : List X) (trees : Trees) (kept : HasKeyed it.key it.given rows (trees it.table.tree)) (x : X) → IsHeldIn store_schema it.table (trees it.table.tree) (keyed_row it.given (next_key number kept.numbered, x)) → it.held x rows ≡ true
+  holds rows trees kept x taken =
+      let q = λ (k : UniqueKey X) (y : X). is_key (k.of y) (k.of x) in
+      let free = next_key_is_free number kept.numbered kept.stored.keyed in
+      let any = key_held (by_key it.key) (keyed_row it.given) (λ _. refl) trees it.table rows kept store_schema (next_key number kept.numbered) x (λ y. list_any (λ k. q k y) it.keys) free (shares q (λ k y same. key_is k.of x y ∙ same)) taken in
+      let row_of = some_has (λ y. list_any (λ k. q k y) it.keys) rows any in
+      let key_of = some_has (λ k. q k row_of.0) it.keys row_of.2 in
+      told key_of.0 key_of.1 (some_from (q key_of.0) rows row_of.0 row_of.1 key_of.2)
+    where
+      told : (k : UniqueKey X) → Has it.keys k → list_any (λ (y : X). is_key (k.of y) (k.of x)) rows ≡ true → it.held x rows ≡ true
+      told k listed any = it.held_is x rows ∙ some_from (λ (k : UniqueKey X). is_held k.of x rows) it.keys k listed (found_any k.of rows (k.of x) ∙ any)
+
+      shares : (q : UniqueKey X → X → Bool) → ((k : UniqueKey X) (y : X) → is_eq (by_key k.of x y) ≡ true → q k y ≡ true) → (i : Index) → Has all_indexes i → guards i it.table ≡ true → (y : ℤ × X) → agree i.order i.columns (keyed_row it.given y) i.columns (keyed_row it.given (next_key number kept.numbered, x)) ≡ true
+          → list_any (λ k. q k (content y)) it.keys ≡ true
+      shares q says_so i listed on y same =
+          let k = which i listed on in
+          let by = all_has (IsKeptBy it.given) it.keys k.0 it.kept_by k.1 in
+          let here = subst (λ o. agree o k.0.index.columns (keyed_row it.given y) k.0.index.columns (keyed_row it.given (next_key number kept.numbered, x)) ≡ true) by.order (subst (λ (i : Index). agree i.order i.columns (keyed_row it.given y) i.columns (keyed_row it.given (next_key number kept.numbered, x)) ≡ true) k.2 same) in
+          some_from (λ k. q k (content y)) it.keys k.0 k.1 (says_so k.0 (content y) (sym (by.agrees y (next_key number kept.numbered, x)) ∙ here))
 
   module _ (t : Tables) (old new : State) (has : HasTables t old.now) {sql : List ℕ} {terms : List Term} {width : ℕ} (says : Says sql (Insert it.at (Values terms width))) (params : Row) (x : X)
       (given : value_rows (stamped it.table params) width (length terms / width) terms ≡ (Null ∷ it.given x) ∷ []) where
@@ -155,22 +177,7 @@ module _ {X : Type 0} (it : KeyedTable X) where
         let row : with_rowid Chosen (db it.table.tree) (cast_row it.table (Null ∷ it.given x)) ≡ keyed_row it.given (n, x) = appended_row number (keyed_row it.given) (λ _. refl) db it.table kept.numbered kept.stored (Null ∷ it.given x) (n, x) (it.stored x) refl in
         let one : IsRefused store_schema Enforced db (record { table = it.table; gone = []; news = keyed_row it.given (n, x) ∷ [] }) (why.Violates rule) = subst (λ r. IsRefused store_schema Enforced db (record { table = it.table; gone = []; news = r ∷ [] }) (why.Violates rule)) row bad in
         let taken = held_if_refused store_schema db it.table it.listed (apart_if all_tables refl) (sound_by_schema t old.now has) (keyed_row it.given (n, x)) n (refl) (it.typed db (n, x)) (it.present db (n, x)) (it.checked db (n, x)) rule one in
-        let q = λ (k : UniqueKey X) (y : X). is_key (k.of y) (k.of x) in
-        let any = key_held (by_key it.key) (keyed_row it.given) (λ _. refl) db it.table (it.rows t) kept store_schema n x (λ y. list_any (λ k. q k y) it.keys) free (shares q (λ k y same. key_is k.of x y ∙ same)) taken in
-        let row_of = some_has (λ y. list_any (λ k. q k y) it.keys) (it.rows t) any in
-        let key_of = some_has (λ k. q k row_of.0) it.keys row_of.2 in
-        told key_of.0 key_of.1 (some_from (q key_of.0) (it.rows t) row_of.0 row_of.1 key_of.2)
-      where
-        told : (k : UniqueKey X) → Has it.keys k → list_any (λ (y : X). is_key (k.of y) (k.of x)) (it.rows t) ≡ true → it.held x (it.rows t) ≡ true
-        told k listed any = it.held_is x (it.rows t) ∙ some_from (λ (k : UniqueKey X). is_held k.of x (it.rows t)) it.keys k listed (found_any k.of (it.rows t) (k.of x) ∙ any)
-
-        shares : (q : UniqueKey X → X → Bool) → ((k : UniqueKey X) (y : X) → is_eq (by_key k.of x y) ≡ true → q k y ≡ true) → (i : Index) → Has all_indexes i → guards i it.table ≡ true → (y : ℤ × X) → agree i.order i.columns (keyed_row it.given y) i.columns (keyed_row it.given (n, x)) ≡ true
-            → list_any (λ k. q k (content y)) it.keys ≡ true
-        shares q says_so i listed on y same =
-            let k = which i listed on in
-            let by = all_has (IsKeptBy it.given) it.keys k.0 it.kept_by k.1 in
-            let here = subst (λ o. agree o k.0.index.columns (keyed_row it.given y) k.0.index.columns (keyed_row it.given (n, x)) ≡ true) by.order (subst (λ (i : Index). agree i.order i.columns (keyed_row it.given y) i.columns (keyed_row it.given (n, x)) ≡ true) k.2 same) in
-            some_from (λ k. q k (content y)) it.keys k.0 k.1 (says_so k.0 (content y) (sym (by.agrees y (n, x)) ∙ here))
+        holds (it.rows t) db kept x taken
 
   -- so a statement that was run with a row puts it in
   pub puts : {S A : Type 0} (g : Ghosts S) (old new : Held S) {sql : List ℕ} {terms : List Term} {width : ℕ} → Says sql (Insert it.at (Values terms width)) → (x : X) → value_rows (stamped it.table (it.given x)) width (length terms / width) terms ≡ (Null ∷ it.given x) ∷ []

@@ -3,6 +3,7 @@ pub mod ColumnLemmas
 pub mod CountLemmas
 pub mod HeldLemmas
 pub mod KeyLemmas
+pub mod KeyedRows
 pub mod KeyedTable
 pub mod LastLemmas
 pub mod ListLemmas

@@ -1,13 +1,19 @@
 -- The wages: under their firms, months and workers.
 use Rattle.clear_columns.proofs.Words.{◌≡◌, ◌==◌, ℤ, pos, ℕ, Bool, ◌&&◌, List, [], ◌∷◌, Less, map, filter, refl, ◌∙◌, inl, inr, is_eq, codes, cast_row, Binary, Delete, Insert, Database, Row, Values, Ghosts, Term, lit, col, op2, Null, automatic, agree, Compare, Eq, Key, Tables, WageRow, is_wage_key_of, wage_key, meets, output_cmp, plain_program, plain_query, content, HasTables, by_key, wages_table, month, month_number, number, cast_int, cast_null, equal_months, equal_numbers, key_is, months_compare, numbers_compare, turned_nat, AnswersJust, and-true, two_met, keyed_row}
+use Rattle.std.proofs.Common.{arith, length}
 use Rattle.sqlite_tied.specs.Compute.{everything}
 use Rattle.sqlite_value.specs.Keys.{ascending, first_key, plain}
 use Rattle.clear_schema.proofs.Changes.{wages_changed}
 use Rattle.clear_columns.proofs.KeyedTable.{KeyedTable, lists, or_false}
 use Rattle.clear_columns.proofs.Says.{Says, SaysQuery}
-use Rattle.clear_values.specs.Keyed.{is_held}
+use Rattle.clear_values.specs.Keyed.{is_held, with_rows}
+use Rattle.clear_values.specs.Tables.{wage_row, wage_rows}
+use Rattle.clear_values.specs.declared.texts.WageLine.{WageLine}
+use Rattle.clear_columns.proofs.KeyedRows.{puts_all}
+use Rattle.clear_columns.proofs.Words.{Result, Held, Fault, Runs, Writes}
+use Rattle.clear_columns.specs.Keys.{are_held}
 use Rattle.clear_schema.specs.Values.{wage_shown}
-use Rattle.clear_firms.specs.Shown.{month_given}
+use Rattle.clear_firms.specs.Shown.{month_given, lines_given}
 
 pub keys_agree : (a b : ℤ × WageRow) → agree plain (1 ∷ 2 ∷ 3 ∷ []) (keyed_row wage_shown a) (1 ∷ 2 ∷ 3 ∷ []) (keyed_row wage_shown b) ≡ is_eq (by_key wage_key (content b) (content a))
 unfolding first_key
@@ -56,6 +62,44 @@ insert_terms = lit Null ∷ col 0 0 ∷ col 0 1 ∷ col 0 2 ∷ col 0 3 ∷ []
 pub insert_says : Says (codes "INSERT INTO wages (employer, month, worker, gross) VALUES (?1, ?2, ?3, ?4)") (Insert 4 (Values insert_terms 5))
 unfolding everything
 insert_says = record { said = (refl, refl, refl) }
+
+-- ---- ten lines of a month
+
+abbrev pub ten_terms : List Term
+ten_terms =
+    lit Null ∷ col 0 0 ∷ col 0 1 ∷ col 0 2 ∷ col 0 3
+    ∷ lit Null ∷ col 0 0 ∷ col 0 1 ∷ col 0 4 ∷ col 0 5
+    ∷ lit Null ∷ col 0 0 ∷ col 0 1 ∷ col 0 6 ∷ col 0 7
+    ∷ lit Null ∷ col 0 0 ∷ col 0 1 ∷ col 0 8 ∷ col 0 9
+    ∷ lit Null ∷ col 0 0 ∷ col 0 1 ∷ col 0 10 ∷ col 0 11
+    ∷ lit Null ∷ col 0 0 ∷ col 0 1 ∷ col 0 12 ∷ col 0 13
+    ∷ lit Null ∷ col 0 0 ∷ col 0 1 ∷ col 0 14 ∷ col 0 15
+    ∷ lit Null ∷ col 0 0 ∷ col 0 1 ∷ col 0 16 ∷ col 0 17
+    ∷ lit Null ∷ col 0 0 ∷ col 0 1 ∷ col 0 18 ∷ col 0 19
+    ∷ lit Null ∷ col 0 0 ∷ col 0 1 ∷ col 0 20 ∷ col 0 21 ∷ []
+
+abbrev pub insert_ten : List ℕ
+insert_ten = codes "INSERT INTO wages (employer, month, worker, gross) VALUES (?1, ?2, ?3, ?4), (?1, ?2, ?5, ?6), (?1, ?2, ?7, ?8), (?1, ?2, ?9, ?10), (?1, ?2, ?11, ?12), (?1, ?2, ?13, ?14), (?1, ?2, ?15, ?16), (?1, ?2, ?17, ?18), (?1, ?2, ?19, ?20), (?1, ?2, ?21, ?22)"
+
+pub ten_say : Says insert_ten (Insert 4 (Values ten_terms 5))
+unfolding everything
+ten_say = record { said = (refl, refl, refl) }
+
+-- the statement puts them in
+pub puts_ten : {S A : Type 0} (g : Ghosts S) (old new : Held S) (e m : ℕ) (lines : List WageLine) → length lines ≡ 10 → (r : Result A Fault) (out : Type 0) → ¬ out → Runs g old new insert_ten (lines_given e m lines) r
+    → Writes g old new r out (λ t. are_held (is_held wage_key) wage_key (wage_rows e m lines) t.wages) (λ t. record t { wages = with_rows wage_key t.wages (wage_rows e m lines) })
+puts_ten g old new e m (l0 ∷ l1 ∷ l2 ∷ l3 ∷ l4 ∷ l5 ∷ l6 ∷ l7 ∷ l8 ∷ l9 ∷ []) ten r out within runs = puts_all wages g old new ten_say (lines_given e m (l0 ∷ l1 ∷ l2 ∷ l3 ∷ l4 ∷ l5 ∷ l6 ∷ l7 ∷ l8 ∷ l9 ∷ [])) (wage_row e m l0) (wage_rows e m (l1 ∷ l2 ∷ l3 ∷ l4 ∷ l5 ∷ l6 ∷ l7 ∷ l8 ∷ l9 ∷ [])) refl r out within runs
+puts_ten g old new e m [] ten r out within runs = absurd cc
+puts_ten g old new e m (l0 ∷ []) ten r out within runs = absurd cc
+puts_ten g old new e m (l0 ∷ l1 ∷ []) ten r out within runs = absurd cc
+puts_ten g old new e m (l0 ∷ l1 ∷ l2 ∷ []) ten r out within runs = absurd cc
+puts_ten g old new e m (l0 ∷ l1 ∷ l2 ∷ l3 ∷ []) ten r out within runs = absurd cc
+puts_ten g old new e m (l0 ∷ l1 ∷ l2 ∷ l3 ∷ l4 ∷ []) ten r out within runs = absurd cc
+puts_ten g old new e m (l0 ∷ l1 ∷ l2 ∷ l3 ∷ l4 ∷ l5 ∷ []) ten r out within runs = absurd cc
+puts_ten g old new e m (l0 ∷ l1 ∷ l2 ∷ l3 ∷ l4 ∷ l5 ∷ l6 ∷ []) ten r out within runs = absurd cc
+puts_ten g old new e m (l0 ∷ l1 ∷ l2 ∷ l3 ∷ l4 ∷ l5 ∷ l6 ∷ l7 ∷ []) ten r out within runs = absurd cc
+puts_ten g old new e m (l0 ∷ l1 ∷ l2 ∷ l3 ∷ l4 ∷ l5 ∷ l6 ∷ l7 ∷ l8 ∷ []) ten r out within runs = absurd cc
+puts_ten g old new e m (l0 ∷ l1 ∷ l2 ∷ l3 ∷ l4 ∷ l5 ∷ l6 ∷ l7 ∷ l8 ∷ l9 ∷ l10 ∷ more) ten r out within runs = absurd (omega (arith, ten))
 
 abbrev pub by_month : List Term
 by_month = op2 (Compare Eq Binary) (col 1 1) (col 0 0) ∷ op2 (Compare Eq Binary) (col 1 2) (col 0 1) ∷ []

@@ -1,12 +1,15 @@
 //! The table of wages: the lines of each month's latest report.
-ghost use Rattle.std.specs.Prelude.{◌≡◌, ◌≤◌, ◌==◌, false, filter};
+ghost use Rattle.std.specs.Prelude.{◌≡◌, ◌≤◌, ◌==◌, ◌↔◌, false, filter, length, IsTrue};
+ghost use Rattle.std.specs.List.{AllByRecursion};
 ghost use Rattle.sqlite.specs.Values.{bound};
-ghost use Rattle.clear_values.specs.Keyed.{is_held, with_row, without_rows};
+ghost use Rattle.clear_values.specs.Keyed.{is_held, with_row, with_rows, without_rows};
 ghost use Rattle.clear_values.specs.Limits.{most_gross};
 ghost use Rattle.clear_values.specs.RowRanges.{IsWageRow};
-ghost use Rattle.clear_values.specs.Tables.{is_wage_key_of, wage_key};
+ghost use Rattle.clear_values.specs.Tables.{is_wage_key_of, wage_key, wage_rows};
 ghost use Rattle.clear_schema.specs.Frame.{Lists, Writes};
 ghost use Rattle.clear_schema.specs.Values.{wage_shown};
+ghost use Rattle.clear_columns.specs.Keys.{are_held};
+ghost use Rattle.clear_firms.specs.Shown.{lines_given};
 
 use crate::parameters::month_values;
 use clear_columns::columns::{employer_at, gross_at, month_at, worker_at};
@@ -21,6 +24,7 @@ use clear_schema::statement::put;
 use clear_schema::values::{month, number};
 use clear_values::causes::StoreCause;
 use clear_values::rows::WageRow;
+use clear_values::texts::WageLine;
 use sqlite::{Alter, Row, Transaction};
 use sqlite_value::value::ValueRef;
 
@@ -39,6 +43,34 @@ pub fn insert_wage<S: Alter>(tx: &mut Transaction<'_, S>, row: WageRow) -> Resul
         tx,
         "INSERT INTO wages (employer, month, worker, gross) VALUES (?1, ?2, ?3, ?4)",
         &wage_values(&row),
+    )
+}
+
+/// Adds ten workers' lines of a month by one statement. Where a gross amount is above 10,000,000 cents, it is
+/// refused with `Fault::Store(StoreCause::Row)`, and nothing is done.
+pub fn insert_ten_wages<S: Alter>(
+    tx: &mut Transaction<'_, S>,
+    no: EmployerNo,
+    at: Month,
+    lines: &[WageLine],
+) -> Result<(), Fault>
+    requires ten { length lines.now ≡ 10 }
+    ensures same_reference { tx.new.conn.ghost_name ≡ tx.old.conn.ghost_name }
+    ensures writes { Writes S.Store tx.old.conn.now tx.new.conn.now result
+        (¬ AllByRecursion (λ line. line.gross ≤ most_gross) lines.now)
+        (λ t. are_held (is_held wage_key) wage_key (wage_rows no at lines.now) t.wages)
+        (λ t. record t { wages = with_rows wage_key t.wages (wage_rows no at lines.now) }) }
+{
+    if !are_gross(lines) {
+        return Err(Fault::Store(StoreCause::Row));
+    }
+    put(
+        tx,
+        "INSERT INTO wages (employer, month, worker, gross) VALUES \
+         (?1, ?2, ?3, ?4), (?1, ?2, ?5, ?6), (?1, ?2, ?7, ?8), (?1, ?2, ?9, ?10), \
+         (?1, ?2, ?11, ?12), (?1, ?2, ?13, ?14), (?1, ?2, ?15, ?16), (?1, ?2, ?17, ?18), \
+         (?1, ?2, ?19, ?20), (?1, ?2, ?21, ?22)",
+        &ten_values(no, at, lines),
     )
 }
 
@@ -128,4 +160,46 @@ fn wage_values(row: &WageRow) -> [ValueRef<'static>; 4]
         person(row.worker),
         number(row.gross),
     ]
+}
+
+// Whether each gross amount can be that of a line.
+fn are_gross(lines: &[WageLine]) -> bool
+    ensures { IsTrue result ↔ AllByRecursion (λ line. line.gross ≤ most_gross) lines.now }
+{
+    lines.iter().all(|line| is_gross(line.gross))
+}
+
+// What the statement of ten lines is given.
+fn ten_values(no: EmployerNo, at: Month, lines: &[WageLine]) -> [ValueRef<'static>; 22]
+    requires ten { length lines.now ≡ 10 }
+    requires in_range { AllByRecursion (λ line. line.gross ≤ most_gross) lines.now }
+    ensures { bound result ≡ lines_given no at lines.now }
+{
+    match lines {
+        [a, b, c, d, e, f, g, h, i, j] => [
+            employer(no),
+            month(at),
+            person(a.worker),
+            number(a.gross),
+            person(b.worker),
+            number(b.gross),
+            person(c.worker),
+            number(c.gross),
+            person(d.worker),
+            number(d.gross),
+            person(e.worker),
+            number(e.gross),
+            person(f.worker),
+            number(f.gross),
+            person(g.worker),
+            number(g.gross),
+            person(h.worker),
+            number(h.gross),
+            person(i.worker),
+            number(i.gross),
+            person(j.worker),
+            number(j.gross),
+        ],
+        _ => unreachable!(),
+    }
 }

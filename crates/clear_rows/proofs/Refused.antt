@@ -1,5 +1,5 @@
 -- Why an INSERT is refused for a rule of the schema: the key of the row is held. A query never is.
-use Rattle.std.proofs.Common.{◌≡◌, inl, inr, ℕ, zero, suc, ℤ, List, [], ◌∷◌, append-nil, length, length-append, slice_get, ◌/◌, Bool, true, false, not, ◌&&◌, Option, Some, None, Err, MatchBool, refl, sym, ap, subst, subst₂, ◌∙◌, arith, true≢false}
+use Rattle.std.proofs.Common.{◌≡◌, ◌≢◌, inl, inr, ℕ, zero, suc, ℤ, List, [], ◌∷◌, append-nil, length, length-append, slice_get, ◌/◌, Bool, true, false, not, ◌&&◌, Option, Some, None, Err, MatchBool, refl, sym, ap, subst, subst₂, ◌∙◌, arith, true≢false}
 use Rattle.std.proofs.lemmas.Bool.{cases_Bool, and_parts, and_from, both_ways, not-true, not-false, eq-eqb, ne_eqb, or_left, or_right}
 use Rattle.std.proofs.lemmas.Int.{ints}
 use Rattle.std.proofs.lemmas.List.Sorted.{list_any-IsPermutation}
@@ -190,28 +190,20 @@ module _ (schema : Schema) (at : ℕ) (table : Table) (placed : slice_get schema
 pub differs_not : (v : Value) (n : ℤ) → v ≡ Int n → differ v v ≡ true → ⊥
 differs_not v n is h = let e : not (int_eq n n) ≡ true = sym (differ_ints n n) ∙ subst (λ x. differ x x ≡ true) is h in absurd (grind (arith, ints))
 
-module _ (schema : Schema) (db : Trees) (table : Table) (listed : Has schema.tables table) (apart : IsAscending (λ a b. a.tree ≡ b.tree → ⊥) schema.tables)
-    (sound : IsDatabase (record { schema = schema; trees = db })) (new : Row) (n : ℤ) (id : rowid new ≡ Int n)
-    (typed : passes Datatype schema db table new ≡ true) (present : passes NotNull schema db table new ≡ true) (checked : passes Check schema db table new ≡ true) where
+module _ (schema : Schema) (old next : Trees) (table : Table) (listed : Has schema.tables table) (apart : IsAscending (λ a b. a.tree ≡ b.tree → ⊥) schema.tables) (keeps : Keeps Unique schema old) (new : Row) (n : ℤ) (id : rowid new ≡ Int n)
+    (there : next table.tree ≡ put_row new (old table.tree)) (others : (t : Table) → Has schema.tables t → t.tree ≢ table.tree → next t.tree ≡ old t.tree) where
   -- the rows of the table
   abbrev rows : List Row
-  rows = db table.tree
-
-  -- the trees with the new row
-  abbrev next : Trees
-  next = with_tree db table.tree (put_row new rows)
-
-  there : next table.tree ≡ put_row new rows
-  there = rw (eq-eqb table.tree table.tree refl)
+  rows = old table.tree
 
   fresh_row : is_taken rows new ≡ false → are_fresh rows (new ∷ []) ≡ true
   fresh_row free = rw free
 
-  turns : is_taken rows new ≡ false → Turns schema db next table rows [] (new ∷ [])
+  turns : is_taken rows new ≡ false → Turns schema old next table rows [] (new ∷ [])
   turns free = record {
     apart = apart;
     listed = listed;
-    others = λ t known other. rw (ne_eqb t.tree table.tree other);
+    others = others;
     from = λ r h. elim (put_has new rows r (subst (λ l. Has l r) there h)) [ inl same ↦ inl (inl same) | inr kept ↦ inr kept ];
     stays = λ r h. subst (λ l. Has l r) (sym there) (put_all_keeps (new ∷ []) rows r (fresh_row free) h);
     added = λ r h. subst (λ l. Has l r) (sym there) (put_all_adds (new ∷ []) rows r (fresh_row free) h);
@@ -239,20 +231,35 @@ module _ (schema : Schema) (db : Trees) (table : Table) (listed : Has schema.tab
 
   unless_unique : (b c : Bool) → is_taken rows new ≡ b → are_unique schema.indexes next table (new ∷ []) ≡ c → ¬ Keeps Unique schema next → IsHeldIn schema table rows new
   unless_unique true c taken unique breaks = inl taken
-  unless_unique false true free unique breaks = absurd (breaks (unique_kept schema db next table rows [] (new ∷ []) (turns free) unique (sound.obeys.rules Unique)))
+  unless_unique false true free unique breaks = absurd (breaks (unique_kept schema old next table rows [] (new ∷ []) (turns free) unique keeps))
   unless_unique false false free unique breaks = clash free unique
 
+  -- where the unique indexes are not kept with the new row, its key is held
+  pub held_if_broken : ¬ Keeps Unique schema next → IsHeldIn schema table rows new
+  held_if_broken = unless_unique (is_taken rows new) (are_unique schema.indexes next table (new ∷ [])) refl refl
+
+-- the trees with other rows of one table
+module _ (db : Trees) (tree : ℕ) (rows : List Row) where
+  pub these : with_tree db tree rows tree ≡ rows
+  these = rw (eq-eqb tree tree refl)
+
+  pub not_those : (t : ℕ) → t ≢ tree → with_tree db tree rows t ≡ db t
+  not_those t other = rw (ne_eqb t tree other)
+
+module _ (schema : Schema) (db : Trees) (table : Table) (listed : Has schema.tables table) (apart : IsAscending (λ a b. a.tree ≡ b.tree → ⊥) schema.tables)
+    (sound : IsDatabase (record { schema = schema; trees = db })) (new : Row) (n : ℤ) (id : rowid new ≡ Int n)
+    (typed : passes Datatype schema db table new ≡ true) (present : passes NotNull schema db table new ≡ true) (checked : passes Check schema db table new ≡ true) where
   -- a row of the right types is refused for its key alone
-  pub held_if_refused : (rule : Constraint) → IsRefused schema Enforced db (record { table = table; gone = []; news = new ∷ [] }) (why.Violates rule) → IsHeldIn schema table rows new
+  pub held_if_refused : (rule : Constraint) → IsRefused schema Enforced db (record { table = table; gone = []; news = new ∷ [] }) (why.Violates rule) → IsHeldIn schema table (db table.tree) new
   held_if_refused Datatype h = absurd (true≢false (sym (and_from _ _ typed refl) ∙ h))
   held_if_refused NotNull h = absurd (true≢false (sym (and_from _ _ present refl) ∙ h))
   held_if_refused Check h = absurd (true≢false (sym (and_from _ _ checked refl) ∙ h))
-  held_if_refused PrimaryKey h = inl (taken (is_taken rows new) h)
+  held_if_refused PrimaryKey h = inl (taken (is_taken (db table.tree) new) h)
     where
       taken : (b : Bool) → (not b && true) ≡ false → b ≡ true
       taken true h = refl
       taken false h = absurd (true≢false h)
-  held_if_refused Unique h = unless_unique (is_taken rows new) (are_unique schema.indexes next table (new ∷ [])) refl refl h
+  held_if_refused Unique h = held_if_broken schema db (with_tree db table.tree (put_row new (db table.tree))) table listed apart (sound.obeys.rules Unique) new n id (these db table.tree _) (λ t known other. not_those db table.tree _ t.tree other) h
   held_if_refused ForeignKey h = absurd h
 
 -- ---- the same of typed rows

@@ -16,7 +16,7 @@ module _ {S Row : Type 0} (g : Ghosts S) (there free : List Row → Tables → T
   PutsRows rows old new r = Puts {A = Unit {0}} g old new r (there rows) (free rows) (good rows) (changed rows)
 
 -- one row, whose key is free and which is in its range just where the statement finds it so
-put_just : {S A : Type 0} {g : Ghosts S} {old new : Held S} {r : Result A Fault} {out : Type 0} {held : Tables → Bool} {one : Tables → Tables} → Writes g old new r out held one → Puts g old new r Always (λ t. held t ≡ false) (¬ out) one
+pub put_just : {S A : Type 0} {g : Ghosts S} {old new : Held S} {r : Result A Fault} {out : Type 0} {held : Tables → Bool} {one : Tables → Tables} → Writes g old new r out held one → Puts g old new r Always (λ t. held t ≡ false) (¬ out) one
 put_just writes = put_by writes (λ t. (λ free. free, λ free. free)) (λ good. good, λ good. good)
 
 -- the first rows were put: what comes of those behind them comes of all

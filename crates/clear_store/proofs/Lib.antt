@@ -3,6 +3,7 @@ pub mod CreditLemmas
 pub mod EachLemmas
 pub mod JoinLemmas
 pub mod OnceLemmas
+pub mod PartLemmas
 pub mod PutLemmas
 pub mod RangeLemmas
 pub mod RateLemmas

@@ -9,7 +9,7 @@ ghost use Rattle.clear_store.specs.Changes.{Puts};
 
 use clear_firms::charges::{correct_charge, insert_charge};
 use clear_firms::reports::{insert_report, replace_report};
-use clear_firms::wages::{delete_wages, insert_wage};
+use clear_firms::wages::{delete_wages, insert_ten_wages, insert_wage};
 use clear_money::months::Month;
 use clear_money::numbers::EmployerNo;
 use clear_schema::fault::Fault;
@@ -91,8 +91,29 @@ fn replace_month<S: Alter>(
     replace_wages(tx, row.employer, row.month, lines)
 }
 
-// Adds a row for each line of a month's report.
+// Adds a row for each line of a month's report: ten by each statement, and one for each line that is left.
 fn insert_wages<S: Alter>(
+    tx: &mut Transaction<'_, S>,
+    no: EmployerNo,
+    month: Month,
+    lines: &[WageLine],
+) -> Result<(), Fault>
+    ensures same_reference { tx.new.conn.ghost_name ≡ tx.old.conn.ghost_name }
+    ensures puts { Puts S.Store tx.old.conn.now tx.new.conn.now result (λ _. Unit {0})
+        (λ t. AreFree wage_key t.wages (wage_rows no month lines.now)) (AreGross lines.now)
+        (λ t. record t { wages = with_rows wage_key t.wages (wage_rows no month lines.now) }) }
+{
+    let mut rest = lines;
+    'tens: while rest.len() >= 10 {
+        let (ten, more) = rest.split_at(10);
+        insert_ten_wages(tx, no, month, ten)?;
+        rest = more;
+    }
+    insert_each(tx, no, month, rest)
+}
+
+// Adds a row for each line by a statement of its own.
+fn insert_each<S: Alter>(
     tx: &mut Transaction<'_, S>,
     no: EmployerNo,
     month: Month,
