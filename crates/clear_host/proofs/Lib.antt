@@ -1,4 +1,3 @@
-pub mod BlankLemmas
 pub mod OfficeLemmas
 pub mod ReadLemmas
 pub mod RefusalLemmas

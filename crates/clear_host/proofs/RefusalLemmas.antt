@@ -1,5 +1,5 @@
--- What a refusal tells, and results that are passed on.
-use Rattle.std.proofs.Common.{◌≡◌, inl, inr, ℕ, None, IfSome, Result, Ok, Err, IfOk, IfErr, refl, sym, subst}
+-- What a refusal tells, and refusals that are passed on.
+use Rattle.std.proofs.Common.{◌≡◌, inl, inr, ℕ, None, IfSome, Result, Ok, Err, IfErr, refl, sym, subst}
 use Rattle.std.proofs.lemmas.Option.{IfSome_then}
 use Rattle.sqlite.specs.Store as store
 use Rattle.sqlite.specs.Held.{state}
@@ -33,11 +33,6 @@ none_wrong this found (Failed fault) none = tt
 pub refused_weaker : {S A : Type 0} (g : store.Ghosts S) (P Q : OpenFault → Type 0) → ((fault : OpenFault) → P fault → Q fault) → (r : Result A (NotOpened S)) → IfErr r (IfRefused g P) → IfErr r (IfRefused g Q)
 refused_weaker g P Q then (Ok it) h = tt
 refused_weaker g P Q then (Err refused) h = IfSome_then refused.connection h (λ conn told clean. then refused.fault (told clean))
-
--- what follows from both, holds of the value
-pub if_ok_both : {A E : Type 0} (r : Result A E) (P Q R : A → Type 0) → ((x : A) → P x → Q x → R x) → IfOk r P → IfOk r Q → IfOk r R
-if_ok_both (Ok x) P Q R then p q = then x p q
-if_ok_both (Err e) P Q R then p q = tt
 
 -- where there is no connection, nothing is said of the fault
 pub unconnected : {S : Type 0} (g : store.Ghosts S) (P : OpenFault → Type 0) (refused : NotOpened S) → refused.connection ≡ None → IfRefused g P refused

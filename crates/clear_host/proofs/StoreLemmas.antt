@@ -1,17 +1,13 @@
 -- What a connection on files sees, by what the files hold.
-use Rattle.std.proofs.Common.{◌≡◌, ◌≢◌, ◌∙◌, ℕ, sym, ap, subst}
+use Rattle.std.proofs.Common.{◌≢◌, ℕ, sym, subst}
 use Rattle.sqlite_wal.specs.Recovery.{Image}
-use Rattle.sqlite_catalog.proofs.ReadLemmas.{lists_once}
-use Rattle.sqlite_trees.specs.Objects.{catalog_tree}
-use Rattle.sqlite.specs.Files.{IsNothing}
 use Rattle.sqlite.specs.State.{State}
-use Rattle.sqlite.proofs.ListingLemmas.{empty_is_sound}
 use Rattle.clear_book.specs.Tables.{Tables}
 use Rattle.clear_schema.specs.Held.{HasObjects, HasOtherLayout, HasTables, StandsFor, StandsOtherwise, TellsAs, TellsSchema}
 use Rattle.clear_schema.specs.Schema.{no_schema, this_layout}
+use Rattle.clear_schema.specs.Seen.{SeesIn}
 use Rattle.clear_schema.proofs.OpenLemmas.{is_seen, other_seen, tells_seen}
 use Rattle.clear_host.specs.Contents.{HaveObjects, HoldsObjects, HoldsOtherLayout, HoldsSchema, HoldsStore}
-use Rattle.clear_host.specs.Seen.{SeesIn}
 
 module _ (image : Image) (s : State) (seen : SeesIn image s) where
   -- the store that the files hold
@@ -38,10 +34,3 @@ module _ (image : Image) (s : State) (seen : SeesIn image s) where
 
   pub other_layout_seen : HoldsOtherLayout image → HasOtherLayout s.now
   other_layout_seen holds = other_seen s seen.opened.0.clean seen.opened.1 seen.opened.0.is_open (other_is_seen holds)
-
-  -- or no table, where they hold no database yet
-  pub nothing_seen : IsNothing image → s.now.schema ≡ no_schema
-  nothing_seen nothing =
-      let bare = seen.bare nothing in
-      let here = lists_once (s.committed.trees catalog_tree) s.committed.schema no_schema (seen.opened.1 seen.opened.0.is_open).1.lists (empty_is_sound s.committed.trees bare).lists in
-      ap (λ d. d.schema) seen.opened.0.clean ∙ here

@@ -1,5 +1,4 @@
 pub mod Contents
-pub mod Seen
 pub mod Talks
 pub mod Told
 pub mod Hindrances

@@ -10,7 +10,6 @@
 
 pub mod backup;
 pub mod connections;
-mod database;
 pub mod files;
 pub mod hindrance;
 mod ledger;

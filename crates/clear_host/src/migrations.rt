@@ -9,9 +9,9 @@ ghost use Rattle.clear_book.specs.Tables.{Tables};
 ghost use Rattle.clear_schema.specs.Faults.{IsWrong};
 ghost use Rattle.clear_schema.specs.Held.{HasTables, this_schema};
 ghost use Rattle.clear_schema.specs.Schema.{this_layout};
+ghost use Rattle.clear_schema.specs.Seen.{Sees};
 ghost use Rattle.clear_host.specs.Contents.{HoldsOtherLayout, HoldsSchema, HoldsStore};
 ghost use Rattle.clear_host.specs.Contents.{IfRefused, IsUntoldUnopened, TellsOnly, TellsOther};
-ghost use Rattle.clear_host.specs.Seen.{Sees};
 
 use crate::hindrance::Hindrance;
 use crate::offices::NotOpened;

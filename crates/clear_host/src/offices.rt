@@ -14,11 +14,11 @@ ghost use Rattle.clear_schema.specs.Faults.{IsWrong};
 ghost use Rattle.clear_schema.specs.First.{first_tables};
 ghost use Rattle.clear_schema.specs.Held.{HasTables, this_schema};
 ghost use Rattle.clear_schema.specs.Schema.{this_layout};
+ghost use Rattle.clear_schema.specs.Seen.{Sees};
 ghost use Rattle.clear_office.specs.Office.{Holds, IsHonest, Keeps};
 ghost use Rattle.clear_host.specs.Contents.{HoldsBook, HoldsObjects, HoldsOtherLayout, HoldsSchema};
 ghost use Rattle.clear_host.specs.Contents.{HoldsStore, IfRefused, IsUntoldUnopened};
 ghost use Rattle.clear_host.specs.Contents.{TellsNone, TellsOnly, TellsOther};
-ghost use Rattle.clear_host.specs.Seen.{Sees};
 
 use crate::hindrance::Hindrance;
 use crate::ledger::ledger_day;

@@ -3,12 +3,12 @@ ghost use Rattle.std.specs.Prelude.{◌≡◌, false, true, None, IfErr, IfOk, I
 ghost use Rattle.sqlite.specs.Files.{over_files};
 ghost use Rattle.sqlite_std_file.specs.File.{file_is_usable, IsFresh};
 ghost use Rattle.sqlite_wal.specs.Files.{image_at};
+ghost use Rattle.clear_schema.specs.Seen.{Sees};
 ghost use Rattle.clear_host.specs.Contents.{TellsNone};
-ghost use Rattle.clear_host.specs.Seen.{Sees};
 
-use crate::database::open_in;
 use crate::hindrance::hindrance_of;
 use crate::offices::NotOpened;
+use clear_schema::database::open_connection;
 use clear_schema::fault::{OpenFault, fault_of};
 use clear_schema::files::store_options;
 use sqlite::{Alter, Connection, Error, ErrorCode, FileStore, Files};
@@ -35,7 +35,7 @@ pub(crate) fn open_database<S: Start>(
 {
     let files = open_files(rt, path, start)?;
     let seed = random_seed(rt)?;
-    let connection = open_in(rt.alloc(), files, store_options(seed))?;
+    let connection = open_connection(rt.alloc(), files, store_options(seed))?;
     Ok(connection)
 }
 

@@ -12,6 +12,7 @@ use clear_book::ranges::rates_in_range;
 use clear_money::rates::RateTable;
 use clear_office::made::make_office;
 use clear_office::office::Office;
+use clear_schema::database::open_connection;
 use clear_schema::files::store_options;
 use sqlite::{Alter, Connection, FileStore, Files};
 use std::alloc::Global;
@@ -66,7 +67,7 @@ fn connection_in_memory(alloc: Global) -> Option<Connection<FileStore<MemoryFile
         log: MemoryFile::new(alloc),
         db: MemoryFile::new(alloc),
     };
-    match Connection::open_files(alloc, files, store_options(7)) {
+    match open_connection(alloc, files, store_options(7)) {
         Ok(conn) => Some(conn),
         Err(_) => None,
     }

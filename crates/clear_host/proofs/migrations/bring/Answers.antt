@@ -3,8 +3,9 @@ use Rattle.sqlite.specs.Held.{state}
 use Rattle.clear_schema.specs.Held.{HasTables}
 use Rattle.clear_schema.specs.Schema.{this_layout}
 use Rattle.clear_schema.proofs.OpenLemmas.{store_tells}
+use Rattle.clear_schema.proofs.SeenLemmas.{nothing_seen}
 use Rattle.clear_host.proofs.RefusalLemmas.{never_so, only_so, other_so}
-use Rattle.clear_host.proofs.StoreLemmas.{nothing_seen, other_layout_seen, tables_seen, told_seen}
+use Rattle.clear_host.proofs.StoreLemmas.{other_layout_seen, tables_seen, told_seen}
 use Rattle.clear_host.proofs.migrations.bring.Goals as goal
 
 pub returns-in-Ok-clause-found : goal.returns-in-Ok-clause-found

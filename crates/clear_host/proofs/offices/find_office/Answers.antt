@@ -4,8 +4,9 @@ use Rattle.sqlite.specs.Held.{state}
 use Rattle.sqlite.specs.State.{HasCleanDisk}
 use Rattle.clear_schema.specs.Faults.{IsWrong}
 use Rattle.clear_schema.specs.Held.{this_schema}
+use Rattle.clear_schema.proofs.SeenLemmas.{if_ok_both}
 use Rattle.clear_host.specs.Contents.{TellsNone, TellsOnly, TellsOther}
-use Rattle.clear_host.proofs.RefusalLemmas.{if_ok_both, none_only, none_wrong, refused_weaker}
+use Rattle.clear_host.proofs.RefusalLemmas.{none_only, none_wrong, refused_weaker}
 use Rattle.clear_host.proofs.offices.find_office.Goals as goal
 
 pub returns-clause-found : goal.returns-clause-found

@@ -3,9 +3,10 @@ use Rattle.sqlite.specs.Held.{state}
 use Rattle.sqlite.specs.State.{HasCleanDisk}
 use Rattle.clear_schema.specs.Faults.{IsWrong}
 use Rattle.clear_schema.specs.Held.{this_schema}
+use Rattle.clear_schema.proofs.SeenLemmas.{if_ok_both, nothing_seen}
 use Rattle.clear_host.specs.Contents.{TellsNone, TellsOnly, TellsOther}
-use Rattle.clear_host.proofs.RefusalLemmas.{if_ok_both, none_only, none_wrong, refused_weaker, tells_only}
-use Rattle.clear_host.proofs.StoreLemmas.{nothing_seen, other_is_seen, store_seen, told_seen}
+use Rattle.clear_host.proofs.RefusalLemmas.{none_only, none_wrong, refused_weaker, tells_only}
+use Rattle.clear_host.proofs.StoreLemmas.{other_is_seen, store_seen, told_seen}
 use Rattle.clear_host.proofs.offices.find_store.Goals as goal
 
 pub returns-in-Ok-clause-found : goal.returns-in-Ok-clause-found

@@ -1,6 +1,7 @@
 use Rattle.sqlite.specs.Held.{state}
+use Rattle.clear_schema.proofs.SeenLemmas.{nothing_seen}
 use Rattle.clear_host.proofs.RefusalLemmas.{tells_none, tells_only}
-use Rattle.clear_host.proofs.StoreLemmas.{nothing_seen, objects_seen, told_seen}
+use Rattle.clear_host.proofs.StoreLemmas.{objects_seen, told_seen}
 use Rattle.clear_host.proofs.offices.new_office.Goals as goal
 
 pub returns-in-Ok-clause-created : goal.returns-in-Ok-clause-created

@@ -1,5 +1,5 @@
--- Files that hold no database yet are opened with an empty one.
-use Rattle.std.proofs.Common.{◌≡◌, ◌∙◌, ◌≤◌, ◌<◌, ℕ, true, false, List, [], length, take, slice_index, Option, Some, unwrap_or, sym, ap, inl, inr, arith, get_or-take}
+-- What a connection on files that were just opened sees: an empty database, where they hold none yet.
+use Rattle.std.proofs.Common.{◌≡◌, ◌∙◌, ◌≤◌, ◌<◌, ℕ, true, false, List, [], length, take, slice_index, Option, Some, unwrap_or, Result, Ok, Err, IfOk, sym, ap, inl, inr, arith, get_or-take}
 use Rattle.std.proofs.Math.Logic.{∥∥₁_elim}
 use Rattle.std.proofs.lemmas.List.{length-take}
 use Rattle.sqlite_wal.specs.Recovery.{Image}
@@ -16,7 +16,17 @@ use Rattle.sqlite_trees.specs.Tree.{Trees}
 use Rattle.sqlite_pool.specs.Opening.{IsBlankFile}
 use Rattle.sqlite_pool.specs.Stored.{reserved}
 use Rattle.sqlite_pool.proofs.ProbeLemmas.{not_blank}
+use Rattle.sqlite_catalog.proofs.ReadLemmas.{lists_once}
 use Rattle.sqlite.specs.Files.{AreFoundIn, HoldsDatabase, IsNothing}
+use Rattle.sqlite.specs.State.{State}
+use Rattle.sqlite.proofs.ListingLemmas.{empty_is_sound}
+use Rattle.clear_schema.specs.Schema.{no_schema}
+use Rattle.clear_schema.specs.Seen.{SeesIn}
+
+-- what follows from both, holds of the value
+pub if_ok_both : {A E : Type 0} (r : Result A E) (P Q R : A → Type 0) → ((x : A) → P x → Q x → R x) → IfOk r P → IfOk r Q → IfOk r R
+if_ok_both (Ok x) P Q R then p q = then x p q
+if_ok_both (Err e) P Q R then p q = tt
 
 -- the first page of a sound file begins with the letter S, and is longer than one byte
 module _ (size : ℕ) (image : Image) (pages : PageMap) (found : Adopts size image pages) (sound : IsSoundFile size pages) (page : List ℕ) (stands : found.stored 1 ≡ Some page) where
@@ -54,3 +64,10 @@ pub none_held : (other : ℕ) → 0 < other → (image : Image) (trees : Trees) 
 none_held other some image trees held =
     let large : 504 ≤ held.0 = (let few : reserved held.0 ≤ 8 = grind arith in omega (arith, held.1.0)) in
     not_blank held.0 image held.2.pages held.2.found large held.2.ours.file.sound other some
+
+-- so a connection on files that hold no database yet sees no table
+pub nothing_seen : (image : Image) (s : State) → SeesIn image s → IsNothing image → s.now.schema ≡ no_schema
+nothing_seen image s seen nothing =
+    let bare = seen.bare nothing in
+    let here = lists_once (s.committed.trees catalog_tree) s.committed.schema no_schema (seen.opened.1 seen.opened.0.is_open).1.lists (empty_is_sound s.committed.trees bare).lists in
+    ap (λ d. d.schema) seen.opened.0.clean ∙ here

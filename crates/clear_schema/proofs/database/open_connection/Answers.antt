@@ -3,10 +3,9 @@ use Rattle.sqlite.specs.Files.{file_state}
 use Rattle.sqlite.proofs.FileLemmas.{same_image}
 use Rattle.sqlite_trees.specs.Objects.{catalog_tree}
 use Rattle.sqlite_wal.specs.Recovery.{Image}
-use Rattle.clear_host.specs.Seen.{SeesIn}
-use Rattle.clear_host.proofs.BlankLemmas.{none_found, none_held}
-use Rattle.clear_host.proofs.RefusalLemmas.{if_ok_both}
-use Rattle.clear_host.proofs.database.open_in.Goals as goal
+use Rattle.clear_schema.specs.Seen.{SeesIn}
+use Rattle.clear_schema.proofs.SeenLemmas.{if_ok_both, none_found, none_held}
+use Rattle.clear_schema.proofs.database.open_connection.Goals as goal
 
 pub returns-in-Ok-true-clause-sees : goal.returns-in-Ok-true-clause-sees
 returns-in-Ok-true-clause-sees g c =

@@ -1,13 +1,14 @@
 //! The database that two files hold, and the one that a new store begins with.
-ghost use Rattle.std.specs.Prelude.{◌≡◌, false, [], IfOk, IsTrue};
+ghost use Rattle.std.specs.Prelude.{◌≡◌, false, [], IfErr, IfOk, IsTrue};
 ghost use Rattle.sqlite.specs.Files.{file_state, image_of, over_files, IsOpened};
+ghost use Rattle.sqlite.specs.Opening.{is_open_error};
 ghost use Rattle.sqlite.specs.State.{HasCleanDisk};
 ghost use Rattle.sqlite.specs.Steps.{IsFresh};
 ghost use Rattle.sqlite_store.specs.FileStore.{view};
 ghost use Rattle.sqlite_trees.specs.Objects.{catalog_tree};
 ghost use Rattle.sqlite_trees.specs.View.{IsClean};
 ghost use Rattle.sqlite_wal.specs.Reads.{AreClean};
-ghost use Rattle.clear_host.specs.Seen.{Sees};
+ghost use Rattle.clear_schema.specs.Seen.{Sees};
 
 use sqlite::{Connection, Error, ErrorCode, FileStore, Files, Options};
 use sqlite_disk::Disk;
@@ -26,7 +27,11 @@ const NO_MEMORY: Error = Error::SqliteFailure(ErrorCode::OutOfMemory);
 
 /// A connection on the database that two files hold. Where they hold none, or one that an earlier call
 /// left half made, an empty one of small pages is made there.
-pub(crate) fn open_in<D: Disk + Drop>(
+///
+/// An error is one of those with which the kit opens files: want of memory, a failed or a full disk, or
+/// files that hold no database or a damaged one. A stop meanwhile leaves what the files held, a half-made
+/// database, or the whole empty one.
+pub fn open_connection<D: Disk + Drop>(
     alloc: Global,
     files: Files<D>,
     options: Options,
@@ -35,6 +40,7 @@ pub(crate) fn open_in<D: Disk + Drop>(
     requires db { IsTrue (D.Disk.is_usable files.db) }
     ensures mode { IfOk result (λ connection. connection.in_transaction ≡ false) }
     ensures sees { IfOk result (Sees over_files (image_of D.Disk files)) }
+    ensures named { IfErr result (λ error. IsTrue (is_open_error error)) }
 {
     let mut files = files;
     let size = PageSize::new(PAGE).unwrap();
@@ -62,6 +68,7 @@ fn made_database<D: Disk + Drop>(
         → IsOpened connection × ((file_state connection).now.trees catalog_tree ≡ [])) }
     ensures honest { IfOk result (λ connection. HasCleanDisk (file_state connection)
         → AreClean D.Disk files.log files.db) }
+    ensures named { IfErr result (λ error. IsTrue (is_open_error error)) }
 {
     let store = made_store(alloc, files, size, options)?;
     match Connection::over(alloc, store) {
@@ -85,6 +92,7 @@ fn made_store<D: Disk + Drop>(
     ensures fresh { IfOk result (λ store. IsClean (view store) → IsFresh (view store)) }
     ensures empty { IfOk result (λ store. IsClean (view store) → (view store).trees catalog_tree ≡ []) }
     ensures honest { IfOk result (λ store. IsClean (view store) → AreClean D.Disk files.log files.db) }
+    ensures named { IfErr result (λ error. IsTrue (is_open_error error)) }
 {
     let Ok(pager) = Pager::new(alloc, files, size, options) else {
         return Err(NO_MEMORY);
@@ -106,7 +114,9 @@ fn made_store<D: Disk + Drop>(
 }
 
 // Why no database is made.
-fn error_of(error: OpenError) -> Error {
+fn error_of(error: OpenError) -> Error
+    ensures { IsTrue (is_open_error result) }
+{
     Error::SqliteFailure(match error {
         OpenError::OutOfMemory => ErrorCode::OutOfMemory,
         OpenError::Full => ErrorCode::DiskFull,
