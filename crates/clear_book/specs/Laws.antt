@@ -14,8 +14,8 @@ use Rattle.clear_values.specs.Limits.{most_entries, most_lines, most_gross, most
 use Rattle.clear_values.specs.Limits.{most_credits, most_credited, most_suspense, most_serials}
 use Rattle.clear_values.specs.Limits.{most_versions, most_entitled, most_claimed}
 use Rattle.clear_book.specs.Lines.{lines_seen, lines_standing, suspense_count, serial_count}
-use Rattle.clear_book.specs.Lines.{serial_key, serials_given}
-use Rattle.clear_book.specs.Tables.{bank_key, claim_key}
+use Rattle.clear_book.specs.Lines.{serials_given}
+use Rattle.clear_book.specs.Tables.{bank_key, claim_key, serial_key}
 use Rattle.clear_book.specs.Workers.{claimed, employers_of, entitlement_of, number_key}
 
 -- the limits on a report's lines

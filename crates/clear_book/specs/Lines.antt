@@ -58,10 +58,6 @@ rows_from is_registered last new =
 abbrev pub lines_of_rows : List BankRow → List BankLine
 lines_of_rows rows = map (λ row. row.line) rows
 
--- the serial of a row
-abbrev pub serial_key : BankRow → List ℕ
-serial_key row = row.serial ∷ []
-
 -- ---- the bank lines of a book
 
 -- a command that releases a claim

@@ -22,7 +22,7 @@ use Rattle.clear_book.specs.Lines.{lines_standing, credits_made, serial_count}
 use Rattle.clear_book.specs.Reminders.{reminders_of, runs_of}
 use Rattle.clear_book.specs.Workers.{claims_of, entitlement_for, is_withdrawn, lists_of}
 pub use Rattle.clear_values.specs.Tables.{RequestRow, Tables, employer_key, report_key}
-pub use Rattle.clear_values.specs.Tables.{wage_key, charge_key, bank_key, claim_key, list_key}
+pub use Rattle.clear_values.specs.Tables.{wage_key, charge_key, bank_key, serial_key, claim_key, list_key}
 pub use Rattle.clear_values.specs.Tables.{piece_key, run_key}
 pub use Rattle.clear_values.specs.Tables.{reminder_key, request_key, member_in, wage_row, wage_rows}
 pub use Rattle.clear_values.specs.Tables.{is_wage_key_of, with_wages, with_pieces, corrected}

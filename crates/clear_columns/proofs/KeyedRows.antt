@@ -1,5 +1,5 @@
 -- Several rows that one statement adds to a table whose rows stand under keys.
-use Rattle.clear_columns.proofs.Words.{◌≡◌, ◌/◌, ℤ, ℕ, Bool, true, false, not, ◌&&◌, ◌||◌, List, [], ◌∷◌, length, map, drop, refl, sym, ap, subst, ◌∙◌, is_eq, true≢false, list_any, cast_row, Insert, edit_of, with_rowid, IsRefused, value_rows, Row, stamped, Chosen, Values, State, Ghosts, Table, Term, Trees, rowid, Null, insert_by, Has, some_from, agree, passes, Check, Datatype, NotNull, Enforced, is_key, with_row, Tables, IsEdited, apart_if, insert_violates, inserted, HasTables, by_key, IsBroken, IsDone, all_tables, store_schema, refer_to_none, sound_by_schema, by_key_total, key_is, is_held, Result, Held, state, Fault, Runs, Writes, writes, keyed_row}
+use Rattle.clear_columns.proofs.Words.{◌≡◌, ◌/◌, ℤ, ℕ, Bool, true, false, not, ◌&&◌, List, [], ◌∷◌, length, map, drop, refl, sym, ap, subst, ◌∙◌, is_eq, list_any, cast_row, Insert, edit_of, with_rowid, IsRefused, value_rows, Row, stamped, Chosen, Values, State, Ghosts, Table, Term, Trees, rowid, Null, insert_by, Has, some_from, agree, passes, Check, Datatype, NotNull, Enforced, is_key, with_row, Tables, IsEdited, apart_if, insert_violates, inserted, HasTables, by_key, IsBroken, IsDone, all_tables, store_schema, refer_to_none, sound_by_schema, by_key_total, key_is, is_held, Result, Held, state, Fault, Runs, Writes, writes, keyed_row}
 use Rattle.std.specs.List.{AllByRecursion}
 use Rattle.sqlite_keyed.specs.Keyed.{next_key, has_key}
 use Rattle.sqlite_keyed.proofs.KeyedLemmas.{next_key_is_free}
@@ -17,7 +17,7 @@ use Rattle.clear_columns.proofs.KeyLemmas.{found_any, none_found, placed as at_i
 use Rattle.clear_columns.proofs.Says.{Says, is, plain}
 use Rattle.std.proofs.Common.{◌≢◌}
 use Rattle.std.specs.Prelude.{⊤}
-use Rattle.std.proofs.lemmas.Bool.{and_from, and_parts, both_ways}
+use Rattle.std.proofs.lemmas.Bool.{and_from, and_parts, both_ways, or_parts}
 use Rattle.std.specs.List.{list_all}
 use Rattle.sqlite.specs.Edit.{put_all, numbered, are_fresh, is_taken}
 use Rattle.sqlite.specs.Tree.{put_row, with_tree}
@@ -114,15 +114,11 @@ module _ {X : Type 0} (it : KeyedTable X) where
   next_if_free : (xs rows : List X) (tree : List Row) → HasKeyed it.key it.given rows tree → are_held it.held it.key xs rows ≡ false → AreNext xs tree
   next_if_free [] rows tree kept none = tt
   next_if_free (x ∷ xs) rows tree kept none =
-      let parts = neither _ _ none in
+      let parts = or_parts _ _ none in
       let row = row_is rows tree kept x in
       let unheld = λ (h : IsHeldIn store_schema it.table tree (next_row tree x)). both_ways _ parts.0 (holds it rows (λ _. tree) kept x (subst (IsHeldIn store_schema it.table tree) row h)) in
       ((n rows tree kept x, row, is_new rows tree kept x, unheld), next_if_free xs (with_row it.key rows x) (with_next tree x) (goes rows tree kept x (apart parts.0)) parts.1)
     where
-      neither : (a b : Bool) → (a || b) ≡ false → (a ≡ false) × (b ≡ false)
-      neither true b h = absurd (true≢false h)
-      neither false b h = (refl, h)
-
       -- the first key is one of those that are not held
       first_free : it.held x rows ≡ false → is_held it.key x rows ≡ false
       first_free free = none_at (λ (k : UniqueKey X). is_held k.of x rows) it.keys (record { of = it.key; index = it.first }) (sym (it.held_is x rows) ∙ free) it.leads

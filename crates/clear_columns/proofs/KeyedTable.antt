@@ -96,7 +96,7 @@ module _ {X : Type 0} (it : KeyedTable X) where
   stored_beside y = ap (λ (v : Value). v ∷ drop 1 (cast_row it.table (keyed_row it.given y))) (cast_int (number y)) ∙ ap (λ (r : Row). Int (number y) ∷ drop 1 r) (it.stored (content y))
 
   -- an index of the table keeps one of the keys
-  pub which : (i : Index) → Has all_indexes i → guards i it.table ≡ true → (k : UniqueKey X) × Has it.keys k × (i ≡ k.index)
+  which : (i : Index) → Has all_indexes i → guards i it.table ≡ true → (k : UniqueKey X) × Has it.keys k × (i ≡ k.index)
   which i listed on = has_mapped (λ (k : UniqueKey X). k.index) it.keys i (subst (λ l. Has l i) it.guarded (has_kept (λ (i : Index). guards i it.table) all_indexes i listed on))
 
   -- no two rows of a tree that keeps the indexes clash in one of the keys

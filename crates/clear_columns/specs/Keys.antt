@@ -1,4 +1,5 @@
--- What a table's rows become where the row of one key is changed.
+-- Rows under keys: what they become where the row of one key is changed, and whether one of several that
+-- are added is held.
 use Rattle.std.specs.Prelude.{ℕ, Bool, false, ◌||◌, List, [], ◌∷◌}
 use Rattle.std.specs.Option.{option_map_or}
 use Rattle.clear_values.specs.Keyed.{find_row, put_row, with_row}

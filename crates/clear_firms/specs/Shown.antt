@@ -1,4 +1,4 @@
--- The key of a row of rates, and what queries of a firm's month are given.
+-- The key of a row of rates, and what statements and queries of a firm's month are given.
 use Rattle.std.specs.Prelude.{ℕ, List, [], ◌∷◌}
 use Rattle.sqlite.specs.Order.{Row}
 use Rattle.clear_money.specs.Rates.{Rate}

@@ -1,6 +1,7 @@
 -- The limits on the payments of a lawful book.
-use Rattle.std.proofs.Common.{◌≡◌, ℕ, ◌+◌, ◌*◌, ◌≤◌, ◌⊎◌, ⊎_elim, inl, inr, List, [], ◌∷◌, ◌++◌, length, map, filter, Option, Some, None, Bool, true, false, cond, ◌&&◌, ◌||◌, ◌==◌, nat_le, nat_lt, refl, sym, ap, ◌∙◌, subst, arith}
+use Rattle.std.proofs.Common.{◌≡◌, ℕ, ◌+◌, ◌*◌, ◌≤◌, ◌⊎◌, ⊎_elim, inl, inr, List, [], ◌∷◌, ◌++◌, length, map, filter, Option, Some, None, Bool, true, false, cond, ◌&&◌, ◌==◌, nat_le, nat_lt, refl, sym, ap, ◌∙◌, subst, arith}
 use Rattle.std.specs.Prelude.{count_by, sum_by}
+use Rattle.std.proofs.lemmas.Bool.{or_parts}
 use Rattle.std.proofs.lemmas.Bool.Decides.{nat_tests}
 use Rattle.std.proofs.lemmas.List.{append-nil}
 use Rattle.std.proofs.lemmas.List.Sums.{sum_by-cons}
@@ -54,14 +55,9 @@ same_means Interest Interest h = refl
 none_over : (g : ℕ → Purpose → ℕ) (rows : List CreditRow) → list_any (λ row. nat_lt most_credits (g row.employer row.purpose)) rows ≡ false → (e : ℕ) (p : Purpose) → (count_by (is_credit_of e p) rows ≡ 0) ⊎ (g e p ≤ 100000)
 none_over g [] h e p = inl refl
 none_over g (row ∷ rows) h e p =
-    let parts = neither (nat_lt most_credits (g row.employer row.purpose)) (list_any (λ r. nat_lt most_credits (g r.employer r.purpose)) rows) h in
+    let parts = or_parts (nat_lt most_credits (g row.employer row.purpose)) (list_any (λ r. nat_lt most_credits (g r.employer r.purpose)) rows) h in
     told (row.employer == e) (same_purpose row.purpose p) refl refl parts.0 (none_over g rows parts.1 e p)
   where
-    neither : (a b : Bool) → a || b ≡ false → (a ≡ false) × (b ≡ false)
-    neither false false h = (refl, refl)
-    neither false true h = absurd (cc)
-    neither true b h = absurd (cc)
-
     same : row.employer == e ≡ true → row.employer ≡ e
     same k = grind (arith, nat_tests)
 
@@ -138,14 +134,9 @@ settled_within count claim serial release low h e p =
     same : claim.employer == e ≡ true → claim.employer ≡ e
     same k = grind (arith, nat_tests)
 
-    neither : (a b : Bool) → a || b ≡ false → (a ≡ false) × (b ≡ false)
-    neither false false k = (refl, refl)
-    neither false true k = absurd (cc)
-    neither true b k = absurd (cc)
-
     fits : (q : Purpose) → is_too_many (part_for release.settlement q) (count claim.employer q) ≡ false
-    fits Contribution = (neither (is_too_many release.settlement.to_contributions (count claim.employer Contribution)) (is_too_many release.settlement.to_interest (count claim.employer Interest)) h).0
-    fits Interest = (neither (is_too_many release.settlement.to_contributions (count claim.employer Contribution)) (is_too_many release.settlement.to_interest (count claim.employer Interest)) h).1
+    fits Contribution = (or_parts (is_too_many release.settlement.to_contributions (count claim.employer Contribution)) (is_too_many release.settlement.to_interest (count claim.employer Interest)) h).0
+    fits Interest = (or_parts (is_too_many release.settlement.to_contributions (count claim.employer Contribution)) (is_too_many release.settlement.to_interest (count claim.employer Interest)) h).1
 
     told : (f : Bool) → claim.employer == e ≡ f → (q : Purpose) → count e q + cond {A = ℕ} f (cond (nat_lt 0 (part_for release.settlement q)) 1 0) 0 ≤ 100000
     told true is q =

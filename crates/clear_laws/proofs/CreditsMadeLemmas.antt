@@ -21,13 +21,14 @@ use Rattle.clear_values.specs.declared.rows.ReleasedClaim.{ReleasedClaim}
 use Rattle.clear_book.specs.Accounts.{credit_key, rank_of}
 use Rattle.clear_book.specs.Book.{Entry}
 use Rattle.clear_values.specs.Keyed.{is_key, find_row, newer, AreOnce}
-use Rattle.clear_book.specs.Lines.{credit_count, credit_of_line, credits_after, credits_made, credits_of_lines, is_credit_of, is_release, line_credit, lines_after, lines_seen, lines_standing, moved_by, release_count, rows_brought, rows_by, serial_count, serial_key, set_offs, set_offs_by, set_offs_of}
+use Rattle.clear_book.specs.Lines.{credit_count, credit_of_line, credits_after, credits_made, credits_of_lines, is_credit_of, is_release, line_credit, lines_after, lines_seen, lines_standing, moved_by, release_count, rows_brought, rows_by, serial_count, set_offs, set_offs_by, set_offs_of}
 use Rattle.clear_book.specs.Workers.{claim_of, released_by}
 use Rattle.clear_values.proofs.CreditRowsLemmas.{set_off_row, set_offs-serial}
 use Rattle.clear_values.proofs.KeyedLemmas.{other_row}
 use Rattle.clear_values.proofs.KeyedRowsLemmas.{AreNew, AreOnce-append, find_row-append}
 use Rattle.clear_laws.proofs.LinesLemmas.{credits_of_lines-append, length-standing, lines_or_release, none_moved, of_standing, own_count, release_count-next, serial_count-next, serials_above, serials_brought, serials_small, standing_once}
 use Rattle.clear_values.proofs.ListLemmas.{both, each}
+use Rattle.clear_values.specs.Tables.{serial_key}
 use Rattle.clear_laws.proofs.SerialLemmas.{above-new, new-finer, none-above, none-up_to, of_both, once-finer}
 
 -- ---- what a command sets off

@@ -1,5 +1,6 @@
 -- The limits of a lawful book, and that runs keep a book lawful.
-use Rattle.std.proofs.Common.{◌≡◌, ℕ, zero, suc, ◌+◌, ◌*◌, ◌<◌, ◌≤◌, ◌⊎◌, List, [], ◌∷◌, ◌++◌, length, Option, Some, None, Bool, true, false, cond, ◌||◌, nat_le, nat_lt, sum_by, refl, sym, ap, ◌∙◌, subst, arith, inl, inr, ⊎_elim}
+use Rattle.std.proofs.Common.{◌≡◌, ℕ, zero, suc, ◌+◌, ◌*◌, ◌<◌, ◌≤◌, ◌⊎◌, List, [], ◌∷◌, ◌++◌, length, Option, Some, None, Bool, true, false, cond, nat_le, nat_lt, sum_by, refl, sym, ap, ◌∙◌, subst, arith, inl, inr, ⊎_elim}
+use Rattle.std.proofs.lemmas.Bool.{or_parts}
 use Rattle.std.proofs.lemmas.Bool.Decides.{nat_tests}
 use Rattle.std.proofs.lemmas.List.{append-nil, length-append}
 use Rattle.std.proofs.lemmas.List.Sums.{sum_by-cons}
@@ -38,15 +39,10 @@ use Rattle.clear_laws.proofs.JudgeLemmas.{unrefused}
 
 -- ---- a report that no rule refuses is within the limits
 
-neither : (a b : Bool) → a || b ≡ false → (a ≡ false) × (b ≡ false)
-neither false false h = (refl, refl)
-neither false true h = absurd (cc)
-neither true b h = absurd (cc)
-
 none_large : (lines : List WageLine) → list_any (λ line. nat_lt most_gross line.gross) lines ≡ false → AllByRecursion (λ line. line.gross ≤ 10000000) lines
 none_large [] h = tt
 none_large (l ∷ ls) h =
-    let n = neither (nat_lt most_gross l.gross) (list_any (λ k. nat_lt most_gross k.gross) ls) h in
+    let n = or_parts (nat_lt most_gross l.gross) (list_any (λ k. nat_lt most_gross k.gross) ls) h in
     (not_above l.gross n.0, none_large ls n.1)
   where
     not_above : (g : ℕ) → nat_lt 10000000 g ≡ false → g ≤ 10000000
@@ -149,7 +145,7 @@ few_charge rates m lines h few = chosen_small (rate_in_force rates m) (base_of l
 -- a row that isn't early begins behind the last row, and behind the month of the day
 pub not_early : (rates : List Rate) (t m : ℕ) → own_add_rate rates t m ≡ None → (last_first rates < m) × (month_of t < m)
 not_early rates t m h =
-    let late = neither (nat_le m (last_first rates)) (nat_le m (month_of t)) (when-none (is_early rates t m) RateOrder h) in
+    let late = or_parts (nat_le m (last_first rates)) (nat_le m (month_of t)) (when-none (is_early rates t m) RateOrder h) in
     (behind m (last_first rates) late.0, behind m (month_of t) late.1)
   where
     behind : (m n : ℕ) → nat_le m n ≡ false → n < m

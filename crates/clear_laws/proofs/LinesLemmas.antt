@@ -15,8 +15,8 @@ use Rattle.clear_book.specs.declared.calls.Command.TheVariants.{ImportBank, Assi
 use Rattle.clear_values.specs.declared.rows.BankRow.{BankRow}
 use Rattle.clear_book.specs.Book.{Entry, newer, member_of}
 use Rattle.clear_values.specs.Keyed.{is_key, find_row, AreInOrder, AreOnce}
-use Rattle.clear_book.specs.Lines.{lines_in, new_lines, employer_of_line, rows_from, lines_of_rows, serial_key, is_release, release_count, rows_brought, rows_by, lines_seen, serial_count, serials_given, assigned, moved_by, lines_standing, is_in_suspense, suspense_count}
-use Rattle.clear_book.specs.Tables.{bank_key}
+use Rattle.clear_book.specs.Lines.{lines_in, new_lines, employer_of_line, rows_from, lines_of_rows, is_release, release_count, rows_brought, rows_by, lines_seen, serial_count, serials_given, assigned, moved_by, lines_standing, is_in_suspense, suspense_count}
+use Rattle.clear_book.specs.Tables.{bank_key, serial_key}
 use Rattle.clear_values.proofs.KeyedLemmas.{is_key-sym}
 use Rattle.clear_values.proofs.KeyedRowsLemmas.{AreNew, AreOnce-append}
 use Rattle.clear_values.proofs.ListLemmas.{both, each}

@@ -4,8 +4,8 @@ use Rattle.clear_values.specs.declared.rows.BankRow.{BankRow}
 use Rattle.clear_values.specs.Keyed.{find_row, in_key_order, AreOnce}
 use Rattle.clear_values.proofs.KeyedRowsLemmas.{ordered}
 use Rattle.clear_book.specs.Book.{Book}
-use Rattle.clear_book.specs.Lines.{is_in_suspense, lines_in_suspense, lines_standing, serial_key}
-use Rattle.clear_book.specs.Tables.{Tables, Stands, bank_key}
+use Rattle.clear_book.specs.Lines.{is_in_suspense, lines_in_suspense, lines_standing}
+use Rattle.clear_book.specs.Tables.{Tables, Stands, bank_key, serial_key}
 use Rattle.clear_laws.proofs.LinesLemmas.{references_standing, standing_once, standing_rise}
 use Rattle.clear_laws.proofs.OtherKeyLemmas.{find-filter, find-in_key_order, in_order-filter, once-filter, once-in_key_order, passed}
 

@@ -1,13 +1,14 @@
 -- The bank lines: under their references, and with their serials unique too.
 use Rattle.clear_columns.proofs.Words.{◌≡◌, ℤ, pos, Bool, true, false, ◌&&◌, ◌||◌, List, [], ◌∷◌, Less, Option, Some, None, Row, is_none, ℕ, map, filter, refl, sym, ap, ◌∙◌, inl, inr, is_eq, Equal, codes, ordering_then, cast_row, Binary, Insert, Update, Database, Values, Ghosts, Term, lit, col, op2, Trees, Null, Text, automatic, agree, passes, Datatype, NotNull, Compare, Is, Eq, Key, value_cmp-Text, Purpose, Contribution, Interest, is_key, is_in_suspense, number, numbers_compare, output_cmp, plain_query, Tables, bank_key, BankRow, meets, plain_program, content, HasTables, by_key, bank_table, store_schema, cast_int, cast_null, equal_ints, equal_texts, AnswersJust, turned, is_key_is, by_key_total, key_is, cast_maybe, cast_purpose, maybe_typed, purpose_typed, same_numbers, and-true, keyed_row}
 use Rattle.clear_schema.specs.Values.{bank_shown}
-use Rattle.clear_ledger.specs.Shown.{is_line_held, serial_key}
+use Rattle.clear_ledger.specs.Shown.{is_line_held}
 use Rattle.std.specs.Float.Ieee
 use Rattle.sqlite.specs.Ops.{binary}
 use Rattle.sqlite_tied.specs.Compute.{everything}
 use Rattle.sqlite_value.specs.Keys.{ascending, first_key, plain}
 use Rattle.sqlite_value.specs.Order.{value_cmp}
 use Rattle.clear_values.specs.Keyed.{in_key_order}
+use Rattle.clear_values.specs.Tables.{serial_key}
 use Rattle.clear_columns.proofs.KeyedTable.{KeyedTable, lists_all}
 use Rattle.clear_columns.proofs.OrderLemmas.{lists_by}
 use Rattle.clear_columns.proofs.Says.{Says, SaysQuery}

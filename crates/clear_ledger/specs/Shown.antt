@@ -3,7 +3,7 @@
 use Rattle.std.specs.Prelude.{ℕ, ◌<◌, ◌^◌, Bool, ◌||◌, List, [], ◌∷◌, Option, Some, None}
 use Rattle.sqlite.specs.declared.types.Value.TheVariants.{Blob, Text}
 use Rattle.sqlite.specs.Order.{Row}
-use Rattle.clear_values.specs.Tables.{RequestRow, bank_key}
+use Rattle.clear_values.specs.Tables.{RequestRow, bank_key, serial_key}
 use Rattle.clear_values.specs.declared.rows.BankRow.{BankRow}
 use Rattle.clear_values.specs.declared.rows.ClaimRow.{ClaimRow}
 use Rattle.clear_values.specs.declared.rows.ClaimState.{ClaimState}
@@ -22,10 +22,6 @@ use Rattle.clear_ledger.specs.declared.states.StateColumns.{StateColumns}
 abbrev pub first_piece_given : PieceFrom → Row
 first_piece_given from =
     number from.employer ∷ month from.month ∷ number from.day ∷ number from.serial ∷ []
-
--- the serial of a bank line, as a key
-abbrev pub serial_key : BankRow → List ℕ
-serial_key row = row.serial ∷ []
 
 -- the reference and the firm of a line
 abbrev pub assignment_given : BankRow → Row

@@ -5,7 +5,7 @@ use Rattle.clear_values.specs.declared.rows.Change.{Change}
 use Rattle.clear_values.specs.declared.rows.Change.TheVariants.{AddRate, AddEmployer, EndMembership, AddReport, ReplaceReport, AddBankLines, AssignLine, AddClaim, WithdrawClaim, ReleaseClaim, AddList, AddRun}
 use Rattle.clear_values.specs.declared.texts.WageLine.{WageLine}
 use Rattle.clear_values.specs.Credits.{credit_key}
-use Rattle.clear_values.specs.Tables.{request_number}
+use Rattle.clear_values.specs.Tables.{request_number, serial_key}
 use Rattle.clear_book.specs.Book.{Book, Entry}
 use Rattle.clear_values.specs.Keyed.{is_key, find_row, without_rows, AreInOrder, AreOnce}
 use Rattle.clear_values.specs.Credits.{credits_of_lines, set_offs_of}
@@ -26,7 +26,6 @@ use Rattle.clear_laws.proofs.RowRangeLemmas.{rows_in_range}
 use Rattle.sqlite_keyed.proofs.ListLemmas.{all_weaker}
 use Rattle.clear_schema.specs.Values.{counts_of}
 use Rattle.clear_schema.specs.declared.counts.Counts.{Counts}
-use Rattle.clear_ledger.specs.Shown.{serial_key}
 use Rattle.clear_store.specs.Changes.{AreGross, HasRoom, IsFree, IsInRange, IsPuttable, IsThere, taken_by}
 use Rattle.clear_store.proofs.ChangeLemmas.{counted}
 use Rattle.clear_store.proofs.RateLemmas.{rising_free}

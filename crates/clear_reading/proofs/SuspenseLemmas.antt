@@ -10,8 +10,8 @@ use Rattle.clear_values.specs.RowRanges.{IsBankRow}
 use Rattle.clear_values.specs.declared.rows.BankRow.{BankRow}
 use Rattle.clear_values.proofs.KeyedChangesLemmas.{AllByRecursion-in_key_order}
 use Rattle.clear_values.proofs.KeyedRowsLemmas.{sum_by-with_rows}
+use Rattle.clear_values.specs.Tables.{serial_key}
 use Rattle.clear_book.specs.Lines.{suspense_count}
-use Rattle.clear_ledger.specs.Shown.{serial_key}
 use Rattle.clear_reading.specs.LookParts.{suspended_cents}
 use Rattle.clear_reading.specs.Reader.{AreAddable}
 

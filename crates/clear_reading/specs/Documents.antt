@@ -4,11 +4,10 @@ use Rattle.clear_values.specs.Credits.{is_in_suspense}
 use Rattle.clear_values.specs.declared.rows.ListRow.{ListRow}
 use Rattle.clear_values.specs.declared.rows.RunRow.{RunRow}
 use Rattle.clear_values.specs.Keyed.{in_key_order}
-use Rattle.clear_values.specs.Tables.{Tables}
+use Rattle.clear_values.specs.Tables.{Tables, serial_key}
 use Rattle.clear_book.specs.Documents.Payout.{payout_text}
 use Rattle.clear_book.specs.Documents.Reminders.{reminders_text}
 use Rattle.clear_book.specs.Documents.Suspense.{suspense_text}
-use Rattle.clear_book.specs.Lines.{serial_key}
 use Rattle.clear_book.specs.Workers.{is_on}
 
 -- of a payout list, over the claims on it

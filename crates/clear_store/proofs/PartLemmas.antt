@@ -1,5 +1,6 @@
 -- Rows put into the tables by statements that take several at once.
-use Rattle.std.proofs.Common.{◌≡◌, ℕ, List, [], ◌∷◌, ◌++◌, Bool, true, false, ◌||◌, Result, Ok, Err, refl, sym, ap, subst, ◌∙◌, true≢false}
+use Rattle.std.proofs.Common.{◌≡◌, ℕ, List, [], ◌∷◌, ◌++◌, Bool, false, Result, Ok, Err, refl, sym, ap, subst, ◌∙◌}
+use Rattle.std.proofs.lemmas.Bool.{or_from, or_parts}
 use Rattle.std.proofs.lemmas.List.{map-append}
 use Rattle.std.specs.Prelude.{◌↔◌}
 use Rattle.sqlite.specs.Held.{Held}
@@ -39,14 +40,6 @@ module _ {S Row : Type 0} {g : Ghosts S} {there free : List Row → Tables → T
 
 -- ---- the lines of a month's report
 
-neither : (a b : Bool) → (a || b) ≡ false → (a ≡ false) × (b ≡ false)
-neither true b h = absurd (true≢false h)
-neither false b h = (refl, h)
-
-both_off : (a b : Bool) → a ≡ false → b ≡ false → (a || b) ≡ false
-both_off true b h k = h
-both_off false b h k = k
-
 module _ {Row : Type 0} (key : Row → List ℕ) where
   -- rows that are added in two parts
   with_rows-append : (rows part more : List Row) → with_rows key (with_rows key rows part) more ≡ with_rows key rows (part ++ more)
@@ -59,8 +52,8 @@ module _ {Row : Type 0} (key : Row → List ℕ) where
   free_by_parts rows (row ∷ part) more =
       let first = not_held (find_row key rows (key row)) in
       let rest = free_by_parts (with_row key rows row) part more in (
-        λ free. (both_off _ _ (first.0 free.0) (rest.0 free.1).0, (rest.0 free.1).1),
-        λ both. let parts = neither _ _ both.0 in (first.1 parts.0, rest.1 (parts.1, both.1)),
+        λ free. (or_from _ _ (first.0 free.0) (rest.0 free.1).0, (rest.0 free.1).1),
+        λ both. let parts = or_parts _ _ both.0 in (first.1 parts.0, rest.1 (parts.1, both.1)),
       )
 
 module _ (e m : ℕ) (part more : List WageLine) where

@@ -1,5 +1,6 @@
 -- Rows with free keys, added one after another.
 use Rattle.std.proofs.Common.{◌≡◌, ℕ, List, [], ◌∷◌, Option, None, Some, is_some, Bool, true, false, cond, ◌||◌, refl, ap, ap₂, ◌∙◌, true≢false}
+use Rattle.std.proofs.lemmas.Bool.{or_parts}
 use Rattle.std.specs.Prelude.{◌↔◌}
 use Rattle.clear_values.specs.Keyed.{is_key, is_before, is_held, find_row, with_row}
 use Rattle.clear_values.proofs.KeyedLemmas.{other_row}
@@ -62,18 +63,10 @@ pub first_neither_held : {Row : Type 0} (key other : Row → List ℕ) (rows : L
 first_neither_held key other rows new news = (
   λ free. (ap₂ (λ x y. is_some x || is_some y) free.0.0 free.1.0, (free.0.1, free_behind other other key rows new news free.1.1)),
   λ free. (
-    ((not_held (find_row key rows (key new))).1 (or_left _ _ free.0), free.1.0),
-    ((not_held (find_row other rows (other new))).1 (or_right _ _ free.0), free_behind other key other rows new news free.1.1),
+    ((not_held (find_row key rows (key new))).1 (or_parts _ _ free.0).0, free.1.0),
+    ((not_held (find_row other rows (other new))).1 (or_parts _ _ free.0).1, free_behind other key other rows new news free.1.1),
   ),
 )
-  where
-    or_left : (a b : Bool) → (a || b) ≡ false → a ≡ false
-    or_left false b neither = refl
-    or_left true b neither = neither
-
-    or_right : (a b : Bool) → (a || b) ≡ false → b ≡ false
-    or_right false b neither = neither
-    or_right true b neither = absurd (true≢false neither)
 
 -- a statement that asks for no free key
 pub no_key : Unit {0} ↔ (false ≡ false)

@@ -23,7 +23,7 @@ use Rattle.clear_values.specs.declared.texts.WageLine.{WageLine}
 use Rattle.clear_values.specs.Keyed.{find_row, with_row, without_rows, AreOnce}
 use Rattle.clear_values.specs.Limits.{most_entries, most_gross, most_serials, most_versions}
 use Rattle.clear_values.specs.RowRanges.{IsClaimRow, IsListRow, IsReminderRow, IsRunRow, IsSerial}
-use Rattle.clear_values.specs.Tables.{Tables, bank_key, claim_key, employer_key, report_key}
+use Rattle.clear_values.specs.Tables.{Tables, bank_key, claim_key, employer_key, report_key, serial_key}
 use Rattle.clear_values.specs.Tables.{wage_key, charge_key, list_key, run_key, reminder_key}
 use Rattle.clear_values.specs.Tables.{is_wage_key_of, wage_rows}
 use Rattle.clear_values.specs.declared.causes.StoreCause.TheVariants.{Constraint, Row as OutOfRange}
@@ -33,7 +33,7 @@ use Rattle.clear_schema.specs.declared.fault.Fault.TheVariants.{Store}
 use Rattle.clear_schema.specs.declared.counts.Counts.{Counts}
 use Rattle.clear_firms.specs.Amounts.{AreInRange}
 use Rattle.clear_firms.specs.Shown.{rate_key}
-use Rattle.clear_ledger.specs.Shown.{for_firm, serial_key}
+use Rattle.clear_ledger.specs.Shown.{for_firm}
 use Rattle.clear_store.specs.declared.changes.Taken.{Taken}
 
 -- rows were put into the tables, where what has to be there was there; it is done only where each key

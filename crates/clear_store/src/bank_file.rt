@@ -3,8 +3,7 @@ ghost use Rattle.std.specs.Prelude.{◌≡◌, IfOk};
 ghost use Rattle.clear_values.specs.Credits.{credit_key};
 ghost use Rattle.clear_values.specs.Keyed.{with_rows};
 ghost use Rattle.clear_values.specs.Credits.{credits_of_lines};
-ghost use Rattle.clear_values.specs.Tables.{bank_key};
-ghost use Rattle.clear_ledger.specs.Shown.{serial_key};
+ghost use Rattle.clear_values.specs.Tables.{bank_key, serial_key};
 ghost use Rattle.clear_store.specs.Changes.{AreFree, AreSerials, HaveSerials, Puts};
 
 use clear_ledger::bank::insert_line;

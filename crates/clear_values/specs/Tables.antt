@@ -85,6 +85,10 @@ charge_key row = row.employer ∷ row.month ∷ []
 abbrev pub bank_key : BankRow → List ℕ
 bank_key row = row.line.reference
 
+-- the serial of a bank line, another key of it
+abbrev pub serial_key : BankRow → List ℕ
+serial_key row = row.serial ∷ []
+
 -- an employer, a month, and the day and the serial of a credit
 abbrev pub piece_key : PieceRow → List ℕ
 piece_key row = row.employer ∷ row.month ∷ row.day ∷ row.serial ∷ []

@@ -2,9 +2,9 @@ use Rattle.std.proofs.Common.{filter, refl}
 use Rattle.clear_columns.proofs.ReadingLemmas.{left_on, reads_on}
 use Rattle.clear_values.specs.Credits.{is_in_suspense}
 use Rattle.clear_values.specs.Keyed.{in_key_order}
+use Rattle.clear_values.specs.Tables.{serial_key}
 use Rattle.clear_ledger.proofs.BankTable.{answers_by_serial}
 use Rattle.clear_schema.specs.Values.{bank_shown}
-use Rattle.clear_ledger.specs.Shown.{serial_key}
 use Rattle.clear_ledger.proofs.bank.read_suspense.Goals as goal
 
 pub returns : goal.returns

@@ -1,7 +1,6 @@
 use Rattle.std.proofs.Common.{◌∙◌, refl}
 use Rattle.std.proofs.lemmas.Result.{err_from_is_err_and}
-use Rattle.clear_values.specs.Tables.{bank_key}
-use Rattle.clear_ledger.specs.Shown.{serial_key}
+use Rattle.clear_values.specs.Tables.{bank_key, serial_key}
 use Rattle.clear_store.proofs.EachLemmas.{all_done, one_more, refused}
 use Rattle.clear_store.proofs.RangeLemmas.{first_in_range, range_stable}
 use Rattle.clear_store.proofs.RowLemmas.{first_neither_held}

@@ -1,7 +1,6 @@
 use Rattle.std.proofs.Common.{◌≡◌}
 use Rattle.clear_values.specs.Keyed.{with_rows}
-use Rattle.clear_values.specs.Tables.{bank_key}
-use Rattle.clear_ledger.specs.Shown.{serial_key}
+use Rattle.clear_values.specs.Tables.{bank_key, serial_key}
 use Rattle.clear_store.specs.Changes.{AreFree, AreSerials}
 use Rattle.clear_store.proofs.EachLemmas.{AreBegun}
 use Rattle.clear_store.proofs.JoinLemmas.{Always}
