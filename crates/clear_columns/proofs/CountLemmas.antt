@@ -1,7 +1,7 @@
 -- How many rows of a table pass: a query shows 1 for each of them, so in whatever order they come, its
 -- answer is the same.
 use Rattle.clear_columns.proofs.Words.{◌≡◌, ◌≢◌, IsPermutation-filter, IsPermutation-map, ℤ, ℕ, Bool, List, [], ◌∷◌, pos, length, map, filter, refl, sym, ap, ◌∙◌, IsPermutation, length-map, map-id, all_pass, subst, true, Row, Term, lit, Int, Tables, Database, Answers, Ghosts, HasTables, store_schema, meets, plain_program, content, shown_in_some_order, answers_just, AnswersJust, Held, state, Fault, numbered_row, keyed_row}
-use Rattle.std.proofs.Common.{Ok, Err, arith}
+use Rattle.std.proofs.Common.{Result, Ok, Err, arith}
 use Rattle.std.proofs.lemmas.List.Elements.{All-from_recursion, recursion_from_All}
 use Rattle.std.proofs.lemmas.List.Sorted.{All-permutation, IsPermutation-sym, IsPermutation-trans, length_permutation}
 use Rattle.std.specs.List.{AllByRecursion}
@@ -9,7 +9,7 @@ use Rattle.std.specs.Prelude.{⊤}
 use Rattle.sqlite_keyed.proofs.ListLemmas.{IsPermutation-same}
 use Rattle.sqlite.specs.State.{HasCleanDisk, KeepsCommit, Shown, Survives}
 use Rattle.clear_schema.proofs.FrameLemmas.{looks_as, looks_failed, looks_read}
-use Rattle.clear_schema.specs.Frame.{LooksUp}
+use Rattle.clear_schema.specs.Frame.{CountsAll, LooksUp}
 use Rattle.clear_schema.specs.Runs.{IsBrokenQuery}
 use Rattle.clear_values.specs.declared.causes.StoreCause.TheVariants.{Constraint, Row as OutOfRange}
 use Rattle.clear_schema.specs.declared.fault.Fault.TheVariants.{Store}
@@ -66,15 +66,26 @@ counts_all it g t db has {sql} says =
     subst (λ l. AnswersJust g sql [] db (map one_shown l)) (all_pass (it.rows t))
     (counts_of g db has.schema [] (numbered_row it.given) (λ x. x) (λ _. true) (λ _. refl) (it.rows t) (it.rows t) (it.has t db has).is (IsPermutation-same _ _ (map-id (it.rows t))) says)
 
-module _ {S X : Type 0} (g : Ghosts S) (old new : Held S) (sql : List ℕ) (params : Row) (rows : Tables → List X) (just : (t : Tables) → HasTables t (state g old).now → AnswersJust g sql params (state g old).now (map one_shown (rows t))) (count : Tables → ℕ) (counted : (t : Tables) → length (rows t) ≡ count t) where
-  -- so the rows that it shows tell how many there are
-  pub told : (n : ℕ) (shown : List Row) → n ≡ length shown → (HasCleanDisk (state g new) → Shown sql params (state g old) (state g new) shown) → Survives (state g old) (state g new) (λ _. ⊥) → LooksUp g old new (Ok n) (λ t found. found ≡ count t) (λ _. ⊤) (λ _. ⊥)
-  told n shown is ran survives =
-      looks_as g old new (AnswersRows g old new one_shown (λ _. ⊤) sql params) (λ t. HasTables t (state g old).now) rows just _ _ _ _ _ _ (λ t found same. same ∙ counted t) (λ t out. out)
-      (looks_read g old new one_shown (λ _. ⊤) sql params (Ok n) shown (λ xs found. found ≡ length xs) (λ _. ⊤) (λ _. ⊥) ran survives (λ xs same. is ∙ ap length same ∙ length-map xs one_shown) tt tt tt)
+module _ {S : Type 0} (g : Ghosts S) (old new : Held S) (sql : List ℕ) (params : Row) where
+  -- an answer as it is
+  as_is : (rows : List Row) → AnswersJust g sql params (state g old).now rows → AnswersRows g old new (λ r. r) (λ _. ⊤) sql params rows
+  as_is rows = subst (λ l. AnswersJust g sql params (state g old).now l) (sym (map-id rows))
 
+  -- so the rows of an answer are counted
+  pub told : (n : ℕ) (shown : List Row) → n ≡ length shown → (HasCleanDisk (state g new) → Shown sql params (state g old) (state g new) shown) → Survives (state g old) (state g new) (λ _. ⊥) → CountsAll g old new sql params (Ok n)
+  told n shown is ran survives =
+      looks_as g old new (AnswersRows g old new (λ r. r) (λ _. ⊤) sql params) (AnswersJust g sql params (state g old).now) (λ rows. rows) as_is _ _ _ _ _ _ (λ rows found same. same) (λ rows out. out)
+      (looks_read g old new (λ r. r) (λ _. ⊤) sql params (Ok n) shown (λ xs found. found ≡ length xs) (λ _. ⊤) (λ _. ⊥) ran survives (λ xs same. is ∙ ap length (same ∙ map-id xs)) tt tt tt)
+
+  -- or they can't be
   pub failed : (fault : Fault) → fault ≢ Store OutOfRange → (HasCleanDisk (state g new) → fault ≡ Store Constraint → IsBrokenQuery sql params (state g old) (state g new)) → (HasCleanDisk (state g new) → KeepsCommit (state g old) (state g new)) → Survives (state g old) (state g new) (λ _. ⊥)
-      → LooksUp g old new (Err fault) (λ t (found : ℕ). found ≡ count t) (λ _. ⊤) (λ _. ⊥)
+      → CountsAll g old new sql params (Err fault)
   failed fault no_row broke kept survives =
-      looks_as g old new (AnswersRows g old new one_shown (λ _. ⊤) sql params) (λ t. HasTables t (state g old).now) rows just _ _ _ _ _ _ (λ t found same. same ∙ counted t) (λ t out. out)
-      (looks_failed g old new one_shown (λ _. ⊤) sql params fault (λ xs (found : ℕ). found ≡ length xs) (λ _. ⊤) (λ _. ⊥) no_row broke kept survives)
+      looks_as g old new (AnswersRows g old new (λ r. r) (λ _. ⊤) sql params) (AnswersJust g sql params (state g old).now) (λ rows. rows) as_is _ _ _ _ _ _ (λ rows (found : ℕ) same. same) (λ rows out. out)
+      (looks_failed g old new (λ r. r) (λ _. ⊤) sql params fault (λ xs (found : ℕ). found ≡ length xs) (λ _. ⊤) (λ _. ⊥) no_row broke kept survives)
+
+  -- and with them the rows of a table, of each of which the query shows 1
+  pub counted : {X : Type 0} (rows : Tables → List X) → ((t : Tables) → HasTables t (state g old).now → AnswersJust g sql params (state g old).now (map one_shown (rows t))) → (count : Tables → ℕ) → ((t : Tables) → length (rows t) ≡ count t)
+      → (r : Result ℕ Fault) → CountsAll g old new sql params r → LooksUp g old new r (λ t found. found ≡ count t) (λ _. ⊤) (λ _. ⊥)
+  counted rows just count long r looks =
+      looks_as g old new (AnswersJust g sql params (state g old).now) (λ t. HasTables t (state g old).now) (λ t. map one_shown (rows t)) just r _ _ _ _ _ (λ t found same. same ∙ length-map (rows t) one_shown ∙ long t) (λ t out. out) looks

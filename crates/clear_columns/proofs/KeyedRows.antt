@@ -26,7 +26,7 @@ use Rattle.clear_rows.proofs.Edits.{taken_is}
 use Rattle.clear_rows.proofs.Held.{key_was_free}
 use Rattle.clear_rows.proofs.Refused.{held_if_broken, these, not_those}
 use Rattle.clear_values.specs.Keyed.{with_rows}
-use Rattle.clear_columns.proofs.KeyedTable.{KeyedTable, UniqueKey, IsKeptBy, no_clash, holds, none_from}
+use Rattle.clear_columns.proofs.KeyedTable.{KeyedTable, is_listed, UniqueKey, IsKeptBy, no_clash, holds, none_from}
 use Rattle.clear_columns.specs.Keys.{are_held}
 
 -- rows of which no two agree in columns
@@ -99,7 +99,7 @@ module _ {X : Type 0} (it : KeyedTable X) where
   all_go (x ∷ xs) rows tree kept fresh apart =
       let later = (and_parts _ _ fresh).1 in
       let each = apart_from_all rows tree kept x (λ k listed. apart_in k.index.columns (with_next tree x) _ (λ r there. put_all_keeps (next_rows (with_next tree x) xs) (with_next tree x) r later there) (apart k listed)) in
-      let rest = all_go xs (with_row it.key rows x) (with_next tree x) (goes rows tree kept x (each (record { of = it.key; index = it.first }) it.leads)) later apart in
+      let rest = all_go xs (with_row it.key rows x) (with_next tree x) (goes rows tree kept x (each (record { of = it.key; index = it.leads.0 }) it.leads.1)) later apart in
       let none : it.held x rows ≡ false = it.held_is x rows ∙ none_from (λ (k : UniqueKey X). is_held k.of x rows) it.keys (λ k listed. none_found k.of x rows (each k listed)) in
       (rest.0, rw none rest.1)
 
@@ -121,7 +121,7 @@ module _ {X : Type 0} (it : KeyedTable X) where
     where
       -- the first key is one of those that are not held
       first_free : it.held x rows ≡ false → is_held it.key x rows ≡ false
-      first_free free = none_at (λ (k : UniqueKey X). is_held k.of x rows) it.keys (record { of = it.key; index = it.first }) (sym (it.held_is x rows) ∙ free) it.leads
+      first_free free = none_at (λ (k : UniqueKey X). is_held k.of x rows) it.keys (record { of = it.key; index = it.leads.0 }) (sym (it.held_is x rows) ∙ free) it.leads.1
 
       apart : it.held x rows ≡ false → AllByRecursion (λ y. is_eq (by_key it.key x y) ≡ false) rows
       apart free = all_from (λ y. is_eq (by_key it.key x y) ≡ false) rows (λ y there. sym (key_is it.key x y) ∙ none_at (λ y. is_key (it.key y) (it.key x)) rows y (sym (found_any it.key rows (it.key x)) ∙ first_free free) there)
@@ -142,7 +142,7 @@ module _ {X : Type 0} (it : KeyedTable X) where
     one_keeps : (x : X) (tree : List Row) (old : Trees) → old it.table.tree ≡ tree → ((t : Table) → Has all_tables t → t.tree ≢ it.table.tree → old t.tree ≡ db t.tree) → AreNext (x ∷ []) tree → Keeps Unique store_schema old → ¬ Keeps Unique store_schema (trees_with (with_next tree x)) → ⊥
     one_keeps x tree old is same next keeps broken =
         next.0.3 (subst (λ l. IsHeldIn store_schema it.table l (next_row tree x)) is
-        (held_if_broken store_schema old (trees_with (with_next tree x)) it.table it.listed (apart_if all_tables refl) keeps (next_row tree x) next.0.0 (ap rowid next.0.1)
+        (held_if_broken store_schema old (trees_with (with_next tree x)) it.table (is_listed it) (apart_if all_tables refl) keeps (next_row tree x) next.0.0 (ap rowid next.0.1)
         (these db it.table.tree (with_next tree x) ∙ ap (put_row (next_row tree x)) (sym is)) (λ t listed other. not_those db it.table.tree (with_next tree x) t.tree other ∙ sym (same t listed other)) broken))
 
     -- and so with all, one after another

@@ -8,7 +8,7 @@ use Rattle.sqlite.specs.declared.types.Value.{Value}
 use Rattle.sqlite_keyed.specs.Keyed.{next_key, has_key}
 use Rattle.sqlite_keyed.specs.Lists.{delete_where}
 use Rattle.sqlite_keyed.proofs.KeyedLemmas.{next_key_is_free}
-use Rattle.sqlite_rules.proofs.ListLemmas.{all_has, all_from, has_filtered, has_kept, some_has, test_has}
+use Rattle.sqlite_rules.proofs.ListLemmas.{all_has, all_from, has_filtered, has_got, has_kept, some_has, test_has}
 use Rattle.sqlite_rules.specs.declared.error.Refusal.TheVariants as why
 use Rattle.sqlite_schema.specs.Rules.{Keeps, clashes, differ}
 use Rattle.sqlite_schema.specs.declared.schema.Constraint.TheVariants.{Unique}
@@ -19,7 +19,7 @@ use Rattle.clear_rows.proofs.KeepsKeys.{delete_never, delete_violates}
 use Rattle.clear_rows.proofs.Refused.{has_mapped, key_held}
 use Rattle.clear_rows.specs.Refused.{IsHeldIn}
 use Rattle.clear_rows.proofs.Statements.{deleted}
-use Rattle.clear_schema.proofs.FrameLemmas.{finds as finds_first}
+use Rattle.clear_schema.proofs.FrameLemmas.{finds as finds_first, writes_as}
 use Rattle.clear_schema.specs.Frame.{Finds, FindsFirst}
 use Rattle.clear_schema.specs.Held.{HasKeyed}
 use Rattle.clear_columns.proofs.KeyLemmas.{first_found, found_any, none_found, one_found, placed as at_its_place}
@@ -52,15 +52,14 @@ pub record KeyedTable (X : Type 0) : Type 0 where
   pub with_those : Tables → List X → Tables
   pub key : X → List ℕ
   pub keys : List (UniqueKey X)
-  pub first : Index
   -- what a statement is given of a row
   pub given : X → Row
   -- whether a key of the row is held
   pub held : X → List X → Bool
   pub held_is : (x : X) (xs : List X) → held x xs ≡ list_any (λ (k : UniqueKey X). is_held k.of x xs) keys
-  pub leads : Has keys (record { of = key; index = first })
+  -- the key leads in an index of its own
+  pub leads : (i : Index) × Has keys (record { of = key; index = i })
   pub placed : slice_get all_tables at ≡ Some table
-  pub listed : Has all_tables table
   pub uncounted : table.is_counted ≡ false
   pub guarded : filter (λ (i : Index). guards i table) all_indexes ≡ map (λ (k : UniqueKey X). k.index) keys
   pub kept_by : AllByRecursion (IsKeptBy given) keys
@@ -70,6 +69,10 @@ pub record KeyedTable (X : Type 0) : Type 0 where
   pub checked : (db : Trees) (y : ℤ × X) → passes Check store_schema db table (keyed_row given y) ≡ true
   pub has : (t : Tables) (db : Database) → HasTables t db → HasKeyed key given (rows t) (db.trees table.tree)
   pub changed : (t : Tables) (old new : Database) → HasTables t old → new.schema ≡ store_schema → IsDatabase new → (xs : List X) → Others table.tree old.trees new.trees → HasKeyed key given xs (new.trees table.tree) → HasTables (with_those t xs) new
+
+-- the schema has it
+pub is_listed : {X : Type 0} (it : KeyedTable X) → Has all_tables it.table
+is_listed it = has_got all_tables it.at it.table it.placed
 
 maps_has : {X Z : Type 0} (f : X → Z) (xs : List X) (x : X) → Has xs x → Has (map f xs) (f x)
 maps_has f [] x h = absurd h
@@ -109,7 +112,7 @@ module _ {X : Type 0} (it : KeyedTable X) where
       all_from (λ row. list_any (λ other. agree plain_order k.index.columns other k.index.columns row && differ (rowid other) (rowid row)) tree ≡ false) tree (λ row known.
       subst (λ o. clashes o k.index.columns tree row ≡ false) by.order (off (guards k.index it.table) (clashes k.index.order k.index.columns tree row) index.1
       (test_has (λ i. not (guards i it.table && clashes i.order i.columns tree row)) all_indexes k.index
-      (all_has (λ row. passes Unique store_schema trees it.table row ≡ true) tree row (all_has (λ (u : Table). AllByRecursion (λ row. passes Unique store_schema trees u row ≡ true) (trees u.tree)) all_tables it.table keeps it.listed) known) index.0)))
+      (all_has (λ row. passes Unique store_schema trees it.table row ≡ true) tree row (all_has (λ (u : Table). AllByRecursion (λ row. passes Unique store_schema trees u row ≡ true) (trees u.tree)) all_tables it.table keeps (is_listed it)) known) index.0)))
 
   -- where a row that is given the next number clashes with those of a tree, a key of it is held
   pub holds : (rows : List X) (trees : Trees) (kept : HasKeyed it.key it.given rows (trees it.table.tree)) (x : X) → IsHeldIn store_schema it.table (trees it.table.tree) (keyed_row it.given (next_key number kept.numbered, x)) → it.held x rows ≡ true
@@ -164,7 +167,7 @@ module _ {X : Type 0} (it : KeyedTable X) where
       -- so it goes to its place, and nothing else changes
       pub inserts : HasTables (it.with_those t (with_row it.key (it.rows t) x)) new.now × (it.held x (it.rows t) ≡ false)
       inserts =
-          let first = apart (record { of = it.key; index = it.first }) it.leads in
+          let first = apart (record { of = it.key; index = it.leads.0 }) it.leads.1 in
           let put = held-insert (by_key it.key) (keyed_row it.given) (by_key_total it.key) x (it.rows t) _ _ kept n free first rows_are in (
             it.changed t old.now new.now has made.schema_is made.sound _ made.applied.tables (subst (λ l. HasKeyed it.key it.given l (new.now.trees it.table.tree)) (at_its_place it.key x (it.rows t) first) put),
             it.held_is x (it.rows t) ∙ none_from (λ (k : UniqueKey X). is_held k.of x (it.rows t)) it.keys (λ k listed. none_found k.of x (it.rows t) (apart k listed)),
@@ -176,7 +179,7 @@ module _ {X : Type 0} (it : KeyedTable X) where
         let bad = subst (λ rows. IsRefused store_schema Enforced db (edit_of db it.table [] Chosen 0 rows) (why.Violates rule)) given (insert_violates store_schema it.at it.table it.placed (λ _ _. refl) refer_to_none sql params old new has.schema (plain says) rule ran terms width it.uncounted (is says)) in
         let row : with_rowid Chosen (db it.table.tree) (cast_row it.table (Null ∷ it.given x)) ≡ keyed_row it.given (n, x) = appended_row number (keyed_row it.given) (λ _. refl) db it.table kept.numbered kept.stored (Null ∷ it.given x) (n, x) (it.stored x) refl in
         let one : IsRefused store_schema Enforced db (record { table = it.table; gone = []; news = keyed_row it.given (n, x) ∷ [] }) (why.Violates rule) = subst (λ r. IsRefused store_schema Enforced db (record { table = it.table; gone = []; news = r ∷ [] }) (why.Violates rule)) row bad in
-        let taken = held_if_refused store_schema db it.table it.listed (apart_if all_tables refl) (sound_by_schema t old.now has) (keyed_row it.given (n, x)) n (refl) (it.typed db (n, x)) (it.present db (n, x)) (it.checked db (n, x)) rule one in
+        let taken = held_if_refused store_schema db it.table (is_listed it) (apart_if all_tables refl) (sound_by_schema t old.now has) (keyed_row it.given (n, x)) n (refl) (it.typed db (n, x)) (it.present db (n, x)) (it.checked db (n, x)) rule one in
         holds (it.rows t) db kept x taken
 
   -- so a statement that was run with a row puts it in
@@ -216,7 +219,7 @@ module _ {X : Type 0} (it : KeyedTable X) where
     pub turns : IsBroken sql params old new → ⊥
     turns (rule, ran) =
         let bad = update_violates store_schema it.at it.table it.placed (λ _ _. refl) refer_to_none sql params old new has.schema (plain says) rule ran _ (is says) in
-        update_harmless number (keyed_row it.given) (λ _. refl) store_schema trees it.table held_so.numbered held_so.stored it.listed (apart_if all_tables refl) (sound_by_schema t old.now has)
+        update_harmless number (keyed_row it.given) (λ _. refl) store_schema trees it.table held_so.numbered held_so.stored (is_listed it) (apart_if all_tables refl) (sound_by_schema t old.now has)
         bad.0 (λ y. p (content y)) (turned f) show (λ _. refl) (λ _. refl) (λ y. stored_beside (turned f y)) (few_numbered it.key (keyed_row it.given) (λ _. refl) trees it.table (it.rows t) held_so p f same_key few) (meant bad.0 bad.1)
         (λ y. it.typed trees (turned f y)) (λ y. it.present trees (turned f y)) (λ y. it.checked trees (turned f y)) same_keys rule bad.2
       where
@@ -250,7 +253,7 @@ module _ {X : Type 0} (it : KeyedTable X) where
     pub goes : IsBroken sql params old new → ⊥
     goes (rule, ran) =
         let bad = delete_violates store_schema it.at it.table it.placed (λ _ _. refl) refer_to_none sql params old new has.schema (plain says) rule ran _ (is says) in
-        delete_never store_schema old.now.trees it.table it.listed (apart_if all_tables refl) (sound_by_schema t old.now has) (ids_of bad.0) rule bad.2
+        delete_never store_schema old.now.trees it.table (is_listed it) (apart_if all_tables refl) (sound_by_schema t old.now has) (ids_of bad.0) rule bad.2
 
   -- so a statement that changes a row changes it
   pub sets : {S A : Type 0} (g : Ghosts S) (old new : Held S) {sql : List ℕ} {conditions terms : List Term} → Says sql (Update it.at (plain_program it.table.tree conditions terms [])) → (params : Row) (p : X → Bool) (f : X → X) → ((x : X) → it.key (f x) ≡ it.key x) → AllByRecursion (KeepsKey it.given f) it.keys
@@ -258,6 +261,14 @@ module _ {X : Type 0} (it : KeyedTable X) where
       → (r : Result A Fault) (out : Type 0) → ¬ out → Runs g old new sql params r → Writes g old new r out (λ _. false) (λ t. it.with_those t (update_where p f (it.rows t)))
   sets g old new {sql} says params p f same_key stays tests shows few r out within runs =
       writes g old new sql params r out _ _ within (λ t has ran. (updates t (state g old) (state g new) has says params p f same_key stays tests shows (few t _ has) ran, refl)) (λ t has broke. absurd (turns t (state g old) (state g new) has says params p f same_key stays tests shows (few t _ has) broke)) runs
+
+  -- to what comes to the same
+  pub sets_as : {S A : Type 0} (g : Ghosts S) (old new : Held S) {sql : List ℕ} {conditions terms : List Term} → Says sql (Update it.at (plain_program it.table.tree conditions terms [])) → (params : Row) (p : X → Bool) (f : X → X) → ((x : X) → it.key (f x) ≡ it.key x) → AllByRecursion (KeepsKey it.given f) it.keys
+      → ((y : ℤ × X) → meets conditions params (keyed_row it.given y) ≡ p (content y)) → ((y : ℤ × X) → output (plain_query it.table.tree conditions terms []) (params ∷ keyed_row it.given y ∷ []) ≡ ([], Int (number y) ∷ keyed_row it.given (turned f y))) → ((t : Tables) (db : Database) → HasTables t db → length (filter p (it.rows t)) ≤ 1)
+      → (to : Tables → List X) → ((t : Tables) → HasTables t (state g old).now → update_where p f (it.rows t) ≡ to t) → (r : Result A Fault) (out : Type 0) → ¬ out → Runs g old new sql params r → Writes g old new r out (λ _. false) (λ t. it.with_those t (to t))
+  sets_as g old new says params p f same_key stays tests shows few to same r out within runs =
+      writes_as g old new r out (λ _. false) (λ t. it.with_those t (update_where p f (it.rows t))) (λ t. it.with_those t (to t)) (λ t has. ap (it.with_those t) (same t has))
+      (sets g old new says params p f same_key stays tests shows few r out within runs)
 
   -- and one that takes rows out leaves the others
   pub drops : {S A : Type 0} (g : Ghosts S) (old new : Held S) {sql : List ℕ} {conditions : List Term} → Says sql (Delete it.at (plain_program it.table.tree conditions (col 1 0 ∷ []) [])) → (params : Row) (p : X → Bool) → ((y : ℤ × X) → meets conditions params (keyed_row it.given y) ≡ p (content y))

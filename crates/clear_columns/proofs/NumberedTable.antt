@@ -1,11 +1,12 @@
 -- What the statements on a table do whose rows stand under a number, whatever the table is.
-use Rattle.clear_columns.proofs.Words.{◌≡◌, ◌≤◌, ◌/◌, ℤ, ℕ, Bool, true, false, List, [], ◌∷◌, Some, Equal, Less, length, map, filter, refl, sym, ap, subst, ◌∙◌, map-id, IsPermutation, int_cmp, slice_get, arith, length-map, list_any, ordering_then, cast_row, Insert, Update, edit_of, edited, with_rowid, IsRefused, Answers, Database, IsDatabase, value_rows, Row, output, stamped, Chosen, Given, Values, State, Ghosts, Table, Binary, Term, col, Trees, rowid, Int, insert_by, update_where, IsKeyedBy-update_where, ascending_weaker, ids_of, Has, some_from, guards, passes, Check, Datatype, NotNull, Index, Enforced, Key, is_key, with_row, Tables, IsEdited, IsNumbered, meets, plain_program, plain_query, no_rows, updated_is, update_harmless, update_violates, in_order, one_row, shown_in_some_order, apart_if, held_if_refused, insert_violates, inserted, updated, by_key, HasTables, IsBroken, IsDone, all_indexes, all_tables, store_schema, refer_to_none, sound_by_schema, Others, answers_just, all_pass, each_fails, none_replaced, one_passes, is_held, Result, Held, state, Fault, AnswersJust, Runs, Writes, writes, numbered_row, op2, Compare, Eq, Option, ◌&&◌, find_row, equal_ints}
+use Rattle.clear_columns.proofs.Words.{◌≡◌, ◌≤◌, ◌/◌, ℤ, ℕ, Bool, true, false, List, [], ◌∷◌, Some, Equal, Less, length, map, filter, refl, sym, ap, subst, ◌∙◌, map-id, IsPermutation, int_cmp, slice_get, arith, length-map, list_any, ordering_then, cast_row, Insert, Update, edit_of, edited, with_rowid, IsRefused, Answers, Database, IsDatabase, value_rows, Row, output, stamped, Chosen, Given, Values, State, Ghosts, Table, Binary, Term, col, Trees, rowid, Int, insert_by, update_where, IsKeyedBy-update_where, ascending_weaker, ids_of, some_from, guards, passes, Check, Datatype, NotNull, Index, Enforced, Key, is_key, with_row, Tables, IsEdited, IsNumbered, meets, plain_program, plain_query, no_rows, updated_is, update_harmless, update_violates, in_order, one_row, shown_in_some_order, apart_if, held_if_refused, insert_violates, inserted, updated, by_key, HasTables, IsBroken, IsDone, all_indexes, all_tables, store_schema, refer_to_none, sound_by_schema, Others, answers_just, all_pass, each_fails, none_replaced, one_passes, is_held, Result, Held, state, Fault, AnswersJust, Runs, Writes, writes, numbered_row, op2, Compare, Eq, Option, ◌&&◌, find_row, equal_ints}
 use Rattle.std.proofs.Common.{is_some}
 use Rattle.std.proofs.lemmas.Bool.{both_ways}
 use Rattle.std.specs.Option.{option_to_list}
 use Rattle.sqlite_keyed.proofs.KeyedLemmas.{IsKeyedBy-insert_by, Less-from_lt}
 use Rattle.sqlite_keyed.proofs.ListLemmas.{IsPermutation-same}
 use Rattle.sqlite_keyed.proofs.RuleLemmas.{at_most_one}
+use Rattle.sqlite_rules.proofs.ListLemmas.{has_got}
 use Rattle.sqlite_rules.specs.declared.error.Refusal.TheVariants as why
 use Rattle.sqlite_value.proofs.OrderLemmas.{value_cmp-Int}
 use Rattle.sqlite_value.specs.Keys.{ascending}
@@ -49,7 +50,6 @@ pub record NumberedTable (X : Type 0) : Type 1 where
   -- what a statement is given of a row
   pub given : X → Row
   pub placed : slice_get all_tables at ≡ Some table
-  pub listed : Has all_tables table
   pub uncounted : table.is_counted ≡ false
   pub in_order : KeepsOrder as_int
   pub unguarded : list_any (λ (i : Index). guards i table) all_indexes ≡ false
@@ -94,7 +94,7 @@ module _ {X : Type 0} (it : NumberedTable X) where
           let bad = subst (λ rows. IsRefused store_schema Enforced db (edit_of db it.table [] Chosen 0 rows) (why.Violates rule)) given (insert_violates store_schema it.at it.table it.placed (λ _ _. refl) refer_to_none sql params old new has.schema (plain says) rule ran terms width it.uncounted (is says)) in
           let same : with_rowid Chosen (db it.table.tree) (cast_row it.table (numbered_row it.given x)) ≡ numbered_row it.given x = ap (with_rowid Chosen (db it.table.tree)) (it.stored x) ∙ named no (numbered_row it.given) it.numbered db it.table (it.rows t) kept x in
           let one : IsRefused store_schema Enforced db (record { table = it.table; gone = []; news = numbered_row it.given x ∷ [] }) (why.Violates rule) = subst (λ r. IsRefused store_schema Enforced db (record { table = it.table; gone = []; news = r ∷ [] }) (why.Violates rule)) same bad in
-          let taken = held_if_refused store_schema db it.table it.listed (apart_if all_tables refl) (sound_by_schema t old.now has) (numbered_row it.given x) (no x) (it.numbered x) (it.typed db x) (it.present db x) (it.checked db x) rule one in
+          let taken = held_if_refused store_schema db it.table (has_got all_tables it.at it.table it.placed) (apart_if all_tables refl) (sound_by_schema t old.now has) (numbered_row it.given x) (no x) (it.numbered x) (it.typed db x) (it.present db x) (it.checked db x) rule one in
           sym (ap is_some (get_is it.number it.as_int it.in_order (it.rows t) (it.number x))) ∙ number_held no (numbered_row it.given) it.numbered db it.table (it.rows t) kept store_schema x it.unguarded taken
 
     -- ---- another row in the place of one
@@ -133,7 +133,7 @@ module _ {X : Type 0} (it : NumberedTable X) where
       pub turns : IsBroken sql params old new → ⊥
       turns (rule, ran) =
           let bad = update_violates store_schema it.at it.table it.placed (λ _ _. refl) refer_to_none sql params old new has.schema (plain says) rule ran _ (is says) in
-          update_harmless no (numbered_row it.given) it.numbered store_schema db it.table (it.rows t) kept it.listed (apart_if all_tables refl) (sound_by_schema t old.now has)
+          update_harmless no (numbered_row it.given) it.numbered store_schema db it.table (it.rows t) kept (has_got all_tables it.at it.table it.placed) (apart_if all_tables refl) (sound_by_schema t old.now has)
           bad.0 p f show same_key (λ _. refl) (λ x. it.stored (f x)) few (meant bad.0 bad.1)
           (λ x. it.typed db (f x)) (λ x. it.present db (f x)) (λ x. it.checked db (f x))
           (λ i known on x r agreed. absurd (both_ways (list_any (λ (i : Index). guards i it.table) all_indexes) it.unguarded (some_from (λ (i : Index). guards i it.table) all_indexes i known on)))

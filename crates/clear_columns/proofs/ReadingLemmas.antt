@@ -156,7 +156,7 @@ module _ {S : Type 0} (g : Ghosts S) (old : Held S) (sql : List ℕ) (params : R
   asks : (rows : Tables → List Row) → ((t : Tables) → HasTables t (state g old).now → AnswersJust g sql params (state g old).now (rows t)) → HasSomeTables (state g old).now → IsPlain (understood old.schema sql)
   asks rows just has = (just has.0 has.1).plain
 
-  pub left_on : {A : Type 0} (new : Held S) (rows : Tables → List Row) → ((t : Tables) → HasTables t (state g old).now → AnswersJust g sql params (state g old).now (rows t)) → (made : Result A Error) → OnErr made (IsLeft g old (IsPlain (understood old.schema sql)) made new)
+  left_on : {A : Type 0} (new : Held S) (rows : Tables → List Row) → ((t : Tables) → HasTables t (state g old).now → AnswersJust g sql params (state g old).now (rows t)) → (made : Result A Error) → OnErr made (IsLeft g old (IsPlain (understood old.schema sql)) made new)
       → OnErr made (IsLeft g old (HasSomeTables (state g old).now) made new)
   left_on new rows just (Ok x) left = tt
   left_on new rows just (Err e) left = record {
@@ -167,7 +167,7 @@ module _ {S : Type 0} (g : Ghosts S) (old : Held S) (sql : List ℕ) (params : R
     survives = λ has. left.survives (asks rows just has);
   }
 
-  pub reads_on : {A X : Type 0} (into : A → Held S) (show : X → Row) (rows : Tables → List X) → ((t : Tables) → HasTables t (state g old).now → AnswersJust g sql params (state g old).now (map show (rows t))) → (made : Result A Error)
+  reads_on : {A X : Type 0} (into : A → Held S) (show : X → Row) (rows : Tables → List X) → ((t : Tables) → HasTables t (state g old).now → AnswersJust g sql params (state g old).now (map show (rows t))) → (made : Result A Error)
       → IfOk made (λ r. Begun g old (into r) (IsPlain (understood old.schema sql)) (λ all. AnswersJust g sql params (state g old).now (map show all)) show (λ all. all)) → IfOk made (λ r. ReadsOn g old (into r) show rows)
   reads_on into show rows just (Err e) begun = tt
   reads_on into show rows just (Ok x) begun = record {
@@ -178,3 +178,8 @@ module _ {S : Type 0} (g : Ghosts S) (old : Held S) (sql : List ℕ) (params : R
     mode = begun.mode;
     survives = λ has. begun.survives (asks (λ t. map show (rows t)) just has);
   }
+
+  -- so both, of a reader
+  pub begins_on : {A X : Type 0} (new : Held S) (into : A → Held S) (show : X → Row) (rows : Tables → List X) → ((t : Tables) → HasTables t (state g old).now → AnswersJust g sql params (state g old).now (map show (rows t))) → (made : Result A Error) → OnErr made (IsLeft g old (IsPlain (understood old.schema sql)) made new)
+      → IfOk made (λ r. Begun g old (into r) (IsPlain (understood old.schema sql)) (λ all. AnswersJust g sql params (state g old).now (map show all)) show (λ all. all)) → OnErr made (IsLeft g old (HasSomeTables (state g old).now) made new) × IfOk made (λ r. ReadsOn g old (into r) show rows)
+  begins_on new into show rows just made left begun = (left_on new (λ t. map show (rows t)) just made left, reads_on into show rows just made begun)

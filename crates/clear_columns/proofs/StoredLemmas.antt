@@ -1,5 +1,5 @@
 -- What columns make of the ledger's values, and how these compare.
-use Rattle.std.proofs.Common.{◌≡◌, ℤ, pos, ℕ, Bool, true, false, not, ◌&&◌, ◌||◌, ◌==◌, nat_le, nat_lt, ap, Option, Some, None, codes, refl, arith, ◌∙◌, int_eq, int_cmp, nat_cmp}
+use Rattle.std.proofs.Common.{◌≡◌, ℤ, pos, ℕ, Bool, true, false, not, ◌&&◌, ◌||◌, ◌==◌, nat_le, nat_lt, ap, Option, Some, None, is_none, codes, refl, arith, ◌∙◌, int_eq, int_cmp, nat_cmp}
 use Rattle.std.proofs.Math.Bool.{and-true}
 use Rattle.std.proofs.lemmas.Bool.Decides.{nat_tests}
 use Rattle.std.proofs.lemmas.Int.{ints}
@@ -8,9 +8,11 @@ use Rattle.sqlite.specs.Collation.TheVariants.{Binary}
 use Rattle.sqlite.specs.Ops.{binary, from_truth, is_true, test}
 use Rattle.std.specs.Option.{option_map_or}
 use Rattle.sqlite.specs.Order.{value_cmp}
-use Rattle.sqlite.specs.Kind.TheVariants.{Integer, Text as Texts}
+use Rattle.sqlite.specs.Kind.TheVariants.{Integer}
+use Rattle.sqlite.specs.declared.types.Value.TheVariants.{Null}
+use Rattle.std.specs.Float.Ieee
 use Rattle.sqlite_schema.specs.Rules.{is_of}
-use Rattle.sqlite_sql.specs.declared.ops.BinaryOp.TheVariants.{And, Compare, Or}
+use Rattle.sqlite_sql.specs.declared.ops.BinaryOp.TheVariants.{And, Compare, Is, Or}
 use Rattle.sqlite_sql.specs.declared.ops.CompareOp.{CompareOp}
 use Rattle.sqlite_sql.specs.declared.ops.CompareOp.TheVariants.{Eq, Ge, Gt, Ne}
 use Rattle.sqlite_value.proofs.OrderLemmas.{value_cmp-Int, value_cmp-Text}
@@ -29,10 +31,6 @@ pub cast_maybe_month : (o : Option ℕ) → cast Integer (maybe_month o) ≡ may
 cast_maybe_month None = cast_null
 cast_maybe_month (Some m) = cast_int (month_number m)
 
-pub cast_purpose : (p : Purpose) → cast Texts (purpose p) ≡ purpose p
-cast_purpose Contribution = refl
-cast_purpose Interest = refl
-
 pub maybe_typed : (o : Option ℕ) → is_of Integer (maybe o) ≡ true
 maybe_typed None = refl
 maybe_typed (Some n) = refl
@@ -40,10 +38,6 @@ maybe_typed (Some n) = refl
 pub maybe_month_typed : (o : Option ℕ) → is_of Integer (maybe_month o) ≡ true
 maybe_month_typed None = refl
 maybe_month_typed (Some m) = refl
-
-pub purpose_typed : (p : Purpose) → is_of Texts (purpose p) ≡ true
-purpose_typed Contribution = refl
-purpose_typed Interest = refl
 
 -- numbers from 0 on are equal as such
 pub same_numbers : (m n : ℕ) → int_eq (pos m) (pos n) ≡ (m == n)
@@ -136,6 +130,12 @@ pub equal_maybe : (o : Option ℕ) (n : ℕ) → is_true (binary (Compare Eq Bin
 unfolding binary
 equal_maybe None n = refl
 equal_maybe (Some m) n = equal_numbers m n
+
+-- there is none
+pub maybe_none : (o : Option ℕ) → is_true (binary (Is Binary) (maybe o) Null) ≡ is_none o
+unfolding binary value_cmp Ieee.lt Ieee.is_nan
+maybe_none None = refl
+maybe_none (Some n) = refl
 
 pub maybe_from : (o : Option ℕ) (n : ℕ) → is_true (binary (Compare Ge Binary) (maybe o) (number n)) ≡ option_map_or (λ m. nat_le n m) o false
 unfolding binary

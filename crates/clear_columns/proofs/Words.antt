@@ -21,7 +21,7 @@ pub use Rattle.clear_values.specs.declared.rows.WageRow.{WageRow}
 pub use Rattle.clear_columns.proofs.KeyLemmas.{by_key_total, first_found, is_key_is, key_is, turned, turned_nat}
 pub use Rattle.clear_columns.proofs.ListLemmas.{all_pass, each_fails, none_replaced, one_passes}
 pub use Rattle.clear_columns.proofs.ReadingLemmas.{answers_just}
-pub use Rattle.clear_columns.proofs.StoredLemmas.{cast_maybe, cast_purpose, comes_from, equal_maybe, equal_numbers, equal_purposes, equal_ranks, is_above, maybe_from, maybe_typed, numbers_compare, others_differ, purpose_typed, purposes_compare, same_numbers, two_met, cast_maybe_month, equal_months, maybe_month_typed, months_compare, months_from, months_keep, numbers_keep}
+pub use Rattle.clear_columns.proofs.StoredLemmas.{cast_maybe, comes_from, equal_maybe, equal_numbers, equal_purposes, equal_ranks, is_above, maybe_from, maybe_none, maybe_typed, numbers_compare, others_differ, purposes_compare, same_numbers, two_met, cast_maybe_month, equal_months, maybe_month_typed, months_compare, months_from, months_keep, numbers_keep}
 pub use Rattle.clear_rows.proofs.Edits.{no_rows, updated_is}
 pub use Rattle.clear_rows.proofs.Held.{content}
 pub use Rattle.clear_rows.proofs.KeepsKeys.{update_harmless, update_violates}

@@ -63,6 +63,10 @@ pub record IsLeft {S A : Type 0} (g : Ghosts S) (old : Held S) (asks : Type 0)
   pub mode : old.in_transaction ≡ false → new.in_transaction ≡ false
   pub survives : asks → Survives (state g old) (state g new) (λ _. ⊥)
 
+-- where one does not that only asks for rows of the tables
+abbrev pub IsLeftOn : {S A : Type 0} → Ghosts S → Held S → Result A Error → Held S → Type 0
+IsLeftOn g old result = IsLeft g old (HasSomeTables (state g old).now) result
+
 -- one row more was asked for, of those that are still to come
 pub record Advances {S X : Type 0} (g : Ghosts S) (old new : Held S) (show : X → Row)
     (P : X → Type 0) (result : Result (Option X) Fault) : Type 0 where

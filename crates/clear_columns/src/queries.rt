@@ -1,7 +1,7 @@
 //! Queries of one table: what is found, and that nothing changes.
 ghost use Rattle.std.specs.Prelude.{◌≡◌};
 ghost use Rattle.sqlite.specs.Values.{bound};
-ghost use Rattle.clear_schema.specs.Frame.{FindsFirst, ListsAll};
+ghost use Rattle.clear_schema.specs.Frame.{CountsAll, FindsFirst, ListsAll};
 
 use crate::rows::{StoredTable, all_rows, first_row};
 use clear_schema::fault::Fault;
@@ -35,4 +35,18 @@ pub fn list<S: Alter, T: StoredTable>(
 {
     let rows = look(tx, sql, values)?;
     all_rows::<T>(*rows.allocator(), &rows)
+}
+
+/// How many rows a query of one table answers.
+pub fn count<S: Alter>(
+    tx: &mut Transaction<'_, S>,
+    sql: &str,
+    values: &[ValueRef<'_>],
+) -> Result<u64, Fault>
+    ensures same_reference { tx.new.conn.ghost_name ≡ tx.old.conn.ghost_name }
+    ensures looks { CountsAll S.Store tx.old.conn.now tx.new.conn.now
+        sql.now (bound values.now) result }
+{
+    let rows = look(tx, sql, values)?;
+    Ok(rows.len() as u64)
 }

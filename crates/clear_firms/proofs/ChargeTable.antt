@@ -1,5 +1,5 @@
 -- The contributions that are kept: under their firms and months.
-use Rattle.clear_columns.proofs.Words.{◌≡◌, ◌==◌, ℤ, pos, ℕ, Bool, true, false, not, ◌&&◌, ◌||◌, List, [], ◌∷◌, Less, map, filter, refl, inl, inr, is_eq, codes, cast_row, Binary, Insert, Update, Database, Row, Values, Ghosts, Term, lit, col, op2, Null, automatic, agree, Compare, Eq, Ne, Or, Key, is_key, Tables, KeptCharge, charge_key, keeps_contribution, meets, output_cmp, plain_program, plain_query, content, HasTables, by_key, charges_table, month, month_number, number, cast_int, cast_null, equal_months, equal_numbers, key_is, months_compare, numbers_compare, others_differ, AnswersJust, nat_lt, Gt, and-true, two_met, is_above, keyed_row}
+use Rattle.clear_columns.proofs.Words.{◌≡◌, ◌==◌, ℤ, pos, ℕ, Bool, true, false, not, ◌&&◌, ◌||◌, List, [], ◌∷◌, Less, map, filter, refl, inl, is_eq, codes, cast_row, Binary, Insert, Update, Database, Row, Values, Ghosts, Term, lit, col, op2, Null, automatic, agree, Compare, Eq, Ne, Or, Key, is_key, Tables, KeptCharge, charge_key, keeps_contribution, meets, output_cmp, plain_program, plain_query, content, HasTables, by_key, charges_table, month, month_number, number, cast_int, cast_null, equal_months, equal_numbers, key_is, months_compare, numbers_compare, others_differ, AnswersJust, nat_lt, Gt, and-true, two_met, is_above, keyed_row}
 use Rattle.sqlite_tied.specs.Compute.{everything}
 use Rattle.sqlite_value.specs.Keys.{ascending, first_key, plain}
 use Rattle.clear_values.specs.Keyed.{AreInOrder, is_held}
@@ -25,13 +25,11 @@ charges = record {
   with_those = λ t xs. record t { charges = xs };
   key = charge_key;
   keys = record { of = charge_key; index = automatic charges_table 0 (1 ∷ 2 ∷ []) 20 } ∷ [];
-  first = automatic charges_table 0 (1 ∷ 2 ∷ []) 20;
   given = charge_shown;
   held = is_held charge_key;
   held_is = λ x xs. or_false _;
-  leads = inl refl;
+  leads = (_, inl refl);
   placed = refl;
-  listed = inr (inr (inr (inr (inr (inr (inr (inr (inr (inr (inr (inr (inl refl))))))))))));
   uncounted = refl;
   guarded = refl;
   kept_by = (record { order = refl; agrees = keys_agree }, tt);
@@ -49,10 +47,7 @@ charges_in_order t db has = in_order_if_rising charge_key t.charges has.charges.
 
 -- ---- the texts
 
-abbrev pub insert_terms : List Term
-insert_terms = lit Null ∷ col 0 0 ∷ col 0 1 ∷ col 0 2 ∷ col 0 3 ∷ col 0 4 ∷ col 0 5 ∷ []
-
-pub insert_says : Says (codes "INSERT INTO charges (employer, month, due, cents, open, weight) VALUES (?1, ?2, ?3, ?4, ?5, ?6)") (Insert 12 (Values insert_terms 7))
+pub insert_says : Says (codes "INSERT INTO charges (employer, month, due, cents, open, weight) VALUES (?1, ?2, ?3, ?4, ?5, ?6)") (Insert 12 (Values (lit Null ∷ col 0 0 ∷ col 0 1 ∷ col 0 2 ∷ col 0 3 ∷ col 0 4 ∷ col 0 5 ∷ []) 7))
 unfolding everything
 insert_says = record { said = (refl, refl, refl) }
 
@@ -77,10 +72,7 @@ settle_says = record { said = (refl, refl, refl) }
 abbrev columns : List Term
 columns = col 1 1 ∷ col 1 2 ∷ col 1 3 ∷ col 1 4 ∷ col 1 5 ∷ col 1 6 ∷ []
 
-abbrev get : List ℕ
-get = codes "SELECT employer, month, due, cents, open, weight FROM charges WHERE employer = ?1 AND month = ?2"
-
-pub get_says : SaysQuery get (plain_program 19 by_month columns [])
+pub get_says : SaysQuery (codes "SELECT employer, month, due, cents, open, weight FROM charges WHERE employer = ?1 AND month = ?2") (plain_program 19 by_month columns [])
 unfolding everything
 get_says = record { names = _; said = (refl, refl, refl) }
 

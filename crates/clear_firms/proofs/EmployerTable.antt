@@ -1,5 +1,5 @@
 -- The firms: under their numbers.
-use Rattle.clear_columns.proofs.Words.{◌≡◌, true, pos, ℕ, List, [], ◌∷◌, map, refl, inl, inr, codes, cast_row, Insert, Update, Database, Values, Ghosts, Term, lit, col, Trees, Null, passes, Datatype, Tables, EmployerRow, plain_program, HasTables, employers_table, store_schema, month_number, cast_int, cast_maybe_month, cast_null, maybe_month_typed, numbers_keep, AnswersJust, numbered_row}
+use Rattle.clear_columns.proofs.Words.{◌≡◌, true, pos, ℕ, List, [], ◌∷◌, map, refl, codes, cast_row, Insert, Update, Database, Values, Ghosts, Term, lit, col, Trees, Null, passes, Datatype, Tables, EmployerRow, plain_program, HasTables, employers_table, store_schema, month_number, cast_int, cast_maybe_month, cast_null, maybe_month_typed, numbers_keep, AnswersJust, numbered_row}
 use Rattle.sqlite_tied.specs.Compute.{everything}
 use Rattle.clear_schema.proofs.Changes.{employers_changed}
 use Rattle.clear_columns.proofs.CountLemmas.{counts_all, one, one_shown}
@@ -25,7 +25,6 @@ employers = record {
   in_order = numbers_keep;
   given = employer_shown;
   placed = refl;
-  listed = inr (inr (inl refl));
   uncounted = refl;
   unguarded = refl;
   numbered = λ _. refl;
@@ -39,27 +38,18 @@ employers = record {
 
 -- ---- the texts
 
-abbrev pub insert_terms : List Term
-insert_terms = col 0 0 ∷ lit Null ∷ col 0 1 ∷ col 0 2 ∷ col 0 3 ∷ []
-
-pub insert_says : Says (codes "INSERT INTO employers (no, name, start, last) VALUES (?1, ?2, ?3, ?4)") (Insert 2 (Values insert_terms 5))
+pub insert_says : Says (codes "INSERT INTO employers (no, name, start, last) VALUES (?1, ?2, ?3, ?4)") (Insert 2 (Values (col 0 0 ∷ lit Null ∷ col 0 1 ∷ col 0 2 ∷ col 0 3 ∷ []) 5))
 unfolding everything
 insert_says = record { said = (refl, refl, refl) }
 
-abbrev pub update_terms : List Term
-update_terms = col 1 0 ∷ col 1 0 ∷ lit Null ∷ col 0 1 ∷ col 0 2 ∷ col 0 3 ∷ []
-
-pub update_says : Says (codes "UPDATE employers SET name = ?2, start = ?3, last = ?4 WHERE no = ?1") (Update 2 (plain_program 2 by_no update_terms []))
+pub update_says : Says (codes "UPDATE employers SET name = ?2, start = ?3, last = ?4 WHERE no = ?1") (Update 2 (plain_program 2 by_no (col 1 0 ∷ col 1 0 ∷ lit Null ∷ col 0 1 ∷ col 0 2 ∷ col 0 3 ∷ []) []))
 unfolding everything
 update_says = record { said = (refl, refl, refl) }
 
 abbrev columns : List Term
 columns = col 1 0 ∷ col 1 2 ∷ col 1 3 ∷ col 1 4 ∷ []
 
-abbrev get : List ℕ
-get = codes "SELECT no, name, start, last FROM employers WHERE no = ?1"
-
-pub get_says : SaysQuery get (plain_program 2 by_no columns [])
+pub get_says : SaysQuery (codes "SELECT no, name, start, last FROM employers WHERE no = ?1") (plain_program 2 by_no columns [])
 unfolding everything
 get_says = record { names = _; said = (refl, refl, refl) }
 

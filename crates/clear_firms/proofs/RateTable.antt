@@ -1,6 +1,6 @@
 -- The rates: under their first months.
 use Rattle.std.proofs.Common.{zero, suc, ◌+◌, ◌<◌, ◌≤◌, length, take, get_or, add-one}
-use Rattle.clear_columns.proofs.Words.{◌≡◌, arith, pos, ℕ, List, [], ◌∷◌, map, refl, sym, subst, inl, inr, codes, cast_row, Insert, Database, Values, Ghosts, Term, lit, col, Null, Tables, plain_program, HasTables, rates_table, month_number, cast_int, cast_null, months_keep, AnswersJust, numbered_row}
+use Rattle.clear_columns.proofs.Words.{◌≡◌, arith, pos, ℕ, List, [], ◌∷◌, map, refl, sym, subst, codes, cast_row, Insert, Database, Values, Ghosts, Term, lit, col, Null, Tables, plain_program, HasTables, rates_table, month_number, cast_int, cast_null, months_keep, AnswersJust, numbered_row}
 use Rattle.sqlite_tied.specs.Compute.{everything}
 use Rattle.clear_money.specs.Rates.{Rate, IsRising, last_first}
 use Rattle.clear_values.specs.Ranges.{AreRates}
@@ -24,7 +24,6 @@ rates = record {
   in_order = months_keep;
   given = rate_shown;
   placed = refl;
-  listed = inr (inl refl);
   uncounted = refl;
   unguarded = refl;
   numbered = λ _. refl;
@@ -38,10 +37,7 @@ rates = record {
 
 -- ---- the texts
 
-abbrev pub insert_terms : List Term
-insert_terms = col 0 0 ∷ lit Null ∷ col 0 1 ∷ col 0 2 ∷ col 0 3 ∷ col 0 4 ∷ col 0 5 ∷ []
-
-pub insert_says : Says (codes "INSERT INTO rates (first, contribution, report_day, due_day, interest, entitlement) VALUES (?1, ?2, ?3, ?4, ?5, ?6)") (Insert 1 (Values insert_terms 7))
+pub insert_says : Says (codes "INSERT INTO rates (first, contribution, report_day, due_day, interest, entitlement) VALUES (?1, ?2, ?3, ?4, ?5, ?6)") (Insert 1 (Values (col 0 0 ∷ lit Null ∷ col 0 1 ∷ col 0 2 ∷ col 0 3 ∷ col 0 4 ∷ col 0 5 ∷ []) 7))
 unfolding everything
 insert_says = record { said = (refl, refl, refl) }
 

@@ -1,5 +1,5 @@
 -- The reports: under their firms and months.
-use Rattle.clear_columns.proofs.Words.{◌≡◌, ◌==◌, ℤ, pos, ℕ, Bool, true, List, [], ◌∷◌, Less, map, filter, refl, inl, inr, is_eq, codes, cast_row, Binary, Insert, Update, Database, Row, Values, Ghosts, Term, lit, col, op2, Null, automatic, agree, Compare, Eq, Key, is_key, Tables, ReportRow, report_key, meets, output_cmp, plain_program, plain_query, content, HasTables, by_key, reports_table, month, month_number, number, cast_int, cast_null, equal_months, equal_numbers, key_is, months_compare, numbers_compare, AnswersJust, and-true, keyed_row}
+use Rattle.clear_columns.proofs.Words.{◌≡◌, ◌==◌, ℤ, pos, ℕ, Bool, true, List, [], ◌∷◌, Less, map, filter, refl, inl, is_eq, codes, cast_row, Binary, Insert, Update, Database, Row, Values, Ghosts, Term, lit, col, op2, Null, automatic, agree, Compare, Eq, Key, is_key, Tables, ReportRow, report_key, meets, output_cmp, plain_program, plain_query, content, HasTables, by_key, reports_table, month, month_number, number, cast_int, cast_null, equal_months, equal_numbers, key_is, months_compare, numbers_compare, AnswersJust, and-true, keyed_row}
 use Rattle.sqlite_tied.specs.Compute.{everything}
 use Rattle.sqlite_value.specs.Keys.{ascending, first_key, plain}
 use Rattle.clear_values.proofs.KeyedLemmas.{is_key-true}
@@ -24,13 +24,11 @@ reports = record {
   with_those = λ t xs. record t { reports = xs };
   key = report_key;
   keys = record { of = report_key; index = automatic reports_table 0 (1 ∷ 2 ∷ []) 4 } ∷ [];
-  first = automatic reports_table 0 (1 ∷ 2 ∷ []) 4;
   given = report_shown;
   held = is_held report_key;
   held_is = λ x xs. or_false _;
-  leads = inl refl;
+  leads = (_, inl refl);
   placed = refl;
-  listed = inr (inr (inr (inl refl)));
   uncounted = refl;
   guarded = refl;
   kept_by = (record { order = refl; agrees = keys_agree }, tt);
@@ -44,30 +42,21 @@ reports = record {
 
 -- ---- the texts
 
-abbrev pub insert_terms : List Term
-insert_terms = lit Null ∷ col 0 0 ∷ col 0 1 ∷ col 0 2 ∷ []
-
-pub insert_says : Says (codes "INSERT INTO reports (employer, month, version) VALUES (?1, ?2, ?3)") (Insert 3 (Values insert_terms 4))
+pub insert_says : Says (codes "INSERT INTO reports (employer, month, version) VALUES (?1, ?2, ?3)") (Insert 3 (Values (lit Null ∷ col 0 0 ∷ col 0 1 ∷ col 0 2 ∷ []) 4))
 unfolding everything
 insert_says = record { said = (refl, refl, refl) }
 
 abbrev pub by_month : List Term
 by_month = op2 (Compare Eq Binary) (col 1 1) (col 0 0) ∷ op2 (Compare Eq Binary) (col 1 2) (col 0 1) ∷ []
 
-abbrev pub update_terms : List Term
-update_terms = col 1 0 ∷ col 1 0 ∷ col 1 1 ∷ col 1 2 ∷ col 0 2 ∷ []
-
-pub update_says : Says (codes "UPDATE reports SET version = ?3 WHERE employer = ?1 AND month = ?2") (Update 3 (plain_program 3 by_month update_terms []))
+pub update_says : Says (codes "UPDATE reports SET version = ?3 WHERE employer = ?1 AND month = ?2") (Update 3 (plain_program 3 by_month (col 1 0 ∷ col 1 0 ∷ col 1 1 ∷ col 1 2 ∷ col 0 2 ∷ []) []))
 unfolding everything
 update_says = record { said = (refl, refl, refl) }
 
 abbrev columns : List Term
 columns = col 1 1 ∷ col 1 2 ∷ col 1 3 ∷ []
 
-abbrev get : List ℕ
-get = codes "SELECT employer, month, version FROM reports WHERE employer = ?1 AND month = ?2"
-
-pub get_says : SaysQuery get (plain_program 3 by_month columns [])
+pub get_says : SaysQuery (codes "SELECT employer, month, version FROM reports WHERE employer = ?1 AND month = ?2") (plain_program 3 by_month columns [])
 unfolding everything
 get_says = record { names = _; said = (refl, refl, refl) }
 

@@ -1,5 +1,5 @@
 -- The wages: under their firms, months and workers.
-use Rattle.clear_columns.proofs.Words.{◌≡◌, ◌==◌, ℤ, pos, ℕ, Bool, ◌&&◌, List, [], ◌∷◌, Less, map, filter, refl, ◌∙◌, inl, inr, is_eq, codes, cast_row, Binary, Delete, Insert, Database, Row, Values, Ghosts, Term, lit, col, op2, Null, automatic, agree, Compare, Eq, Key, Tables, WageRow, is_wage_key_of, wage_key, meets, output_cmp, plain_program, plain_query, content, HasTables, by_key, wages_table, month, month_number, number, cast_int, cast_null, equal_months, equal_numbers, key_is, months_compare, numbers_compare, turned_nat, AnswersJust, and-true, two_met, keyed_row}
+use Rattle.clear_columns.proofs.Words.{◌≡◌, ◌==◌, ℤ, pos, ℕ, Bool, ◌&&◌, List, [], ◌∷◌, Less, map, filter, refl, ◌∙◌, inl, is_eq, codes, cast_row, Binary, Delete, Insert, Database, Row, Values, Ghosts, Term, lit, col, op2, Null, automatic, agree, Compare, Eq, Key, Tables, WageRow, is_wage_key_of, wage_key, meets, output_cmp, plain_program, plain_query, content, HasTables, by_key, wages_table, month, month_number, number, cast_int, cast_null, equal_months, equal_numbers, key_is, months_compare, numbers_compare, turned_nat, AnswersJust, and-true, two_met, keyed_row}
 use Rattle.std.proofs.Common.{arith, length}
 use Rattle.sqlite_tied.specs.Compute.{everything}
 use Rattle.sqlite_value.specs.Keys.{ascending, first_key, plain}
@@ -36,13 +36,11 @@ wages = record {
   with_those = λ t xs. record t { wages = xs };
   key = wage_key;
   keys = record { of = wage_key; index = automatic wages_table 0 (1 ∷ 2 ∷ 3 ∷ []) 6 } ∷ [];
-  first = automatic wages_table 0 (1 ∷ 2 ∷ 3 ∷ []) 6;
   given = wage_shown;
   held = is_held wage_key;
   held_is = λ x xs. or_false _;
-  leads = inl refl;
+  leads = (_, inl refl);
   placed = refl;
-  listed = inr (inr (inr (inr (inl refl))));
   uncounted = refl;
   guarded = refl;
   kept_by = (record { order = refl; agrees = keys_agree }, tt);
@@ -56,10 +54,7 @@ wages = record {
 
 -- ---- the texts
 
-abbrev pub insert_terms : List Term
-insert_terms = lit Null ∷ col 0 0 ∷ col 0 1 ∷ col 0 2 ∷ col 0 3 ∷ []
-
-pub insert_says : Says (codes "INSERT INTO wages (employer, month, worker, gross) VALUES (?1, ?2, ?3, ?4)") (Insert 4 (Values insert_terms 5))
+pub insert_says : Says (codes "INSERT INTO wages (employer, month, worker, gross) VALUES (?1, ?2, ?3, ?4)") (Insert 4 (Values (lit Null ∷ col 0 0 ∷ col 0 1 ∷ col 0 2 ∷ col 0 3 ∷ []) 5))
 unfolding everything
 insert_says = record { said = (refl, refl, refl) }
 

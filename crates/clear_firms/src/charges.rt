@@ -141,9 +141,6 @@ pub fn open_charges_of<S: Alter>(
 pub struct Charges;
 
 impl StoredTable for Charges {
-    ghost use Rattle.clear_values.specs.RowRanges.{IsKeptCharge};
-    ghost use Rattle.clear_schema.specs.Values.{charge_shown};
-
     type Row = KeptCharge;
 
     ghost shown = { charge_shown };

@@ -1,21 +1,21 @@
 //! The counts of the office: the one row of `meta`.
 ghost use Rattle.std.specs.Borrow.{sem, RestsIfErr};
-ghost use Rattle.std.specs.Prelude.{◌≡◌, ◌≢◌, ◌↔◌, [], ◌∷◌, true, false, IfErr, IfOk};
-ghost use Rattle.sqlite.specs.Held.{state};
+ghost use Rattle.std.specs.Prelude.{◌≡◌, ◌↔◌, [], ◌∷◌, true, false, IfOk};
 ghost use Rattle.sqlite.specs.Values.{bound};
 ghost use Rattle.sqlite.specs.contracts.connection.Connection.{the_row};
-ghost use Rattle.clear_columns.specs.Reading.{HasSomeTables, IsLeft, ReadsOn};
+ghost use Rattle.clear_columns.specs.Reading.{IsLeftOn, ReadsOn};
 ghost use Rattle.clear_schema.specs.Frame.{LooksUp, Writes};
 ghost use Rattle.clear_schema.specs.Values.{counts_of, counts_shown, with_counts};
 ghost use Rattle.clear_firms.specs.Counts.{AreCountable, AreCounts};
 
 use clear_columns::columns::{entry_count_at, given_count_at, maybe_day_at, serial_count_at};
 use clear_columns::parameters::maybe_day;
+use clear_columns::queries::find;
 use clear_columns::ranges::is_entry_count;
 use clear_columns::rows::{StoredTable, begin_rows};
 use clear_schema::counts::Counts;
 use clear_schema::fault::Fault;
-use clear_schema::statement::{look, put};
+use clear_schema::statement::put;
 use clear_schema::values::number;
 use clear_values::causes::StoreCause;
 use clear_values::numbers::SerialCount;
@@ -32,49 +32,16 @@ pub fn find_counts<S: Alter>(tx: &mut Transaction<'_, S>) -> Result<Counts, Faul
         (λ t found. found ≡ counts_of t) AreCounts
         (λ t. ¬ AreCounts (counts_of t)) }
 {
-    let rows = look(tx, COUNTS, &[])?;
-    first_counts(&rows)
-}
-
-// The one row of an answer.
-fn first_counts(rows: &[Row]) -> Result<Counts, Fault>
-    ensures read { IfOk result (λ found. (c : Counts) → rows.now ≡ counts_shown c ∷ []
-        → found ≡ c) }
-    ensures good { IfOk result AreCounts }
-    ensures cause { IfErr result (λ fault. fault ≢ Fault.Store StoreCause.Constraint) }
-    ensures range { IfErr result (λ fault. fault ≡ Fault.Store StoreCause.Row
-        → (c : Counts) → rows.now ≡ counts_shown c ∷ [] → ¬ AreCounts c) }
-{
-    match rows.first() {
-        Some(row) => shown_counts(row),
+    match find::<S, Meta>(tx, COUNTS, &[])? {
+        Some(counts) => Ok(counts),
         None => Err(Fault::Store(StoreCause::Other)),
     }
-}
-
-// The counts that an answer shows.
-fn shown_counts(row: &Row) -> Result<Counts, Fault>
-    ensures read { IfOk result (λ found. (c : Counts) → row.now ≡ counts_shown c
-        → found ≡ c) }
-    ensures good { IfOk result AreCounts }
-    ensures cause { IfErr result (λ fault. fault ≢ Fault.Store StoreCause.Constraint) }
-    ensures range { IfErr result (λ fault. fault ≡ Fault.Store StoreCause.Row
-        → (c : Counts) → row.now ≡ counts_shown c → ¬ AreCounts c) }
-{
-    Ok(Counts {
-        day: maybe_day_at(row, 0)?,
-        entries: entry_count_at(row, 1)?,
-        serial: serial_count_at(row, 2)?,
-        claims: given_count_at(row, 3)?,
-        lists: given_count_at(row, 4)?,
-        runs: given_count_at(row, 5)?,
-    })
 }
 
 /// The counts that stand, as the one row of a query: `next_row` reads it.
 pub fn read_counts<S: Alter>(conn: &mut Connection<S>) -> Result<Rows<'_, S>, Error>
     ensures* refused { sem 𝓛 (RestsIfErr (the_row S.row S.Store) conn.entry
-        (λ rows. rows.conn.ghost_name) result
-        (IsLeft S.Store conn.old (HasSomeTables (state S.Store conn.old).now) result)) }
+        (λ rows. rows.conn.ghost_name) result (IsLeftOn S.Store conn.old result)) }
     ensures same_reference { IfOk result (λ rows. rows.conn.ghost_name ≡ conn.entry.ghost_name) }
     ensures begun { IfOk result (λ rows. ReadsOn S.Store conn.old rows.conn.now counts_shown
         (λ t. counts_of t ∷ [])) }
@@ -86,9 +53,6 @@ pub fn read_counts<S: Alter>(conn: &mut Connection<S>) -> Result<Rows<'_, S>, Er
 pub struct Meta;
 
 impl StoredTable for Meta {
-    ghost use Rattle.clear_firms.specs.Counts.{AreCounts};
-    ghost use Rattle.clear_schema.specs.Values.{counts_shown};
-
     type Row = Counts;
 
     ghost shown = { counts_shown };
@@ -96,7 +60,14 @@ impl StoredTable for Meta {
     ghost is_in_range = { AreCounts };
 
     fn read(row: &Row) -> Result<Counts, Fault> {
-        shown_counts(row)
+        Ok(Counts {
+            day: maybe_day_at(row, 0)?,
+            entries: entry_count_at(row, 1)?,
+            serial: serial_count_at(row, 2)?,
+            claims: given_count_at(row, 3)?,
+            lists: given_count_at(row, 4)?,
+            runs: given_count_at(row, 5)?,
+        })
     }
 }
 

@@ -1,23 +1,22 @@
 //! The table of employers.
 ghost use Rattle.std.specs.Borrow.{sem, RestsIfErr};
 ghost use Rattle.std.specs.Prelude.{◌≡◌, [], ◌∷◌, ⊤, false, length, IfOk};
-ghost use Rattle.sqlite.specs.Held.{state};
 ghost use Rattle.sqlite.specs.Values.{bound};
 ghost use Rattle.sqlite.specs.contracts.connection.Connection.{the_row};
 ghost use Rattle.clear_values.specs.Keyed.{find_row, is_held, replaced, with_row};
 ghost use Rattle.clear_values.specs.RowRanges.{IsEmployerRow};
 ghost use Rattle.clear_values.specs.Tables.{employer_key};
 ghost use Rattle.clear_schema.specs.Frame.{Finds, Lists, LooksUp, Writes};
-ghost use Rattle.clear_columns.specs.Reading.{HasSomeTables, IsLeft, ReadsOn};
+ghost use Rattle.clear_columns.specs.Reading.{IsLeftOn, ReadsOn};
 ghost use Rattle.clear_schema.specs.Values.{employer_shown};
 
 use clear_columns::columns::{employer_at, maybe_month_at, month_at, name_at};
 use clear_columns::parameters::{employer, maybe_month};
-use clear_columns::queries::{find, list};
+use clear_columns::queries::{count, find, list};
 use clear_columns::rows::{StoredTable, begin_rows};
 use clear_money::numbers::EmployerNo;
 use clear_schema::fault::Fault;
-use clear_schema::statement::{look, put};
+use clear_schema::statement::put;
 use clear_schema::values::{month, text};
 use clear_values::rows::EmployerRow;
 use sqlite::{Alter, Connection, Error, Row, Rows, Transaction};
@@ -91,15 +90,13 @@ pub fn employer_count<S: Alter>(tx: &mut Transaction<'_, S>) -> Result<u64, Faul
     ensures looks { LooksUp S.Store tx.old.conn.now tx.new.conn.now result
         (λ t count. count ≡ length t.employers) (λ _. ⊤) (λ _. ⊥) }
 {
-    let rows = look(tx, "SELECT 1 FROM employers", &[])?;
-    Ok(rows.len() as u64)
+    count(tx, "SELECT 1 FROM employers", &[])
 }
 
 /// All firms, their numbers rising: `next_row` reads one at a time.
 pub fn read_employers<S: Alter>(conn: &mut Connection<S>) -> Result<Rows<'_, S>, Error>
     ensures* refused { sem 𝓛 (RestsIfErr (the_row S.row S.Store) conn.entry
-        (λ rows. rows.conn.ghost_name) result
-        (IsLeft S.Store conn.old (HasSomeTables (state S.Store conn.old).now) result)) }
+        (λ rows. rows.conn.ghost_name) result (IsLeftOn S.Store conn.old result)) }
     ensures same_reference { IfOk result (λ rows. rows.conn.ghost_name ≡ conn.entry.ghost_name) }
     ensures begun { IfOk result (λ rows. ReadsOn S.Store conn.old rows.conn.now employer_shown
         (λ t. t.employers)) }
@@ -111,9 +108,6 @@ pub fn read_employers<S: Alter>(conn: &mut Connection<S>) -> Result<Rows<'_, S>,
 pub struct Employers;
 
 impl StoredTable for Employers {
-    ghost use Rattle.clear_values.specs.RowRanges.{IsEmployerRow};
-    ghost use Rattle.clear_schema.specs.Values.{employer_shown};
-
     type Row = EmployerRow;
 
     ghost shown = { employer_shown };

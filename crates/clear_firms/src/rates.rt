@@ -4,6 +4,7 @@ ghost use Rattle.clear_money.specs.Rates.{IsRate};
 ghost use Rattle.clear_values.specs.Keyed.{is_held, with_row};
 ghost use Rattle.clear_values.specs.Ranges.{AreRates};
 ghost use Rattle.clear_schema.specs.Frame.{Lists, LooksUp, Writes};
+ghost use Rattle.clear_schema.specs.Values.{rate_shown};
 ghost use Rattle.clear_firms.specs.Shown.{rate_key};
 
 use clear_columns::columns::{month_at, month_day_at, rate_at};
@@ -83,9 +84,6 @@ fn table_of(alloc: Global, rows: &[RateRow]) -> Result<RateTable, Fault>
 pub struct Rates;
 
 impl StoredTable for Rates {
-    ghost use Rattle.clear_schema.specs.Values.{rate_shown};
-    ghost use Rattle.clear_money.specs.Rates.{IsRate};
-
     type Row = RateRow;
 
     ghost shown = { rate_shown };

@@ -1,7 +1,6 @@
 //! The table of reports: the version of each month's latest report.
 ghost use Rattle.std.specs.Borrow.{sem, RestsIfErr};
 ghost use Rattle.std.specs.Prelude.{◌≡◌, ◌≤◌, ◌==◌, [], ◌∷◌, false, filter, IfOk};
-ghost use Rattle.sqlite.specs.Held.{state};
 ghost use Rattle.sqlite.specs.Values.{bound};
 ghost use Rattle.sqlite.specs.contracts.connection.Connection.{the_row};
 ghost use Rattle.clear_values.specs.Keyed.{find_row, is_held, replaced, with_row};
@@ -9,7 +8,7 @@ ghost use Rattle.clear_values.specs.Limits.{most_versions};
 ghost use Rattle.clear_values.specs.RowRanges.{IsReportRow};
 ghost use Rattle.clear_values.specs.Tables.{report_key};
 ghost use Rattle.clear_schema.specs.Frame.{Finds, Lists, Writes};
-ghost use Rattle.clear_columns.specs.Reading.{HasSomeTables, IsLeft, ReadsOn};
+ghost use Rattle.clear_columns.specs.Reading.{IsLeftOn, ReadsOn};
 ghost use Rattle.clear_schema.specs.Values.{report_shown};
 
 use crate::parameters::month_values;
@@ -101,8 +100,7 @@ pub fn reports_of<S: Alter>(
 /// All latest reports, by firm and month: `next_row` reads one at a time.
 pub fn read_reports<S: Alter>(conn: &mut Connection<S>) -> Result<Rows<'_, S>, Error>
     ensures* refused { sem 𝓛 (RestsIfErr (the_row S.row S.Store) conn.entry
-        (λ rows. rows.conn.ghost_name) result
-        (IsLeft S.Store conn.old (HasSomeTables (state S.Store conn.old).now) result)) }
+        (λ rows. rows.conn.ghost_name) result (IsLeftOn S.Store conn.old result)) }
     ensures same_reference { IfOk result (λ rows. rows.conn.ghost_name ≡ conn.entry.ghost_name) }
     ensures begun { IfOk result (λ rows. ReadsOn S.Store conn.old rows.conn.now report_shown
         (λ t. t.reports)) }
@@ -118,9 +116,6 @@ pub fn read_reports<S: Alter>(conn: &mut Connection<S>) -> Result<Rows<'_, S>, E
 pub struct Reports;
 
 impl StoredTable for Reports {
-    ghost use Rattle.clear_values.specs.RowRanges.{IsReportRow};
-    ghost use Rattle.clear_schema.specs.Values.{report_shown};
-
     type Row = ReportRow;
 
     ghost shown = { report_shown };

@@ -130,9 +130,6 @@ pub fn worker_wages<S: Alter>(
 pub struct Wages;
 
 impl StoredTable for Wages {
-    ghost use Rattle.clear_values.specs.RowRanges.{IsWageRow};
-    ghost use Rattle.clear_schema.specs.Values.{wage_shown};
-
     type Row = WageRow;
 
     ghost shown = { wage_shown };

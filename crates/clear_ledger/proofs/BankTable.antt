@@ -1,15 +1,13 @@
 -- The bank lines: under their references, and with their serials unique too.
-use Rattle.clear_columns.proofs.Words.{◌≡◌, ℤ, pos, Bool, true, false, ◌&&◌, ◌||◌, List, [], ◌∷◌, Less, Option, Some, None, Row, is_none, ℕ, map, filter, refl, sym, ap, ◌∙◌, inl, inr, is_eq, Equal, codes, ordering_then, cast_row, Binary, Insert, Update, Database, Values, Ghosts, Term, lit, col, op2, Trees, Null, Text, automatic, agree, passes, Datatype, NotNull, Compare, Is, Eq, Key, value_cmp-Text, Purpose, Contribution, Interest, is_key, is_in_suspense, number, numbers_compare, output_cmp, plain_query, Tables, bank_key, BankRow, meets, plain_program, content, HasTables, by_key, bank_table, store_schema, cast_int, cast_null, equal_ints, equal_texts, AnswersJust, turned, is_key_is, by_key_total, key_is, cast_maybe, cast_purpose, maybe_typed, purpose_typed, same_numbers, and-true, keyed_row}
+use Rattle.clear_columns.proofs.Words.{◌≡◌, ℤ, pos, Bool, true, ◌&&◌, ◌||◌, List, [], ◌∷◌, Less, Row, ℕ, map, filter, refl, sym, ap, ◌∙◌, inl, inr, is_eq, Equal, codes, ordering_then, cast_row, Binary, Insert, Update, Database, Values, Ghosts, Term, lit, col, op2, Trees, Null, Text, automatic, agree, passes, Datatype, Compare, Is, Eq, Key, value_cmp-Text, is_key, is_in_suspense, number, numbers_compare, output_cmp, plain_query, Tables, bank_key, BankRow, meets, plain_program, content, HasTables, by_key, bank_table, store_schema, cast_int, cast_null, equal_ints, equal_texts, AnswersJust, turned, is_key_is, by_key_total, key_is, cast_maybe, maybe_none, maybe_typed, same_numbers, and-true, keyed_row}
 use Rattle.clear_schema.specs.Values.{bank_shown}
 use Rattle.clear_ledger.specs.Shown.{is_line_held}
-use Rattle.std.specs.Float.Ieee
-use Rattle.sqlite.specs.Ops.{binary}
 use Rattle.sqlite_tied.specs.Compute.{everything}
 use Rattle.sqlite_value.specs.Keys.{ascending, first_key, plain}
 use Rattle.sqlite_value.specs.Order.{value_cmp}
-use Rattle.clear_values.specs.Keyed.{in_key_order}
+use Rattle.clear_values.specs.Keyed.{in_key_order, is_held}
 use Rattle.clear_values.specs.Tables.{serial_key}
-use Rattle.clear_columns.proofs.KeyedTable.{KeyedTable, lists_all}
+use Rattle.clear_columns.proofs.KeyedTable.{KeyedTable, lists_all, or_false}
 use Rattle.clear_columns.proofs.OrderLemmas.{lists_by}
 use Rattle.clear_columns.proofs.Says.{Says, SaysQuery}
 use Rattle.clear_columns.proofs.CountLemmas.{counts, one, one_shown}
@@ -24,22 +22,10 @@ unfolding first_key
 serials_agree a b = rw (equal_ints (pos (content a).serial) (pos (content b).serial)) (ap (λ b. b && true) (same_numbers (content a).serial (content b).serial) ∙ key_is serial_key (content b) (content a))
 
 pub stored : (x : BankRow) → cast_row bank_table (Null ∷ bank_shown x) ≡ Null ∷ bank_shown x
-stored x = rw (cast_null, cast_int (pos x.serial), cast_int (pos x.line.value), cast_maybe x.line.employer, cast_maybe x.employer, cast_int (pos x.line.cents), cast_purpose x.line.purpose)
+stored x = rw (cast_null, cast_int (pos x.serial), cast_int (pos x.line.value), cast_maybe x.line.employer, cast_maybe x.employer, cast_int (pos x.line.cents))
 
 pub typed : (db : Trees) (y : ℤ × BankRow) → passes Datatype store_schema db bank_table (keyed_row bank_shown y) ≡ true
-typed db y = rw (maybe_typed y.1.line.employer, maybe_typed y.1.employer, purpose_typed y.1.line.purpose)
-
-pub present : (db : Trees) (y : ℤ × BankRow) → passes NotNull store_schema db bank_table (keyed_row bank_shown y) ≡ true
-present db y = there y.1.line.purpose
-  where
-    there : (p : Purpose) → passes NotNull store_schema db bank_table (keyed_row bank_shown (y.0, record y.1 { line = record y.1.line { purpose = p } })) ≡ true
-    there Contribution = refl
-    there Interest = refl
-
-pub held_is : (a b : Bool) → (a || b) ≡ (a || (b || false))
-held_is true b = refl
-held_is false true = refl
-held_is false false = refl
+typed db y = rw (maybe_typed y.1.line.employer, maybe_typed y.1.employer)
 
 abbrev pub bank : KeyedTable BankRow
 bank = record {
@@ -49,19 +35,17 @@ bank = record {
   with_those = λ t xs. record t { bank = xs };
   key = bank_key;
   keys = record { of = bank_key; index = automatic bank_table 0 (1 ∷ []) 8 } ∷ record { of = serial_key; index = automatic bank_table 1 (2 ∷ []) 9 } ∷ [];
-  first = automatic bank_table 0 (1 ∷ []) 8;
   given = bank_shown;
   held = is_line_held;
-  held_is = λ x xs. held_is _ _;
-  leads = inl refl;
+  held_is = λ x xs. ap (λ b. is_held bank_key x xs || b) (or_false _);
+  leads = (_, inl refl);
   placed = refl;
-  listed = inr (inr (inr (inr (inr (inl refl)))));
   uncounted = refl;
   guarded = refl;
   kept_by = (record { order = refl; agrees = references_agree }, (record { order = refl; agrees = serials_agree }, tt));
   stored = stored;
   typed = typed;
-  present = present;
+  present = λ _ _. refl;
   checked = λ _ _. refl;
   has = λ t db has. has.bank;
   changed = λ t old new has schema sound. bank_changed t old new has schema sound;
@@ -69,38 +53,26 @@ bank = record {
 
 -- ---- the texts
 
-abbrev pub insert_terms : List Term
-insert_terms = lit Null ∷ col 0 0 ∷ col 0 1 ∷ col 0 2 ∷ col 0 3 ∷ col 0 4 ∷ col 0 5 ∷ col 0 6 ∷ col 0 7 ∷ []
-
-pub insert_says : Says (codes "INSERT INTO bank (reference, serial, value, named, employer, cents, purpose, note) VALUES (?1, ?2, ?3, ?4, ?5, ?6, ?7, ?8)") (Insert 5 (Values insert_terms 9))
+pub insert_says : Says (codes "INSERT INTO bank (reference, serial, value, named, employer, cents, purpose, note) VALUES (?1, ?2, ?3, ?4, ?5, ?6, ?7, ?8)") (Insert 5 (Values (lit Null ∷ col 0 0 ∷ col 0 1 ∷ col 0 2 ∷ col 0 3 ∷ col 0 4 ∷ col 0 5 ∷ col 0 6 ∷ col 0 7 ∷ []) 9))
 unfolding everything
 insert_says = record { said = (refl, refl, refl) }
 
 abbrev pub by_reference : List Term
 by_reference = op2 (Compare Eq Binary) (col 1 1) (col 0 0) ∷ []
 
-abbrev pub update_terms : List Term
-update_terms = col 1 0 ∷ col 1 0 ∷ col 1 1 ∷ col 1 2 ∷ col 1 3 ∷ col 1 4 ∷ col 0 1 ∷ col 1 6 ∷ col 1 7 ∷ col 1 8 ∷ []
-
-pub update_says : Says (codes "UPDATE bank SET employer = ?2 WHERE reference = ?1") (Update 5 (plain_program 7 by_reference update_terms []))
+pub update_says : Says (codes "UPDATE bank SET employer = ?2 WHERE reference = ?1") (Update 5 (plain_program 7 by_reference (col 1 0 ∷ col 1 0 ∷ col 1 1 ∷ col 1 2 ∷ col 1 3 ∷ col 1 4 ∷ col 0 1 ∷ col 1 6 ∷ col 1 7 ∷ col 1 8 ∷ []) []))
 unfolding everything
 update_says = record { said = (refl, refl, refl) }
 
 abbrev columns : List Term
 columns = col 1 1 ∷ col 1 2 ∷ col 1 3 ∷ col 1 4 ∷ col 1 5 ∷ col 1 6 ∷ col 1 7 ∷ col 1 8 ∷ []
 
-abbrev get : List ℕ
-get = codes "SELECT reference, serial, value, named, employer, cents, purpose, note FROM bank WHERE reference = ?1"
-
-pub get_says : SaysQuery get (plain_program 7 by_reference columns [])
+pub get_says : SaysQuery (codes "SELECT reference, serial, value, named, employer, cents, purpose, note FROM bank WHERE reference = ?1") (plain_program 7 by_reference columns [])
 unfolding everything
 get_says = record { names = _; said = (refl, refl, refl) }
 
 abbrev without_firm : List Term
 without_firm = op2 (Is Binary) (col 1 5) (lit Null) ∷ []
-
-abbrev order : List (Term × Key)
-order = (col 1 1, ascending Binary) ∷ []
 
 abbrev pub count : List ℕ
 count = codes "SELECT 1 FROM bank WHERE employer IS NULL"
@@ -122,7 +94,7 @@ by_serial_says = record { names = _; said = (refl, refl, refl) }
 abbrev pub all : List ℕ
 all = codes "SELECT reference, serial, value, named, employer, cents, purpose, note FROM bank ORDER BY reference"
 
-all_says : SaysQuery all (plain_program 7 [] columns order)
+all_says : SaysQuery all (plain_program 7 [] columns ((col 1 1, ascending Binary) ∷ []))
 unfolding everything
 all_says = record { names = _; said = (refl, refl, refl) }
 
@@ -136,12 +108,7 @@ pub of_reference : (k : List ℕ) (rest : Row) (y : ℤ × BankRow) → meets by
 of_reference k rest y = rw (equal_texts (content y).line.reference k) (and-true _ ∙ sym (is_key_is (content y).line.reference k))
 
 no_firm : (y : ℤ × BankRow) → meets without_firm [] (keyed_row bank_shown y) ≡ is_in_suspense (content y)
-unfolding binary value_cmp Ieee.lt Ieee.is_nan
-no_firm y = of_employer (content y).employer
-  where
-    of_employer : (e : Option ℕ) → meets without_firm [] (keyed_row bank_shown (y.0, record (content y) { employer = e })) ≡ is_none e
-    of_employer None = refl
-    of_employer (Some e) = refl
+no_firm y = rw (maybe_none (content y).employer) (and-true _)
 
 -- what ORDER BY goes by
 abbrev by : BankRow → Row

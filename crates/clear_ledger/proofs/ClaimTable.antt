@@ -1,5 +1,5 @@
 -- The claims: under their numbers.
-use Rattle.clear_columns.proofs.Words.{◌≡◌, ◌==◌, pos, ℕ, Bool, true, false, List, [], ◌∷◌, map, filter, refl, sym, subst, inl, inr, codes, cast_row, Binary, Insert, Update, Database, Row, Values, Ghosts, Term, lit, col, op2, Trees, Null, passes, Datatype, Compare, Eq, Ge, Tables, ClaimRow, ClaimState, Open, Withdrawn, Released, meets, plain_program, HasTables, claims_table, store_schema, number, cast_int, cast_null, cast_maybe, equal_maybe, equal_numbers, maybe_from, maybe_typed, numbers_keep, AnswersJust, and-true, numbered_row}
+use Rattle.clear_columns.proofs.Words.{◌≡◌, ◌==◌, pos, ℕ, Bool, true, false, List, [], ◌∷◌, map, filter, refl, sym, subst, codes, cast_row, Binary, Insert, Update, Database, Row, Values, Ghosts, Term, lit, col, op2, Trees, Null, passes, Datatype, Compare, Eq, Ge, Tables, ClaimRow, ClaimState, Open, Withdrawn, Released, meets, plain_program, HasTables, claims_table, store_schema, number, cast_int, cast_null, cast_maybe, equal_maybe, equal_numbers, maybe_from, maybe_typed, numbers_keep, AnswersJust, and-true, numbered_row}
 use Rattle.std.proofs.Common.{◌∙◌, nat_le}
 use Rattle.std.specs.Option.{option_map_or}
 use Rattle.sqlite_tied.specs.Compute.{everything}
@@ -53,7 +53,6 @@ claims = record {
   in_order = numbers_keep;
   given = claim_shown;
   placed = refl;
-  listed = inr (inr (inr (inr (inr (inr (inr (inl refl)))))));
   uncounted = refl;
   unguarded = refl;
   numbered = λ _. refl;
@@ -67,27 +66,18 @@ claims = record {
 
 -- ---- the texts
 
-abbrev pub insert_terms : List Term
-insert_terms = col 0 0 ∷ lit Null ∷ col 0 1 ∷ col 0 2 ∷ col 0 3 ∷ col 0 4 ∷ col 0 5 ∷ col 0 6 ∷ col 0 7 ∷ col 0 8 ∷ col 0 9 ∷ col 0 10 ∷ []
-
-pub insert_says : Says (codes "INSERT INTO claims (no, employer, worker, cents, state, made, released, to_contributions, to_interest, paid, list) VALUES (?1, ?2, ?3, ?4, ?5, ?6, ?7, ?8, ?9, ?10, ?11)") (Insert 7 (Values insert_terms 12))
+pub insert_says : Says (codes "INSERT INTO claims (no, employer, worker, cents, state, made, released, to_contributions, to_interest, paid, list) VALUES (?1, ?2, ?3, ?4, ?5, ?6, ?7, ?8, ?9, ?10, ?11)") (Insert 7 (Values (col 0 0 ∷ lit Null ∷ col 0 1 ∷ col 0 2 ∷ col 0 3 ∷ col 0 4 ∷ col 0 5 ∷ col 0 6 ∷ col 0 7 ∷ col 0 8 ∷ col 0 9 ∷ col 0 10 ∷ []) 12))
 unfolding everything
 insert_says = record { said = (refl, refl, refl) }
 
-abbrev pub update_terms : List Term
-update_terms = col 1 0 ∷ col 1 0 ∷ lit Null ∷ col 0 1 ∷ col 0 2 ∷ col 0 3 ∷ col 0 4 ∷ col 0 5 ∷ col 0 6 ∷ col 0 7 ∷ col 0 8 ∷ col 0 9 ∷ col 0 10 ∷ []
-
-pub update_says : Says (codes "UPDATE claims SET employer = ?2, worker = ?3, cents = ?4, state = ?5, made = ?6, released = ?7, to_contributions = ?8, to_interest = ?9, paid = ?10, list = ?11 WHERE no = ?1") (Update 7 (plain_program 12 by_no update_terms []))
+pub update_says : Says (codes "UPDATE claims SET employer = ?2, worker = ?3, cents = ?4, state = ?5, made = ?6, released = ?7, to_contributions = ?8, to_interest = ?9, paid = ?10, list = ?11 WHERE no = ?1") (Update 7 (plain_program 12 by_no (col 1 0 ∷ col 1 0 ∷ lit Null ∷ col 0 1 ∷ col 0 2 ∷ col 0 3 ∷ col 0 4 ∷ col 0 5 ∷ col 0 6 ∷ col 0 7 ∷ col 0 8 ∷ col 0 9 ∷ col 0 10 ∷ []) []))
 unfolding everything
 update_says = record { said = (refl, refl, refl) }
 
 abbrev columns : List Term
 columns = col 1 0 ∷ col 1 2 ∷ col 1 3 ∷ col 1 4 ∷ col 1 5 ∷ col 1 6 ∷ col 1 7 ∷ col 1 8 ∷ col 1 9 ∷ col 1 10 ∷ col 1 11 ∷ []
 
-abbrev get : List ℕ
-get = codes "SELECT no, employer, worker, cents, state, made, released, to_contributions, to_interest, paid, list FROM claims WHERE no = ?1"
-
-pub get_says : SaysQuery get (plain_program 12 by_no columns [])
+pub get_says : SaysQuery (codes "SELECT no, employer, worker, cents, state, made, released, to_contributions, to_interest, paid, list FROM claims WHERE no = ?1") (plain_program 12 by_no columns [])
 unfolding everything
 get_says = record { names = _; said = (refl, refl, refl) }
 

@@ -1,5 +1,5 @@
 -- The payout lists: under their numbers.
-use Rattle.clear_columns.proofs.Words.{◌≡◌, pos, ℕ, List, [], ◌∷◌, refl, inl, inr, codes, cast_row, Insert, Values, Term, lit, col, Null, ListRow, plain_program, lists_table, cast_int, cast_null, numbers_keep, numbered_row}
+use Rattle.clear_columns.proofs.Words.{◌≡◌, pos, List, [], ◌∷◌, refl, codes, cast_row, Insert, Values, Term, lit, col, Null, ListRow, plain_program, lists_table, cast_int, cast_null, numbers_keep, numbered_row}
 use Rattle.sqlite_tied.specs.Compute.{everything}
 use Rattle.clear_schema.proofs.Changes.{lists_changed}
 use Rattle.clear_columns.proofs.NumberedTable.{NumberedTable, by_no}
@@ -21,7 +21,6 @@ lists = record {
   in_order = numbers_keep;
   given = list_shown;
   placed = refl;
-  listed = inr (inr (inr (inr (inr (inr (inr (inr (inl refl))))))));
   uncounted = refl;
   unguarded = refl;
   numbered = λ _. refl;
@@ -35,19 +34,13 @@ lists = record {
 
 -- ---- the texts
 
-abbrev pub insert_terms : List Term
-insert_terms = col 0 0 ∷ lit Null ∷ col 0 1 ∷ col 0 2 ∷ col 0 3 ∷ []
-
-pub insert_says : Says (codes "INSERT INTO lists (no, day, items, total) VALUES (?1, ?2, ?3, ?4)") (Insert 8 (Values insert_terms 5))
+pub insert_says : Says (codes "INSERT INTO lists (no, day, items, total) VALUES (?1, ?2, ?3, ?4)") (Insert 8 (Values (col 0 0 ∷ lit Null ∷ col 0 1 ∷ col 0 2 ∷ col 0 3 ∷ []) 5))
 unfolding everything
 insert_says = record { said = (refl, refl, refl) }
 
 abbrev columns : List Term
 columns = col 1 0 ∷ col 1 2 ∷ col 1 3 ∷ col 1 4 ∷ []
 
-abbrev get : List ℕ
-get = codes "SELECT no, day, items, total FROM lists WHERE no = ?1"
-
-pub get_says : SaysQuery get (plain_program 13 by_no columns [])
+pub get_says : SaysQuery (codes "SELECT no, day, items, total FROM lists WHERE no = ?1") (plain_program 13 by_no columns [])
 unfolding everything
 get_says = record { names = _; said = (refl, refl, refl) }

@@ -1,5 +1,5 @@
 -- The pieces: under their firms and months, and the days and serials of their credits.
-use Rattle.clear_columns.proofs.Words.{◌≡◌, ◌==◌, ℤ, pos, Bool, true, false, ◌&&◌, ◌||◌, List, [], ◌∷◌, refl, ◌∙◌, inl, inr, is_eq, nat_lt, codes, cast_row, Binary, Delete, Insert, Values, Term, lit, col, op2, Null, automatic, agree, And, Compare, Eq, Ge, Gt, Key, Or, PieceRow, Tables, is_piece_key_from, piece_key, meets, plain_program, plain_query, content, HasTables, AnswersJust, Database, Ghosts, Row, Less, by_key, filter, map, month, number, output_cmp, pieces_table, month_number, months_compare, cast_int, cast_null, comes_from, equal_months, equal_numbers, key_is, months_from, numbers_compare, ℕ, turned_nat, and-true, keyed_row}
+use Rattle.clear_columns.proofs.Words.{◌≡◌, ◌==◌, ℤ, pos, Bool, true, false, ◌&&◌, ◌||◌, List, [], ◌∷◌, refl, ◌∙◌, inl, is_eq, nat_lt, codes, cast_row, Binary, Delete, Insert, Values, Term, lit, col, op2, Null, automatic, agree, And, Compare, Eq, Ge, Gt, Key, Or, PieceRow, Tables, is_piece_key_from, piece_key, meets, plain_program, plain_query, content, HasTables, AnswersJust, Database, Ghosts, Row, Less, by_key, filter, map, month, number, output_cmp, pieces_table, month_number, months_compare, cast_int, cast_null, comes_from, equal_months, equal_numbers, key_is, months_from, numbers_compare, ℕ, turned_nat, and-true, keyed_row}
 use Rattle.std.proofs.Common.{nat_le}
 use Rattle.sqlite_tied.specs.Compute.{everything}
 use Rattle.sqlite_value.specs.Keys.{ascending, first_key, plain}
@@ -33,13 +33,11 @@ pieces = record {
   with_those = λ t xs. record t { pieces = xs };
   key = piece_key;
   keys = record { of = piece_key; index = automatic pieces_table 0 (1 ∷ 2 ∷ 3 ∷ 4 ∷ []) 22 } ∷ [];
-  first = automatic pieces_table 0 (1 ∷ 2 ∷ 3 ∷ 4 ∷ []) 22;
   given = piece_shown;
   held = is_held piece_key;
   held_is = λ x xs. or_false _;
-  leads = inl refl;
+  leads = (_, inl refl);
   placed = refl;
-  listed = inr (inr (inr (inr (inr (inr (inr (inr (inr (inr (inr (inr (inr (inl refl)))))))))))));
   uncounted = refl;
   guarded = refl;
   kept_by = (record { order = refl; agrees = keys_agree }, tt);
@@ -53,10 +51,7 @@ pieces = record {
 
 -- ---- the texts
 
-abbrev pub insert_terms : List Term
-insert_terms = lit Null ∷ col 0 0 ∷ col 0 1 ∷ col 0 2 ∷ col 0 3 ∷ col 0 4 ∷ col 0 5 ∷ []
-
-pub insert_says : Says (codes "INSERT INTO pieces (employer, month, day, serial, cents, ref) VALUES (?1, ?2, ?3, ?4, ?5, ?6)") (Insert 13 (Values insert_terms 7))
+pub insert_says : Says (codes "INSERT INTO pieces (employer, month, day, serial, cents, ref) VALUES (?1, ?2, ?3, ?4, ?5, ?6)") (Insert 13 (Values (lit Null ∷ col 0 0 ∷ col 0 1 ∷ col 0 2 ∷ col 0 3 ∷ col 0 4 ∷ col 0 5 ∷ []) 7))
 unfolding everything
 insert_says = record { said = (refl, refl, refl) }
 

@@ -1,5 +1,5 @@
 -- The reminders: under their runs and firms.
-use Rattle.clear_columns.proofs.Words.{◌≡◌, ◌==◌, ℤ, pos, ℕ, true, List, [], ◌∷◌, map, filter, refl, inl, inr, is_eq, ordering_then, Equal, Less, codes, cast_row, Binary, Insert, Database, Row, output_cmp, Values, Ghosts, Term, lit, col, op2, Trees, Null, automatic, agree, passes, Datatype, Compare, Eq, Key, reminder_key, Tables, ReminderRow, first_program, meets, plain_program, plain_query, content, HasTables, by_key, reminders_table, store_schema, number, cast_int, cast_null, cast_maybe_month, maybe_month_typed, AnswersJust, key_is, equal_numbers, numbers_compare, and-true, keyed_row}
+use Rattle.clear_columns.proofs.Words.{◌≡◌, ◌==◌, ℤ, pos, ℕ, true, List, [], ◌∷◌, map, filter, refl, inl, is_eq, ordering_then, Equal, Less, codes, cast_row, Binary, Insert, Database, Row, output_cmp, Values, Ghosts, Term, lit, col, op2, Trees, Null, automatic, agree, passes, Datatype, Compare, Eq, Key, reminder_key, Tables, ReminderRow, first_program, meets, plain_program, plain_query, content, HasTables, by_key, reminders_table, store_schema, number, cast_int, cast_null, cast_maybe_month, maybe_month_typed, AnswersJust, key_is, equal_numbers, numbers_compare, and-true, keyed_row}
 use Rattle.std.proofs.Common.{Ordering, Greater, take}
 use Rattle.clear_schema.specs.Values.{reminder_shown}
 use Rattle.clear_values.specs.Keyed.{is_held}
@@ -28,13 +28,11 @@ reminders = record {
   with_those = λ t xs. record t { reminders = xs };
   key = reminder_key;
   keys = record { of = reminder_key; index = automatic reminders_table 0 (1 ∷ 2 ∷ []) 16 } ∷ [];
-  first = automatic reminders_table 0 (1 ∷ 2 ∷ []) 16;
   given = reminder_shown;
   held = is_held reminder_key;
   held_is = λ x xs. or_false _;
-  leads = inl refl;
+  leads = (_, inl refl);
   placed = refl;
-  listed = inr (inr (inr (inr (inr (inr (inr (inr (inr (inr (inl refl))))))))));
   uncounted = refl;
   guarded = refl;
   kept_by = (record { order = refl; agrees = keys_agree }, tt);
@@ -48,10 +46,7 @@ reminders = record {
 
 -- ---- the texts
 
-abbrev pub insert_terms : List Term
-insert_terms = lit Null ∷ col 0 0 ∷ col 0 1 ∷ col 0 2 ∷ col 0 3 ∷ col 0 4 ∷ col 0 5 ∷ col 0 6 ∷ []
-
-pub insert_says : Says (codes "INSERT INTO reminders (run, employer, level, missing, first, arrears, interest) VALUES (?1, ?2, ?3, ?4, ?5, ?6, ?7)") (Insert 10 (Values insert_terms 8))
+pub insert_says : Says (codes "INSERT INTO reminders (run, employer, level, missing, first, arrears, interest) VALUES (?1, ?2, ?3, ?4, ?5, ?6, ?7)") (Insert 10 (Values (lit Null ∷ col 0 0 ∷ col 0 1 ∷ col 0 2 ∷ col 0 3 ∷ col 0 4 ∷ col 0 5 ∷ col 0 6 ∷ []) 8))
 unfolding everything
 insert_says = record { said = (refl, refl, refl) }
 

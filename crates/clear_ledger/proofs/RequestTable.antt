@@ -1,5 +1,5 @@
 -- The kept requests: under their callers and numbers.
-use Rattle.clear_columns.proofs.Words.{◌≡◌, ◌==◌, ℤ, pos, ℕ, true, List, [], ◌∷◌, Equal, Less, map, filter, refl, subst, sym, ap, inl, inr, is_eq, ordering_then, Key, first_program, numbers_compare, output_cmp, codes, cast_row, Binary, Insert, Database, Row, Values, Ghosts, Term, lit, col, op2, Null, Blob, automatic, agree, Compare, Eq, is_key, RequestRow, Tables, meets, plain_program, plain_query, content, HasTables, by_key, request_key, requests_table, caller_number, number, cast_int, cast_null, AnswersJust, key_is, equal_numbers, and-true, keyed_row}
+use Rattle.clear_columns.proofs.Words.{◌≡◌, ◌==◌, ℤ, pos, ℕ, true, List, [], ◌∷◌, Equal, Less, map, filter, refl, subst, sym, ap, inl, is_eq, ordering_then, Key, first_program, numbers_compare, output_cmp, codes, cast_row, Binary, Insert, Database, Row, Values, Ghosts, Term, lit, col, op2, Null, Blob, automatic, agree, Compare, Eq, is_key, RequestRow, Tables, meets, plain_program, plain_query, content, HasTables, by_key, request_key, requests_table, caller_number, number, cast_int, cast_null, AnswersJust, key_is, equal_numbers, and-true, keyed_row}
 use Rattle.std.proofs.Common.{Greater, Option, Ordering, slice_get, take}
 use Rattle.std.specs.Option.{option_map, option_to_list}
 use Rattle.clear_values.specs.Keyed.{is_held}
@@ -7,7 +7,8 @@ use Rattle.sqlite_tied.specs.Compute.{everything}
 use Rattle.sqlite_value.specs.Keys.{first_key, plain}
 use Rattle.clear_columns.proofs.LastLemmas.{as_one, finds_last, from_last, last_of}
 use Rattle.clear_values.specs.declared.callers.Caller.{Caller}
-use Rattle.clear_ledger.specs.Kept.{greatest_number, requests_of}
+use Rattle.std.proofs.lemmas.Simd.{map-map}
+use Rattle.clear_ledger.specs.Kept.{greatest_number, kept_of, requests_of}
 use Rattle.clear_schema.specs.Held.{HasKeyed}
 use Rattle.clear_schema.specs.Values.{request_shown as request_stored}
 use Rattle.clear_ledger.specs.Shown.{kept_shown, number_shown, numbers_of, request_shown}
@@ -47,13 +48,11 @@ requests = record {
   with_those = λ t xs. record t { requests = xs };
   key = request_key;
   keys = record { of = request_key; index = automatic requests_table 0 (1 ∷ 2 ∷ []) 18 } ∷ [];
-  first = automatic requests_table 0 (1 ∷ 2 ∷ []) 18;
   given = request_shown;
   held = is_held request_key;
   held_is = λ x xs. or_false _;
-  leads = inl refl;
+  leads = (_, inl refl);
   placed = refl;
-  listed = inr (inr (inr (inr (inr (inr (inr (inr (inr (inr (inr (inl refl)))))))))));
   uncounted = refl;
   guarded = refl;
   kept_by = (record { order = refl; agrees = keys_agree }, tt);
@@ -67,10 +66,7 @@ requests = record {
 
 -- ---- the texts
 
-abbrev pub insert_terms : List Term
-insert_terms = lit Null ∷ col 0 0 ∷ col 0 1 ∷ col 0 2 ∷ col 0 3 ∷ col 0 4 ∷ col 0 5 ∷ col 0 6 ∷ col 0 7 ∷ []
-
-pub insert_says : Says (codes "INSERT INTO requests (caller, number, day, command, kind, a, b, c) VALUES (?1, ?2, ?3, ?4, ?5, ?6, ?7, ?8)") (Insert 11 (Values insert_terms 9))
+pub insert_says : Says (codes "INSERT INTO requests (caller, number, day, command, kind, a, b, c) VALUES (?1, ?2, ?3, ?4, ?5, ?6, ?7, ?8)") (Insert 11 (Values (lit Null ∷ col 0 0 ∷ col 0 1 ∷ col 0 2 ∷ col 0 3 ∷ col 0 4 ∷ col 0 5 ∷ col 0 6 ∷ col 0 7 ∷ []) 9))
 unfolding everything
 insert_says = record { said = (refl, refl, refl) }
 
@@ -109,8 +105,15 @@ greatest_says = record { names = _; said = (refl, refl, refl) }
 of_number : (c n : ℕ) (y : ℤ × RequestRow) → meets by_number (number c ∷ number n ∷ []) (keyed_row request_shown y) ≡ is_key (request_key (content y)) (c ∷ n ∷ [])
 of_number c n y = rw (equal_numbers (caller_number (content y).caller) c, equal_numbers (content y).number n) refl
 
-pub answers : {S : Type 0} (g : Ghosts S) (t : Tables) (db : Database) (c n : ℕ) → HasTables t db → AnswersJust g get (number c ∷ number n ∷ []) db (map kept_shown (filter (λ row. is_key (request_key row) (c ∷ n ∷ [])) t.requests))
-answers g t db c n has = finds requests g t db has (number c ∷ number n ∷ []) kept_shown (λ row. is_key (request_key row) (c ∷ n ∷ [])) (of_number c n) get_says (λ _. refl) (few requests t db has (c ∷ n ∷ []))
+-- the first of them, as it is kept
+pub first_kept : (rows : List RequestRow) → slice_get (map kept_of rows) 0 ≡ option_map kept_of (slice_get rows 0)
+first_kept [] = refl
+first_kept (row ∷ rows) = refl
+
+pub answers : {S : Type 0} (g : Ghosts S) (t : Tables) (db : Database) (c n : ℕ) → HasTables t db → AnswersJust g get (number c ∷ number n ∷ []) db (map kept_shown (map kept_of (filter (λ row. is_key (request_key row) (c ∷ n ∷ [])) t.requests)))
+answers g t db c n has =
+    subst (AnswersJust g get (number c ∷ number n ∷ []) db) (sym (map-map kept_shown kept_of _))
+    (finds requests g t db has (number c ∷ number n ∷ []) (λ row. kept_shown (kept_of row)) (λ row. is_key (request_key row) (c ∷ n ∷ [])) (of_number c n) get_says (λ _. refl) (few requests t db has (c ∷ n ∷ [])))
 
 -- ---- the greatest number of a caller
 

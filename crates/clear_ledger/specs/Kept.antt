@@ -7,21 +7,12 @@ use Rattle.clear_values.specs.declared.callers.Caller.{Caller}
 use Rattle.clear_values.specs.declared.replies.Reply.{Reply}
 use Rattle.clear_values.specs.RowRanges.{IsReply}
 use Rattle.clear_values.specs.Tables.{RequestRow, caller_number}
-use Rattle.clear_ledger.specs.declared.requests.KeptRequest.{KeptRequest}
 
 -- the day of a request, the bytes of its command, and its reply
 pub record Kept : Type 0 where
   pub day : ℕ
   pub command : List ℕ
   pub reply : Reply
-
--- what a program has of a request
-abbrev pub as_kept : KeptRequest → Kept
-as_kept request = record {
-  day = request.day;
-  command = request.command.items;
-  reply = request.reply;
-}
 
 -- what a row has of it, besides the key
 abbrev pub kept_of : RequestRow → Kept

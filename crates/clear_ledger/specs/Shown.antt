@@ -1,7 +1,7 @@
 -- What statements are given and queries show that is no row as it stands, or the row by its parts; and
 -- when a row that is to be added finds its key held.
 use Rattle.std.specs.Prelude.{ℕ, ◌<◌, ◌^◌, Bool, ◌||◌, List, [], ◌∷◌, Option, Some, None}
-use Rattle.sqlite.specs.declared.types.Value.TheVariants.{Blob, Text}
+use Rattle.sqlite.specs.declared.types.Value.TheVariants.{Blob}
 use Rattle.sqlite.specs.Order.{Row}
 use Rattle.clear_values.specs.Tables.{RequestRow, bank_key, serial_key}
 use Rattle.clear_values.specs.declared.rows.BankRow.{BankRow}
@@ -14,6 +14,7 @@ use Rattle.clear_values.specs.declared.replies.Reply.TheVariants.{Released as re
 use Rattle.clear_values.specs.declared.replies.Reply.TheVariants.{Listed, Reminded}
 use Rattle.clear_schema.specs.Values.{caller_number, number, maybe, month}
 use Rattle.clear_values.specs.Keyed.{is_held}
+use Rattle.clear_ledger.specs.Kept.{Kept, kept_of}
 use Rattle.clear_ledger.specs.declared.pieces.PieceFrom.{PieceFrom}
 use Rattle.clear_ledger.specs.declared.replies.ReplyNumbers.{ReplyNumbers}
 use Rattle.clear_ledger.specs.declared.states.StateColumns.{StateColumns}
@@ -22,10 +23,6 @@ use Rattle.clear_ledger.specs.declared.states.StateColumns.{StateColumns}
 abbrev pub first_piece_given : PieceFrom → Row
 first_piece_given from =
     number from.employer ∷ month from.month ∷ number from.day ∷ number from.serial ∷ []
-
--- the reference and the firm of a line
-abbrev pub assignment_given : BankRow → Row
-assignment_given row = Text row.line.reference ∷ maybe row.employer ∷ []
 
 -- the line, for this firm or for none
 abbrev pub for_firm : Option ℕ → BankRow → BankRow
@@ -94,12 +91,13 @@ abbrev pub numbers_shown : ReplyNumbers → Row
 numbers_shown n = number n.kind ∷ number n.a ∷ number n.b ∷ number n.c ∷ []
 
 -- a request besides its key
-abbrev pub kept_shown : RequestRow → Row
-kept_shown row = number row.day ∷ Blob row.command ∷ numbers_shown (numbers_of row.reply)
+abbrev pub kept_shown : Kept → Row
+kept_shown k = number k.day ∷ Blob k.command ∷ numbers_shown (numbers_of k.reply)
 
 -- a request
 abbrev pub request_shown : RequestRow → Row
-request_shown row = number (caller_number row.caller) ∷ number row.number ∷ kept_shown row
+request_shown row =
+    number (caller_number row.caller) ∷ number row.number ∷ kept_shown (kept_of row)
 
 -- a number alone: that of a request, or the amount of a credit
 abbrev pub number_shown : ℕ → Row

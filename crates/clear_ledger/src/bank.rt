@@ -1,7 +1,6 @@
 //! The bank lines, by their references.
 ghost use Rattle.std.specs.Borrow.{sem, RestsIfErr};
 ghost use Rattle.std.specs.Prelude.{◌≡◌, ⊤, count_by, false, filter, IfOk};
-ghost use Rattle.sqlite.specs.Held.{state};
 ghost use Rattle.sqlite.specs.Values.{bound};
 ghost use Rattle.sqlite.specs.contracts.connection.Connection.{the_row};
 ghost use Rattle.clear_values.specs.Keyed.{find_row, in_key_order, with_row};
@@ -9,20 +8,20 @@ ghost use Rattle.clear_values.specs.Credits.{is_in_suspense};
 ghost use Rattle.clear_values.specs.RowRanges.{IsBankRow, IsSerial};
 ghost use Rattle.clear_values.specs.Tables.{bank_key, serial_key};
 ghost use Rattle.clear_schema.specs.Values.{bank_shown};
-ghost use Rattle.clear_ledger.specs.Shown.{assignment_given, for_firm, is_line_held};
+ghost use Rattle.clear_ledger.specs.Shown.{for_firm, is_line_held};
 ghost use Rattle.clear_columns.specs.Keys.{changed_at};
-ghost use Rattle.clear_columns.specs.Reading.{HasSomeTables, IsLeft, ReadsOn};
+ghost use Rattle.clear_columns.specs.Reading.{IsLeftOn, ReadsOn};
 ghost use Rattle.clear_schema.specs.Frame.{Finds, LooksUp, Writes};
 
 use clear_columns::columns::{
     amount_at, day_at, maybe_employer_at, note_at, purpose_at, reference_at, serial_at,
 };
 use clear_columns::parameters::{amount, day, maybe_employer, purpose};
-use clear_columns::queries::find;
+use clear_columns::queries::{count, find};
 use clear_columns::ranges::is_serial;
 use clear_columns::rows::{StoredTable, begin_rows};
 use clear_schema::fault::Fault;
-use clear_schema::statement::{look, put};
+use clear_schema::statement::put;
 use clear_schema::values::{number, text};
 use clear_values::causes::StoreCause;
 use clear_values::lines::BankLine;
@@ -62,7 +61,10 @@ pub fn assign_line<S: Alter>(tx: &mut Transaction<'_, S>, row: &BankRow) -> Resu
     put(
         tx,
         "UPDATE bank SET employer = ?2 WHERE reference = ?1",
-        &assignment_values(row),
+        &[
+            text(row.line.reference.as_str()),
+            maybe_employer(row.employer),
+        ],
     )
 }
 
@@ -89,15 +91,13 @@ pub fn suspense_count<S: Alter>(tx: &mut Transaction<'_, S>) -> Result<u64, Faul
     ensures looks { LooksUp S.Store tx.old.conn.now tx.new.conn.now result
         (λ t count. count ≡ count_by is_in_suspense t.bank) (λ _. ⊤) (λ _. ⊥) }
 {
-    let rows = look(tx, "SELECT 1 FROM bank WHERE employer IS NULL", &[])?;
-    Ok(rows.len() as u64)
+    count(tx, "SELECT 1 FROM bank WHERE employer IS NULL", &[])
 }
 
 /// All lines in the order of their references: `next_row` reads one at a time.
 pub fn lines<S: Alter>(conn: &mut Connection<S>) -> Result<Rows<'_, S>, Error>
     ensures* refused { sem 𝓛 (RestsIfErr (the_row S.row S.Store) conn.entry
-        (λ rows. rows.conn.ghost_name) result
-        (IsLeft S.Store conn.old (HasSomeTables (state S.Store conn.old).now) result)) }
+        (λ rows. rows.conn.ghost_name) result (IsLeftOn S.Store conn.old result)) }
     ensures same_reference { IfOk result (λ rows. rows.conn.ghost_name ≡ conn.entry.ghost_name) }
     ensures begun { IfOk result (λ rows. ReadsOn S.Store conn.old rows.conn.now bank_shown
         (λ t. t.bank)) }
@@ -114,8 +114,7 @@ pub fn lines<S: Alter>(conn: &mut Connection<S>) -> Result<Rows<'_, S>, Error>
 /// one pass over all lines by the index on their serials, with a search for the row of each.
 pub fn read_suspense<S: Alter>(conn: &mut Connection<S>) -> Result<Rows<'_, S>, Error>
     ensures* refused { sem 𝓛 (RestsIfErr (the_row S.row S.Store) conn.entry
-        (λ rows. rows.conn.ghost_name) result
-        (IsLeft S.Store conn.old (HasSomeTables (state S.Store conn.old).now) result)) }
+        (λ rows. rows.conn.ghost_name) result (IsLeftOn S.Store conn.old result)) }
     ensures same_reference { IfOk result (λ rows. rows.conn.ghost_name ≡ conn.entry.ghost_name) }
     ensures begun { IfOk result (λ rows. ReadsOn S.Store conn.old rows.conn.now bank_shown
         (λ t. in_key_order serial_key (filter is_in_suspense t.bank))) }
@@ -132,9 +131,6 @@ pub fn read_suspense<S: Alter>(conn: &mut Connection<S>) -> Result<Rows<'_, S>, 
 pub struct Bank;
 
 impl StoredTable for Bank {
-    ghost use Rattle.clear_schema.specs.Values.{bank_shown};
-    ghost use Rattle.clear_values.specs.RowRanges.{IsBankRow};
-
     type Row = BankRow;
 
     ghost shown = { bank_shown };
@@ -172,15 +168,5 @@ fn line_values(row: &BankRow) -> [ValueRef<'_>; 8]
         amount(row.line.cents),
         purpose(row.line.purpose),
         text(row.line.note.as_str()),
-    ]
-}
-
-// The parameters of a statement that writes the firm of a line.
-fn assignment_values(row: &BankRow) -> [ValueRef<'_>; 2]
-    ensures { bound result ≡ assignment_given row.now }
-{
-    [
-        text(row.line.reference.as_str()),
-        maybe_employer(row.employer),
     ]
 }

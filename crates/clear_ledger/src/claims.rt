@@ -1,14 +1,13 @@
 //! The claims, by their numbers.
 ghost use Rattle.std.specs.Borrow.{sem, RestsIfErr};
 ghost use Rattle.std.specs.Prelude.{◌≡◌, ◌≢◌, ◌==◌, ◌∷◌, [], false, ℕ, filter, IfErr, IfOk};
-ghost use Rattle.sqlite.specs.Held.{state};
 ghost use Rattle.sqlite.specs.Values.{bound};
 ghost use Rattle.sqlite.specs.contracts.connection.Connection.{the_row};
 ghost use Rattle.clear_values.specs.Keyed.{find_row, is_held, replaced, with_row};
 ghost use Rattle.clear_values.specs.RowRanges.{IsClaimRow, IsClaimState};
 ghost use Rattle.clear_values.specs.Tables.{claim_key};
 ghost use Rattle.clear_values.specs.declared.rows.ClaimRow.{ClaimRow as Claim};
-ghost use Rattle.clear_columns.specs.Reading.{HasSomeTables, IsLeft, ReadsOn};
+ghost use Rattle.clear_columns.specs.Reading.{IsLeftOn, ReadsOn};
 ghost use Rattle.clear_values.specs.Payouts.{is_on, is_released_since};
 ghost use Rattle.clear_ledger.specs.Shown.{claim_shown, columns_of};
 ghost use Rattle.clear_schema.specs.Frame.{Finds, Lists, Writes};
@@ -128,8 +127,7 @@ pub fn claims_released_since<S: Alter>(
 /// The claims on a payout list, in the order of their numbers: `next_row` reads one at a time.
 pub fn read_listed<S: Alter>(conn: &mut Connection<S>, on: ListNo) -> Result<Rows<'_, S>, Error>
     ensures* refused { sem 𝓛 (RestsIfErr (the_row S.row S.Store) conn.entry
-        (λ rows. rows.conn.ghost_name) result
-        (IsLeft S.Store conn.old (HasSomeTables (state S.Store conn.old).now) result)) }
+        (λ rows. rows.conn.ghost_name) result (IsLeftOn S.Store conn.old result)) }
     ensures same_reference { IfOk result (λ rows. rows.conn.ghost_name ≡ conn.entry.ghost_name) }
     ensures begun { IfOk result (λ rows. ReadsOn S.Store conn.old rows.conn.now claim_shown
         (λ t. filter (λ row. is_on on row.state) t.claims)) }
@@ -145,8 +143,7 @@ pub fn read_listed<S: Alter>(conn: &mut Connection<S>, on: ListNo) -> Result<Row
 /// All claims, in the order of their numbers: `next_row` reads one at a time.
 pub fn read_claims<S: Alter>(conn: &mut Connection<S>) -> Result<Rows<'_, S>, Error>
     ensures* refused { sem 𝓛 (RestsIfErr (the_row S.row S.Store) conn.entry
-        (λ rows. rows.conn.ghost_name) result
-        (IsLeft S.Store conn.old (HasSomeTables (state S.Store conn.old).now) result)) }
+        (λ rows. rows.conn.ghost_name) result (IsLeftOn S.Store conn.old result)) }
     ensures same_reference { IfOk result (λ rows. rows.conn.ghost_name ≡ conn.entry.ghost_name) }
     ensures begun { IfOk result (λ rows. ReadsOn S.Store conn.old rows.conn.now claim_shown
         (λ t. t.claims)) }
@@ -163,9 +160,6 @@ pub fn read_claims<S: Alter>(conn: &mut Connection<S>) -> Result<Rows<'_, S>, Er
 pub struct Claims;
 
 impl StoredTable for Claims {
-    ghost use Rattle.clear_ledger.specs.Shown.{claim_shown};
-    ghost use Rattle.clear_values.specs.RowRanges.{IsClaimRow};
-
     type Row = ClaimRow;
 
     ghost shown = { claim_shown };

@@ -2,7 +2,6 @@
 ghost use Rattle.std.specs.Borrow.{sem, RestsIfErr};
 ghost use Rattle.std.specs.Prelude.{◌≡◌, ◌<◌, ◌+◌, ◌^◌, ◌++◌, ⊤, count_by, filter, map};
 ghost use Rattle.std.specs.Prelude.{IfErr, IfOk};
-ghost use Rattle.sqlite.specs.Held.{state};
 ghost use Rattle.sqlite.specs.Values.{bound};
 ghost use Rattle.sqlite.specs.contracts.connection.Connection.{the_row};
 ghost use Rattle.clear_money.specs.Numbers.{IsAmount};
@@ -11,21 +10,22 @@ ghost use Rattle.clear_values.specs.Keyed.{is_held, with_row};
 ghost use Rattle.clear_values.specs.Credits.{is_credit_of};
 ghost use Rattle.clear_values.specs.RowRanges.{IsCreditRow, IsSerial};
 ghost use Rattle.clear_ledger.specs.From.{is_credit_from, is_credit_of_day, is_credit_since};
+ghost use Rattle.clear_ledger.specs.Shown.{number_shown};
 ghost use Rattle.clear_schema.specs.Values.{credit_shown};
-ghost use Rattle.clear_columns.specs.Reading.{HasSomeTables, IsLeft, ReadsOn};
+ghost use Rattle.clear_columns.specs.Reading.{IsLeftOn, ReadsOn};
 ghost use Rattle.clear_schema.specs.Frame.{Lists, LooksUp, Writes};
 
 use clear_columns::columns::{
     amount_at, credit_reference_at, day_at, employer_at, purpose_at, serial_at,
 };
 use clear_columns::parameters::{amount, day, employer as firm, purpose as payment};
-use clear_columns::queries::list;
+use clear_columns::queries::{count, list};
 use clear_columns::ranges::is_serial;
 use clear_columns::rows::{StoredTable, begin_rows};
 use clear_money::days::Day;
 use clear_money::numbers::{Amount, EmployerNo};
 use clear_schema::fault::Fault;
-use clear_schema::statement::{look, put};
+use clear_schema::statement::put;
 use clear_schema::values::{number, text};
 use clear_values::causes::StoreCause;
 use clear_values::lines::Purpose;
@@ -176,12 +176,11 @@ pub fn credit_count<S: Alter>(
         (λ t count. count ≡ count_by (is_credit_of employer purpose) t.credits)
         (λ _. ⊤) (λ _. ⊥) }
 {
-    let rows = look(
+    count(
         tx,
         "SELECT 1 FROM credits WHERE employer = ?1 AND purpose = ?2",
         &[firm(employer), payment(purpose)],
-    )?;
-    Ok(rows.len() as u64)
+    )
 }
 
 /// The credits of a firm for a purpose, in the order of `credits_of`: `next_row` reads one at a
@@ -192,8 +191,7 @@ pub fn read_credits<S: Alter>(
     purpose: Purpose,
 ) -> Result<Rows<'_, S>, Error>
     ensures* refused { sem 𝓛 (RestsIfErr (the_row S.row S.Store) conn.entry
-        (λ rows. rows.conn.ghost_name) result
-        (IsLeft S.Store conn.old (HasSomeTables (state S.Store conn.old).now) result)) }
+        (λ rows. rows.conn.ghost_name) result (IsLeftOn S.Store conn.old result)) }
     ensures same_reference { IfOk result (λ rows. rows.conn.ghost_name ≡ conn.entry.ghost_name) }
     ensures begun { IfOk result (λ rows. ReadsOn S.Store conn.old rows.conn.now credit_shown
         (λ t. filter (is_credit_of employer purpose) t.credits)) }
@@ -205,9 +203,6 @@ pub fn read_credits<S: Alter>(
 pub struct Credits;
 
 impl StoredTable for Credits {
-    ghost use Rattle.clear_schema.specs.Values.{credit_shown};
-    ghost use Rattle.clear_values.specs.RowRanges.{IsCreditRow};
-
     type Row = CreditRow;
 
     ghost shown = { credit_shown };
@@ -231,9 +226,6 @@ impl StoredTable for Credits {
 pub struct CreditAmounts;
 
 impl StoredTable for CreditAmounts {
-    ghost use Rattle.clear_ledger.specs.Shown.{number_shown};
-    ghost use Rattle.clear_money.specs.Numbers.{IsAmount};
-
     type Row = Amount;
 
     ghost shown = { number_shown };

@@ -5,7 +5,7 @@
 //!
 //! Any call may be refused for want of memory or for a fault of the store, whatever the tables hold:
 //! so a body that only refuses meets the contract of each, and tests show that calls succeed.
-#![tactic(auto)]
+#![tactic(auto, using(clear_schema::proofs::FrameLemmas::writes_none))]
 
 pub mod bank;
 pub mod claims;

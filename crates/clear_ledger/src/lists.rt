@@ -2,13 +2,12 @@
 ghost use Rattle.std.specs.Borrow.{sem, RestsIfErr};
 ghost use Rattle.std.specs.Option.{option_to_list};
 ghost use Rattle.std.specs.Prelude.{◌≡◌, ◌↔◌, [], ◌∷◌, true, IsTrue, IfOk};
-ghost use Rattle.sqlite.specs.Held.{state};
 ghost use Rattle.sqlite.specs.Values.{bound};
 ghost use Rattle.sqlite.specs.contracts.connection.Connection.{the_row};
 ghost use Rattle.clear_values.specs.Keyed.{find_row, is_held, with_row};
 ghost use Rattle.clear_values.specs.RowRanges.{IsListRow, IsReply};
 ghost use Rattle.clear_values.specs.Tables.{list_key};
-ghost use Rattle.clear_columns.specs.Reading.{HasSomeTables, IsLeft, ReadsOn};
+ghost use Rattle.clear_columns.specs.Reading.{IsLeftOn, ReadsOn};
 ghost use Rattle.clear_schema.specs.Values.{list_shown};
 ghost use Rattle.clear_schema.specs.Frame.{Finds, Writes};
 
@@ -65,8 +64,7 @@ pub fn find_list<S: Alter>(
 /// there is one: `next_row` reads it.
 pub fn read_list<S: Alter>(conn: &mut Connection<S>, list: u32) -> Result<Rows<'_, S>, Error>
     ensures* refused { sem 𝓛 (RestsIfErr (the_row S.row S.Store) conn.entry
-        (λ rows. rows.conn.ghost_name) result
-        (IsLeft S.Store conn.old (HasSomeTables (state S.Store conn.old).now) result)) }
+        (λ rows. rows.conn.ghost_name) result (IsLeftOn S.Store conn.old result)) }
     ensures same_reference { IfOk result (λ rows. rows.conn.ghost_name ≡ conn.entry.ghost_name) }
     ensures begun { IfOk result (λ rows. ReadsOn S.Store conn.old rows.conn.now list_shown
         (λ t. option_to_list (find_row list_key t.lists (list ∷ [])))) }
@@ -78,9 +76,6 @@ pub fn read_list<S: Alter>(conn: &mut Connection<S>, list: u32) -> Result<Rows<'
 pub struct Lists;
 
 impl StoredTable for Lists {
-    ghost use Rattle.clear_schema.specs.Values.{list_shown};
-    ghost use Rattle.clear_values.specs.RowRanges.{IsListRow};
-
     type Row = ListRow;
 
     ghost shown = { list_shown };

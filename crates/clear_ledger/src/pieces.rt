@@ -1,13 +1,12 @@
 //! The pieces, by firm, month, day and serial: what each credit pays of each contribution.
 ghost use Rattle.std.specs.Borrow.{sem, RestsIfErr};
 ghost use Rattle.std.specs.Prelude.{◌≡◌, ◌↔◌, ◌==◌, false, true, filter, IfOk};
-ghost use Rattle.sqlite.specs.Held.{state};
 ghost use Rattle.sqlite.specs.Values.{bound};
 ghost use Rattle.sqlite.specs.contracts.connection.Connection.{the_row};
 ghost use Rattle.clear_values.specs.Keyed.{is_held, with_row, without_rows};
 ghost use Rattle.clear_values.specs.RowRanges.{IsPieceRow, IsSerial};
 ghost use Rattle.clear_values.specs.Tables.{is_piece_key_from, piece_key};
-ghost use Rattle.clear_columns.specs.Reading.{HasSomeTables, IsLeft, ReadsOn};
+ghost use Rattle.clear_columns.specs.Reading.{IsLeftOn, ReadsOn};
 ghost use Rattle.clear_schema.specs.Values.{piece_shown};
 ghost use Rattle.clear_ledger.specs.Shown.{first_piece_given};
 ghost use Rattle.clear_schema.specs.Frame.{Writes};
@@ -90,8 +89,7 @@ pub fn read_pieces<S: Alter>(
     employer: EmployerNo,
 ) -> Result<Rows<'_, S>, Error>
     ensures* refused { sem 𝓛 (RestsIfErr (the_row S.row S.Store) conn.entry
-        (λ rows. rows.conn.ghost_name) result
-        (IsLeft S.Store conn.old (HasSomeTables (state S.Store conn.old).now) result)) }
+        (λ rows. rows.conn.ghost_name) result (IsLeftOn S.Store conn.old result)) }
     ensures same_reference { IfOk result (λ rows. rows.conn.ghost_name ≡ conn.entry.ghost_name) }
     ensures begun { IfOk result (λ rows. ReadsOn S.Store conn.old rows.conn.now piece_shown
         (λ t. filter (λ row. row.employer == employer) t.pieces)) }
@@ -108,9 +106,6 @@ pub fn read_pieces<S: Alter>(
 pub struct Pieces;
 
 impl StoredTable for Pieces {
-    ghost use Rattle.clear_schema.specs.Values.{piece_shown};
-    ghost use Rattle.clear_values.specs.RowRanges.{IsPieceRow};
-
     type Row = PieceRow;
 
     ghost shown = { piece_shown };

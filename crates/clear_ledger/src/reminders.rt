@@ -2,14 +2,13 @@
 ghost use Rattle.std.specs.Borrow.{sem, RestsIfErr};
 ghost use Rattle.std.specs.List.{last_or};
 ghost use Rattle.std.specs.Prelude.{◌≡◌, ◌==◌, ◌↔◌, filter, true, IfOk, IfSome, None};
-ghost use Rattle.sqlite.specs.Held.{state};
 ghost use Rattle.sqlite.specs.Values.{bound};
 ghost use Rattle.sqlite.specs.contracts.connection.Connection.{the_row};
 ghost use Rattle.clear_money.specs.Calendar.{IsMonth};
 ghost use Rattle.clear_values.specs.Keyed.{is_held, with_row};
 ghost use Rattle.clear_values.specs.RowRanges.{IsReminderRow};
 ghost use Rattle.clear_values.specs.Tables.{reminder_key};
-ghost use Rattle.clear_columns.specs.Reading.{HasSomeTables, IsLeft, ReadsOn};
+ghost use Rattle.clear_columns.specs.Reading.{IsLeftOn, ReadsOn};
 ghost use Rattle.clear_schema.specs.Values.{reminder_shown};
 ghost use Rattle.clear_schema.specs.Frame.{Finds, Writes};
 
@@ -73,8 +72,7 @@ pub fn last_reminder<S: Alter>(
 /// The reminders of a run, in the order of their firms: `next_row` reads one at a time.
 pub fn read_reminders<S: Alter>(conn: &mut Connection<S>, run: RunNo) -> Result<Rows<'_, S>, Error>
     ensures* refused { sem 𝓛 (RestsIfErr (the_row S.row S.Store) conn.entry
-        (λ rows. rows.conn.ghost_name) result
-        (IsLeft S.Store conn.old (HasSomeTables (state S.Store conn.old).now) result)) }
+        (λ rows. rows.conn.ghost_name) result (IsLeftOn S.Store conn.old result)) }
     ensures same_reference { IfOk result (λ rows. rows.conn.ghost_name ≡ conn.entry.ghost_name) }
     ensures begun { IfOk result (λ rows. ReadsOn S.Store conn.old rows.conn.now reminder_shown
         (λ t. filter (λ row. row.run == run) t.reminders)) }
@@ -91,9 +89,6 @@ pub fn read_reminders<S: Alter>(conn: &mut Connection<S>, run: RunNo) -> Result<
 pub struct Reminders;
 
 impl StoredTable for Reminders {
-    ghost use Rattle.clear_schema.specs.Values.{reminder_shown};
-    ghost use Rattle.clear_values.specs.RowRanges.{IsReminderRow};
-
     type Row = ReminderRow;
 
     ghost shown = { reminder_shown };

@@ -2,13 +2,12 @@
 ghost use Rattle.std.specs.Borrow.{sem, RestsIfErr};
 ghost use Rattle.std.specs.Option.{option_to_list};
 ghost use Rattle.std.specs.Prelude.{◌≡◌, ◌↔◌, [], ◌∷◌, true, IsTrue, IfOk};
-ghost use Rattle.sqlite.specs.Held.{state};
 ghost use Rattle.sqlite.specs.Values.{bound};
 ghost use Rattle.sqlite.specs.contracts.connection.Connection.{the_row};
 ghost use Rattle.clear_values.specs.Keyed.{find_row, is_held, with_row};
 ghost use Rattle.clear_values.specs.RowRanges.{IsReply, IsRunRow};
 ghost use Rattle.clear_values.specs.Tables.{run_key};
-ghost use Rattle.clear_columns.specs.Reading.{HasSomeTables, IsLeft, ReadsOn};
+ghost use Rattle.clear_columns.specs.Reading.{IsLeftOn, ReadsOn};
 ghost use Rattle.clear_schema.specs.Values.{run_shown};
 ghost use Rattle.clear_schema.specs.Frame.{Finds, Writes};
 
@@ -61,8 +60,7 @@ pub fn find_run<S: Alter>(tx: &mut Transaction<'_, S>, run: RunNo) -> Result<Opt
 /// there is one: `next_row` reads it.
 pub fn read_run<S: Alter>(conn: &mut Connection<S>, run: u32) -> Result<Rows<'_, S>, Error>
     ensures* refused { sem 𝓛 (RestsIfErr (the_row S.row S.Store) conn.entry
-        (λ rows. rows.conn.ghost_name) result
-        (IsLeft S.Store conn.old (HasSomeTables (state S.Store conn.old).now) result)) }
+        (λ rows. rows.conn.ghost_name) result (IsLeftOn S.Store conn.old result)) }
     ensures same_reference { IfOk result (λ rows. rows.conn.ghost_name ≡ conn.entry.ghost_name) }
     ensures begun { IfOk result (λ rows. ReadsOn S.Store conn.old rows.conn.now run_shown
         (λ t. option_to_list (find_row run_key t.runs (run ∷ [])))) }
@@ -74,9 +72,6 @@ pub fn read_run<S: Alter>(conn: &mut Connection<S>, run: u32) -> Result<Rows<'_,
 pub struct Runs;
 
 impl StoredTable for Runs {
-    ghost use Rattle.clear_schema.specs.Values.{run_shown};
-    ghost use Rattle.clear_values.specs.RowRanges.{IsRunRow};
-
     type Row = RunRow;
 
     ghost shown = { run_shown };

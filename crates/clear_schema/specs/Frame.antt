@@ -1,6 +1,6 @@
 -- What a look at the tables and a change of them promise inside of a transaction, apart from that
 -- they give the connection back.
-use Rattle.std.specs.Prelude.{◌≡◌, ◌≢◌, ◌++◌, Bool, true, false, List, map, Option, Some, slice_get, Vec}
+use Rattle.std.specs.Prelude.{◌≡◌, ◌≢◌, ◌++◌, ⊤, Bool, true, false, List, length, map, Option, Some, slice_get, Vec}
 use Rattle.std.specs.Prelude.{ℕ, Result, Err, IfErr, IfOk, IfSome, IsTrue, OnOk}
 use Rattle.std.specs.List.{AllByRecursion}
 use Rattle.std.specs.declared.alloc.Global.{Global}
@@ -90,6 +90,13 @@ module _ {S X : Type 0} (g : Ghosts S) (old new : Held S) where
         Looks g old new Answers result
         (λ rows found. found.items ≡ rows) (λ found. AllByRecursion P found.items)
         (λ rows. ¬ AllByRecursion P rows)
+
+module _ {S : Type 0} (g : Ghosts S) (old new : Held S) (sql : List ℕ) (params : Row) where
+  -- the text is a query, and it is found how many rows it answers
+  abbrev pub CountsAll : Result ℕ Fault → Type 0
+  CountsAll result =
+      Looks g old new (AnswersJust g sql params (state g old).now) result
+      (λ rows found. found ≡ length rows) (λ _. ⊤) (λ _. ⊥)
 
 -- what reads of the tables that the database has leave
 pub record Leaves {S A E : Type 0} (g : Ghosts S) (old new : Held S) (result : Result A E) : Type 0

@@ -1,7 +1,7 @@
 //! The database that two files hold, and the one that a new store begins with.
 ghost use Rattle.std.specs.Prelude.{◌≡◌, false, [], IfErr, IfOk, IsTrue};
 ghost use Rattle.sqlite.specs.Files.{file_state, image_of, over_files, IsOpened};
-ghost use Rattle.sqlite.specs.Opening.{is_open_error};
+ghost use Rattle.sqlite.specs.Opening.{is_open_error, reported};
 ghost use Rattle.sqlite.specs.State.{HasCleanDisk};
 ghost use Rattle.sqlite.specs.Steps.{IsFresh};
 ghost use Rattle.sqlite_store.specs.FileStore.{view};
@@ -113,13 +113,15 @@ fn made_store<D: Disk + Drop>(
     }
 }
 
-// Why no database is made.
+// Why no database is made, as the kit's open tells it.
 fn error_of(error: OpenError) -> Error
-    ensures { IsTrue (is_open_error result) }
+    ensures named { IsTrue (is_open_error result) }
+    ensures value { result ≡ reported error }
 {
     Error::SqliteFailure(match error {
         OpenError::OutOfMemory => ErrorCode::OutOfMemory,
+        OpenError::Io => ErrorCode::SystemIoFailure,
         OpenError::Full => ErrorCode::DiskFull,
-        OpenError::Io | OpenError::Refused => ErrorCode::SystemIoFailure,
+        OpenError::Refused => ErrorCode::DatabaseCorrupt,
     })
 }

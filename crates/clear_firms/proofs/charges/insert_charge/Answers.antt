@@ -1,5 +1,4 @@
 use Rattle.std.proofs.Common.{refl, rules}
-use Rattle.clear_schema.proofs.FrameLemmas.{writes_none}
 use Rattle.clear_columns.proofs.KeyedTable.{puts}
 use Rattle.clear_firms.specs.Amounts.{AreInRange}
 use Rattle.clear_firms.proofs.ChargeTable.{charges, insert_says}
@@ -9,8 +8,3 @@ pub returns-clause-writes : goal.returns-clause-writes
 returns-clause-writes g c =
     let within : AreInRange c.args.row = search rules in
     puts charges g.S.Store c.args.tx.now.conn.now c.put.new.tx.conn.now insert_says c.args.row refl c.put.result _ (λ out. out within) (rw c.charge_values.ensures at c.put.ensures.runs)
-
-pub returns-then-not-are_in_range-clause-writes : goal.returns-then-not-are_in_range-clause-writes
-returns-then-not-are_in_range-clause-writes g c =
-    let out : ¬ AreInRange c.args.row = search rules in
-    writes_none g.S.Store c.args.tx.now.conn.now _ _ _ out

@@ -1,17 +1,7 @@
-use Rattle.std.proofs.Common.{◌∙◌, [], length, refl}
-use Rattle.std.proofs.lemmas.Result.{err_from_is_err_and}
-use Rattle.clear_columns.proofs.CountLemmas.{failed, told}
+use Rattle.std.proofs.Common.{[], length, refl}
+use Rattle.clear_columns.proofs.CountLemmas.{counted}
 use Rattle.clear_firms.proofs.EmployerTable.{answers_count, count}
 use Rattle.clear_firms.proofs.employers.employer_count.Goals as goal
 
 pub returns-clause-looks : goal.returns-clause-looks
-returns-clause-looks g c =
-    told g.S.Store c.args.tx.now.conn.now c.look.new.tx.conn.now count [] (λ t. t.employers) (λ t has. answers_count g.S.Store t _ has) (λ t. length t.employers) (λ t. refl)
-    _ c.in_ok-rows.rows.items (c.len.ensures ∙ c.in_ok-rows.rows.ok.0) c.in_ok-rows.ensures.shown c.in_ok-rows.ensures.survives
-
-pub returns-in_err-rows-clause-looks : goal.returns-in_err-rows-clause-looks
-returns-in_err-rows-clause-looks g c =
-    let it = c.in_err-rows.ensures in
-    let p = err_from_is_err_and c.from_residual.result c.from_residual.ensures.1 in
-    rw (p.1, p.2) (failed g.S.Store c.args.tx.now.conn.now c.look.new.tx.conn.now count [] (λ t. t.employers) (λ t has. answers_count g.S.Store t _ has) (λ t. length t.employers) (λ t. refl)
-    _ it.no_row it.broke it.kept it.survives)
+returns-clause-looks g c = counted g.S.Store c.args.tx.now.conn.now c.count.new.tx.conn.now count [] (λ t. t.employers) (λ t has. answers_count g.S.Store t _ has) (λ t. length t.employers) (λ t. refl) c.count.result c.count.ensures.looks

@@ -1,6 +1,5 @@
 use Rattle.std.proofs.Common.{◌≤◌, refl, rules}
 use Rattle.clear_values.specs.Limits.{most_versions}
-use Rattle.clear_schema.proofs.FrameLemmas.{writes_none}
 use Rattle.clear_columns.proofs.KeyedTable.{puts}
 use Rattle.clear_firms.proofs.ReportTable.{insert_says, reports}
 use Rattle.clear_firms.proofs.reports.insert_report.Goals as goal
@@ -9,8 +8,3 @@ pub returns-clause-writes : goal.returns-clause-writes
 returns-clause-writes g c =
     let within : (1 ≤ c.args.row.version) × (c.args.row.version ≤ most_versions) = search rules in
     puts reports g.S.Store c.args.tx.now.conn.now c.put.new.tx.conn.now insert_says c.args.row refl c.put.result _ (λ out. out within) (rw c.report_values.ensures at c.put.ensures.runs)
-
-pub returns-then-not-is_version-clause-writes : goal.returns-then-not-is_version-clause-writes
-returns-then-not-is_version-clause-writes g c =
-    let out : ¬ ((1 ≤ c.args.row.version) × (c.args.row.version ≤ most_versions)) = search rules in
-    writes_none g.S.Store c.args.tx.now.conn.now _ _ _ out

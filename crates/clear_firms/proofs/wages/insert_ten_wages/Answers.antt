@@ -1,7 +1,6 @@
 use Rattle.std.proofs.Common.{◌≤◌, rules}
 use Rattle.std.specs.List.{AllByRecursion}
 use Rattle.clear_values.specs.Limits.{most_gross}
-use Rattle.clear_schema.proofs.FrameLemmas.{writes_none}
 use Rattle.clear_firms.proofs.WageTable.{puts_ten}
 use Rattle.clear_firms.proofs.wages.insert_ten_wages.Goals as goal
 
@@ -9,8 +8,3 @@ pub returns-clause-writes : goal.returns-clause-writes
 returns-clause-writes g c =
     let within : AllByRecursion (λ line. line.gross ≤ most_gross) c.args.lines.now = search rules in
     puts_ten g.S.Store c.args.tx.now.conn.now c.put.new.tx.conn.now c.args.no c.args.at c.args.lines.now c.requires.ten c.put.result _ (λ out. out within) (rw c.ten_values.ensures at c.put.ensures.runs)
-
-pub returns-then-not-are_gross-clause-writes : goal.returns-then-not-are_gross-clause-writes
-returns-then-not-are_gross-clause-writes g c =
-    let out : ¬ AllByRecursion (λ line. line.gross ≤ most_gross) c.args.lines.now = search rules in
-    writes_none g.S.Store c.args.tx.now.conn.now _ _ _ out

@@ -1,6 +1,5 @@
 use Rattle.std.proofs.Common.{◌≤◌, refl, rules}
 use Rattle.clear_values.specs.Limits.{most_gross}
-use Rattle.clear_schema.proofs.FrameLemmas.{writes_none}
 use Rattle.clear_columns.proofs.KeyedTable.{puts}
 use Rattle.clear_firms.proofs.WageTable.{insert_says, wages}
 use Rattle.clear_firms.proofs.wages.insert_wage.Goals as goal
@@ -9,8 +8,3 @@ pub returns-clause-writes : goal.returns-clause-writes
 returns-clause-writes g c =
     let within : c.args.row.gross ≤ most_gross = search rules in
     puts wages g.S.Store c.args.tx.now.conn.now c.put.new.tx.conn.now insert_says c.args.row refl c.put.result _ (λ out. out within) (rw c.wage_values.ensures at c.put.ensures.runs)
-
-pub returns-then-not-is_gross-clause-writes : goal.returns-then-not-is_gross-clause-writes
-returns-then-not-is_gross-clause-writes g c =
-    let out : ¬ (c.args.row.gross ≤ most_gross) = search rules in
-    writes_none g.S.Store c.args.tx.now.conn.now _ _ _ out

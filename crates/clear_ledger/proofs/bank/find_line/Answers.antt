@@ -8,5 +8,4 @@ use Rattle.clear_ledger.proofs.bank.find_line.Goals as goal
 
 pub returns-clause-looks : goal.returns-clause-looks
 returns-clause-looks g c =
-    let k = c.args.reference.now in
-    finds_one bank g.S.Store c.args.tx.now.conn.now c.find.new.tx.conn.now (Text k ∷ []) bank_shown k (of_reference k []) get_says (λ _. refl) IsBankRow c.find.result (rw (c.text.ensures, c.as_str.ensures.value) at c.find.ensures.looks)
+    finds_one bank g.S.Store c.args.tx.now.conn.now c.find.new.tx.conn.now (Text c.args.reference.now ∷ []) bank_shown c.args.reference.now (of_reference c.args.reference.now []) get_says (λ _. refl) IsBankRow c.find.result (rw (c.text.ensures, c.as_str.ensures.value) at c.find.ensures.looks)

@@ -1,5 +1,5 @@
 use Rattle.std.proofs.Common.{filter, refl}
-use Rattle.clear_columns.proofs.ReadingLemmas.{left_on, reads_on}
+use Rattle.clear_columns.proofs.ReadingLemmas.{begins_on}
 use Rattle.clear_ledger.proofs.ClaimTable.{answers_on}
 use Rattle.clear_values.specs.Payouts.{is_on}
 use Rattle.clear_ledger.specs.Shown.{claim_shown}
@@ -7,8 +7,5 @@ use Rattle.clear_ledger.proofs.claims.read_listed.Goals as goal
 
 pub returns : goal.returns
 returns g c =
-    let old = c.args.conn.now in
-    let made = c.begin_rows.result in (
-      (refl, c.begin_rows.follows.holds, left_on g.S.Store old _ _ _ _ (λ t has. answers_on g.S.Store t _ has c.args.on) made c.begin_rows.follows.holds-at-none),
-      record { refused = tt; same_reference = c.begin_rows.ensures.same_reference; begun = reads_on g.S.Store old _ _ _ claim_shown (λ t. filter (λ row. is_on c.args.on row.state) t.claims) (λ t has. answers_on g.S.Store t _ has c.args.on) made (rw c.list_no.ensures at c.begin_rows.ensures.begun) },
-    )
+    let it = begins_on g.S.Store c.args.conn.now _ _ _ _ claim_shown (λ t. filter (λ row. is_on c.args.on row.state) t.claims) (λ t has. answers_on g.S.Store t _ has c.args.on) c.begin_rows.result c.begin_rows.follows.holds-at-none (rw c.list_no.ensures at c.begin_rows.ensures.begun) in
+    ((refl, c.begin_rows.follows.holds, it.0), record { refused = tt; same_reference = c.begin_rows.ensures.same_reference; begun = it.1 })

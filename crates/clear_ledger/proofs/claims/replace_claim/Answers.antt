@@ -1,6 +1,5 @@
 use Rattle.std.proofs.Common.{refl, rules}
 use Rattle.clear_values.specs.RowRanges.{IsClaimRow}
-use Rattle.clear_schema.proofs.FrameLemmas.{writes_none}
 use Rattle.clear_columns.proofs.NumberedTable.{replaces}
 use Rattle.clear_ledger.proofs.ClaimTable.{claims, update_says}
 use Rattle.clear_ledger.proofs.claims.replace_claim.Goals as goal
@@ -10,8 +9,3 @@ returns-clause-writes g c =
     let row = c.args.row.now in
     let within : IsClaimRow row = search rules in
     replaces claims row _ refl (λ n. record row { claim = n }) (λ _. refl) refl g.S.Store c.args.tx.now.conn.now c.put.new.tx.conn.now update_says (λ _. refl) (λ _. tt) c.put.result _ (λ out. out within) (rw c.claim_values.ensures at c.put.ensures.runs)
-
-pub returns-then-not-is_claim_row-clause-writes : goal.returns-then-not-is_claim_row-clause-writes
-returns-then-not-is_claim_row-clause-writes g c =
-    let out : ¬ IsClaimRow c.args.row.now = search rules in
-    writes_none g.S.Store c.args.tx.now.conn.now _ _ _ out

@@ -1,7 +1,6 @@
 use Rattle.std.proofs.Common.{refl, rules}
 use Rattle.clear_values.specs.RowRanges.{IsSerial}
 use Rattle.clear_ledger.proofs.CreditTable.{credits, insert_says}
-use Rattle.clear_schema.proofs.FrameLemmas.{writes_none}
 use Rattle.clear_columns.proofs.KeyedTable.{puts}
 use Rattle.clear_ledger.proofs.credits.insert_credit.Goals as goal
 
@@ -9,8 +8,3 @@ pub returns-clause-writes : goal.returns-clause-writes
 returns-clause-writes g c =
     let within : IsSerial c.args.row.now.serial = search rules in
     puts credits g.S.Store c.args.tx.now.conn.now c.put.new.tx.conn.now insert_says c.args.row.now refl c.put.result _ (λ out. out within) (rw c.credit_values.ensures at c.put.ensures.runs)
-
-pub returns-then-not-is_serial-clause-writes : goal.returns-then-not-is_serial-clause-writes
-returns-then-not-is_serial-clause-writes g c =
-    let out : ¬ IsSerial c.args.row.now.serial = search rules in
-    writes_none g.S.Store c.args.tx.now.conn.now _ _ _ out

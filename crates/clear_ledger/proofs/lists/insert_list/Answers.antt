@@ -1,7 +1,6 @@
 use Rattle.std.proofs.Common.{refl, rules}
 use Rattle.clear_values.specs.RowRanges.{IsListRow}
 use Rattle.clear_ledger.proofs.ListTable.{insert_says, lists}
-use Rattle.clear_schema.proofs.FrameLemmas.{writes_none}
 use Rattle.clear_columns.proofs.NumberedTable.{puts}
 use Rattle.clear_ledger.proofs.lists.insert_list.Goals as goal
 
@@ -9,8 +8,3 @@ pub returns-clause-writes : goal.returns-clause-writes
 returns-clause-writes g c =
     let within : IsListRow c.args.row.now = search rules in
     puts lists g.S.Store c.args.tx.now.conn.now c.put.new.tx.conn.now insert_says c.args.row.now refl (λ xs. tt) c.put.result _ (λ out. out within) (rw c.list_values.ensures at c.put.ensures.runs)
-
-pub returns-then-not-is_list_row-clause-writes : goal.returns-then-not-is_list_row-clause-writes
-returns-then-not-is_list_row-clause-writes g c =
-    let out : ¬ IsListRow c.args.row.now = search rules in
-    writes_none g.S.Store c.args.tx.now.conn.now _ _ _ out

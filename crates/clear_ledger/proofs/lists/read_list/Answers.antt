@@ -1,5 +1,5 @@
 use Rattle.std.proofs.Common.{[], ◌∷◌, refl}
-use Rattle.clear_columns.proofs.ReadingLemmas.{left_on, reads_on}
+use Rattle.clear_columns.proofs.ReadingLemmas.{begins_on}
 use Rattle.std.specs.Option.{option_to_list}
 use Rattle.clear_values.specs.Keyed.{find_row}
 use Rattle.clear_values.specs.Tables.{list_key}
@@ -10,8 +10,5 @@ use Rattle.clear_ledger.proofs.lists.read_list.Goals as goal
 
 pub returns : goal.returns
 returns g c =
-    let old = c.args.conn.now in
-    let made = c.begin_rows.result in (
-      (refl, c.begin_rows.follows.holds, left_on g.S.Store old _ _ _ _ (λ t has. answers_one lists g.S.Store get_says c.args.list (λ _. refl) t _ has) made c.begin_rows.follows.holds-at-none),
-      record { refused = tt; same_reference = c.begin_rows.ensures.same_reference; begun = reads_on g.S.Store old _ _ _ list_shown (λ t. option_to_list (find_row list_key t.lists (c.args.list ∷ []))) (λ t has. answers_one lists g.S.Store get_says c.args.list (λ _. refl) t _ has) made (rw (c.number.ensures, c.from.ensures) at c.begin_rows.ensures.begun) },
-    )
+    let it = begins_on g.S.Store c.args.conn.now _ _ _ _ list_shown (λ t. option_to_list (find_row list_key t.lists (c.args.list ∷ []))) (λ t has. answers_one lists g.S.Store get_says c.args.list (λ _. refl) t _ has) c.begin_rows.result c.begin_rows.follows.holds-at-none (rw (c.number.ensures, c.from.ensures) at c.begin_rows.ensures.begun) in
+    ((refl, c.begin_rows.follows.holds, it.0), record { refused = tt; same_reference = c.begin_rows.ensures.same_reference; begun = it.1 })

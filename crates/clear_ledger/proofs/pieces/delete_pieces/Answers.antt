@@ -1,6 +1,5 @@
 use Rattle.std.proofs.Common.{refl, rules}
 use Rattle.clear_values.specs.RowRanges.{IsSerial}
-use Rattle.clear_schema.proofs.FrameLemmas.{writes_none}
 use Rattle.clear_columns.proofs.KeyedTable.{drops}
 use Rattle.clear_ledger.specs.Shown.{first_piece_given}
 use Rattle.clear_ledger.proofs.PieceTable.{delete_says, goes_from, is_from, pieces}
@@ -11,8 +10,3 @@ returns-clause-writes g c =
     let from = c.args.from.now in
     let within : IsSerial c.args.from.now.serial = search rules in
     drops pieces g.S.Store c.args.tx.now.conn.now c.put.new.tx.conn.now delete_says (first_piece_given from) (is_from from) (goes_from from) (λ _. refl) c.put.result _ (λ out. out within) (rw c.first_values.ensures at c.put.ensures.runs)
-
-pub returns-then-not-is_serial-clause-writes : goal.returns-then-not-is_serial-clause-writes
-returns-then-not-is_serial-clause-writes g c =
-    let out : ¬ IsSerial c.args.from.now.serial = search rules in
-    writes_none g.S.Store c.args.tx.now.conn.now _ _ _ out

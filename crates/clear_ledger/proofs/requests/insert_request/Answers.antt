@@ -1,7 +1,6 @@
 use Rattle.std.proofs.Common.{refl, rules}
 use Rattle.clear_values.specs.RowRanges.{IsReply}
-use Rattle.clear_ledger.specs.Kept.{as_kept, row_of}
-use Rattle.clear_schema.proofs.FrameLemmas.{writes_none}
+use Rattle.clear_ledger.specs.Kept.{row_of}
 use Rattle.clear_columns.proofs.KeyedTable.{puts}
 use Rattle.clear_ledger.proofs.RequestTable.{insert_says, requests}
 use Rattle.clear_ledger.proofs.requests.insert_request.Goals as goal
@@ -9,9 +8,4 @@ use Rattle.clear_ledger.proofs.requests.insert_request.Goals as goal
 pub returns-clause-writes : goal.returns-clause-writes
 returns-clause-writes g c =
     let within : IsReply c.args.request.now.reply = search rules in
-    puts requests g.S.Store c.args.tx.now.conn.now c.put.new.tx.conn.now insert_says (row_of c.args.caller c.args.number (as_kept c.args.request.now)) refl c.put.result _ (λ out. out within) (rw c.request_values.ensures at c.put.ensures.runs)
-
-pub returns-then-not-is_reply-clause-writes : goal.returns-then-not-is_reply-clause-writes
-returns-then-not-is_reply-clause-writes g c =
-    let out : ¬ IsReply c.args.request.now.reply = search rules in
-    writes_none g.S.Store c.args.tx.now.conn.now _ _ _ out
+    puts requests g.S.Store c.args.tx.now.conn.now c.put.new.tx.conn.now insert_says (row_of c.args.caller c.args.number c.args.request.now) refl c.put.result _ (λ out. out within) (rw c.request_values.ensures at c.put.ensures.runs)

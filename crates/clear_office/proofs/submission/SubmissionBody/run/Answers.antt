@@ -4,7 +4,6 @@ use Rattle.clear_book.specs.Book.{request_number}
 use Rattle.clear_book.specs.Keyed.{find_row}
 use Rattle.clear_book.specs.Tables.{request_key}
 use Rattle.clear_laws.proofs.RowRangeLemmas.{rows_in_range}
-use Rattle.clear_ledger.specs.Kept.{as_kept}
 use Rattle.clear_views.proofs.ReadLemmas.{still, was_clean}
 use Rattle.clear_office.specs.Bodies.{IsUnused, call_of}
 use Rattle.clear_office.proofs.RepeatLemmas.{did_again, does_again, kept_row, no_row, request_fails}
@@ -16,7 +15,7 @@ returns-in-Some-clause-did g c clean t has =
     let origin = c.args.self.origin.now in
     let command = c.args.self.command.now in
     let new = state g.S.Store c.find_request.new.tx.conn.now in
-    let kept = as_kept c.in-Some.kept in
+    let kept = c.in-Some.kept in
     let here = kept_row (find_row request_key t.requests (request_number origin.caller origin.number)) kept (rw c.in-Some.is at (c.in_ok-kept.ensures.looks.found clean t has)) in
     did_again origin.caller origin.number origin.day command t here.0 here.1 new.now (still t _ new (c.in_ok-kept.ensures.looks.same clean t has) has) kept here.2 c.repeat.result c.repeat.ensures
 
@@ -25,7 +24,7 @@ returns-in-Some-clause-refused g c clean t has =
     let origin = c.args.self.origin.now in
     let command = c.args.self.command.now in
     let new = state g.S.Store c.find_request.new.tx.conn.now in
-    let kept = as_kept c.in-Some.kept in
+    let kept = c.in-Some.kept in
     let here = kept_row (find_row request_key t.requests (request_number origin.caller origin.number)) kept (rw c.in-Some.is at (c.in_ok-kept.ensures.looks.found clean t has)) in
     refused (call_of origin command) t new.now c.repeat.result
     (does_again origin.caller origin.number origin.day command t here.0 here.1 new.now (still t _ new (c.in_ok-kept.ensures.looks.same clean t has) has) kept here.2 c.repeat.result c.repeat.ensures)
@@ -35,7 +34,7 @@ returns-in-Some-clause-failed g c clean t has =
     let origin = c.args.self.origin.now in
     let command = c.args.self.command.now in
     let new = state g.S.Store c.find_request.new.tx.conn.now in
-    let kept = as_kept c.in-Some.kept in
+    let kept = c.in-Some.kept in
     let here = kept_row (find_row request_key t.requests (request_number origin.caller origin.number)) kept (rw c.in-Some.is at (c.in_ok-kept.ensures.looks.found clean t has)) in
     failed (call_of origin command) t new.now c.repeat.result
     (does_again origin.caller origin.number origin.day command t here.0 here.1 new.now (still t _ new (c.in_ok-kept.ensures.looks.same clean t has) has) kept here.2 c.repeat.result c.repeat.ensures)
