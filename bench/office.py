@@ -8,7 +8,9 @@ is sent one request after another: 800 reports of 200 firms, once each firm with
 follow one another, and once all firms with the same 500, so that each line goes to another place of the index by
 workers; and nine imports of 10,000 lines each, half of them for a firm and half for nobody. Each figure is the
 processor time of the program: the median of ten requests, but for the imports, which stand for themselves. The status
-is 1 where a report costs more than twice the 10th, or an import more than twice the first.
+is 1 where a report costs more than twice the 10th, or an import more than twice the first. Other work on the machine can
+double what it meets for seconds, so where something costs that much, all is measured again, three times at most, and the
+least of each figure counts.
 
 The files lie below FOLDER, /dev/shm where there is one, so that the figures are the program's and not the disk's.
 """
@@ -22,8 +24,9 @@ sys.dont_write_bytecode = True
 from server import HEADER, Server, option_parser  # noqa: E402
 from suspense import DAY, Desk, FIRST  # noqa: E402
 
-# A request may cost so many times what an early one does.
+# A request may cost so many times what an early one does, in so many rounds.
 MOST = 2
+ROUNDS = 3
 FIRMS = 200
 MONTHS = ["2024-01", "2024-02", "2024-03", "2024-04"]
 LINES = 500
@@ -97,42 +100,61 @@ def time_imports(desk):
 
 
 def tell_reports(whose, times):
-    """Prints what reports take, and gives their ratios to the 10th."""
+    """Prints what reports take, and gives it for each place."""
     print(f"{len(times)} reports of {LINES} lines, {whose}: {sum(times) / 1000:.1f} s")
     found = [median(times[place - 5:place + 5]) for place in PLACES]
     for place, here in zip(PLACES, found):
         print(f"  around report {place}: {here:.2f} ms, {here / found[0]:.2f} of the 10th")
-    return [here / found[0] for here in found]
+    return found
 
 
 def tell_imports(times):
     print(f"{IMPORTS} imports of {FILE_LINES} lines: {sum(times) / 1000:.1f} s")
     for count, here in enumerate(times, 1):
         print(f"  import {count}: {here:.0f} ms, {here / times[0]:.2f} of the first")
-    return [here / times[0] for here in times]
+    return times
 
 
 def measure(kind, what, program, folder):
-    """Prints what requests take where the program serves them so, and gives the ratios."""
+    """Prints what requests take where the program serves them so, and gives the figures, row by row."""
     print(what, flush=True)
-    ratios = []
+    rows = []
     for name, whose, first in WORKERS:
         desk = desk_of(kind, program, f"{folder}/{name}")
-        ratios += tell_reports(whose, time_reports(desk, first))
+        rows.append(tell_reports(whose, time_reports(desk, first)))
         desk.server.stop()
     desk = desk_of(kind, program, f"{folder}/imports")
-    ratios += tell_imports(time_imports(desk))
+    rows.append(tell_imports(time_imports(desk)))
     desk.server.stop()
-    return ratios
+    return rows
+
+
+def worst(rows):
+    """How many times the first figure of its row a figure is."""
+    return max(figure / row[0] for row in rows for figure in row)
+
+
+def least(rows, others):
+    return [[min(pair) for pair in zip(row, other)] for row, other in zip(rows, others)]
+
+
+def measure_by_rounds(kind, what, program, folder):
+    """The worst ratio, by the least of each figure."""
+    rows = measure(kind, what, program, f"{folder}-1")
+    for again in range(2, ROUNDS + 1):
+        if worst(rows) > MOST:
+            print(f"{worst(rows):.2f} times; once more")
+            rows = least(rows, measure(kind, what, program, f"{folder}-{again}"))
+    return worst(rows)
 
 
 def main():
     given = option_parser(__doc__).parse_args()
     with tempfile.TemporaryDirectory(dir=given.folder) as folder:
-        ratios = [ratio for name, (kind, what) in KINDS.items()
-                  for ratio in measure(kind, what, given.program, f"{folder}/{name}")]
-    if max(ratios) > MOST:
-        sys.exit(f"a request costs {max(ratios):.2f} times what an early one does")
+        found = max(measure_by_rounds(kind, what, given.program, f"{folder}/{name}")
+                    for name, (kind, what) in KINDS.items())
+    if found > MOST:
+        sys.exit(f"a request costs {found:.2f} times what an early one does")
 
 
 if __name__ == "__main__":
