@@ -9,7 +9,7 @@ follow one another, and once all firms with the same 500, so that each line goes
 workers; and nine imports of 10,000 lines each, half of them for a firm and half for nobody. Each figure is the
 processor time of the program: the median of ten requests, but for the imports, which stand for themselves. The status
 is 1 where a report costs more than twice the 10th, or an import more than twice the first. Other work on the machine can
-double what it meets for seconds, so where something costs that much, all is measured again, three times at most, and the
+double what it meets for seconds, so where something costs that much, all is measured again, five times at most, and the
 least of each figure counts.
 
 The files lie below FOLDER, /dev/shm where there is one, so that the figures are the program's and not the disk's.
@@ -26,7 +26,7 @@ from suspense import DAY, Desk, FIRST  # noqa: E402
 
 # A request may cost so many times what an early one does, in so many rounds.
 MOST = 2
-ROUNDS = 3
+ROUNDS = 6
 FIRMS = 200
 MONTHS = ["2024-01", "2024-02", "2024-03", "2024-04"]
 LINES = 500
