@@ -17,6 +17,10 @@ pub struct Charge {
 impl Charge {
     /// The greatest contribution for a month.
     pub const MAX_CENTS: u64 = 5_000_000_000;
+
+    /// The greatest weight of a contribution, in cents: the greatest one, once for each of 2,412 begun
+    /// months.
+    pub const MAX_WEIGHT: u64 = 12_060_000_000_000;
 }
 
 /// A payment of a firm, or what was set off for it.

@@ -69,7 +69,7 @@ pub trait Keeper {
     fn weight_of(&self, month: Month, day: Day) -> Option<u64>
         requires { last_day (credits self.now) ≤ day }
         ensures value { result ≡ weight_of (charges self.now) (credits self.now) month day }
-        ensures range { IfSome result (λ weight. weight ≤ 12_060_000_000_000) };
+        ensures range { IfSome result (λ weight. weight ≤ Charge.MAX_WEIGHT) };
 
     /// The day of the last payment, or 2000-01-01 without one.
     fn last_day(&self) -> Day

@@ -17,7 +17,7 @@ pub(crate) fn weigh(charges: &[Charge], credits: &[Credit], place: usize, day: D
     requires place { place < length charges.now }
     requires day { All (λ k. k.day ≤ day) credits.now }
     ensures value { result ≡ weight_on charges.now credits.now place day }
-    ensures range { result ≤ 12_060_000_000_000 }
+    ensures range { result ≤ Charge.MAX_WEIGHT }
 {
     let start = add_charges(&charges[..place]);
     let charge = &charges[place];

@@ -53,7 +53,7 @@ ReadsOn g old new show rows =
     Begun g old new (HasSomeTables (state g old).now) (λ t. HasTables t (state g old).now) show
     rows
 
--- what a connection is left as where a query does not begin
+-- what a connection is left as where a query does not begin; a text that only asks changes nothing
 pub record IsLeft {S A : Type 0} (g : Ghosts S) (old : Held S) (asks : Type 0)
     (result : Result A Error) (new : Held S) : Type 0 where
   pub cause : asks → HasCleanDisk (state g new)
@@ -63,7 +63,7 @@ pub record IsLeft {S A : Type 0} (g : Ghosts S) (old : Held S) (asks : Type 0)
   pub mode : old.in_transaction ≡ false → new.in_transaction ≡ false
   pub survives : asks → Survives (state g old) (state g new) (λ _. ⊥)
 
--- where one does not that only asks for rows of the tables
+-- what a connection is left as where a query for rows of the tables does not begin
 abbrev pub IsLeftOn : {S A : Type 0} → Ghosts S → Held S → Result A Error → Held S → Type 0
 IsLeftOn g old result = IsLeft g old (HasSomeTables (state g old).now) result
 

@@ -6,21 +6,11 @@ ghost use Rattle.clear_values.specs.Limits.{most_entries, most_gross, most_inter
 ghost use Rattle.clear_values.specs.Limits.{most_versions, most_weight};
 ghost use Rattle.clear_values.specs.RowRanges.{IsSerial};
 
+use clear_money::months::Month;
 use clear_values::limits::{
-    MAX_BASE, MAX_EMPLOYERS, MAX_ENTRIES, MAX_GROSS, MAX_SERIALS, MAX_VERSIONS, MAX_WEIGHT,
+    MAX_BASE, MAX_CHARGED, MAX_CLAIMED, MAX_EMPLOYERS, MAX_ENTRIES, MAX_GROSS, MAX_INTEREST,
+    MAX_SERIALS, MAX_VERSIONS, MAX_WEIGHT,
 };
-
-// All claims, in cents: 50,000,000 claims of 100,000,000,000 cents.
-const MAX_CLAIMED: u64 = 5_000_000_000_000_000_000;
-
-// The months from 2000-01 to 2199-12.
-const MAX_MONTHS: u32 = 2_400;
-
-// All contributions of a firm, in cents: those months of the greatest base.
-const MAX_CHARGED: u64 = 12_000_000_000_000;
-
-// All interest of a firm, in cents: 10 percent of these for each of 2,412 begun months.
-const MAX_INTEREST: u64 = 2_894_400_000_000_000;
 
 /// Whether a report can have this version, 1 to 10,000.
 pub fn is_version(number: u32) -> bool
@@ -68,7 +58,7 @@ pub fn is_firm_count(number: u64) -> bool
 pub fn is_month_count(number: u32) -> bool
     ensures { (result ≡ true) ↔ (number ≤ length months) }
 {
-    number <= MAX_MONTHS
+    number <= Month::COUNT as u32
 }
 
 /// Whether the contributions of a firm can come to this, at most 12,000,000,000,000 cents.

@@ -5,6 +5,7 @@ ghost use Rattle.clear_kept.specs.Owing.{interest_in, open_in, row_interest};
 ghost use Rattle.clear_account.specs.Interest.{interest_rate};
 
 use crate::rows::WeighedCharge;
+use clear_account::entries::Charge;
 use clear_money::days::{Day, begun_months};
 use clear_money::months::Month;
 use clear_money::rates::RateTable;
@@ -40,7 +41,7 @@ impl WeighedCharges {
         ensures value { IfSome result (λ kept. kept ≡ rows.items) }
         ensures some { AreWeighedInRange rows.items → IsSome result }
     {
-        if rows.len() > 2_400 || !are_weighed(rows.as_slice()) {
+        if rows.len() > Month::COUNT as usize || !are_weighed(rows.as_slice()) {
             return None;
         }
         Some(WeighedCharges { rows })
@@ -103,9 +104,9 @@ fn is_weighed(row: &WeighedCharge) -> bool
     ensures { IsTrue result ↔ IsWeighedInRange row.now }
 {
     row.due.day_of_month() <= 28
-        && row.cents <= 5_000_000_000
-        && row.left <= 5_000_000_000
-        && row.weight <= 12_060_000_000_000
+        && row.cents <= Charge::MAX_CENTS
+        && row.left <= Charge::MAX_CENTS
+        && row.weight <= Charge::MAX_WEIGHT
 }
 
 // All charges, in cents.

@@ -35,6 +35,9 @@ impl Month {
     /// The number of 2199-12, the last month.
     pub const LAST_NUMBER: u16 = 26_399;
 
+    /// How many months there are.
+    pub const COUNT: u16 = 2_400;
+
     /// The month of a number: twelve times the year, and the months of the year before it. None
     /// outside 2000-01 to 2199-12.
     pub fn from_number(number: u16) -> Option<Month>

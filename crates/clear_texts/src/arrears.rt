@@ -5,6 +5,7 @@ ghost use Rattle.clear_book.specs.Accounts.{row_credit};
 ghost use Rattle.clear_book.specs.Limits.{most_credits};
 ghost use Rattle.clear_texts.specs.Told.{interest_owed};
 
+use clear_book::limits::MAX_CREDITED;
 use clear_book::rows::CreditRow;
 use clear_kept::owing::WeighedCharges;
 use clear_money::days::Day;
@@ -12,8 +13,8 @@ use clear_money::rates::RateTable;
 
 /// The interest of all charges up to a day that no payment comes after, less all credits for
 /// interest, at least 0, in cents. None where the credits before one already come to more than
-/// 10,000,000,000,000,000 cents, as those of an account never do. It takes a walk along the rates,
-/// from the newest on, for each charge, and one step for each credit.
+/// `MAX_CREDITED`, as those of an account never do. It takes a walk along the rates, from the newest
+/// on, for each charge, and one step for each credit.
 pub fn interest_arrears(
     rates: &RateTable,
     charges: &WeighedCharges,
@@ -31,14 +32,14 @@ pub fn interest_arrears(
 }
 
 /// The sum of credits, in cents. None where the credits before one already come to more than
-/// 10,000,000,000,000,000 cents, as those of an account never do.
+/// `MAX_CREDITED`, as those of an account never do.
 pub fn add_credits(credits: &[CreditRow]) -> Option<u64>
     ensures some { length credits.now ≤ most_credits → IsSome result }
     ensures value { IfSome result (λ sum. sum ≡ credited (map row_credit credits.now)) }
 {
     let mut sum = 0;
     for credit in credits {
-        if sum > 10_000_000_000_000_000 {
+        if sum > MAX_CREDITED {
             return None;
         }
         sum += credit.cents.cents();

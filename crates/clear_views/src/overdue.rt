@@ -104,7 +104,7 @@ fn overdue_on(
 fn month_count(months: &[Month]) -> u32
     ensures { length months.now ≤ 2400 → result ≡ length months.now }
 {
-    months.len().min(2_400) as u32
+    months.len().min(Month::COUNT as usize) as u32
 }
 
 /// Whether a day comes before the ledger day of these counts.

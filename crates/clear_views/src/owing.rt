@@ -19,6 +19,7 @@ ghost use Rattle.clear_views.specs.Owing.{credited_by, HasKept};
 ghost use Rattle.clear_views.specs.Reads.{LeavesOpen};
 
 use clear_bank::lines::Purpose;
+use clear_book::limits::MAX_CREDITED;
 use clear_book::rows::KeptCharge;
 use clear_book::rules::StoreCause;
 use clear_firms::charges::charges_of;
@@ -154,14 +155,15 @@ fn add_paid<S: Alter>(tx: &mut Transaction<'_, S>, employer: EmployerNo) -> Resu
     }
 }
 
-// The sum of amounts, in cents. None of a sum that the credits of an account don't reach.
+// The sum of amounts, in cents. None where those before one already come to more than `MAX_CREDITED`,
+// as the credits of an account never do.
 fn add_amounts(amounts: &[Amount]) -> Option<u64>
     ensures some { length amounts.now ≤ most_credits → IsSome result }
     ensures value { IfSome result (λ cents. cents ≡ sum amounts.now) }
 {
     let mut sum = 0;
     for amount in amounts {
-        if sum > 10_000_000_000_000_000 {
+        if sum > MAX_CREDITED {
             return None;
         }
         sum += amount.cents();
