@@ -9,7 +9,7 @@ use Rattle.clear_rows.proofs.Inside.{keeps_both, keeps_none, survives_both, surv
 use Rattle.clear_schema.specs.Frame.{GoesOn, Leaves}
 use Rattle.clear_schema.specs.Held.{HasTables}
 use Rattle.clear_schema.specs.declared.fault.Fault.{Fault}
-use Rattle.clear_views.proofs.ReadLemmas.{goes_on, left_has, was_clean}
+use Rattle.clear_debts.proofs.ReadLemmas.{goes_on, left_has, was_clean}
 use Rattle.clear_pieces.specs.Allocates.{Alters, HasAltered}
 
 module _ {S A : Type 0} (g : Ghosts S) (now : Held S) where

@@ -23,11 +23,11 @@ use Rattle.clear_book.specs.Tables.{Tables, Stands, employer_key, member_in, rep
 use Rattle.clear_laws.proofs.KeyedLemmas.{found_key}
 use Rattle.clear_texts.specs.Records.{AreStatementRecords, ChargesRise, MonthsRise, version_in}
 use Rattle.clear_texts.specs.declared.records.StatementRecords.{StatementRecords}
-use Rattle.clear_views.specs.Overdue.{AreKept}
+use Rattle.clear_debts.specs.Overdue.{AreKept}
 use Rattle.clear_reading.specs.FirmHead.{AreRead}
-use Rattle.clear_views.proofs.MissingLemmas.{missing_of_book, rows_rise}
-use Rattle.clear_views.proofs.OverdueLemmas.{few_found, interest_is, kept_found}
-use Rattle.clear_views.proofs.OwedLemmas.{rows_are}
+use Rattle.clear_debts.proofs.MissingLemmas.{missing_of_book, rows_rise}
+use Rattle.clear_debts.proofs.OverdueLemmas.{few_found, interest_is, kept_found}
+use Rattle.clear_debts.proofs.OwedLemmas.{rows_are}
 
 -- ---- the reports of one employer
 

@@ -19,7 +19,7 @@ use Rattle.clear_reading.specs.Faults.{fault_told}
 use Rattle.clear_reading.specs.Reader.{AreAddable, Tells}
 use Rattle.clear_reading.specs.Source.{Gives, KeepsLoan, Refuses}
 use Rattle.clear_reading.specs.declared.stored.StoredRows.{StoredRows}
-use Rattle.clear_views.proofs.ReadLemmas.{was_clean}
+use Rattle.clear_debts.proofs.ReadLemmas.{was_clean}
 
 all_behind : {X : Type 0} (P : X → Type 0) (xs ys : List X) → AllByRecursion P (xs ++ ys) → AllByRecursion P ys
 all_behind P [] ys all = all

@@ -19,8 +19,8 @@ use Rattle.clear_laws.proofs.KeyedRowsLemmas.{same_rows}
 use Rattle.clear_laws.proofs.WorkersLemmas.{employers_right}
 use Rattle.clear_rules.specs.Views.RemindRun.{firm_on_day, last_viewed}
 use Rattle.clear_rules.specs.declared.decide.remind.LastReminder.{LastReminder}
-use Rattle.clear_views.specs.Overdue.{IsFirm, overdue_told}
-use Rattle.clear_views.specs.declared.overdue.Overdue.{Overdue}
+use Rattle.clear_debts.specs.Overdue.{IsFirm, overdue_told}
+use Rattle.clear_debts.specs.declared.overdue.Overdue.{Overdue}
 
 -- ---- the numbers of the firms
 

@@ -9,7 +9,7 @@ use Rattle.clear_values.specs.Tables.{Tables}
 use Rattle.clear_schema.specs.Held.{HasTables}
 use Rattle.clear_schema.specs.declared.fault.Fault.{Fault}
 use Rattle.clear_reading.specs.Reader.{TellsTables}
-use Rattle.clear_views.proofs.ReadLemmas.{still}
+use Rattle.clear_debts.proofs.ReadLemmas.{still}
 
 module _ {S : Type 0} (g : Ghosts S) (old mid new : Held S) {A : Type 0} {f : Tables → A} {P : Tables → Type 0} {x : A} (first : TellsTables g old mid f P (Ok x)) where
   -- the second finds the tables of the first

@@ -14,7 +14,7 @@ use Rattle.clear_rows.proofs.Inside.{keeps_both, survives_both, unchanged_keeps}
 use Rattle.clear_columns.specs.Reading.{ReadsOn}
 use Rattle.clear_schema.specs.declared.fault.Fault.{Fault}
 use Rattle.clear_reading.specs.Reader.{AreAddable, Tells, TellsTablesWhere}
-use Rattle.clear_views.proofs.ReadLemmas.{was_clean}
+use Rattle.clear_debts.proofs.ReadLemmas.{was_clean}
 
 sum_by-none : {X : Type 0} (rows : List X) → sum_by (λ row. 0) rows ≡ 0
 sum_by-none [] = refl

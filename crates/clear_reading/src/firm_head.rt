@@ -16,6 +16,7 @@ ghost use Rattle.clear_reading.specs.FirmHead.{AreRead, IsFound};
 use crate::stored::fault_told;
 use clear_bank::lines::Purpose;
 use clear_book::rows::EmployerRow;
+use clear_debts::owing::find_account;
 use clear_firms::employers::find_employer;
 use clear_firms::rates::rate_table;
 use clear_firms::reports::reports_of;
@@ -25,7 +26,6 @@ use clear_money::numbers::EmployerNo;
 use clear_schema::fault::Fault;
 use clear_texts::documents::statement_head;
 use clear_texts::records::{StatementHead, StatementRecords};
-use clear_views::owing::find_account;
 use sqlite::{Alter, Transaction};
 use std::alloc::Global;
 

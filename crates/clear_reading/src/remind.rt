@@ -16,11 +16,12 @@ ghost use Rattle.clear_schema.specs.Frame.{Leaves};
 ghost use Rattle.clear_schema.specs.Faults.{IsOfDisk};
 ghost use Rattle.clear_schema.specs.Held.{HasTables};
 ghost use Rattle.clear_schema.specs.Values.{counts_of};
-ghost use Rattle.clear_views.specs.Overdue.{IsFirm};
+ghost use Rattle.clear_debts.specs.Overdue.{IsFirm};
 
 use clear_book::numbers::RunNo;
 use clear_book::rows::{EmployerRow, ReminderRow};
 use clear_book::rules::StoreCause;
+use clear_debts::overdue::{is_day_back, read_overdue};
 use clear_firms::employers::all_employers;
 use clear_firms::rates::rate_table;
 use clear_ledger::reminders::last_reminder;
@@ -31,7 +32,6 @@ use clear_money::rates::RateTable;
 use clear_rules::decide::remind::{LastReminder, OverdueFirm, RemindView};
 use clear_schema::counts::Counts;
 use clear_schema::fault::Fault;
-use clear_views::overdue::{is_day_back, read_overdue};
 use sqlite::{Alter, Transaction};
 use std::alloc::Global;
 

@@ -17,7 +17,7 @@ use Rattle.clear_book.specs.declared.rows.EmployerRow.{EmployerRow}
 use Rattle.clear_rules.proofs.CountsLemmas.{at_number}
 use Rattle.clear_rules.specs.Views.ImportBank.{employer_under}
 use Rattle.clear_rules.specs.declared.decide.import.EmployerCredits.{EmployerCredits}
-use Rattle.clear_views.proofs.FoundLemmas.{found_there}
+use Rattle.clear_debts.proofs.FoundLemmas.{found_there}
 use Rattle.clear_views.specs.Imports.{counted_firm, firm_key, firm_viewed, is_among, names}
 
 -- ---- one more line

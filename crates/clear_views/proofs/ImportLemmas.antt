@@ -38,11 +38,11 @@ use Rattle.clear_rules.specs.declared.decide.import.ImportView.{ImportView}
 use Rattle.clear_schema.specs.Frame.{LooksUp}
 use Rattle.clear_schema.specs.declared.fault.Fault.{Fault}
 use Rattle.clear_views.proofs.FirmLemmas.{named_registered}
-use Rattle.clear_views.proofs.FoundLemmas.{each_found}
+use Rattle.clear_debts.proofs.FoundLemmas.{each_found}
 use Rattle.clear_views.proofs.StillLemmas.{reads_query}
 use Rattle.clear_views.proofs.ViewLemmas.{credits_counted}
 use Rattle.clear_views.specs.Imports.{AreNamed, IsImportRead, IsServing, IsSuspenseViewed, counted_firm, credits_viewed, firm_viewed, is_placed, line_found}
-use Rattle.clear_views.specs.Reads.{Reads}
+use Rattle.clear_debts.specs.Reads.{Reads}
 use Rattle.clear_views.specs.declared.import.firms.NamedFirms.{NamedFirms}
 
 module _ {S : Type 0} (g : Ghosts S) (old new : Held S) (r : Result ℕ Fault) (count : Tables → ℕ) (looks : LooksUp g old new r (λ t n. n ≡ count t) (λ _. ⊤) (λ _. ⊥)) where

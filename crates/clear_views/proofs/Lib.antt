@@ -1,13 +1,7 @@
 pub mod ClaimLemmas
 pub mod EndLemmas
-pub mod FaultLemmas
 pub mod FirmLemmas
-pub mod FoundLemmas
 pub mod ImportLemmas
-pub mod MissingLemmas
-pub mod OverdueLemmas
-pub mod OwedLemmas
-pub mod ReadLemmas
 pub mod ReleaseLemmas
 pub mod StillLemmas
 pub mod ViewLemmas

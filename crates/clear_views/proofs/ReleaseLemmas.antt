@@ -23,8 +23,8 @@ use Rattle.clear_laws.proofs.KeyedRowsLemmas.{AreInOrder-in_key_order, count_by-
 use Rattle.clear_rules.specs.declared.decide.release.FirmDebts.{FirmDebts}
 use Rattle.clear_rules.specs.Views.Release.{AreDebts}
 use Rattle.clear_views.specs.Bounds.{bound_or_count}
-use Rattle.clear_views.specs.Overdue.{IsFirm, overdue_told}
-use Rattle.clear_views.specs.declared.overdue.Overdue.{Overdue}
+use Rattle.clear_debts.specs.Overdue.{IsFirm, overdue_told}
+use Rattle.clear_debts.specs.declared.overdue.Overdue.{Overdue}
 use Rattle.clear_views.proofs.ViewLemmas.{bound_serves, credits_counted}
 
 -- a firm has as many standing credits for a purpose as were made for it

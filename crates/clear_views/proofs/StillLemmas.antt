@@ -16,8 +16,8 @@ use Rattle.clear_laws.proofs.KeyedChangesLemmas.{found_holds}
 use Rattle.clear_schema.specs.Held.{HasTables}
 use Rattle.clear_schema.specs.declared.fault.Fault.{Fault}
 use Rattle.clear_schema.specs.declared.fault.Fault.TheVariants.{Memory, Store}
-use Rattle.clear_views.specs.Reads.{IsStill, ReadsOf}
-use Rattle.clear_views.proofs.ReadLemmas.{still}
+use Rattle.clear_debts.specs.Reads.{IsStill, ReadsOf}
+use Rattle.clear_debts.proofs.ReadLemmas.{still}
 
 module _ {S : Type 0} (g : Ghosts S) where
   -- the tables are as before

@@ -1,6 +1,3 @@
 pub mod Bounds
 pub mod Ends
 pub mod Imports
-pub mod Overdue
-pub mod Owing
-pub mod Reads

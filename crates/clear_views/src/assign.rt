@@ -14,7 +14,7 @@ ghost use Rattle.clear_schema.specs.Frame.{Leaves};
 ghost use Rattle.clear_schema.specs.Faults.{IsOfDisk};
 ghost use Rattle.clear_schema.specs.Held.{HasTables};
 ghost use Rattle.clear_schema.specs.Values.{counts_of};
-ghost use Rattle.clear_views.specs.Reads.{LeavesOpen};
+ghost use Rattle.clear_debts.specs.Reads.{LeavesOpen};
 
 use crate::member::find_member;
 use clear_bank::lines::Purpose;

@@ -12,8 +12,8 @@ ghost use Rattle.clear_schema.specs.Frame.{Leaves};
 ghost use Rattle.clear_schema.specs.Faults.{IsOfDisk};
 ghost use Rattle.clear_schema.specs.Held.{HasTables};
 ghost use Rattle.clear_schema.specs.Values.{counts_of};
+ghost use Rattle.clear_debts.specs.Reads.{Reads};
 ghost use Rattle.clear_views.specs.Imports.{IsImportRead};
-ghost use Rattle.clear_views.specs.Reads.{Reads};
 
 mod each;
 mod firms;

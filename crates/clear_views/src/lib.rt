@@ -1,6 +1,5 @@
 //! What a request is judged by, read from the store inside of its transaction: the view of each
-//! command but those that make a payout list or a reminder run, what a firm owes, and what it has
-//! overdue.
+//! command but those that make a payout list or a reminder run.
 //!
 //! Each is read by keys, by the front of a key or, of a worker, by an index, so a request reads what
 //! it touches, whatever the book holds. The rates are read whole; firms and bank lines are counted only
@@ -15,9 +14,6 @@ pub mod end;
 pub mod import;
 mod lookups;
 pub mod member;
-pub mod overdue;
-pub mod owed;
-pub mod owing;
 pub mod register;
 pub mod release;
 pub mod report;

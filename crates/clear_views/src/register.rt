@@ -11,8 +11,8 @@ ghost use Rattle.clear_schema.specs.Faults.{IsOfDisk};
 ghost use Rattle.clear_schema.specs.Held.{HasTables};
 ghost use Rattle.clear_schema.specs.Values.{counts_of};
 ghost use Rattle.clear_rules.specs.Views.Register.{IsRegisterView};
+ghost use Rattle.clear_debts.specs.Reads.{LeavesOpen};
 ghost use Rattle.clear_views.specs.Bounds.{bound_or_count};
-ghost use Rattle.clear_views.specs.Reads.{LeavesOpen};
 
 use crate::lookups::rate_for;
 use crate::member::find_member;

@@ -19,15 +19,15 @@ ghost use Rattle.clear_schema.specs.Frame.{Leaves};
 ghost use Rattle.clear_schema.specs.Faults.{IsOfDisk};
 ghost use Rattle.clear_schema.specs.Held.{HasTables};
 ghost use Rattle.clear_schema.specs.Values.{counts_of};
+ghost use Rattle.clear_debts.specs.Overdue.{overdue_told};
+ghost use Rattle.clear_debts.specs.Reads.{LeavesOpen};
 ghost use Rattle.clear_views.specs.Bounds.{bound_or_count};
-ghost use Rattle.clear_views.specs.Overdue.{overdue_told};
-ghost use Rattle.clear_views.specs.Reads.{LeavesOpen};
 
-use crate::overdue::{Overdue, is_day_back, read_overdue};
 use clear_bank::lines::Purpose;
 use clear_book::limits::MAX_CREDITS;
 use clear_book::numbers::{ClaimNo, SerialCount};
 use clear_book::rules::StoreCause;
+use clear_debts::overdue::{Overdue, is_day_back, read_overdue};
 use clear_firms::employers::find_employer;
 use clear_firms::rates::rate_table;
 use clear_ledger::claims::find_claim;

@@ -1,7 +1,7 @@
 //! What is found for each of some items, one after another.
 ghost use Rattle.std.specs.Prelude.{◌≡◌, ◌++◌, [], IfErr, OnOk};
 ghost use Rattle.std.specs.List.{cons_option, filter_map};
-ghost use Rattle.clear_views.specs.Reads.{Reads};
+ghost use Rattle.clear_debts.specs.Reads.{Reads};
 
 use clear_schema::fault::Fault;
 use sqlite::{Alter, Transaction};
@@ -11,7 +11,7 @@ use std::alloc::Global;
 pub(super) trait Asked {
     ghost use Rattle.std.specs.Prelude.{◌≡◌, Option};
     ghost use Rattle.clear_book.specs.Tables.{Tables};
-    ghost use Rattle.clear_views.specs.Reads.{Reads};
+    ghost use Rattle.clear_debts.specs.Reads.{Reads};
 
     type Item;
 

@@ -2,8 +2,8 @@
 ghost use Rattle.std.specs.Prelude.{◌≡◌, ℕ, ⊤, IfOk};
 ghost use Rattle.std.specs.List.{list_any};
 ghost use Rattle.clear_book.specs.Keyed.{AreOnce};
+ghost use Rattle.clear_debts.specs.Reads.{Reads};
 ghost use Rattle.clear_views.specs.Imports.{AreNamed, counted_firm, firm_key, is_among, names};
-ghost use Rattle.clear_views.specs.Reads.{Reads};
 
 use super::each::{Asked, found_each};
 use super::limits::count_credits;

@@ -2,8 +2,8 @@
 ghost use Rattle.std.specs.List.{list_all};
 ghost use Rattle.std.specs.Prelude.{◌≡◌, ◌+◌, None, Some, IfSome, ⊤, if◌then◌else◌};
 ghost use Rattle.std.specs.Prelude.{is_some, length, nat_le};
+ghost use Rattle.clear_debts.specs.Reads.{Reads};
 ghost use Rattle.clear_views.specs.Imports.{IsServing, IsSuspenseViewed, credits_viewed};
-ghost use Rattle.clear_views.specs.Reads.{Reads};
 
 use clear_bank::lines::{BankLine, Purpose};
 use clear_book::limits::MAX_SUSPENSE;

@@ -3,7 +3,7 @@ use Rattle.std.proofs.lemmas.Result.{err_from_is_err_and}
 use Rattle.clear_book.specs.RowRanges.{IsRunRow}
 use Rattle.clear_book.specs.Tables.{run_key}
 use Rattle.clear_laws.proofs.RowRangeLemmas.{rows_in_range}
-use Rattle.clear_views.proofs.FaultLemmas.{found_in_range}
+use Rattle.clear_debts.proofs.FaultLemmas.{found_in_range}
 use Rattle.clear_office.proofs.ListLemmas.{run_found}
 use Rattle.clear_office.proofs.inquiry.look_for_run.Goals as goal
 

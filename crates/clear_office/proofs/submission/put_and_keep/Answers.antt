@@ -2,7 +2,7 @@ use Rattle.sqlite.specs.Held.{state}
 use Rattle.clear_book.specs.Tables.{changed, dated, request_key, request_row}
 use Rattle.clear_values.specs.Keyed.{with_row}
 use Rattle.clear_rows.proofs.Inside.{keeps_both, survives_both}
-use Rattle.clear_views.proofs.ReadLemmas.{was_clean}
+use Rattle.clear_debts.proofs.ReadLemmas.{was_clean}
 use Rattle.clear_office.specs.Bodies.{entry_of}
 use Rattle.clear_office.proofs.PiecesLemmas.{kept_following, no_blame}
 use Rattle.clear_office.proofs.SubmissionLemmas.{unused_with}

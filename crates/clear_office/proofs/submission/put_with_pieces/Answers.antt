@@ -2,7 +2,7 @@ use Rattle.std.proofs.lemmas.Result.{err_from_is_err_and}
 use Rattle.sqlite.specs.Held.{state}
 use Rattle.clear_book.specs.Tables.{changed, dated}
 use Rattle.clear_rows.proofs.Inside.{keeps_both, survives_both}
-use Rattle.clear_views.proofs.ReadLemmas.{was_clean}
+use Rattle.clear_debts.proofs.ReadLemmas.{was_clean}
 use Rattle.clear_office.proofs.PiecesLemmas.{following}
 use Rattle.clear_office.proofs.submission.put_with_pieces.Goals as goal
 

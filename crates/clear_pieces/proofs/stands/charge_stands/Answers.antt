@@ -2,7 +2,7 @@ use Rattle.std.proofs.Common.{[], ◌∷◌}
 use Rattle.std.proofs.lemmas.Result.{err_from_is_err_and}
 use Rattle.clear_values.specs.RowRanges.{IsKeptCharge}
 use Rattle.clear_book.specs.Tables.{charge_key}
-use Rattle.clear_views.proofs.FaultLemmas.{found_in_range}
+use Rattle.clear_debts.proofs.FaultLemmas.{found_in_range}
 use Rattle.clear_pieces.proofs.stands.charge_stands.Goals as goal
 
 pub returns-in_err-kept-clause-fault : goal.returns-in_err-kept-clause-fault

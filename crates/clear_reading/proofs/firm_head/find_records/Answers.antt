@@ -5,8 +5,8 @@ use Rattle.sqlite.specs.Held.{state}
 use Rattle.clear_book.specs.RowRanges.{IsEmployerRow}
 use Rattle.clear_book.specs.Tables.{employer_key, member_in}
 use Rattle.clear_laws.proofs.RowRangeLemmas.{rows_in_range}
-use Rattle.clear_views.proofs.FaultLemmas.{found_in_range}
-use Rattle.clear_views.proofs.ReadLemmas.{was_clean, still}
+use Rattle.clear_debts.proofs.FaultLemmas.{found_in_range}
+use Rattle.clear_debts.proofs.ReadLemmas.{was_clean, still}
 use Rattle.clear_reading.proofs.FirmHeadLemmas.{records_found}
 use Rattle.clear_reading.proofs.firm_head.find_records.Goals as goal
 

@@ -7,7 +7,7 @@ use Rattle.clear_book.specs.Lines.{is_credit_of}
 use Rattle.clear_book.specs.RowRanges.{IsCreditRow, IsReportRow}
 use Rattle.clear_book.specs.declared.rows.ReportRow.{ReportRow}
 use Rattle.clear_laws.proofs.RowRangeLemmas.{rows_in_range}
-use Rattle.clear_views.proofs.ReadLemmas.{was_clean, still}
+use Rattle.clear_debts.proofs.ReadLemmas.{was_clean, still}
 use Rattle.clear_reading.proofs.firm_head.read_records.Goals as goal
 
 pub returns-in_err-rates-clause-fault : goal.returns-in_err-rates-clause-fault

@@ -7,9 +7,9 @@ use Rattle.clear_book.specs.declared.rows.EmployerRow.{EmployerRow}
 use Rattle.clear_laws.proofs.RowRangeLemmas.{rows_in_range}
 use Rattle.clear_rows.proofs.Inside.{survives_both, survives_none}
 use Rattle.clear_rules.specs.Views.RemindRun.{firm_on_day}
-use Rattle.clear_views.proofs.ReadLemmas.{was_clean, left_has, leaves_both, leaves_else}
+use Rattle.clear_debts.proofs.ReadLemmas.{was_clean, left_has, leaves_both, leaves_else}
 use Rattle.clear_reading.proofs.RemindLemmas.{firm_more, firms_are, firms_of_book}
-use Rattle.clear_views.specs.Overdue.{IsFirm}
+use Rattle.clear_debts.specs.Overdue.{IsFirm}
 use Rattle.clear_reading.proofs.remind.overdue_firms.Goals as goal
 
 pub returns-in_err-members-clause-fault : goal.returns-in_err-members-clause-fault

@@ -2,7 +2,7 @@ use Rattle.std.proofs.Common.{◌==◌}
 use Rattle.std.proofs.lemmas.Result.{err_from_is_err_and}
 use Rattle.clear_book.specs.RowRanges.{IsReminderRow}
 use Rattle.clear_book.specs.declared.rows.ReminderRow.{ReminderRow}
-use Rattle.clear_views.proofs.FaultLemmas.{last_in_range}
+use Rattle.clear_debts.proofs.FaultLemmas.{last_in_range}
 use Rattle.clear_reading.proofs.remind.read_last.Goals as goal
 
 pub returns-in_err-row-clause-fault : goal.returns-in_err-row-clause-fault

@@ -2,7 +2,7 @@ use Rattle.std.proofs.Common.{[], ◌∷◌}
 use Rattle.std.proofs.lemmas.Result.{err_from_is_err_and}
 use Rattle.clear_book.specs.RowRanges.{IsRunRow}
 use Rattle.clear_book.specs.Tables.{run_key}
-use Rattle.clear_views.proofs.FaultLemmas.{found_in_range}
+use Rattle.clear_debts.proofs.FaultLemmas.{found_in_range}
 use Rattle.clear_reading.proofs.remind.read_run.Goals as goal
 
 pub returns-in_err-run-clause-fault : goal.returns-in_err-run-clause-fault

@@ -3,8 +3,8 @@ use Rattle.std.proofs.lemmas.Result.{err_from_is_err_and}
 use Rattle.sqlite.specs.Held.{state}
 use Rattle.clear_laws.proofs.RowRangeLemmas.{rows_in_range}
 use Rattle.clear_schema.specs.declared.counts.Counts.{Counts}
-use Rattle.clear_views.proofs.OwedLemmas.{day_free, day_refused}
-use Rattle.clear_views.proofs.ReadLemmas.{was_clean, still}
+use Rattle.clear_debts.proofs.OwedLemmas.{day_free, day_refused}
+use Rattle.clear_debts.proofs.ReadLemmas.{was_clean, still}
 use Rattle.clear_reading.proofs.remind.remind_view.Goals as goal
 
 pub returns-then-is_day_back-clause-fault : goal.returns-then-is_day_back-clause-fault

@@ -4,7 +4,7 @@ use Rattle.sqlite.specs.Held.{state}
 use Rattle.sqlite_keyed.proofs.ListLemmas.{all-filter}
 use Rattle.clear_values.specs.RowRanges.{IsClaimRow, IsWageRow}
 use Rattle.clear_laws.proofs.RowRangeLemmas.{rows_in_range}
-use Rattle.clear_views.proofs.ReadLemmas.{was_clean, still}
+use Rattle.clear_debts.proofs.ReadLemmas.{was_clean, still}
 use Rattle.clear_reading.proofs.worker.worker_records.Goals as goal
 
 pub returns-in_err-rates-clause-fault : goal.returns-in_err-rates-clause-fault

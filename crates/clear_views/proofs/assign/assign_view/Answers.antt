@@ -4,8 +4,8 @@ use Rattle.sqlite.specs.Held.{state}
 use Rattle.clear_book.specs.RowRanges.{IsBankRow}
 use Rattle.clear_book.specs.Tables.{bank_key}
 use Rattle.clear_schema.specs.declared.counts.Counts.{Counts}
-use Rattle.clear_views.proofs.FaultLemmas.{found_in_range}
-use Rattle.clear_views.proofs.ReadLemmas.{was_clean, still}
+use Rattle.clear_debts.proofs.FaultLemmas.{found_in_range}
+use Rattle.clear_debts.proofs.ReadLemmas.{was_clean, still}
 use Rattle.clear_views.proofs.ViewLemmas.{assign_viewed}
 use Rattle.clear_views.proofs.assign.assign_view.Goals as goal
 

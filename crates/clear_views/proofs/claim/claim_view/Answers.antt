@@ -4,7 +4,7 @@ use Rattle.sqlite.specs.Held.{state}
 use Rattle.clear_laws.proofs.RowRangeLemmas.{rows_in_range}
 use Rattle.clear_schema.specs.declared.counts.Counts.{Counts}
 use Rattle.clear_views.proofs.ClaimLemmas.{claim_viewed, claimed_below, earned_below}
-use Rattle.clear_views.proofs.ReadLemmas.{was_clean, still}
+use Rattle.clear_debts.proofs.ReadLemmas.{was_clean, still}
 use Rattle.clear_views.proofs.claim.claim_view.Goals as goal
 
 pub returns-in_default-clause-fault : goal.returns-in_default-clause-fault

@@ -2,7 +2,7 @@ use Rattle.std.proofs.Common.{rules, ◌≡◌, [], Ok, refl}
 use Rattle.std.specs.Prelude.{⊤}
 use Rattle.clear_views.proofs.FirmLemmas.{named_found}
 use Rattle.clear_views.proofs.ImportLemmas.{suspense_read}
-use Rattle.clear_views.proofs.ReadLemmas.{was_clean}
+use Rattle.clear_debts.proofs.ReadLemmas.{was_clean}
 use Rattle.clear_views.proofs.StillLemmas.{reads_else, reads_then}
 use Rattle.clear_views.proofs.import.read_lines.Goals as goal
 

@@ -2,7 +2,7 @@ use Rattle.std.proofs.Common.{[], ◌∷◌}
 use Rattle.std.proofs.lemmas.Result.{err_from_is_err_and}
 use Rattle.clear_book.specs.RowRanges.{IsReportRow}
 use Rattle.clear_book.specs.Tables.{report_key}
-use Rattle.clear_views.proofs.FaultLemmas.{found_in_range}
+use Rattle.clear_debts.proofs.FaultLemmas.{found_in_range}
 use Rattle.clear_views.proofs.lookups.version_of.Goals as goal
 
 pub returns-in_err-row-clause-fault : goal.returns-in_err-row-clause-fault

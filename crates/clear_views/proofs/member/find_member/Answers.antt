@@ -1,7 +1,7 @@
 use Rattle.std.proofs.Common.{[], ◌∷◌}
 use Rattle.clear_book.specs.RowRanges.{IsEmployerRow}
 use Rattle.clear_book.specs.Tables.{employer_key}
-use Rattle.clear_views.proofs.FaultLemmas.{look_in_range}
+use Rattle.clear_debts.proofs.FaultLemmas.{look_in_range}
 use Rattle.clear_views.proofs.member.find_member.Goals as goal
 
 pub returns-clause-fault : goal.returns-clause-fault

@@ -1,7 +1,7 @@
 use Rattle.std.proofs.Common.{◌∙◌, ap, is_some}
 use Rattle.sqlite.specs.Held.{state}
 use Rattle.clear_schema.specs.declared.counts.Counts.{Counts}
-use Rattle.clear_views.proofs.ReadLemmas.{was_clean, still}
+use Rattle.clear_debts.proofs.ReadLemmas.{was_clean, still}
 use Rattle.clear_views.proofs.ViewLemmas.{register_viewed}
 use Rattle.clear_views.proofs.register.register_view.Goals as goal
 

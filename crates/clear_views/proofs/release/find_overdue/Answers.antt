@@ -5,10 +5,10 @@ use Rattle.sqlite.specs.Held.{state}
 use Rattle.clear_book.specs.RowRanges.{IsEmployerRow}
 use Rattle.clear_book.specs.Tables.{employer_key}
 use Rattle.clear_laws.proofs.RowRangeLemmas.{rows_in_range}
-use Rattle.clear_views.proofs.FaultLemmas.{found_in_range}
-use Rattle.clear_views.proofs.ReadLemmas.{was_clean, still}
+use Rattle.clear_debts.proofs.FaultLemmas.{found_in_range}
+use Rattle.clear_debts.proofs.ReadLemmas.{was_clean, still}
 use Rattle.clear_views.proofs.ReleaseLemmas.{firm_found}
-use Rattle.clear_views.specs.Overdue.{overdue_told}
+use Rattle.clear_debts.specs.Overdue.{overdue_told}
 use Rattle.clear_views.proofs.release.find_overdue.Goals as goal
 
 pub returns-in_err-member-clause-fault : goal.returns-in_err-member-clause-fault

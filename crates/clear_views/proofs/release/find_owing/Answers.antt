@@ -4,8 +4,8 @@ use Rattle.sqlite.specs.Held.{state}
 use Rattle.clear_book.specs.RowRanges.{IsClaimRow}
 use Rattle.clear_book.specs.Tables.{claim_key}
 use Rattle.clear_laws.proofs.RowRangeLemmas.{rows_in_range}
-use Rattle.clear_views.proofs.FaultLemmas.{found_in_range}
-use Rattle.clear_views.proofs.ReadLemmas.{was_clean, still}
+use Rattle.clear_debts.proofs.FaultLemmas.{found_in_range}
+use Rattle.clear_debts.proofs.ReadLemmas.{was_clean, still}
 use Rattle.clear_views.proofs.ReleaseLemmas.{firm_there}
 use Rattle.clear_views.proofs.release.find_owing.Goals as goal
 

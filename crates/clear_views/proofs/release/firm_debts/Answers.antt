@@ -2,7 +2,7 @@ use Rattle.std.proofs.Common.{refl}
 use Rattle.std.proofs.lemmas.Result.{err_from_is_err_and}
 use Rattle.sqlite.specs.Held.{state}
 use Rattle.clear_laws.proofs.RowRangeLemmas.{rows_in_range}
-use Rattle.clear_views.proofs.ReadLemmas.{was_clean, still}
+use Rattle.clear_debts.proofs.ReadLemmas.{was_clean, still}
 use Rattle.clear_views.proofs.ReleaseLemmas.{debts_are}
 use Rattle.clear_views.proofs.release.firm_debts.Goals as goal
 

@@ -4,7 +4,7 @@ use Rattle.clear_book.specs.Tables.{claim_key}
 use Rattle.clear_book.specs.declared.rows.ClaimRow.{ClaimRow}
 use Rattle.clear_laws.proofs.RowRangeLemmas.{rows_in_range}
 use Rattle.clear_schema.specs.declared.counts.Counts.{Counts}
-use Rattle.clear_views.proofs.OwedLemmas.{day_free, day_refused}
+use Rattle.clear_debts.proofs.OwedLemmas.{day_free, day_refused}
 use Rattle.clear_views.proofs.release.release_view.Goals as goal
 
 pub returns-then-is_day_back-clause-fault : goal.returns-then-is_day_back-clause-fault

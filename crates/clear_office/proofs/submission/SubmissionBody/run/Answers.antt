@@ -4,7 +4,7 @@ use Rattle.clear_book.specs.Book.{request_number}
 use Rattle.clear_book.specs.Keyed.{find_row}
 use Rattle.clear_book.specs.Tables.{request_key}
 use Rattle.clear_laws.proofs.RowRangeLemmas.{rows_in_range}
-use Rattle.clear_views.proofs.ReadLemmas.{still, was_clean}
+use Rattle.clear_debts.proofs.ReadLemmas.{still, was_clean}
 use Rattle.clear_office.specs.Bodies.{IsUnused, call_of}
 use Rattle.clear_office.proofs.RepeatLemmas.{did_again, does_again, kept_row, no_row, request_fails}
 use Rattle.clear_office.proofs.SubmissionLemmas.{did, failed, refused}

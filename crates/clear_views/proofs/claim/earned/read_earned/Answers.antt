@@ -7,7 +7,7 @@ use Rattle.clear_money.specs.Rates.{Rate, rate_in_force}
 use Rattle.clear_book.specs.RowRanges.{IsWageRow}
 use Rattle.clear_book.specs.Workers.{entitlement_for}
 use Rattle.clear_book.specs.declared.rows.WageRow.{WageRow}
-use Rattle.clear_views.proofs.ReadLemmas.{was_clean, still}
+use Rattle.clear_debts.proofs.ReadLemmas.{was_clean, still}
 use Rattle.clear_views.proofs.claim.earned.read_earned.Goals as goal
 
 -- what is earned at these rates with these rows

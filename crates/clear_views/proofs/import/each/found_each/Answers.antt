@@ -2,7 +2,7 @@ use Rattle.std.proofs.Common.{◌≡◌, ◌+◌, ◌∙◌, [], Ok, Err, take, 
 use Rattle.std.proofs.lemmas.Result.{err_from_is_err_and}
 use Rattle.sqlite.specs.Held.{state}
 use Rattle.clear_rows.proofs.Inside.{survives_both, survives_none}
-use Rattle.clear_views.proofs.ReadLemmas.{was_clean}
+use Rattle.clear_debts.proofs.ReadLemmas.{was_clean}
 use Rattle.clear_views.proofs.StillLemmas.{reads_else, reads_fault, reads_memory, reads_none, reads_then}
 use Rattle.clear_rules.proofs.FilterMapLemmas.{found_more}
 use Rattle.clear_views.proofs.import.each.found_each.Goals as goal

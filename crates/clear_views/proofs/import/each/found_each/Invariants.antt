@@ -4,7 +4,7 @@ use Rattle.sqlite.specs.Held.{state}
 use Rattle.sqlite.specs.State.{HasCleanDisk, Survives}
 use Rattle.clear_book.specs.Tables.{Tables}
 use Rattle.clear_schema.specs.Held.{HasTables}
-use Rattle.clear_views.specs.Reads.{ReadsOf}
+use Rattle.clear_debts.specs.Reads.{ReadsOf}
 use Rattle.clear_views.proofs.import.each.found_each.Given as goal
 
 abbrev pub invariant-loop-item : goal.invariant-loop-item

@@ -20,7 +20,7 @@ use Rattle.clear_book.specs.declared.rows.EmployerRow.{EmployerRow}
 use Rattle.clear_laws.proofs.DistinctLemmas.{itself, same_worker}
 use Rattle.clear_texts.specs.Records.{ChargesRise, has_charge}
 use Rattle.clear_texts.specs.Told.{is_missing_in}
-use Rattle.clear_views.proofs.FoundLemmas.{each_found}
+use Rattle.clear_debts.proofs.FoundLemmas.{each_found}
 
 -- there is a row of a month where there is a contribution
 row_of_month : (s : ℕ) (cs : List Charge) (ks : List Credit) (m : ℕ) → has_charge (rows_walk s cs ks) m ≡ is_some (find (λ (c : Charge). c.month == m) cs)

@@ -39,7 +39,7 @@ use Rattle.clear_laws.proofs.RowRangeLemmas.{rows_in_range}
 use Rattle.clear_laws.proofs.TableAccountLemmas.{account_of_tables}
 use Rattle.clear_laws.proofs.VersionLemmas.{no_some}
 use Rattle.clear_laws.proofs.ListLemmas.{each}
-use Rattle.clear_views.specs.Owing.{HasKept, credited_by}
+use Rattle.clear_debts.specs.Owing.{HasKept, credited_by}
 
 -- ---- the amounts of credits
 

@@ -12,7 +12,7 @@ ghost use Rattle.clear_book.specs.Tables.{Tables};
 ghost use Rattle.clear_schema.specs.Frame.{Leaves};
 ghost use Rattle.clear_schema.specs.Faults.{IsOfDisk};
 ghost use Rattle.clear_schema.specs.Held.{HasTables};
-ghost use Rattle.clear_views.specs.Overdue.{AreKept, IsFirm, overdue_told};
+ghost use Rattle.clear_debts.specs.Overdue.{AreKept, IsFirm, overdue_told};
 
 use crate::owing::find_charges;
 use clear_bank::lines::Purpose;

@@ -1,8 +1,8 @@
 use Rattle.std.proofs.lemmas.Result.{err_from_is_err_and}
 use Rattle.clear_bank.specs.declared.lines.Purpose.TheVariants.{Contribution}
 use Rattle.clear_book.specs.Lines.{is_credit_of}
-use Rattle.clear_views.proofs.OwedLemmas.{all_amounts}
-use Rattle.clear_views.proofs.owing.add_paid.Goals as goal
+use Rattle.clear_debts.proofs.OwedLemmas.{all_amounts}
+use Rattle.clear_debts.proofs.owing.add_paid.Goals as goal
 
 pub returns-in_err-amounts-clause-fault : goal.returns-in_err-amounts-clause-fault
 returns-in_err-amounts-clause-fault g c clean t has kept =

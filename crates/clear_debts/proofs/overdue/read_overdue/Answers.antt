@@ -6,10 +6,10 @@ use Rattle.clear_bank.specs.declared.lines.Purpose.TheVariants.{Interest}
 use Rattle.clear_book.specs.Lines.{is_credit_of}
 use Rattle.clear_book.specs.RowRanges.{IsCreditRow}
 use Rattle.clear_laws.proofs.RowRangeLemmas.{rows_in_range}
-use Rattle.clear_views.proofs.OverdueLemmas.{few_found, kept_found}
-use Rattle.clear_views.proofs.OwedLemmas.{has_kept}
-use Rattle.clear_views.proofs.ReadLemmas.{was_clean, still}
-use Rattle.clear_views.proofs.overdue.read_overdue.Goals as goal
+use Rattle.clear_debts.proofs.OverdueLemmas.{few_found, kept_found}
+use Rattle.clear_debts.proofs.OwedLemmas.{has_kept}
+use Rattle.clear_debts.proofs.ReadLemmas.{was_clean, still}
+use Rattle.clear_debts.proofs.overdue.read_overdue.Goals as goal
 
 pub returns-in_err-charges-clause-fault : goal.returns-in_err-charges-clause-fault
 returns-in_err-charges-clause-fault g c clean t has b lawful stands =

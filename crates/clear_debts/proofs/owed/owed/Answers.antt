@@ -1,6 +1,6 @@
 use Rattle.std.proofs.Common.{◌-◌, ◌∙◌, ℕ, ap}
-use Rattle.clear_views.proofs.OwedLemmas.{owed_told}
-use Rattle.clear_views.proofs.owed.owed.Goals as goal
+use Rattle.clear_debts.proofs.OwedLemmas.{owed_told}
+use Rattle.clear_debts.proofs.owed.owed.Goals as goal
 
 pub returns-clause-answer : goal.returns-clause-answer
 returns-clause-answer g c clean t has b lawful stands =

@@ -1,7 +1,7 @@
 use Rattle.std.proofs.Common.{◌≡◌, ◌≤◌, ◌∙◌, ℕ, List, length, refl, ap, subst}
 use Rattle.std.specs.List.{slice_get}
-use Rattle.clear_views.proofs.OverdueLemmas.{months_found, overdue_is}
-use Rattle.clear_views.proofs.overdue.overdue_on.Goals as goal
+use Rattle.clear_debts.proofs.OverdueLemmas.{months_found, overdue_is}
+use Rattle.clear_debts.proofs.overdue.overdue_on.Goals as goal
 
 pub returns-clause-overdue : goal.returns-clause-overdue
 returns-clause-overdue c b are =

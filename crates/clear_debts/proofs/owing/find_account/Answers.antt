@@ -1,9 +1,9 @@
 use Rattle.std.proofs.Common.{◌∙◌}
 use Rattle.std.proofs.lemmas.Result.{err_from_is_err_and}
 use Rattle.sqlite.specs.Held.{state}
-use Rattle.clear_views.proofs.OwedLemmas.{has_kept, paid_is, rows_are}
-use Rattle.clear_views.proofs.ReadLemmas.{was_clean, still}
-use Rattle.clear_views.proofs.owing.find_account.Goals as goal
+use Rattle.clear_debts.proofs.OwedLemmas.{has_kept, paid_is, rows_are}
+use Rattle.clear_debts.proofs.ReadLemmas.{was_clean, still}
+use Rattle.clear_debts.proofs.owing.find_account.Goals as goal
 
 pub returns-in_err-charges-clause-fault : goal.returns-in_err-charges-clause-fault
 returns-in_err-charges-clause-fault g c clean t has b lawful stands =

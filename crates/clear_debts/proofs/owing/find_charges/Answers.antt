@@ -3,7 +3,7 @@ use Rattle.std.proofs.lemmas.Result.{err_from_is_err_and}
 use Rattle.sqlite_trees.proofs.ListLemmas.{all-filter}
 use Rattle.clear_book.specs.RowRanges.{IsKeptCharge}
 use Rattle.clear_book.specs.declared.rows.KeptCharge.{KeptCharge}
-use Rattle.clear_views.proofs.owing.find_charges.Goals as goal
+use Rattle.clear_debts.proofs.owing.find_charges.Goals as goal
 
 pub returns-in_err-rows-clause-fault : goal.returns-in_err-rows-clause-fault
 returns-in_err-rows-clause-fault g c clean t has kept =

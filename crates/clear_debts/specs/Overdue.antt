@@ -12,7 +12,7 @@ use Rattle.clear_book.specs.declared.rows.EmployerRow.{EmployerRow}
 use Rattle.clear_kept.specs.declared.rows.WeighedCharge.{WeighedCharge}
 use Rattle.clear_kept.specs.Weighed.{weighed_charges}
 use Rattle.clear_money.specs.Rates.{Rate}
-use Rattle.clear_views.specs.declared.overdue.Overdue.{Overdue}
+use Rattle.clear_debts.specs.declared.overdue.Overdue.{Overdue}
 
 -- what the book has overdue of a firm on a day
 abbrev pub overdue_told : Book → ℕ → ℕ → Overdue

@@ -15,8 +15,8 @@ ghost use Rattle.clear_kept.specs.Weighed.{weighed_charges};
 ghost use Rattle.clear_schema.specs.Frame.{Leaves};
 ghost use Rattle.clear_schema.specs.Faults.{IsOfDisk};
 ghost use Rattle.clear_schema.specs.Held.{HasTables};
-ghost use Rattle.clear_views.specs.Owing.{credited_by, HasKept};
-ghost use Rattle.clear_views.specs.Reads.{LeavesOpen};
+ghost use Rattle.clear_debts.specs.Owing.{credited_by, HasKept};
+ghost use Rattle.clear_debts.specs.Reads.{LeavesOpen};
 
 use clear_bank::lines::Purpose;
 use clear_book::limits::MAX_CREDITED;

@@ -24,10 +24,10 @@ use Rattle.clear_laws.proofs.CreditsLemmas.{credits-standing}
 use Rattle.clear_laws.proofs.LimitsLemmas.{months_are}
 use Rattle.clear_texts.specs.Records.{ChargesRise}
 use Rattle.clear_texts.specs.Told.{interest_owed, is_missing_in}
-use Rattle.clear_views.specs.Overdue.{AreKept, IsFirm, overdue_told}
-use Rattle.clear_views.specs.declared.overdue.Overdue.{Overdue}
-use Rattle.clear_views.proofs.MissingLemmas.{missing_of_book, rows_rise}
-use Rattle.clear_views.proofs.OwedLemmas.{book_account, book_days, book_dues, few_interest, rows_are}
+use Rattle.clear_debts.specs.Overdue.{AreKept, IsFirm, overdue_told}
+use Rattle.clear_debts.specs.declared.overdue.Overdue.{Overdue}
+use Rattle.clear_debts.proofs.MissingLemmas.{missing_of_book, rows_rise}
+use Rattle.clear_debts.proofs.OwedLemmas.{book_account, book_days, book_dues, few_interest, rows_are}
 
 first_of : (ms : List ℕ) → slice_get ms 0 ≡ first_of_months ms
 first_of [] = refl

@@ -1,0 +1,3 @@
+pub mod Overdue
+pub mod Owing
+pub mod Reads
