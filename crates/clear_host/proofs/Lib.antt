@@ -1,6 +1,3 @@
 pub mod OfficeLemmas
-pub mod ReadLemmas
 pub mod RefusalLemmas
 pub mod StoreLemmas
-mod TalkLemmas
-mod ToldLemmas

@@ -1,5 +1,6 @@
--- What the files of the program hold. No contract knows that, so clauses speak of each content.
-use Rattle.std.specs.Prelude.{◌≡◌, ◌≢◌, ◌≤◌, ⊤, ℕ, List, length, IfSome, None, Option, Result, Ok}
+-- What the two files of a store hold, its log and its database file. No contract knows that, so clauses
+-- speak of each content.
+use Rattle.std.specs.Prelude.{◌≡◌, ◌≢◌, ⊤, ℕ, IfSome, None}
 use Rattle.sqlite_wal.specs.Recovery.{Image}
 use Rattle.sqlite.specs.Effect.{Database}
 use Rattle.sqlite.specs.Files.{HoldsDatabase}
@@ -17,24 +18,6 @@ use Rattle.clear_schema.specs.declared.fault.Fault.TheVariants.{Memory}
 use Rattle.clear_schema.specs.declared.fault.OpenFault.{OpenFault}
 use Rattle.clear_schema.specs.declared.fault.OpenFault.TheVariants.{WrongVersion, Failed}
 use Rattle.clear_host.specs.declared.offices.NotOpened.{NotOpened}
-
--- ---- a file that is read whole
-
--- the greatest length of such a file, in bytes
-abbrev pub most_file_bytes : ℕ
-most_file_bytes = 4194304
-
--- bytes, no more than a file may have, read as this; they are the reader's, where those are known
-abbrev pub BytesSay : {A E : Type 0} → Option (List ℕ) → (List ℕ → Result A E) → A → Type 0
-BytesSay known read it =
-    (bytes : List ℕ) × IfSome known (λ all. bytes ≡ all) × (length bytes ≤ most_file_bytes)
-    × (read bytes ≡ Ok it)
-
--- a file's bytes are not known
-abbrev pub SomeFileSays : {A E : Type 0} → (List ℕ → Result A E) → A → Type 0
-SomeFileSays read it = BytesSay None read it
-
--- ---- a store, in its log and its database file
 
 -- they hold a store of this layout, with these tables
 abbrev pub HoldsStore : Layout → Tables → Image → Type 0

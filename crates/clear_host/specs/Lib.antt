@@ -1,4 +1,2 @@
 pub mod Contents
-pub mod Talks
-pub mod Told
 pub mod Hindrances

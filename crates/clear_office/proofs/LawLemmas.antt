@@ -9,14 +9,12 @@ use Rattle.clear_values.specs.Tables.{request_number, serial_key}
 use Rattle.clear_book.specs.Book.{Book, Entry}
 use Rattle.clear_values.specs.Keyed.{is_key, find_row, without_rows, AreInOrder, AreOnce}
 use Rattle.clear_values.specs.Credits.{credits_of_lines, set_offs_of}
-use Rattle.clear_book.specs.Lines.{is_in_suspense, lines_standing, suspense_count}
-use Rattle.clear_values.specs.Limits.{most_suspense}
+use Rattle.clear_book.specs.Lines.{lines_standing}
 use Rattle.clear_book.specs.Machine.{IsLawful}
 use Rattle.clear_values.specs.RowRanges.{AreInRange, IsBankRow, IsClaimRow, IsCreditRow, IsKeptCharge, IsListRow, IsReminderRow, IsReply, IsReportRow, IsRequestRow, IsRunRow, IsSerial, IsWageRow}
 use Rattle.clear_values.specs.Tables.{Tables, bank_key, changed, charge_key, claim_key, employer_key, is_wage_key_of, list_key, reminder_key, report_key, request_key, run_key, wage_key, wage_rows}
 use Rattle.clear_book.specs.Tables.{Stands, noted, request_row}
 use Rattle.clear_values.proofs.KeyedRowsLemmas.{count_by-ordered}
-use Rattle.clear_laws.proofs.AccountLimitLemmas.{standing_within}
 use Rattle.clear_laws.proofs.ClaimsLemmas.{claims_numbered}
 use Rattle.clear_laws.proofs.ListNumbersLemmas.{lists_in_order}
 use Rattle.clear_laws.proofs.RemindersLemmas.{reminders_in_order, runs_in_order}
@@ -39,13 +37,6 @@ serials_counted b t stands k =
     let once : AreOnce serial_key (lines_standing b.entries) = standing_once b.entries in
     let same = count_by-ordered bank_key (λ row. is_key (serial_key row) k) t.bank (lines_standing b.entries) stands.bank_in_order (references_standing b.entries) stands.bank in
     omega (arith, same, once_counted serial_key k (lines_standing b.entries) once)
-
--- at most as many lines are in suspense as may be
-pub suspense_few : (b : Book) (t : Tables) → IsLawful b → Stands b t → suspense_count t.bank ≤ most_suspense
-suspense_few b t lawful stands =
-    let same = count_by-ordered bank_key is_in_suspense t.bank (lines_standing b.entries) stands.bank_in_order (references_standing b.entries) stands.bank in
-    let few = (standing_within b.opening b.entries lawful).0 in
-    omega (arith, same, few)
 
 -- each key that the change adds was free
 pub change_free : (next : Book) (t : Tables) (x : Entry) (change : Change) → IsLawful next → Stands next (noted x (changed change t)) → IsFree change t

@@ -8,8 +8,8 @@ use Rattle.clear_schema.specs.declared.fault.OpenFault.{OpenFault}
 use Rattle.clear_schema.specs.declared.fault.OpenFault.TheVariants.{WrongVersion, Failed}
 use Rattle.clear_host.specs.declared.hindrance.Hindrance.{Hindrance}
 use Rattle.clear_host.specs.declared.hindrance.Hindrance.TheVariants as hindrance
-use Rattle.clear_host.specs.declared.paths.PathKind.{PathKind}
-use Rattle.clear_host.specs.declared.paths.PathKind.TheVariants as path
+use Rattle.clear_files.specs.declared.paths.PathKind.{PathKind}
+use Rattle.clear_files.specs.declared.paths.PathKind.TheVariants as path
 
 -- the fault of a path that can be no store, which is known before it is opened
 abbrev pub refused_path : PathKind → Option OpenFault

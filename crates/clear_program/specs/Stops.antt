@@ -12,8 +12,8 @@ use Rattle.clear_schema.specs.declared.fault.OpenFault.TheVariants.{WrongVersion
 use Rattle.clear_answers.specs.Answer.{carried_text}
 use Rattle.clear_http.specs.declared.serve.Fault.{Fault}
 use Rattle.clear_http.specs.declared.serve.Fault.TheVariants.{Memory}
-use Rattle.clear_host.specs.declared.files.FileFault.{FileFault}
-use Rattle.clear_host.specs.declared.files.FileFault.TheVariants as file
+use Rattle.clear_files.specs.declared.fault.FileFault.{FileFault}
+use Rattle.clear_files.specs.declared.fault.FileFault.TheVariants as file
 use Rattle.clear_program.specs.declared.stop.Stop.{Stop}
 use Rattle.clear_program.specs.declared.stop.Stop.TheVariants as stop
 

@@ -1,14 +1,14 @@
 //! A look at a store, and why there is none to look at.
 ghost use Rattle.std.specs.Prelude.{◌≤◌, IfOk};
 
+use crate::opening::{close_store, open_whole};
 use crate::reasons::reason;
-use crate::run::{close_store, open_whole};
 use crate::stop::{Stop, tell, write_front};
 use crate::work::{Done, say};
 use clear_book::rules::{Rule, StoreCause};
+use clear_files::paths::{PathKind, path_kind};
 use clear_host::hindrance::Hindrance;
 use clear_host::offices::Opened;
-use clear_host::paths::{PathKind, path_kind};
 use clear_reading::look::look;
 use clear_schema::fault::OpenFault;
 use clear_schema::store::SCHEMA;

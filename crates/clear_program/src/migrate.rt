@@ -1,11 +1,11 @@
 //! Whether a store has this program's schema.
 
+use crate::opening::close_store;
 use crate::reasons::refused_path;
-use crate::run::close_store;
 use crate::stop::Stop;
 use clear_cli::ready::schema_line;
+use clear_files::paths::path_kind;
 use clear_host::migrations::bring_to_current;
-use clear_host::paths::path_kind;
 use clear_migrate::schemas::Migration;
 use clear_schema::store::SCHEMA;
 use sqlite_disk::Start;

@@ -4,8 +4,8 @@ ghost use Rattle.clear_program.specs.Reasons.{fault_reason, hindrance_reason, re
 ghost use Rattle.clear_program.specs.Reasons.{schema_reason};
 
 use clear_book::rules::StoreCause;
+use clear_files::paths::PathKind;
 use clear_host::hindrance::Hindrance;
-use clear_host::paths::PathKind;
 use clear_schema::fault::{Fault, OpenFault};
 use clear_schema::store::SCHEMA;
 use std::alloc::{AllocError, Global};

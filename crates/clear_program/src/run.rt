@@ -3,34 +3,23 @@ ghost use Rattle.std.specs.Prelude.{◌≡◌, ◌≤◌, IfOk};
 
 use crate::look::look_at;
 use crate::migrate::migrate_at;
-use crate::reasons::refused_path;
+use crate::opening::{close_office, close_store, open_whole};
 use crate::stop::{Stop, tell};
 use crate::tasks::{Task, Work, read_task, words_of};
 use crate::work::{say, serve_stream, work_on};
-use clear_book::rules::StoreCause;
 use clear_callers::directory::Directory;
 use clear_cli::ready::schema_line;
-use clear_host::hindrance::Hindrance;
-use clear_host::logs::{is_brought_over, is_left_log};
-use clear_host::named::StoreFile;
-use clear_host::offices::{NotOpened, Opened};
-use clear_host::paths::path_kind;
-use clear_host::stores::{create_office, open_office};
+use clear_files::logs::is_left_log;
+use clear_host::stores::create_office;
 use clear_money::days::Day;
 use clear_money::rates::RateTable;
 use clear_sample::memory::office_in_memory;
-use clear_schema::fault::{Fault, OpenFault};
 use clear_schema::store::SCHEMA;
 use clear_wire::counted::Counted;
-use sqlite::{Alter, Connection, FileStore};
 use sqlite_disk::{Start, Unknown};
-use sqlite_std_file::FileFrom;
 
 // The status of a file that was checked and has a fault.
 const BAD_FILE: u8 = 2;
-
-// The file of a store doesn't stand at its path any more.
-const NOT_THERE: OpenFault = OpenFault::Failed(Fault::Store(StoreCause::Other));
 
 /// Does what the words of the command line ask for, and gives the status with which the program
 /// ends: 0 where all was done, 2 where a checked file has a fault, which is told on standard output.
@@ -112,7 +101,7 @@ fn make_at<S: Start>(
     }
     match create_office(rt, store, rates, start) {
         Ok(opened) => {
-            close_store(opened.into_connection());
+            close_office(opened);
             Ok(schema_line(rt.alloc(), SCHEMA)?)
         }
         Err(refused) => Err(Stop::from(refused.fault)),
@@ -135,64 +124,4 @@ fn work_at<S: Start>(
         }
         Err(refused) => Err(Stop::from(refused.fault)),
     }
-}
-
-/// An office that was opened over the whole of its store, and which file that is.
-#[derive(Drop)]
-pub(crate) struct Whole<'a, S: Alter> {
-    pub opened: Opened<S>,
-    pub file: StoreFile<'a>,
-}
-
-// Opens the store at a path, with all that was accepted in its own file: where its log is longer
-// than a close leaves it, as a kill does, the store is closed and opened once more. A path that can
-// hold no store is refused before it is opened, so that an empty file stays empty. To open a store reads
-// all of it: one that doesn't stand at its path any more then, as since it was moved away, is refused.
-pub(crate) fn open_whole<'a, S: Start>(
-    rt: &HostRuntime,
-    store: &'a str,
-    start: S,
-    again: S,
-) -> Result<Whole<'a, FileStore<FileFrom<S>>>, NotOpened<FileStore<FileFrom<S>>>> {
-    if let Some(fault) = refused_path(path_kind(rt, store)) {
-        return Err(not_opened(fault, Hindrance::None));
-    }
-    let Some(file) = StoreFile::at(rt, store) else {
-        return Err(not_opened(NOT_THERE, Hindrance::NotReachable));
-    };
-    let opened = open_brought_over(rt, store, start, again)?;
-    if file.stands(rt) {
-        Ok(Whole { opened, file })
-    } else {
-        close_store(opened.into_connection());
-        Err(not_opened(NOT_THERE, Hindrance::NotReachable))
-    }
-}
-
-fn open_brought_over<S: Start>(
-    rt: &HostRuntime,
-    store: &str,
-    start: S,
-    again: S,
-) -> Result<Opened<FileStore<FileFrom<S>>>, NotOpened<FileStore<FileFrom<S>>>> {
-    let opened = open_office(rt, store, start)?;
-    if is_brought_over(rt, store) {
-        return Ok(opened);
-    }
-    close_store(opened.into_connection());
-    open_office(rt, store, again)
-}
-
-fn not_opened<S: Alter>(fault: OpenFault, hindrance: Hindrance) -> NotOpened<S> {
-    NotOpened {
-        fault,
-        hindrance,
-        connection: None,
-    }
-}
-
-// Closes a store. What was accepted stands in the log too, so a fault of the close, which copies the
-// log into the database's file, isn't told.
-pub(crate) fn close_store<S: Start>(connection: Connection<FileStore<FileFrom<S>>>) {
-    let _ = connection.close();
 }

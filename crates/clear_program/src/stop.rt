@@ -7,7 +7,7 @@ ghost use Rattle.clear_program.specs.Stops.{AppendsFront, Tells};
 
 use clear_answers::answer::carried_text;
 use clear_book::rules::{Rule, StoreCause};
-use clear_host::files::FileFault;
+use clear_files::fault::FileFault;
 use clear_http::serve::{Fault, write_all};
 use clear_schema::fault::{Fault as StoreFault, OpenFault};
 use clear_wire::counted::Counted;

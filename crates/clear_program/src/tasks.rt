@@ -11,7 +11,7 @@ use clear_check::callers::check_callers;
 use clear_check::rates::check_rates;
 use clear_cli::line::read_words;
 use clear_cli::words::{FileKind, LineFault, Words};
-use clear_host::files::{read_caller_file, read_file, read_rate_file};
+use clear_files::read::{read_caller_file, read_file, read_rate_file};
 use clear_money::days::Day;
 use clear_money::numbers::EmployerNo;
 use clear_money::rates::RateTable;

@@ -1,5 +1,6 @@
 //! A file in memory, for a store that ends with its program.
-ghost use Rattle.std.specs.Prelude.{◌≡◌, ◌+◌, ◌<◌, [], drop, is_ok, length, take, true, false, refl, IfErr, OnOk};
+ghost use Rattle.std.specs.Prelude.{◌≡◌, ◌+◌, ◌<◌, [], drop, is_ok, length, take};
+ghost use Rattle.std.specs.Prelude.{true, false, refl, IfErr, OnOk};
 ghost use Rattle.sqlite_disk.specs.Disk.{CountsFault, Cut, Holds, Torn};
 ghost use Rattle.sqlite_disk.specs.Refusal.{finds_no_room};
 ghost use Rattle.clear_sample.specs.Memory.{file_bytes, file_faults};

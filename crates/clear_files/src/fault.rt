@@ -1,0 +1,22 @@
+//! Why a file gives nothing.
+
+use std::io;
+
+/// Why a file gives nothing.
+#[derive(Clone, Copy)]
+pub enum FileFault {
+    /// It can't be opened or read, is too large, or isn't the file that it should be, or a copy can't
+    /// be written, or something stands where it is to be.
+    Unusable,
+    /// There was no memory.
+    Memory,
+}
+
+// Want of memory, or any other fault of a file.
+pub(crate) fn fault_of(error: &io::Error) -> FileFault {
+    if error.kind() == io::ErrorKind::OutOfMemory {
+        FileFault::Memory
+    } else {
+        FileFault::Unusable
+    }
+}

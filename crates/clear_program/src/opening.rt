@@ -1,0 +1,104 @@
+//! Stores in files, opened with all that was accepted, and closed.
+//!
+//! To call a function over any store on one in files costs its proof some 20 seconds: so there are few
+//! such calls, and why a store isn't opened is told without its type.
+
+use crate::reasons::refused_path;
+use clear_book::rules::StoreCause;
+use clear_files::logs::is_brought_over;
+use clear_files::named::StoreFile;
+use clear_files::paths::path_kind;
+use clear_host::hindrance::Hindrance;
+use clear_host::offices::Opened;
+use clear_host::stores::open_office;
+use clear_schema::fault::{Fault, OpenFault};
+use sqlite::{Alter, Connection, FileStore};
+use sqlite_disk::Start;
+use sqlite_std_file::FileFrom;
+
+/// An office that was opened over the whole of its store, and which file that is.
+#[derive(Drop)]
+pub(crate) struct Whole<'a, S: Alter> {
+    pub opened: Opened<S>,
+    pub file: StoreFile<'a>,
+}
+
+/// Why a store isn't opened, and what stood in the way of a connection, which says more.
+#[derive(Clone, Copy)]
+pub(crate) struct Unopened {
+    pub fault: OpenFault,
+    pub hindrance: Hindrance,
+}
+
+// The file of a store doesn't stand at its path any more.
+const GONE: Unopened = Unopened {
+    fault: OpenFault::Failed(Fault::Store(StoreCause::Other)),
+    hindrance: Hindrance::NotReachable,
+};
+
+/// Opens the store at a path, with all that was accepted in its own file: where its log is longer
+/// than a close leaves it, as a kill does, the store is closed and opened once more. A path that can
+/// hold no store is refused before it is opened, so that an empty file stays empty. To open a store reads
+/// all of it: one that doesn't stand at its path any more then, as since it was moved away, is refused.
+pub(crate) fn open_whole<'a, S: Start>(
+    rt: &HostRuntime,
+    store: &'a str,
+    start: S,
+    again: S,
+) -> Result<Whole<'a, FileStore<FileFrom<S>>>, Unopened> {
+    if let Some(fault) = refused_path(path_kind(rt, store)) {
+        return Err(Unopened {
+            fault,
+            hindrance: Hindrance::None,
+        });
+    }
+    let Some(file) = StoreFile::at(rt, store) else {
+        return Err(GONE);
+    };
+    let opened = open_brought_over(rt, store, start, again)?;
+    if file.stands(rt) {
+        Ok(Whole { opened, file })
+    } else {
+        close_office(opened);
+        Err(GONE)
+    }
+}
+
+fn open_brought_over<S: Start>(
+    rt: &HostRuntime,
+    store: &str,
+    start: S,
+    again: S,
+) -> Result<Opened<FileStore<FileFrom<S>>>, Unopened> {
+    let opened = open_once(rt, store, start)?;
+    if is_brought_over(rt, store) {
+        return Ok(opened);
+    }
+    close_office(opened);
+    open_once(rt, store, again)
+}
+
+fn open_once<S: Start>(
+    rt: &HostRuntime,
+    store: &str,
+    start: S,
+) -> Result<Opened<FileStore<FileFrom<S>>>, Unopened> {
+    match open_office(rt, store, start) {
+        Ok(opened) => Ok(opened),
+        Err(refused) => Err(Unopened {
+            fault: refused.fault,
+            hindrance: refused.hindrance,
+        }),
+    }
+}
+
+/// Closes the store of an office.
+pub(crate) fn close_office<S: Start>(opened: Opened<FileStore<FileFrom<S>>>) {
+    close_store(opened.into_connection());
+}
+
+/// Closes a store. What was accepted stands in the log too, so a fault of the close, which copies the
+/// log into the database's file, isn't told.
+pub(crate) fn close_store<S: Start>(connection: Connection<FileStore<FileFrom<S>>>) {
+    let _ = connection.close();
+}

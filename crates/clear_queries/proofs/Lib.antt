@@ -1,0 +1,5 @@
+pub mod BehindLemmas
+pub mod CountsLemmas
+pub mod JudgeLemmas
+pub mod ListLemmas
+pub mod StatementLemmas

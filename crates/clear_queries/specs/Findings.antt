@@ -1,0 +1,61 @@
+-- What is found for a query inside of its transaction, and what is made of it.
+use Rattle.std.specs.Prelude.{◌≡◌, ℕ, List, Some, None}
+use Rattle.std.specs.Prelude.{Result, Ok, Err}
+use Rattle.clear_book.specs.declared.calls.Query.{Query}
+use Rattle.clear_book.specs.declared.outcomes.Answer.{Answer}
+use Rattle.clear_book.specs.declared.outcomes.Answer.TheVariants.{Text}
+use Rattle.clear_book.specs.declared.rules.Rule.{Rule}
+use Rattle.clear_book.specs.Book.{Book}
+use Rattle.clear_book.specs.Judge.{answer_to, own_query}
+use Rattle.clear_book.specs.Machine.{IsLawful}
+use Rattle.clear_book.specs.Allocated.{Represents, StandsWeighed}
+use Rattle.clear_book.specs.Tables.{Tables}
+use Rattle.clear_values.specs.Numbers.{IsListNo, IsRunNo}
+use Rattle.clear_reading.specs.Documents.{list_over, run_over, suspense_over}
+use Rattle.clear_reading.specs.Look.{AreFewSuspended}
+use Rattle.clear_reading.specs.Paid.{ArePiecesFor, pieces_for}
+use Rattle.clear_texts.specs.Paid.{statement_paid}
+use Rattle.clear_schema.specs.declared.body.Stop.{Stop}
+use Rattle.clear_schema.specs.declared.body.Stop.TheVariants as stop
+use Rattle.clear_queries.specs.declared.inquiry.Finding.{Finding}
+use Rattle.clear_queries.specs.declared.inquiry.Finding.TheVariants as finding
+use Rattle.clear_queries.specs.declared.inquiry.RowDocument.{RowDocument}
+use Rattle.clear_queries.specs.declared.inquiry.RowDocument.TheVariants as rows
+use Rattle.clear_queries.specs.Inquiries.{Fails}
+
+-- the text of a document over the rows of the tables: of a statement over the firm's pieces, of a list
+-- over its claims, of a run over its reminders, and of the lines in suspense over these
+abbrev pub text_of : Tables → RowDocument → List ℕ
+text_of t (rows.Statement head) = statement_paid head (pieces_for head t)
+text_of t (rows.List list) = list_over list t
+text_of t (rows.Run run) = run_over run t
+text_of t (rows.Suspense day) = suspense_over day t
+
+-- the answer that is found, where a document stands for its text over the tables
+abbrev pub answer_of : Tables → Finding → Answer
+answer_of t (finding.Answer answer) = answer
+answer_of t (finding.Document document) = Text (text_of t document)
+
+-- the document can be told over the tables: each of a firm's pieces stands under a charge of its
+-- statement, a list and a run have numbers of their kind, and as few lines are in suspense as may be
+abbrev pub IsTellable : RowDocument → Tables → Type 0
+IsTellable (rows.Statement head) t = ArePiecesFor head t
+IsTellable (rows.List list) t = IsListNo list.list
+IsTellable (rows.Run run) t = IsRunNo run.run
+IsTellable (rows.Suspense day) t = AreFewSuspended t
+
+-- so it is with what is found, where the tables are those of a lawful book
+abbrev pub IsTold : Finding → Tables → Type 0
+IsTold (finding.Answer answer) t = Unit {0}
+IsTold (finding.Document document) t =
+    (b : Book) → IsLawful b → Represents b t → IsTellable document t
+
+-- what the own rules of a query say, and its answer
+abbrev pub Replies : ℕ → Query → Tables → Result Finding (Stop Rule) → Type 0
+Replies day query t (Ok found) =
+    IsTold found t
+    × ((b : Book) → IsLawful b → Represents b t
+    → (own_query b query ≡ None) × (answer_of t found ≡ answer_to b day query))
+Replies day query t (Err (stop.Refused why)) =
+    (b : Book) → IsLawful b → StandsWeighed b t → own_query b query ≡ Some why
+Replies day query t (Err (stop.Fault fault)) = Fails t fault

@@ -1,0 +1,2 @@
+mod TalkLemmas
+mod ToldLemmas

@@ -1,0 +1,45 @@
+use Rattle.std.proofs.Common.{◌≡◌, true, refl, ap, ◌∙◌, arith}
+use Rattle.clear_server.specs.declared.connections.Ended.TheVariants.{NoConnections, Served, StoreGone}
+use Rattle.clear_server.proofs.TalkLemmas.{clean, none_talked, one_more_talked, served}
+use Rattle.clear_server.proofs.ToldLemmas.{none_told, then_told}
+use Rattle.clear_server.proofs.connections.serve_connections.Goals as goal
+
+pub loop-served-init : goal.loop-served-init
+loop-served-init g c = record {
+  talked = none_talked g.S.Store _ _ _;
+  failed = λ was. refl;
+  told = none_told _ _;
+}
+
+pub loop-served-preserved : goal.loop-served-preserved
+loop-served-preserved g c =
+    let so_far = c.loop-served.invariant in
+    let before = λ (was : c.args.office.now.failed ≡ true). ap (λ a. a.failed) (so_far.failed was) ∙ was in
+    let after = λ (was : c.loop-served.office.failed ≡ true). ap (λ a. a.failed) (c.serve_next-talked.ensures.failed was) ∙ was in
+    record {
+      talked = one_more_talked g.S.Store _ _ _ _ _ _ so_far.talked c.serve_next-talked.ensures.said;
+      failed = λ was. c.serve_next-talked.ensures.failed (before was) ∙ so_far.failed was;
+      told = then_told c.loop-served.served _ _ _ (g.E.Write.contents c.args.errors.now) _ _ c.serve_next-talked.result.end before after c.loop-served.told c.tell.result _ _ _
+          c.and-told.ensures c.failed-had_failed.ensures c.failed.ensures so_far.told c.tell.ensures;
+    }
+
+pub returns-then-not-stands-clause-served : goal.returns-then-not-stands-clause-served
+returns-then-not-stands-clause-served g c =
+    served g.S.Store _ _ StoreGone c.loop-served.served c.args.count _ _ c.loop-served-test.true c.loop-served.invariant.talked
+
+pub returns-then-not-stands-clause-clean : goal.returns-then-not-stands-clause-clean
+returns-then-not-stands-clause-clean g c = clean g.S.Store _ _ _ _ _ c.loop-served.invariant.talked
+
+pub returns-then-failures-gt-FAILURES-clause-served : goal.returns-then-failures-gt-FAILURES-clause-served
+returns-then-failures-gt-FAILURES-clause-served g c =
+    served g.S.Store _ _ NoConnections c.loop-served.served c.args.count _ _ c.loop-served-test.true c.loop-served.invariant.talked
+
+pub returns-then-failures-gt-FAILURES-clause-clean : goal.returns-then-failures-gt-FAILURES-clause-clean
+returns-then-failures-gt-FAILURES-clause-clean g c = clean g.S.Store _ _ _ _ _ c.loop-served.invariant.talked
+
+pub returns-clause-served : goal.returns-clause-served
+returns-clause-served g c =
+    served g.S.Store _ _ Served c.loop-served.served c.args.count _ _ (omega (arith, c.loop-served.auto.served-end, c.loop-served-test.false)) c.loop-served.invariant.talked
+
+pub returns-clause-clean : goal.returns-clause-clean
+returns-clause-clean g c = clean g.S.Store _ _ _ _ _ c.loop-served.invariant.talked
