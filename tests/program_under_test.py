@@ -3,6 +3,7 @@
 import os
 import re
 import shutil
+import signal
 import socket
 import subprocess
 import sys
@@ -14,6 +15,9 @@ from pathlib import Path
 ROOT = Path(__file__).resolve().parent.parent
 BUILT = ROOT / "crates/clear_app/out/clear_app"
 NOBODY = 65534 if os.geteuid() == 0 else None
+
+# A shell that starts these scripts in the background has them, and what they start, leave an interrupt aside: not so here.
+signal.signal(signal.SIGINT, signal.default_int_handler)
 
 ROW_2024 = """[[rate]]
 from = "2024-01"
