@@ -1,6 +1,6 @@
 //! What is done with an office.
 
-use crate::stop::{NO_MEMORY, Stop, stop_at_records, write_front};
+use crate::stop::{NO_MEMORY, Stop, stop_at_records};
 use crate::tasks::Work;
 use clear_book::calls::{Caller, Command, Query};
 use clear_book::numbers::RequestNo;
@@ -143,7 +143,8 @@ fn tell_ready<E: Write>(
     errors: &mut E,
 ) -> Result<(), AllocError> {
     let text = ready_text(alloc, port, day, ledger_day)?;
-    write_front(&mut Counted::new(errors), text.as_bytes());
+    // What can't be written is lost.
+    let _ = errors.write_all(text.as_bytes());
     Ok(())
 }
 
