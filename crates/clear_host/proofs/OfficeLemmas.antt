@@ -5,7 +5,7 @@ use Rattle.sqlite.specs.Store as store
 use Rattle.sqlite.specs.Tree.{Trees}
 use Rattle.clear_book.specs.Tables.{Tables}
 use Rattle.clear_schema.specs.Held.{HasTables, StandsFor}
-use Rattle.clear_queries.specs.Stored.{Holds}
+use Rattle.clear_schema.specs.Still.{Holds}
 
 module _ {S : Type 0} (g : store.Ghosts S) where
   -- the tables are those of before

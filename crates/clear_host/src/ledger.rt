@@ -4,7 +4,7 @@ ghost use Rattle.sqlite.specs.Held.{state};
 ghost use Rattle.sqlite.specs.State.{HasCleanDisk};
 ghost use Rattle.clear_book.specs.Tables.{Tables};
 ghost use Rattle.clear_schema.specs.Held.{HasTables};
-ghost use Rattle.clear_queries.specs.Stored.{Holds};
+ghost use Rattle.clear_schema.specs.Still.{Holds};
 
 use clear_firms::counts::find_counts;
 use clear_money::days::Day;

@@ -1,5 +1,5 @@
 -- The pieces of a firm's account as rows: dated pieces, each with the firm and with the reference of its credit.
-use Rattle.std.proofs.Common.{◌≡◌, ◌≢◌, ℕ, suc, ◌+◌, List, [], ◌∷◌, ◌++◌, length, map, not, Some, Bool, true, false, cond, ◌&&◌, ◌||◌, ◌==◌, nat_le, nat_lt, refl, sym, ap, ◌∙◌, arith}
+use Rattle.std.proofs.Common.{◌≡◌, ◌≢◌, ℕ, zero, suc, ◌+◌, ◌<◌, ◌≤◌, List, [], ◌∷◌, ◌++◌, length, map, not, Some, Bool, true, false, cond, ◌&&◌, ◌||◌, ◌==◌, nat_le, nat_lt, refl, sym, ap, ◌∙◌, arith}
 use Rattle.std.proofs.lemmas.Bool.{eq-eqb, ne_eqb}
 use Rattle.std.proofs.lemmas.Bool.Decides.{nat_tests}
 use Rattle.std.proofs.lemmas.List.{length-map, map-append}
@@ -7,16 +7,19 @@ use Rattle.std.proofs.lemmas.List.Concat.{flat_map-cons}
 use Rattle.std.proofs.lemmas.List.Elements.{All-head, All-tail, All-weaker}
 use Rattle.std.specs.List.{All, AllByRecursion, AllPairs, enumerate_from, find, flat_map, range_with_len, slice_index_or}
 use Rattle.std.specs.Option.{option_map_or}
-use Rattle.clear_account.specs.Account.{charge_at, credit_at, places}
+use Rattle.clear_account.specs.Account.{IsCharge, charge_at, credit_at, places}
 use Rattle.clear_account.specs.Allocation.{share}
 use Rattle.clear_account.specs.Suffix.{share_behind}
 use Rattle.clear_account.specs.declared.entries.Charge.{Charge}
 use Rattle.clear_account.specs.declared.entries.Credit.{Credit}
+use Rattle.clear_account.proofs.AccountLemmas.{charge_at_place}
+use Rattle.clear_account.proofs.ShareLemmas.{charged_up_to-more}
 use Rattle.clear_account.proofs.PlaceLemmas.{AllPairs-head, AllPairs-tail}
 use Rattle.clear_kept.specs.Changes.{Blurs, cleared, is_from}
 use Rattle.clear_kept.specs.Dated.{dated_behind, dated_piece_of, dated_pieces}
 use Rattle.clear_kept.specs.declared.rows.DatedPiece.{DatedPiece}
 use Rattle.clear_values.specs.Keyed.{without_rows}
+use Rattle.clear_values.specs.RowRanges.{IsCreditRow, IsPieceRow}
 use Rattle.clear_values.specs.Tables.{is_piece_key_from, piece_key}
 use Rattle.clear_values.specs.declared.rows.CreditRow.{CreditRow}
 use Rattle.clear_values.specs.declared.rows.PieceRow.{PieceRow}
@@ -32,38 +35,61 @@ use Rattle.clear_laws.proofs.SerialLemmas.{of_both}
 abbrev pub pieces_for : List Charge → List CreditRow → List PieceRow
 pieces_for charges rows = flat_map (pieces_of charges rows) (places charges)
 
--- ---- the pieces of a firm's credits are the firm's
+-- ---- what is so of each piece's row is so of all, whatever each credit pays of each contribution
 
+module _ (P : PieceRow → Type 0) (Q : CreditRow → Type 0) (charges : List Charge) (cents : ℕ → ℕ → ℕ) (each : (i j : ℕ) (row : CreditRow) → i < length charges → Q row → P (piece_row (charge_at charges i).month row (cents i j))) where
+  abbrev pieces_at : ℕ → ℕ → CreditRow → List PieceRow
+  pieces_at i j row = piece_of (charge_at charges i).month row (cents i j)
+
+  abbrev pieces_on : ℕ → ℕ → List CreditRow → List PieceRow
+  pieces_on i n rows = flat_map (λ placed. pieces_at i placed.0 placed.1) (enumerate_from n rows)
+
+  of_piece : (i j : ℕ) (row : CreditRow) → i < length charges → Q row → AllByRecursion P (pieces_at i j row)
+  of_piece i j row within is = told (nat_lt 0 (cents i j))
+    where
+      told : (b : Bool) → AllByRecursion P (cond b (piece_row (charge_at charges i).month row (cents i j) ∷ []) [])
+      told true = (each i j row within is, tt)
+      told false = tt
+
+  of_line : (i n : ℕ) (rows : List CreditRow) → i < length charges → AllByRecursion Q rows → AllByRecursion P (pieces_on i n rows)
+  of_line i n [] within all = tt
+  of_line i n (row ∷ rows) within all = both P (pieces_at i n row) (pieces_on i (n + 1) rows) (of_piece i n row within all.0) (of_line i (n + 1) rows within all.1)
+
+  of_lines : (n m : ℕ) (rows : List CreditRow) → n + m ≤ length charges → AllByRecursion Q rows → AllByRecursion P (flat_map (λ i. pieces_on i 0 rows) (range_with_len n m))
+  of_lines n zero rows few all = tt
+  of_lines n (suc m) rows few all = both P (pieces_on n 0 rows) (flat_map (λ i. pieces_on i 0 rows) (range_with_len (n + 1) m)) (of_line n 0 rows (omega arith) all) (of_lines (n + 1) m rows (omega arith) all)
+
+  of_all : (rows : List CreditRow) → AllByRecursion Q rows → AllByRecursion P (flat_map (λ i. pieces_on i 0 rows) (places charges))
+  of_all rows all = of_lines 0 (length charges) rows (omega arith) all
+
+-- the pieces of a firm's credits are the firm's
 module _ (e : ℕ) where
   abbrev pub IsOf : PieceRow → Type 0
   IsOf row = row.employer ≡ e
 
-  own_piece : (m : ℕ) (row : CreditRow) (cents : ℕ) → row.employer ≡ e → AllByRecursion IsOf (piece_of m row cents)
-  own_piece m row cents is = told (nat_lt 0 cents)
-    where
-      told : (b : Bool) → AllByRecursion IsOf (cond b (piece_row m row cents ∷ []) [])
-      told true = (is, tt)
-      told false = tt
-
-  own_behind : (m : ℕ) (f : ℕ → ℕ) (n : ℕ) (rows : List CreditRow) → AllByRecursion (λ row. row.employer ≡ e) rows → AllByRecursion IsOf (flat_map (λ placed. piece_of m placed.1 (f placed.0)) (enumerate_from n rows))
-  own_behind m f n [] all = tt
-  own_behind m f n (row ∷ rows) all =
-      both IsOf (piece_of m row (f n)) (flat_map (λ placed. piece_of m placed.1 (f placed.0)) (enumerate_from (n + 1) rows))
-      (own_piece m row (f n) all.0) (own_behind m f (n + 1) rows all.1)
-
-  own_joined : (f : ℕ → List PieceRow) → ((i : ℕ) → AllByRecursion IsOf (f i)) → (is : List ℕ) → AllByRecursion IsOf (flat_map f is)
-  own_joined f each [] = tt
-  own_joined f each (i ∷ is) = both IsOf (f i) (flat_map f is) (each i) (own_joined f each is)
-
   pub pieces_for-own : (charges : List Charge) (rows : List CreditRow) → AllByRecursion (λ row. row.employer ≡ e) rows → AllByRecursion IsOf (pieces_for charges rows)
-  pieces_for-own charges rows all =
-      own_joined (pieces_of charges rows)
-      (λ i. own_behind (charge_at charges i).month (λ j. share charges (map row_credit rows) i j) 0 rows all) (places charges)
+  pieces_for-own charges rows all = of_all IsOf _ charges (share charges (map row_credit rows)) (λ i j row within is. is) rows all
 
   pub pieces_left-own : (s p : ℕ) (charges : List Charge) (rows : List CreditRow) → AllByRecursion (λ row. row.employer ≡ e) rows → AllByRecursion IsOf (pieces_left s p charges rows)
-  pieces_left-own s p charges rows all =
-      own_joined (λ i. flat_map (λ placed. piece_of (charge_at charges i).month placed.1 (share_behind s p charges (map row_credit rows) i placed.0)) (enumerate_from 0 rows))
-      (λ i. own_behind (charge_at charges i).month (λ j. share_behind s p charges (map row_credit rows) i j) 0 rows all) (places charges)
+  pieces_left-own s p charges rows all = of_all IsOf _ charges (share_behind s p charges (map row_credit rows)) (λ i j row within is. is) rows all
+
+-- the values of the pieces of charges and credits are in their ranges
+module _ (charges : List Charge) (each_charge : All IsCharge charges) where
+  in_range : (i cents : ℕ) (row : CreditRow) → i < length charges → cents ≤ (charge_at charges i).cents → IsCreditRow row → IsPieceRow (piece_row (charge_at charges i).month row cents)
+  in_range i cents row within few credit =
+      let charge = charge_at_place charges i each_charge within in
+      let most = charge.cents in
+      record { employer = credit.employer; month = charge.month; day = credit.day; serial = credit.serial; cents = omega arith; reference = credit.reference }
+
+  pub pieces_for-in_range : (rows : List CreditRow) → AllByRecursion IsCreditRow rows → AllByRecursion IsPieceRow (pieces_for charges rows)
+  pieces_for-in_range rows all =
+      of_all IsPieceRow IsCreditRow charges (share charges (map row_credit rows))
+      (λ i j row within credit. let step = charged_up_to-more charges i within in in_range i (share charges (map row_credit rows) i j) row within (omega arith) credit) rows all
+
+  pub pieces_left-in_range : (s p : ℕ) (rows : List CreditRow) → AllByRecursion IsCreditRow rows → AllByRecursion IsPieceRow (pieces_left s p charges rows)
+  pieces_left-in_range s p rows all =
+      of_all IsPieceRow IsCreditRow charges (share_behind s p charges (map row_credit rows))
+      (λ i j row within credit. let step = charged_up_to-more charges i within in in_range i (share_behind s p charges (map row_credit rows) i j) row within (omega arith) credit) rows all
 
 -- ---- rows of dated pieces
 

@@ -10,8 +10,8 @@ use Rattle.clear_book.specs.Tables.{Tables}
 use Rattle.clear_laws.proofs.FirstLemmas.{first_stands}
 use Rattle.clear_laws.proofs.TablePiecesLemmas.{first_allocated}
 use Rattle.clear_schema.specs.First.{first_tables}
+use Rattle.clear_schema.specs.Still.{Holds}
 use Rattle.clear_office.specs.Office.{AtOffice, IsHonest, Keeps}
-use Rattle.clear_queries.specs.Stored.{Holds}
 
 -- the first tables represent the first book
 pub first_represents : (rates : List Rate) → Represents (first_book rates) (first_tables rates)

@@ -7,8 +7,8 @@ ghost use Rattle.clear_schema.specs.First.{first_tables};
 ghost use Rattle.clear_schema.specs.Held.{TellsSchema};
 ghost use Rattle.clear_schema.specs.Schema.{no_schema};
 ghost use Rattle.clear_schema.specs.declared.fault.OpenFault.TheVariants.{WrongVersion};
+ghost use Rattle.clear_schema.specs.Still.{Holds};
 ghost use Rattle.clear_office.specs.Office.{IsHonest, Keeps};
-ghost use Rattle.clear_queries.specs.Stored.{Holds};
 
 use crate::office::Office;
 use clear_money::rates::RateTable;

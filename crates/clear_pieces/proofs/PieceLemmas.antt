@@ -1,29 +1,25 @@
 -- The rows of the pieces of contributions and credits that are left of a firm.
-use Rattle.std.proofs.Common.{◌≡◌, ◌≢◌, ℕ, zero, suc, ◌+◌, ◌<◌, ◌≤◌, List, [], ◌∷◌, ◌++◌, length, drop, get_or, map, take, Bool, true, false, cond, nat_lt, Option, Some, refl, sym, ap, subst, ◌∙◌, arith}
-use Rattle.std.specs.List.{All, AllPairs, AllByRecursion, cons_option, enumerate_from, filter_map, flat_map, range_with_len, slice_get}
+use Rattle.std.proofs.Common.{◌≡◌, ◌≢◌, ℕ, suc, ◌+◌, ◌<◌, List, [], ◌∷◌, ◌++◌, length, drop, get_or, map, take, Bool, true, false, cond, nat_lt, Option, Some, refl, sym, ap, subst, ◌∙◌, arith}
+use Rattle.std.specs.List.{AllPairs, cons_option, enumerate_from, filter_map, flat_map, range_with_len, slice_get}
 use Rattle.std.specs.Option.{option_map}
 use Rattle.std.proofs.lemmas.List.{drop-map, get_or-drop, length-drop, length-map, take_more}
 use Rattle.std.proofs.lemmas.List.Concat.{flat_map-cons}
 use Rattle.std.proofs.lemmas.List.Elements.{filter_map-append}
 use Rattle.std.proofs.lemmas.Option.{slice_get_read, slice_get_within}
-use Rattle.sqlite_trees.proofs.ListLemmas.{all-flat_map}
 use Rattle.clear_account.specs.declared.entries.Charge.{Charge}
 use Rattle.clear_account.specs.declared.entries.Credit.{Credit}
 use Rattle.clear_account.specs.declared.entries.Piece.{Piece}
-use Rattle.clear_account.specs.Account.{IsCharge, charge_at, credit_at, places}
-use Rattle.clear_account.specs.Allocation.{piece_of as account_piece, share}
+use Rattle.clear_account.specs.Account.{charge_at, credit_at, places}
+use Rattle.clear_account.specs.Allocation.{piece_of as account_piece}
 use Rattle.clear_account.specs.Suffix.{pieces_behind, share_behind}
-use Rattle.clear_account.proofs.AccountLemmas.{charge_at_place}
-use Rattle.clear_account.proofs.ShareLemmas.{charged_up_to-more}
 use Rattle.clear_kept.specs.Dated.{place_of_serial, placed}
 use Rattle.clear_kept.specs.declared.rows.PlacedPiece.{PlacedPiece}
 use Rattle.clear_kept.proofs.DatedLemmas.{place_is}
-use Rattle.clear_values.specs.RowRanges.{IsCreditRow, IsPieceRow}
 use Rattle.clear_values.specs.declared.rows.CreditRow.{CreditRow}
 use Rattle.clear_values.specs.declared.rows.PieceRow.{PieceRow}
 use Rattle.clear_book.specs.Accounts.{row_credit}
 use Rattle.clear_book.specs.Allocated.{pieces_left}
-use Rattle.clear_book.specs.Pieces.{piece_of, piece_row, pieces_of}
+use Rattle.clear_book.specs.Pieces.{piece_of, piece_row}
 use Rattle.clear_pieces.specs.Firm.{row_placed, rows_placed}
 
 -- ---- lists
@@ -39,14 +35,6 @@ filter_map-flat_map h g (x ∷ xs) =
     ∙ filter_map-append h (g x) (flat_map g xs)
     ∙ ap (λ rest. filter_map h (g x) ++ rest) (filter_map-flat_map h g xs)
     ∙ sym (flat_map-cons (λ y. filter_map h (g y)) x xs)
-
-numbers_hold : (P : ℕ → Type 0) (n m : ℕ) → ((k : ℕ) → n ≤ k → k < n + m → P k) → AllByRecursion P (range_with_len n m)
-numbers_hold P n zero all = tt
-numbers_hold P n (suc m) all = (all n (omega arith) (omega arith), numbers_hold P (n + 1) m (λ k low high. all k (omega arith) (omega arith)))
-
-rows_hold : {X : Type 0} (P : ℕ × X → Type 0) (Q : X → Type 0) → ((n : ℕ) (x : X) → Q x → P (n, x)) → (n : ℕ) (xs : List X) → AllByRecursion Q xs → AllByRecursion P (enumerate_from n xs)
-rows_hold P Q each n [] all = tt
-rows_hold P Q each n (x ∷ xs) all = (each n x all.0, rows_hold P Q each (n + 1) xs all.1)
 
 -- ---- what the pieces are
 
@@ -112,31 +100,3 @@ placed_next rows all i next credit row within is inside found row_is =
     ap (λ (r : Option PieceRow). rows_placed rows (take i all) ++ cons_option r []) (sym one)
     ∙ sym (filter_map-append (row_placed rows) (take i all) (next ∷ []))
     ∙ ap (rows_placed rows) (ap (λ (p : PlacedPiece). take i all ++ p ∷ []) is ∙ sym (take_more all i next within))
-
--- ---- what their numbers are
-
-one_in_range : (c : Charge) (row : CreditRow) (cents : ℕ) → IsCharge c → IsCreditRow row → cents ≤ c.cents → AllByRecursion IsPieceRow (piece_of c.month row cents)
-one_in_range c row cents charge credit few = told (nat_lt 0 cents)
-  where
-    told : (b : Bool) → AllByRecursion IsPieceRow (cond b (piece_row c.month row cents ∷ []) [])
-    told true =
-        let most = charge.cents in
-        (record { employer = credit.employer; month = charge.month; day = credit.day; serial = credit.serial; cents = omega arith; reference = credit.reference }, tt)
-    told false = tt
-
-pub left_in_range : (s p : ℕ) (charges : List Charge) (rows : List CreditRow) → All IsCharge charges → AllByRecursion IsCreditRow rows → AllByRecursion IsPieceRow (pieces_left s p charges rows)
-left_in_range s p charges rows each in_range =
-    all-flat_map IsPieceRow _ (places charges)
-    (numbers_hold _ 0 (length charges) (λ i low high.
-    let step = charged_up_to-more charges i (omega arith) in
-    all-flat_map IsPieceRow _ (enumerate_from 0 rows)
-    (rows_hold _ IsCreditRow (λ j row good. one_in_range (charge_at charges i) row (share_behind s p charges (map row_credit rows) i j) (charge_at_place charges i each (omega arith)) good (omega arith)) 0 rows in_range)))
-
--- so are those of all pieces of an account
-pub all_in_range : (charges : List Charge) (rows : List CreditRow) → All IsCharge charges → AllByRecursion IsCreditRow rows → AllByRecursion IsPieceRow (flat_map (pieces_of charges rows) (places charges))
-all_in_range charges rows each in_range =
-    all-flat_map IsPieceRow _ (places charges)
-    (numbers_hold _ 0 (length charges) (λ i low high.
-    let step = charged_up_to-more charges i (omega arith) in
-    all-flat_map IsPieceRow _ (enumerate_from 0 rows)
-    (rows_hold _ IsCreditRow (λ j row good. one_in_range (charge_at charges i) row (share charges (map row_credit rows) i j) (charge_at_place charges i each (omega arith)) good (omega arith)) 0 rows in_range)))

@@ -16,9 +16,9 @@ use Rattle.clear_book.specs.Lines.{is_credit_of}
 use Rattle.clear_book.specs.Machine.{IsLawful}
 use Rattle.clear_book.specs.Own.Statement.{own_statement}
 use Rattle.clear_book.specs.Tables.{Tables}
+use Rattle.clear_laws.proofs.PieceRowLemmas.{pieces_for-in_range}
 use Rattle.clear_laws.proofs.RowRangeLemmas.{rows_in_range}
 use Rattle.clear_laws.proofs.TableAccountLemmas.{account_of_tables}
-use Rattle.clear_pieces.proofs.PieceLemmas.{all_in_range}
 use Rattle.clear_reading.specs.Paid.{ArePiecesFor, pieces_for}
 use Rattle.clear_texts.proofs.PaidBookLemmas.{told_pieces, told_text}
 use Rattle.clear_texts.specs.Paid.{statement_paid}
@@ -33,7 +33,7 @@ module _ (b : Book) (t : Tables) (lawful : IsLawful b) (represents : Represents 
   pieces_in_range : (e : ℕ) → AllByRecursion IsPieceRow (filter (λ (row : PieceRow). row.employer == e) t.pieces)
   pieces_in_range e =
       subst (AllByRecursion IsPieceRow) (sym (represents.pieces.pieces e ∙ map-id (table_pieces t e)))
-      (all_in_range (kept_charges t e) (contribution_rows t e) (account_of_tables b t lawful represents.stands e).each_charge
+      (pieces_for-in_range (kept_charges t e) (account_of_tables b t lawful represents.stands e).each_charge (contribution_rows t e)
       (all-filter IsCreditRow (is_credit_of e Contribution) t.credits (rows_in_range b t lawful represents.stands).credits))
 
   module _ (e day : ℕ) (head : StatementHead) (are : IsHead b e day head) where

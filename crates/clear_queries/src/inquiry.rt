@@ -13,13 +13,12 @@ ghost use Rattle.clear_book.specs.Tables.{Tables};
 ghost use Rattle.clear_schema.specs.Faults.{IsOfDisk};
 ghost use Rattle.clear_schema.specs.Frame.{Leaves};
 ghost use Rattle.clear_schema.specs.Held.{HasTables, StandsFor};
-ghost use Rattle.clear_schema.specs.Still.{IsStill};
+ghost use Rattle.clear_schema.specs.Still.{Holds, IsStill};
 ghost use Rattle.clear_debts.specs.Reads.{LeavesOpen};
 ghost use Rattle.clear_reading.specs.Reader.{TellsDocument};
 ghost use Rattle.clear_queries.specs.Findings.{IsTellable, IsTold, Replies};
 ghost use Rattle.clear_queries.specs.Inquiries.{FailsToTell, Refuses, Tells};
 ghost use Rattle.clear_queries.specs.Findings.{answer_of, text_of};
-ghost use Rattle.clear_queries.specs.Stored.{Holds};
 
 use clear_book::calls::Query;
 use clear_book::documents::Document;
@@ -79,8 +78,14 @@ pub(crate) enum RowDocument {
     Suspense(Day),
 }
 
-/// Answers a query: by one transaction that leaves the records, and behind it, for a statement, for a
-/// payout list, for a reminder run and for the lines in suspense, by their rows, one at a time.
+/// Answers a query whose access was judged before: by one transaction that leaves the records, and behind
+/// it, for a statement, for a payout list, for a reminder run and for the lines in suspense, by their rows,
+/// one at a time.
+///
+/// Where the tables are those of a lawful book, the answer is the judge's. `Stop::Refused` then tells the
+/// judge's rule, a day before the ledger day first, then the query's own rules, or want of memory.
+/// `Stop::Fault` tells what failed of the store or of memory: no key and no row of such tables. After an
+/// error the tables are as they were, as far as the connection is still open to show them.
 pub fn inquire<S: Alter>(
     alloc: Global,
     conn: &mut Connection<S>,

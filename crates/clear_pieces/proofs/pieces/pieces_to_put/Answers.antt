@@ -7,8 +7,9 @@ use Rattle.clear_account.specs.Suffix.{pieces_behind}
 use Rattle.clear_kept.specs.Dated.{placed}
 use Rattle.clear_values.specs.RowRanges.{IsCreditRow, IsPieceRow}
 use Rattle.clear_laws.proofs.AccountPiecesLemmas.{all_drop}
+use Rattle.clear_laws.proofs.PieceRowLemmas.{pieces_left-in_range}
 use Rattle.clear_pieces.specs.Firm.{HasItsRows, pieces_from, rows_placed}
-use Rattle.clear_pieces.proofs.PieceLemmas.{left_in_range, rows_behind}
+use Rattle.clear_pieces.proofs.PieceLemmas.{rows_behind}
 use Rattle.clear_pieces.proofs.pieces.pieces_to_put.Goals as goal
 
 rows_are : (c : goal.After-drop-placed-2) → HasItsRows c.args.firm.now → c.in_ok-rows_of.field-0.items ≡ pieces_from c.args.firm.now c.args.start.now
@@ -32,5 +33,5 @@ returns-clause-ranges c same in_range =
     let firm = c.args.firm.now in
     let start = c.args.start.now in
     subst (AllByRecursion IsPieceRow) (sym (rows_are c same))
-    (left_in_range start.charges.cents start.credits.cents (drop start.charges.count firm.account.charges) (drop start.credits.count firm.rows.items)
-    (All-drop IsCharge start.charges.count firm.account.charges c.all_charges.ensures.account.each_charge) (all_drop IsCreditRow start.credits.count firm.rows.items in_range))
+    (pieces_left-in_range (drop start.charges.count firm.account.charges) (All-drop IsCharge start.charges.count firm.account.charges c.all_charges.ensures.account.each_charge)
+    start.charges.cents start.credits.cents (drop start.credits.count firm.rows.items) (all_drop IsCreditRow start.credits.count firm.rows.items in_range))
