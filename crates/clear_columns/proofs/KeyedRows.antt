@@ -190,6 +190,6 @@ module _ {X : Type 0} (it : KeyedTable X) where
 
   -- so a statement that was run with rows puts them in
   pub puts_all : {S A : Type 0} (g : Ghosts S) (old new : Held S) {sql : List ℕ} {terms : List Term} {width : ℕ} → Says sql (Insert it.at (Values terms width)) → (params : Row) (x : X) (xs : List X) → value_rows (stamped it.table params) width (length terms / width) terms ≡ map (λ x. Null ∷ it.given x) (x ∷ xs)
-      → (r : Result A Fault) (out : Type 0) → ¬ out → Runs g old new sql params r → Writes g old new r out (λ t. are_held it.held it.key (x ∷ xs) (it.rows t)) (λ t. it.with_those t (with_rows it.key (it.rows t) (x ∷ xs)))
-  puts_all g old new {sql} says params x xs given r out within runs =
-      writes g old new sql params r out _ _ within (λ t has ran. inserts_all t (state g old) (state g new) has says params x xs given ran) (λ t has broke. refused_all t (state g old) (state g new) has says params x xs given broke) runs
+      → (r : Result A Fault) (good : Type 0) → good → Runs g old new sql params r → Writes g old new r good (λ t. are_held it.held it.key (x ∷ xs) (it.rows t)) (λ t. it.with_those t (with_rows it.key (it.rows t) (x ∷ xs)))
+  puts_all g old new {sql} says params x xs given r good within runs =
+      writes g old new sql params r good _ _ within (λ t has ran. inserts_all t (state g old) (state g new) has says params x xs given ran) (λ t has broke. refused_all t (state g old) (state g new) has says params x xs given broke) runs

@@ -184,9 +184,9 @@ module _ {X : Type 0} (it : KeyedTable X) where
 
   -- so a statement that was run with a row puts it in
   pub puts : {S A : Type 0} (g : Ghosts S) (old new : Held S) {sql : List ℕ} {terms : List Term} {width : ℕ} → Says sql (Insert it.at (Values terms width)) → (x : X) → value_rows (stamped it.table (it.given x)) width (length terms / width) terms ≡ (Null ∷ it.given x) ∷ []
-      → (r : Result A Fault) (out : Type 0) → ¬ out → Runs g old new sql (it.given x) r → Writes g old new r out (λ t. it.held x (it.rows t)) (λ t. it.with_those t (with_row it.key (it.rows t) x))
-  puts g old new {sql} says x given r out within runs =
-      writes g old new sql (it.given x) r out _ _ within (λ t has ran. inserts t (state g old) (state g new) has says (it.given x) x given ran) (λ t has broke. refused t (state g old) (state g new) has says (it.given x) x given broke) runs
+      → (r : Result A Fault) (good : Type 0) → good → Runs g old new sql (it.given x) r → Writes g old new r good (λ t. it.held x (it.rows t)) (λ t. it.with_those t (with_row it.key (it.rows t) x))
+  puts g old new {sql} says x given r good within runs =
+      writes g old new sql (it.given x) r good _ _ within (λ t has ran. inserts t (state g old) (state g new) has says (it.given x) x given ran) (λ t has broke. refused t (state g old) (state g new) has says (it.given x) x given broke) runs
 
   -- ---- another row in the place of one
 
@@ -258,23 +258,23 @@ module _ {X : Type 0} (it : KeyedTable X) where
   -- so a statement that changes a row changes it
   pub sets : {S A : Type 0} (g : Ghosts S) (old new : Held S) {sql : List ℕ} {conditions terms : List Term} → Says sql (Update it.at (plain_program it.table.tree conditions terms [])) → (params : Row) (p : X → Bool) (f : X → X) → ((x : X) → it.key (f x) ≡ it.key x) → AllByRecursion (KeepsKey it.given f) it.keys
       → ((y : ℤ × X) → meets conditions params (keyed_row it.given y) ≡ p (content y)) → ((y : ℤ × X) → output (plain_query it.table.tree conditions terms []) (params ∷ keyed_row it.given y ∷ []) ≡ ([], Int (number y) ∷ keyed_row it.given (turned f y))) → ((t : Tables) (db : Database) → HasTables t db → length (filter p (it.rows t)) ≤ 1)
-      → (r : Result A Fault) (out : Type 0) → ¬ out → Runs g old new sql params r → Writes g old new r out (λ _. false) (λ t. it.with_those t (update_where p f (it.rows t)))
-  sets g old new {sql} says params p f same_key stays tests shows few r out within runs =
-      writes g old new sql params r out _ _ within (λ t has ran. (updates t (state g old) (state g new) has says params p f same_key stays tests shows (few t _ has) ran, refl)) (λ t has broke. absurd (turns t (state g old) (state g new) has says params p f same_key stays tests shows (few t _ has) broke)) runs
+      → (r : Result A Fault) (good : Type 0) → good → Runs g old new sql params r → Writes g old new r good (λ _. false) (λ t. it.with_those t (update_where p f (it.rows t)))
+  sets g old new {sql} says params p f same_key stays tests shows few r good within runs =
+      writes g old new sql params r good _ _ within (λ t has ran. (updates t (state g old) (state g new) has says params p f same_key stays tests shows (few t _ has) ran, refl)) (λ t has broke. absurd (turns t (state g old) (state g new) has says params p f same_key stays tests shows (few t _ has) broke)) runs
 
   -- to what comes to the same
   pub sets_as : {S A : Type 0} (g : Ghosts S) (old new : Held S) {sql : List ℕ} {conditions terms : List Term} → Says sql (Update it.at (plain_program it.table.tree conditions terms [])) → (params : Row) (p : X → Bool) (f : X → X) → ((x : X) → it.key (f x) ≡ it.key x) → AllByRecursion (KeepsKey it.given f) it.keys
       → ((y : ℤ × X) → meets conditions params (keyed_row it.given y) ≡ p (content y)) → ((y : ℤ × X) → output (plain_query it.table.tree conditions terms []) (params ∷ keyed_row it.given y ∷ []) ≡ ([], Int (number y) ∷ keyed_row it.given (turned f y))) → ((t : Tables) (db : Database) → HasTables t db → length (filter p (it.rows t)) ≤ 1)
-      → (to : Tables → List X) → ((t : Tables) → HasTables t (state g old).now → update_where p f (it.rows t) ≡ to t) → (r : Result A Fault) (out : Type 0) → ¬ out → Runs g old new sql params r → Writes g old new r out (λ _. false) (λ t. it.with_those t (to t))
-  sets_as g old new says params p f same_key stays tests shows few to same r out within runs =
-      writes_as g old new r out (λ _. false) (λ t. it.with_those t (update_where p f (it.rows t))) (λ t. it.with_those t (to t)) (λ t has. ap (it.with_those t) (same t has))
-      (sets g old new says params p f same_key stays tests shows few r out within runs)
+      → (to : Tables → List X) → ((t : Tables) → HasTables t (state g old).now → update_where p f (it.rows t) ≡ to t) → (r : Result A Fault) (good : Type 0) → good → Runs g old new sql params r → Writes g old new r good (λ _. false) (λ t. it.with_those t (to t))
+  sets_as g old new says params p f same_key stays tests shows few to same r good within runs =
+      writes_as g old new r good (λ _. false) (λ t. it.with_those t (update_where p f (it.rows t))) (λ t. it.with_those t (to t)) (λ t has. ap (it.with_those t) (same t has))
+      (sets g old new says params p f same_key stays tests shows few r good within runs)
 
   -- and one that takes rows out leaves the others
   pub drops : {S A : Type 0} (g : Ghosts S) (old new : Held S) {sql : List ℕ} {conditions : List Term} → Says sql (Delete it.at (plain_program it.table.tree conditions (col 1 0 ∷ []) [])) → (params : Row) (p : X → Bool) → ((y : ℤ × X) → meets conditions params (keyed_row it.given y) ≡ p (content y))
-      → ((y : ℤ × X) → output (plain_query it.table.tree conditions (col 1 0 ∷ []) []) (params ∷ keyed_row it.given y ∷ []) ≡ ([], Int (number y) ∷ [])) → (r : Result A Fault) (out : Type 0) → ¬ out → Runs g old new sql params r → Writes g old new r out (λ _. false) (λ t. it.with_those t (delete_where p (it.rows t)))
-  drops g old new {sql} says params p tests shows r out within runs =
-      writes g old new sql params r out _ _ within (λ t has ran. (deletes t (state g old) (state g new) has says params p tests shows ran, refl)) (λ t has broke. absurd (goes t (state g old) (state g new) has says params p tests shows broke)) runs
+      → ((y : ℤ × X) → output (plain_query it.table.tree conditions (col 1 0 ∷ []) []) (params ∷ keyed_row it.given y ∷ []) ≡ ([], Int (number y) ∷ [])) → (r : Result A Fault) (good : Type 0) → good → Runs g old new sql params r → Writes g old new r good (λ _. false) (λ t. it.with_those t (delete_where p (it.rows t)))
+  drops g old new {sql} says params p tests shows r good within runs =
+      writes g old new sql params r good _ _ within (λ t has ran. (deletes t (state g old) (state g new) has says params p tests shows ran, refl)) (λ t has broke. absurd (goes t (state g old) (state g new) has says params p tests shows broke)) runs
 
   -- of a key there is one row
   pub few : (t : Tables) (db : Database) → HasTables t db → (k : List ℕ) → length (filter (λ x. is_key (it.key x) k) (it.rows t)) ≤ 1

@@ -141,16 +141,16 @@ module _ {X : Type 0} (it : NumberedTable X) where
 
   -- so a statement that was run with a row puts it in
   pub puts : {S A : Type 0} (g : Ghosts S) (old new : Held S) {sql : List ℕ} {terms : List Term} {width : ℕ} → Says sql (Insert it.at (Values terms width)) → (x : X) → value_rows (stamped it.table (it.given x)) width (length terms / width) terms ≡ numbered_row it.given x ∷ [] → ((xs : List X) → it.fits xs)
-      → (r : Result A Fault) (out : Type 0) → ¬ out → Runs g old new sql (it.given x) r → Writes g old new r out (λ t. is_held key x (it.rows t)) (λ t. it.with_those t (with_row key (it.rows t) x))
-  puts g old new {sql} says x given fits r out within runs =
-      writes g old new sql (it.given x) r out _ _ within (λ t has ran. inserts t (state g old) (state g new) has says (it.given x) x given fits ran) (λ t has broke. held t (state g old) (state g new) has says (it.given x) x given fits broke) runs
+      → (r : Result A Fault) (good : Type 0) → good → Runs g old new sql (it.given x) r → Writes g old new r good (λ t. is_held key x (it.rows t)) (λ t. it.with_those t (with_row key (it.rows t) x))
+  puts g old new {sql} says x given fits r good within runs =
+      writes g old new sql (it.given x) r good _ _ within (λ t has ran. inserts t (state g old) (state g new) has says (it.given x) x given fits ran) (λ t has broke. held t (state g old) (state g new) has says (it.given x) x given fits broke) runs
 
   -- and one that changes a row changes it
   pub sets : {S A : Type 0} (g : Ghosts S) (old new : Held S) {sql : List ℕ} {conditions terms : List Term} → Says sql (Update it.at (plain_program it.table.tree conditions terms [])) → (params : Row) (p : X → Bool) (f : X → X) → ((x : X) → it.number (f x) ≡ it.number x)
       → ((x : X) → meets conditions params (numbered_row it.given x) ≡ p x) → ((x : X) → output (plain_query it.table.tree conditions terms []) (params ∷ numbered_row it.given x ∷ []) ≡ ([], Int (no x) ∷ numbered_row it.given (f x))) → ((t : Tables) (db : Database) → HasTables t db → length (filter p (it.rows t)) ≤ 1) → ((t : Tables) → it.fits (update_where p f (it.rows t)))
-      → (r : Result A Fault) (out : Type 0) → ¬ out → Runs g old new sql params r → Writes g old new r out (λ _. false) (λ t. it.with_those t (update_where p f (it.rows t)))
-  sets g old new {sql} says params p f same_no tests shows few fits r out within runs =
-      writes g old new sql params r out _ _ within (λ t has ran. (updates t (state g old) (state g new) has says params p f same_no tests shows (few t _ has) (fits t) ran, refl)) (λ t has broke. absurd (turns t (state g old) (state g new) has says params p f same_no tests shows (few t _ has) (fits t) broke)) runs
+      → (r : Result A Fault) (good : Type 0) → good → Runs g old new sql params r → Writes g old new r good (λ _. false) (λ t. it.with_those t (update_where p f (it.rows t)))
+  sets g old new {sql} says params p f same_no tests shows few fits r good within runs =
+      writes g old new sql params r good _ _ within (λ t has ran. (updates t (state g old) (state g new) has says params p f same_no tests shows (few t _ has) (fits t) ran, refl)) (λ t has broke. absurd (turns t (state g old) (state g new) has says params p f same_no tests shows (few t _ has) (fits t) broke)) runs
 
   -- the row has a number
   abbrev pub is_no : ℕ → X → Bool
@@ -209,13 +209,13 @@ module _ {X : Type 0} (it : NumberedTable X) where
         ap numbered_as numbers_are ∙ own
 
     pub replaces : {S A : Type 0} (g : Ghosts S) (old new : Held S) {sql : List ℕ} {terms : List Term} → Says sql (Update it.at (plain_program it.table.tree by_no terms [])) → ((x : X) → output (plain_query it.table.tree by_no terms []) (it.given row ∷ numbered_row it.given x ∷ []) ≡ ([], Int (no x) ∷ numbered_row it.given (numbered_as (it.number x))))
-        → ((xs : List X) → it.fits xs) → (r : Result A Fault) (out : Type 0) → ¬ out → Runs g old new sql (it.given row) r → Writes g old new r out (λ _. false) (λ t. it.with_those t (replaced key row (it.rows t)))
-    replaces g old new says shows fits r out within runs =
+        → ((xs : List X) → it.fits xs) → (r : Result A Fault) (good : Type 0) → good → Runs g old new sql (it.given row) r → Writes g old new r good (λ _. false) (λ t. it.with_those t (replaced key row (it.rows t)))
+    replaces g old new says shows fits r good within runs =
         let n = it.number row in
         let f = λ (x : X). numbered_as (it.number x) in
-        writes_as g old new r out (λ _. false) (λ t. it.with_those t (update_where (is_no n) f (it.rows t))) (λ t. it.with_those t (replaced key row (it.rows t))) (λ t has. ap (it.with_those t) (becomes key (it.rows t) row f is_that (rises t _ has)))
+        writes_as g old new r good (λ _. false) (λ t. it.with_those t (update_where (is_no n) f (it.rows t))) (λ t. it.with_those t (replaced key row (it.rows t))) (λ t has. ap (it.with_those t) (becomes key (it.rows t) row f is_that (rises t _ has)))
         (sets g old new says (it.given row) (is_no n) f (λ x. same (it.number x)) (λ x. subst (λ (params : Row). meets by_no params (numbered_row it.given x) ≡ is_no n x) (sym given) (meets_no n rest x)) shows (λ t db has. few t db has n) (λ t. fits _)
-        r out within runs)
+        r good within runs)
 
   module _ {S : Type 0} (g : Ghosts S) {sql : List ℕ} {columns : List Term} (says : SaysQuery sql (plain_program it.table.tree by_no columns [])) (n : ℕ) (shows : (x : X) → output (plain_query it.table.tree by_no columns []) ((Int (it.as_int n) ∷ []) ∷ numbered_row it.given x ∷ []) ≡ ([], it.given x)) where
     answers_no : (t : Tables) (db : Database) → HasTables t db → AnswersJust g sql (Int (it.as_int n) ∷ []) db (map it.given (filter (is_no n) (it.rows t)))

@@ -7,6 +7,7 @@
 #![tactic(auto)]
 
 pub mod columns;
+pub mod laws;
 pub mod parameters;
 pub mod queries;
 pub mod ranges;

@@ -81,20 +81,20 @@ unfolding everything
 ten_say = record { said = (refl, refl, refl) }
 
 -- the statement puts them in
-pub puts_ten : {S A : Type 0} (g : Ghosts S) (old new : Held S) (e m : ℕ) (lines : List WageLine) → length lines ≡ 10 → (r : Result A Fault) (out : Type 0) → ¬ out → Runs g old new insert_ten (lines_given e m lines) r
-    → Writes g old new r out (λ t. are_held (is_held wage_key) wage_key (wage_rows e m lines) t.wages) (λ t. record t { wages = with_rows wage_key t.wages (wage_rows e m lines) })
-puts_ten g old new e m (l0 ∷ l1 ∷ l2 ∷ l3 ∷ l4 ∷ l5 ∷ l6 ∷ l7 ∷ l8 ∷ l9 ∷ []) ten r out within runs = puts_all wages g old new ten_say (lines_given e m (l0 ∷ l1 ∷ l2 ∷ l3 ∷ l4 ∷ l5 ∷ l6 ∷ l7 ∷ l8 ∷ l9 ∷ [])) (wage_row e m l0) (wage_rows e m (l1 ∷ l2 ∷ l3 ∷ l4 ∷ l5 ∷ l6 ∷ l7 ∷ l8 ∷ l9 ∷ [])) refl r out within runs
-puts_ten g old new e m [] ten r out within runs = absurd cc
-puts_ten g old new e m (l0 ∷ []) ten r out within runs = absurd cc
-puts_ten g old new e m (l0 ∷ l1 ∷ []) ten r out within runs = absurd cc
-puts_ten g old new e m (l0 ∷ l1 ∷ l2 ∷ []) ten r out within runs = absurd cc
-puts_ten g old new e m (l0 ∷ l1 ∷ l2 ∷ l3 ∷ []) ten r out within runs = absurd cc
-puts_ten g old new e m (l0 ∷ l1 ∷ l2 ∷ l3 ∷ l4 ∷ []) ten r out within runs = absurd cc
-puts_ten g old new e m (l0 ∷ l1 ∷ l2 ∷ l3 ∷ l4 ∷ l5 ∷ []) ten r out within runs = absurd cc
-puts_ten g old new e m (l0 ∷ l1 ∷ l2 ∷ l3 ∷ l4 ∷ l5 ∷ l6 ∷ []) ten r out within runs = absurd cc
-puts_ten g old new e m (l0 ∷ l1 ∷ l2 ∷ l3 ∷ l4 ∷ l5 ∷ l6 ∷ l7 ∷ []) ten r out within runs = absurd cc
-puts_ten g old new e m (l0 ∷ l1 ∷ l2 ∷ l3 ∷ l4 ∷ l5 ∷ l6 ∷ l7 ∷ l8 ∷ []) ten r out within runs = absurd cc
-puts_ten g old new e m (l0 ∷ l1 ∷ l2 ∷ l3 ∷ l4 ∷ l5 ∷ l6 ∷ l7 ∷ l8 ∷ l9 ∷ l10 ∷ more) ten r out within runs = absurd (omega (arith, ten))
+pub puts_ten : {S A : Type 0} (g : Ghosts S) (old new : Held S) (e m : ℕ) (lines : List WageLine) → length lines ≡ 10 → (r : Result A Fault) (good : Type 0) → good → Runs g old new insert_ten (lines_given e m lines) r
+    → Writes g old new r good (λ t. are_held (is_held wage_key) wage_key (wage_rows e m lines) t.wages) (λ t. record t { wages = with_rows wage_key t.wages (wage_rows e m lines) })
+puts_ten g old new e m (l0 ∷ l1 ∷ l2 ∷ l3 ∷ l4 ∷ l5 ∷ l6 ∷ l7 ∷ l8 ∷ l9 ∷ []) ten r good within runs = puts_all wages g old new ten_say (lines_given e m (l0 ∷ l1 ∷ l2 ∷ l3 ∷ l4 ∷ l5 ∷ l6 ∷ l7 ∷ l8 ∷ l9 ∷ [])) (wage_row e m l0) (wage_rows e m (l1 ∷ l2 ∷ l3 ∷ l4 ∷ l5 ∷ l6 ∷ l7 ∷ l8 ∷ l9 ∷ [])) refl r good within runs
+puts_ten g old new e m [] ten r good within runs = absurd cc
+puts_ten g old new e m (l0 ∷ []) ten r good within runs = absurd cc
+puts_ten g old new e m (l0 ∷ l1 ∷ []) ten r good within runs = absurd cc
+puts_ten g old new e m (l0 ∷ l1 ∷ l2 ∷ []) ten r good within runs = absurd cc
+puts_ten g old new e m (l0 ∷ l1 ∷ l2 ∷ l3 ∷ []) ten r good within runs = absurd cc
+puts_ten g old new e m (l0 ∷ l1 ∷ l2 ∷ l3 ∷ l4 ∷ []) ten r good within runs = absurd cc
+puts_ten g old new e m (l0 ∷ l1 ∷ l2 ∷ l3 ∷ l4 ∷ l5 ∷ []) ten r good within runs = absurd cc
+puts_ten g old new e m (l0 ∷ l1 ∷ l2 ∷ l3 ∷ l4 ∷ l5 ∷ l6 ∷ []) ten r good within runs = absurd cc
+puts_ten g old new e m (l0 ∷ l1 ∷ l2 ∷ l3 ∷ l4 ∷ l5 ∷ l6 ∷ l7 ∷ []) ten r good within runs = absurd cc
+puts_ten g old new e m (l0 ∷ l1 ∷ l2 ∷ l3 ∷ l4 ∷ l5 ∷ l6 ∷ l7 ∷ l8 ∷ []) ten r good within runs = absurd cc
+puts_ten g old new e m (l0 ∷ l1 ∷ l2 ∷ l3 ∷ l4 ∷ l5 ∷ l6 ∷ l7 ∷ l8 ∷ l9 ∷ l10 ∷ more) ten r good within runs = absurd (omega (arith, ten))
 
 abbrev pub by_month : List Term
 by_month = op2 (Compare Eq Binary) (col 1 1) (col 0 0) ∷ op2 (Compare Eq Binary) (col 1 2) (col 0 1) ∷ []

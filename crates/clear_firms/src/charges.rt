@@ -31,7 +31,7 @@ use sqlite_value::value::ValueRef;
 pub fn insert_charge<S: Alter>(tx: &mut Transaction<'_, S>, row: KeptCharge) -> Result<(), Fault>
     ensures same_reference { tx.new.conn.ghost_name ≡ tx.old.conn.ghost_name }
     ensures writes { Writes S.Store tx.old.conn.now tx.new.conn.now result
-        (¬ AreInRange row) (λ t. is_held charge_key row t.charges)
+        (AreInRange row) (λ t. is_held charge_key row t.charges)
         (λ t. record t { charges = with_row charge_key t.charges row }) }
 {
     if !are_in_range(&row) {
@@ -51,7 +51,7 @@ pub fn insert_charge<S: Alter>(tx: &mut Transaction<'_, S>, row: KeptCharge) -> 
 pub fn correct_charge<S: Alter>(tx: &mut Transaction<'_, S>, row: KeptCharge) -> Result<(), Fault>
     ensures same_reference { tx.new.conn.ghost_name ≡ tx.old.conn.ghost_name }
     ensures writes { Writes S.Store tx.old.conn.now tx.new.conn.now result
-        (¬ AreInRange row) (λ _. false)
+        (AreInRange row) (λ _. false)
         (λ t. record t { charges = corrected row t.charges }) }
 {
     if !are_in_range(&row) {
@@ -71,7 +71,7 @@ pub fn correct_charge<S: Alter>(tx: &mut Transaction<'_, S>, row: KeptCharge) ->
 pub fn settle_charge<S: Alter>(tx: &mut Transaction<'_, S>, row: KeptCharge) -> Result<(), Fault>
     ensures same_reference { tx.new.conn.ghost_name ≡ tx.old.conn.ghost_name }
     ensures writes { Writes S.Store tx.old.conn.now tx.new.conn.now result
-        (¬ AreInRange row) (λ _. false)
+        (AreInRange row) (λ _. false)
         (λ t. record t { charges = replaced charge_key row t.charges }) }
 {
     if !are_in_range(&row) {

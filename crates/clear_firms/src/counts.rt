@@ -77,7 +77,7 @@ impl StoredTable for Meta {
 pub fn put_counts<S: Alter>(tx: &mut Transaction<'_, S>, counts: &Counts) -> Result<(), Fault>
     ensures same_reference { tx.new.conn.ghost_name ≡ tx.old.conn.ghost_name }
     ensures writes { Writes S.Store tx.old.conn.now tx.new.conn.now result
-        (¬ AreCountable counts.now)
+        (AreCountable counts.now)
         (λ _. false) (λ t. with_counts counts.now t) }
 {
     if !are_countable(counts) {

@@ -31,7 +31,7 @@ pub fn insert_employer<S: Alter>(
     row: &EmployerRow,
 ) -> Result<(), Fault>
     ensures same_reference { tx.new.conn.ghost_name ≡ tx.old.conn.ghost_name }
-    ensures writes { Writes S.Store tx.old.conn.now tx.new.conn.now result ⊥
+    ensures writes { Writes S.Store tx.old.conn.now tx.new.conn.now result (Unit {0})
         (λ t. is_held employer_key row.now t.employers)
         (λ t. record t { employers = with_row employer_key t.employers row.now }) }
 {
@@ -48,7 +48,7 @@ pub fn replace_employer<S: Alter>(
     row: &EmployerRow,
 ) -> Result<(), Fault>
     ensures same_reference { tx.new.conn.ghost_name ≡ tx.old.conn.ghost_name }
-    ensures writes { Writes S.Store tx.old.conn.now tx.new.conn.now result ⊥ (λ _. false)
+    ensures writes { Writes S.Store tx.old.conn.now tx.new.conn.now result (Unit {0}) (λ _. false)
         (λ t. record t { employers = replaced employer_key row.now t.employers }) }
 {
     put(

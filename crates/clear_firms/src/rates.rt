@@ -21,7 +21,7 @@ use std::alloc::Global;
 /// Adds a row of rates whose first month is that of no other. It stands at its place among them.
 pub fn insert_rate<S: Alter>(tx: &mut Transaction<'_, S>, row: &RateRow) -> Result<(), Fault>
     ensures same_reference { tx.new.conn.ghost_name ≡ tx.old.conn.ghost_name }
-    ensures writes { Writes S.Store tx.old.conn.now tx.new.conn.now result ⊥
+    ensures writes { Writes S.Store tx.old.conn.now tx.new.conn.now result (Unit {0})
         (λ t. is_held rate_key row.now t.rates)
         (λ t. record t { rates = with_row rate_key t.rates row.now }) }
 {

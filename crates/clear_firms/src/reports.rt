@@ -32,7 +32,7 @@ use sqlite_value::value::ValueRef;
 pub fn insert_report<S: Alter>(tx: &mut Transaction<'_, S>, row: ReportRow) -> Result<(), Fault>
     ensures same_reference { tx.new.conn.ghost_name ≡ tx.old.conn.ghost_name }
     ensures writes { Writes S.Store tx.old.conn.now tx.new.conn.now result
-        (¬ ((1 ≤ row.version) × (row.version ≤ most_versions)))
+        ((1 ≤ row.version) × (row.version ≤ most_versions))
         (λ t. is_held report_key row t.reports)
         (λ t. record t { reports = with_row report_key t.reports row }) }
 {
@@ -51,7 +51,7 @@ pub fn insert_report<S: Alter>(tx: &mut Transaction<'_, S>, row: ReportRow) -> R
 pub fn replace_report<S: Alter>(tx: &mut Transaction<'_, S>, row: ReportRow) -> Result<(), Fault>
     ensures same_reference { tx.new.conn.ghost_name ≡ tx.old.conn.ghost_name }
     ensures writes { Writes S.Store tx.old.conn.now tx.new.conn.now result
-        (¬ ((1 ≤ row.version) × (row.version ≤ most_versions))) (λ _. false)
+        ((1 ≤ row.version) × (row.version ≤ most_versions)) (λ _. false)
         (λ t. record t { reports = replaced report_key row t.reports }) }
 {
     if !is_version(row.version) {

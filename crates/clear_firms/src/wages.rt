@@ -33,7 +33,7 @@ use sqlite_value::value::ValueRef;
 pub fn insert_wage<S: Alter>(tx: &mut Transaction<'_, S>, row: WageRow) -> Result<(), Fault>
     ensures same_reference { tx.new.conn.ghost_name ≡ tx.old.conn.ghost_name }
     ensures writes { Writes S.Store tx.old.conn.now tx.new.conn.now result
-        (¬ (row.gross ≤ most_gross)) (λ t. is_held wage_key row t.wages)
+        (row.gross ≤ most_gross) (λ t. is_held wage_key row t.wages)
         (λ t. record t { wages = with_row wage_key t.wages row }) }
 {
     if !is_gross(row.gross) {
@@ -57,7 +57,7 @@ pub fn insert_ten_wages<S: Alter>(
     requires ten { length lines.now ≡ 10 }
     ensures same_reference { tx.new.conn.ghost_name ≡ tx.old.conn.ghost_name }
     ensures writes { Writes S.Store tx.old.conn.now tx.new.conn.now result
-        (¬ AllByRecursion (λ line. line.gross ≤ most_gross) lines.now)
+        (AllByRecursion (λ line. line.gross ≤ most_gross) lines.now)
         (λ t. are_held (is_held wage_key) wage_key (wage_rows no at lines.now) t.wages)
         (λ t. record t { wages = with_rows wage_key t.wages (wage_rows no at lines.now) }) }
 {
@@ -81,7 +81,7 @@ pub fn delete_wages<S: Alter>(
     at: Month,
 ) -> Result<(), Fault>
     ensures same_reference { tx.new.conn.ghost_name ≡ tx.old.conn.ghost_name }
-    ensures writes { Writes S.Store tx.old.conn.now tx.new.conn.now result ⊥ (λ _. false)
+    ensures writes { Writes S.Store tx.old.conn.now tx.new.conn.now result (Unit {0}) (λ _. false)
         (λ t. record t { wages = without_rows wage_key (is_wage_key_of no at) t.wages }) }
 {
     put(

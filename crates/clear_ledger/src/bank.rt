@@ -35,7 +35,7 @@ use sqlite_value::value::ValueRef;
 pub fn insert_line<S: Alter>(tx: &mut Transaction<'_, S>, row: &BankRow) -> Result<(), Fault>
     ensures same_reference { tx.new.conn.ghost_name ≡ tx.old.conn.ghost_name }
     ensures writes { Writes S.Store tx.old.conn.now tx.new.conn.now result
-        (¬ IsSerial row.now.serial) (λ t. is_line_held row.now t.bank)
+        (IsSerial row.now.serial) (λ t. is_line_held row.now t.bank)
         (λ t. record t { bank = with_row bank_key t.bank row.now }) }
 {
     if !is_serial(row.serial) {
@@ -53,7 +53,7 @@ pub fn insert_line<S: Alter>(tx: &mut Transaction<'_, S>, row: &BankRow) -> Resu
 /// Where there is no such line, nothing is written.
 pub fn assign_line<S: Alter>(tx: &mut Transaction<'_, S>, row: &BankRow) -> Result<(), Fault>
     ensures same_reference { tx.new.conn.ghost_name ≡ tx.old.conn.ghost_name }
-    ensures writes { Writes S.Store tx.old.conn.now tx.new.conn.now result ⊥ (λ _. false)
+    ensures writes { Writes S.Store tx.old.conn.now tx.new.conn.now result (Unit {0}) (λ _. false)
         (λ t. record t {
           bank = changed_at bank_key (bank_key row.now) (for_firm row.now.employer) t.bank;
         }) }

@@ -38,7 +38,7 @@ use sqlite_value::value::ValueRef;
 /// `Fault::Store(StoreCause::Row)`, and nothing is done.
 pub fn insert_claim<S: Alter>(tx: &mut Transaction<'_, S>, row: &ClaimRow) -> Result<(), Fault>
     ensures same_reference { tx.new.conn.ghost_name ≡ tx.old.conn.ghost_name }
-    ensures writes { Writes S.Store tx.old.conn.now tx.new.conn.now result (¬ IsClaimRow row.now)
+    ensures writes { Writes S.Store tx.old.conn.now tx.new.conn.now result (IsClaimRow row.now)
         (λ t. is_held claim_key row.now t.claims)
         (λ t. record t { claims = with_row claim_key t.claims row.now }) }
 {
@@ -58,7 +58,7 @@ pub fn insert_claim<S: Alter>(tx: &mut Transaction<'_, S>, row: &ClaimRow) -> Re
 /// A claim is refused as by `insert_claim`.
 pub fn replace_claim<S: Alter>(tx: &mut Transaction<'_, S>, row: &ClaimRow) -> Result<(), Fault>
     ensures same_reference { tx.new.conn.ghost_name ≡ tx.old.conn.ghost_name }
-    ensures writes { Writes S.Store tx.old.conn.now tx.new.conn.now result (¬ IsClaimRow row.now)
+    ensures writes { Writes S.Store tx.old.conn.now tx.new.conn.now result (IsClaimRow row.now)
         (λ _. false) (λ t. record t { claims = replaced claim_key row.now t.claims }) }
 {
     if !is_claim_row(row) {

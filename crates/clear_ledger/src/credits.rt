@@ -42,7 +42,7 @@ const CREDITS_OF: &str = "SELECT employer, purpose, day, serial, cents, ref FROM
 pub fn insert_credit<S: Alter>(tx: &mut Transaction<'_, S>, row: &CreditRow) -> Result<(), Fault>
     ensures same_reference { tx.new.conn.ghost_name ≡ tx.old.conn.ghost_name }
     ensures writes { Writes S.Store tx.old.conn.now tx.new.conn.now result
-        (¬ IsSerial row.now.serial) (λ t. is_held credit_key row.now t.credits)
+        (IsSerial row.now.serial) (λ t. is_held credit_key row.now t.credits)
         (λ t. record t { credits = with_row credit_key t.credits row.now }) }
 {
     if !is_serial(row.serial) {

@@ -34,7 +34,7 @@ const LIST: &str = "SELECT no, day, items, total FROM lists WHERE no = ?1";
 /// done.
 pub fn insert_list<S: Alter>(tx: &mut Transaction<'_, S>, row: &ListRow) -> Result<(), Fault>
     ensures same_reference { tx.new.conn.ghost_name ≡ tx.old.conn.ghost_name }
-    ensures writes { Writes S.Store tx.old.conn.now tx.new.conn.now result (¬ IsListRow row.now)
+    ensures writes { Writes S.Store tx.old.conn.now tx.new.conn.now result (IsListRow row.now)
         (λ t. is_held list_key row.now t.lists)
         (λ t. record t { lists = with_row list_key t.lists row.now }) }
 {

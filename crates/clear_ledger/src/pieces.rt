@@ -45,7 +45,7 @@ pub struct PieceFrom {
 pub fn insert_piece<S: Alter>(tx: &mut Transaction<'_, S>, row: &PieceRow) -> Result<(), Fault>
     ensures same_reference { tx.new.conn.ghost_name ≡ tx.old.conn.ghost_name }
     ensures writes { Writes S.Store tx.old.conn.now tx.new.conn.now result
-        (¬ IsPieceRow row.now) (λ t. is_held piece_key row.now t.pieces)
+        (IsPieceRow row.now) (λ t. is_held piece_key row.now t.pieces)
         (λ t. record t { pieces = with_row piece_key t.pieces row.now }) }
 {
     if !is_piece_row(row) {
@@ -64,7 +64,7 @@ pub fn insert_piece<S: Alter>(tx: &mut Transaction<'_, S>, row: &PieceRow) -> Re
 pub fn delete_pieces<S: Alter>(tx: &mut Transaction<'_, S>, from: &PieceFrom) -> Result<(), Fault>
     ensures same_reference { tx.new.conn.ghost_name ≡ tx.old.conn.ghost_name }
     ensures writes { Writes S.Store tx.old.conn.now tx.new.conn.now result
-        (¬ IsSerial from.now.serial) (λ _. false)
+        (IsSerial from.now.serial) (λ _. false)
         (λ t. record t {
           pieces = without_rows piece_key
               (is_piece_key_from from.now.employer from.now.month from.now.day from.now.serial)

@@ -38,7 +38,7 @@ pub fn insert_reminder<S: Alter>(
 ) -> Result<(), Fault>
     ensures same_reference { tx.new.conn.ghost_name ≡ tx.old.conn.ghost_name }
     ensures writes { Writes S.Store tx.old.conn.now tx.new.conn.now result
-        (¬ IsReminderRow row.now) (λ t. is_held reminder_key row.now t.reminders)
+        (IsReminderRow row.now) (λ t. is_held reminder_key row.now t.reminders)
         (λ t. record t { reminders = with_row reminder_key t.reminders row.now }) }
 {
     if !is_reminder_row(row) {

@@ -90,12 +90,11 @@ pub fn insert_request<S: Alter>(
 ) -> Result<(), Fault>
     ensures same_reference { tx.new.conn.ghost_name ≡ tx.old.conn.ghost_name }
     ensures writes { Writes S.Store tx.old.conn.now tx.new.conn.now result
-        (¬ IsReply request.now.reply)
+        (IsReply request.now.reply)
         (λ t. is_held request_key (row_of caller number request.now) t.requests)
         (λ t. record t {
           requests = with_row request_key t.requests (row_of caller number request.now);
         }) }
-    ensures good { OnOk result (IsReply request.now.reply) }
 {
     if !is_reply(request.reply) {
         return Err(Fault::Store(StoreCause::Row));

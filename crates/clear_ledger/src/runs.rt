@@ -33,7 +33,7 @@ const RUN: &str = "SELECT no, day, firms FROM runs WHERE no = ?1";
 /// that no run can have, are refused with `Fault::Store(StoreCause::Row)`, and nothing is done.
 pub fn insert_run<S: Alter>(tx: &mut Transaction<'_, S>, row: &RunRow) -> Result<(), Fault>
     ensures same_reference { tx.new.conn.ghost_name ≡ tx.old.conn.ghost_name }
-    ensures writes { Writes S.Store tx.old.conn.now tx.new.conn.now result (¬ IsRunRow row.now)
+    ensures writes { Writes S.Store tx.old.conn.now tx.new.conn.now result (IsRunRow row.now)
         (λ t. is_held run_key row.now t.runs)
         (λ t. record t { runs = with_row run_key t.runs row.now }) }
 {

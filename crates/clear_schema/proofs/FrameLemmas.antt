@@ -77,27 +77,33 @@ module _ {S : Type 0} (g : Ghosts S) (old new : Held S) where
         looks_as (Answers g old new shown P sql params) (λ t. HasTables t (state g old).now) rows answers r _ _ _ _ _ (λ t found is. is ∙ first t) (λ t out. subst (IsOut P) (first t) out) looks
 
   -- a statement that changes the tables so, and is refused only where a key is held
-  pub writes : {A : Type 0} (sql : List ℕ) (params : Row) (r : Result A Fault) (out : Type 0) (held : Tables → Bool) (changed : Tables → Tables) → ¬ out
+  pub writes : {A : Type 0} (sql : List ℕ) (params : Row) (r : Result A Fault) (good : Type 0) (held : Tables → Bool) (changed : Tables → Tables) → good
       → ((t : Tables) → HasTables t (state g old).now → IsDone sql params (state g old) (state g new) → HasTables (changed t) (state g new).now × (held t ≡ false))
-      → ((t : Tables) → HasTables t (state g old).now → IsBroken sql params (state g old) (state g new) → held t ≡ true) → Runs g old new sql params r → Writes g old new r out held changed
-  writes sql params r out held changed within does refused runs = record {
+      → ((t : Tables) → HasTables t (state g old).now → IsBroken sql params (state g old) (state g new) → held t ≡ true) → Runs g old new sql params r → Writes g old new r good held changed
+  writes {A} sql params r good held changed within does refused runs = record {
     put = λ clean t has. on_ok_weaker r (λ ran. (does t has ran).0) (runs.done clean);
     free = λ clean t has. on_ok_weaker r (λ ran. (does t has ran).1) (runs.done clean);
+    in_range = if_ok r;
     cause = λ clean t has. IfErr-weaker r _ _ (λ fault broke told. refused t has (broke told)) (runs.broke clean);
     range = IfErr-weaker r _ _ (λ fault no told. absurd (no told)) runs.no_row;
-    refused = λ is. absurd (within is);
+    refused = λ out. absurd (out within);
     kept = runs.kept;
     goes_on = runs.goes_on;
     survives = runs.survives;
   }
+    where
+      if_ok : (r : Result A Fault) → OnOk r good
+      if_ok (Ok x) = within
+      if_ok (Err fault) = tt
 
 -- a value was out of its range, and nothing was done
-pub writes_none : {S A : Type 0} (g : Ghosts S) (h : Held S) (out : Type 0) (held : Tables → Bool) (changed : Tables → Tables) → out → Writes {A = A} g h h (Err (Store OutOfRange)) out held changed
-writes_none g h out held changed is = record {
+pub writes_none : {S A : Type 0} (g : Ghosts S) (h : Held S) (good : Type 0) (held : Tables → Bool) (changed : Tables → Tables) → ¬ good → Writes {A = A} g h h (Err (Store OutOfRange)) good held changed
+writes_none g h good held changed out = record {
   put = λ clean t has. tt;
   free = λ clean t has. tt;
+  in_range = tt;
   cause = λ clean t has told. absurd cc;
-  range = λ told. is;
+  range = λ told. out;
   refused = λ told. (refl, refl);
   kept = λ clean. keeps_none (state g h);
   goes_on = λ clean. tt;
@@ -105,10 +111,11 @@ writes_none g h out held changed is = record {
 }
 
 -- a change that comes to the same
-pub writes_as : {S A : Type 0} (g : Ghosts S) (old new : Held S) (r : Result A Fault) (out : Type 0) (held : Tables → Bool) (changed other : Tables → Tables) → ((t : Tables) → HasTables t (state g old).now → changed t ≡ other t) → Writes g old new r out held changed → Writes g old new r out held other
-writes_as g old new r out held changed other same writes = record {
+pub writes_as : {S A : Type 0} (g : Ghosts S) (old new : Held S) (r : Result A Fault) (good : Type 0) (held : Tables → Bool) (changed other : Tables → Tables) → ((t : Tables) → HasTables t (state g old).now → changed t ≡ other t) → Writes g old new r good held changed → Writes g old new r good held other
+writes_as g old new r good held changed other same writes = record {
   put = λ clean t has. on_ok_weaker r (subst (λ u. HasTables u (state g new).now) (same t has)) (writes.put clean t has);
   free = writes.free;
+  in_range = writes.in_range;
   cause = writes.cause;
   range = writes.range;
   refused = writes.refused;

@@ -122,18 +122,20 @@ pub record Runs {S A : Type 0} (g : Ghosts S) (old new : Held S) (sql : List ℕ
   pub goes_on : HasCleanDisk (state g new) → OnOk result (IsTrue new.in_transaction)
   pub survives : Survives (state g old) (state g new) (λ _. ⊥)
 
--- a change of the tables: `Constraint` comes just where a key is held, and `Row` just where a value
--- that is to be written is out of its range, and then nothing is done
+-- a change of the tables: it is done only where no key is held and each value that is to be written is in
+-- its range; `Constraint` comes just where a key is held, and `Row` just where a value is out of its range,
+-- and then nothing is done
 pub record Writes {S A : Type 0} (g : Ghosts S) (old new : Held S) (result : Result A Fault)
-    (is_out : Type 0) (held : Tables → Bool) (changed : Tables → Tables) : Type 0 where
+    (is_good : Type 0) (held : Tables → Bool) (changed : Tables → Tables) : Type 0 where
   pub put : HasCleanDisk (state g new) → (t : Tables) → HasTables t (state g old).now
       → OnOk result (HasTables (changed t) (state g new).now)
   pub free : HasCleanDisk (state g new) → (t : Tables) → HasTables t (state g old).now
       → OnOk result (held t ≡ false)
+  pub in_range : OnOk result is_good
   pub cause : HasCleanDisk (state g new) → (t : Tables) → HasTables t (state g old).now
       → IfErr result (λ fault. fault ≡ Store Constraint → held t ≡ true)
-  pub range : IfErr result (λ fault. fault ≡ Store OutOfRange → is_out)
-  pub refused : is_out → (result ≡ Err (Store OutOfRange)) × (new ≡ old)
+  pub range : IfErr result (λ fault. fault ≡ Store OutOfRange → ¬ is_good)
+  pub refused : ¬ is_good → (result ≡ Err (Store OutOfRange)) × (new ≡ old)
   pub kept : HasCleanDisk (state g new) → KeepsCommit (state g old) (state g new)
   pub goes_on : HasCleanDisk (state g new) → OnOk result (IsTrue new.in_transaction)
   pub survives : Survives (state g old) (state g new) (λ _. ⊥)

@@ -91,13 +91,13 @@ put_changed counts day change noted rows =
     put_then noted rows (λ t there. there_with change after t there.1) (λ t there. dated_is day change counts t there.0) (λ t. free_with change after t) turned
 
 -- counts can be written just where there was room for them
-pub has_room : (next before : Counts) (day : ℕ) (taken : Taken) → next ≡ counts_after day taken before → HasRoom before taken ↔ (¬ (¬ AreCountable next))
+pub has_room : (next before : Counts) (day : ℕ) (taken : Taken) → next ≡ counts_after day taken before → HasRoom before taken ↔ AreCountable next
 has_room next before day taken is =
     let entries_are : next.entries ≡ before.entries + 1 = ap (λ (c : Counts). c.entries) is in
     let serial_is : next.serial ≡ before.serial + taken.serials = ap (λ (c : Counts). c.serial) is in
     let claims_are : next.claims ≡ before.claims + taken.claims = ap (λ (c : Counts). c.claims) is in
     let lists_are : next.lists ≡ before.lists + taken.lists = ap (λ (c : Counts). c.lists) is in
     let runs_are : next.runs ≡ before.runs + taken.runs = ap (λ (c : Counts). c.runs) is in (
-      λ room out. out (omega (arith, entries_are, room.0), omega (arith, serial_is, room.1), omega (arith, claims_are, room.2), omega (arith, lists_are, room.3), omega (arith, runs_are, room.4)),
+      λ room. (omega (arith, entries_are, room.0), omega (arith, serial_is, room.1), omega (arith, claims_are, room.2), omega (arith, lists_are, room.3), omega (arith, runs_are, room.4)),
       λ taken. grind (arith, taken, entries_are, serial_is, claims_are, lists_are, runs_are),
     )

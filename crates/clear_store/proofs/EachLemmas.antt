@@ -15,9 +15,9 @@ module _ {S Row : Type 0} (g : Ghosts S) (there free : List Row → Tables → T
   abbrev pub PutsRows : List Row → Held S → Held S → Result (Unit {0}) Fault → Type 0
   PutsRows rows old new r = Puts {A = Unit {0}} g old new r (there rows) (free rows) (good rows) (changed rows)
 
--- one row, whose key is free and which is in its range just where the statement finds it so
-pub put_just : {S A : Type 0} {g : Ghosts S} {old new : Held S} {r : Result A Fault} {out : Type 0} {held : Tables → Bool} {one : Tables → Tables} → Writes g old new r out held one → Puts g old new r Always (λ t. held t ≡ false) (¬ out) one
-put_just writes = put_by writes (λ t. (λ free. free, λ free. free)) (λ good. good, λ good. good)
+-- one row, whose key is free just where the statement finds it so
+pub put_just : {S A : Type 0} {g : Ghosts S} {old new : Held S} {r : Result A Fault} {fits : Type 0} {held : Tables → Bool} {one : Tables → Tables} → Writes g old new r fits held one → Puts g old new r Always (λ t. held t ≡ false) fits one
+put_just writes = put_by writes (λ t. (λ free. free, λ free. free))
 
 -- the first rows were put: what comes of those behind them comes of all
 pub record AreBegun {S Row : Type 0} (g : Ghosts S) (there free : List Row → Tables → Type 0) (good : List Row → Type 0) (changed : List Row → Tables → Tables) (rows : List Row) (i : ℕ) (old now : Held S) : Type 0 where
@@ -33,14 +33,14 @@ module _ {S Row : Type 0} {g : Ghosts S} {there free : List Row → Tables → T
   on_from row h is = on_with (row ∷ drop (i + 1) rows) (drop_more rows i row h ∙ ap (λ x. x ∷ drop (i + 1) rows) (sym is))
 
   -- one row more was put
-  pub one_more : {mid : Held S} {row : Row} {out : Type 0} {held : Tables → Bool} {one : Tables → Tables} → i < length rows → row ≡ get_or rows i row → AreBegun g there free good changed rows i old now → Writes {A = Unit {0}} g now mid (Ok tt) out held one
+  pub one_more : {mid : Held S} {row : Row} {fits : Type 0} {held : Tables → Bool} {one : Tables → Tables} → i < length rows → row ≡ get_or rows i row → AreBegun g there free good changed rows i old now → Writes {A = Unit {0}} g now mid (Ok tt) fits held one
       → ((t : Tables) → there (row ∷ drop (i + 1) rows) t → there (drop (i + 1) rows) (one t)) → ((t : Tables) → there (row ∷ drop (i + 1) rows) t → changed (drop (i + 1) rows) (one t) ≡ changed (row ∷ drop (i + 1) rows) t)
-      → ((t : Tables) → free (row ∷ drop (i + 1) rows) t ↔ ((held t ≡ false) × free (drop (i + 1) rows) (one t))) → (good (row ∷ drop (i + 1) rows) ↔ ((¬ out) × good (drop (i + 1) rows))) → AreBegun g there free good changed rows (i + 1) old mid
+      → ((t : Tables) → free (row ∷ drop (i + 1) rows) t ↔ ((held t ≡ false) × free (drop (i + 1) rows) (one t))) → (good (row ∷ drop (i + 1) rows) ↔ (fits × good (drop (i + 1) rows))) → AreBegun g there free good changed rows (i + 1) old mid
   one_more h is begun writes theres same frees fine = record { on = λ new r puts. on_from _ h is begun new r (put_then (put_just writes) puts theres same frees fine) }
 
   -- one row was refused
-  pub refused : {mid : Held S} {row : Row} {fault : Fault} {out : Type 0} {held : Tables → Bool} {one : Tables → Tables} → i < length rows → row ≡ get_or rows i row → AreBegun g there free good changed rows i old now → Writes {A = Unit {0}} g now mid (Err fault) out held one
-      → ((t : Tables) → free (row ∷ drop (i + 1) rows) t ↔ ((held t ≡ false) × free (drop (i + 1) rows) (one t))) → (good (row ∷ drop (i + 1) rows) ↔ ((¬ out) × good (drop (i + 1) rows))) → PutsRows g there free good changed rows old mid (Err fault)
+  pub refused : {mid : Held S} {row : Row} {fault : Fault} {fits : Type 0} {held : Tables → Bool} {one : Tables → Tables} → i < length rows → row ≡ get_or rows i row → AreBegun g there free good changed rows i old now → Writes {A = Unit {0}} g now mid (Err fault) fits held one
+      → ((t : Tables) → free (row ∷ drop (i + 1) rows) t ↔ ((held t ≡ false) × free (drop (i + 1) rows) (one t))) → (good (row ∷ drop (i + 1) rows) ↔ (fits × good (drop (i + 1) rows))) → PutsRows g there free good changed rows old mid (Err fault)
   refused h is begun writes frees fine = on_from _ h is begun _ _ (first_failed (put_just writes) (λ t free. ((frees t).0 free).0) (λ good. (fine.0 good).0))
 
   -- the rows end

@@ -2,7 +2,7 @@
 use Rattle.std.proofs.Common.{◌≡◌, ◌≢◌, Bool, false, Result, Ok, Err, arith, subst}
 use Rattle.std.proofs.lemmas.Bool.{both_ways}
 use Rattle.std.proofs.lemmas.Result.{IfErr-weaker, on_ok_weaker}
-use Rattle.std.specs.Prelude.{◌↔◌, OnOk}
+use Rattle.std.specs.Prelude.{◌↔◌}
 use Rattle.sqlite.specs.Held.{Held, state}
 use Rattle.sqlite.specs.State.{HasCleanDisk, State, Survives}
 use Rattle.sqlite.specs.Store.{Ghosts}
@@ -23,11 +23,6 @@ Always t = Unit {0}
 pub was_clean : (b c : State) → Survives b c (λ _. ⊥) → HasCleanDisk c → HasCleanDisk b
 was_clean b c survives clean = omega (arith, survives.clean)
 
--- what was done was not out of its range
-was_in_range : {A : Type 0} (r : Result A Fault) (out : Type 0) → (out → r ≡ Err (Store OutOfRange)) → OnOk r (¬ out)
-was_in_range (Ok x) out refused = λ is. let told : Ok x ≡ Err (Store OutOfRange) = refused is in absurd cc
-was_in_range (Err fault) out refused = tt
-
 -- what two parts of a change need, in this order or the other one
 pub each : {A B : Type 0} → (A × B) ↔ (A × B)
 each = (λ both. both, λ both. both)
@@ -44,17 +39,30 @@ second_alone = (λ one. (tt, one), λ both. both.1)
 
 module _ {S A : Type 0} {g : Ghosts S} {old new : Held S} {r : Result A Fault} where
   -- one statement
-  pub put_by : {out : Type 0} {held : Tables → Bool} {changed : Tables → Tables} {free : Tables → Type 0} {good : Type 0} → Writes g old new r out held changed
-      → ((t : Tables) → free t ↔ (held t ≡ false)) → (good ↔ (¬ out)) → Puts g old new r Always free good changed
-  put_by {out} {held} writes frees fine = record {
+  pub put_by : {good : Type 0} {held : Tables → Bool} {changed : Tables → Tables} {free : Tables → Type 0} → Writes g old new r good held changed
+      → ((t : Tables) → free t ↔ (held t ≡ false)) → Puts g old new r Always free good changed
+  put_by {held} writes frees = record {
     put = λ clean t has there. writes.put clean t has;
     free = λ clean t has. on_ok_weaker r (frees t).1 (writes.free clean t has);
-    in_range = on_ok_weaker r fine.1 (was_in_range r out (λ is. (writes.refused is).0));
+    in_range = writes.in_range;
     cause = λ clean t has. IfErr-weaker r _ _ (λ fault taken told is. both_ways (held t) ((frees t).0 is) (taken told)) (writes.cause clean t has);
-    range = IfErr-weaker r _ _ (λ fault bad told is. fine.0 is (bad told)) writes.range;
+    range = writes.range;
     kept = writes.kept;
     goes_on = λ clean on. writes.goes_on clean;
     survives = writes.survives;
+  }
+
+  -- a change whose numbers are in range just where others are
+  pub put_where : {there free : Tables → Type 0} {good1 good : Type 0} {changed : Tables → Tables} → Puts g old new r there free good1 changed → (good ↔ good1) → Puts g old new r there free good changed
+  put_where one fine = record {
+    put = one.put;
+    free = one.free;
+    in_range = on_ok_weaker r fine.1 one.in_range;
+    cause = one.cause;
+    range = IfErr-weaker r _ _ (λ fault bad told is. bad told (fine.0 is)) one.range;
+    kept = one.kept;
+    goes_on = one.goes_on;
+    survives = one.survives;
   }
 
   -- a change that is another one, where what has to be there is there

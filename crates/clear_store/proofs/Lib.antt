@@ -5,6 +5,5 @@ pub mod JoinLemmas
 pub mod OnceLemmas
 pub mod PartLemmas
 pub mod PutLemmas
-pub mod RangeLemmas
 pub mod RateLemmas
 pub mod RowLemmas

@@ -6,7 +6,6 @@ use Rattle.std.specs.Prelude.{◌↔◌}
 use Rattle.sqlite.specs.Held.{Held}
 use Rattle.sqlite.specs.Store.{Ghosts}
 use Rattle.clear_values.specs.Keyed.{is_held, find_row, with_row, with_rows}
-use Rattle.clear_values.specs.Limits.{most_gross}
 use Rattle.clear_values.specs.Tables.{Tables, wage_key, wage_row, wage_rows}
 use Rattle.clear_values.specs.declared.texts.WageLine.{WageLine}
 use Rattle.clear_schema.specs.Frame.{Writes}
@@ -15,7 +14,6 @@ use Rattle.clear_columns.specs.Keys.{are_held}
 use Rattle.clear_store.specs.Changes.{AreFree, AreGross}
 use Rattle.clear_store.proofs.EachLemmas.{PutsRows, put_just}
 use Rattle.clear_store.proofs.JoinLemmas.{first_failed, put_then}
-use Rattle.clear_store.proofs.RangeLemmas.{Stable, in_range, most_stable}
 use Rattle.clear_store.proofs.RowLemmas.{not_held}
 
 -- some rows were put: what comes of those that are left comes of all
@@ -28,14 +26,14 @@ module _ {S Row : Type 0} {g : Ghosts S} {there free : List Row → Tables → T
   on_parts part more is left new r puts = left.on new r (subst (λ (xs : List Row). PutsRows g there free good changed xs now new r) is puts)
 
   -- some more were put
-  pub some_more : {mid : Held S} {out : Type 0} {held : Tables → Bool} {one : Tables → Tables} (part more : List Row) → part ++ more ≡ rest → AreLeft g there free good changed rows rest old now → Writes {A = Unit {0}} g now mid (Ok tt) out held one
+  pub some_more : {mid : Held S} {fits : Type 0} {held : Tables → Bool} {one : Tables → Tables} (part more : List Row) → part ++ more ≡ rest → AreLeft g there free good changed rows rest old now → Writes {A = Unit {0}} g now mid (Ok tt) fits held one
       → ((t : Tables) → there (part ++ more) t → there more (one t)) → ((t : Tables) → there (part ++ more) t → changed more (one t) ≡ changed (part ++ more) t)
-      → ((t : Tables) → free (part ++ more) t ↔ ((held t ≡ false) × free more (one t))) → (good (part ++ more) ↔ ((¬ out) × good more)) → AreLeft g there free good changed rows more old mid
+      → ((t : Tables) → free (part ++ more) t ↔ ((held t ≡ false) × free more (one t))) → (good (part ++ more) ↔ (fits × good more)) → AreLeft g there free good changed rows more old mid
   some_more part more is left writes theres same frees fine = record { on = λ new r puts. on_parts part more is left new r (put_then (put_just writes) puts theres same frees fine) }
 
   -- some were refused
-  pub some_refused : {mid : Held S} {fault : Fault} {out : Type 0} {held : Tables → Bool} {one : Tables → Tables} (part more : List Row) → part ++ more ≡ rest → AreLeft g there free good changed rows rest old now → Writes {A = Unit {0}} g now mid (Err fault) out held one
-      → ((t : Tables) → free (part ++ more) t ↔ ((held t ≡ false) × free more (one t))) → (good (part ++ more) ↔ ((¬ out) × good more)) → PutsRows g there free good changed rows old mid (Err fault)
+  pub some_refused : {mid : Held S} {fault : Fault} {fits : Type 0} {held : Tables → Bool} {one : Tables → Tables} (part more : List Row) → part ++ more ≡ rest → AreLeft g there free good changed rows rest old now → Writes {A = Unit {0}} g now mid (Err fault) fits held one
+      → ((t : Tables) → free (part ++ more) t ↔ ((held t ≡ false) × free more (one t))) → (good (part ++ more) ↔ (fits × good more)) → PutsRows g there free good changed rows old mid (Err fault)
   some_refused part more is left writes frees fine = on_parts part more is left _ _ (first_failed (put_just writes) (λ t free. ((frees t).0 free).0) (λ good. (fine.0 good).0))
 
 -- ---- the lines of a month's report
@@ -68,22 +66,10 @@ module _ (e m : ℕ) (part more : List WageLine) where
         λ parts. subst (AreFree wage_key t.wages) (sym is) (both.1 parts),
       )
 
-gross_stable : (lines : List WageLine) → Stable (AreGross lines)
-gross_stable [] h = tt
-gross_stable (line ∷ lines) h = (most_stable line.gross most_gross (λ not_this. h (λ all. not_this all.0)), gross_stable lines (λ not_those. h (λ all. not_those all.1)))
-
-gross_append : (part more : List WageLine) → AreGross (part ++ more) ↔ (AreGross part × AreGross more)
-gross_append [] more = (λ all. (tt, all), λ both. both.1)
-gross_append (line ∷ part) more =
-    let rest = gross_append part more in (
+pub gross_by_parts : (part more : List WageLine) → AreGross (part ++ more) ↔ (AreGross part × AreGross more)
+gross_by_parts [] more = (λ all. (tt, all), λ both. both.1)
+gross_by_parts (line ∷ part) more =
+    let rest = gross_by_parts part more in (
       λ all. ((all.0, (rest.0 all.1).0), (rest.0 all.1).1),
       λ both. (both.0.0, rest.1 (both.0.1, both.1)),
-    )
-
-pub gross_by_parts : (part more : List WageLine) → AreGross (part ++ more) ↔ ((¬ (¬ AreGross part)) × AreGross more)
-gross_by_parts part more =
-    let both = gross_append part more in
-    let stable = in_range (gross_stable part) in (
-      λ all. (stable.0 (both.0 all).0, (both.0 all).1),
-      λ parts. both.1 (stable.1 parts.0, parts.1),
     )

@@ -14,4 +14,4 @@ returns-clause-writes g c =
     let within : AreInRange c.args.row = search rules in
     sets_as charges g.S.Store c.args.tx.now.conn.now c.put.new.tx.conn.now correct_says (charge_shown row) (is_to_change row) (with_amounts row) (λ _. refl) ((λ y r same. same), tt) (of_other row) (λ _. refl)
     (λ t db has. let fewer = fewer_pass (is_of row.employer row.month) (λ x. not (keeps_contribution row x)) t.charges in let one = few charges t db has (charge_key row) in omega (arith, fewer, one))
-    _ (λ t has. corrects charge_key t.charges row (keeps_contribution row) (with_amounts row) (λ _. refl) (is_that row) has.charges.rises) c.put.result _ (λ out. out within) (rw c.charge_values.ensures at c.put.ensures.runs)
+    _ (λ t has. corrects charge_key t.charges row (keeps_contribution row) (with_amounts row) (λ _. refl) (is_that row) has.charges.rises) c.put.result _ within (rw c.charge_values.ensures at c.put.ensures.runs)

@@ -7,4 +7,4 @@ use Rattle.clear_firms.proofs.charges.insert_charge.Goals as goal
 pub returns-clause-writes : goal.returns-clause-writes
 returns-clause-writes g c =
     let within : AreInRange c.args.row = search rules in
-    puts charges g.S.Store c.args.tx.now.conn.now c.put.new.tx.conn.now insert_says c.args.row refl c.put.result _ (λ out. out within) (rw c.charge_values.ensures at c.put.ensures.runs)
+    puts charges g.S.Store c.args.tx.now.conn.now c.put.new.tx.conn.now insert_says c.args.row refl c.put.result _ within (rw c.charge_values.ensures at c.put.ensures.runs)

@@ -13,4 +13,4 @@ returns-clause-writes g c =
     let within : AreInRange c.args.row = search rules in
     sets_as charges g.S.Store c.args.tx.now.conn.now c.put.new.tx.conn.now settle_says (charge_shown row) (is_of row.employer row.month) (with_amounts row) (λ _. refl) ((λ y r same. same), tt)
     (of_month row.employer row.month (number row.due ∷ number row.cents ∷ number row.left ∷ number row.weight ∷ [])) (λ _. refl) (λ t db has. few charges t db has (charge_key row))
-    _ (λ t has. becomes charge_key t.charges row (with_amounts row) (is_that row) has.charges.rises) c.put.result _ (λ out. out within) (rw c.charge_values.ensures at c.put.ensures.runs)
+    _ (λ t has. becomes charge_key t.charges row (with_amounts row) (is_that row) has.charges.rises) c.put.result _ within (rw c.charge_values.ensures at c.put.ensures.runs)

@@ -10,4 +10,4 @@ returns-clause-writes g c =
     let next = c.args.counts.now in
     let within : AreCountable c.args.counts.now = search rules in
     sets counts g.S.Store c.args.tx.now.conn.now c.put.new.tx.conn.now update_says (counts_shown next) (λ x. true) (λ x. next) (λ _. refl) (is_one (counts_shown next)) (λ _. refl) (λ t db has. omega arith) (λ t. (next, refl))
-    c.put.result _ (λ out. out within) (rw c.counts_values.ensures at c.put.ensures.runs)
+    c.put.result _ within (rw c.counts_values.ensures at c.put.ensures.runs)

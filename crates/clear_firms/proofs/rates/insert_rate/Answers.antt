@@ -4,4 +4,4 @@ use Rattle.clear_firms.proofs.RateTable.{insert_says, rates}
 use Rattle.clear_firms.proofs.rates.insert_rate.Goals as goal
 
 pub returns-clause-writes : goal.returns-clause-writes
-returns-clause-writes g c = puts rates g.S.Store c.args.tx.now.conn.now c.put.new.tx.conn.now insert_says c.args.row.now refl (λ xs. tt) c.put.result _ (λ out. out) (rw c.rate_values.ensures at c.put.ensures.runs)
+returns-clause-writes g c = puts rates g.S.Store c.args.tx.now.conn.now c.put.new.tx.conn.now insert_says c.args.row.now refl (λ xs. tt) c.put.result _ tt (rw c.rate_values.ensures at c.put.ensures.runs)

@@ -12,4 +12,4 @@ returns-clause-writes g c =
     let row = c.args.row in
     let within : (1 ≤ c.args.row.version) × (c.args.row.version ≤ most_versions) = search rules in
     sets_as reports g.S.Store c.args.tx.now.conn.now c.put.new.tx.conn.now update_says (report_shown row) (is_of row.employer row.month) (with_version row.version) (λ _. refl) ((λ y r same. same), tt) (of_month row.employer row.month (number row.version ∷ [])) (λ _. refl) (λ t db has. few reports t db has (report_key row))
-    _ (λ t has. becomes report_key t.reports row (with_version row.version) (is_that row) has.reports.rises) c.put.result _ (λ out. out within) (rw c.report_values.ensures at c.put.ensures.runs)
+    _ (λ t has. becomes report_key t.reports row (with_version row.version) (is_that row) has.reports.rises) c.put.result _ within (rw c.report_values.ensures at c.put.ensures.runs)

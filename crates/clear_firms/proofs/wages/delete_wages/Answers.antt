@@ -8,4 +8,4 @@ pub returns-clause-writes : goal.returns-clause-writes
 returns-clause-writes g c =
     let e = c.args.no in
     let m = c.args.at in
-    drops wages g.S.Store c.args.tx.now.conn.now c.put.new.tx.conn.now delete_says (month_given e m) (is_of e m) (of_month e m) (λ _. refl) c.put.result _ (λ out. out) (rw c.month_values.ensures at c.put.ensures.runs)
+    drops wages g.S.Store c.args.tx.now.conn.now c.put.new.tx.conn.now delete_says (month_given e m) (is_of e m) (of_month e m) (λ _. refl) c.put.result _ tt (rw c.month_values.ensures at c.put.ensures.runs)

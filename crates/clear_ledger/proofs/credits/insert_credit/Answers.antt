@@ -7,4 +7,4 @@ use Rattle.clear_ledger.proofs.credits.insert_credit.Goals as goal
 pub returns-clause-writes : goal.returns-clause-writes
 returns-clause-writes g c =
     let within : IsSerial c.args.row.now.serial = search rules in
-    puts credits g.S.Store c.args.tx.now.conn.now c.put.new.tx.conn.now insert_says c.args.row.now refl c.put.result _ (λ out. out within) (rw c.credit_values.ensures at c.put.ensures.runs)
+    puts credits g.S.Store c.args.tx.now.conn.now c.put.new.tx.conn.now insert_says c.args.row.now refl c.put.result _ within (rw c.credit_values.ensures at c.put.ensures.runs)

@@ -7,4 +7,4 @@ use Rattle.clear_ledger.proofs.lists.insert_list.Goals as goal
 pub returns-clause-writes : goal.returns-clause-writes
 returns-clause-writes g c =
     let within : IsListRow c.args.row.now = search rules in
-    puts lists g.S.Store c.args.tx.now.conn.now c.put.new.tx.conn.now insert_says c.args.row.now refl (λ xs. tt) c.put.result _ (λ out. out within) (rw c.list_values.ensures at c.put.ensures.runs)
+    puts lists g.S.Store c.args.tx.now.conn.now c.put.new.tx.conn.now insert_says c.args.row.now refl (λ xs. tt) c.put.result _ within (rw c.list_values.ensures at c.put.ensures.runs)

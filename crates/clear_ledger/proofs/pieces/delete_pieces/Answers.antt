@@ -9,4 +9,4 @@ pub returns-clause-writes : goal.returns-clause-writes
 returns-clause-writes g c =
     let from = c.args.from.now in
     let within : IsSerial c.args.from.now.serial = search rules in
-    drops pieces g.S.Store c.args.tx.now.conn.now c.put.new.tx.conn.now delete_says (first_piece_given from) (is_from from) (goes_from from) (λ _. refl) c.put.result _ (λ out. out within) (rw c.first_values.ensures at c.put.ensures.runs)
+    drops pieces g.S.Store c.args.tx.now.conn.now c.put.new.tx.conn.now delete_says (first_piece_given from) (is_from from) (goes_from from) (λ _. refl) c.put.result _ within (rw c.first_values.ensures at c.put.ensures.runs)

@@ -2,20 +2,20 @@ use Rattle.std.proofs.Common.{◌∙◌, refl}
 use Rattle.std.proofs.lemmas.Result.{err_from_is_err_and}
 use Rattle.clear_values.specs.Tables.{bank_key, serial_key}
 use Rattle.clear_store.proofs.EachLemmas.{all_done, one_more, refused}
-use Rattle.clear_store.proofs.RangeLemmas.{first_in_range, range_stable}
+use Rattle.clear_store.proofs.JoinLemmas.{each}
 use Rattle.clear_store.proofs.RowLemmas.{first_neither_held}
 use Rattle.clear_store.proofs.bank_file.insert_lines.Goals as goal
 
 pub loop-row-preserved : goal.loop-row-preserved
 loop-row-preserved g c = record {
   same_reference = c.insert_line.ensures.same_reference ∙ c.loop-row.invariant.same_reference;
-  begun = one_more c.loop-row-test.true c.row-item.is c.loop-row.invariant.begun c.in_ok-insert_line.ensures.writes (λ t is. tt) (λ t is. refl) (λ t. first_neither_held bank_key serial_key t.bank _ _) (first_in_range (range_stable _ _ _));
+  begun = one_more c.loop-row-test.true c.row-item.is c.loop-row.invariant.begun c.in_ok-insert_line.ensures.writes (λ t is. tt) (λ t is. refl) (λ t. first_neither_held bank_key serial_key t.bank _ _) each;
 }
 
 pub returns-in_err-insert_line-clause-puts : goal.returns-in_err-insert_line-clause-puts
 returns-in_err-insert_line-clause-puts g c =
     let p = err_from_is_err_and c.from_residual.result c.from_residual.ensures.1 in
-    rw (p.1, p.2) (refused c.loop-row-test.true c.row-item.is c.loop-row.invariant.begun c.in_err-insert_line.ensures.writes (λ t. first_neither_held bank_key serial_key t.bank _ _) (first_in_range (range_stable _ _ _)))
+    rw (p.1, p.2) (refused c.loop-row-test.true c.row-item.is c.loop-row.invariant.begun c.in_err-insert_line.ensures.writes (λ t. first_neither_held bank_key serial_key t.bank _ _) each)
 
 pub returns-clause-puts : goal.returns-clause-puts
 returns-clause-puts g c = all_done c.loop-row-test.false c.loop-row.invariant.begun (λ t. refl) (λ t. (tt, tt)) tt

@@ -3,16 +3,15 @@ use Rattle.std.proofs.lemmas.Result.{err_from_is_err_and}
 use Rattle.clear_values.specs.Keyed.{find_row}
 use Rattle.clear_values.specs.Tables.{report_key}
 use Rattle.clear_store.proofs.JoinLemmas.{each, first_failed, put_by, put_then}
-use Rattle.clear_store.proofs.RangeLemmas.{in_range, range_stable}
 use Rattle.clear_store.proofs.RowLemmas.{not_held}
 use Rattle.clear_store.proofs.month_report.insert_month.Goals as goal
 
 pub returns-clause-puts : goal.returns-clause-puts
 returns-clause-puts g c =
-    put_then (put_by c.in_ok-insert_report.ensures.writes (λ t. not_held (find_row report_key t.reports (report_key c.args.row.now))) (in_range (range_stable _ c.args.row.now.version _))) c.insert_wages.ensures.puts
+    put_then (put_by c.in_ok-insert_report.ensures.writes (λ t. not_held (find_row report_key t.reports (report_key c.args.row.now)))) c.insert_wages.ensures.puts
     (λ t is. tt) (λ t is. refl) (λ t. each) each
 
 pub returns-in_err-insert_report-clause-puts : goal.returns-in_err-insert_report-clause-puts
 returns-in_err-insert_report-clause-puts g c =
     let p = err_from_is_err_and c.from_residual.result c.from_residual.ensures.1 in
-    rw (p.1, p.2) (first_failed (put_by c.in_err-insert_report.ensures.writes (λ t. not_held (find_row report_key t.reports (report_key c.args.row.now))) (in_range (range_stable _ c.args.row.now.version _))) (λ t free. free.0) (λ good. good.0))
+    rw (p.1, p.2) (first_failed (put_by c.in_err-insert_report.ensures.writes (λ t. not_held (find_row report_key t.reports (report_key c.args.row.now)))) (λ t free. free.0) (λ good. good.0))

@@ -1,16 +1,15 @@
 use Rattle.std.proofs.Common.{refl}
 use Rattle.std.proofs.lemmas.Result.{err_from_is_err_and}
 use Rattle.clear_store.proofs.JoinLemmas.{first_failed, put_by, put_then, second_alone}
-use Rattle.clear_store.proofs.RangeLemmas.{any_range}
 use Rattle.clear_store.proofs.RowLemmas.{no_key}
 use Rattle.clear_store.proofs.month_report.replace_wages.Goals as goal
 
 pub returns-clause-puts : goal.returns-clause-puts
 returns-clause-puts g c =
-    put_then (put_by c.in_ok-delete_wages.ensures.writes (λ t. no_key) any_range) c.insert_wages.ensures.puts
+    put_then (put_by c.in_ok-delete_wages.ensures.writes (λ t. no_key)) c.insert_wages.ensures.puts
     (λ t is. tt) (λ t is. refl) (λ t. second_alone) second_alone
 
 pub returns-in_err-delete_wages-clause-puts : goal.returns-in_err-delete_wages-clause-puts
 returns-in_err-delete_wages-clause-puts g c =
     let p = err_from_is_err_and c.from_residual.result c.from_residual.ensures.1 in
-    rw (p.1, p.2) (first_failed (put_by c.in_err-delete_wages.ensures.writes (λ t. no_key) any_range) (λ t free. tt) (λ good. tt))
+    rw (p.1, p.2) (first_failed (put_by c.in_err-delete_wages.ensures.writes (λ t. no_key)) (λ t free. tt) (λ good. tt))
