@@ -17,24 +17,24 @@ ready_line port day ledger_day =
     ++ codes "\n"
 
 -- a store was copied, whose last accepted request is of this day
-abbrev pub copied_line : Option ℕ → List ℕ
+unfoldable pub copied_line : Option ℕ → List ℕ
 copied_line ledger_day = codes "copied, ledger day " ++ day_or_none ledger_day ++ codes "\n"
 
 -- a store was made or brought to this program's schema
-abbrev pub schema_line : ℕ → List ℕ
+unfoldable pub schema_line : ℕ → List ℕ
 schema_line schema = codes "schema " ++ decimal schema ++ codes "\n"
 
 -- so many connections were served
-abbrev pub served_line : ℕ → List ℕ
+unfoldable pub served_line : ℕ → List ℕ
 served_line count = codes "served " ++ decimal count ++ codes "\n"
 
 -- a bank file was imported, with so many new lines and repeats
-abbrev pub imported_line : ℕ → ℕ → List ℕ
+unfoldable pub imported_line : ℕ → ℕ → List ℕ
 imported_line new repeats =
     codes "new " ++ decimal new ++ codes " repeats " ++ decimal repeats ++ codes "\n"
 
 -- what it means where the day lies before the ledger day, or more than 31 days after it
-abbrev pub meaning : ℕ → Option ℕ → List ℕ
+unfoldable pub meaning : ℕ → Option ℕ → List ℕ
 meaning day None = []
 meaning day (Some last) =
     if nat_lt day last
@@ -45,5 +45,5 @@ meaning day (Some last) =
     else [])
 
 -- both
-abbrev pub ready_text : ℕ → ℕ → Option ℕ → List ℕ
+unfoldable pub ready_text : ℕ → ℕ → Option ℕ → List ℕ
 ready_text port day ledger_day = ready_line port day ledger_day ++ meaning day ledger_day

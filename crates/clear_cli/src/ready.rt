@@ -13,6 +13,7 @@ const USUAL_DAYS: u32 = 31;
 
 /// What is told once connections are taken: on which port, the office's day, and the day of the last
 /// accepted request; and what it means where the office's day lies before that, or long after it.
+#[tactic(auto, unfolding(crate::specs::Ready::ready_text))]
 pub fn ready_text(
     alloc: Global,
     port: u16,
@@ -49,6 +50,7 @@ fn ready_line(
 
 /// The line that tells that a store was copied, and the day of its last accepted request, `-` for
 /// none.
+#[tactic(auto, unfolding(crate::specs::Ready::copied_line))]
 pub fn copied_line(alloc: Global, ledger_day: &Option<Day>) -> Result<String, AllocError>
     ensures { IfOk result (λ line. string_bytes line ≡ copied_line ledger_day.now) }
 {
@@ -59,6 +61,7 @@ pub fn copied_line(alloc: Global, ledger_day: &Option<Day>) -> Result<String, Al
 }
 
 /// The line that tells the schema of a store.
+#[tactic(auto, unfolding(crate::specs::Ready::schema_line))]
 pub fn schema_line(alloc: Global, schema: u64) -> Result<String, AllocError>
     ensures { IfOk result (λ line. string_bytes line ≡ schema_line schema) }
 {
@@ -69,6 +72,7 @@ pub fn schema_line(alloc: Global, schema: u64) -> Result<String, AllocError>
 }
 
 /// The line that tells how many connections were served.
+#[tactic(auto, unfolding(crate::specs::Ready::served_line))]
 pub fn served_line(alloc: Global, count: u32) -> Result<String, AllocError>
     ensures { IfOk result (λ line. string_bytes line ≡ served_line count) }
 {
@@ -79,6 +83,7 @@ pub fn served_line(alloc: Global, count: u32) -> Result<String, AllocError>
 }
 
 /// The line that tells how many lines of a bank file were new, and how many repeats.
+#[tactic(auto, unfolding(crate::specs::Ready::imported_line))]
 pub fn imported_line(alloc: Global, new: u64, repeats: u64) -> Result<String, AllocError>
     ensures { IfOk result (λ line. string_bytes line ≡ imported_line new repeats) }
 {
@@ -101,6 +106,7 @@ fn day_or_none(alloc: Global, day: &Option<Day>) -> Result<String, AllocError>
 
 // The line that tells what it means where the office's day lies before the ledger day, or more than
 // 31 days after it. Empty where it does neither.
+#[tactic(auto, unfolding(crate::specs::Ready::meaning))]
 fn meaning(day: Day, ledger_day: &Option<Day>) -> &'static str
     ensures { result.now ≡ meaning day ledger_day.now }
 {

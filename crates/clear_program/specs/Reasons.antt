@@ -19,13 +19,13 @@ refused_path path.Empty = Some (WrongVersion 0)
 refused_path path.Filled = None
 
 -- the number of another schema
-abbrev pub schema_reason : ℕ → List ℕ
+unfoldable pub schema_reason : ℕ → List ℕ
 schema_reason number =
     codes "this store has schema " ++ decimal number
     ++ codes ", and this program's is " ++ decimal this_schema ++ codes "\n"
 
 -- what a fault says
-abbrev pub fault_reason : OpenFault → List ℕ
+unfoldable pub fault_reason : OpenFault → List ℕ
 fault_reason (WrongVersion zero) = codes "this database is no store of this program, or one of schema 0\n"
 fault_reason (WrongVersion (suc n)) = schema_reason (suc n)
 fault_reason (Failed fault.Memory) = codes "there was no memory\n"
@@ -33,14 +33,14 @@ fault_reason (Failed (fault.Store cause)) =
     codes "its tables can't be read, or are others than this program's\n"
 
 -- what stood in the way of a connection says, else the fault
-abbrev pub hindrance_reason : Hindrance → OpenFault → List ℕ
+unfoldable pub hindrance_reason : Hindrance → OpenFault → List ℕ
 hindrance_reason hindrance.NotReachable told = codes "this file can't be opened\n"
 hindrance_reason hindrance.InUse told = codes "another process holds this store\n"
 hindrance_reason hindrance.NoDatabase told = codes "this file is no database, or a damaged one\n"
 hindrance_reason hindrance.None told = fault_reason told
 
 -- what stands at the path says, else what stood in the way, else the fault
-abbrev pub reason : PathKind → Hindrance → OpenFault → List ℕ
+unfoldable pub reason : PathKind → Hindrance → OpenFault → List ℕ
 reason path.Missing stood told = codes "there is nothing at this path\n"
 reason path.Folder stood told = codes "this is a folder\n"
 reason path.Empty stood told = codes "this file is empty\n"

@@ -6,6 +6,7 @@
 //! keeps their records; the two kinds of store, in files and in memory, are named in few calls.
 #![tactic(auto)]
 
+mod jobs;
 mod look;
 mod migrate;
 mod opening;

@@ -1,14 +1,14 @@
 //! A look at a store, and why there is none to look at.
 ghost use Rattle.std.specs.Prelude.{◌≤◌, IfOk};
 
-use crate::opening::{close_store, open_whole};
+use crate::jobs::Job;
+use crate::opening::{do_and_close, open_whole};
 use crate::reasons::reason;
 use crate::stop::{Stop, tell, write_front};
-use crate::work::{Done, say};
+use crate::work::say;
 use clear_book::rules::{Rule, StoreCause};
 use clear_files::paths::{PathKind, path_kind};
 use clear_host::hindrance::Hindrance;
-use clear_host::offices::Opened;
 use clear_reading::look::look;
 use clear_schema::fault::OpenFault;
 use clear_schema::store::SCHEMA;
@@ -32,9 +32,8 @@ pub(crate) fn look_at<S: Start>(
     let kind = path_kind(rt, store);
     match open_whole(rt, store, start, again) {
         Ok(whole) => {
-            let done = look_into(rt.alloc(), whole.opened);
-            close_store(done.connection);
-            say(&mut rt.stdout(), done.said?.as_str())?;
+            let said = do_and_close(rt, whole.opened, Job::Look)?;
+            say(&mut rt.stdout(), said.as_str())?;
             Ok(0)
         }
         Err(refused) => Ok(tell_why(rt, kind, refused.hindrance, refused.fault)),
@@ -53,15 +52,11 @@ fn tell_why(rt: &HostRuntime, kind: PathKind, hindrance: Hindrance, fault: OpenF
     status
 }
 
-// What stands in the store of an opened office, and its connection, which is still to be closed.
-fn look_into<S: Alter>(alloc: Global, opened: Opened<S>) -> Done<S> {
-    let mut connection = opened.into_connection();
-    let said = look_over(alloc, &mut connection);
-    Done { said, connection }
-}
-
-// What stands in the store of a connection.
-fn look_over<S: Alter>(alloc: Global, connection: &mut Connection<S>) -> Result<String, Stop> {
+/// What stands in the store of a connection.
+pub(crate) fn look_over<S: Alter>(
+    alloc: Global,
+    connection: &mut Connection<S>,
+) -> Result<String, Stop> {
     if !connection.is_autocommit() {
         return Err(Stop::Rule(Rule::Store(StoreCause::Other)));
     }

@@ -1,9 +1,11 @@
 //! Stores in files, opened with all that was accepted, and closed.
 //!
-//! To call a function over any store on one in files costs its proof some 20 seconds: so there are few
-//! such calls, and why a store isn't opened is told without its type.
+//! To call a function over any store on one in files costs its proof some 20 seconds: so there is one
+//! such call, of `do_job`, and why a store isn't opened is told without its type.
 
+use crate::jobs::{Job, do_job};
 use crate::reasons::refused_path;
+use crate::stop::Stop;
 use clear_book::rules::StoreCause;
 use clear_files::logs::is_brought_over;
 use clear_files::named::StoreFile;
@@ -59,7 +61,7 @@ pub(crate) fn open_whole<'a, S: Start>(
     if file.stands(rt) {
         Ok(Whole { opened, file })
     } else {
-        close_office(opened);
+        close_office(rt, opened);
         Err(GONE)
     }
 }
@@ -74,7 +76,7 @@ fn open_brought_over<S: Start>(
     if is_brought_over(rt, store) {
         return Ok(opened);
     }
-    close_office(opened);
+    close_office(rt, opened);
     open_once(rt, store, again)
 }
 
@@ -92,9 +94,20 @@ fn open_once<S: Start>(
     }
 }
 
+/// Does a job on the store of an opened office, and closes it. It gives what is to be said of it.
+pub(crate) fn do_and_close<S: Start>(
+    rt: &HostRuntime,
+    opened: Opened<FileStore<FileFrom<S>>>,
+    job: Job<'_>,
+) -> Result<String, Stop> {
+    let done = do_job(rt, opened, job, &mut rt.stderr());
+    close_store(done.connection);
+    done.said
+}
+
 /// Closes the store of an office.
-pub(crate) fn close_office<S: Start>(opened: Opened<FileStore<FileFrom<S>>>) {
-    close_store(opened.into_connection());
+pub(crate) fn close_office<S: Start>(rt: &HostRuntime, opened: Opened<FileStore<FileFrom<S>>>) {
+    let _ = do_and_close(rt, opened, Job::Nothing);
 }
 
 /// Closes a store. What was accepted stands in the log too, so a fault of the close, which copies the

@@ -25,6 +25,7 @@ pub fn refused_path(kind: PathKind) -> Option<OpenFault>
 
 /// Why a store isn't opened, in words: what stands at its path, else what stood in the way of a
 /// connection, else its fault.
+#[tactic(auto, unfolding(crate::specs::Reasons::reason))]
 pub fn reason(
     alloc: Global,
     kind: PathKind,
@@ -41,6 +42,7 @@ pub fn reason(
     }
 }
 
+#[tactic(auto, unfolding(crate::specs::Reasons::hindrance_reason))]
 fn hindrance_reason(
     alloc: Global,
     hindrance: Hindrance,
@@ -58,6 +60,7 @@ fn hindrance_reason(
     }
 }
 
+#[tactic(auto, unfolding(crate::specs::Reasons::fault_reason))]
 fn fault_reason(alloc: Global, fault: &OpenFault) -> Result<String, AllocError>
     ensures { IfOk result (λ text. string_bytes text ≡ fault_reason fault.now) }
 {
@@ -76,6 +79,7 @@ fn fault_reason(alloc: Global, fault: &OpenFault) -> Result<String, AllocError>
 }
 
 // The number of another schema.
+#[tactic(auto, unfolding(crate::specs::Reasons::schema_reason))]
 fn schema_reason(alloc: Global, number: u64) -> Result<String, AllocError>
     ensures { IfOk result (λ text. string_bytes text ≡ schema_reason number) }
 {

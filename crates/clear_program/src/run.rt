@@ -1,12 +1,13 @@
 //! The program as a whole.
 ghost use Rattle.std.specs.Prelude.{◌≡◌, ◌≤◌, IfOk};
 
+use crate::jobs::Job;
 use crate::look::look_at;
 use crate::migrate::migrate_at;
-use crate::opening::{close_office, close_store, open_whole};
+use crate::opening::{close_office, do_and_close, open_whole};
 use crate::stop::{Stop, tell};
 use crate::tasks::{Task, Work, read_task, words_of};
-use crate::work::{say, serve_stream, work_on};
+use crate::work::{say, serve_stream};
 use clear_callers::directory::Directory;
 use clear_cli::ready::schema_line;
 use clear_files::logs::is_left_log;
@@ -101,7 +102,7 @@ fn make_at<S: Start>(
     }
     match create_office(rt, store, rates, start) {
         Ok(opened) => {
-            close_office(opened);
+            close_office(rt, opened);
             Ok(schema_line(rt.alloc(), SCHEMA)?)
         }
         Err(refused) => Err(Stop::from(refused.fault)),
@@ -117,11 +118,7 @@ fn work_at<S: Start>(
     again: S,
 ) -> Result<String, Stop> {
     match open_whole(rt, store, start, again) {
-        Ok(whole) => {
-            let done = work_on(rt, whole.opened, &whole.file, work, &mut rt.stderr());
-            close_store(done.connection);
-            done.said
-        }
+        Ok(whole) => do_and_close(rt, whole.opened, Job::Work(whole.file, work)),
         Err(refused) => Err(Stop::from(refused.fault)),
     }
 }

@@ -18,7 +18,7 @@ use clear_money::numbers::EmployerNo;
 use clear_office::office::Office;
 use clear_server::connections::{Ended, serve_connections};
 use clear_wire::counted::{Counted, RequestRead};
-use sqlite::{Alter, Connection};
+use sqlite::Alter;
 use std::alloc::{AllocError, Global};
 use std::io::Write;
 use std::net::{Ipv4Addr, TcpListener};
@@ -50,30 +50,9 @@ pub fn serve_stream<S: Alter + Drop, I: RequestRead, O: Write>(
     }
 }
 
-/// Work that was done on a store: what is to be said of it, and the connection, which is still to
-/// be closed.
-#[derive(Drop)]
-pub struct Done<S: Alter> {
-    pub said: Result<String, Stop>,
-    pub connection: Connection<S>,
-}
-
-/// Does the work on a store that was just opened, and which file it is. That connections are taken, and
-/// why one ended early, is told on `errors`.
-pub fn work_on<S: Alter + Drop, E: Write>(
-    rt: &HostRuntime,
-    opened: Opened<S>,
-    file: &StoreFile<'_>,
-    work: Work<'_>,
-    errors: &mut E,
-) -> Done<S> {
-    let mut opened = opened;
-    let said = do_work(rt, &mut opened, file, work, errors);
-    let connection = opened.into_connection();
-    Done { said, connection }
-}
-
-fn do_work<S: Alter, E: Write>(
+/// Does the work on an office that was just opened over the store in a file. That connections are taken,
+/// and why one ended early, is told on `errors`.
+pub(crate) fn do_work<S: Alter, E: Write>(
     rt: &HostRuntime,
     opened: &mut Opened<S>,
     file: &StoreFile<'_>,

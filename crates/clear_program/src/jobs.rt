@@ -1,0 +1,66 @@
+//! What is done with the store of an office that was just opened, whatever keeps it.
+
+use crate::look::look_over;
+use crate::stop::Stop;
+use crate::tasks::Work;
+use crate::work::do_work;
+use clear_files::named::StoreFile;
+use clear_host::offices::Opened;
+use sqlite::{Alter, Connection};
+use std::alloc::Global;
+use std::io::Write;
+
+/// What is done with a store before it is closed.
+#[derive(Drop)]
+pub(crate) enum Job<'a> {
+    /// Nothing, and nothing is said.
+    Nothing,
+    /// It is said what stands in it.
+    Look,
+    /// The work that the words ask for, on the store in this file.
+    Work(StoreFile<'a>, Work<'a>),
+}
+
+/// A job that was done: what is to be said of it, and the connection, which is still to be closed.
+#[derive(Drop)]
+pub(crate) struct Done<S: Alter> {
+    pub said: Result<String, Stop>,
+    pub connection: Connection<S>,
+}
+
+/// Does a job on the store of an office. That connections are taken, and why one ended early, is told on
+/// `errors`.
+pub(crate) fn do_job<S: Alter + Drop, E: Write>(
+    rt: &HostRuntime,
+    opened: Opened<S>,
+    job: Job<'_>,
+    errors: &mut E,
+) -> Done<S> {
+    match job {
+        Job::Nothing => Done {
+            said: Ok(String::new(rt.alloc())),
+            connection: opened.into_connection(),
+        },
+        Job::Look => look_into(rt.alloc(), opened),
+        Job::Work(file, work) => work_on(rt, opened, &file, work, errors),
+    }
+}
+
+fn look_into<S: Alter>(alloc: Global, opened: Opened<S>) -> Done<S> {
+    let mut connection = opened.into_connection();
+    let said = look_over(alloc, &mut connection);
+    Done { said, connection }
+}
+
+fn work_on<S: Alter + Drop, E: Write>(
+    rt: &HostRuntime,
+    opened: Opened<S>,
+    file: &StoreFile<'_>,
+    work: Work<'_>,
+    errors: &mut E,
+) -> Done<S> {
+    let mut opened = opened;
+    let said = do_work(rt, &mut opened, file, work, errors);
+    let connection = opened.into_connection();
+    Done { said, connection }
+}
