@@ -123,7 +123,7 @@ pub record Runs {S A : Type 0} (g : Ghosts S) (old new : Held S) (sql : List ℕ
   pub survives : Survives (state g old) (state g new) (λ _. ⊥)
 
 -- a change of the tables: it is done only where no key is held and each value that is to be written is in
--- its range; `Constraint` comes just where a key is held, and `Row` just where a value is out of its range,
+-- its range; `Constraint` comes only where a key is held, and `Row` just where a value is out of its range,
 -- and then nothing is done
 pub record Writes {S A : Type 0} (g : Ghosts S) (old new : Held S) (result : Result A Fault)
     (is_good : Type 0) (held : Tables → Bool) (changed : Tables → Tables) : Type 0 where
