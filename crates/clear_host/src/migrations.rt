@@ -1,17 +1,16 @@
 //! Stores in files, brought to this program's schema.
-ghost use Rattle.std.specs.Prelude.{◌≡◌, false, ℕ, IfErr, IfOk};
-ghost use Rattle.sqlite.specs.Files.{over_files, IsNothing};
+ghost use Rattle.std.specs.Prelude.{◌≡◌, false, IfErr, IfOk};
+ghost use Rattle.sqlite.specs.Files.{over_files};
 ghost use Rattle.sqlite.specs.Held.{state};
 ghost use Rattle.sqlite.specs.State.{HasCleanDisk};
 ghost use Rattle.sqlite_wal.specs.Files.{image_at};
 ghost use Rattle.sqlite_wal.specs.Recovery.{Image};
 ghost use Rattle.clear_book.specs.Tables.{Tables};
-ghost use Rattle.clear_schema.specs.Faults.{IsWrong};
-ghost use Rattle.clear_schema.specs.Held.{HasTables, this_schema};
+ghost use Rattle.clear_schema.specs.Held.{HasTables};
 ghost use Rattle.clear_schema.specs.Schema.{this_layout};
 ghost use Rattle.clear_schema.specs.Seen.{Sees};
-ghost use Rattle.clear_host.specs.Contents.{HoldsOtherLayout, HoldsSchema, HoldsStore};
-ghost use Rattle.clear_host.specs.Contents.{IfRefused, IsUntoldUnopened, TellsOnly, TellsOther};
+ghost use Rattle.clear_host.specs.Contents.{HoldsStore, IsUntoldUnopened};
+ghost use Rattle.clear_host.specs.Offices.{IsOurs, TellsOf};
 
 use crate::hindrance::Hindrance;
 use crate::offices::NotOpened;
@@ -43,18 +42,9 @@ pub fn bring_to_current<S: Start>(
         → (t : Tables) → HoldsStore this_layout t (image_at S.Start)
         → HasTables t (state over_files brought.connection).now
         × HasTables t (state over_files brought.connection).committed) }
-    ensures only_this { IfOk result (λ brought. HasCleanDisk (state over_files brought.connection)
-        → (number : ℕ) → HoldsSchema number (image_at S.Start) → number ≡ this_schema) }
-    ensures not_other { IfOk result (λ brought. HasCleanDisk (state over_files brought.connection)
-        → ¬ HoldsOtherLayout (image_at S.Start)) }
-    ensures only_stores { IfOk result (λ brought.
-        HasCleanDisk (state over_files brought.connection) → ¬ IsNothing (image_at S.Start)) }
-    ensures version { (number : ℕ) → HoldsSchema number (image_at S.Start)
-        → IfErr result (IfRefused over_files (IsWrong this_schema number)) }
-    ensures other { HoldsOtherLayout (image_at S.Start)
-        → IfErr result (IfRefused over_files TellsOther) }
-    ensures empty { IsNothing (image_at S.Start)
-        → IfErr result (IfRefused over_files (TellsOnly 0)) }
+    ensures ours { IfOk result (λ brought. HasCleanDisk (state over_files brought.connection)
+        → IsOurs (image_at S.Start)) }
+    ensures tells { IfErr result (TellsOf over_files (image_at S.Start)) }
     ensures unopened { IfErr result IsUntoldUnopened }
 {
     let connection = open_database(rt, path, start)?;
@@ -70,22 +60,11 @@ fn bring<S: Alter>(connection: Connection<S>) -> Result<Brought<S>, NotOpened<S>
         → (t : Tables) → HoldsStore this_layout t image
         → HasTables t (state S.Store brought.connection).now
         × HasTables t (state S.Store brought.connection).committed) }
-    ensures only_this { (image : Image) → Sees S.Store image connection
+    ensures ours { (image : Image) → Sees S.Store image connection
         → IfOk result (λ brought. HasCleanDisk (state S.Store brought.connection)
-        → (number : ℕ) → HoldsSchema number image → number ≡ this_schema) }
-    ensures not_other { (image : Image) → Sees S.Store image connection
-        → IfOk result (λ brought. HasCleanDisk (state S.Store brought.connection)
-        → ¬ HoldsOtherLayout image) }
-    ensures only_stores { (image : Image) → Sees S.Store image connection
-        → IfOk result (λ brought. HasCleanDisk (state S.Store brought.connection)
-        → ¬ IsNothing image) }
-    ensures version { (image : Image) → Sees S.Store image connection
-        → (number : ℕ) → HoldsSchema number image
-        → IfErr result (IfRefused S.Store (IsWrong this_schema number)) }
-    ensures other { (image : Image) → Sees S.Store image connection → HoldsOtherLayout image
-        → IfErr result (IfRefused S.Store TellsOther) }
-    ensures empty { (image : Image) → Sees S.Store image connection → IsNothing image
-        → IfErr result (IfRefused S.Store (TellsOnly 0)) }
+        → IsOurs image) }
+    ensures tells { (image : Image) → Sees S.Store image connection
+        → IfErr result (TellsOf S.Store image) }
     ensures unopened { IfErr result IsUntoldUnopened }
 {
     let mut connection = connection;

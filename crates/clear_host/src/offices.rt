@@ -8,18 +8,16 @@ ghost use Rattle.sqlite.specs.Held.{state};
 ghost use Rattle.sqlite.specs.State.{HasCleanDisk};
 ghost use Rattle.sqlite_wal.specs.Recovery.{Image};
 ghost use Rattle.clear_book.specs.Allocated.{Represents};
-ghost use Rattle.clear_book.specs.Book.{Book, first_book, ledger_day};
+ghost use Rattle.clear_book.specs.Book.{Book};
 ghost use Rattle.clear_book.specs.Tables.{Tables};
-ghost use Rattle.clear_schema.specs.Faults.{IsWrong};
-ghost use Rattle.clear_schema.specs.First.{first_tables};
-ghost use Rattle.clear_schema.specs.Held.{HasTables, this_schema};
+ghost use Rattle.clear_schema.specs.Held.{HasTables};
 ghost use Rattle.clear_schema.specs.Schema.{this_layout};
 ghost use Rattle.clear_schema.specs.Seen.{Sees};
 ghost use Rattle.clear_schema.specs.Still.{Holds};
 ghost use Rattle.clear_office.specs.Office.{IsHonest, Keeps};
-ghost use Rattle.clear_host.specs.Contents.{HoldsBook, HoldsObjects, HoldsOtherLayout, HoldsSchema};
-ghost use Rattle.clear_host.specs.Contents.{HoldsStore, IfRefused, IsUntoldUnopened};
-ghost use Rattle.clear_host.specs.Contents.{TellsNone, TellsOnly, TellsOther};
+ghost use Rattle.clear_host.specs.Contents.{HoldsObjects, HoldsSchema, HoldsStore, IfRefused};
+ghost use Rattle.clear_host.specs.Contents.{IsUntoldUnopened, TellsNone, TellsOnly};
+ghost use Rattle.clear_host.specs.Offices.{IsNewOffice, IsOfficeOver, IsOurs, TellsOf};
 
 use crate::hindrance::Hindrance;
 use crate::ledger::ledger_day;
@@ -69,10 +67,8 @@ pub(crate) fn new_office<S: Alter>(
 ) -> Result<Opened<S>, NotOpened<S>>
     requires { connection.in_transaction ≡ false }
     ensures working { IfOk result (λ opened. opened.office.failed ≡ false) }
-    ensures created { IfOk result (λ opened. IsHonest S.Store opened.office
-        → Holds S.Store opened.office.conn (first_tables rates.now)) }
-    ensures keeps { IfOk result (λ opened. IsHonest S.Store opened.office
-        → Keeps S.Store opened.office (first_book rates.now)) }
+    ensures made { IfOk result (λ opened. IsHonest S.Store opened.office
+        → IsNewOffice S.Store rates.now opened) }
     ensures only_new { (image : Image) → Sees S.Store image connection
         → IfOk result (λ opened. IsHonest S.Store opened.office → ¬ HoldsObjects image) }
     ensures day { IfOk result (λ opened. opened.ledger_day ≡ None) }
@@ -107,30 +103,11 @@ pub(crate) fn find_office<S: Alter>(
 ) -> Result<Opened<S>, NotOpened<S>>
     requires { connection.in_transaction ≡ false }
     ensures working { IfOk result (λ opened. opened.office.failed ≡ false) }
-    ensures found { (image : Image) → Sees S.Store image connection
+    ensures opened { (image : Image) → Sees S.Store image connection
         → IfOk result (λ opened. IsHonest S.Store opened.office
-        → (t : Tables) → HoldsStore this_layout t image
-        → Holds S.Store opened.office.conn t) }
-    ensures keeps { (image : Image) → Sees S.Store image connection
-        → IfOk result (λ opened. IsHonest S.Store opened.office
-        → (b : Book) → HoldsBook b image → Keeps S.Store opened.office b) }
-    ensures day { (image : Image) → Sees S.Store image connection
-        → IfOk result (λ opened. IsHonest S.Store opened.office
-        → (b : Book) → HoldsBook b image → opened.ledger_day ≡ ledger_day b.entries) }
-    ensures only_this { (image : Image) → Sees S.Store image connection
-        → IfOk result (λ opened. IsHonest S.Store opened.office
-        → (number : ℕ) → HoldsSchema number image → number ≡ this_schema) }
-    ensures not_other { (image : Image) → Sees S.Store image connection
-        → IfOk result (λ opened. IsHonest S.Store opened.office → ¬ HoldsOtherLayout image) }
-    ensures only_stores { (image : Image) → Sees S.Store image connection
-        → IfOk result (λ opened. IsHonest S.Store opened.office → ¬ IsNothing image) }
-    ensures version { (image : Image) → Sees S.Store image connection
-        → (number : ℕ) → HoldsSchema number image
-        → IfErr result (IfRefused S.Store (IsWrong this_schema number)) }
-    ensures other { (image : Image) → Sees S.Store image connection → HoldsOtherLayout image
-        → IfErr result (IfRefused S.Store TellsOther) }
-    ensures empty { (image : Image) → Sees S.Store image connection → IsNothing image
-        → IfErr result (IfRefused S.Store (TellsOnly 0)) }
+        → IsOfficeOver S.Store image opened) }
+    ensures tells { (image : Image) → Sees S.Store image connection
+        → IfErr result (TellsOf S.Store image) }
     ensures unopened { IfErr result IsUntoldUnopened }
 {
     let store = find_store(connection)?;
@@ -144,21 +121,10 @@ fn find_store<S: Alter>(connection: Connection<S>) -> Result<Store<S>, NotOpened
     ensures found { (image : Image) → Sees S.Store image connection
         → IfOk result (λ store. HasCleanDisk (state S.Store store.conn)
         → (t : Tables) → HoldsStore this_layout t image → Holds S.Store store.conn t) }
-    ensures only_this { (image : Image) → Sees S.Store image connection
-        → IfOk result (λ store. HasCleanDisk (state S.Store store.conn)
-        → (number : ℕ) → HoldsSchema number image → number ≡ this_schema) }
-    ensures not_other { (image : Image) → Sees S.Store image connection
-        → IfOk result (λ store. HasCleanDisk (state S.Store store.conn)
-        → ¬ HoldsOtherLayout image) }
-    ensures only_stores { (image : Image) → Sees S.Store image connection
-        → IfOk result (λ store. HasCleanDisk (state S.Store store.conn) → ¬ IsNothing image) }
-    ensures version { (image : Image) → Sees S.Store image connection
-        → (number : ℕ) → HoldsSchema number image
-        → IfErr result (IfRefused S.Store (IsWrong this_schema number)) }
-    ensures other { (image : Image) → Sees S.Store image connection → HoldsOtherLayout image
-        → IfErr result (IfRefused S.Store TellsOther) }
-    ensures empty { (image : Image) → Sees S.Store image connection → IsNothing image
-        → IfErr result (IfRefused S.Store (TellsOnly 0)) }
+    ensures ours { (image : Image) → Sees S.Store image connection
+        → IfOk result (λ store. HasCleanDisk (state S.Store store.conn) → IsOurs image) }
+    ensures tells { (image : Image) → Sees S.Store image connection
+        → IfErr result (TellsOf S.Store image) }
     ensures unopened { IfErr result IsUntoldUnopened }
 {
     match Store::open(connection) {

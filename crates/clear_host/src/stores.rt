@@ -6,18 +6,12 @@
 ghost use Rattle.std.specs.Prelude.{◌≡◌, false, ℕ, None, IfErr, IfOk};
 ghost use Rattle.sqlite.specs.Files.{over_files, IsNothing};
 ghost use Rattle.sqlite_wal.specs.Files.{image_at};
-ghost use Rattle.clear_book.specs.Book.{Book, first_book, ledger_day};
+ghost use Rattle.clear_book.specs.Book.{first_book};
 ghost use Rattle.clear_book.specs.Machine.{IsLawful};
-ghost use Rattle.clear_book.specs.Tables.{Tables};
-ghost use Rattle.clear_schema.specs.Faults.{IsWrong};
-ghost use Rattle.clear_schema.specs.First.{first_tables};
-ghost use Rattle.clear_schema.specs.Held.{this_schema};
-ghost use Rattle.clear_schema.specs.Schema.{this_layout};
-ghost use Rattle.clear_schema.specs.Still.{Holds};
-ghost use Rattle.clear_office.specs.Office.{IsHonest, Keeps};
-ghost use Rattle.clear_host.specs.Contents.{HoldsBook, HoldsObjects, HoldsOtherLayout, HoldsSchema};
-ghost use Rattle.clear_host.specs.Contents.{HoldsStore, IfRefused, IsUntoldUnopened};
-ghost use Rattle.clear_host.specs.Contents.{TellsNone, TellsOnly, TellsOther};
+ghost use Rattle.clear_office.specs.Office.{IsHonest};
+ghost use Rattle.clear_host.specs.Contents.{HoldsObjects, HoldsSchema, IfRefused, IsUntoldUnopened};
+ghost use Rattle.clear_host.specs.Contents.{TellsNone, TellsOnly};
+ghost use Rattle.clear_host.specs.Offices.{IsNewOffice, IsOfficeOver, TellsOf};
 
 use crate::offices::{NotOpened, Opened, find_office, new_office};
 use crate::opening::{is_no_file, open_database};
@@ -45,10 +39,8 @@ pub fn create_office<S: Start>(
     start: S,
 ) -> Result<Opened<FileStore<FileFrom<S>>>, NotOpened<FileStore<FileFrom<S>>>>
     ensures working { IfOk result (λ opened. opened.office.failed ≡ false) }
-    ensures created { IfOk result (λ opened. IsHonest over_files opened.office
-        → Holds over_files opened.office.conn (first_tables rates.now)) }
-    ensures keeps { IfOk result (λ opened. IsHonest over_files opened.office
-        → Keeps over_files opened.office (first_book rates.now)) }
+    ensures made { IfOk result (λ opened. IsHonest over_files opened.office
+        → IsNewOffice over_files rates.now opened) }
     ensures lawful { IsLawful (first_book rates.now) }
     ensures only_new { IfOk result (λ opened. IsHonest over_files opened.office
         → ¬ HoldsObjects (image_at S.Start)) }
@@ -77,27 +69,9 @@ pub fn open_office<S: Start>(
     start: S,
 ) -> Result<Opened<FileStore<FileFrom<S>>>, NotOpened<FileStore<FileFrom<S>>>>
     ensures working { IfOk result (λ opened. opened.office.failed ≡ false) }
-    ensures found { IfOk result (λ opened. IsHonest over_files opened.office
-        → (t : Tables) → HoldsStore this_layout t (image_at S.Start)
-        → Holds over_files opened.office.conn t) }
-    ensures keeps { IfOk result (λ opened. IsHonest over_files opened.office
-        → (b : Book) → HoldsBook b (image_at S.Start) → Keeps over_files opened.office b) }
-    ensures day { IfOk result (λ opened. IsHonest over_files opened.office
-        → (b : Book) → HoldsBook b (image_at S.Start)
-        → opened.ledger_day ≡ ledger_day b.entries) }
-    ensures only_this { IfOk result (λ opened. IsHonest over_files opened.office
-        → (number : ℕ) → HoldsSchema number (image_at S.Start)
-        → number ≡ this_schema) }
-    ensures not_other { IfOk result (λ opened. IsHonest over_files opened.office
-        → ¬ HoldsOtherLayout (image_at S.Start)) }
-    ensures only_stores { IfOk result (λ opened. IsHonest over_files opened.office
-        → ¬ IsNothing (image_at S.Start)) }
-    ensures version { (number : ℕ) → HoldsSchema number (image_at S.Start)
-        → IfErr result (IfRefused over_files (IsWrong this_schema number)) }
-    ensures other { HoldsOtherLayout (image_at S.Start)
-        → IfErr result (IfRefused over_files TellsOther) }
-    ensures empty { IsNothing (image_at S.Start)
-        → IfErr result (IfRefused over_files (TellsOnly 0)) }
+    ensures opened { IfOk result (λ opened. IsHonest over_files opened.office
+        → IsOfficeOver over_files (image_at S.Start) opened) }
+    ensures tells { IfErr result (TellsOf over_files (image_at S.Start)) }
     ensures unopened { IfErr result IsUntoldUnopened }
 {
     let connection = open_database(rt, path, start)?;

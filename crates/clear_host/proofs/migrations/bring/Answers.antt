@@ -17,26 +17,21 @@ returns-in-Ok-clause-found g c image sees clean t holds =
     let here = subst (HasTables t) (sym still.now_is) has in
     (here, subst (HasTables t) still.settled here)
 
-pub returns-in-Ok-clause-only_this : goal.returns-in-Ok-clause-only_this
-returns-in-Ok-clause-only_this g c image sees clean number holds =
-    c.in-Ok.ensures.only_this clean number (told_seen image (state g.S.Store c.args.connection) (sees (c.in-Ok.ensures.clean clean)) number holds).1
+pub returns-in-Ok-clause-ours : goal.returns-in-Ok-clause-ours
+returns-in-Ok-clause-ours g c image sees clean =
+    let old = state g.S.Store c.args.connection in
+    let seen = sees (c.in-Ok.ensures.clean clean) in
+    record {
+      only_this = λ number holds. c.in-Ok.ensures.only_this clean number (told_seen image old seen number holds).1;
+      not_other = λ holds. never_so _ c.in-Ok.migration (c.in-Ok.ensures.other clean (other_layout_seen image old seen holds));
+      only_stores = λ nothing. never_so _ c.in-Ok.migration (c.in-Ok.ensures.empty clean (nothing_seen image old seen nothing));
+    }
 
-pub returns-in-Ok-clause-not_other : goal.returns-in-Ok-clause-not_other
-returns-in-Ok-clause-not_other g c image sees clean holds =
-    never_so _ c.in-Ok.migration (c.in-Ok.ensures.other clean (other_layout_seen image (state g.S.Store c.args.connection) (sees (c.in-Ok.ensures.clean clean)) holds))
-
-pub returns-in-Ok-clause-only_stores : goal.returns-in-Ok-clause-only_stores
-returns-in-Ok-clause-only_stores g c image sees clean nothing =
-    never_so _ c.in-Ok.migration (c.in-Ok.ensures.empty clean (nothing_seen image (state g.S.Store c.args.connection) (sees (c.in-Ok.ensures.clean clean)) nothing))
-
-pub returns-in-Err-clause-version : goal.returns-in-Err-clause-version
-returns-in-Err-clause-version g c image sees number holds clean =
-    c.in-Err.ensures.version clean number (told_seen image (state g.S.Store c.args.connection) (sees (c.in-Err.ensures.clean clean)) number holds).1
-
-pub returns-in-Err-clause-other : goal.returns-in-Err-clause-other
-returns-in-Err-clause-other g c image sees holds clean =
-    other_so c.in-Err.fault (c.in-Err.ensures.other clean (other_layout_seen image (state g.S.Store c.args.connection) (sees (c.in-Err.ensures.clean clean)) holds))
-
-pub returns-in-Err-clause-empty : goal.returns-in-Err-clause-empty
-returns-in-Err-clause-empty g c image sees nothing clean =
-    only_so 0 c.in-Err.fault (c.in-Err.ensures.empty clean (nothing_seen image (state g.S.Store c.args.connection) (sees (c.in-Err.ensures.clean clean)) nothing))
+pub returns-in-Err-clause-tells : goal.returns-in-Err-clause-tells
+returns-in-Err-clause-tells g c image sees =
+    let old = state g.S.Store c.args.connection in
+    record {
+      version = λ number holds clean. c.in-Err.ensures.version clean number (told_seen image old (sees (c.in-Err.ensures.clean clean)) number holds).1;
+      other = λ holds clean. other_so c.in-Err.fault (c.in-Err.ensures.other clean (other_layout_seen image old (sees (c.in-Err.ensures.clean clean)) holds));
+      empty = λ nothing clean. only_so 0 c.in-Err.fault (c.in-Err.ensures.empty clean (nothing_seen image old (sees (c.in-Err.ensures.clean clean)) nothing));
+    }

@@ -4,11 +4,9 @@ use Rattle.clear_host.proofs.RefusalLemmas.{tells_none, tells_only}
 use Rattle.clear_host.proofs.StoreLemmas.{objects_seen, told_seen}
 use Rattle.clear_host.proofs.offices.new_office.Goals as goal
 
-pub returns-in-Ok-clause-created : goal.returns-in-Ok-clause-created
-returns-in-Ok-clause-created g c honest = c.in-Ok.ensures.created honest c.in-Ok.ensures.only_empty
-
-pub returns-in-Ok-clause-keeps : goal.returns-in-Ok-clause-keeps
-returns-in-Ok-clause-keeps g c honest = c.in-Ok.ensures.keeps honest c.in-Ok.ensures.only_empty
+pub returns-in-Ok-clause-made : goal.returns-in-Ok-clause-made
+returns-in-Ok-clause-made g c honest =
+    record { created = c.in-Ok.ensures.created honest c.in-Ok.ensures.only_empty; keeps = c.in-Ok.ensures.keeps honest c.in-Ok.ensures.only_empty }
 
 pub returns-in-Ok-clause-only_new : goal.returns-in-Ok-clause-only_new
 returns-in-Ok-clause-only_new g c image sees honest holds =

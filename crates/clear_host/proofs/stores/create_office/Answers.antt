@@ -5,11 +5,8 @@ use Rattle.clear_host.specs.Contents.{TellsNone, TellsOnly}
 use Rattle.clear_host.proofs.RefusalLemmas.{unconnected}
 use Rattle.clear_host.proofs.stores.create_office.Goals as goal
 
-pub returns-clause-created : goal.returns-clause-created
-returns-clause-created g c = c.new_office.ensures.created
-
-pub returns-clause-keeps : goal.returns-clause-keeps
-returns-clause-keeps g c = c.new_office.ensures.keeps
+pub returns-clause-made : goal.returns-clause-made
+returns-clause-made g c = c.new_office.ensures.made
 
 pub returns-clause-only_new : goal.returns-clause-only_new
 returns-clause-only_new g c = c.new_office.ensures.only_new (image_at g.S.Start) c.in_ok-connection.ensures.sees

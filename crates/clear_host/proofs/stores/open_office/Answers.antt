@@ -1,53 +1,19 @@
 use Rattle.std.proofs.lemmas.Result.{err_from_is_err_and}
 use Rattle.sqlite.specs.Files.{over_files}
 use Rattle.sqlite_wal.specs.Files.{image_at}
-use Rattle.clear_schema.specs.Faults.{IsWrong}
-use Rattle.clear_schema.specs.Held.{this_schema}
-use Rattle.clear_host.specs.Contents.{TellsOnly, TellsOther}
-use Rattle.clear_host.proofs.RefusalLemmas.{unconnected}
+use Rattle.clear_host.proofs.RefusalLemmas.{unopened_tells}
 use Rattle.clear_host.proofs.stores.open_office.Goals as goal
-
-pub returns-clause-found : goal.returns-clause-found
-returns-clause-found g c = c.find_office.ensures.found (image_at g.S.Start) c.in_ok-connection.ensures.sees
-
-pub returns-clause-keeps : goal.returns-clause-keeps
-returns-clause-keeps g c = c.find_office.ensures.keeps (image_at g.S.Start) c.in_ok-connection.ensures.sees
-
-pub returns-clause-day : goal.returns-clause-day
-returns-clause-day g c = c.find_office.ensures.day (image_at g.S.Start) c.in_ok-connection.ensures.sees
-
-pub returns-clause-only_this : goal.returns-clause-only_this
-returns-clause-only_this g c = c.find_office.ensures.only_this (image_at g.S.Start) c.in_ok-connection.ensures.sees
-
-pub returns-clause-only_stores : goal.returns-clause-only_stores
-returns-clause-only_stores g c = c.find_office.ensures.only_stores (image_at g.S.Start) c.in_ok-connection.ensures.sees
-
-pub returns-clause-version : goal.returns-clause-version
-returns-clause-version g c = c.find_office.ensures.version (image_at g.S.Start) c.in_ok-connection.ensures.sees
-
-pub returns-clause-empty : goal.returns-clause-empty
-returns-clause-empty g c = c.find_office.ensures.empty (image_at g.S.Start) c.in_ok-connection.ensures.sees
 
 pub returns-clause-working : goal.returns-clause-working
 returns-clause-working g c = c.find_office.ensures.working
 
-pub returns-clause-not_other : goal.returns-clause-not_other
-returns-clause-not_other g c = c.find_office.ensures.not_other (image_at g.S.Start) c.in_ok-connection.ensures.sees
+pub returns-clause-opened : goal.returns-clause-opened
+returns-clause-opened g c = c.find_office.ensures.opened (image_at g.S.Start) c.in_ok-connection.ensures.sees
 
-pub returns-clause-other : goal.returns-clause-other
-returns-clause-other g c = c.find_office.ensures.other (image_at g.S.Start) c.in_ok-connection.ensures.sees
+pub returns-clause-tells : goal.returns-clause-tells
+returns-clause-tells g c = c.find_office.ensures.tells (image_at g.S.Start) c.in_ok-connection.ensures.sees
 
-pub returns-in_err-connection-clause-version : goal.returns-in_err-connection-clause-version
-returns-in_err-connection-clause-version g c number holds =
+pub returns-in_err-connection-clause-tells : goal.returns-in_err-connection-clause-tells
+returns-in_err-connection-clause-tells g c =
     let p = err_from_is_err_and c.from_residual.result c.from_residual.ensures.1 in
-    rw (p.1, p.2) (unconnected over_files (IsWrong this_schema number) c.in_err-connection.field-0.0 c.in_err-connection.ensures.none)
-
-pub returns-in_err-connection-clause-other : goal.returns-in_err-connection-clause-other
-returns-in_err-connection-clause-other g c holds =
-    let p = err_from_is_err_and c.from_residual.result c.from_residual.ensures.1 in
-    rw (p.1, p.2) (unconnected over_files TellsOther c.in_err-connection.field-0.0 c.in_err-connection.ensures.none)
-
-pub returns-in_err-connection-clause-empty : goal.returns-in_err-connection-clause-empty
-returns-in_err-connection-clause-empty g c nothing =
-    let p = err_from_is_err_and c.from_residual.result c.from_residual.ensures.1 in
-    rw (p.1, p.2) (unconnected over_files (TellsOnly 0) c.in_err-connection.field-0.0 c.in_err-connection.ensures.none)
+    rw (p.1, p.2) (unopened_tells over_files (image_at g.S.Start) c.in_err-connection.field-0.0 c.in_err-connection.ensures.none)

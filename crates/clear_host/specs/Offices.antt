@@ -1,0 +1,44 @@
+-- Why an office over a store in files is opened, and why it is not, by what the two files hold.
+use Rattle.std.specs.Prelude.{◌≡◌, ℕ, List}
+use Rattle.sqlite.specs.Files.{IsNothing}
+use Rattle.sqlite.specs.Store.{Ghosts}
+use Rattle.sqlite_wal.specs.Recovery.{Image}
+use Rattle.clear_money.specs.Rates.{Rate}
+use Rattle.clear_book.specs.Book.{Book, first_book, ledger_day}
+use Rattle.clear_book.specs.Tables.{Tables}
+use Rattle.clear_schema.specs.Faults.{IsWrong}
+use Rattle.clear_schema.specs.First.{first_tables}
+use Rattle.clear_schema.specs.Held.{this_schema}
+use Rattle.clear_schema.specs.Schema.{this_layout}
+use Rattle.clear_schema.specs.Still.{Holds}
+use Rattle.clear_office.specs.Office.{Keeps}
+use Rattle.clear_host.specs.Contents.{HoldsBook, HoldsOtherLayout, HoldsSchema, HoldsStore}
+use Rattle.clear_host.specs.Contents.{IfRefused, TellsOnly, TellsOther}
+use Rattle.clear_host.specs.declared.offices.NotOpened.{NotOpened}
+use Rattle.clear_host.specs.declared.offices.Opened.{Opened}
+
+-- they hold something, and no database of another schema or with other tables or indexes
+pub record IsOurs (image : Image) : Type 0 where
+  pub only_this : (number : ℕ) → HoldsSchema number image → number ≡ this_schema
+  pub not_other : ¬ HoldsOtherLayout image
+  pub only_stores : ¬ IsNothing image
+
+-- the office keeps the book that they hold, and has the tables that they hold, whatever these are
+pub record IsOfficeOver {S : Type 0} (g : Ghosts S) (image : Image) (opened : Opened S) : Type 0 where
+  pub found : (t : Tables) → HoldsStore this_layout t image → Holds g opened.office.conn t
+  pub keeps : (b : Book) → HoldsBook b image → Keeps g opened.office b
+  pub day : (b : Book) → HoldsBook b image → opened.ledger_day ≡ ledger_day b.entries
+  pub ours : IsOurs image
+
+-- the office keeps the book without requests, with these opening rates, and has its tables
+pub record IsNewOffice {S : Type 0} (g : Ghosts S) (rates : List Rate) (opened : Opened S) : Type 0
+  where
+    pub created : Holds g opened.office.conn (first_tables rates)
+    pub keeps : Keeps g opened.office (first_book rates)
+
+-- the refusal tells that they hold another schema, other tables or indexes, or nothing, where they do
+pub record TellsOf {S : Type 0} (g : Ghosts S) (image : Image) (refused : NotOpened S) : Type 0 where
+  pub version : (number : ℕ) → HoldsSchema number image
+      → IfRefused g (IsWrong this_schema number) refused
+  pub other : HoldsOtherLayout image → IfRefused g TellsOther refused
+  pub empty : IsNothing image → IfRefused g (TellsOnly 0) refused
