@@ -1,6 +1,6 @@
 //! Whether a store has this program's schema.
 
-use crate::opening::close_store;
+use crate::opening::{close_store, why_unopened};
 use crate::reasons::refused_path;
 use crate::stop::Stop;
 use clear_cli::ready::schema_line;
@@ -27,6 +27,6 @@ pub(crate) fn migrate_at<S: Start>(
                 Migration::AlreadyCurrent => Ok(schema_line(rt.alloc(), SCHEMA)?),
             }
         }
-        Err(refused) => Err(Stop::from(refused.fault)),
+        Err(refused) => Err(Stop::from(why_unopened(refused).fault)),
     }
 }

@@ -1,7 +1,8 @@
 //! Stores in files, opened with all that was accepted, and closed.
 //!
-//! To call a function over any store on one in files costs its proof some 20 seconds: so there is one
-//! such call, of `do_job`, and why a store isn't opened is told without its type.
+//! To call a function over any store on one in files costs its proof some 20 seconds, and so does a
+//! connection on one that is dropped: so there is one such call, of `do_job`, and one such drop, in
+//! `why_unopened`.
 
 use crate::jobs::{Job, do_job};
 use crate::reasons::refused_path;
@@ -11,7 +12,7 @@ use clear_files::logs::is_brought_over;
 use clear_files::named::StoreFile;
 use clear_files::paths::path_kind;
 use clear_host::hindrance::Hindrance;
-use clear_host::offices::Opened;
+use clear_host::offices::{NotOpened, Opened};
 use clear_host::stores::open_office;
 use clear_schema::fault::{Fault, OpenFault};
 use sqlite::{Alter, Connection, FileStore};
@@ -87,10 +88,15 @@ fn open_once<S: Start>(
 ) -> Result<Opened<FileStore<FileFrom<S>>>, Unopened> {
     match open_office(rt, store, start) {
         Ok(opened) => Ok(opened),
-        Err(refused) => Err(Unopened {
-            fault: refused.fault,
-            hindrance: refused.hindrance,
-        }),
+        Err(refused) => Err(why_unopened(refused)),
+    }
+}
+
+/// Why a store isn't opened. The connection is dropped, if there is one.
+pub(crate) fn why_unopened<S: Start>(refused: NotOpened<FileStore<FileFrom<S>>>) -> Unopened {
+    Unopened {
+        fault: refused.fault,
+        hindrance: refused.hindrance,
     }
 }
 

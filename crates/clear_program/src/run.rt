@@ -4,7 +4,7 @@ ghost use Rattle.std.specs.Prelude.{◌≡◌, ◌≤◌, IfOk};
 use crate::jobs::Job;
 use crate::look::look_at;
 use crate::migrate::migrate_at;
-use crate::opening::{close_office, do_and_close, open_whole};
+use crate::opening::{close_office, do_and_close, open_whole, why_unopened};
 use crate::stop::{Stop, tell};
 use crate::tasks::{Task, Work, read_task, words_of};
 use crate::work::{say, serve_stream};
@@ -105,7 +105,7 @@ fn make_at<S: Start>(
             close_office(rt, opened);
             Ok(schema_line(rt.alloc(), SCHEMA)?)
         }
-        Err(refused) => Err(Stop::from(refused.fault)),
+        Err(refused) => Err(Stop::from(why_unopened(refused).fault)),
     }
 }
 
