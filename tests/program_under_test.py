@@ -16,8 +16,10 @@ ROOT = Path(__file__).resolve().parent.parent
 BUILT = ROOT / "crates/clear_app/out/clear_app"
 NOBODY = 65534 if os.geteuid() == 0 else None
 
-# A shell that starts these scripts in the background has them, and what they start, leave an interrupt aside: not so here.
+# A shell that starts these scripts in the background has them, and what they start, leave an interrupt aside, and `nohup`
+# a hangup: not so here.
 signal.signal(signal.SIGINT, signal.default_int_handler)
+signal.signal(signal.SIGHUP, signal.SIG_DFL)
 
 ROW_2024 = """[[rate]]
 from = "2024-01"
