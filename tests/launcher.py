@@ -11,13 +11,16 @@ import re
 import shutil
 import signal
 import subprocess
+import sys
 import tempfile
 import time
 import unittest
 from pathlib import Path
 
-ROOT = Path(__file__).resolve().parent.parent
-NOBODY = 65534 if os.geteuid() == 0 else None
+# No __pycache__ is left beside the sources.
+sys.dont_write_bytecode = True
+from program_under_test import NOBODY, ROOT  # noqa: E402
+
 # All that the scripts call. The PATH of a test has these, and rt.
 TOOLS = "awk bash cat dirname env find flock mkdir nproc readlink sed sh sha256sum sleep sort stat wc".split()
 CRATES = """# as in the repository
