@@ -1,2 +1,5 @@
 pub mod Stops
 pub mod Reasons
+pub mod Asked
+pub mod Works
+pub mod Looks

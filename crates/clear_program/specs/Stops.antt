@@ -25,6 +25,10 @@ abbrev pub by_file : FileFault → Stop
 by_file file.Unusable = stop.File
 by_file file.Memory = no_memory
 
+-- there was no memory, or a file can't be used
+abbrev pub IsOfFile : Stop → Type 0
+IsOfFile why = (why ≡ no_memory) ⊎ (why ≡ stop.File)
+
 -- a store that isn't opened
 abbrev pub by_store : OpenFault → Stop
 by_store (WrongVersion found) = stop.Rule (rules.WrongVersion found)

@@ -1,4 +1,8 @@
 //! What is done with the store of an office that was just opened, whatever keeps it.
+ghost use Rattle.std.specs.Prelude.{◌≡◌, string_bytes};
+ghost use Rattle.clear_office.specs.Office.{AtOffice};
+ghost use Rattle.clear_program.specs.Looks.{DoesJob, Looks};
+ghost use Rattle.clear_program.specs.Works.{Works};
 
 use crate::look::look_over;
 use crate::stop::Stop;
@@ -28,14 +32,17 @@ pub(crate) struct Done<S: Alter> {
     pub connection: Connection<S>,
 }
 
-/// Does a job on the store of an office. That connections are taken, and why one ended early, is told on
-/// `errors`.
+/// Does a job on the store of an office, and gives what is to be said of it. That connections are taken,
+/// and why one ended early, is told on `errors`.
 pub(crate) fn do_job<S: Alter + Drop, E: Write>(
     rt: &HostRuntime,
     opened: Opened<S>,
     job: Job<'_>,
     errors: &mut E,
-) -> Done<S> {
+) -> Done<S>
+    ensures { DoesJob string_bytes S.Store result.said opened.ledger_day opened.office
+        result.connection job.entry }
+{
     match job {
         Job::Nothing => Done {
             said: Ok(String::new(rt.alloc())),
@@ -46,7 +53,9 @@ pub(crate) fn do_job<S: Alter + Drop, E: Write>(
     }
 }
 
-fn look_into<S: Alter>(alloc: Global, opened: Opened<S>) -> Done<S> {
+fn look_into<S: Alter>(alloc: Global, opened: Opened<S>) -> Done<S>
+    ensures { Looks string_bytes S.Store result.said opened.office.conn result.connection }
+{
     let mut connection = opened.into_connection();
     let said = look_over(alloc, &mut connection);
     Done { said, connection }
@@ -58,7 +67,10 @@ fn work_on<S: Alter + Drop, E: Write>(
     file: &StoreFile<'_>,
     work: Work<'_>,
     errors: &mut E,
-) -> Done<S> {
+) -> Done<S>
+    ensures { (then : AtOffice _) × Works string_bytes S.Store opened.office then result.said
+        opened.ledger_day work.entry × (result.connection ≡ then.conn) }
+{
     let mut opened = opened;
     let said = do_work(rt, &mut opened, file, work, errors);
     let connection = opened.into_connection();

@@ -1,9 +1,10 @@
 //! What the program does: the words of its command line are read, with the files that they name, what
 //! they ask for is done, and why it ends before that is told in one line, with a status.
 //!
-//! Contracts say the status and the line of each reason to stop. To which of them a run comes, and all
-//! of files, sockets and what is printed is compared by tests. The work is done on offices whatever
-//! keeps their records; the two kinds of store, in files and in memory, are named in few calls.
+//! Contracts say which task the words ask for, what work does to an office that was opened, what is said
+//! of it, and the status and the line of each reason to stop. What a path names, that what is said is
+//! printed, and all of sockets is compared by tests. The work is done on offices whatever keeps their
+//! records; the two kinds of store, in files and in memory, are named in few calls.
 #![tactic(auto)]
 
 mod jobs;

@@ -1,5 +1,6 @@
 //! A look at a store, and why there is none to look at.
-ghost use Rattle.std.specs.Prelude.{◌≤◌, IfOk};
+ghost use Rattle.std.specs.Prelude.{◌≤◌, IfOk, string_bytes};
+ghost use Rattle.clear_program.specs.Looks.{Looks};
 
 use crate::jobs::Job;
 use crate::opening::{do_and_close, open_whole};
@@ -52,11 +53,13 @@ fn tell_why(rt: &HostRuntime, kind: PathKind, hindrance: Hindrance, fault: OpenF
     status
 }
 
-/// What stands in the store of a connection.
+/// What stands in the store of a connection, in words. Nothing is changed.
 pub(crate) fn look_over<S: Alter>(
     alloc: Global,
     connection: &mut Connection<S>,
-) -> Result<String, Stop> {
+) -> Result<String, Stop>
+    ensures { Looks string_bytes S.Store result connection.old connection.new }
+{
     if !connection.is_autocommit() {
         return Err(Stop::Rule(Rule::Store(StoreCause::Other)));
     }

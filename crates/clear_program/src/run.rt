@@ -1,5 +1,7 @@
 //! The program as a whole.
-ghost use Rattle.std.specs.Prelude.{◌≡◌, ◌≤◌, IfOk};
+ghost use Rattle.std.specs.Prelude.{◌≡◌, ◌≤◌, IfOk, string_bytes};
+ghost use Rattle.clear_cli.specs.Ready.{schema_line};
+ghost use Rattle.clear_schema.specs.Held.{this_schema};
 
 use crate::jobs::Job;
 use crate::look::look_at;
@@ -96,7 +98,9 @@ fn make_at<S: Start>(
     store: &str,
     rates: &RateTable,
     start: S,
-) -> Result<String, Stop> {
+) -> Result<String, Stop>
+    ensures { IfOk result (λ said. string_bytes said ≡ schema_line this_schema) }
+{
     if is_left_log(rt, store)? {
         return Err(Stop::File);
     }

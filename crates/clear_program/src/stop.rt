@@ -95,17 +95,23 @@ impl From<Rule> for Stop {
 }
 
 impl From<AllocError> for Stop {
-    fn from(_: AllocError) -> Stop
-        ensures { result ≡ no_memory }
-    {
+    ghost use Rattle.std.specs.Prelude.{◌≡◌};
+    ghost use Rattle.clear_program.specs.Stops.{no_memory};
+
+    ghost from_gives = { λ _ why. why ≡ no_memory };
+
+    fn from(_: AllocError) -> Stop {
         NO_MEMORY
     }
 }
 
 impl From<FileFault> for Stop {
-    fn from(fault: FileFault) -> Stop
-        ensures { result ≡ by_file fault }
-    {
+    ghost use Rattle.std.specs.Prelude.{◌≡◌};
+    ghost use Rattle.clear_program.specs.Stops.{IsOfFile, by_file};
+
+    ghost from_gives = { λ fault why. (why ≡ by_file fault) × IsOfFile why };
+
+    fn from(fault: FileFault) -> Stop {
         match fault {
             FileFault::Unusable => Stop::File,
             FileFault::Memory => NO_MEMORY,

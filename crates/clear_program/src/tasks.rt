@@ -1,4 +1,12 @@
 //! What the words of the command line ask for, with what the files say that they name.
+ghost use Rattle.std.specs.Prelude.{◌≡◌, ◌⊎◌, IfErr, IfOk, map, string_bytes};
+ghost use Rattle.clear_money.specs.RateFile.{rates_of};
+ghost use Rattle.clear_callers.specs.CallerFile.{directory_of};
+ghost use Rattle.clear_callers.specs.Callers.{sample_keys};
+ghost use Rattle.clear_sample.specs.Samples.{sample_rates};
+ghost use Rattle.clear_program.specs.Asked.{IsAsked, IsChecked, IsNotDone};
+ghost use Rattle.clear_program.specs.Asked.{IsSampleOr, IsTaskFor, NamesAFile};
+ghost use Rattle.clear_program.specs.Stops.{IsOfFile, no_memory};
 
 use crate::stop::{NO_MEMORY, Stop};
 use clear_book::calls::Command;
@@ -105,7 +113,10 @@ fn stop_at_words(error: &io::Error) -> Stop {
 }
 
 /// The task that the words name. The files that they name are read, and no store is touched.
-pub fn read_task<'a>(rt: &HostRuntime, words: &'a [String]) -> Result<Task<'a>, Stop> {
+pub fn read_task<'a>(rt: &HostRuntime, words: &'a [String]) -> Result<Task<'a>, Stop>
+    ensures asked { IfOk result (λ task. IsAsked (map string_bytes words.now) task) }
+    ensures refused { IfErr result (λ why. IsNotDone (map string_bytes words.now) why) }
+{
     match read_words(rt.alloc(), words) {
         Ok(words) => prepare(rt, words),
         Err(LineFault::Help(text)) => Ok(Task::Say(text)),
@@ -114,7 +125,12 @@ pub fn read_task<'a>(rt: &HostRuntime, words: &'a [String]) -> Result<Task<'a>, 
     }
 }
 
-fn prepare<'a>(rt: &HostRuntime, words: Words<'a>) -> Result<Task<'a>, Stop> {
+// The task for what the words say.
+fn prepare<'a>(rt: &HostRuntime, words: Words<'a>) -> Result<Task<'a>, Stop>
+    ensures task { IfOk result (λ task. IsTaskFor words.entry task) }
+    ensures refused { IfErr result (λ why. (why ≡ no_memory)
+        ⊎ ((why ≡ Stop.File) × NamesAFile words.entry)) }
+{
     match words {
         Words::Init { store, rates } => init_task(rt, store, rates),
         Words::Stream {
@@ -128,72 +144,92 @@ fn prepare<'a>(rt: &HostRuntime, words: Words<'a>) -> Result<Task<'a>, Stop> {
             day,
             port,
             count,
-        } => on_store(store, serve_work(rt, callers, day, port, count)),
+        } => serve_task(rt, store, callers, day, port, count),
         Words::Import {
             store,
             day,
             number,
             file,
-        } => on_store(store, import_work(rt, day, number, file)),
+        } => import_task(rt, store, day, number, file),
         Words::Statement {
             store,
             day,
             employer,
-        } => on_store(store, Ok(Work::Statement { day, employer })),
+        } => Ok(on_store(store, Work::Statement { day, employer })),
         Words::Migrate { store } => Ok(Task::Migrate { store }),
         Words::Look { store } => Ok(Task::Look { store }),
         Words::Check { kind, file } => check_task(rt, kind, file),
-        Words::Backup { store, file } => on_store(store, Ok(Work::Backup { copy: file })),
+        Words::Backup { store, file } => Ok(on_store(store, Work::Backup { copy: file })),
     }
 }
 
-// Work on the store at a path, if it can be done.
-fn on_store<'a>(store: &'a str, work: Result<Work<'a>, Stop>) -> Result<Task<'a>, Stop> {
-    let work = work?;
-    Ok(Task::OnStore { store, work })
+// Work on the store at a path.
+fn on_store<'a>(store: &'a str, work: Work<'a>) -> Task<'a>
+    ensures { result ≡ Task.OnStore store.entry work.entry }
+{
+    Task::OnStore { store, work }
 }
 
-fn init_task<'a>(rt: &HostRuntime, store: &'a str, rates: &str) -> Result<Task<'a>, Stop> {
+fn init_task<'a>(rt: &HostRuntime, store: &'a str, rates: &'a str) -> Result<Task<'a>, Stop>
+    ensures task { IfOk result (λ task. IsTaskFor (Words.Init store.entry rates.entry) task) }
+    ensures refused { IfErr result IsOfFile }
+{
     let rates = read_rate_file(rt, rates)?;
     Ok(Task::Init { store, rates })
 }
 
-fn serve_work<'a>(
+fn serve_task<'a>(
     rt: &HostRuntime,
-    callers: &str,
+    store: &'a str,
+    callers: &'a str,
     day: Day,
     port: u16,
     count: u32,
-) -> Result<Work<'a>, Stop> {
+) -> Result<Task<'a>, Stop>
+    ensures task { IfOk result (λ task.
+        IsTaskFor (Words.Serve store.entry callers.entry day port count) task) }
+    ensures refused { IfErr result IsOfFile }
+{
     let directory = read_caller_file(rt, callers)?;
-    Ok(Work::Serve {
+    let work = Work::Serve {
         directory,
         day,
         port,
         count,
-    })
+    };
+    Ok(on_store(store, work))
 }
 
-fn import_work<'a>(
+fn import_task<'a>(
     rt: &HostRuntime,
+    store: &'a str,
     day: Day,
     number: RequestNo,
-    file: &str,
-) -> Result<Work<'a>, Stop> {
+    file: &'a str,
+) -> Result<Task<'a>, Stop>
+    ensures task { IfOk result (λ task.
+        IsTaskFor (Words.Import store.entry day number file.entry) task) }
+    ensures refused { IfErr result IsOfFile }
+{
     let command = Command::ImportBank(BankFile::new(read_file(rt, file)?));
-    Ok(Work::Import {
+    let work = Work::Import {
         day,
         number,
         command,
-    })
+    };
+    Ok(on_store(store, work))
 }
 
 fn stream_task<'a>(
     rt: &HostRuntime,
-    rates: &str,
-    callers: &str,
+    rates: &'a str,
+    callers: &'a str,
     day: Day,
-) -> Result<Task<'a>, Stop> {
+) -> Result<Task<'a>, Stop>
+    ensures task { IfOk result (λ task.
+        IsTaskFor (Words.Stream rates.entry callers.entry day) task) }
+    ensures refused { IfErr result IsOfFile }
+{
     Ok(Task::Stream {
         rates: rates_or_sample(rt, rates)?,
         directory: callers_or_sample(rt, callers)?,
@@ -201,13 +237,18 @@ fn stream_task<'a>(
     })
 }
 
-fn check_task<'a>(rt: &HostRuntime, kind: FileKind, file: &str) -> Result<Task<'a>, Stop> {
+fn check_task<'a>(rt: &HostRuntime, kind: FileKind, file: &'a str) -> Result<Task<'a>, Stop>
+    ensures task { IfOk result (λ task. IsTaskFor (Words.Check kind file.entry) task) }
+    ensures refused { IfErr result IsOfFile }
+{
     let bytes = read_file(rt, file)?;
     Ok(Task::Check(check_file(rt.alloc(), kind, bytes.as_slice())?))
 }
 
 // What is said of the bytes of a file of this kind.
-fn check_file(alloc: Global, kind: FileKind, bytes: &[u8]) -> Result<Checked, AllocError> {
+fn check_file(alloc: Global, kind: FileKind, bytes: &[u8]) -> Result<Checked, AllocError>
+    ensures { IfOk result (IsChecked kind bytes.now) }
+{
     match kind {
         FileKind::Rates => check_rates(alloc, bytes),
         FileKind::Callers => check_callers(alloc, bytes),
@@ -215,7 +256,10 @@ fn check_file(alloc: Global, kind: FileKind, bytes: &[u8]) -> Result<Checked, Al
     }
 }
 
-fn rates_or_sample(rt: &HostRuntime, path: &str) -> Result<RateTable, Stop> {
+fn rates_or_sample(rt: &HostRuntime, path: &str) -> Result<RateTable, Stop>
+    ensures said { IfOk result (IsSampleOr sample_rates path.now rates_of) }
+    ensures refused { IfErr result IsOfFile }
+{
     if path == SAMPLE {
         Ok(sample_rates(rt.alloc())?)
     } else {
@@ -223,7 +267,10 @@ fn rates_or_sample(rt: &HostRuntime, path: &str) -> Result<RateTable, Stop> {
     }
 }
 
-fn callers_or_sample(rt: &HostRuntime, path: &str) -> Result<Directory, Stop> {
+fn callers_or_sample(rt: &HostRuntime, path: &str) -> Result<Directory, Stop>
+    ensures said { IfOk result (IsSampleOr sample_keys path.now directory_of) }
+    ensures refused { IfErr result IsOfFile }
+{
     if path == SAMPLE {
         Ok(Directory::sample(rt.alloc())?)
     } else {

@@ -1,4 +1,12 @@
 //! What is done with an office.
+ghost use Rattle.std.specs.Prelude.{◌≡◌, IfErr, IfOk, OnOk, string_bytes};
+ghost use Rattle.std.specs.Io.KnownBytes.{Appends};
+ghost use Rattle.clear_book.specs.declared.calls.Call.TheVariants.{Ask, Do};
+ghost use Rattle.clear_cli.specs.Ready.{copied_line};
+ghost use Rattle.clear_office.specs.Office.{answered, replied};
+ghost use Rattle.clear_program.specs.Stops.{no_memory};
+ghost use Rattle.clear_program.specs.Works.{IsDone, IsSaid, IsServing, Works, outcome_said};
+ghost use Rattle.clear_program.specs.Works.{serving_said};
 
 use crate::stop::{NO_MEMORY, Stop, stop_at_records};
 use crate::tasks::Work;
@@ -50,15 +58,23 @@ pub fn serve_stream<S: Alter + Drop, I: RequestRead, O: Write>(
     }
 }
 
-/// Does the work on an office that was just opened over the store in a file. That connections are taken,
-/// and why one ended early, is told on `errors`.
+/// Does the work on an office that was just opened over the store in a file, and gives what is to be
+/// said of it. That connections are taken, and why one ended early, is told on `errors`.
+///
+/// An import and a statement are a call of the clerk's: whatever lawful book the office keeps, what is
+/// said is the machine's reply or answer, or its rule, and the office then keeps the book that is left.
+/// To serve is many calls, each as the machine takes it. A copy leaves the office as it is.
 pub(crate) fn do_work<S: Alter, E: Write>(
     rt: &HostRuntime,
     opened: &mut Opened<S>,
     file: &StoreFile<'_>,
     work: Work<'_>,
     errors: &mut E,
-) -> Result<String, Stop> {
+) -> Result<String, Stop>
+    ensures works { Works string_bytes S.Store opened.old.office opened.new.office result
+        opened.old.ledger_day work.entry }
+    ensures day { opened.new.ledger_day ≡ opened.old.ledger_day }
+{
     let alloc = rt.alloc();
     match work {
         Work::Serve {
@@ -95,7 +111,11 @@ fn serve_at<S: Alter, E: Write>(
     place: &Place<'_>,
     count: u32,
     errors: &mut E,
-) -> Result<String, Stop> {
+) -> Result<String, Stop>
+    ensures serves { IsServing string_bytes S.Store opened.old.office opened.new.office result
+        directory.now day count }
+    ensures day { opened.new.ledger_day ≡ opened.old.ledger_day }
+{
     let Some(files) = NamedStore::with_log(rt, place.file)? else {
         return Err(STORE_GONE);
     };
@@ -106,8 +126,15 @@ fn serve_at<S: Alter, E: Write>(
     let office = &mut opened.office;
     let serving = serve_connections(rt, &listener, count, office, directory, day, &files, errors);
     // What could not be told of a connection is lost.
-    match serving.ended {
-        Ended::Served => Ok(served_line(rt.alloc(), count)?),
+    say_served(rt.alloc(), count, serving.ended)
+}
+
+// What is said of how serving so many connections ended.
+fn say_served(alloc: Global, count: u32, ended: Ended) -> Result<String, Stop>
+    ensures { IsSaid string_bytes (serving_said count ended) result }
+{
+    match ended {
+        Ended::Served => in_memory(served_line(alloc, count)),
         Ended::StoreGone => Err(STORE_GONE),
         Ended::NoConnections => Err(Stop::Net),
     }
@@ -133,15 +160,40 @@ fn import<S: Alter>(
     day: Day,
     number: RequestNo,
     command: &Command,
-) -> Result<String, Stop> {
-    match office.submit(Caller::Clerk, number, day, command)? {
-        Reply::Imported { new, repeats } => Ok(imported_line(alloc, new, repeats)?),
-        Reply::Done
-        | Reply::Reported { .. }
-        | Reply::Claimed { .. }
-        | Reply::Released(_)
-        | Reply::Listed { .. }
-        | Reply::Reminded { .. } => Err(stop_at_records()),
+) -> Result<String, Stop>
+    ensures { IsDone string_bytes S.Store office.old office.new result
+        (Do Caller.Clerk number day command.now) }
+{
+    let reply = office.submit(Caller::Clerk, number, day, command);
+    say_imported(alloc, reply)
+}
+
+// What is said of the reply to an import.
+fn say_imported(alloc: Global, reply: Result<Reply, Rule>) -> Result<String, Stop>
+    ensures { IsSaid string_bytes (outcome_said (replied reply)) result }
+{
+    match reply {
+        Ok(Reply::Imported { new, repeats }) => in_memory(imported_line(alloc, new, repeats)),
+        Ok(
+            Reply::Done
+            | Reply::Reported { .. }
+            | Reply::Claimed { .. }
+            | Reply::Released(_)
+            | Reply::Listed { .. }
+            | Reply::Reminded { .. },
+        ) => Err(stop_at_records()),
+        Err(rule) => Err(Stop::Rule(rule)),
+    }
+}
+
+// A text, or that there was no memory for it.
+fn in_memory(text: Result<String, AllocError>) -> Result<String, Stop>
+    ensures text { IfOk result (λ made. text ≡ Ok made) }
+    ensures none { IfErr result (λ why. why ≡ no_memory) }
+{
+    match text {
+        Ok(made) => Ok(made),
+        Err(AllocError) => Err(NO_MEMORY),
     }
 }
 
@@ -150,10 +202,22 @@ fn statement<S: Alter>(
     office: &mut Office<S>,
     day: Day,
     employer: EmployerNo,
-) -> Result<String, Stop> {
-    match office.ask(Caller::Clerk, day, &Query::Statement { employer })? {
-        Answer::Text(document) => Ok(String::from_str(alloc, document.as_str())?),
-        Answer::Owed { .. } => Err(stop_at_records()),
+) -> Result<String, Stop>
+    ensures { IsDone string_bytes S.Store office.old office.new result
+        (Ask Caller.Clerk day (Query.Statement employer)) }
+{
+    let answer = office.ask(Caller::Clerk, day, &Query::Statement { employer });
+    say_statement(alloc, answer)
+}
+
+// What is said of the answer to a question for a statement.
+fn say_statement(alloc: Global, answer: Result<Answer, Rule>) -> Result<String, Stop>
+    ensures { IsSaid string_bytes (outcome_said (answered answer)) result }
+{
+    match answer {
+        Ok(Answer::Text(document)) => in_memory(String::from_str(alloc, document.as_str())),
+        Ok(Answer::Owed { .. }) => Err(stop_at_records()),
+        Err(rule) => Err(Stop::Rule(rule)),
     }
 }
 
@@ -164,7 +228,9 @@ fn backup(
     file: &StoreFile<'_>,
     copy: &str,
     ledger_day: &Option<Day>,
-) -> Result<String, Stop> {
+) -> Result<String, Stop>
+    ensures { IfOk result (λ line. string_bytes line ≡ copied_line ledger_day.now) }
+{
     if !is_brought_over(rt, file.path) {
         return Err(LOG_LEFT);
     }
@@ -173,7 +239,9 @@ fn backup(
 }
 
 /// Writes a text on standard output.
-pub fn say<O: Write>(output: &mut O, text: &str) -> Result<(), Stop> {
+pub fn say<O: Write>(output: &mut O, text: &str) -> Result<(), Stop>
+    ensures { OnOk result (Appends (O.contents output.old) (O.contents output.new) text.now) }
+{
     if output.write_all(text.as_bytes()).is_err() || output.flush().is_err() {
         return Err(Stop::Stream);
     }

@@ -1,0 +1,29 @@
+-- What a look says of a store, and what is done with an office before its store is closed.
+use Rattle.std.specs.Prelude.{◌≡◌, ℕ, List, [], Option, Result, Ok, IfOk}
+use Rattle.sqlite.specs.Held.{Held, state}
+use Rattle.sqlite.specs.State.{HasCleanDisk}
+use Rattle.sqlite.specs.Store.{Ghosts}
+use Rattle.clear_book.specs.Tables.{Tables}
+use Rattle.clear_schema.specs.Held.{HasTables, this_schema}
+use Rattle.clear_office.specs.Office.{AtOffice}
+use Rattle.clear_reading.specs.Look.{look_of}
+use Rattle.clear_texts.specs.Look.{look_text}
+use Rattle.clear_program.specs.Works.{IsSaid, Works}
+use Rattle.clear_program.specs.declared.jobs.Job.{Job}
+use Rattle.clear_program.specs.declared.jobs.Job.TheVariants as job
+use Rattle.clear_program.specs.declared.stop.Stop.{Stop}
+
+module _ {A S : Type 0} (bytes : A → List ℕ) (g : Ghosts S) (result : Result A Stop) where
+  -- what stands in the tables that a connection has is said, and they stay
+  abbrev pub Looks : Held S → Held S → Type 0
+  Looks old new =
+      HasCleanDisk (state g new) → (t : Tables) → HasTables t (state g old).now
+      → IfOk result (λ text. (bytes text ≡ look_text this_schema (look_of t))
+      × HasTables t (state g new).now)
+
+  -- what a job does with an office of this ledger day, whose connection it leaves, and what is said
+  abbrev pub DoesJob : Option ℕ → AtOffice S → Held S → Job → Type 0
+  DoesJob ledger_day office left job.Nothing = IsSaid bytes (Ok []) result × (left ≡ office.conn)
+  DoesJob ledger_day office left job.Look = Looks office.conn left
+  DoesJob ledger_day office left (job.Work file work) =
+      (then : AtOffice S) × Works bytes g office then result ledger_day work × (left ≡ then.conn)

@@ -1,0 +1,67 @@
+-- What work does to an office that was opened, and what is said of it at the end.
+use Rattle.std.specs.Prelude.{◌≡◌, ◌⊎◌, ℕ, List, Option, Result, Ok, Err, IfOk}
+use Rattle.sqlite.specs.Store.{Ghosts}
+use Rattle.clear_book.specs.declared.calls.Call.{Call}
+use Rattle.clear_book.specs.declared.calls.Call.TheVariants.{Do, Ask}
+use Rattle.clear_book.specs.declared.calls.Caller.TheVariants.{Clerk}
+use Rattle.clear_book.specs.declared.calls.Query.TheVariants as query
+use Rattle.clear_book.specs.declared.outcomes.Answer.TheVariants.{Text}
+use Rattle.clear_book.specs.declared.outcomes.Outcome.{Outcome}
+use Rattle.clear_book.specs.declared.outcomes.Outcome.TheVariants.{Replied, Answered, Refused}
+use Rattle.clear_book.specs.declared.outcomes.Reply.TheVariants.{Imported}
+use Rattle.clear_book.specs.declared.rules.Rule.TheVariants as rules
+use Rattle.clear_book.specs.declared.rules.StoreCause.TheVariants.{Other, Row}
+use Rattle.clear_office.specs.Office.{AtOffice, Acts, StaysFailed}
+use Rattle.clear_callers.specs.Callers.{KeyOf}
+use Rattle.clear_routes.specs.Reading.{Reads}
+use Rattle.clear_cli.specs.Ready.{copied_line, imported_line, served_line}
+use Rattle.clear_server.specs.Talks.{AreServed}
+use Rattle.clear_server.specs.declared.connections.Ended.{Ended}
+use Rattle.clear_server.specs.declared.connections.Ended.TheVariants.{NoConnections, Served, StoreGone}
+use Rattle.clear_program.specs.Stops.{no_memory}
+use Rattle.clear_program.specs.declared.stop.Stop.{Stop}
+use Rattle.clear_program.specs.declared.stop.Stop.TheVariants as stop
+use Rattle.clear_program.specs.declared.tasks.Work.{Work}
+use Rattle.clear_program.specs.declared.tasks.Work.TheVariants as work
+
+-- what an outcome has said of an import or of a statement: the counts of the reply, the document, or
+-- the rule; of an answer to something else, that the records hold what they can't
+abbrev pub outcome_said : Outcome → Result (List ℕ) Stop
+outcome_said (Replied (Imported new repeats)) = Ok (imported_line new repeats)
+outcome_said (Answered (Text document)) = Ok document
+outcome_said (Refused rule) = Err (stop.Rule rule)
+outcome_said outcome = Err (stop.Rule (rules.Store Row))
+
+-- what the end of serving has said: how many connections were served, or why no more
+abbrev pub serving_said : ℕ → Ended → Result (List ℕ) Stop
+serving_said count Served = Ok (served_line count)
+serving_said count StoreGone = Err (stop.Rule (rules.Store Other))
+serving_said count NoConnections = Err stop.Net
+
+module _ {A : Type 0} (bytes : A → List ℕ) where
+  -- this is said, or that there was no memory for it
+  abbrev pub IsSaid : Result (List ℕ) Stop → Result A Stop → Type 0
+  IsSaid right (Ok text) = right ≡ Ok (bytes text)
+  IsSaid right (Err why) = (why ≡ no_memory) ⊎ (right ≡ Err why)
+
+  module _ {S : Type 0} (g : Ghosts S) (old new : AtOffice S) (result : Result A Stop) where
+    -- a call goes as the machine takes it, and its outcome is said
+    abbrev pub IsDone : Call → Type 0
+    IsDone call =
+        (outcome : Outcome) × Acts g old call outcome new × IsSaid (outcome_said outcome) result
+
+    -- of so many connections those were served that came before serving ended, and how it ended is
+    -- said; or none was, and why is said
+    abbrev pub IsServing : List KeyOf → ℕ → ℕ → Type 0
+    IsServing keys day count =
+        ((ended : Ended) × AreServed g (Reads keys day) ended count old new × StaysFailed old new
+        × IsSaid (serving_said count ended) result)
+        ⊎ ((new ≡ old) × ((why : Stop) × (result ≡ Err why)))
+
+    -- what a piece of work does to an office with this ledger day, and what is said of it
+    abbrev pub Works : Option ℕ → Work → Type 0
+    Works ledger_day (work.Serve directory day port count) = IsServing directory day count
+    Works ledger_day (work.Import day number command) = IsDone (Do Clerk number day command)
+    Works ledger_day (work.Statement day employer) = IsDone (Ask Clerk day (query.Statement employer))
+    Works ledger_day (work.Backup copy) =
+        (new ≡ old) × IfOk result (λ text. bytes text ≡ copied_line ledger_day)
