@@ -1,2 +1,3 @@
 pub mod StatusLemmas
 pub mod WriteLemmas
+pub mod StreamLemmas

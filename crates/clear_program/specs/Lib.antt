@@ -1,5 +1,6 @@
 pub mod Stops
 pub mod Reasons
 pub mod Asked
+pub mod Streams
 pub mod Works
 pub mod Looks

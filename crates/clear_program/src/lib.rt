@@ -14,5 +14,6 @@ mod opening;
 pub mod reasons;
 pub mod run;
 pub mod stop;
+mod stream;
 mod tasks;
 mod work;

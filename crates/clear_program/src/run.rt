@@ -8,15 +8,15 @@ use crate::look::look_at;
 use crate::migrate::migrate_at;
 use crate::opening::{close_office, do_and_close, open_whole, why_unopened};
 use crate::stop::{Stop, tell};
+use crate::stream::serve_in_memory;
 use crate::tasks::{Task, Work, read_task, words_of};
-use crate::work::{say, serve_stream};
+use crate::work::say;
 use clear_callers::directory::Directory;
 use clear_cli::ready::schema_line;
 use clear_files::logs::is_left_log;
 use clear_host::stores::create_office;
 use clear_money::days::Day;
 use clear_money::rates::RateTable;
-use clear_sample::memory::office_in_memory;
 use clear_schema::store::SCHEMA;
 use clear_wire::counted::Counted;
 use sqlite_disk::{Start, Unknown};
@@ -87,9 +87,9 @@ fn stream(
     directory: &Directory,
     day: Day,
 ) -> Result<(), Stop> {
-    let office = office_in_memory(rt.alloc(), rates);
-    let (mut input, mut output) = (rt.stdin(), rt.stdout());
-    serve_stream(rt.alloc(), office, directory, day, &mut input, &mut output)
+    let mut reader = Counted::new(rt.stdin());
+    let mut writer = Counted::new(rt.stdout());
+    serve_in_memory(rt.alloc(), rates, directory, day, &mut reader, &mut writer)
 }
 
 // Makes the store at a path, and closes it.

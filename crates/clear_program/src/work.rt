@@ -20,12 +20,10 @@ use clear_files::backup::copy_whole;
 use clear_files::logs::is_brought_over;
 use clear_files::named::{NamedStore, StoreFile};
 use clear_host::offices::Opened;
-use clear_http::desk::serve;
 use clear_money::days::Day;
 use clear_money::numbers::EmployerNo;
 use clear_office::office::Office;
 use clear_server::connections::{Ended, serve_connections};
-use clear_wire::counted::{Counted, RequestRead};
 use sqlite::Alter;
 use std::alloc::{AllocError, Global};
 use std::io::Write;
@@ -36,27 +34,6 @@ const STORE_GONE: Stop = Stop::Rule(Rule::Store(StoreCause::Other));
 
 // The store's log has what its file hasn't.
 const LOG_LEFT: Stop = Stop::Rule(Rule::Store(StoreCause::Other));
-
-/// Serves the requests of the input to its end, over a new office. There is none where there was no
-/// memory for it.
-pub fn serve_stream<S: Alter + Drop, I: RequestRead, O: Write>(
-    alloc: Global,
-    office: Option<Office<S>>,
-    directory: &Directory,
-    day: Day,
-    input: &mut I,
-    output: &mut O,
-) -> Result<(), Stop> {
-    let Some(mut office) = office else {
-        return Err(NO_MEMORY);
-    };
-    let mut reader = Counted::new(input);
-    let mut writer = Counted::new(output);
-    match serve(alloc, &mut office, directory, day, &mut reader, &mut writer) {
-        Ok(_) => Ok(()),
-        Err(stopped) => Err(Stop::from(stopped.fault)),
-    }
-}
 
 /// Does the work on an office that was just opened over the store in a file, and gives what is to be
 /// said of it. That connections are taken, and why one ended early, is told on `errors`.

@@ -1,0 +1,9 @@
+use Rattle.clear_program.proofs.stream.serve_new.Goals as goal
+
+pub returns-in-Ok-clause-served : goal.returns-in-Ok-clause-served
+returns-in-Ok-clause-served g c working =
+    (c.serve.new.office, λ honest b lawful keeps. (c.in-Ok.field-0, c.in-Ok.ensures.served working honest b lawful keeps))
+
+pub returns-clause-fault : goal.returns-clause-fault
+returns-clause-fault g c working =
+    (c.serve.new.office, λ honest b lawful keeps. (c.in-Err.stopped.answered, c.in-Err.ensures.fault working honest b lawful keeps))
