@@ -38,6 +38,11 @@ serving_said count Served = Ok (served_line count)
 serving_said count StoreGone = Err (stop.Rule (rules.Store Other))
 serving_said count NoConnections = Err stop.Net
 
+-- there was no memory, the store isn't where it was opened, or the port can't be bound
+abbrev pub CannotServe : Stop → Type 0
+CannotServe why =
+    (why ≡ no_memory) ⊎ ((why ≡ stop.Rule (rules.Store Other)) ⊎ (why ≡ stop.Net))
+
 module _ {A : Type 0} (bytes : A → List ℕ) where
   -- this is said, or that there was no memory for it
   abbrev pub IsSaid : Result (List ℕ) Stop → Result A Stop → Type 0
@@ -51,12 +56,12 @@ module _ {A : Type 0} (bytes : A → List ℕ) where
         (outcome : Outcome) × Acts g old call outcome new × IsSaid (outcome_said outcome) result
 
     -- of so many connections those were served that came before serving ended, and how it ended is
-    -- said; or none was, and why is said
+    -- said; or none could be, and why is said
     abbrev pub IsServing : List KeyOf → ℕ → ℕ → Type 0
     IsServing keys day count =
         ((ended : Ended) × AreServed g (Reads keys day) ended count old new × StaysFailed old new
         × IsSaid (serving_said count ended) result)
-        ⊎ ((new ≡ old) × ((why : Stop) × (result ≡ Err why)))
+        ⊎ ((new ≡ old) × ((why : Stop) × CannotServe why × (result ≡ Err why)))
 
     -- what a piece of work does to an office with this ledger day, and what is said of it
     abbrev pub Works : Option ℕ → Work → Type 0
