@@ -1,8 +1,8 @@
 //! Why the program ends before its work is done: the line that it tells, and its status.
 ghost use Rattle.std.specs.Prelude.{◌≡◌, ◌++◌, IfOk, string_bytes};
 ghost use Rattle.clear_wire.specs.Counted.{has_failed, inner};
-ghost use Rattle.clear_program.specs.Stops.{behind_space, by_file, by_store, by_stream, line_of};
-ghost use Rattle.clear_program.specs.Stops.{no_memory, rule_line, status_by, status_of};
+ghost use Rattle.clear_program.specs.Stops.{behind_space, by_store, by_stream, line_of};
+ghost use Rattle.clear_program.specs.Stops.{rule_line, status_by, status_of};
 ghost use Rattle.clear_program.specs.Stops.{AppendsFront, Tells};
 
 use clear_answers::answer::carried_text;

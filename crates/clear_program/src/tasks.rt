@@ -113,6 +113,9 @@ fn stop_at_words(error: &io::Error) -> Stop {
 }
 
 /// The task that the words name. The files that they name are read, and no store is touched.
+///
+/// `Stop::Line` where they say nothing, `Stop::File` where a file that they name can't be used, and want of
+/// memory.
 pub fn read_task<'a>(rt: &HostRuntime, words: &'a [String]) -> Result<Task<'a>, Stop>
     ensures asked { IfOk result (λ task. IsAsked (map string_bytes words.now) task) }
     ensures refused { IfErr result (λ why. IsNotDone (map string_bytes words.now) why) }
