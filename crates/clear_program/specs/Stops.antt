@@ -29,6 +29,10 @@ by_file file.Memory = no_memory
 abbrev pub IsOfFile : Stop → Type 0
 IsOfFile why = (why ≡ no_memory) ⊎ (why ≡ stop.File)
 
+-- there was no memory, or the words of the command line can't be read
+abbrev pub IsOfWords : Stop → Type 0
+IsOfWords why = (why ≡ no_memory) ⊎ (why ≡ stop.Line)
+
 -- a store that isn't opened
 abbrev pub by_store : OpenFault → Stop
 by_store (WrongVersion found) = stop.Rule (rules.WrongVersion found)

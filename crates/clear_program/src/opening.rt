@@ -3,6 +3,7 @@
 //! To call a function over any store on one in files costs its proof some 20 seconds, and so does a
 //! connection on one that is dropped: so there is one such call, of `do_job`, and one such drop, in
 //! `why_unopened`.
+ghost use Rattle.std.specs.Prelude.{◌≡◌};
 
 use crate::jobs::{Job, do_job};
 use crate::reasons::refused_path;
@@ -93,7 +94,10 @@ fn open_once<S: Start>(
 }
 
 /// Why a store isn't opened. The connection is dropped, if there is one.
-pub(crate) fn why_unopened<S: Start>(refused: NotOpened<FileStore<FileFrom<S>>>) -> Unopened {
+pub(crate) fn why_unopened<S: Start>(refused: NotOpened<FileStore<FileFrom<S>>>) -> Unopened
+    ensures fault { result.fault ≡ refused.fault }
+    ensures hindrance { result.hindrance ≡ refused.hindrance }
+{
     Unopened {
         fault: refused.fault,
         hindrance: refused.hindrance,

@@ -6,7 +6,7 @@ ghost use Rattle.clear_callers.specs.Callers.{sample_keys};
 ghost use Rattle.clear_sample.specs.Samples.{sample_rates};
 ghost use Rattle.clear_program.specs.Asked.{IsAsked, IsChecked, IsNotDone};
 ghost use Rattle.clear_program.specs.Asked.{IsSampleOr, IsTaskFor, NamesAFile};
-ghost use Rattle.clear_program.specs.Stops.{IsOfFile, no_memory};
+ghost use Rattle.clear_program.specs.Stops.{IsOfFile, IsOfWords, no_memory};
 
 use crate::stop::{NO_MEMORY, Stop};
 use clear_book::calls::Command;
@@ -92,7 +92,9 @@ pub enum Work<'a> {
 
 /// The words behind the program's own name. They can't be had where one of them isn't UTF-8, or for
 /// want of memory.
-pub fn words_of(rt: &HostRuntime) -> Result<Vec<String>, Stop> {
+pub fn words_of(rt: &HostRuntime) -> Result<Vec<String>, Stop>
+    ensures { IfErr result IsOfWords }
+{
     let mut given = match env::args(rt) {
         Ok(given) => given,
         Err(error) => return Err(stop_at_words(&error)),
@@ -104,7 +106,9 @@ pub fn words_of(rt: &HostRuntime) -> Result<Vec<String>, Stop> {
     }
 }
 
-fn stop_at_words(error: &io::Error) -> Stop {
+fn stop_at_words(error: &io::Error) -> Stop
+    ensures { IsOfWords result }
+{
     if error.kind() == io::ErrorKind::OutOfMemory {
         NO_MEMORY
     } else {
