@@ -18,6 +18,8 @@ from datetime import date, timedelta
 
 # No __pycache__ is left beside the sources.
 sys.dont_write_bytecode = True
+from machine import allocate, begun_months  # noqa: E402
+from machine_values import day_in, day_number  # noqa: E402
 from program_under_test import ROOT, ProgramUnderTest, run_tests  # noqa: E402
 
 DAY = "2024-04-10"
@@ -27,40 +29,6 @@ HEADER = "reference,value_date,employer,cents,purpose,note\n"
 FIRMS = range(1001, 1301)
 STAGES = 8
 REQUESTS = 300
-
-
-def day_number(text):
-    return (date.fromisoformat(text) - date(1970, 1, 1)).days
-
-
-def due_day(month):
-    """The 20th of the month behind it, as a day number. Months count from 2000-01."""
-    year, place = divmod(month + 1, 12)
-    return day_number(f"{2000 + year}-{place + 1:02}-20")
-
-
-def begun_months(due, day):
-    """How many of the due day and the same day of each later month lie before a day."""
-    begun, late = 0, date(1970, 1, 1) + timedelta(due)
-    while late < date(1970, 1, 1) + timedelta(day):
-        begun += 1
-        late = late.replace(year=late.year + late.month // 12, month=late.month % 12 + 1)
-    return begun
-
-
-def allocate(charges, credits):
-    """What each credit pays of each contribution: the stretches of cents that they have in common, each a stretch of
-    its list, one behind the other. Charges are (month, cents), credits (day, serial, cents, reference), both in order."""
-    pieces, charged = [], 0
-    for month, owed in charges:
-        paid = 0
-        for day, serial, cents, reference in credits:
-            shared = min(charged + owed, paid + cents) - max(charged, paid)
-            if shared > 0:
-                pieces.append((month, day, serial, shared, reference))
-            paid += cents
-        charged += owed
-    return pieces
 
 
 class Firm:
@@ -81,7 +49,7 @@ class Firm:
         month begun from the due day until the day of its payment."""
         rows, pieces = [], self.rows()
         for month, cents in self.charges():
-            due = due_day(month)
+            due = day_in(month + 1, 20)
             paid = [(day, share) for _, of, day, _, share, _ in pieces if of == month]
             rows.append((self.number, month, due, cents, cents - sum(share for _, share in paid),
                          sum(share * begun_months(due, day) for day, share in paid)))
