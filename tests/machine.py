@@ -1,7 +1,7 @@
 """The clearing machine as docs/rules.md tells it: a book of what was accepted, from which each answer is worked out
 anew.
 
-It has nothing in common with the program, and costs what the book holds.
+It shares no code with the program, and costs what the book holds.
 """
 
 from collections import namedtuple

@@ -1,5 +1,6 @@
 """What the machine of machine.py answers, byte for byte, as docs/http.md and docs/formats.md tell it: requests to
-commands and questions, the documents, and bank files. How bytes are cut into requests isn't its matter.
+commands and questions, the documents, and bank files. How bytes are cut into requests isn't its matter, and bodies that
+Python's JSON takes and the office's doesn't, as one with `1e400`, aren't drawn.
 """
 
 import json

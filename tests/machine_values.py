@@ -1,5 +1,5 @@
 """Values of the clearing machine of machine.py, and how texts, bank files among them, say them: docs/rules.md and
-docs/formats.md have their ranges. It has nothing in common with the program.
+docs/formats.md have their ranges. It shares no code with the program.
 
 Days are numbers from 1970-01-01 on, months count from 2000-01, amounts are cents, rates hundredths of a percent.
 """
