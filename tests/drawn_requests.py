@@ -5,38 +5,23 @@ contribution, a balance or what is owed, names that come again, months around th
 import json
 import random
 
+import strange_values as strange
 from machine import OPEN, Book
-from machine_values import (HEADER, LAST_MONTH, MOST_CENTS, Rate, day_in, day_number, day_text, month_in,
-                            month_of, month_text)
+from machine_values import (HEADER, LAST_MONTH, MOST_CENTS, Rate, day_in, day_number, day_text, month_in, month_of,
+                            month_text)
 
 FIRST_MONTHS = [0, month_in("2023-08"), month_in("2024-01"), month_in("2024-01"), month_in("2199-06")]
 FIRST_DAY, LAST_DAY = day_number("2000-01-01"), day_number("2200-12-31")
 UNKNOWN_FIRM, UNKNOWN_WORKER = 1099, 55
-NAMES = ["Bau Nord", "Ä & Söhne", "x", 'A "B" \\ C', "Müller/Bau", "€uro"]
+NAMES = ["Bau Nord", "Ä & Söhne", "x", 'A "B" \\ C', "Müller/Bau", "€uro", "😀", " "]
 # How often each request is drawn; those of a firm come from the firm or from the clerk.
 WEIGHTS = {
     "register": 4, "report": 14, "correct": 8, "import_bank": 12, "assign": 3, "claim": 8, "withdraw": 2,
-    "release": 7, "make_list": 2, "remind": 3, "end": 0.5, "add_rate": 0.7, "owed": 5, "statement": 9, "worker": 4,
-    "suspense": 2, "payout": 2, "reminder": 2, "strange": 2,
+    "release": 4, "settle": 4, "make_list": 2, "remind": 3, "end": 1, "add_rate": 1.5, "owed": 5, "statement": 9,
+    "worker": 4, "suspense": 2, "payout": 2, "reminder": 2, "strange": 2,
 }
-OF_BOTH = ("report", "correct", "claim", "withdraw", "owed", "statement", "strange")
-STRANGE_TARGETS = [
-    "/", "/payouts", "/employers/01/owed", "/employers/1001/owed", "/employers/1001/reports/2024-01", "/reminders/0",
-    "/payouts/50000001", "/payouts/50000000", "/workers/1000000000", "/suspense?x", "/suspense/", "//suspense",
-    "/employers/1001/reports/2024-13", "/employers/1001/reports/1999-12", "/claims/1/release",
-]
-STRANGE_VALUES = [None, 0, -1, "", [], {}, True, 1.5, "2024-13", "2024-1", 10**20, "x" * 61, "ü" * 31, "a\x1fb"]
-STRANGE_LINES = [
-    [{"worker": 0, "gross": 1}], [{"worker": 1}], [{"gross": 1, "worker": 1, "x": 1}], [{"worker": 1, "gross": -1}],
-    [{"worker": 1, "gross": 1.5}], [5], [{"worker": 10**9, "gross": 1}], [{"worker": 999_999_999, "gross": 2**64 - 1}],
-    [{"worker": 9, "gross": 10_000_001}], [{"worker": 1 + at, "gross": 1} for at in range(501)],
-    [{"worker": 8, "gross": 10_000_001}] * 2, [{"worker": 7, "gross": 1}] * 501,
-    [{"worker": 1 + at, "gross": 10_000_001} for at in range(501)],
-]
-STRANGE_FIELDS = ["", "0", "x", "2024-02-30", "01", "100000000001", "D", "a b", "ü" * 71, '"', "1999-12-31", "\x01"]
-STRANGE_HEADERS = ["reference,value_date", "reference,value_date,employer,cents,purpose,notes", "",
-                   '"reference",value_date,employer,cents,purpose,note',
-                   'reference,value_date,employer,"cents",purpose,note']
+QUESTIONS = ("owed", "statement", "worker", "suspense", "payout", "reminder")
+OF_BOTH = ("report", "correct", "claim", "withdraw", "owed", "statement", "strange", "in_vain")
 
 
 class Draw:
@@ -51,6 +36,7 @@ class Draw:
         self.keys = {"desk": 0, "desk2": 0, "other": 7777, **{f"k{firm}": firm for firm in self.firms}}
         self.day = day_in(self.first + self.random.randint(0, 4), self.random.randint(1, 28))
         self.numbers, self.references, self.sent = {}, 0, []
+        self.is_new_day, self.is_in_vain, self.planned = True, False, []
 
     # ---- what is drawn
 
@@ -71,38 +57,74 @@ class Draw:
         return rows
 
     def next_day(self):
-        """Mostly the same day or a later one, sometimes for these requests alone an earlier one."""
+        """Mostly the same day or a later one; sometimes, for these requests alone, an earlier one, or a later one on
+        which nothing is accepted."""
+        self.is_new_day, self.is_in_vain = True, self.seldom(0.08)
+        if self.is_in_vain:
+            return min(self.day + self.pick([1, 30]), LAST_DAY)
         if self.seldom(0.1):
             return max(self.day - self.pick([1, 1, 7]), FIRST_DAY)
-        self.day = min(self.day + self.pick([0, 1, 1, 3, 7, 13, 14, 15, 20, 31, 60, 61]), LAST_DAY)
+        later = self.day + self.pick([0, 1, 1, 3, 7, 13, 14, 15, 20, 31, 60, 61])
+        self.day = min(self.pick(self.days_that_count() or [later]) if self.seldom(0.3) else later, LAST_DAY)
         return self.day
+
+    def days_that_count(self):
+        """The next days on which reports are to be in or contributions are due, and the ones after them."""
+        now = month_of(self.day)
+        rates = [(month, self.book.rate(month)) for month in (now - 1, now) if self.first <= month < LAST_MONTH]
+        days = [day_in(month + 1, place) for month, rate in rates for place in (rate.report_day, rate.due_day)]
+        return [day + more for day in days for more in (0, 1) if day > self.day]
 
     def request(self):
         """A request as (method, target, key, number, body). Some of those that came before come again."""
-        if self.sent and self.seldom(0.08):
-            return self.pick(self.sent[-60:])
-        unregistered = [firm for firm in self.firms if firm not in self.book.firms]
-        kinds, weights = zip(*WEIGHTS.items())
-        kind = "register" if unregistered and self.seldom(0.5) else self.random.choices(kinds, weights)[0]
-        self.firm = UNKNOWN_FIRM if self.seldom(0.03) else self.pick(self.firms)
+        if self.sent and not self.is_in_vain and self.seldom(0.08):
+            method, target, key, number, body = self.pick(self.sent[-60:])
+            return method, target, key, number, self.rewritten(body) if self.seldom(0.3) else body
+        kind = self.kind()
         method, target, body = getattr(self, kind)()
         key = self.key(kind)
-        number = None if method == "GET" or self.seldom(0.01) else self.number(self.keys.get(key))
+        number = self.number(self.keys.get(key))
+        if method == "GET":
+            number = self.pick([number, *strange.REQUEST_NUMBERS]) if self.seldom() else None
         self.sent.append((method, target, key, number, body))
         return self.sent[-1]
 
+    def kind(self):
+        """What comes next, and for which firm."""
+        is_first, self.is_new_day = self.is_new_day, False
+        if self.planned and not self.is_in_vain:
+            return self.planned.pop(0)
+        self.firm = UNKNOWN_FIRM if self.seldom(0.03) else self.pick(self.firms)
+        if self.is_in_vain:
+            return self.pick(["in_vain", self.pick(QUESTIONS)])
+        # These depend on the day, where it is another one than the ledger day.
+        if is_first and self.seldom(0.7):
+            return "release" if self.open_claims() else "remind"
+        if len(self.book.firms) < len(self.firms) and self.seldom(0.5):
+            return "register"
+        [kind] = self.random.choices(*zip(*WEIGHTS.items()))
+        return self.settle() if kind == "settle" else kind
+
+    def settle(self):
+        """The first of a row of requests: a firm reports what is left, and claims; it pays perhaps, and is paid out."""
+        reports = ["report"] * len(self.unreported())
+        self.planned = [*reports, *self.pick([[], ["pay"]]), "claim", *self.pick([[], ["release"]])]
+        return self.planned.pop(0)
+
     def key(self, kind):
-        if self.seldom(0.02):
+        if self.seldom(0.2 if kind == "strange" else 0.03):
             return self.pick(["none", "other", *self.keys])
-        if kind in OF_BOTH and self.seldom(0.45):
+        if kind in OF_BOTH and self.seldom(0.45) or kind == "end" and self.seldom(0.2):
             return f"k{self.firm}"
         return "desk2" if self.seldom(0.1) else "desk"
 
     def number(self, caller):
-        if self.seldom(0.03):
-            return str(self.random.randint(1, 20))
+        if self.seldom(0.01):
+            return None
+        if self.seldom(0.04):
+            return str(self.random.randint(1, self.numbers.get(caller, 20)))
         if self.seldom(0.005):
-            return self.pick(["0", "01", "", "1000000000000000000", "999999999999999999", "x", " 5 "])
+            return self.pick(strange.REQUEST_NUMBERS)
         self.numbers[caller] = self.numbers.get(caller, 0) + 1
         return str(self.numbers[caller])
 
@@ -110,20 +132,37 @@ class Draw:
         return month_text(min(max(month, 0), LAST_MONTH))
 
     def body(self, **members):
-        """A JSON object; sometimes one thing or two are wrong with it, or it is none."""
-        for _ in range(self.pick([0] * 40 + [1, 2])):
+        """A JSON object; sometimes one thing or two are wrong with it, or it is none, or is written otherwise."""
+        for _ in range(self.pick([0] * 30 + [1, 2])):
             members = self.spoiled(members)
-        if self.seldom(0.01):
-            members = self.pick([[], 5, "x", None])
-        return json.dumps(members, ensure_ascii=self.seldom(0.5)).encode()
+        if self.seldom(0.005):
+            members = self.pick(strange.NO_OBJECTS)
+        text = json.dumps(members, ensure_ascii=self.seldom(0.5))
+        return self.pick(self.written_otherwise(text)) if self.seldom(0.02) else text.encode()
 
     def spoiled(self, members):
         name, way = self.pick(list(members) or ["lines"]), self.random.randrange(3)
         if way == 0:
             return {it: value for it, value in members.items() if it != name}
         if way == 1:
-            return members | {name: self.pick(STRANGE_VALUES)}
-        return members | dict.fromkeys(self.random.sample(["zz", "a", "ä", "note"], 2), 1)
+            return members | {name: self.pick(strange.VALUES)}
+        return members | dict.fromkeys(self.random.sample(strange.MEMBERS, 2), 1)
+
+    def written_otherwise(self, text):
+        numbers = [strange.with_number(text, found, self.pick(strange.NUMBERS)) for found in strange.numbers_in(text)]
+        twice = strange.with_member_twice(text, self.pick(["lines", "version", "cents"]), self.pick(strange.VALUES))
+        sign = strange.with_sign(text, self.pick(strange.SIGNS))
+        return [*numbers, *twice, sign, *strange.with_other_bytes(text)]
+
+    def rewritten(self, body):
+        """A body with the same values, or with its lines in another order; one that is no JSON is left as it is."""
+        try:
+            members = dict(reversed(json.loads(body).items()))
+        except (ValueError, AttributeError):
+            return body
+        if isinstance(members.get("lines"), list) and self.seldom(0.5):
+            members["lines"].reverse()
+        return json.dumps(members, indent=self.pick([None, 2])).encode()
 
     def cents(self, firm):
         """An amount, often one that ends with what a firm owes."""
@@ -138,14 +177,18 @@ class Draw:
     def reported(self):
         return [month for of, month in self.book.reports if of == self.firm]
 
+    def unreported(self):
+        start = self.book.firms[self.firm].start if self.firm in self.book.firms else LAST_MONTH
+        return [month for month in range(start, month_of(self.day) + 1) if (self.firm, month) not in self.book.reports]
+
     def lines(self):
         if self.seldom(0.08):
-            return self.pick(STRANGE_LINES)
+            return self.pick(strange.LINES)
         workers = self.random.sample(self.workers, min(self.random.randint(0, 4), len(self.workers)))
         gross = [self.pick([0, 1, 50, 99, 12_345, 500_050, 1_000_000, 10_000_000, self.random.randint(0, 900_000)])
                  for _ in workers]
         lines = [{"worker": worker, "gross": of} for worker, of in zip(workers, gross)]
-        return lines + lines[:1] if self.seldom(0.02) else lines
+        return lines + self.pick([lines[:1], lines[1:], lines[::-1]]) if self.seldom(0.03) else lines
 
     # ---- commands
 
@@ -156,33 +199,45 @@ class Draw:
         return "POST", "/employers", self.body(employer=employer, name=self.pick(NAMES), start=start)
 
     def report(self):
-        now = month_of(self.day)
-        month = now - self.random.randint(-2, 8)
-        if self.firm in self.book.firms and not self.seldom(0.2):
-            start = self.book.firms[self.firm].start
-            left = [it for it in range(start, now + 1) if (self.firm, it) not in self.book.reports]
-            month = self.pick(left[:1] * 4 + left or [month])
+        left = self.unreported()
+        month = month_of(self.day) - self.random.randint(-2, 8)
+        if left and not self.seldom(0.2):
+            month = self.pick(left[:1] * 4 + left)
         return "POST", f"/employers/{self.firm}/reports/{self.month(month)}", self.body(lines=self.lines())
 
     def correct(self):
         month = self.pick(self.reported() or [self.first])
-        version = len(self.book.reports.get((self.firm, month), []))
-        if self.seldom(0.06):
-            version = self.pick([0, 1, 2, 2**32 - 1, 2**32])
+        if self.seldom():
+            month = self.pick([self.first - 1, month_of(self.day) + 1, month_of(self.day) + 2])
+        version, lines = len(self.book.reports.get((self.firm, month), [])), self.lines()
+        if self.seldom(0.08):
+            version, lines = self.pick([0, 1, 2, 2**32 - 1, 2**32]), lines + self.pick([[], lines])
         target = f"/employers/{self.firm}/reports/{self.month(month)}"
-        return "PUT", target, self.body(lines=self.lines(), version=version)
+        return "PUT", target, self.body(lines=lines, version=version)
 
     def import_bank(self):
         records = [record for _ in range(self.random.randint(0, 5)) for record in self.records()]
-        if records and self.seldom(0.08):
-            record = self.pick(records)
-            record[self.random.randrange(6)] = self.pick(STRANGE_FIELDS)
-            del record[6 - self.seldom(0.1):]
-        header = self.pick(STRANGE_HEADERS) if self.seldom(0.03) else ",".join(HEADER)
-        end = self.pick(["\n", "\n", "\r\n"])
-        text = end.join([header, *(self.csv_line(record) + end * self.seldom() for record in records), ""])
-        mark = "\ufeff" * (self.seldom(0.1) + self.seldom(0.01))
-        return "POST", "/bank", f"{mark}{text.rstrip() if self.seldom(0.2) else text}".encode()
+        for _ in range(self.pick([0] * 10 + [1, 2])):
+            if records:
+                self.spoil_record(self.pick(records))
+        header = self.pick(strange.HEADERS) if self.seldom(0.03) else ",".join(HEADER)
+        lines = [list(map(self.csv_field, record)) for record in records]
+        if self.seldom(0.1):
+            lines.insert(self.random.randint(0, len(lines)), [])
+        file = strange.bank_file(header, lines, self.pick(["\n", "\n", "\r\n", "\r"]))
+        mark = b"\xef\xbb\xbf" * (self.seldom(0.1) + self.seldom(0.01))
+        return "POST", "/bank", mark + (file.rstrip() if self.seldom(0.2) else file)
+
+    def spoil_record(self, record):
+        if self.seldom(0.1):
+            record.append(self.pick(["", "x"]))
+        elif self.seldom(0.1):
+            del record[self.random.randint(1, 5):]
+        else:
+            record[self.random.randrange(len(record))] = self.pick(strange.FIELDS)
+
+    def csv_field(self, field):
+        return strange.in_quotes(field) if self.seldom(0.1) else strange.csv_field(field)
 
     def records(self):
         """A record, and sometimes the same once more; one that came before is often given as it was."""
@@ -192,21 +247,34 @@ class Draw:
             self.references += 1
             reference = f"B{self.references}"
         known = self.book.lines.get(reference)
-        if known and not self.seldom(0.2):
-            line = known.record
-            purpose = self.pick(["C", ""]) if line.purpose == "C" else "I"
-            record = [reference, day_text(line.value), str(line.named or ""), str(line.cents), purpose, line.note]
-        else:
-            firm = self.pick([*self.firms * 3, "", UNKNOWN_FIRM])
-            value = max(self.day - self.pick([0, 0, 1, 5, 20, 40, 90]) + 91 * self.seldom(0.01), FIRST_DAY)
-            note = self.pick(["", "", "rest", "a,b", 'sagt "ja"', "Grüße"])
-            purpose = self.pick(["", "C", "C", "I"])
-            record = [reference, day_text(value), str(firm), str(self.cents(firm)), purpose, note]
+        record = self.new_record(reference)
+        if known:
+            same = self.same_record(known.record)
+            # A conflict is mostly in one field.
+            if self.seldom(0.2):
+                place = self.random.randint(1, 5)
+                same[place] = record[place]
+            record = same
         return [record, list(record)] if self.seldom(0.05) else [record]
 
-    def csv_line(self, record):
-        return ",".join('"' + field.replace('"', '""') + '"' if set(field) & set(',"') or self.seldom() else field
-                        for field in record)
+    def same_record(self, line):
+        purpose = self.pick(["C", ""]) if line.purpose == "C" else "I"
+        return [line.reference, day_text(line.value), str(line.named or ""), str(line.cents), purpose, line.note]
+
+    def new_record(self, reference):
+        firm = self.pick([*self.firms * 3, "", UNKNOWN_FIRM])
+        value = max(self.day - self.pick([0, 0, 1, 5, 20, 40, 90]) + 91 * self.seldom(0.01), FIRST_DAY)
+        note = self.pick(["", "", "rest", "a,b", 'sagt "ja"', "Grüße"])
+        return [reference, day_text(value), str(firm), str(self.cents(firm)), self.pick(["", "C", "C", "I"]), note]
+
+    def pay(self):
+        """A firm pays what it owes, in time or late."""
+        self.references += 1
+        record = self.new_record(f"B{self.references}")
+        if self.firm in self.book.firms:
+            open_cents = self.book.charged(self.firm) - self.book.credited(self.firm)
+            record[2:5] = str(self.firm), str(max(open_cents, 1)), "C"
+        return "POST", "/bank", strange.bank_file(",".join(HEADER), [map(strange.csv_field, record)])
 
     def assign(self):
         waiting = [line.record.reference for line in self.book.lines.values() if line.firm is None]
@@ -220,18 +288,26 @@ class Draw:
         amounts = [balance, balance // 2, balance + 1, self.random.randint(1, balance + 1), self.cents(self.firm)]
         return "POST", f"/employers/{self.firm}/claims", self.body(cents=self.pick(amounts), worker=worker)
 
-    def claim_number(self, **of):
-        """Mostly the number of an open claim."""
-        numbers = [claim.number for claim in self.book.claims if (claim.state == OPEN or self.seldom(0.1))
-                   and all(getattr(claim, name) == value for name, value in of.items())]
-        return self.pick(numbers) if numbers and not self.seldom() else self.random.randint(1, 9)
+    def open_claims(self):
+        return [claim for claim in self.book.claims if claim.state == OPEN]
+
+    def claim_number(self, best, *others):
+        """Mostly the number of one of the best claims, where there are some, else of one of the others."""
+        claims = next(filter(None, [best, *others, self.book.claims]), None)
+        if self.seldom(0.1):
+            claims = self.book.claims
+        return self.pick(claims).number if claims and not self.seldom() else self.random.randint(1, 9)
 
     def withdraw(self):
-        number = self.claim_number(employer=self.firm)
-        return "POST", f"/employers/{self.firm}/claims/{number}/withdraw", self.nothing()
+        own = [claim for claim in self.open_claims() if claim.employer == self.firm]
+        return "POST", f"/employers/{self.firm}/claims/{self.claim_number(own)}/withdraw", self.nothing()
 
     def release(self):
-        return "POST", f"/claims/{self.claim_number()}/release", self.nothing()
+        """Best of a firm that misses no month, and owes something."""
+        book, day, claims = self.book, self.day, self.open_claims()
+        ready = [claim for claim in claims if not book.missing(claim.employer, day)]
+        owing = [claim for claim in ready if book.arrears(claim.employer, day) or book.interest(claim.employer, day)]
+        return "POST", f"/claims/{self.claim_number(owing, ready, claims)}/release", self.nothing()
 
     def make_list(self):
         return "POST", "/payouts", self.nothing()
@@ -243,14 +319,24 @@ class Draw:
         return b"{}" if self.seldom(0.01) else b""
 
     def end(self):
-        last = max(self.reported() or [self.first]) + self.pick([0, 0, 1, -1, 3])
+        last = max(self.reported() or [self.first]) + self.pick([0, 0, 1, -1, -1, 3])
         return "POST", f"/employers/{self.firm}/end", self.body(last=self.month(last))
 
     def add_rate(self):
         first = max(self.book.rates[-1].first, month_of(self.day)) + self.pick([0, 1, 1, 1, 2])
         days = {name: self.random.randint(1, 28) + self.seldom() for name in ("due_day", "report_day")}
-        rates = {"contribution": self.pick([0, 1_800, 2_000, 10_000, 10_001]), "interest": self.pick([0, 90, 1_000])}
-        return "POST", "/rates", self.body(entitlement=1_425, **days, **rates, **{"from": self.month(first)})
+        rates = {"contribution": self.pick([0, 1_800, 2_000, 10_000, 10_001]),
+                 "entitlement": self.pick([0, 1_425, 10_000, 10_001]), "interest": self.pick([0, 90, 1_000, 1_001])}
+        return "POST", "/rates", self.body(**days, **rates, **{"from": self.month(first)})
+
+    def in_vain(self):
+        """What is refused on any day by a rule of its own."""
+        return self.pick([
+            ("POST", "/claims/50000000/release", b""),
+            ("POST", f"/employers/{self.firm}/claims/50000000/withdraw", b""),
+            ("POST", "/assign", self.body(employer=self.firm, reference="none")),
+            ("PUT", f"/employers/{self.firm}/reports/2199-12", self.body(lines=[], version=1)),
+        ])
 
     # ---- questions
 
@@ -273,4 +359,4 @@ class Draw:
         return "GET", f"/reminders/{self.random.randint(1, len(self.book.runs) + 1)}", b""
 
     def strange(self):
-        return self.pick(["GET", "POST", "PUT", "HEAD", "DELETE"]), self.pick(STRANGE_TARGETS), self.pick([b"", b"x"])
+        return self.pick(strange.METHODS), self.pick(strange.TARGETS), self.pick([b"", b"x"])

@@ -1,9 +1,9 @@
 """What the machine of machine.py answers, byte for byte, as docs/http.md and docs/formats.md tell it: requests to
-commands and questions, the documents, and bank files. How bytes are cut into requests isn't its matter, and bodies that
-Python's JSON takes and the office's doesn't, as one with `1e400`, aren't drawn.
+commands and questions, the documents, and bank files. How bytes are cut into requests isn't its matter.
 """
 
 import json
+import math
 import re
 
 from machine import OPEN, check_access
@@ -11,6 +11,8 @@ from machine_values import (MOST_CENTS, MOST_CLAIM, MOST_EMPLOYER, MOST_WORKER, 
                             month_text, number_in, plain_text, reference_in)
 
 MOST_NUMBER = 999_999_999_999_999_999
+# How deep objects and arrays of a body may stand in one another.
+MOST_DEPTH = 127
 
 NAMES = {
     4: "NoRoute", 5: "BadMethod", 6: "UnknownKey", 7: "NotYours", 8: "BadBody", 9: "NumberReused", 10: "DayBack",
@@ -24,14 +26,44 @@ STATUSES = {4: "404 Not Found", 5: "405 Method Not Allowed", 6: "401 Unauthorize
             8: "400 Bad Request"}
 
 
+def number(text):
+    """A number of JSON: a whole one is written in digits alone."""
+    if math.isinf(float(text)):
+        raise ValueError(f"too large: {text}")
+    return int(text) if text.isdecimal() else float(text)
+
+
+def no_number(text):
+    raise ValueError(f"no JSON: {text}")
+
+
+def checked_object(pairs):
+    """An object of JSON, the last of the members of one name. Half a surrogate pair is no sign, and so a ValueError."""
+    json.dumps(pairs, ensure_ascii=False).encode()
+    return dict(pairs)
+
+
+def depth(value):
+    inner = value.values() if isinstance(value, dict) else value if isinstance(value, list) else None
+    return 0 if inner is None else 1 + max(map(depth, inner), default=0)
+
+
+def json_object(body):
+    """The object that a body is, or a ValueError. It is stricter than Python: in UTF-8 without a byte order mark, with
+    numbers below 1.8e308."""
+    found = json.loads(body.decode(), parse_int=number, parse_float=number, parse_constant=no_number,
+                       object_pairs_hook=checked_object)
+    if not isinstance(found, dict) or depth(found) > MOST_DEPTH:
+        raise ValueError("no object of this depth")
+    return found
+
+
 def members(body, **kinds):
     """The values of a JSON object that has just these members; the first that is wrong is named."""
     try:
-        found = json.loads(body)
+        found = json_object(body)
     except ValueError:
         raise Refused(8, "body") from None
-    if not isinstance(found, dict):
-        raise Refused(8, "body")
     values = {name: kind(found[name]) if name in found else None for name, kind in kinds.items()}
     wrong = [name for name, value in values.items() if value is None]
     further = sorted(found.keys() - kinds.keys(), key=str.encode)
