@@ -197,7 +197,7 @@ class Firms(BankFiles):
 
     def test_numbers_that_go_with_others(self):
         """Days with months and years, amounts on both sides of a currency, and what the bank cut in two."""
-        firms = (3, 5, 12, 24, 25, 500, 1001, 1002, 3704, 4898)
+        firms = (1, 3, 5, 12, 24, 25, 500, 1001, 1002, 3704, 4898)
         self.write("firms.csv", "iban,employer\n" + "".join(f",{firm}\n" for firm in firms))
         none = ("30. April 24", "1 Mai 24", "Jan-24", "Mai/24", "24-Apr-2024", "5.Mai.24", "Jaenner 24",
                 "May 5, 2024", "12. 05. 2024", "12. 4. 23", "12.4. 24", "03/ 24", "03 /24", "Mai 24/25",
@@ -210,11 +210,18 @@ class Firms(BankFiles):
                 "DE89370400440532013000 24. 5. 2024", "DE89370400440532013000 EUR 1001",
                 "EUR-1001", "EUR*1001*", "EUR -1001", "EUR (1001)", "EUR/1001", "1001-EUR", "1001/EUR",
                 "1001 *EUR*", "Betrieb 1001\n7", "Betrieb 1001\r\n  7", "Betrieb 1001&#x200b;7",
-                "Betrieb 1001&#xad;7", "Ma\ni 24")
+                "Betrieb 1001&#xad;7", "Ma\ni 24",
+                "Beitrag 1001,24 Mai 2024", "1001,50 Mai", "Summe 1001,50 100 Std", "1001,05.12.2024",
+                "Rechnung 1001/05/24", "vom 24/05/24", "Beitrag 1-3/24", "Beitrag 12/ 2024", "12 / 2024", "12 /2024",
+                "Beitrag Mar-24", "Febr. 24", "Jän. 24", "Maer. 24", "IBANDE89 3704 0044 0532 0130 00",
+                ["1001 Eu", "ro", "Danke"], ["Betrag 1001,", "-"], ["Bau", "Ap", "ril 24"],
+                ["IBAN", "D", "E89 3704 0044 0532 0130 00"])
         known = ("1001 / 03/2024", "1001/Mai 24", "Mai/1001", "Betrieb 1001 - EUR 500", "1001, 12.04.2024",
                  "KW24 Betrieb 1001", ["Beitrag 03/2024,", "Betrieb 1001"], ["Nr.", "1001", "-Mai"],
                  ["EUR 500", "Betrieb 1001", "Mai 24"], "Beitrag\nBetrieb 1001\nMai 24",
-                 "500 EUR - 1001")
+                 "500 EUR - 1001", "Betrieb 1001, 24. Mai 2024", "1001, 24/05/24", "1001 05/24", "1001 12/2024",
+                 "1001, Mar-24", "1001 / 24. Mai", ["Betrieb 1001", "Danke", "Nord"],
+                 "Betrieb 1001 IBAN DE89 3704 0044 0532 0130 00")
         texts = [*none, *known]
         entries = [payment("1.00", text, "", STRANGE, f"N-{at}") for at, text in enumerate(texts)]
         output, _ = self.made(one("0", str(len(texts)), *entries))
@@ -233,7 +240,7 @@ class Firms(BankFiles):
 
     def test_interest_by_a_word(self):
         for text in ("Zinsen", "ZINSEN", "für Zinsen, Mai", "Zinsen/Mai", ["Mai und Zin", "sen"], "Zin\nsen",
-                     "Zin&#xad;sen"):
+                     "Zin&#xad;sen", ["Bau West Zin", "sen", "Danke"], "Zin\nsen\nfür Mai"):
             self.finds("", text, purpose="I")
         for text in ("Verzugszinsen", "Zins en", "Zinsen2"):
             self.finds("", text)
@@ -548,6 +555,16 @@ class References(BankFiles):
         self.makes(content, lines)
         self.write("made.csv", HEADER + "\n".join(lines) + "\n")
         self.makes(content, lines, "--earlier", "made.csv")
+
+    def test_an_entry_whose_reference_had_come_before_in_an_earlier_file(self):
+        first, whole = entry("9.00", reference="E"), entry("5.00", reference="E")
+        self.write("statement", one("0", "14.00", first, whole))
+        self.assertEqual(self.tool("statement", "--firms", "firms.csv", "--out", "made.csv")[0], 0)
+        parts = transaction("2.00", reference="T1"), transaction("3.00", reference="T2")
+        self.refuses(one("0", "14.00", first, entry("5.00", *parts, reference="E")),
+                     f"entry 2 of {S1} stands in an earlier file as one line, E, and now comes in its transactions, so "
+                     "it would count twice; give the statement that it was made of",
+                     words=("--firms", "firms.csv", "--earlier", "made.csv"))
 
     def test_entries_of_other_references(self):
         part = transaction("3.00", reference="1")

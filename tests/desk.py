@@ -517,6 +517,19 @@ class Offices(DeskUnderTest):
         told = self.command("claim", employer="1001", worker="7", amount="10,00")[1]
         self.assertEqual((told["entry"]["outcome"], told["entry"]["reply"]["reason"]), ("lost", "firm"))
 
+    def test_a_key_that_the_office_has_no_memory_to_judge(self):
+        """It may be a firm's, so no command goes with it before it is judged."""
+        office = FakeOffice(self, lambda request: answer_bytes(200, DONE))
+        refusal, is_judged = {"rule": 40, "name": "Memory", "detail": ""}, office.key_answer
+        office.key_answer = answer_bytes(503, refusal)
+        self.open_desk(office.port)
+        told = self.register()[1]
+        self.assertEqual((told["entry"]["outcome"], told["entry"]["reply"]), ("undecided", refusal))
+        self.assertEqual(office.requests, [])
+        office.key_answer = is_judged
+        self.does(DONE, self.post("/api/pending/send-again", "send-again", {"number": 1}), "repeated")
+        self.assertEqual(len(office.requests), 1)
+
     def test_what_is_no_office(self):
         for answer in (answer_bytes(404, b"<h1>none</h1>", "text/html"), answer_bytes(200, {"hello": "you"}),
                        answer_bytes(409, {"rule": "9"}), answer_bytes(200, {"claim": 1}),

@@ -51,13 +51,14 @@ KEY_QUESTION = b"GET /workers/999999999 HTTP/1.1\r\n"
 
 class FakeOffice:
     """Takes requests on a port, and answers each as `answer` says: bytes, or None to end the connection. Each
-    key is a clerk's."""
+    key is a clerk's, where `key_answer` says nothing else."""
 
     def __init__(self, test, answer, port=0):
         self.listener = socket.create_server(("127.0.0.1", port))
         self.port = self.listener.getsockname()[1]
         self.requests = []
         self.answer = answer
+        self.key_answer = answer_bytes(200, b"worker 999999999 2024-04-30\nbalance 0.00\n", "text/plain")
         self.thread = threading.Thread(target=self.serve, daemon=True)
         self.thread.start()
         test.addCleanup(self.end)
@@ -78,7 +79,7 @@ class FakeOffice:
             with peer:
                 request = read_message(peer)
                 if request.startswith(KEY_QUESTION):
-                    peer.sendall(answer_bytes(200, b"worker 999999999 2024-04-30\nbalance 0.00\n", "text/plain"))
+                    peer.sendall(self.key_answer)
                     continue
                 self.requests.append(request)
                 answer = self.answer(request)

@@ -284,6 +284,8 @@ class Names(Tool):
             "Ǽbro BRØNDǾ": "Aebro BROENDOE",
             "<Nm>Bau</Nm> <!-- ]]> &amp;": ".Nm.Bau./Nm. ..-- )). +amp,",
             '""Bau „Nord“ ’s""': "'Bau 'Nord' 's'",
+            "‹A› ‘B’ «C» ‚D‘ “E” ‟F‛": "'A' 'B' 'C' 'D' 'E' 'F'",
+            "Müller‑Bau ‐‒–—―−": "Mueller-Bau ------",
             "a_b;c*d#e@f[g]h{i}j|k\\l~m": "a-b,c.d.e.f(g)h(i)j/k/l-m",
             "  Bau \u00a0 Nord ": "Bau Nord",
                 "A" * 70: "A" * 70,

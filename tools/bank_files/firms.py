@@ -19,30 +19,32 @@ NUMBER_WORD = re.compile(r"(?<!\w)(?<![0-9_][.,:/-])[0-9]+(?!\w)(?![.,:/-][0-9])
 WORD_BEFORE = re.compile(r"(\w+)\W{1,3}\Z")
 # A number that may be a year counts only behind a word that the clerk has named.
 YEAR = re.compile("19[0-9]{2}|2[01][0-9]{2}|2200")
-MONTH = ("(?:januar|jänner|jaenner|january|jan|februar|feber|february|feb|märz|maerz|march|mär|mrz|april|apr|"
-         "mai|may|juni|june|jun|juli|july|jul|august|aug|september|sept|sep|oktober|october|okt|oct|"
+MONTH = ("(?:januar|jänner|jaenner|january|jän|jaen|jan|februar|feber|february|febr|feb|märz|maerz|march|mär|maer|mar|"
+         "mrz|april|apr|mai|may|juni|june|jun|juli|july|jul|august|aug|september|sept|sep|oktober|october|okt|oct|"
          r"november|nov|dezember|december|dez|dec)\b\.?")
 # A day of a month, and what may stand between a month and its year.
 DAY = rf"[0-3]?[0-9](?:\. ?[01]?[0-9]\.|\.?[ /-]?\b{MONTH})"
 BEHIND_MONTH = f"[ ./'’-]{{0,2}}(?!{DAY})"
 CURRENCY = r"(?:\b(?:euros?|eur|usd|chf|gbp)\b|[€$£])"
 GROUPS = "[0-9]{1,3}(?:[ .'’][0-9]{3})+"
-AMOUNT = rf"(?<![0-9])(?<![0-9][.,:/-])(?:{GROUPS}|[0-9]+)(?:[.,][0-9]+)?(?![0-9])"
+# Where digits begin that don't go on from others, as the 24 of 1001,24 does.
+BEGIN = "(?<![0-9])(?<![0-9][.,:/-])"
+AMOUNT = rf"{BEGIN}(?:{GROUPS}|[0-9]+)(?:[.,][0-9]+)?(?![0-9])"
 AMOUNT_BEHIND = f"[ :.=]{{0,3}}(?!{DAY}){AMOUNT}"
 # What has digits and isn't a firm's number, of a text as casefold() leaves it.
 OTHER_NUMBERS = re.compile("|".join((
     # An IBAN.
-    r"\b(?:de ?|[a-z]{2})[0-9]{2} ?[a-z0-9]{4}(?: ?(?=[a-z]?[0-9])[a-z0-9]{4}){1,6}"
+    r"(?:\b|iban)(?:de ?|[a-z]{2})[0-9]{2} ?[a-z0-9]{4}(?: ?(?=[a-z]?[0-9])[a-z0-9]{4}){1,6}"
     rf"(?: ?(?!{DAY})[0-9]{{1,3}})?\b",
     # An amount on either side of its currency, or with a dash; a percentage; digits in groups.
     f"{AMOUNT} ?[-*/(]?{CURRENCY}(?:{AMOUNT_BEHIND})?",
     f"{CURRENCY}[*/;|+( -]{{0,2}}{AMOUNT_BEHIND}",
     f"{AMOUNT} ?(?:[.,][-–]|%)",
-    f"(?<![0-9]){GROUPS}(?:[.,][0-9]+)?(?![0-9])",
+    f"{BEGIN}{GROUPS}(?:[.,][0-9]+)?(?![0-9])",
     # A date, a month with its day or year, and a month of a year in digits.
-    f"(?<![0-9]){DAY}(?:{BEHIND_MONTH}(?:19|2[01])?[0-9]{{2}}(?![0-9]))?",
+    f"{BEGIN}{DAY}(?:{BEHIND_MONTH}(?:19|2[01])?[0-9]{{2}}(?![0-9]))?",
     rf"\b{MONTH}{BEHIND_MONTH}[0-9]{{1,2}}(?![0-9])",
-    "(?<![0-9])[01]?[0-9] ?/ ?[0-9]{2}(?![0-9])",
+    f"{BEGIN}(?:[0-3]?[0-9] ?/ ?)?[01]?[0-9] ?/ ?(?:19|2[01])?[0-9]{{2}}(?![0-9])",
 )))
 
 
@@ -67,7 +69,7 @@ class Firms:
         firm = self.by_iban.get(without_spaces(iban))
         if firm:
             return firm, Found.BY_IBAN
-        # The firm has to stand there by both readings.
+        # The firm has to stand there by each reading.
         found = [numbers_in(reading) for reading in readings(texts)]
         told = self.numbers & {it[0] for numbers in found for it in numbers if self.may_be_a_firm(it)}
         is_one = len(told) == 1 and all(told <= {it[0] for it in numbers} for numbers in found)

@@ -6,6 +6,7 @@ import base64
 import csv
 import hashlib
 import io
+import itertools
 import json
 import re
 from collections import Counter
@@ -183,12 +184,16 @@ class BankFile:
         elif own not in parts:
             raise Refusal(f"{called} stands in {first.called} with other references of its transactions, "
                           "so it would count twice; give one of the two statements")
-        before = self.earlier.get(fit_reference(entry.reference, 1))
         whole = str(entry.value or entry.booked), f"{entry.money.amount * 100:.0f}"
         is_known = all(fit_reference(it, 1) in self.earlier for it in own)
-        if before and (before.value, before.cents) == whole and not is_known:
+        if not is_known and any((it.value, it.cents) == whole for it in self.earlier_lines(entry.reference)):
             raise Refusal(f"{called} stands in an earlier file as one line, {shown(entry.reference)}, and now comes "
                           "in its transactions, so it would count twice; give the statement that it was made of")
+
+    def earlier_lines(self, reference: str) -> Iterator[EarlierLine]:
+        """The lines that an earlier file has under a reference of the bank: the first one, and those behind it."""
+        lines = (self.earlier.get(fit_reference(reference, count)) for count in itertools.count(1))
+        return itertools.takewhile(lambda it: it is not None, lines)
 
     def add_payment(self, payment: Payment, used: Counter[str]) -> None:
         """Adds a payment; of each of the bank's references it is counted how often the statement used it."""

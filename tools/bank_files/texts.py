@@ -9,7 +9,7 @@ from enum import IntEnum
 UNSHOWN = re.compile("[\x00-\x1f\x7f-\x9f\u00ad\u061c\u200b-\u200f\u2028-\u202e\u2060-\u206f\ufeff]")
 MOST_SHOWN = 60
 # Where a number or a word may go on from one part of a text to the next.
-SEAM = re.compile(r"(?<=[^\W_])\n(?=[.,:/'’-])|(?<=[0-9][.,:/'’-])\n(?=[0-9])|(?<=[0-9])\n(?=[0-9])|"
+SEAM = re.compile(r"(?<=[^\W_])\n(?=[.,:/'’-])|(?<=[0-9][.,:/'’-])\n(?=[0-9–-])|(?<=[0-9])\n(?=[0-9])|"
                   r"(?<=[^\W\d_])\n(?=[^\W\d_])")
 
 
@@ -46,10 +46,12 @@ def shown(text: str) -> str:
     return plain(text)[:MOST_SHOWN]
 
 
-def readings(parts: Iterable[str]) -> tuple[str, str]:
-    """The parts of a text apart, and with what the bank may have cut in two put together, for a search."""
+def readings(parts: Iterable[str]) -> list[str]:
+    """The parts of a text apart, and with what the bank may have cut in two put together: at all places, and at
+    each one alone, for a search."""
     text = "\n".join(parts).casefold()
-    return text.replace("\n", " "), SEAM.sub("", text).replace("\n", " ")
+    joined = (text[:it.start()] + text[it.end():] for it in SEAM.finditer(text))
+    return [it.replace("\n", " ") for it in (text, SEAM.sub("", text), *joined)]
 
 
 def cut(text: str, most_bytes: int) -> str:

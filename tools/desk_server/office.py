@@ -86,21 +86,23 @@ class Office:
 
     def send(self, method: str, path: str, number: int, body: bytes, reply: frozenset[str]) -> Answer:
         """The reply to a command, which has just these members, or a refusal."""
-        self.check_key()
+        if unjudged := self.check_key():
+            return unjudged
         answer = self.ask(method, path, number, body)
         if not answer.is_refused and set(answer.members) != reply:
             raise NoAnswer("foreign")
         return answer
 
-    def check_key(self) -> None:
+    def check_key(self) -> Answer | None:
         """Keeps commands from going with a firm's key: its numbers are the firm's own, so what went with a
-        clerk's key before would be done once more."""
+        clerk's key before would be done once more. Where the office had no memory to judge the key, its answer."""
         if self.is_clerks_key:
-            return
+            return None
         answer = self.document(CLERKS_QUESTION)
         if answer.rule == NOT_YOURS:
             raise NoAnswer("firm")
         self.is_clerks_key = not answer.is_refused
+        return answer if answer.rule == MEMORY else None
 
     def ask(self, method: str, path: str, number: int | None = None, body: bytes = b"") -> Answer:
         fields = {"Office-Key": self._key, "Connection": "close"}

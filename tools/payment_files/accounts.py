@@ -24,10 +24,11 @@ SPELLINGS = str.maketrans({
     "ä": "ae", "ö": "oe", "ü": "ue", "Ä": "Ae", "Ö": "Oe", "Ü": "Ue", "ß": "ss", "ẞ": "SS",
     "æ": "ae", "Æ": "Ae", "œ": "oe", "Œ": "Oe", "ø": "oe", "Ø": "Oe", "þ": "th", "Þ": "Th",
     "ð": "d", "Ð": "D", "đ": "d", "Đ": "D", "ł": "l", "Ł": "L", "ı": "i",
-    "&": "+", ";": ",", "_": "-", "~": "-", "–": "-", "—": "-", "\\": "/", "|": "/",
-    "[": "(", "{": "(", "]": ")", "}": ")", '"': "'", "`": "'", "´": "'", "‘": "'", "’": "'",
-    "‚": "'", "“": "'", "”": "'", "„": "'", "«": "'", "»": "'",
+    "&": "+", ";": ",", "_": "-", "~": "-", "−": "-", "\\": "/", "|": "/",
+    "[": "(", "{": "(", "]": ")", "}": ")", '"': "'", "`": "'", "´": "'", "‚": "'", "„": "'",
 })
+# What is written for a sign of one of these kinds: an accent, a space, a dash, a quotation mark.
+KINDS = {"Mn": "", "Zs": " ", "Pd": "-", "Pi": "'", "Pf": "'"}
 
 
 @dataclass(frozen=True)
@@ -43,10 +44,8 @@ def sepa_sign(sign: str) -> str:
     if sign in SEPA_SIGNS:
         return sign
     kind = unicodedata.category(sign)
-    if kind == "Mn":
-        return ""
-    if kind == "Zs":
-        return " "
+    if kind in KINDS:
+        return KINDS[kind]
     if kind[0] in "PS":
         return "."
     raise ValueError(f"{sign!r} can't be written in the letters of SEPA, which are A to Z")
