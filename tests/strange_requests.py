@@ -100,7 +100,7 @@ def bank_files():
         yield strange.bank_file(header, [next(records), (next(records) + ["", ""])[:count], ["x"]])
     for places in itertools.combinations(range(len(HEADER)), 2):
         yield from with_two_faults(header, next(records), next(records), places)
-    yield from with_bytes_around(strange.bank_file(header, [next(records), next(records)], end="\r"))
+    yield from with_other_bytes(strange.bank_file(header, [next(records), next(records)], end="\r"))
     yield from conflicts(header, next(records))
 
 
@@ -112,7 +112,9 @@ def with_two_faults(header, one, other, places):
     yield strange.bank_file(header, [SUSPENDED, other, one])
 
 
-def with_bytes_around(file):
+def with_other_bytes(file):
+    # What is no UTF-8 comes first, since the lines are new only once.
+    yield from (file.replace(text, b"\xff") for text in (b"rest", b"100", b"B"))
     yield from (b"\xef\xbb\xbf" * marks + file for marks in range(3))
     yield from (file.rstrip(), file + b'"', file + b" ", b"\n" + file, file.replace(b"\r", b"\r\r\n\n"), b"",
                 ",".join(HEADER).encode())
