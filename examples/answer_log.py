@@ -33,12 +33,14 @@ def read_requests(path):
         if line:
             parts = REQUEST.fullmatch(line)
             try:
-                json.loads(parts[4] or "{}")
-            except (TypeError, ValueError):
+                # However its body is written: it is the values that make a command.
+                values = json.dumps(json.loads(parts[4] or "{}"), sort_keys=True)
+            except (RecursionError, TypeError, ValueError):
                 raise Fault(f"{path}: line {place} is no request", 2) from None
             method, target, number, body = parts.groups(default="")
-            if method != "GET" and commands.setdefault(line, place) != place:
-                again = f"line {place} is line {commands[line]} again, under its number"
+            command = method, target, number, values
+            if method != "GET" and commands.setdefault(command, place) != place:
+                again = f"line {place} is line {commands[command]} again, under its number"
                 raise Fault(f"{path}: {again}: it would be done once", 2)
             requests.append((line, method, target, number or None, body))
     return requests

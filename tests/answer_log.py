@@ -99,10 +99,12 @@ class AnswerLog(Scripts):
     def test_a_command_that_stands_twice(self):
         """Under one number it would be done once: nothing is sent. A question may come again, and so may a
         number that a refusal left free."""
-        claim = 'POST /employers/1001/claims 3 {"cents":100,"worker":8}\n'
-        self.write("batch", claim + "\nGET /suspense -\n" + claim)
-        self.refuses_to_start("batch: line 4 is line 1 again, under its number: it would be done once\n",
-                              "answer_log", "batch", "log")
+        claim, body = "POST /employers/1001/claims 3 ", '{"cents":100,"worker":8}'
+        # However the body is written.
+        for again in (body, body.replace(":", ": "), '{"worker":8,"cents":100}'):
+            self.write("batch", f"{claim}{body}\n\nGET /suspense -\n{claim}{again}\n")
+            self.refuses_to_start("batch: line 4 is line 1 again, under its number: it would be done once\n",
+                                  "answer_log", "batch", "log")
         self.open_office()
         self.write("batch", REPORT_LINE + REGISTRATION_LINE + 2 * "GET /employers/1001/owed 7\n"
                    + REPORT_LINE.replace(":100,", ":200,"))
@@ -169,7 +171,7 @@ class AnswerLog(Scripts):
 
     def test_wrong_files(self):
         for line in ("DELETE /employers 1", "POST employers 1", "POST /employers 01 {}", "POST /employers",
-                     'POST /employers 1 {"employer":1001'):
+                     'POST /employers 1 {"employer":1001', "POST /employers 1 " + 10_000 * "["):
             self.write("batch", f"GET /suspense -\n\n{line}\n")
             self.refuses_to_start("batch: line 3 is no request\n", "answer_log", "batch", "log")
         self.write("batch", "GET /suspense -\n")

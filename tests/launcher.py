@@ -458,13 +458,16 @@ class Try(Launcher):
             self.assertEqual(self.tried(*words, script="checkout/try"), ["try", "--", *words])
 
     def test_files_that_words_name(self):
-        rates, callers = self.write("state/rates.toml", ""), self.write("state/below/of callers.toml", "")
-        given = ["try", "--data", f"rates.toml={rates}", "--data", f"below/of callers.toml={callers}", "--"]
-        words = ["stream", "rates.toml", "below/of callers.toml", "2024-04-30"]
+        """By their whole paths, since rt runs the program in a folder of its own."""
+        names = ("rates.toml", "below/of callers.toml", "../other.csv", "./stdin.csv", "a=b.csv")
+        for it in names:
+            self.write(f"state/{it}", "")
+        paths = [f"{self.state}/{it}" for it in names]
         (self.folder / "link").symlink_to("checkout/try")
-        for it in ("checkout/try", "link"):
-            self.assertEqual(self.tried(*words, script=it), [*given, *words])
-        self.assertEqual(self.tried("stream", str(rates), script="link"), ["try", "--", "stream", str(rates)])
+        for script in ("checkout/try", "link"):
+            self.assertEqual(self.tried("check", *names, "none.csv", script=script),
+                             ["try", "--", "check", *paths, "none.csv"])
+            self.assertEqual(self.tried("check", *paths, script=script), ["try", "--", "check", *paths])
 
 
 if __name__ == "__main__":
