@@ -215,12 +215,20 @@ class Firms(BankFiles):
                 "Rechnung 1001/05/24", "vom 24/05/24", "Beitrag 1-3/24", "Beitrag 12/ 2024", "12 / 2024", "12 /2024",
                 "Beitrag Mar-24", "Febr. 24", "Jän. 24", "Maer. 24", "IBANDE89 3704 0044 0532 0130 00",
                 ["1001 Eu", "ro", "Danke"], ["Betrag 1001,", "-"], ["Bau", "Ap", "ril 24"],
-                ["IBAN", "D", "E89 3704 0044 0532 0130 00"])
+                ["IBAN", "D", "E89 3704 0044 0532 0130 00"],
+                "Beitrag 01-03 / 24", "Beitrag 1-3/ 24", "11-12 /24", "01/ 24-03/ 24", "vom 1. 5. 24-31. 5. 24",
+                "30.2.23-5.01. 25", "Tel. 0421/123 500", "Rechnung 2024-123 500", "Rg. 24/94 500", "24/5 001,50 Mai",
+                "Nr. 778/24 / 03/05 / 24", "2024-12-01 / 01.12. 24",
+                "Mai / 24", "Mai - 24", ["Mai '", "24"], "Mai ‘24", "Januar / 11/ 24", "24. Mai 5", "24./25. Mai 2024",
+                "24. bis 25. Mai 24", "1. bis 15.05.2024", "24. u. 25. 4. 24", "24. - 25.05.2024", "3 - 12/2024",
+                "1 bis 3/24", "3 + 5/24", "3 und 5/24", "3 - 12.2024", "BLZ 370 400 24", ["AT", "61 1904 1001 3457 3201"],
+                "Tel. 0421/123 456 10 /24")
         known = ("1001 / 03/2024", "1001/Mai 24", "Mai/1001", "Betrieb 1001 - EUR 500", "1001, 12.04.2024",
                  "KW24 Betrieb 1001", ["Beitrag 03/2024,", "Betrieb 1001"], ["Nr.", "1001", "-Mai"],
                  ["EUR 500", "Betrieb 1001", "Mai 24"], "Beitrag\nBetrieb 1001\nMai 24",
                  "500 EUR - 1001", "Betrieb 1001, 24. Mai 2024", "1001, 24/05/24", "1001 05/24", "1001 12/2024",
                  "1001, Mar-24", "1001 / 24. Mai", ["Betrieb 1001", "Danke", "Nord"],
+                 "1001 - 03/2024", "Betrieb 1001, 3 - 5/24", "1001 bis 24. Mai", "1001, 1. und 24. Mai 2024",
                  "Betrieb 1001 IBAN DE89 3704 0044 0532 0130 00")
         texts = [*none, *known]
         entries = [payment("1.00", text, "", STRANGE, f"N-{at}") for at, text in enumerate(texts)]
@@ -403,6 +411,12 @@ class LeftOut(BankFiles):
             own = f"<Domn><Fmly><SubFmlyCd>{code}</SubFmlyCd></Fmly></Domn><Prtry><Cd>{code}</Cd></Prtry>"
             coded = payment("1.00", reference="A").replace("<BkTxCd/>", f"<BkTxCd>{own}</BkTxCd>")
             self.makes(one("0", "1.00", coded), [] if code in back else ["A,2024-04-30,,100,C,"])
+        # A debit of which a part is taken back, beside a fee, or not all of which is there.
+        parts = transaction("4.00", more=RETURNED), transaction("5.00", "Entgelt")
+        batch = "<Btch><NbOfTxs>3</NbOfTxs></Btch>"
+        for taken_back in (entry("9.00", *parts, direction="DBIT"), entry("9.00", *parts, direction="DBIT", batch=batch)):
+            self.assertIn("left out in all, returned payment (a debit): 1, 9.00 EUR\n",
+                          self.makes(one("9.00", "0", taken_back), []))
         # The transfer itself is a debit as others.
         out = entry("1.00", transaction("", "", "", ACCOUNT, "A", "L1-C1"), direction="DBIT")
         self.assertIn("left out in all, debit: 1, 1.00 EUR\n", self.makes(one("1.00", "0", out), []))
@@ -536,6 +550,9 @@ class References(BankFiles):
         second = f"statement S2 of {ACCOUNT}"
         self.refuses(document(whole, parted), f"entry 1 of {second} stands in {S1} {twice}")
         self.refuses(document(parted, whole), f"{FIRST} stands in {second} {twice}")
+        turned = statement("0", "9.00", entry("9.00", *parts[::-1], reference="B"))
+        told = self.makes(document(parted, turned), ["T1,2024-04-30,,400,C,", "T2,2024-04-30,,500,C,"])
+        self.assertIn("left out in all, stands in two statements: 2, 9.00 EUR\n", told)
         self.write("made.csv", HEADER + "B,2024-04-30,,900,C,\n")
         words = "--firms", "firms.csv", "--earlier", "made.csv"
         self.refuses(document(parted), f"entry 1 of {second} stands in an earlier file as one line, B, and now comes "

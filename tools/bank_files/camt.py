@@ -91,7 +91,9 @@ class Entry:
     @property
     def is_return(self) -> bool:
         returns = [it.is_return for it in self.transactions]
-        return self.is_reversal or self.is_detailed and bool(returns) and all(returns)
+        # A debit isn't parted, so that what one of its transactions takes back is told of the whole.
+        is_whole = self.is_detailed and bool(returns) and all(returns)
+        return self.is_reversal or (is_whole if self.is_credit else any(returns))
 
 
 @dataclass(frozen=True)

@@ -24,7 +24,10 @@ MONTH = ("(?:januar|jänner|jaenner|january|jän|jaen|jan|februar|feber|february
          r"november|nov|dezember|december|dez|dec)\b\.?")
 # A day of a month, and what may stand between a month and its year.
 DAY = rf"[0-3]?[0-9](?:\. ?[01]?[0-9]\.|\.?[ /-]?\b{MONTH})"
-BEHIND_MONTH = f"[ ./'’-]{{0,2}}(?!{DAY})"
+MONTH_OF_YEAR = r"[01]?[0-9](?: ?/ ?(?:19|2[01])?[0-9]{2}|\.(?:19|2[01])[0-9]{2})(?![0-9])"
+BEHIND_MONTH = f"[ ./'’‘´`-]{{0,3}}(?!{DAY}|{MONTH_OF_YEAR})"
+# What stands between the first and the last of several days or months.
+TO_WORD = r"(?:bis|to|und|u\.)"
 CURRENCY = r"(?:\b(?:euros?|eur|usd|chf|gbp)\b|[€$£])"
 GROUPS = "[0-9]{1,3}(?:[ .'’][0-9]{3})+"
 # Where digits begin that don't go on from others, as the 24 of 1001,24 does.
@@ -36,15 +39,20 @@ OTHER_NUMBERS = re.compile("|".join((
     # An IBAN.
     r"(?:\b|iban)(?:de ?|[a-z]{2})[0-9]{2} ?[a-z0-9]{4}(?: ?(?=[a-z]?[0-9])[a-z0-9]{4}){1,6}"
     rf"(?: ?(?!{DAY})[0-9]{{1,3}})?\b",
+    rf"\b[a-z]{{2}} [0-9]{{2}} ?[a-z0-9]{{4}}(?: ?(?=[a-z]?[0-9])[a-z0-9]{{4}}){{2,6}}(?: ?(?!{DAY})[0-9]{{1,3}})?\b",
     # An amount on either side of its currency, or with a dash; a percentage; digits in groups.
     f"{AMOUNT} ?[-*/(]?{CURRENCY}(?:{AMOUNT_BEHIND})?",
     f"{CURRENCY}[*/;|+( -]{{0,2}}{AMOUNT_BEHIND}",
     f"{AMOUNT} ?(?:[.,][-–]|%)",
-    f"{BEGIN}{GROUPS}(?:[.,][0-9]+)?(?![0-9])",
+    r"(?<![0-9])[0-9]{3} [0-9]{3} [0-9]{2}(?![0-9]| ?/|\. ?[0-9])",
+    f"(?<![0-9]){GROUPS}(?:[.,][0-9]+)?(?![0-9])",
     # A date, a month with its day or year, and a month of a year in digits.
-    f"{BEGIN}{DAY}(?:{BEHIND_MONTH}(?:19|2[01])?[0-9]{{2}}(?![0-9]))?",
+    f"(?<![0-9]){DAY}(?:{BEHIND_MONTH}(?:(?:19|2[01])[0-9]{{2}}|[0-9]{{1,2}})(?![0-9]))?",
     rf"\b{MONTH}{BEHIND_MONTH}[0-9]{{1,2}}(?![0-9])",
-    f"{BEGIN}(?:[0-3]?[0-9] ?/ ?)?[01]?[0-9] ?/ ?(?:19|2[01])?[0-9]{{2}}(?![0-9])",
+    f"(?<![0-9])(?:{BEGIN}[0-3]?[0-9] ?/ ?)?[01]?[0-9] ?/ ?(?:19|2[01])?[0-9]{{2}}(?![0-9]|\\. ?[01]?[0-9]\\.)",
+    # The first of several days or months, of which the last has the rest of the date.
+    rf"(?<![0-9])[0-3]?[0-9](?:\. ?[-–/+&]|\.? {TO_WORD}) ?(?={DAY})",
+    rf"(?<![0-9])(?:1[0-2]|0?[1-9])(?: ?[-–+&]| {TO_WORD}) ?(?={MONTH_OF_YEAR})",
 )))
 
 
@@ -83,8 +91,10 @@ class Firms:
 
 
 def numbers_in(text: str) -> list[re.Match]:
-    """The numbers in a text that are nothing else."""
-    return [*NUMBER_WORD.finditer(OTHER_NUMBERS.sub("_", text))]
+    """The numbers in a text that are nothing else. Where one of the others began, digits stand, so that what goes
+    on into it, as the 1001 of 1001,24 Mai, is none."""
+    left = OTHER_NUMBERS.sub(lambda other: "0_" if other[0][0].isdecimal() else "_", text)
+    return [*NUMBER_WORD.finditer(left)]
 
 
 def without_spaces(iban: str) -> str:

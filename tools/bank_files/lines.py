@@ -176,7 +176,8 @@ class BankFile:
         """Refuses an entry that came before in other parts, in a statement or an earlier file."""
         if not entry.reference:
             return
-        own = [it.reference for it in payments]
+        # Two statements may have them in another order.
+        own = sorted(it.reference for it in payments)
         key = statement.account, entry.reference, entry.booked, entry.value, entry.money
         first, parts = self.parts.setdefault(key, (statement, []))
         if first is statement:
