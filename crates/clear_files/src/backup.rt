@@ -18,10 +18,10 @@ const RIGHTS: u32 = 0o777;
 /// what an earlier copy left there that was killed is removed. The copy has the rights of the file, but
 /// none that the process withholds, and is nobody else's. `Unusable` where the file doesn't stand at its
 /// path any more, where something stands at the new path, also where it came there meanwhile, or a log
-/// or journal of a store that was there, where the new name is that of a log or a journal, where under
-/// the name with `.part` a link, a folder or the store itself stands, or another copy is written, and
-/// where a file can't be read or written; nothing then stands at the new path but what stood there
-/// before.
+/// or journal of a store that was there, where the new name is that of a log, a journal or a part, or no
+/// name of a file for the words that open a store, where under the name with `.part` a link, a folder or
+/// the store itself stands, or another copy is written, and where a file can't be read or written; nothing
+/// then stands at the new path but what stood there before.
 pub fn copy_whole(rt: &HostRuntime, store: &StoreFile<'_>, copy: &str) -> Result<(), FileFault> {
     match copy_by_part(rt, store, copy) {
         Ok(()) => Ok(()),
@@ -31,7 +31,7 @@ pub fn copy_whole(rt: &HostRuntime, store: &StoreFile<'_>, copy: &str) -> Result
 
 fn copy_by_part(rt: &HostRuntime, store: &StoreFile<'_>, copy: &str) -> io::Result<()> {
     let part = format!(in rt.alloc(); "{copy}.part")?;
-    if is_beside_a_store(copy) || !is_new(rt, copy)? || !is_writable(rt, part.as_str(), store) {
+    if is_of_another_use(copy) || !is_new(rt, copy)? || !is_writable(rt, part.as_str(), store) {
         return Err(in_the_way());
     }
     let mut source = File::open(rt, store.path)?;
@@ -48,9 +48,14 @@ fn copy_by_part(rt: &HostRuntime, store: &StoreFile<'_>, copy: &str) -> io::Resu
     written
 }
 
-// A store takes a file of such a name for the log or the journal of the store that it is named after.
-fn is_beside_a_store(copy: &str) -> bool {
-    copy.ends_with("-wal") || copy.ends_with("-journal")
+// A store takes a file of such a name for the log, its index or the journal of the store that it is
+// named after, and a copy for its part; what begins so is no file for the words that open a store.
+fn is_of_another_use(copy: &str) -> bool {
+    ["-wal", "-shm", "-journal", ".part"]
+        .iter()
+        .any(|end| copy.ends_with(*end))
+        || copy.starts_with("file:")
+        || copy == ":memory:"
 }
 
 // Nothing stands at the path of the copy, nor beside it what would be taken for the copy's.

@@ -86,9 +86,19 @@ impl<'a> NamedStore<'a> {
         }
     }
 
-    /// Whether both paths still name these files: no others, and none that can't be asked for.
+    /// Whether the path still names this file, and this log stands beside it: no others, and none that
+    /// can't be asked for.
     pub fn stands(&self) -> bool {
-        self.file.stands(self.rt) && names(self.rt, self.log.as_str(), &self.log_id)
+        self.file.stands(self.rt) && self.has_log()
+    }
+
+    // A file that was moved, and is found by a link now, has its log at another path.
+    fn has_log(&self) -> bool {
+        match log_beside(self.rt, self.file.path) {
+            Ok(Some(log)) => names(self.rt, log.as_str(), &self.log_id),
+            // There was no memory to ask where it stands.
+            Ok(None) | Err(_) => names(self.rt, self.log.as_str(), &self.log_id),
+        }
     }
 }
 
