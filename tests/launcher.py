@@ -418,6 +418,12 @@ class Faults(Launcher):
         self.program.write_text("#!/no/such/shell\n")
         self.fails("clear_app: ")
 
+    def test_a_limit_on_the_size_of_files(self):
+        """It is a fault of the store, and not a signal."""
+        self.runs()
+        self.program.write_text("#!/bin/sh\nkill -XFSZ $$\necho goes on\n")
+        self.assertEqual(self.run_script(), (0, "goes on\n", ""))
+
     def test_a_checkout_that_is_read_only(self):
         self.make_writable(False)
         self.assertEqual(len(self.fails("no file can be written", user=NOBODY)), 1)

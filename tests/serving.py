@@ -310,8 +310,8 @@ class Slow(program.Program):
             self.ends(kind, server, told, least, most)
 
     def deaf(self):
-        """A peer that reads nothing has little room for answers, and after 10 seconds, or twice 10, it is cut off. Each answer
-        is a statement with some 2,120 missing months, so that the system's own buffers don't hold the answers of a stream."""
+        """A peer that reads nothing has little room for answers, and is cut off 10 seconds after the system took the last part
+        of one. Each answer is a statement with some 2,120 missing months, so that the system's own buffers don't hold them."""
         self.init("deaf.db")
         server = self.serving(1, day="2200-12-31", store="deaf.db")
         with socket.socket() as peer:
@@ -321,7 +321,7 @@ class Slow(program.Program):
             peer.sendall(REGISTRATION)
             asked = OWED.replace(b"/owed", b"/statement")
             threading.Thread(target=go_on, args=(peer, asked * 100, 0), daemon=True).start()
-            self.ends("deaf", server, "fault net\n", 8, 28)
+            self.ends("deaf", server, "fault net\n", 8, 38)
 
     def ends(self, kind, server, told, least, most):
         begun = time.monotonic()
@@ -426,6 +426,19 @@ class Store(program.Program):
                 self.assertIn("requests 1\n", self.run_program("look", "one.db")[1])
             for left in self.folder.glob("*.db*"):
                 left.unlink()
+
+    def test_a_store_that_is_moved_and_linked_back(self):
+        """Whoever opens it by the link looks for its log beside the file: what the log has must not stay behind."""
+        self.init("one.db")
+        server = self.serving(3, store="one.db")
+        self.assertIn(b'{"done":true}', self.send(server, REGISTRATION))
+        (self.folder / "away").mkdir()
+        (self.folder / "one.db").rename(self.folder / "away/one.db")
+        (self.folder / "one.db").symlink_to("away/one.db")
+        with contextlib.suppress(ConnectionError):
+            self.assertEqual(self.send(server, JANUARY), b"")
+        self.assertEqual(self.ended(server), (3, "", "rule 41 Store\n"))
+        self.assertIn("requests 1\n", self.run_program("look", "one.db")[1])
 
 
 class Ready(program.Program):

@@ -538,6 +538,10 @@ class Backup(Stores):
         for path in ("fund.db", "bank.csv", "link", "folder", ".", "no/copy.db", ""):
             with self.subTest(path):
                 self.expect(["backup", "fund.db", path], 2, "", "fault file\n")
+        # Names that are taken for something else: a copy by a store or by a later copy, or no file by the words.
+        for path in ("fund.db-shm", "copy.db-wal", "copy.db-journal", "monday.part", "file:copy.db", ":memory:"):
+            with self.subTest(path):
+                self.expect(["backup", "fund.db", path], 2, "", "fault file\n")
         self.assertEqual(self.content(), before)
         # The log of a store that was there, or a journal of sqlite3, would be taken for that of the copy.
         for name in ("copy.db-wal", "copy.db-journal"):
