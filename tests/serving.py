@@ -433,6 +433,7 @@ class Store(program.Program):
         server = self.serving(3, store="one.db")
         self.assertIn(b'{"done":true}', self.send(server, REGISTRATION))
         (self.folder / "away").mkdir()
+        (self.folder / "away").chmod(0o777)
         (self.folder / "one.db").rename(self.folder / "away/one.db")
         (self.folder / "one.db").symlink_to("away/one.db")
         with contextlib.suppress(ConnectionError):
