@@ -302,7 +302,7 @@ class Month(InBrowser):
                          [["1002", "1", "1", "Mar 2024", "€0.00", "€0.00"]])
         self.browser.click("#reminders-make")
         self.confirm()
-        self.answers("refused", "rule 30, NothingToRemind", "reminded in the last 14 days")
+        self.answers("refused", "rule 30, NothingToRemind", "reminded fewer than 14 days ago")
 
     def the_next_file(self):
         """A bank file that is only looked at, as the morning's work begins."""

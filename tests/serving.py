@@ -436,7 +436,8 @@ class Store(program.Program):
         (self.folder / "away").chmod(0o777)
         (self.folder / "one.db").rename(self.folder / "away/one.db")
         (self.folder / "one.db").symlink_to("away/one.db")
-        with contextlib.suppress(ConnectionError):
+        # The connection may be gone before the request is.
+        with contextlib.suppress(OSError):
             self.assertEqual(self.send(server, JANUARY), b"")
         self.assertEqual(self.ended(server), (3, "", "rule 41 Store\n"))
         self.assertIn("requests 1\n", self.run_program("look", "one.db")[1])
