@@ -8,7 +8,10 @@
 -- releases, pieces beside contributions and payments, and what is open of a contribution, with its
 -- weight, beside the pieces. Of a claim the three parts of its release have to come to it, and a
 -- payout list has to have the claims that are on it, with their sum. Behind these, `requests` has what
--- the tables count and what the accepted requests come to, as where a part is of another book.
+-- the tables count and what the accepted requests come to, as where a part is of another book. `said`
+-- has what an accepted request says and no row has, or the other way round, `rates` an added block
+-- that is missing, `wages` a latest report whose lines are others than those that were sent, and
+-- `database` what SQLite itself finds wrong with the file.
 
 SELECT 'contribution', employer, printf('%d-%02d', 2000 + month / 12, month % 12 + 1),
   CASE WHEN sum(side) > 0 THEN 'kept' ELSE 'recomputed' END, date(due * 86400, 'unixepoch'), cents
@@ -91,10 +94,19 @@ GROUP BY no, items, total HAVING sum(side) <> 0;
 
 WITH request AS (SELECT kind, a, b, CAST(substr(command, 1, 9) AS TEXT) AS verb FROM requests)
 SELECT 'requests', what, 'kept', kept, 'recomputed', recomputed FROM (
-  SELECT 'requests' AS what, entries AS kept, (SELECT count(*) FROM requests) AS recomputed FROM meta
+  SELECT 'requests' AS what, (SELECT entries FROM meta) AS kept, (SELECT count(*) FROM requests) AS recomputed
   UNION ALL
-  SELECT 'ledger day', date(day * 86400, 'unixepoch'),
-    (SELECT date(max(day) * 86400, 'unixepoch') FROM requests) FROM meta
+  SELECT 'ledger day', (SELECT date(day * 86400, 'unixepoch') FROM meta),
+    (SELECT date(max(day) * 86400, 'unixepoch') FROM requests)
+  UNION ALL
+  SELECT 'last serial', (SELECT serial FROM meta),
+    (SELECT count(*) FROM bank) + (SELECT count(*) FROM claims WHERE state = 2)
+  UNION ALL
+  SELECT 'last claim', (SELECT claims FROM meta), (SELECT coalesce(max(no), 0) FROM claims)
+  UNION ALL
+  SELECT 'last list', (SELECT lists FROM meta), (SELECT coalesce(max(no), 0) FROM lists)
+  UNION ALL
+  SELECT 'last run', (SELECT runs FROM meta), (SELECT coalesce(max(no), 0) FROM runs)
   UNION ALL
   SELECT 'firms', count(*), (SELECT count(*) FROM request WHERE verb LIKE 'employer %') FROM employers
   UNION ALL
@@ -118,3 +130,59 @@ SELECT 'requests', what, 'kept', kept, 'recomputed', recomputed FROM (
   UNION ALL
   SELECT 'reminders', count(*), (SELECT coalesce(sum(b), 0) FROM request WHERE kind = 7) FROM reminders)
 WHERE kept IS NOT recomputed;
+
+-- What an accepted request says of itself, with its answer, beside the row that it made: claims, releases with their three
+-- parts, withdrawals, lists and runs, each with its day, firms, ends, and the lines that were given to firms.
+SELECT 'said', CASE WHEN sum(side) > 0 THEN 'kept' ELSE 'requested' END, said, date(day * 86400, 'unixepoch')
+FROM (
+  SELECT 'claim ' || employer || ' ' || worker || ' ' || cents || ': ' || no AS said, made AS day, 1 AS side FROM claims
+  UNION ALL
+  SELECT 'release ' || no || ': ' || to_contributions || ' ' || to_interest || ' ' || paid, released, 1 FROM claims
+    WHERE state = 2
+  UNION ALL
+  SELECT 'withdraw ' || employer || ' ' || no, NULL, 1 FROM claims WHERE state = 1
+  UNION ALL
+  SELECT 'payout: ' || no || ' ' || items || ' ' || total, day, 1 FROM lists
+  UNION ALL
+  SELECT 'remind: ' || no || ' ' || firms, day, 1 FROM runs
+  UNION ALL
+  SELECT 'employer ' || no || ' ' || printf('%d-%02d', 2000 + start / 12, start % 12 + 1) || ' ' || name, NULL, 1
+    FROM employers
+  UNION ALL
+  SELECT 'end ' || no || ' ' || printf('%d-%02d', 2000 + last / 12, last % 12 + 1), NULL, 1 FROM employers
+    WHERE last IS NOT NULL
+  UNION ALL
+  -- (a line may be assigned to the firm that it names, where that was registered later)
+  SELECT 'assign ' || reference || ' ' || employer, NULL, 1 FROM bank
+    WHERE employer IS NOT NULL AND (employer IS NOT named OR 'assign ' || reference || ' ' || employer IN (
+      SELECT CAST(command AS TEXT) FROM requests WHERE CAST(substr(command, 1, 7) AS TEXT) = 'assign '))
+  UNION ALL
+  SELECT CAST(command AS TEXT) || CASE kind WHEN 4 THEN ': ' || a WHEN 5 THEN ': ' || a || ' ' || b || ' ' || c
+      WHEN 6 THEN ': ' || a || ' ' || b || ' ' || c WHEN 7 THEN ': ' || a || ' ' || b ELSE '' END,
+    CASE WHEN kind >= 4 THEN day END, -1
+  FROM requests WHERE kind >= 4 OR kind = 1 AND CAST(substr(command, 1, 5) AS TEXT) <> 'rate ')
+GROUP BY said, day HAVING sum(side) <> 0;
+
+-- Added rates, since those of the rate file stand in no request.
+SELECT 'rates', 'requested', CAST(command AS TEXT) FROM requests WHERE CAST(substr(command, 1, 5) AS TEXT) = 'rate '
+EXCEPT
+SELECT 'rates', 'requested', 'rate ' || printf('%d-%02d', 2000 + first / 12, first % 12 + 1) || ' ' || contribution
+  || ' ' || report_day || ' ' || due_day || ' ' || interest || ' ' || entitlement FROM rates;
+
+-- The lines of each latest report.
+WITH report AS (
+  SELECT CAST(rest AS INTEGER) AS employer, substr(rest, instr(rest, ' ') + 1, 7) AS month, a AS version,
+    rest || ' ' AS said
+  FROM (SELECT a, substr(CAST(command AS TEXT), instr(CAST(command AS TEXT), ' ') + 1) AS rest
+    FROM requests WHERE kind = 2))
+SELECT 'wages', kept.employer, printf('%d-%02d', 2000 + kept.month / 12, kept.month % 12 + 1)
+FROM reports AS kept
+LEFT JOIN report ON report.employer = kept.employer AND report.version = kept.version
+  AND report.month = printf('%d-%02d', 2000 + kept.month / 12, kept.month % 12 + 1)
+LEFT JOIN wages AS line ON line.employer = kept.employer AND line.month = kept.month
+GROUP BY kept.employer, kept.month
+HAVING count(line.worker) IS NOT length(said) - length(replace(said, ':', ''))
+  OR sum(instr(said, ' ' || line.worker || ':' || line.gross || ' ') = 0) > 0;
+
+-- What the store says of itself as a database, as where an index is of another book than its table.
+SELECT 'database', integrity_check FROM pragma_integrity_check WHERE integrity_check <> 'ok';
