@@ -163,153 +163,6 @@ class Good(BankFiles):
                          f"{AT_FIRST}: {amount} EUR is no amount with a currency", status=2)
 
 
-class Firms(BankFiles):
-    def finds(self, firm, text, iban=STRANGE, purpose="C", table=FIRMS):
-        self.write("firms.csv", table)
-        output, _ = self.made(one("0", "1", payment("1.00", text, "", iban, "F")))
-        self.assertEqual(output.split(",")[:5], ["F", "2024-04-30", firm, "100", purpose], text)
-
-    def test_by_the_iban_first(self):
-        self.finds("1001", "Betrieb 1002", NORD)
-        self.finds("1002", "", f"{WEST[:4].lower()} {WEST[4:]}")
-        self.finds("", "", STRANGE)
-
-    def test_by_one_number_of_the_table(self):
-        for text in ("1001", "Betrieb 1001", "Nr.1001", "Nr:1001, Mai", "(1001)", "1001.", "1001 4711 1001",
-                     "#1001/x", ["Betrieb", "1001"], "1001 Februar 03/2024"):
-            self.finds("1001", text)
-
-    def test_no_number_or_several(self):
-        for text in ("", "10010", "01001", "1001a", "x1001", "1001_", "1001/2024", "03-1001", "1.001", "1001,00",
-                     "EUR 1001", "€1001", "1001 EUR", "1001€", "1001 1003", "１００１", ["10", "01"],
-                     "10&#x200b;01", ["Betrieb 1001", "4567"], ["4567", "1001"]):
-            self.finds("", text)
-
-    def test_numbers_that_are_something_else(self):
-        table = "iban,employer\n" + "".join(f",{firm}\n" for firm in (1, 5, 12, 24, 30, 234, 1001, 2024, 3704))
-        for text in ("Beitrag März 2024", "Beitrag 2024", "1 001,12", "1'234", "5 %", "5,5%", "30. April", "1 Mai",
-                     "Mai 24", "Feb. '24", "Euro 1001", "EUR: 1001", "EUR 1 234", "USD 1001", "1001 Euro", "1001,-",
-                     "IBAN DE02 3704 0044 0532 0130 00", "de12 1001 1001 1001 1001 00"):
-            self.finds("", text, table=table)
-        for text in ("1001 März 2024", "Mai 1001", "EUR 5,00 Betrieb 1001", "Betrieb 1001, Mai 24, 12.04.2024",
-                     "DE89370400440532013000 1001"):
-            self.finds("1001", text, table=table)
-
-    def test_numbers_that_go_with_others(self):
-        """Days with months and years, amounts on both sides of a currency, and what the bank cut in two."""
-        firms = (1, 3, 5, 12, 24, 25, 500, 1001, 1002, 3704, 4898)
-        self.write("firms.csv", "iban,employer\n" + "".join(f",{firm}\n" for firm in firms))
-        none = ("30. April 24", "1 Mai 24", "Jan-24", "Mai/24", "24-Apr-2024", "5.Mai.24", "Jaenner 24",
-                "May 5, 2024", "12. 05. 2024", "12. 4. 23", "12.4. 24", "03/ 24", "03 /24", "Mai 24/25",
-                "1001 EUR 500", "24 EUR 7", "EUR 1001/1002", "EUR = 1001", "1001,– €",
-                "IBAN DE 12 5001 0517 0648 4898 90", ["Betrag 1001", ",50"], ["1001,", "50 EUR"],
-                ["12.", "5.2024"], ["1001 10", "02"], ["1001", "24.50"],
-                ["IBAN DE89 3704 0044", "0532 0130 00"], ["IBAN DE12 50", "01 0517 0648 4898 90"],
-                ["IBAN D", "E12 5001 0517 0648 4898 90"], ["bis 24. Apr", "il"], ["Ma", "i 24"], ["Feb", ". 24"],
-                ["1001 Eur", "o"], "7 EUR 12. 5. 2024", "Mai/24. 5. 2024", "5/1992 EUR 7",
-                "DE89370400440532013000 24. 5. 2024", "DE89370400440532013000 EUR 1001",
-                "EUR-1001", "EUR*1001*", "EUR -1001", "EUR (1001)", "EUR/1001", "1001-EUR", "1001/EUR",
-                "1001 *EUR*", "Betrieb 1001\n7", "Betrieb 1001\r\n  7", "Betrieb 1001&#x200b;7",
-                "Betrieb 1001&#xad;7", "Ma\ni 24",
-                "Beitrag 1001,24 Mai 2024", "1001,50 Mai", "Summe 1001,50 100 Std", "1001,05.12.2024",
-                "Rechnung 1001/05/24", "vom 24/05/24", "Beitrag 1-3/24", "Beitrag 12/ 2024", "12 / 2024", "12 /2024",
-                "Beitrag Mar-24", "Febr. 24", "Jän. 24", "Maer. 24", "IBANDE89 3704 0044 0532 0130 00",
-                ["1001 Eu", "ro", "Danke"], ["Betrag 1001,", "-"], ["Bau", "Ap", "ril 24"],
-                ["IBAN", "D", "E89 3704 0044 0532 0130 00"],
-                "Beitrag 01-03 / 24", "Beitrag 1-3/ 24", "11-12 /24", "01/ 24-03/ 24", "vom 1. 5. 24-31. 5. 24",
-                "30.2.23-5.01. 25", "Tel. 0421/123 500", "Rechnung 2024-123 500", "Rg. 24/94 500", "24/5 001,50 Mai",
-                "Nr. 778/24 / 03/05 / 24", "2024-12-01 / 01.12. 24",
-                "Mai / 24", "Mai - 24", ["Mai '", "24"], "Mai ‘24", "Januar / 11/ 24", "24. Mai 5", "24./25. Mai 2024",
-                "24. bis 25. Mai 24", "1. bis 15.05.2024", "24. u. 25. 4. 24", "24. - 25.05.2024", "3 - 12/2024",
-                "1 bis 3/24", "3 + 5/24", "3 und 5/24", "3 - 12.2024", "BLZ 370 400 24", ["AT", "61 1904 1001 3457 3201"],
-                "Tel. 0421/123 456 10 /24")
-        known = ("1001 / 03/2024", "1001/Mai 24", "Mai/1001", "Betrieb 1001 - EUR 500", "1001, 12.04.2024",
-                 "KW24 Betrieb 1001", ["Beitrag 03/2024,", "Betrieb 1001"], ["Nr.", "1001", "-Mai"],
-                 ["EUR 500", "Betrieb 1001", "Mai 24"], "Beitrag\nBetrieb 1001\nMai 24",
-                 "500 EUR - 1001", "Betrieb 1001, 24. Mai 2024", "1001, 24/05/24", "1001 05/24", "1001 12/2024",
-                 "1001, Mar-24", "1001 / 24. Mai", ["Betrieb 1001", "Danke", "Nord"],
-                 "1001 - 03/2024", "Betrieb 1001, 3 - 5/24", "1001 bis 24. Mai", "1001, 1. und 24. Mai 2024",
-                 "Betrieb 1001 IBAN DE89 3704 0044 0532 0130 00")
-        texts = [*none, *known]
-        entries = [payment("1.00", text, "", STRANGE, f"N-{at}") for at, text in enumerate(texts)]
-        output, _ = self.made(one("0", str(len(texts)), *entries))
-        found = [line.split(",")[2] for line in output.splitlines()]
-        wanted = [""] * len(none) + ["1001"] * len(known)
-        self.assertEqual([*zip(texts, found)], [*zip(texts, wanted)])
-
-    def test_numbers_behind_a_word(self):
-        self.write("firms.csv", "iban,employer\n,1001\n,2024\n")
-        for text, firm in (("Betrieb 2024", "2024"), ("BETRIEB: 2024, 1001", "2024"), ("Betrieb Nr. 1001", "1001"),
-                           ("1001", ""), ("Betriebe 1001", ""), ("Betrieb 7 1001", ""), ("Betrieb Nord 1001", "")):
-            self.write("statement", one("0", "1", payment("1.00", text, "", STRANGE, "F")))
-            words = "statement --firms firms.csv --number-word Betrieb --number-word nr"
-            status, output, told = self.tool(*words.split())
-            self.assertEqual((status, output.splitlines()[1].split(",")[2]), (0, firm), (text, told))
-
-    def test_interest_by_a_word(self):
-        for text in ("Zinsen", "ZINSEN", "für Zinsen, Mai", "Zinsen/Mai", ["Mai und Zin", "sen"], "Zin\nsen",
-                     "Zin&#xad;sen", ["Bau West Zin", "sen", "Danke"], "Zin\nsen\nfür Mai"):
-            self.finds("", text, purpose="I")
-        for text in ("Verzugszinsen", "Zins en", "Zinsen2"):
-            self.finds("", text)
-        self.write("statement", one("0", "1", payment("1.00", "Rückstand", reference="F")))
-        words = "statement --firms firms.csv --interest-word zins --interest-word RU\u0308CKSTAND"
-        self.assertIn("F,2024-04-30,,100,I,Rückstand\n", self.tool(*words.split())[1])
-
-    def test_other_tables(self):
-        self.finds("99999999", "", NORD, table=f"\ufeffiban,employer\r\n\r\n{NORD}, 99999999 \r\n")
-        self.finds("7", "7", table=f'"iban","employer"\n{NORD},7\n{WEST},7\n')
-        self.finds("", "7", table="iban,employer\n")
-
-    def faulty(self, table, said):
-        self.write("firms.csv", table)
-        self.refuses(LATIN, said, status=2)
-
-    def test_faulty_tables(self):
-        for table in ("", "iban;employer\n", "employer,iban\n"):
-            self.faulty(table, "firms.csv: the first line isn't iban,employer")
-        self.faulty(f"iban,employer\n{NORD}\n", "firms.csv, line 2: 1 fields in place of 2")
-        self.faulty('iban,employer\n"a\n', "firms.csv, line 2: unexpected end of data")
-        self.faulty("iban,employer\nM\xe4rz,1\n".encode("latin-1"), "firms.csv: no text in UTF-8")
-
-    def test_each_fault_of_a_table(self):
-        lines = [f"{NORD[:-1]}1,1001", "", f"{WEST},0", f"{NORD},01", f"{WEST},1", f"{WEST},1", "DE1,2",
-                 f"{NORD},100000000", f"DE99{ACCOUNT[4:]},1"]
-        self.faulty("\n".join(["iban,employer", *lines]), "\n".join([
-            f"firms.csv, line 2: {NORD[:-1]}1 is no IBAN, or a digit of it is wrong",
-            "firms.csv, line 4: 0 is no number of a firm (1 to 99999999)",
-            "firms.csv, line 5: 01 is no number of a firm (1 to 99999999)",
-            f"firms.csv, line 6: {WEST} stands twice; an account that pays for several firms stands at none",
-            f"firms.csv, line 7: {WEST} stands twice; an account that pays for several firms stands at none",
-            "firms.csv, line 8: DE1 is no IBAN, or a digit of it is wrong",
-            "firms.csv, line 9: 100000000 is no number of a firm (1 to 99999999)",
-            # DE02 and DE99 are the same by their rest alone.
-            f"firms.csv, line 10: DE99{ACCOUNT[4:]} is no IBAN, or a digit of it is wrong"]))
-
-    def test_a_changed_table_and_an_earlier_file(self):
-        entries = payment("2.00", "x", "", STRANGE, "E-1"), payment("3.00", "y", "", STRANGE, "E-2")
-        content = one("0", "5.00", *entries)
-        self.write("made.csv", HEADER + "E-1,2024-04-30,1001,200,,x\nE-2,2024-04-30,1001,299,C,y\n")
-        self.write("more.csv", HEADER + "E-1,2024-04-30,1002,200,C,x\n")
-        self.write("firms.csv", f"iban,employer\n{STRANGE},5\n")
-        told = self.makes(content, ["E-1,2024-04-30,1001,200,,x", "E-2,2024-04-30,5,300,C,y"],
-                          "--earlier", "made.csv", "more.csv")
-        self.assertIn("  as in an earlier file: 1 line, 2.00 EUR\n", told)
-        # Of another payer or text it is another payment, which the office refuses under that reference.
-        self.write("made.csv", HEADER + "E-1,2024-04-30,1001,200,C,z\n")
-        self.makes(content, ["E-1,2024-04-30,5,200,C,x", "E-2,2024-04-30,5,300,C,y"], "--earlier", "made.csv")
-        words = "--firms", "firms.csv", "--earlier", "made.csv"
-        self.write("made.csv", "reference,cents\n")
-        self.refuses(content, f"made.csv: the first line isn't {HEADER.strip()}", 2, words=words)
-        # As a spreadsheet writes it anew, no payment of it would be known.
-        for line, said in (("E-1,30.04.2024,1001,200,C,x", "value_date is 30.04.2024"),
-                           ('E-1,2024-04-30,"1.001",200,C,x', "employer is 1.001"),
-                           ("E-1,2024-04-30,1001,2E+02,C,x", "cents is 2E+02")):
-            self.write("made.csv", f"{HEADER}{line}\n")
-            self.refuses(content, f"made.csv, line 2: {said}, which the office doesn't take; "
-                         "give the file as it was imported", 2, words=words)
-
-
 class Batches(BankFiles):
     def test_without_amounts_it_is_one_line(self):
         nord, west = transaction("", "Mai", "Bau Nord", NORD), transaction("4.00", "Zinsen", "Bau West", WEST)
@@ -398,10 +251,20 @@ class LeftOut(BankFiles):
     def test_transfers_of_the_fund_that_came_back(self):
         code = "<BkTxCd><Domn><Cd>PMNT</Cd><Fmly><Cd>ICDT</Cd><SubFmlyCd>RRTN</SubFmlyCd></Fmly></Domn></BkTxCd>"
         coded = payment("1.00", "1001", reference="A").replace("<BkTxCd/>", code)
-        for back in (payment("1.00", "employer 1001", "", "", "A", "L1-C1"), coded,
+        # What tools/payment-file writes, as a firm sends it back, also where the bank cuts it.
+        payout = "Payout list 1 of 2024-02-10, claim 1, employer 1001, worker 7"
+        cut = f"<Ustrd>{payout[:27]}</Ustrd><Ustrd>{payout[27:54]}</Ustrd><Ustrd>{payout[54:]}</Ustrd>"
+        texts = (f"RUECKZAHLUNG {payout}", f"EREF+L1-C1 SVWZ+RETOURE {payout}", "EREF+L1-C1 SVWZ+Betrieb 1001",
+                 payout.upper().replace(",", ""))
+        sent_back = [payment("1.00", text, "", iban, "A") for text in texts for iban in ("", NORD)]
+        sent_back.append(payment("1.00", "TEXT", "", "", "A").replace("<Ustrd>TEXT</Ustrd>", cut))
+        for back in (payment("1.00", "employer 1001", "", "", "A", "L1-C1"), coded, *sent_back,
                      payment("1.00", "1001", "", ACCOUNT, "A"), entry("1.00", transaction("", "1001", more=code))):
             told = self.makes(one("0", "1.00", back), [])
             self.assertIn("left out in all, returned transfer (a credit): 1, 1.00 EUR\n", told)
+        # Others are firms' own.
+        for text in ("Payout; 1001", "EREF+L2024-C5678AB SVWZ+1001", "EREF+L10-C3-XY SVWZ+1001"):
+            self.makes(one("0", "1.00", payment("1.00", text, reference="A")), [f"A,2024-04-30,1001,100,C,{text}"])
         taken_back = entry("1.00", direction="DBIT").replace("<BkTxCd/>", code)
         self.assertIn("left out in all, returned payment (a debit): 1, 1.00 EUR\n",
                       self.makes(one("1.00", "0", taken_back), []))
@@ -437,6 +300,15 @@ class LeftOut(BankFiles):
         self.write("made.csv", HEADER + "".join(f"{line}\n" for line in lines))
         told = self.makes(content, lines, "--earlier", "made.csv")
         self.assertTrue(told.startswith(f"{taken}left out in all"), told)
+        # The bank adds its fee, and tells the amount itself of the transaction.
+        part = transaction("1.00", more=RETURNED).replace("CRDT", "DBIT")
+        amounts = '<AmtDtls><InstdAmt><Amt Ccy="EUR">1.00</Amt></InstdAmt></AmtDtls>'
+        instructed = transaction("", more=RETURNED).replace("<RltdPties>", f"{amounts}<RltdPties>")
+        in_dollars = part.replace("EUR", "USD")
+        for details, said in ((part, "A; "), (instructed, "A; "), (in_dollars, "")):
+            paid, taken = payment("1.00", reference="A"), entry("4.00", details, direction="DBIT")
+            told = self.makes(one("3.00", "0", paid, taken), ["A,2024-04-30,,100,C,"])
+            self.assertEqual(told.partition("  of this amount: ")[2][:3], said, told)
         seven = (payment("1.00", reference=f"A{at}") for at in range(7))
         many = one("0", "6.00", *seven, entry("1.00", **reversal))
         self.assertIn("  of this amount: A0, A1, A2, A3, A4 and 2 more; ", self.made(many)[1])

@@ -19,6 +19,7 @@ import bank_file  # noqa: E402
 from bank_file import AT_FIRST, HEADER, TOOL, BankFiles  # noqa: E402
 from bank_statements import (  # noqa: E402
     ACCOUNT, DECLARED, LATIN, LATIN_LINES, NAMESPACE, one, packed, payment)
+from payment_file import STOPPED  # noqa: E402
 from program_under_test import run_tests  # noqa: E402
 
 setUpModule = bank_file.setUpModule
@@ -56,6 +57,11 @@ class NotRead(BankFiles):
                 "like, or damaged")
         self.misread(LATIN.encode("latin-1"), f": line 6 {told}")
         self.misread(LATIN.replace(DECLARED, "").encode("latin-1"), f": line 5 {told}")
+        told = "which it declares; it is UTF-8 or windows-1252, or damaged"
+        self.misread(LATIN.replace("UTF-8", "latin-1"), f": its bytes aren't latin-1, {told}")
+        for text in ("€", "„", "…"):
+            strange = LATIN.replace("UTF-8", "ISO-8859-1").replace("März", text).replace("Größe", "").encode("cp1252")
+            self.misread(strange, f": its bytes aren't ISO-8859-1, {told}")
         self.misread(LATIN.replace("UTF-8", "latin-9000"),
                      ": its encoding isn't read: unknown encoding: latin-9000")
 
@@ -222,16 +228,27 @@ class CommandLine(BankFiles):
             status, _, told = self.tool(*self.words, stdout=full)
         self.assertEqual((status, told), (2, "[Errno 28] No space left on device\n"))
 
-    def test_control_c(self):
+    def test_stops(self):
         os.mkfifo(self.folder / "slow")
-        # Where this is run in the background, SIGINT is ignored, which the tool would inherit.
-        running = subprocess.Popen(
-            [TOOL, "slow", *self.words[1:]], cwd=self.folder, stdout=subprocess.PIPE, stderr=subprocess.PIPE, text=True,
-            preexec_fn=lambda: signal.signal(signal.SIGINT, signal.default_int_handler))
-        with running, open(self.folder / "slow", "wb"):
-            running.send_signal(signal.SIGINT)
-            self.assertEqual(running.communicate(timeout=60), ("", "broken off\n"))
-        self.assertEqual(running.returncode, 130)
+        for number in (signal.SIGINT, signal.SIGTERM, signal.SIGHUP):
+            # Where this is run in the background, SIGINT is ignored, which the tool would inherit.
+            running = subprocess.Popen(
+                [TOOL, "slow", *self.words[1:]], cwd=self.folder, stdout=subprocess.PIPE, stderr=subprocess.PIPE,
+                text=True, preexec_fn=lambda: signal.signal(signal.SIGINT, signal.default_int_handler))
+            with running, open(self.folder / "slow", "wb"):
+                running.send_signal(number)
+                self.assertEqual(running.communicate(timeout=60), ("", "broken off\n"))
+            self.assertEqual(running.returncode, 130)
+
+    def test_a_stop_while_a_file_is_written(self):
+        """Nothing of it is left, be it hidden."""
+        before = sorted(os.listdir(self.folder))
+        for number in (signal.SIGTERM, signal.SIGHUP):
+            command = ["/usr/bin/python3", "-c", STOPPED, str(int(number)), TOOL, *self.words, "--out", "made.csv"]
+            ran = subprocess.run(command, cwd=self.folder, env={"PYTHONPATH": os.path.dirname(TOOL)},
+                                 capture_output=True, timeout=60, check=False)
+            self.assertEqual((ran.returncode, ran.stderr.decode().splitlines()[-1]), (130, "broken off"))
+            self.assertEqual(sorted(os.listdir(self.folder)), before)
 
     def test_words(self):
         status, output, _ = self.tool("--help")

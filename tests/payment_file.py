@@ -12,6 +12,7 @@ import re
 import resource
 import shlex
 import shutil
+import signal
 import subprocess
 import sys
 import tempfile
@@ -42,6 +43,14 @@ NORD = "1001,DE89 3704 0044 0532 0130 00,Bau Nord GmbH\n"
 OST = "1004,AT611904300234573201,Bau Ost\n"
 DEBTOR = ("--debtor-name", "Ferienkasse Süd", "--debtor-iban", "DE02120300000000202051")
 MADE = ("--made", "2024-05-02T09:00:00+02:00")
+# The tool gets this signal while it writes a file.
+STOPPED = """
+import os, runpy, sys
+number = int(sys.argv.pop(1))
+os.fsync = lambda handle: os.kill(os.getpid(), number)
+del sys.argv[0]
+runpy.run_path(sys.argv[0], run_name="__main__")
+"""
 SUMMARY = "payments 3, total 1234826.95 euros, on 2024-05-02, message PAYOUT-7-2024-05-02\n"
 
 
@@ -187,6 +196,11 @@ class Files(Tool):
         self.assertEqual(made.count(b"Id>PAYOUT-7-2024-05-02<"), 2)
         self.refuse(2, "--execution-date lies before the list's, 2024-05-02\n",
                     *self.words, "--execution-date", "2024-05-01")
+        # 366 days behind it, and one more.
+        self.make(*self.words, "--execution-date", "2025-05-03", told=summary(3, "1234826.95", "2025-05-03"))
+        for day in ("2025-05-04", "9999-12-31"):
+            self.refuse(2, "--execution-date lies more than a year behind the list's, 2024-05-02\n",
+                        *self.words, "--execution-date", day)
         for day in ("20240503", "3.5.2024", "2024-W18-5"):
             self.refuse(2, f"argument --execution-date: '{day}' is no day YYYY-MM-DD\n",
                         *self.words, "--execution-date", day)
@@ -247,6 +261,7 @@ class Ibans(Tool):
             "DE99370400440532013014": mistyped,                      # by 97 as good as 02
             "DE5137040044053201300": length.format("{}", 21),        # by 97 it is good
             "DE813704004405320130000": length.format("{}", 23),      # by 97 it is good
+            "DE89370400440532013OOO": "{} has a letter behind DE, where digits alone stand",
             "TR330006100519786457841326": "{} is of no country in SEPA",
             "XX89370400440532013000": "{} is of no country in SEPA",
             "DE8９370400440532013000": "'{}' isn't an IBAN",
@@ -287,8 +302,9 @@ class Names(Tool):
             "‹A› ‘B’ «C» ‚D‘ “E” ‟F‛": "'A' 'B' 'C' 'D' 'E' 'F'",
             "Müller‑Bau ‐‒–—―−": "Mueller-Bau ------",
             "a_b;c*d#e@f[g]h{i}j|k\\l~m": "a-b,c.d.e.f(g)h(i)j/k/l-m",
+            "½ Bau 3\u22154 / 5⁄6": "1/2 Bau 3/4 / 5/6",
             "  Bau \u00a0 Nord ": "Bau Nord",
-                "A" * 70: "A" * 70,
+            "A" * 70: "A" * 70,
             "ß" * 35: "s" * 70,
         }
         rows = [f'{at},{iban_of(at)},"{name}"\n' for at, name in enumerate(names, 1)]
@@ -386,6 +402,11 @@ class Lists(Tool):
         self.write("list.txt", LIST.replace("items", "claim 18 employer 1004 worker 9           1.00\nitems"))
         self.refuse(1, said + both.format(3, 4, "1234827.95"), *self.words)
 
+    def test_another_firm(self):
+        """Nothing that is told of it shows that a firm was changed."""
+        self.write("list.txt", LIST.replace("claim 12 employer 1001", "claim 12 employer 1004"))
+        self.assertEqual(self.make(*self.words).count(b"<IBAN>AT611904300234573201</IBAN>"), 2)
+
     def test_claims_that_stand_twice(self):
         for number in (12, 11):
             self.write("list.txt", LIST.replace("claim 15", f"claim {number}"))
@@ -454,7 +475,7 @@ class Outputs(Tool):
     def test_a_disk_that_is_full(self):
         def limit():
             resource.setrlimit(resource.RLIMIT_FSIZE, (1_000, 1_000))
-        self.refuse(2, "[Errno 27] File too large\n", *self.words, preexec_fn=limit)
+        self.refuse(2, "[Errno 27] File too large: 'refused.xml'\n", *self.words, preexec_fn=limit)
         with open("/dev/full", "wb") as full:
             ran = subprocess.run([TOOL, *self.words], cwd=self.folder, stdout=full, stderr=subprocess.PIPE,
                                  timeout=60)
@@ -470,8 +491,28 @@ class Outputs(Tool):
 
     def test_a_folder_that_is_not_there(self):
         ran = self.run_tool(*self.words, "--out", "none/made.xml")
-        self.assertEqual((ran.returncode, ran.stdout), (2, b""))
-        self.assertRegex(ran.stderr, rb"^\[Errno 2\] No such file or directory: ")
+        told = b"[Errno 2] No such file or directory: 'none/made.xml'\n"
+        self.assertEqual((ran.returncode, ran.stdout, ran.stderr), (2, b"", told))
+
+    def stopped(self, number, **options):
+        """Status and standard error of the tool that gets a signal while it writes made.xml."""
+        command = ["/usr/bin/python3", "-c", STOPPED, number, TOOL, *self.words, "--out", "made.xml"]
+        ran = subprocess.run([*map(str, command)], cwd=self.folder, env={"PYTHONPATH": str(TOOL.parent)},
+                             capture_output=True, timeout=60, **options)
+        return ran.returncode, ran.stderr.decode()
+
+    def test_a_stop_while_a_file_is_written(self):
+        """Nothing of it is left, be it hidden."""
+        before = sorted(os.listdir(self.folder))
+        for number in (signal.SIGINT, signal.SIGTERM, signal.SIGHUP):
+            # Where this is run in the background, SIGINT is ignored, which the tool would inherit.
+            ended = self.stopped(int(number), preexec_fn=lambda: signal.signal(signal.SIGINT, signal.SIG_DFL))
+            self.assertEqual(ended, (130, "broken off\n"))
+            self.assertEqual(sorted(os.listdir(self.folder)), before)
+        # As `nohup` starts it.
+        ended = self.stopped(int(signal.SIGHUP), preexec_fn=lambda: signal.signal(signal.SIGHUP, signal.SIG_IGN))
+        self.assertEqual(ended, (0, SUMMARY))
+        self.assertEqual(sorted(os.listdir(self.folder)), sorted([*before, "made.xml"]))
 
 
 class Words(Tool):
@@ -485,9 +526,20 @@ class Words(Tool):
         wanted = self.make(*self.words, *MADE)
         self.write("fund.words", "\n".join(self.words[2:]) + "\n")
         self.assertEqual(self.make("@fund.words", *self.words[:2], *MADE), wanted)
+        # Quotation marks are part of a word.
+        self.write("fund.words", '--debtor-name\n"Ferienkasse Süd"\n')
+        self.assertIn(b"<Nm>'Ferienkasse Sued'</Nm>", self.make("@fund.words", *self.words[:4], *self.words[6:]))
+        self.write("fund.words", "@more.words\n")
+        self.write("more.words", "@fund.words\n")
+        self.refuse(2, "a file of words names itself\n", "@fund.words", *self.words)
         self.write("fund.words", b"--debtor-name\nS\xfcd\n")
         self.refuse(2, "a file of words is no text\n", "@fund.words", *self.words)
         self.refuse(2, "[Errno 2] No such file or directory: 'none'\n", "@none", *self.words)
+
+    def test_words_that_stand_twice(self):
+        self.refuse(2, "argument --list: is given twice\n", *self.words, "--list", "list.txt")
+        self.write("fund.words", "--debtor-name\nFerienkasse Süd\n")
+        self.refuse(2, "argument --debtor-name: is given twice\n", "@fund.words", *self.words)
 
     def test_words_that_do_not_go_together(self):
         self.write("desk.key", "desk\n")

@@ -17,6 +17,7 @@ import sys
 import threading
 import unittest
 import xml.etree.ElementTree as ElementTree
+from time import sleep
 
 # No __pycache__ is left beside the sources.
 sys.dont_write_bytecode = True
@@ -62,18 +63,21 @@ class Peers(Tool):
         self.assertEqual(request, "GET /payouts/7 HTTP/1.1")
         self.assertIn("Office-Key: desk", fields)
 
-    def test_control_c(self):
+    def test_stops(self):
         with socket.create_server(("127.0.0.1", 0)) as silent:
             words = ["--office", f"127.0.0.1:{silent.getsockname()[1]}", "--key-file", "desk.key", "--number", "7"]
-            # Where this is run in the background, SIGINT is ignored, which the tool would inherit.
-            running = subprocess.Popen(
-                [TOOL, *words, *self.words[2:]], cwd=self.folder, stdout=subprocess.PIPE, stderr=subprocess.PIPE,
-                text=True, preexec_fn=lambda: signal.signal(signal.SIGINT, signal.default_int_handler))
-            with running, silent.accept()[0] as peer:
-                peer.recv(1)
-                running.send_signal(signal.SIGINT)
-                self.assertEqual(running.communicate(timeout=60), ("", "broken off\n"))
-            self.assertEqual(running.returncode, 130)
+            for number in (signal.SIGINT, signal.SIGTERM, signal.SIGHUP):
+                # Where this is run in the background, SIGINT is ignored, which the tool would inherit.
+                running = subprocess.Popen(
+                    [TOOL, *words, *self.words[2:]], cwd=self.folder, stdout=subprocess.PIPE, stderr=subprocess.PIPE,
+                    text=True, preexec_fn=lambda: signal.signal(signal.SIGINT, signal.default_int_handler))
+                with running, silent.accept()[0] as peer:
+                    peer.recv(1)
+                    # It waits for an answer by then.
+                    sleep(0.5)
+                    running.send_signal(number)
+                    self.assertEqual(running.communicate(timeout=60), ("", "broken off\n"))
+                self.assertEqual(running.returncode, 130)
 
     def test_what_is_no_answer_of_an_office(self):
         for answer, fault in (
@@ -181,6 +185,14 @@ total         547.49
         words = ("--list", "list.txt", "--table", "accounts.csv", *DEBTOR)
         self.assertEqual(self.make(*words, *MADE, told=told), made)
 
+    def test_the_second_person(self):
+        """Made anew at another time, with the first file's own: the same bytes."""
+        files = [self.folder / name for name in ("first.xml", "second.xml")]
+        self.assertEqual(self.run_tool(*self.words(), "--out", files[0]).returncode, 0)
+        made = re.search("<CreDtTm>(.*)</CreDtTm>", files[0].read_text())[1]
+        self.assertEqual(self.run_tool(*self.words(), "--made", made, "--out", files[1]).returncode, 0)
+        self.assertEqual(files[0].read_bytes(), files[1].read_bytes())
+
     def test_a_firm_that_is_not_in_the_table(self):
         self.write("accounts.csv", HEADER + "1001,,Bau Nord\n")
         self.refuse(1, "employer 1001 Bau Nord: has no IBAN in the table\n"
@@ -217,6 +229,18 @@ total         547.49
         made, again = ((self.folder / name).read_text() for name in ("list-1.xml", "again.xml"))
         time = "<CreDtTm>.*</CreDtTm>"
         self.assertEqual(re.sub(time, "", made), re.sub(time, "", again))
+        self.compare_lists(*re.findall(r"`(curl -s [^`]* \| cmp - list-1\.txt)`", section))
+
+    def compare_lists(self, command):
+        """It says nothing of the office's list, and something of one in which a firm was changed."""
+        command = command.replace("127.0.0.1:8080", f"127.0.0.1:{self.server.port}")
+        path = self.folder / "list-1.txt"
+        text = path.read_text()
+        for content, status in ((text, 0), (text.replace("employer 1001", "employer 1002"), 1)):
+            path.write_text(content)
+            ran = subprocess.run(["bash", "-c", command], cwd=self.folder, capture_output=True, timeout=60,
+                                 env={**os.environ, "no_proxy": "*"})
+            self.assertEqual((ran.returncode, ran.stdout == b"", ran.stderr), (status, status == 0, b""))
 
 
 if __name__ == "__main__":

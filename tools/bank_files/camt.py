@@ -6,7 +6,7 @@ Versions 02 and 08 say the same in nearly the same elements; where they differ, 
 from __future__ import annotations
 
 import re
-from collections.abc import Iterator
+from collections.abc import Iterable, Iterator
 from dataclasses import dataclass
 from datetime import date
 from decimal import Decimal
@@ -26,13 +26,16 @@ CURRENCY = re.compile("[A-Z]{3}")
 # A date or a date with a time, of which the day counts as it is written.
 DAY = re.compile(r"([0-9]{4}-[0-9]{2}-[0-9]{2})(T.*|Z|[+-][0-9]{2}:[0-9]{2})?", re.DOTALL)
 PAGE_NUMBER = re.compile("[0-9]{1,5}")
+# The amounts of a transaction, with what the bank adds to it or takes off and without.
+AMOUNTS = ("Amt", "AmtDtls/TxAmt/Amt", "AmtDtls/InstdAmt/Amt")
 REMITTANCE = ("RmtInf/Ustrd", "RmtInf/Strd/CdtrRefInf/Ref", "RmtInf/Strd/AddtlRmtInf")
 DEBTOR_NAME = ("RltdPties/Dbtr/Pty/Nm", "RltdPties/Dbtr/Nm", "RltdPties/Dbtr/Agt/FinInstnId/Nm")
 DIRECTIONS = {"CRDT": True, "DBIT": False}
 # What banks write where they have no reference.
 NO_REFERENCE = re.compile("NON-?REF|NOT ?PROVIDED|NONE|0+", re.IGNORECASE)
-# The end-to-end references of tools/payment-file.
+# The end-to-end references of tools/payment-file, and what stands in a text of one, or of its transfer, without spaces.
 OF_A_PAYOUT = re.compile("L[1-9][0-9]{0,7}-C[1-9][0-9]{0,7}")
+TEXT_OF_A_PAYOUT = re.compile("payoutlist[0-9]+of[0-9-]{10},?claim|eref[+:]l[0-9]+-c[0-9]+(?=[a-z]{4}[+:]|$)")
 # The bank's codes of what came back: a transfer that was undeliverable or recalled; a direct debit that wasn't
 # paid, was recalled or reversed. German banks have numbers for the same.
 CAME_BACK = ("RRTN", "RPCR", "UPDD", "RCDD", "PRDD")
@@ -87,6 +90,8 @@ class Entry:
     transactions: tuple[Transaction, ...]
     # Whether all transactions stand here that the entry is said to have.
     is_detailed: bool
+    # All that are told of the transactions of a debit, which has fees in it where it takes a payment back.
+    amounts: frozenset[Money]
 
     @property
     def is_return(self) -> bool:
@@ -228,7 +233,14 @@ def read_entry(node: Node, account: str) -> Entry:
         value=read_day(node, "ValDt"),
         transactions=transactions,
         is_detailed=all(map(has_all_transactions, details)) and not (is_credit and is_part(transactions, money)),
+        amounts=frozenset() if is_credit else frozenset(
+            money for part in details for it in part.parts("TxDtls") for money in read_amounts(it)),
     )
+
+
+def read_amounts(transaction: Node) -> Iterator[Money]:
+    """What is told of the amount of a transaction, with fees or without."""
+    return (read_money(transaction, path) for path in AMOUNTS if transaction.has(path))
 
 
 def has_all_transactions(details: Node) -> bool:
@@ -250,17 +262,21 @@ def read_transaction(node: Node, credited_account: str | None) -> Transaction:
     texts = [plain(piece) for part in parts for piece in UNSHOWN.split(part)]
     end_to_end = read_reference(node, "Refs/EndToEndId")
     iban = node.text("RltdPties/DbtrAcct/Id/IBAN")
-    # A credit from the account itself, or with the reference of a payout, is a transfer that came back.
-    is_own = credited_account is not None and (iban == credited_account or OF_A_PAYOUT.fullmatch(end_to_end))
+    # A credit from the account itself, or of a payout by its reference or text, is a transfer that came back.
+    is_own = iban == credited_account or OF_A_PAYOUT.fullmatch(end_to_end) or is_of_a_payout(texts)
     return Transaction(
         reference=read_reference(node, "Refs/AcctSvcrRef"),
         end_to_end=end_to_end,
         credited=read_credited(node),
-        is_return=node.has("RtrInf") or came_back(node) or bool(is_own),
+        is_return=node.has("RtrInf") or came_back(node) or credited_account is not None and bool(is_own),
         name=plain(node.text(*DEBTOR_NAME)),
         iban=iban,
         texts=tuple(filter(None, texts)),
     )
+
+
+def is_of_a_payout(texts: Iterable[str]) -> bool:
+    return TEXT_OF_A_PAYOUT.search("".join(texts).replace(" ", "").casefold()) is not None
 
 
 def came_back(node: Node) -> bool:

@@ -7,53 +7,14 @@ from collections.abc import Iterable
 from dataclasses import dataclass, field
 from enum import Enum
 
+from .ibans import is_iban, without_ibans
+from .numbers import Number, numbers_in
 from .tables import read_rows
-from .texts import Fault, readings, shown
+from .texts import DASHES, MOST_PARTS, MOST_SIGNS, Fault, readings, shown
 
 HEADER = ("iban", "employer")
-IBAN = re.compile("[A-Z]{2}[0-9]{2}[A-Z0-9]{11,30}")
 EMPLOYER = re.compile("[1-9][0-9]{0,7}")
 MOST_FAULTS = 20
-# Digits that are a word: no part of a longer word, a date or a fraction.
-NUMBER_WORD = re.compile(r"(?<!\w)(?<![0-9_][.,:/-])[0-9]+(?!\w)(?![.,:/-][0-9])")
-WORD_BEFORE = re.compile(r"(\w+)\W{1,3}\Z")
-# A number that may be a year counts only behind a word that the clerk has named.
-YEAR = re.compile("19[0-9]{2}|2[01][0-9]{2}|2200")
-MONTH = ("(?:januar|jänner|jaenner|january|jän|jaen|jan|februar|feber|february|febr|feb|märz|maerz|march|mär|maer|mar|"
-         "mrz|april|apr|mai|may|juni|june|jun|juli|july|jul|august|aug|september|sept|sep|oktober|october|okt|oct|"
-         r"november|nov|dezember|december|dez|dec)\b\.?")
-# A day of a month, and what may stand between a month and its year.
-DAY = rf"[0-3]?[0-9](?:\. ?[01]?[0-9]\.|\.?[ /-]?\b{MONTH})"
-MONTH_OF_YEAR = r"[01]?[0-9](?: ?/ ?(?:19|2[01])?[0-9]{2}|\.(?:19|2[01])[0-9]{2})(?![0-9])"
-BEHIND_MONTH = f"[ ./'’‘´`-]{{0,3}}(?!{DAY}|{MONTH_OF_YEAR})"
-# What stands between the first and the last of several days or months.
-TO_WORD = r"(?:bis|to|und|u\.)"
-CURRENCY = r"(?:\b(?:euros?|eur|usd|chf|gbp)\b|[€$£])"
-GROUPS = "[0-9]{1,3}(?:[ .'’][0-9]{3})+"
-# Where digits begin that don't go on from others, as the 24 of 1001,24 does.
-BEGIN = "(?<![0-9])(?<![0-9][.,:/-])"
-AMOUNT = rf"{BEGIN}(?:{GROUPS}|[0-9]+)(?:[.,][0-9]+)?(?![0-9])"
-AMOUNT_BEHIND = f"[ :.=]{{0,3}}(?!{DAY}){AMOUNT}"
-# What has digits and isn't a firm's number, of a text as casefold() leaves it.
-OTHER_NUMBERS = re.compile("|".join((
-    # An IBAN.
-    r"(?:\b|iban)(?:de ?|[a-z]{2})[0-9]{2} ?[a-z0-9]{4}(?: ?(?=[a-z]?[0-9])[a-z0-9]{4}){1,6}"
-    rf"(?: ?(?!{DAY})[0-9]{{1,3}})?\b",
-    rf"\b[a-z]{{2}} [0-9]{{2}} ?[a-z0-9]{{4}}(?: ?(?=[a-z]?[0-9])[a-z0-9]{{4}}){{2,6}}(?: ?(?!{DAY})[0-9]{{1,3}})?\b",
-    # An amount on either side of its currency, or with a dash; a percentage; digits in groups.
-    f"{AMOUNT} ?[-*/(]?{CURRENCY}(?:{AMOUNT_BEHIND})?",
-    f"{CURRENCY}[*/;|+( -]{{0,2}}{AMOUNT_BEHIND}",
-    f"{AMOUNT} ?(?:[.,][-–]|%)",
-    r"(?<![0-9])[0-9]{3} [0-9]{3} [0-9]{2}(?![0-9]| ?/|\. ?[0-9])",
-    f"(?<![0-9]){GROUPS}(?:[.,][0-9]+)?(?![0-9])",
-    # A date, a month with its day or year, and a month of a year in digits.
-    f"(?<![0-9]){DAY}(?:{BEHIND_MONTH}(?:(?:19|2[01])[0-9]{{2}}|[0-9]{{1,2}})(?![0-9]))?",
-    rf"\b{MONTH}{BEHIND_MONTH}[0-9]{{1,2}}(?![0-9])",
-    f"(?<![0-9])(?:{BEGIN}[0-3]?[0-9] ?/ ?)?[01]?[0-9] ?/ ?(?:19|2[01])?[0-9]{{2}}(?![0-9]|\\. ?[01]?[0-9]\\.)",
-    # The first of several days or months, of which the last has the rest of the date.
-    rf"(?<![0-9])[0-3]?[0-9](?:\. ?[-–/+&]|\.? {TO_WORD}) ?(?={DAY})",
-    rf"(?<![0-9])(?:1[0-2]|0?[1-9])(?: ?[-–+&]| {TO_WORD}) ?(?={MONTH_OF_YEAR})",
-)))
 
 
 class Found(Enum):
@@ -77,36 +38,29 @@ class Firms:
         firm = self.by_iban.get(without_spaces(iban))
         if firm:
             return firm, Found.BY_IBAN
-        # The firm has to stand there by each reading.
-        found = [numbers_in(reading) for reading in readings(texts)]
-        told = self.numbers & {it[0] for numbers in found for it in numbers if self.may_be_a_firm(it)}
-        is_one = len(told) == 1 and all(told <= {it[0] for it in numbers} for numbers in found)
+        parts = [it.translate(DASHES) for it in texts]
+        if len(parts) > MOST_PARTS or sum(map(len, parts)) > MOST_SIGNS:
+            return "", Found.NOT_FOUND
+        # The firm has to stand there by each reading, and no other one by any.
+        named = [self.named_in(reading) for reading in readings(without_ibans(parts))]
+        told = set().union(*(possible for _, possible in named))
+        is_one = len(told) == 1 and all(told <= sure for sure, _ in named)
         return (*told, Found.BY_NUMBER) if is_one else ("", Found.NOT_FOUND)
 
-    def may_be_a_firm(self, number: re.Match) -> bool:
-        if not self.number_words:
-            return not YEAR.fullmatch(number[0])
-        before = WORD_BEFORE.search(number.string, 0, number.start())
-        return before is not None and before[1] in self.number_words
+    def named_in(self, reading: str) -> tuple[set[str], set[str]]:
+        """The firms that a reading names for sure, and those that it may name."""
+        possible = [it for it in numbers_in(reading) if it.digits in self.numbers and self.may_be_named(it)]
+        return {it.digits for it in possible if self.is_sure(it)}, {it.digits for it in possible}
 
+    def may_be_named(self, number: Number) -> bool:
+        return bool(number.words & self.number_words) if self.number_words else not number.may_be_a_year
 
-def numbers_in(text: str) -> list[re.Match]:
-    """The numbers in a text that are nothing else. Where one of the others began, digits stand, so that what goes
-    on into it, as the 1001 of 1001,24 Mai, is none."""
-    left = OTHER_NUMBERS.sub(lambda other: "0_" if other[0][0].isdecimal() else "_", text)
-    return [*NUMBER_WORD.finditer(left)]
+    def is_sure(self, number: Number) -> bool:
+        return not (number.is_joined if self.number_words else number.is_in_doubt)
 
 
 def without_spaces(iban: str) -> str:
     return "".join(iban.split()).upper()
-
-
-def is_iban(text: str) -> bool:
-    """Whether it is written as an IBAN, and its check digits are right."""
-    if not IBAN.fullmatch(text):
-        return False
-    digits = "".join(str(int(sign, 36)) for sign in text[4:] + text[:4])
-    return "02" <= text[2:4] <= "98" and int(digits) % 97 == 1
 
 
 def read_firms(path: str, number_words: Iterable[str] = ()) -> Firms:

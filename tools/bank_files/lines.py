@@ -54,6 +54,8 @@ class LeftOut:
     called: str
     day: date | None
     money: Money
+    # Its own, and those of its transactions.
+    amounts: frozenset[Money]
 
 
 @dataclass(frozen=True)
@@ -165,7 +167,8 @@ class BankFile:
         for place, entry in statement.entries():
             if reason := reason_to_leave_out(entry):
                 called = f"entry {place} of {statement.called}"
-                self.left_out.append(LeftOut(reason, called, entry.value or entry.booked, entry.money))
+                amounts = entry.amounts | {entry.money}
+                self.left_out.append(LeftOut(reason, called, entry.value or entry.booked, entry.money, amounts))
                 continue
             payments = [*payments_of(statement, place, entry)]
             self.check_parts(statement, f"entry {place} of {statement.called}", entry, payments)
@@ -214,7 +217,8 @@ class BankFile:
                           f"both the reference {shown(payment.reference)}; ask the bank")
 
     def leave_out(self, reason: Reason, payment: Payment) -> None:
-        self.left_out.append(LeftOut(reason, payment.called, payment.value, payment.money))
+        money = payment.money
+        self.left_out.append(LeftOut(reason, payment.called, payment.value, money, frozenset({money})))
 
     def line_of(self, payment: Payment, reference: str) -> Line:
         if payment.value is None:

@@ -8,9 +8,27 @@ from enum import IntEnum
 # Control characters, and those without a width that hide something or turn the direction of writing.
 UNSHOWN = re.compile("[\x00-\x1f\x7f-\x9f\u00ad\u061c\u200b-\u200f\u2028-\u202e\u2060-\u206f\ufeff]")
 MOST_SHOWN = 60
+# Every dash, for str.translate().
+DASHES = dict.fromkeys(map(ord, "‐‑‒–—―−"), "-")
+# Of a text in more parts no firm is known, and no word is put together at a single place: banks have some 10.
+MOST_PARTS = 200
+# Nor of a longer one: banks have some 500 signs at most.
+MOST_SIGNS = 5_000
+# The parts into which banks cut a text have so many signs; one that has is cut for certain, or by chance.
+WHOLE_PARTS = (27, 35, 65, 70, 140)
 # Where a number or a word may go on from one part of a text to the next.
-SEAM = re.compile(r"(?<=[^\W_])\n(?=[.,:/'’-])|(?<=[0-9][.,:/'’-])\n(?=[0-9–-])|(?<=[0-9])\n(?=[0-9])|"
-                  r"(?<=[^\W\d_])\n(?=[^\W\d_])")
+SEAM = re.compile("|".join((
+    # 1001|,24
+    r"(?<=[^\W_])\n(?=[.,:/'’-])",
+    # 1001,|24
+    r"(?<=[0-9][.,:/'’-])\n(?=[0-9–-])",
+    # 10|01
+    r"(?<=[0-9])\n(?=[0-9])",
+    # Zin|sen
+    r"(?<=[^\W\d_])\n(?=[^\W\d_])",
+    # RE2024A|1001, where the part before is a whole one; not Betrieb|1001
+    *(rf"(?<=^.{{{signs - 1}}}[^\W\d_])(?<![^\W\d_]{{4}})\n(?=[0-9])" for signs in WHOLE_PARTS),
+)), re.MULTILINE)
 
 
 class Status(IntEnum):
@@ -49,9 +67,13 @@ def shown(text: str) -> str:
 def readings(parts: Iterable[str]) -> list[str]:
     """The parts of a text apart, and with what the bank may have cut in two put together: at all places, and at
     each one alone, for a search."""
-    text = "\n".join(parts).casefold()
-    joined = (text[:it.start()] + text[it.end():] for it in SEAM.finditer(text))
-    return [it.replace("\n", " ") for it in (text, SEAM.sub("", text), *joined)]
+    text = whole = "\n".join(parts)
+    seams = [*SEAM.finditer(text)]
+    # A part may be a lone sign, which goes on into the next part only where it is put to that before it.
+    while (more := SEAM.sub("", whole)) != whole:
+        whole = more
+    joined = (text[:it.start()] + text[it.end():] for it in seams if len(seams) < MOST_PARTS)
+    return [it.replace("\n", " ").casefold() for it in (text, whole, *joined)]
 
 
 def cut(text: str, most_bytes: int) -> str:

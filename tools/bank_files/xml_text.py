@@ -2,6 +2,8 @@
 
 from __future__ import annotations
 
+import codecs
+import re
 from xml.etree.ElementTree import Element, ParseError, TreeBuilder
 from xml.parsers.expat import errors
 
@@ -15,6 +17,10 @@ NOT_INSTALLED = """this needs Python's defusedxml, which isn't installed for /us
 UTF_8_MARK = b"\xef\xbb\xbf"
 # The marks in front of a text in UTF-16 or UTF-8, or the first sign of one in UTF-16 without a mark.
 MARKS = (b"\xff\xfe", b"\xfe\xff", UTF_8_MARK, b"\x00<")
+# The encoding that a text declares, one sign a byte or UTF-8: <?xml version="1.0" encoding="ISO-8859-1"?>
+DECLARED = re.compile(rb"""<\?xml\s[^>]*?encoding\s*=\s*["']([A-Za-z0-9._-]+)["']""")
+# Control characters that no bank writes, and as which a byte of windows-1252 is read in ISO-8859.
+CONTROLS = re.compile("[\x80-\x9f]")
 # How expat says that a text stops before its end.
 CUT_OFF = {
     errors.codes[error]
@@ -55,7 +61,7 @@ def read_root(name: str, content: bytes) -> Element:
     parser = DefusedXMLParser(target=LimitedBuilder(name), encoding=encoding, forbid_dtd=True)
     try:
         parser.feed(content)
-        return parser.close()
+        root = parser.close()
     except DefusedXmlException:
         raise Fault(f"{name}: it declares a document type or entities, as no bank does; "
                     "it isn't read") from None
@@ -63,6 +69,20 @@ def read_root(name: str, content: bytes) -> Element:
         raise Fault(f"{name}: {why_not_parsed(content, error)}") from None
     except (LookupError, ValueError) as why:
         raise Fault(f"{name}: its encoding isn't read: {shown(str(why))}") from None
+    check_encoding(name, content)
+    return root
+
+
+def check_encoding(name: str, content: bytes) -> None:
+    """Refuses a text that was read in the encoding that it declares, and is in another one."""
+    declared = DECLARED.match(content)
+    if declared is None or content.isascii():
+        return
+    encoding = declared[1].decode()
+    if codecs.lookup(encoding).name == "utf-8":
+        return
+    if is_utf8(content) or CONTROLS.search(content.decode(encoding, "replace")):
+        raise Fault(f"{name}: its bytes aren't {encoding}, which it declares; it is UTF-8 or windows-1252, or damaged")
 
 
 def check_beginning(name: str, content: bytes) -> None:

@@ -17,6 +17,8 @@ IBAN_LENGTHS = {
     "AD": 24, "AL": 28, "CH": 21, "GB": 22, "GI": 23, "MC": 27, "MD": 24, "ME": 22, "MK": 19,
     "RS": 22, "SM": 27, "VA": 22,
 }
+# Those in whose IBANs no letter stands behind the country.
+DIGITS_ALONE = frozenset("AT BE CZ DE DK EE ES FI HR HU IS LT ME NO PL PT RS SE SI SK VA".split())
 
 SEPA_SIGNS = frozenset(string.ascii_letters + string.digits + "/-?:().,'+ ")
 # Signs that have a spelling of their own; accents are dropped without it.
@@ -25,6 +27,8 @@ SPELLINGS = str.maketrans({
     "æ": "ae", "Æ": "Ae", "œ": "oe", "Œ": "Oe", "ø": "oe", "Ø": "Oe", "þ": "th", "Þ": "Th",
     "ð": "d", "Ð": "D", "đ": "d", "Đ": "D", "ł": "l", "Ł": "L", "ı": "i",
     "&": "+", ";": ",", "_": "-", "~": "-", "−": "-", "\\": "/", "|": "/",
+    # The slashes of fractions, as ½ has one.
+    "\u2044": "/", "\u2215": "/",
     "[": "(", "{": "(", "]": ")", "}": ")", '"': "'", "`": "'", "´": "'", "‚": "'", "„": "'",
 })
 # What is written for a sign of one of these kinds: an accent, a space, a dash, a quotation mark.
@@ -89,6 +93,8 @@ def checked_iban(text: str) -> str:
         raise ValueError(f"{iban} is of no country in SEPA")
     if len(iban) != length:
         raise ValueError(f"{iban} has {len(iban)} signs in place of {length}")
+    if iban[:2] in DIGITS_ALONE and not iban[2:].isdecimal():
+        raise ValueError(f"{iban} has a letter behind {iban[:2]}, where digits alone stand")
     digits = "".join(str(int(sign, 36)) for sign in iban[4:] + iban[:4])
     if not "02" <= iban[2:4] <= "98" or int(digits) % 97 != 1:
         raise ValueError(f"{iban} is mistyped: its check digits don't agree")

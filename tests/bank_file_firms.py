@@ -1,0 +1,267 @@
+"""Runs tools/bank-file on statements written by hand: of which firm a payment is, and whether it is interest.
+
+    python3 tests/bank_file_firms.py [PROGRAM]
+
+PROGRAM is crates/clear_app/out/clear_app where it isn't given, as `rt ci` leaves it. What is expected is what a clerk
+reads in the texts. It needs what tests/bank_file.py needs.
+"""
+
+import csv
+import io
+import sys
+
+# No __pycache__ is left beside the sources.
+sys.dont_write_bytecode = True
+import bank_file  # noqa: E402
+from bank_file import HEADER, BankFiles  # noqa: E402
+from bank_statements import ACCOUNT, FIRMS, LATIN, NORD, STRANGE, WEST, one, payment  # noqa: E402
+from program_under_test import run_tests  # noqa: E402
+
+setUpModule = bank_file.setUpModule
+
+
+class Firms(BankFiles):
+    def finds(self, firm, text, iban=STRANGE, purpose="C", table=FIRMS):
+        self.write("firms.csv", table)
+        output, _ = self.made(one("0", "1", payment("1.00", text, "", iban, "F")))
+        self.assertEqual(output.split(",")[:5], ["F", "2024-04-30", firm, "100", purpose], text)
+
+    def test_by_the_iban_first(self):
+        self.finds("1001", "Betrieb 1002", NORD)
+        self.finds("1002", "", f"{WEST[:4].lower()} {WEST[4:]}")
+        self.finds("", "", STRANGE)
+
+    def test_by_one_number_of_the_table(self):
+        for text in ("1001", "Betrieb 1001", "Nr.1001", "Nr:1001, Mai", "(1001)", "1001.", "1001 4711 1001",
+                     "#1001/x", ["Betrieb", "1001"], "1001 Februar 03/2024"):
+            self.finds("1001", text)
+
+    def test_no_number_or_several(self):
+        for text in ("", "10010", "01001", "1001a", "x1001", "1001_", "1001/2024", "03-1001", "1.001", "1001,00",
+                     "EUR 1001", "€1001", "1001 EUR", "1001€", "1001 1003", "１００１", ["10", "01"],
+                     "10&#x200b;01", ["Betrieb 1001", "4567"], ["4567", "1001"]):
+            self.finds("", text)
+
+    def test_numbers_that_are_something_else(self):
+        table = "iban,employer\n" + "".join(f",{firm}\n" for firm in (1, 5, 12, 24, 30, 234, 1001, 2024, 3704))
+        for text in ("Beitrag März 2024", "Beitrag 2024", "1 001,12", "1'234", "5 %", "5,5%", "30. April", "1 Mai",
+                     "Mai 24", "Feb. '24", "Euro 1001", "EUR: 1001", "EUR 1 234", "USD 1001", "1001 Euro", "1001,-",
+                     "IBAN DE02 3704 0044 0532 0130 00", "de12 1001 1001 1001 1001 00"):
+            self.finds("", text, table=table)
+        for text in ("1001 März 2024", "Mai 1001", "EUR 5,00 Betrieb 1001", "Betrieb 1001, Mai 24, 12.04.2024",
+                     "DE89370400440532013000 1001"):
+            self.finds("1001", text, table=table)
+
+    def test_numbers_that_go_with_others(self):
+        """Days with months and years, amounts on both sides of a currency, and what the bank cut in two."""
+        none = ("30. April 24", "1 Mai 24", "Jan-24", "Mai/24", "24-Apr-2024", "5.Mai.24", "Jaenner 24",
+                "May 5, 2024", "12. 05. 2024", "12. 4. 23", "12.4. 24", "03/ 24", "03 /24", "Mai 24/25",
+                "1001 EUR 500", "24 EUR 7", "EUR 1001/1002", "EUR = 1001", "1001,– €",
+                "IBAN DE 12 5001 0517 0648 4898 90", ["Betrag 1001", ",50"], ["1001,", "50 EUR"], ["12.", "5.2024"],
+                ["1001 10", "02"], ["1001", "24.50"], ["IBAN DE89 3704 0044", "0532 0130 00"],
+                ["IBAN DE12 50", "01 0517 0648 4898 90"], ["IBAN D", "E12 5001 0517 0648 4898 90"],
+                ["bis 24. Apr", "il"], ["Ma", "i 24"], ["Feb", ". 24"], ["1001 Eur", "o"], "7 EUR 12. 5. 2024",
+                "Mai/24. 5. 2024", "5/1992 EUR 7", "DE89370400440532013000 24. 5. 2024",
+                "DE89370400440532013000 EUR 1001", "EUR-1001", "EUR*1001*", "EUR -1001", "EUR (1001)", "EUR/1001",
+                "1001-EUR", "1001/EUR", "1001 *EUR*", "Betrieb 1001\n7", "Betrieb 1001\r\n  7",
+                "Betrieb 1001&#x200b;7", "Betrieb 1001&#xad;7", "Ma\ni 24", "Beitrag 1001,24 Mai 2024", "1001,50 Mai",
+                "Summe 1001,50 100 Std", "1001,05.12.2024", "Rechnung 1001/05/24", "vom 24/05/24", "Beitrag 1-3/24",
+                "Beitrag 12/ 2024", "12 / 2024", "12 /2024", "Beitrag Mar-24", "Febr. 24", "Jän. 24", "Maer. 24",
+                "IBANDE89 3704 0044 0532 0130 00", ["1001 Eu", "ro", "Danke"], ["Betrag 1001,", "-"],
+                ["Bau", "Ap", "ril 24"], ["IBAN", "D", "E89 3704 0044 0532 0130 00"], "Beitrag 01-03 / 24",
+                "Beitrag 1-3/ 24", "11-12 /24", "01/ 24-03/ 24", "vom 1. 5. 24-31. 5. 24", "30.2.23-5.01. 25",
+                "Tel. 0421/123 500", "Rechnung 2024-123 500", "Rg. 24/94 500", "24/5 001,50 Mai",
+                "Nr. 778/24 / 03/05 / 24", "2024-12-01 / 01.12. 24", "Mai / 24", "Mai - 24", ["Mai '", "24"],
+                "Mai ‘24", "Januar / 11/ 24", "24. Mai 5", "24./25. Mai 2024", "24. bis 25. Mai 24",
+                "1. bis 15.05.2024", "24. u. 25. 4. 24", "24. - 25.05.2024", "3 - 12/2024", "1 bis 3/24", "3 + 5/24",
+                "3 und 5/24", "3 - 12.2024", "BLZ 370 400 24", ["AT", "61 1904 1001 3457 3201"],
+                "Tel. 0421/123 456 10 /24")
+        known = ("1001 / 03/2024", "1001/Mai 24", "Mai/1001", "Betrieb 1001 - EUR 500", "1001, 12.04.2024",
+                 "KW24 Betrieb 1001", ["Beitrag 03/2024,", "Betrieb 1001"], ["Nr.", "1001", "-Mai"],
+                 ["EUR 500", "Betrieb 1001", "Mai 24"], "Beitrag\nBetrieb 1001\nMai 24",
+                 "500 EUR - 1001", "Betrieb 1001, 24. Mai 2024", "1001, 24/05/24", "1001 05/24", "1001 12/2024",
+                 "1001, Mar-24", "1001 / 24. Mai", ["Betrieb 1001", "Danke", "Nord"],
+                 "1001 - 03/2024", "Betrieb 1001, 3 - 5/24", "1001 bis 24. Mai", "1001, 1. und 24. Mai 2024",
+                 "Betrieb 1001 IBAN DE89 3704 0044 0532 0130 00")
+        self.finds_each((1, 3, 5, 12, 24, 25, 500, 1001, 1002, 3704, 4898), none, known)
+
+    def finds_each(self, firms, none, known, *words):
+        """Of these firms none is that of the texts of the one kind, and 1001 that of the other."""
+        self.write("firms.csv", "iban,employer\n" + "".join(f",{firm}\n" for firm in firms))
+        texts = [*none, *known]
+        entries = [payment("1.00", text, "", STRANGE, f"N-{at}") for at, text in enumerate(texts)]
+        output, _ = self.made(one("0", str(len(texts)), *entries), *words)
+        found = [line[2] for line in csv.reader(io.StringIO(output))]
+        wanted = [""] * len(none) + ["1001"] * len(known)
+        self.assertEqual([*zip(texts, found)], [*zip(texts, wanted)])
+
+    def test_amounts(self):
+        """A number beside a currency, whatever signs stand between, and a second amount."""
+        none = ("EUR **1001**", "Betrag (EUR) 1001", "Beitrag (1001) EUR", "EUR: -1001", "Summe 1001: EUR",
+                "1001 = EUR", "1001. EUR", "EUR ... 1001", "EUR–1001", "BetragEUR 1001", "BeitragEUR 1001",
+                "1001, 24 EUR", "1001,OO EUR", "1001,OO", "EUR [1001]", 'EUR "1001"', "EUR#1001", "1001* EUR",
+                "EUR_1001", "TEUR 1001", "PLN 1001", "RON 1001", "CZK 1001", "HUF 1001", "DM 1001", "SFr. 1001",
+                "1001 Cent", "1001 ¤", "¤ 1001 Mai", "EUR 500 / 1001", "EUR 500 + 1001", "1001 + 500 EUR",
+                "1001 / 500 EUR", "1001 und 500 EUR", "1001 bis 1500 EUR", "500 EUR + 1001", "1001,-- EUR",
+                "5469,- EUR 1 / 24")
+        known = ("500 EUR - 1001", "500,- EUR - 1001", "500,-- EUR (1001)", "1001 - EUR 500", "1001 / EUR 500",
+                 "1001 500,00 EUR", "1001, 500 EUR", "1001 / 500,00 EUR", "EUR 500,00 / 1001", "Betrieb 1001 / 500 EUR",
+                 "Nr. 1001 + 500,00 EUR", "Euro-Bau, Betrieb 1001", "Ingenieur 1001", "Baron 1001")
+        self.finds_each((1, 24, 500, 1001), none, known)
+
+    def test_accounts(self):
+        """IBANs in any groups, cut anywhere, glued to a word, without a country; and a number behind one."""
+        none = (["Kto. IT62 C", "274 4607 0168 2811 8503 639"],
+                ["Bau Nord, Konto IT60 X", "054 2811 1010 0000 0123 456"], "IT 60 X 05428 11101 000000123456",
+                "AT61 19043 00234573201", "AT61 19043 00234573202", "FR76 30004 02837 98765432109 43",
+                "Bau_DE89 3704 0044 0532 0130 00", "GmbHDE89 3704 0044 0532 0130 00",
+                "IBAN 89 3704 0044 0532 0130 00", "DE89–3704–0044–0532–0130–00", ["DE89/3704", "/0044/0532/0130/00"])
+        known = ("AT61 1904 3002 3457 3201 1001", "BE68 5390 0754 7034 1001", "ES91 2100 0418 4502 0005 1332 1001",
+                 "RO49 AAAA 1B31 0075 9384 0000 1001", "PL61 1090 1014 0000 0712 1981 2874 1001",
+                 ["IBAN DE89 3704 0044 0532 0130 00", "1001 Danke"], "Gemeinde 1001 Beitrag Mai",
+                 "Büro 1001 Beitrag Mai 2024 Nord GmbH Danke", "BG 1001 Beitrag Mai 2024 Nord GmbH")
+        self.finds_each((404, 1001, 2811, 3704, 11101, 19043, 30004), none, known)
+
+    def test_groups_and_telephones(self):
+        none = ("St.-Nr. 60 123 4567", "60 123 4567", "+49 421 1001", "+49 (0)421 1001", "0049 421 1001",
+                "Tel. 0421 1001", "(0421) 1001", "Tel. (0421) 1001", "0421 / 1001", "Tel. 0421 / 1001", "030 1001",
+                "Tel.: +49 421/77-1001", "Fax 0049 421 75147 23. 2. 2025", "Telefon 0421/386392 / 7. 11. 2024")
+        known = ("SVWZ+1001 Mai", "+1001", "Beitrag 052024 1001", "Beitrag 0524 1001", "Tel. 0421/824025 (1001)",
+                 "1001 Tel. 0421 77", "0524 / 500,00 EUR / 1001")
+        self.finds_each((2, 11, 421, 1001, 4567), none, known)
+
+    def test_references_of_the_payer(self):
+        none = ("EREF+1001 SVWZ+Rechnung 77", "KREF+1001", "MREF+1001 SVWZ+Mai", "EREF+RE 1001 SVWZ+Mai",
+                ["EREF+1001 SVWZ", "+Mai"], "SVWZ+Mai EREF+RE 1001", "RREF+1001", "ABWA+1001 SVWZ+Mai")
+        known = ("EREF+NOTPROVIDED SVWZ+Beitrag 1001", "EREF+77 KREF+78 SVWZ+1001", "SVWZ+1001 EREF+77",
+                 ["EREF+77 SVWZ", "+1001"], "Payout, 1001")
+        self.finds_each((7, 77, 1001), none, known)
+
+    def test_dashes_and_parts(self):
+        none = ("RE 2024–1001", "Tel. 0421–1001", "1001–24", "1001−24", ["1001", ",", "24 EUR"],
+                ["2024", "-", "1001"], "1001\n/\n2024", ["echnung vom 12.05.24 Nummer RE2024A", "1001 Danke"],
+                ["Bau Nord Rechnung RE2024A7B", "1001"], [*["10", "01"] * 150, "Betrieb 1001"],
+                "Betrieb 1001" + 5_000 * ".")
+        known = ("1001 – 05/2024", "Mai – 1001", ["Nummer RE2024A", "1001 Danke"],
+                 ["Beiträge vom Mai in Betrieb", "1001"], ["Beitrag für Mai 2024, unser Betrieb", "1001"],
+                 ["Mai", "–", "1001"])
+        self.finds_each((1001,), none, known)
+
+    def test_numbers_behind_words_for_others(self):
+        none = ("Rechnung 1001", "Rechnungs-Nr. 1001", "Rg.-Nr.: 1001", "RE-1001", "RE 1001", "Re.1001", "RNr. 1001",
+                "R-1001", "Rechnung R-1001 vom 12.5.24", "1001-A", "RE 1001 / 24", "RE 1001 / 2024", "RG 2024 / 1001",
+                "1001 / 24", "1001 / 2024", "RE 2024 1001", "Rechnung 77, 1001", "Rechnung 77 und 1001",
+                "Rechnung 1003 Betrieb 1001", "HRB 1001", "BLZ 37040044", "D-28195 Bremen", "Konto 1001",
+                "Kto.-Nr. 1001", "Kundennummer 1001", "Kd.-Nr. 1001", "Auftrag: 1001", "Bestell-Nr. 1001",
+                "Lieferschein #1001", "Steuernr. 1001", "St.-Nr. 1001", "Betrag 1001", "Restbetrag: 1001", "Fax 1001",
+                "Postfach 1001", "PLZ 28195", "Rechnung No. 1001", "Rech.-Nr. 1001", "Invoice 1001", "INV-1001",
+                "Schlussrechnung 1001", "Order-Nr. 1001", "Bankleitzahl 1001", "Fon: 1001", "Rufnummer 1001",
+                "USt-IdNr. 1001", "Lohnsumme 1001", "Überweisungsbetrag 1001", "1.TAN 1001")
+        known = ("Rechnung 77, Betrieb 1001", "Rechnung vom 12.05.24 1001", "RE 77/24 1001", "1001 Rechnung 77",
+                 "1001, Re. 77", "Betrag 500,00 1001", "Rechnung 1001, Betrieb 1001", "Nr-1001", "1001-Nord",
+                 "BG-Nr. 1001", "Mitgliedsnr. 1001", "Beitragskonto 1001", "Betriebskonto-Nr. 1001", "Firma 1001",
+                 "Mai 2024 / 1001", "2024 / 1001", "1001 / 24. Mai", "1001 / 24/05/24", "1001 / 2024-05",
+                 "Betrieb 1001 / 2024", "Rechnung 77 #1001", "Rechnung 77 (1001)")
+        self.finds_each((24, 1001, 1003, 28195, 37040044), none, known)
+        self.finds_each((1001,), ["1001 / 24", "Nr. 1001 / 24"], ["Mitgl.-Nr.: 1001 / 24", "Betrieb 1001 / 24"])
+        # As the clerk names it.
+        self.finds_each((1001, 1003), ["Rechnung 1001, 1003", "Re 1001"], ["Rechnung 1001", "Rechnung-Nr. 1001"],
+                        "--number-word", "Rechnung")
+
+    def test_dates_without_points_and_quarters(self):
+        dates = (1224, 52024, 122024, 202405, 150524, 15052024, 20240515)
+        none = (*map(str, dates), "SOKA 1224", "Beitrag 122024", "Q1 24", "Q1/24", "KW 24", "KW 12/24", "1. Quartal 24",
+                "IV. Quartal 24", "Quartal 1/24", "Rechnung Nr. 1224")
+        known = ("Q1 24 1001", "1001 Q1", "1. Quartal 2024, 1001", "KW 24 1001", "KW 24/25 - 1001", "1001 KW 24",
+                 "Quartal 1001")
+        self.finds_each((1, 24, 1001, *dates), none, known)
+        # One of them may be a firm beside another one.
+        texts = "1001 Beitrag 1224", "Beitrag 122024 1001", "1001, 150524", "Betriebe 1001 und 1224", "Nr. 1001 1224"
+        self.finds_each((1001, *dates), texts, ())
+        self.finds_each((1001,), (), texts)
+        for text in ("Betrieb 1224", "Nr. 1224", "Mitglieds-Nr. 1224 Mai", "Mitgliedsnummer: 1224", "Firma 1224"):
+            self.finds("1224", text, table="iban,employer\n,1224\n")
+
+    def test_numbers_behind_a_word(self):
+        self.write("firms.csv", "iban,employer\n,1001\n,2024\n")
+        for text, firm in (("Betrieb 2024", "2024"), ("BETRIEB: 2024, 7", "2024"), ("Betrieb Nr. 1001", "1001"),
+                           ("1001", ""), ("Betriebe 1001", ""), ("Betrieb 7 1001", ""), ("Betrieb Nord 1001", "")):
+            self.write("statement", one("0", "1", payment("1.00", text, "", STRANGE, "F")))
+            words = "statement --firms firms.csv --number-word Betrieb --number-word nr"
+            status, output, told = self.tool(*words.split())
+            self.assertEqual((status, output.splitlines()[1].split(",")[2]), (0, firm), (text, told))
+        # Several, of which one may be none of the table.
+        none = ("BETRIEB: 2024, 1001", "Betrieb 1001 und 2024", "Betrieb 1001, 2024", "Betrieb 1001 / 1003",
+                "Betrieb 1001 bis 1003", "Betrieb 1001 1003", "Betrieb 7 und 1001", "Betrieb 1001 u. 1003",
+                "Betrieb 1001/24")
+        known = ("Betrieb Nr. 1001", "Betrieb-Nr.: 1001", "Betrieb Nummer 1001", "Betrieb 1001, Rechnung 1003",
+                 "Betrieb 1001 Mai 2024", "Betrieb 1001, 05/2024", "1003 Betrieb 1001")
+        self.finds_each((1001, 1003, 2024), none, known, "--number-word", "Betrieb")
+        self.finds_each((1001,), ["Betrieb Nr. 1001"], ["Betriebs-Nr. 1001"], "--number-word", "Betriebsnr")
+
+    def test_interest_by_a_word(self):
+        for text in ("Zinsen", "ZINSEN", "für Zinsen, Mai", "Zinsen/Mai", ["Mai und Zin", "sen"], "Zin\nsen",
+                     "Zin&#xad;sen", ["Bau West Zin", "sen", "Danke"], "Zin\nsen\nfür Mai"):
+            self.finds("", text, purpose="I")
+        for text in ("Verzugszinsen", "Zins en", "Zinsen2"):
+            self.finds("", text)
+        self.write("statement", one("0", "1", payment("1.00", "Rückstand", reference="F")))
+        words = "statement --firms firms.csv --interest-word zins --interest-word RU\u0308CKSTAND"
+        self.assertIn("F,2024-04-30,,100,I,Rückstand\n", self.tool(*words.split())[1])
+
+    def test_other_tables(self):
+        self.finds("99999999", "", NORD, table=f"\ufeffiban,employer\r\n\r\n{NORD}, 99999999 \r\n")
+        self.finds("7", "7", table=f'"iban","employer"\n{NORD},7\n{WEST},7\n')
+        self.finds("", "7", table="iban,employer\n")
+
+    def faulty(self, table, said):
+        self.write("firms.csv", table)
+        self.refuses(LATIN, said, status=2)
+
+    def test_faulty_tables(self):
+        for table in ("", "iban;employer\n", "employer,iban\n"):
+            self.faulty(table, "firms.csv: the first line isn't iban,employer")
+        self.faulty(f"iban,employer\n{NORD}\n", "firms.csv, line 2: 1 fields in place of 2")
+        self.faulty('iban,employer\n"a\n', "firms.csv, line 2: unexpected end of data")
+        self.faulty("iban,employer\nM\xe4rz,1\n".encode("latin-1"), "firms.csv: no text in UTF-8")
+
+    def test_each_fault_of_a_table(self):
+        lines = [f"{NORD[:-1]}1,1001", "", f"{WEST},0", f"{NORD},01", f"{WEST},1", f"{WEST},1", "DE1,2",
+                 f"{NORD},100000000", f"DE99{ACCOUNT[4:]},1"]
+        self.faulty("\n".join(["iban,employer", *lines]), "\n".join([
+            f"firms.csv, line 2: {NORD[:-1]}1 is no IBAN, or a digit of it is wrong",
+            "firms.csv, line 4: 0 is no number of a firm (1 to 99999999)",
+            "firms.csv, line 5: 01 is no number of a firm (1 to 99999999)",
+            f"firms.csv, line 6: {WEST} stands twice; an account that pays for several firms stands at none",
+            f"firms.csv, line 7: {WEST} stands twice; an account that pays for several firms stands at none",
+            "firms.csv, line 8: DE1 is no IBAN, or a digit of it is wrong",
+            "firms.csv, line 9: 100000000 is no number of a firm (1 to 99999999)",
+            # DE02 and DE99 are the same by their rest alone.
+            f"firms.csv, line 10: DE99{ACCOUNT[4:]} is no IBAN, or a digit of it is wrong"]))
+
+    def test_a_changed_table_and_an_earlier_file(self):
+        entries = payment("2.00", "x", "", STRANGE, "E-1"), payment("3.00", "y", "", STRANGE, "E-2")
+        content = one("0", "5.00", *entries)
+        self.write("made.csv", HEADER + "E-1,2024-04-30,1001,200,,x\nE-2,2024-04-30,1001,299,C,y\n")
+        self.write("more.csv", HEADER + "E-1,2024-04-30,1002,200,C,x\n")
+        self.write("firms.csv", f"iban,employer\n{STRANGE},5\n")
+        told = self.makes(content, ["E-1,2024-04-30,1001,200,,x", "E-2,2024-04-30,5,300,C,y"],
+                          "--earlier", "made.csv", "more.csv")
+        self.assertIn("  as in an earlier file: 1 line, 2.00 EUR\n", told)
+        # Of another payer or text it is another payment, which the office refuses under that reference.
+        self.write("made.csv", HEADER + "E-1,2024-04-30,1001,200,C,z\n")
+        self.makes(content, ["E-1,2024-04-30,5,200,C,x", "E-2,2024-04-30,5,300,C,y"], "--earlier", "made.csv")
+        words = "--firms", "firms.csv", "--earlier", "made.csv"
+        self.write("made.csv", "reference,cents\n")
+        self.refuses(content, f"made.csv: the first line isn't {HEADER.strip()}", 2, words=words)
+        # As a spreadsheet writes it anew, no payment of it would be known.
+        for line, said in (("E-1,30.04.2024,1001,200,C,x", "value_date is 30.04.2024"),
+                           ('E-1,2024-04-30,"1.001",200,C,x', "employer is 1.001"),
+                           ("E-1,2024-04-30,1001,2E+02,C,x", "cents is 2E+02")):
+            self.write("made.csv", f"{HEADER}{line}\n")
+            self.refuses(content, f"made.csv, line 2: {said}, which the office doesn't take; "
+                         "give the file as it was imported", 2, words=words)
+
+
+if __name__ == "__main__":
+    run_tests()
