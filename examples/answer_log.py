@@ -73,7 +73,7 @@ def read_answered(log):
             refusal = logged_refusal(entry)
             if refusal is not None:
                 answered[entry["request"]].append(refusal)
-    except (KeyError, TypeError, ValueError):
+    except (AttributeError, KeyError, RecursionError, TypeError, ValueError):
         raise Fault(f"{log.name}: no answer log", 2) from None
     # Nothing is cut off a file that is something else.
     if not BEGINNING.startswith(rest[:len(BEGINNING)]):

@@ -201,6 +201,9 @@ def command_line(text, *arguments):
 def run(script):
     """Runs a script, which returns its status; tells its fault. Its files are its user's alone."""
     os.umask(0o077)
+    # A letter that standard output can't have is told as `?`; standard error has an escape for it.
+    if sys.stdout is not None:
+        sys.stdout.reconfigure(errors="replace")
     try:
         sys.exit(script())
     except Fault as fault:

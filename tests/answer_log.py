@@ -8,7 +8,9 @@ PROGRAM is crates/clear_app/out/clear_app where it isn't given, as `rt ci` leave
 import datetime
 import fcntl
 import json
+import os
 import socket
+import subprocess
 import sys
 import threading
 
@@ -169,6 +171,17 @@ class AnswerLog(Scripts):
         self.write("batch", "GET /suspense -\n")
         self.assertEqual(self.script("answer_log", "batch", "log"), "sent: 1, skipped: 0, refused: 0\n")
 
+    def test_a_letter_that_standard_output_has_not(self):
+        self.write("batch", "GET /suspense -\n")
+        answer = '{"detail":"Süd","name":"BadBody","rule":8}'
+        entry = {"time": "", "request": "GET /suspense -", "status": "400 Bad Request", "answer": answer}
+        self.write("log", json.dumps(entry) + "\n")
+        self.address = "127.0.0.1:1"
+        ran = subprocess.run(self.command("answer_log", "batch", "log"), cwd=self.folder, capture_output=True,
+                             timeout=60, env={**os.environ, "PYTHONIOENCODING": "ascii"})
+        told = b"GET /suspense -: rule 8 BadBody S?d\nsent: 0, skipped: 1, refused: 1\n"
+        self.assertEqual((ran.returncode, ran.stdout, ran.stderr), (1, told, b""))
+
     def test_wrong_files(self):
         for line in ("DELETE /employers 1", "POST employers 1", "POST /employers 01 {}", "POST /employers",
                      'POST /employers 1 {"employer":1001', "POST /employers 1 " + 10_000 * "["):
@@ -176,8 +189,9 @@ class AnswerLog(Scripts):
             self.refuses_to_start("batch: line 3 is no request\n", "answer_log", "batch", "log")
         self.write("batch", "GET /suspense -\n")
         entry = '{"request": "GET /suspense -", "status": "200 OK"}\n'
+        answers = [entry.replace("}", f', "answer": {it}}}') for it in ("5", "null", "{}", "[]", f'"{10_000 * "["}"')]
         for text in ("a line of something else\n", "a line without an end", "[1]\n", entry + "GET /suspense -",
-                     '{"request": "GET /suspense -"}\n'):
+                     '{"request": "GET /suspense -"}\n', 10_000 * "[" + "\n", *answers):
             path = self.write("log", text)
             self.refuses_to_start("log: no answer log\n", "answer_log", "batch", "log")
             self.assertEqual(path.read_text(), text)

@@ -471,9 +471,22 @@ class Try(Launcher):
         paths = [f"{self.state}/{it}" for it in names]
         (self.folder / "link").symlink_to("checkout/try")
         for script in ("checkout/try", "link"):
-            self.assertEqual(self.tried("check", *names, "none.csv", script=script),
-                             ["try", "--", "check", *paths, "none.csv"])
-            self.assertEqual(self.tried("check", *paths, script=script), ["try", "--", "check", *paths])
+            self.assertEqual(self.tried("check", "bank", *names, "none.csv", script=script),
+                             ["try", "--", "check", "bank", *paths, "none.csv"])
+            self.assertEqual(self.tried("check", "bank", *paths, script=script), ["try", "--", "check", "bank", *paths])
+
+    def test_words_that_are_no_files(self):
+        """Also where a file has their name."""
+        for it in ("check", "stream", "bank", "sample", "april.csv"):
+            self.write(f"state/{it}", "")
+        bank, sample = f"{self.state}/bank", f"{self.state}/sample"
+        for words, passed_on in (
+                (["check", "bank", "april.csv"], ["check", "bank", f"{self.state}/april.csv"]),
+                (["check", "bank", "bank"], ["check", "bank", bank]),
+                (["check", "rates", "sample"], ["check", "rates", sample]),
+                (["stream", "sample", "sample", "2024-04-30"], ["stream", "sample", "sample", "2024-04-30"]),
+                (["stream", "bank", "sample", "2024-04-30"], ["stream", bank, "sample", "2024-04-30"])):
+            self.assertEqual(self.tried(*words, script="checkout/try"), ["try", "--", *passed_on])
 
 
 if __name__ == "__main__":
