@@ -9,12 +9,13 @@ out from docs/rules.md by hand.
 
 import contextlib
 import sys
+import threading
 
 # No __pycache__ is left beside the sources.
 sys.dont_write_bytecode = True
 import desk_mishaps  # noqa: E402
 from desk_browser import setUpModule  # noqa: E402, F401
-from desk_under_test import BANK_HEADER  # noqa: E402
+from desk_under_test import BANK_HEADER, DONE, answer_bytes  # noqa: E402
 from program_under_test import run_tests  # noqa: E402
 
 PAYMENT = BANK_HEADER + "B1,2024-02-25,,150000,C,\n"
@@ -103,6 +104,26 @@ class Hands(Hurry):
         self.press_and_release(place, 1)
         self.answers("done", "B1 to 1001")
 
+    def test_a_double_click_withdraws_nothing(self):
+        """Not this claim, and not that of the row which the first half's answer may have moved there."""
+        for claim in range(1, 9):
+            self.does({"claim": claim}, self.command("claim", employer="1001", worker="7", amount=f"{claim},00"))
+        self.browser.open(self.address + "?lang=en#/worker/7", "worker/7")
+        place = self.mouse("#worker-claims-table .withdraw[data-claim='6']")
+        self.press_and_release(place, 1)
+        self.press_and_release(place, 2)
+        self.browser.wait(lambda: self.browser.is_shown("#confirm"), "the second click")
+        self.browser.click("#confirm-no")
+        # The second half alone does nothing, wherever it falls.
+        self.press_and_release(place, 2)
+        self.browser.driver.execute_async_script("setTimeout(arguments[0], 500)")
+        self.assertFalse(self.browser.is_shown("#confirm"))
+        self.assertEqual([it for it in self.logged() if "withdraw" in it[2]], [])
+        self.press_and_release(place, 1)
+        self.confirm("A withdrawn claim stays withdrawn", "€6.00")
+        self.answers("done", "Withdrawal: 1001, claim 6")
+        self.browser.wait(lambda: len(self.browser.table("#worker-claims-table")) == 8, "the other claims")
+
     def test_a_key_that_is_held(self):
         """It checks a report and doesn't send it."""
         self.open_firm("1001")
@@ -115,9 +136,7 @@ class Hands(Hurry):
         self.press_enter(type="keyUp")
         self.assertTrue(self.browser.one("#report-send").is_enabled())
         self.assertFalse(self.browser.is_shown("#answer"))
-        # Pressed anew it does.
-        self.press_enter()
-        self.press_enter(type="keyUp")
+        self.browser.click("#report-send")
         self.answers("done", "Report: 1001, Feb 2024")
 
     def test_the_button_of_a_correction_in_another_language(self):
@@ -128,8 +147,125 @@ class Hands(Hurry):
             self.browser.wait(lambda: self.browser.text("#report-send") == text, text)
 
 
+    def test_what_was_told_is_told_in_the_other_language(self):
+        self.browser.one("#bank-file").send_keys(str(self.write("bank.csv", PAYMENT)))
+        self.browser.wait_for_text("#bank-check", "Checked: the file can be read.")
+        self.go("firm")
+        self.open_firm("1001")
+        self.browser.click("#claim-send")
+        self.browser.wait_for_text("#form-claim .field-fault", "A worker's number")
+        self.browser.type("#report-csv", "worker,gross\n7,100000")
+        self.browser.type("#report-month", "2024-02")
+        self.browser.click("#report-check")
+        self.browser.wait_for_text("#report-summary", "Feb 2024. Lines: 1, gross wages €1,000.00")
+        self.browser.click("#language-de")
+        self.browser.wait_for_text("#report-summary", "Feb. 2024. Zeilen: 1, Bruttolohnsumme 1.000,00")
+        self.assertEqual(self.browser.all("#form-claim .field-fault"), [])
+        self.assertTrue(self.browser.one("#report-send").is_enabled())
+        self.go("morning")
+        self.browser.wait_for_text("#bank-check", "Geprüft")
+        self.assertIn("Datei: bank.csv", self.browser.text("#bank-name"))
+        self.assertTrue(self.browser.one("#bank-import").is_enabled())
+        self.kill_desk()
+        self.browser.click("#language-en")
+        self.answers("Der Arbeitsplatz antwortet nicht")
+
+
+class Corrections(Hurry):
+    """The version that is corrected, and the lines, are those of the month that stands beside them."""
+
+    def setUp(self):
+        super().setUp()
+        self.does({"charge": 40000, "version": 1}, self.report("2024-02", "7,100000\n8,100000\n"))
+        self.open_firm("1001")
+        self.browser.click("#statement-months [data-month='2024-01'] .correct")
+        self.assertEqual((self.value("report-month"), self.value("report-version")), ("2024-01", "1"))
+
+    def test_the_month_is_typed_over(self):
+        """February has two lines, of which one alone would have been left."""
+        self.browser.type("#report-month", "2024-02")
+        self.assertEqual((self.value("report-version"), self.browser.text("#report-send")), ("", "Send the report"))
+        self.browser.type("#report-csv", "worker,gross\n7,1")
+        self.browser.click("#report-check")
+        self.browser.wait(lambda: self.browser.one("#report-send").is_enabled(), "checked lines")
+        self.browser.click("#report-send")
+        self.answers("refused", "rule 15, ReportExists")
+        self.assertIn("charge 2024-02 due 2024-03-20 version 1         400.00", self.statement("1001"))
+
+    def test_lines_of_the_month_before(self):
+        self.browser.type("#report-csv", "worker,gross\n7,1")
+        self.browser.click("#statement-months [data-month='2024-01'] .correct")
+        self.assertEqual(self.value("report-csv"), "worker,gross\n7,1")
+        self.browser.click("#statement-months [data-month='2024-03'] .report")
+        self.assertEqual((self.value("report-month"), self.value("report-csv")), ("2024-03", ""))
+
+    def test_the_same_month_in_another_form(self):
+        """Its version and its lines stay, and the version is there again after a slip."""
+        self.browser.type("#report-csv", "worker,gross\n7,1")
+        for month, version in (("01/2024", "1"), ("2024-013", ""), ("1.2024", "1"), ("2024-02", ""), ("2024-01", "1")):
+            self.browser.type("#report-month", month)
+            self.assertEqual(self.value("report-version"), version, month)
+        self.browser.type("#report-month", "01/2024")
+        self.browser.click("#statement-months [data-month='2024-01'] .correct")
+        self.assertEqual((self.value("report-csv"), self.value("report-version")), ("worker,gross\n7,1", "1"))
+
+
+class Slow(desk_mishaps.MadeAnswers):
+    """An office that takes its time."""
+
+    def answer(self, request):
+        if request.startswith(b"POST /rates "):
+            self.goes_on.wait(30)
+            return answer_bytes(200, DONE)
+        suspense = b"suspense 2024-04-30\nlines 0\ntotal           0.00\n"
+        return answer_bytes(200, suspense, "text/plain; charset=utf-8")
+
+    def test_sent_again_while_the_first_try_is_under_way(self):
+        """What is told in the end is what became of it."""
+        self.goes_on = threading.Event()
+        self.open_page(self.answer)
+        self.go("new")
+        self.type_in("rates", contribution="19.5", entitlement="14.20", interest="0.9", report_day="15",
+                     due_day="20", **{"from": "2026-01"})
+        self.browser.click("#rates-send")
+        self.confirm("can't be changed or taken back")
+        self.go("log")
+        self.browser.wait(lambda: self.browser.is_shown("#pending"), "the request without an answer")
+        self.browser.run(desk_mishaps.Late.HOLD, "/api/pending/send-again")
+        self.browser.click("#pending-send-again")
+        self.browser.wait(lambda: self.browser.is_shown("#sending"), "the sign that it is sent")
+        self.goes_on.set()
+        self.browser.wait(lambda: self.browser.run("return globalThis.isHeld ?? false"), "the second answer")
+        self.browser.run("letGo()")
+        self.browser.wait(lambda: self.browser.run("return globalThis.isRead ?? false"), "the second answer")
+        self.answers("done · New rates: from Jan 2026")
+        self.assertFalse(self.browser.is_shown("#pending"))
+        self.assertFalse(self.browser.is_shown("#sending"))
+
+
 class Late(Hurry):
     """An answer that isn't there yet."""
+
+    def test_a_payment_that_is_being_assigned(self):
+        """It can't be cancelled any more, and its answer leaves the next one alone."""
+        self.open_the_payment(PAYMENT + "B2,2024-02-26,,99,C,\n")
+        self.browser.click("#assign-send")
+        self.browser.wait(lambda: self.browser.is_shown("#confirm"), "the second click")
+        self.hold("/api/commands/assign")
+        self.browser.click("#confirm-yes")
+        self.browser.wait(lambda: not self.browser.is_shown("#assign-dialog"), "the page")
+        self.browser.wait_for_text("#sending", "Being sent")
+        self.browser.click("#suspense-table .assign[data-reference='B2']")
+        self.browser.type("#assign-employer", "1001")
+        self.let_go()
+        self.browser.wait_for_text("#suspense-summary", "1, together €0.99")
+        self.assertEqual((self.value("assign-reference"), self.value("assign-employer")), ("B2", "1001"))
+        self.assertTrue(self.browser.is_shown("#assign-dialog"))
+        self.assertIn("B1 to 1001", self.browser.text("#answer"))
+        self.assertFalse(self.browser.is_shown("#sending"))
+        self.browser.click("#assign-send")
+        self.confirm("B2", "€0.99")
+        self.browser.wait_for_text("#answer", "B2 to 1001")
 
     def test_the_next_claim_while_one_is_sent(self):
         """It isn't sent, which is told, and stays in the form."""

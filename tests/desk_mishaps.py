@@ -85,6 +85,7 @@ class FirmsOfTheForms(Mishaps):
         self.answers("done", "Claim: 1002, worker 9: €100.00", "The claim has the number 1.")
         self.type_in("withdraw", claim="1")
         self.browser.click("#withdraw-send")
+        self.confirm("A withdrawn claim stays withdrawn", "1002", "€100.00")
         self.browser.wait_for_text("#answer", "Withdrawal")
         self.answers("done", "Withdrawal: 1002, claim 1")
         self.assertIn("charge 2024-01 due 2024-02-20 version 1        1000.00", self.statement("1002"))
@@ -207,10 +208,27 @@ class Dropped(Mishaps):
         self.confirm("A release is for good")
         self.browser.wait(lambda: self.browser.is_shown("#pending"), "the release")
         self.asks_before_it_drops("the claim is released")
-        self.browser.click("#payouts-make")
-        self.confirm("listed for good")
-        self.browser.wait(lambda: self.browser.is_shown("#pending"), "the list")
-        self.asks_before_it_drops("Show an earlier list")
+
+    def test_a_withdrawal(self):
+        """The office doesn't list the claim any more where it was done."""
+        self.open_firm("1001")
+        self.close_office()
+        self.type_in("withdraw", claim="1")
+        self.browser.click("#withdraw-send")
+        self.confirm("A withdrawn claim stays withdrawn")
+        self.browser.wait(lambda: self.browser.is_shown("#pending"), "the withdrawal")
+        self.asks_before_it_drops("the claim isn't there any more if the request was done")
+
+    def test_a_list_and_a_run_may_be_those_of_another_desk(self):
+        self.close_office()
+        for kind, asked, found, told in (
+                ("payouts", "listed for good", "Show an earlier list", "before anything is transferred"),
+                ("reminders", "A run can't be taken back", "Show an earlier run", "before anything is sent out")):
+            self.browser.click(f"#{kind}-make")
+            self.confirm(asked)
+            self.browser.wait(lambda: self.browser.is_shown("#pending"), kind)
+            self.asks_before_it_drops(found, "made by this desk or by another one: ask the others", told,
+                                      "Send it again, in the place of this, is always safe")
 
 
 class Files(Mishaps):
@@ -469,15 +487,40 @@ class Small(Mishaps):
         self.browser.click("#find-worker-show")
         self.browser.wait_for_view("worker/123456789")
 
-    def test_enter_checks_a_report_and_sends_it(self):
+    def test_enter_checks_a_report_and_never_sends_it(self):
         self.open_firm("1001")
         self.browser.type("#report-csv", "worker,gross\n7,100000")
         self.browser.type("#report-month", "2024-02")
         self.browser.press(Keys.ENTER)
         self.browser.wait_for_text("#report-check-result", "€1,000.00")
-        self.assertFalse(self.browser.is_shown("#answer"))
         self.browser.press(Keys.ENTER)
+        self.browser.driver.execute_async_script("setTimeout(arguments[0], 500)")
+        self.assertFalse(self.browser.is_shown("#answer"))
+        self.browser.click("#report-send")
         self.answers("done", "Report: 1001, Feb 2024")
+
+    def test_a_second_click_in_a_low_window(self):
+        """What is to be read stands there, and not only the buttons below it."""
+        self.addCleanup(self.browser.resize, 1280, 900)
+        self.go("new")
+        self.type_in("rates", contribution="19.5", entitlement="14.20", interest="0.9", report_day="15",
+                     due_day="20", **{"from": "2026-01"})
+        for width, height in ((640, 360), (360, 600)):
+            self.browser.resize(width, height)
+            self.browser.click("#rates-send")
+            self.browser.wait(lambda: self.browser.focus() == "confirm-no", "the second click")
+            top = self.browser.run("""const it = document.getElementById("confirm");
+                return [it.scrollHeight > it.clientHeight, it.scrollTop]""")
+            self.assertEqual(top, [True, 0], (width, height))
+            self.browser.press(Keys.ESCAPE)
+            self.browser.wait(lambda: not self.browser.is_shown("#confirm"), "the page")
+
+    def test_a_name_that_is_too_long(self):
+        """It isn't cut off in silence."""
+        self.go("new")
+        self.type_in("register", employer="1003", name="B" * 61, start="2024-04")
+        self.browser.click("#register-send")
+        self.browser.wait_for_text("#form-register .field-fault", "A name has 1 to 60 bytes")
 
     def test_a_page_that_stands_open_over_night(self):
         """It warns of the office's day, which is that of yesterday then."""

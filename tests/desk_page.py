@@ -17,7 +17,7 @@ sys.dont_write_bytecode = True
 from program_under_test import ROOT, run_tests  # noqa: E402
 
 sys.path.append(str(ROOT / "tools"))
-from desk_server import amounts, assets, documents, joined, numbers  # noqa: E402
+from desk_server import amounts, assets, documents, joined, numbers, reports  # noqa: E402
 from desk_server.desk import UNWRITTEN  # noqa: E402
 from desk_server.faults import Fault  # noqa: E402
 from desk_server.forms import FORMS  # noqa: E402
@@ -145,8 +145,9 @@ class Page(unittest.TestCase):
         self.assertEqual(len(ids), len(set(ids)))
         fields = re.findall(r'<(?:input|textarea) id="([^"]+)"(?! type="hidden")', MARKUP)
         self.assertEqual(sorted(fields), sorted(re.findall(r'<label for="([^"]+)"', MARKUP)))
-        for word in re.findall(r'aria-(?:labelledby|describedby)="([^"]+)"', MARKUP):
-            self.assertIn(word, ids)
+        for words in re.findall(r'aria-(?:labelledby|describedby)="([^"]+)"', MARKUP):
+            for word in words.split():
+                self.assertIn(word, ids)
         for name in SCRIPTS.values():
             for word in re.findall(r'byId\("([^"]+)"\)', name):
                 self.assertIn(word, [*ids, "bank-check-text"])
@@ -216,6 +217,11 @@ class Readers(unittest.TestCase):
                                 ("en", ("1.234,56", "1,23", "1.2", "1.234", "12,34", "½"))):
             for text in texts:
                 self.assertIsNone(amounts.read_cents(text, language), (language, text))
+
+    def test_a_report_whose_words_are_quoted(self):
+        for text in ('"worker","gross"\n"7","100"\n', '"worker";"gross"\r\n"7";"100"\r\n'):
+            report = reports.read_report(text)
+            self.assertEqual((report.wages, report.faults), ({7: 100}, []))
 
     def test_rates_and_months(self):
         for language, text, hundredths in (

@@ -75,14 +75,51 @@ class Told(InBrowser):
         self.confirm("A release is for good", "Not known at this desk: firm, worker and amount")
         self.answers("refused", "rule 26, UnknownClaim")
 
+    def send_as_the_firm(self, path, body=b""):
+        """What the office answers to the firm's own command."""
+        head = (f"POST /employers/1001/claims{path} HTTP/1.1\r\nHost: fund\r\nOffice-Key: k1001\r\n"
+                f"Request-Number: 1\r\nContent-Length: {len(body)}\r\n\r\n")
+        return self.send(self.server, head.encode() + body)
+
+    def facts_to_withdraw(self, *told):
+        """What stands beside the second click that withdraws a claim, which isn't given; this is told above."""
+        self.browser.wait(lambda: self.browser.is_shown("#confirm"), "the second click")
+        for text in told:
+            self.assertIn(text, self.browser.text("#confirm"))
+        facts = self.browser.run("""return [...document.querySelectorAll("#confirm-facts div")]
+            .map((it) => [...it.children].map((part) => part.textContent))""")
+        self.browser.click("#confirm-no")
+        return facts
+
+    def test_a_claim_that_is_to_be_withdrawn(self):
+        self.does(DONE, self.register())
+        self.report("2024-01", "7,1000000\n")
+        self.does({"claim": 1}, self.command("claim", employer="1001", worker="7", amount="10,00"))
+        self.assertIn(b'{"claim":2}', self.send_as_the_firm("", b'{"cents":2500,"worker":7}'))
+        one = [["Number of the firm", "1001"], ["Number of the claim", "1"], ["Number of the worker", "7"],
+               ["Amount", "€10.00"]]
+        warned = ("This can't be taken back", "A withdrawn claim stays withdrawn", "Withdraw for good")
+        self.open_firm("1001")
+        self.browser.click("#firm-claims-table .withdraw[data-claim='1']")
+        self.assertEqual(self.facts_to_withdraw(*warned), one)
+        self.type_in("withdraw", claim="2")
+        self.browser.click("#withdraw-send")
+        self.assertEqual(self.facts_to_withdraw("Not known at this desk: firm, worker and amount")[:2],
+                         [one[0], ["Number of the claim", "2"]])
+        # The office's own rows tell what this desk doesn't know.
+        self.browser.open(self.address + "?lang=en#/worker/7", "worker/7")
+        for claim, amount in (("1", "€10.00"), ("2", "€25.00")):
+            self.browser.click(f"#worker-claims-table .withdraw[data-claim='{claim}']")
+            self.assertEqual(self.facts_to_withdraw(*warned),
+                             [one[0], ["Number of the claim", claim], one[2], ["Amount", amount]])
+        self.assertEqual([it for it in self.logged() if it[2].startswith("withdraw")], [])
+
     def test_a_claim_that_the_firm_has_withdrawn_itself(self):
         """The desk doesn't know of it, and the page doesn't say that the claim stands as it was left here."""
         self.does(DONE, self.register())
         self.report("2024-01", "7,1000000\n")
         self.does({"claim": 1}, self.command("claim", employer="1001", worker="7", amount="10,00"))
-        withdrawal = (b"POST /employers/1001/claims/1/withdraw HTTP/1.1\r\nHost: fund\r\nOffice-Key: k1001\r\n"
-                      b"Request-Number: 1\r\nContent-Length: 0\r\n\r\n")
-        self.assertIn(b'{"done":true}', self.send(self.server, withdrawal))
+        self.assertIn(b'{"done":true}', self.send_as_the_firm("/1/withdraw"))
         self.open_firm("1001")
         self.browser.wait_for_text("#firm-claims-table tbody", "open")
         self.browser.wait_for_text("#firm-claims-table caption", "and what was done with them here")

@@ -1,7 +1,7 @@
 // Tells what became of a request: the answer, a refusal with what to do about it, a fault; and what stops
 // the forms.
 
-import { sendForm } from "./api.js";
+import { askSettled, sendForm } from "./api.js";
 import { byId, make, pairs } from "./elements.js";
 import { day, euros, month, percent } from "./formats.js";
 import { hasWords, say } from "./words.js";
@@ -215,6 +215,8 @@ function askForIt(kind, facts) {
     dialog.onclose = () => resolve(isGiven);
     dialog.showModal();
     byId("confirm-no").focus();
+    // In a low window the focus has gone past what is to be read first.
+    dialog.scrollTop = 0;
   });
 }
 
@@ -233,7 +235,12 @@ export function beginPending(done) {
   const number = () => Number(byId("pending").dataset.number);
   byId("pending-send-again").addEventListener("click", async () => {
     byId("pending-send-again").disabled = true;
-    const told = await sendForm("/api/pending/send-again", "send-again", { number: number() });
+    const fields = { number: number() };
+    let told = await sendForm("/api/pending/send-again", "send-again", fields);
+    if (told.fault === "not-pending") {
+      // The first try took long, and was answered meanwhile.
+      told = await askSettled(fields.number);
+    }
     byId("pending-send-again").disabled = false;
     tellAnswer(told);
     done(told);

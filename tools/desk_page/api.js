@@ -1,6 +1,7 @@
 // Asks the desk. The key of the office is the desk's: this page never has it.
 
-import { currentLanguage } from "./words.js";
+import { byId } from "./elements.js";
+import { currentLanguage, hasWords, say } from "./words.js";
 
 // Of a file: the office takes no more at once.
 export const MOST_BYTES = 1_048_576;
@@ -9,6 +10,8 @@ let session = null;
 let heard = () => {};
 // The time of the state that was heard last.
 let heardAt = 0;
+// How many requests to the office are under way.
+let underWay = 0;
 
 /** What the desk said at the beginning: the tokens of the forms, how it was started, the firms that were
  * opened last. */
@@ -55,6 +58,16 @@ export function lastOnly() {
 export const getFile = (path) =>
   ask(path, {}, async (answer) => (answer.ok ? { file: await answer.blob() } : answer.json()));
 
+/** What became of a request that isn't without an answer any more, by the log. */
+export async function askSettled(number) {
+  const told = await get("/api/log");
+  if (!told.log) {
+    return told;
+  }
+  const entry = told.log.findLast((it) => it.number === number);
+  return entry ? { entry } : { fault: "not-in-log", carried: { number } };
+}
+
 export async function beginSession() {
   const told = await get("/api/session");
   if (!told.fault) {
@@ -63,9 +76,24 @@ export async function beginSession() {
   return told;
 }
 
+/** Shows that something is being sent, as long as it is; or that what stands beside its second click is asked
+ * for. */
+async function showSending(asked, word) {
+  underWay += 1;
+  byId("sending").textContent = say(word);
+  byId("sending").hidden = false;
+  const told = await asked;
+  underWay -= 1;
+  byId("sending").hidden = underWay === 0;
+  return told;
+}
+
 async function post(path, form, body, fields) {
   const headers = { "Desk-Token": session?.tokens[form] ?? "", ...fields };
-  const told = await ask(path, { method: "POST", headers, body });
+  const asked = ask(path, { method: "POST", headers, body });
+  // Nothing is sent on before the second click.
+  const word = fields["Desk-Confirmed"] === "no" && hasWords(`confirm.${form}.yes`) ? "loading" : "sending";
+  const told = await (path.startsWith("/api/check/") ? asked : showSending(asked, word));
   if (told.fault === "token") {
     // The desk was started anew: the next try has its new tokens.
     await beginSession();

@@ -10,6 +10,8 @@ import { say } from "./words.js";
 
 const CHECK_MARKS = { good: "✓", faulty: "✕" };
 let chosen = null;
+// What was told of the file that is chosen; null as long as it is checked.
+let checked = null;
 
 function showCheck(told) {
   const result = byId("bank-check");
@@ -29,23 +31,36 @@ function showCheck(told) {
     lines.push(make("p", { class: "hint" }, say("bank.unregistered")));
   }
   result.replaceChildren(...lines);
-  byId("bank-import").disabled = state === "faulty";
+}
+
+/** Shows the file that is chosen and what was told of it, in the language of now. */
+export function showBank() {
+  if (!chosen) {
+    return;
+  }
+  byId("bank-name").textContent = say("bank.file", { name: chosen.name, bytes: chosen.size });
+  if (checked) {
+    showCheck(checked);
+  } else {
+    byId("bank-check").replaceChildren(make("p", { class: "quiet" }, say("bank.checking")));
+  }
 }
 
 async function choose(file) {
   chosen = file;
+  checked = file.size > MOST_BYTES ? { fault: "file-too-large", carried: {} } : null;
   byId("bank-import").disabled = true;
   byId("bank-hint").hidden = true;
   byId("bank-name").hidden = false;
-  byId("bank-name").textContent = say("bank.file", { name: file.name, bytes: file.size });
-  if (file.size > MOST_BYTES) {
-    showCheck({ fault: "file-too-large", carried: {} });
+  showBank();
+  if (checked) {
     return;
   }
-  byId("bank-check").replaceChildren(make("p", { class: "quiet" }, say("bank.checking")));
   const told = await sendFile("/api/check/bank", "check-bank", file);
   if (chosen === file) {
-    showCheck(told);
+    checked = told;
+    showBank();
+    byId("bank-import").disabled = !told.check || told.check.state === "faulty";
   }
 }
 

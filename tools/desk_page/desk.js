@@ -1,14 +1,14 @@
 // The page begins here: its words, its session with the desk, and the view that the address names.
 
 import { beginPending, clearAnswer, clearFault, isDone, showState, tellAnswer, tellFault } from "./answers.js";
-import { beginSession, get, getFile, onState, theSession } from "./api.js";
-import { clearBank } from "./bank.js";
+import { askSettled, beginSession, getFile, onState, theSession } from "./api.js";
+import { clearBank, showBank } from "./bank.js";
 import { byId, make } from "./elements.js";
 import { askFirm, beginFirm, showFirm, showRecent } from "./firm.js";
-import { beginFinder, beginForm, wasSentAs } from "./forms.js";
+import { beginFinder, beginForm, clearFields, wasSentAs } from "./forms.js";
 import { askLog, showLog } from "./log.js";
 import { askMorning, beginMorning, openMorning } from "./morning.js";
-import { clearReport, showSend } from "./report.js";
+import { clearReport, showChecked, showSend } from "./report.js";
 import { askWorker, beginWorker, showWorker } from "./worker.js";
 import { beginWords, say, sayWords } from "./words.js";
 
@@ -117,15 +117,14 @@ function clearForm({ kind, number }) {
 /** Tells what became of a request that was settled elsewhere, as in another window, and empties its form
  * where it was done, or where the log doesn't have it. Whether the log could be asked. */
 async function tellSettled({ kind, number }) {
-  const { log } = await get("/api/log");
-  if (!log) {
+  const told = await askSettled(number);
+  if (!told.entry && told.fault !== "not-in-log") {
     return false;
   }
-  const entry = log.findLast((it) => it.number === number);
-  if (!entry || isDone({ entry })) {
+  if (!told.entry || isDone(told)) {
     clearForm({ kind, number });
   }
-  tellAnswer(entry ? { entry } : { fault: "not-in-log", carried: { number } });
+  tellAnswer(told);
   return true;
 }
 
@@ -219,10 +218,15 @@ await Promise.all([beginSession(), beginWords()]);
 // Nothing stands there without its words, so that it is laid out and drawn once.
 document.body.prepend(byId("page").content);
 sayWords(() => {
+  for (const form of document.forms) {
+    clearFields(form);
+  }
+  showBank();
+  showChecked();
   showSend();
   showState(shown);
   clearAnswer();
   show();
-});
+}, () => tellAnswer({ fault: "no-desk", carried: {} }));
 begin();
 await show(first.hash === location.hash ? first : askView());

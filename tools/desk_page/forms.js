@@ -1,6 +1,6 @@
 // The forms of commands: a second click where nothing can be taken back, and faults beside their fields.
 
-import { clearAnswer, confirmed, outcomeText, subject, tellAnswer, toldLines, written } from "./answers.js";
+import { clearAnswer, confirmed, noteAnswer, outcomeText, subject, tellAnswer, toldLines, written } from "./answers.js";
 import { fieldsOf, get, sendForm } from "./api.js";
 import { button, byId, make } from "./elements.js";
 import { time } from "./formats.js";
@@ -62,18 +62,26 @@ async function factsOf(kind, values, tell) {
   return firm && [firm, ...facts.filter(([word]) => word !== "label.employer")];
 }
 
+/** The values of a command. Of a claim of which the desk doesn't know more, with what its row has. */
+function withRow(values, claimRow) {
+  const { unknown, ...known } = values;
+  return unknown && claimRow ? { ...known, ...claimRow } : values;
+}
+
 /** Sends a command. Where it is for good, the desk first says what it has read, and wants a second click,
- * beside which these further facts stand, if the command is still wanted then. What became of it; null where
- * nothing was sent, and `tell` has told why. */
-async function sendCommand(kind, fields, tell, further = [], isWanted = () => true) {
+ * beside which these further facts stand, if the command is still wanted then; `begin` is called when that
+ * click was given. What became of it; null where nothing was sent, and `tell` has told why. */
+async function sendCommand(kind, fields, tell, asks = {}) {
+  const { further = [], isWanted = () => true, begin = () => {}, claimRow = null } = asks;
   const path = `/api/commands/${kind}`;
   clearAnswer();
   let told = await sendForm(path, kind, fields);
   if (told.fault === "unconfirmed") {
-    const facts = await factsOf(kind, told.carried.values, tell);
+    const facts = await factsOf(kind, withRow(told.carried.values, claimRow), tell);
     if (facts === null || !isWanted() || !await confirmed(kind, [...facts, ...further])) {
       return null;
     }
+    begin(told.carried.values);
     told = await sendForm(path, kind, fields, true);
   }
   if (!told.entry) {
@@ -117,13 +125,31 @@ function teller(form) {
     if (tellField(form, told)) {
       return;
     }
-    if (dialog) {
+    if (dialog?.open) {
       // An open dialog hides the page, so it is told there.
       form.append(make("div", { class: "field-fault", role: "alert" }, ...toldLines(told)));
     } else {
       tellAnswer(told);
     }
   };
+}
+
+/** Tells an answer in the dialog of the next line too, which hides the page and whose sending takes it away. */
+function copyAnswer(form) {
+  if (form.closest("dialog")?.open) {
+    const lines = byId("answer").cloneNode(true).childNodes;
+    form.append(make("div", { class: "field-fault", role: "alert" }, ...lines));
+  }
+}
+
+/** Tells a fault of what was sent from a dialog, beside what it is about. */
+function tellBefore(form, told, about, sent) {
+  if (typed(form) === sent) {
+    markSent(form, told);
+  }
+  tellAnswer(told);
+  noteAnswer(about);
+  copyAnswer(form);
 }
 
 /** Sends a form. What became of it; null where nothing was sent. */
@@ -138,18 +164,29 @@ async function submit(form, further) {
   const dialog = form.closest("dialog");
   // It may be cancelled, or another one typed, before all is there for the second click.
   const isWanted = () => typed(form) === sent && dialog?.open !== false;
-  const told = await sendCommand(kind, fieldsOf(form), tell, further, isWanted);
+  // What is sent can't be cancelled any more, and the dialog is there for the next line.
+  let begun = null;
+  const begin = (values) => {
+    begun = values;
+    dialog?.close();
+  };
+  const tellOne = (it) =>
+    (dialog && begun ? tellBefore(form, it, subject({ kind, values: begun }), sent) : tell(it));
+  const told = await sendCommand(kind, fieldsOf(form), tellOne, { further, isWanted, begin });
   if (!told) {
     return null;
   }
-  dialog?.close();
   const wasDone = tellAnswer(told);
   // The next one may have been typed meanwhile.
   if (typed(form) === sent) {
     markSent(form, told);
     if (wasDone) {
       form.reset();
+      dialog?.close();
     }
+  }
+  if (!wasDone) {
+    copyAnswer(form);
   }
   return told;
 }
@@ -164,6 +201,7 @@ export function beginForm(id, done, further = () => []) {
     if (sent !== null) {
       // A double click; or the next one, which has to wait.
       if (typed(form) !== sent) {
+        clearFields(form);
         teller(form)({ fault: "busy", carried: {} });
       }
       return;
@@ -178,8 +216,8 @@ export function beginForm(id, done, further = () => []) {
 }
 
 /** The buttons of a claim in a table, none where it isn't open any more; calls this when one of them was
- * answered. */
-export function claimActions(claim, done) {
+ * answered. Where the row is the office's own, the second click tells it. */
+export function claimActions(claim, done, claimRow = null) {
   const fields = {
     language: currentLanguage(), claim: String(claim.claim), employer: String(claim.employer),
   };
@@ -189,7 +227,7 @@ export function claimActions(claim, done) {
       return;
     }
     isBusy = true;
-    const told = await sendCommand(kind, fields, tellAnswer);
+    const told = await sendCommand(kind, fields, tellAnswer, { claimRow });
     isBusy = false;
     if (told) {
       tellAnswer(told);
@@ -198,7 +236,8 @@ export function claimActions(claim, done) {
   };
   const kinds = claim.state === "open" ? ["release", "withdraw"] : [];
   return make("span", { class: "buttons" }, ...kinds.map((kind) =>
-    button(say(`${kind}.button`), () => act(kind), {
+    // The second half of a double click may fall on another row, which has come there by the first one.
+    button(say(`${kind}.button`), (event) => event.detail < 2 && act(kind), {
       class: kind, "data-claim": String(claim.claim), "aria-label": say(`${kind}.claim`, claim),
     })));
 }

@@ -103,10 +103,11 @@ function showSuspense(told) {
   showOtherDay();
 }
 
-function showKnown(kind, numbers, show) {
+function showKnown(kind, word, numbers, show) {
   const list = byId(`${kind}-known`);
-  const links = numbers.toReversed().map((number) =>
-    button(String(number), () => show(number), { class: "link", "data-number": String(number) }));
+  const links = numbers.toReversed().map((number) => button(String(number), () => show(number), {
+    class: "link", "data-number": String(number), "aria-label": `${say(word)} ${number}`,
+  }));
   list.replaceChildren(...(links.length ? [`${say(`${kind}.known`)}: `, ...links] : []));
 }
 
@@ -188,8 +189,8 @@ async function showMorning(asked = ask(first)) {
     return;
   }
   showSuspense(told);
-  showKnown("payouts", told.lists, (number) => showDocument("payouts", number));
-  showKnown("reminders", told.runs, (number) => showDocument("reminders", number));
+  showKnown("payouts", "label.list", told.lists, (number) => showDocument("payouts", number));
+  showKnown("reminders", "label.run", told.runs, (number) => showDocument("reminders", number));
 }
 
 export function beginMorning() {

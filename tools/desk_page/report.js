@@ -8,17 +8,34 @@ import { clearFields, markSent, tellField } from "./forms.js";
 import { euros, month, percent } from "./formats.js";
 import { say } from "./words.js";
 
-// What was expected of the lines that were checked last.
-let expected = null;
+// What was told of the lines that were checked last.
+let checked = null;
 // How often what was checked was forgotten: a check or an answer that comes late isn't taken for the lines that
 // stand there now.
 let turns = 0;
 // The file that is being read.
 let chosen = null;
+// The month that the version belongs to, with the version; null where it was typed and no month stood there yet.
+let corrected = null;
+
+/** The month that stands there as the office writes it, however it is typed; empty where it is none. */
+function typedMonth() {
+  const text = byId("report-month").value.trim();
+  const [, month, year] = /^([0-9]{1,2})[/.]([0-9]{4})$/.exec(text) ?? [];
+  const iso = year ? `${year}-${month.padStart(2, "0")}` : text;
+  return /^[0-9]{4}-(0[1-9]|1[0-2])$/.test(iso) ? iso : "";
+}
+
+/** Keeps which month's version stands there. */
+function keepVersion() {
+  const version = byId("report-version").value;
+  const month = typedMonth();
+  corrected = version && month ? { month, version } : null;
+}
 
 function forget() {
   turns += 1;
-  expected = null;
+  checked = null;
   byId("report-check-result").replaceChildren();
   byId("report-send").disabled = true;
 }
@@ -29,11 +46,18 @@ export function showSend() {
   byId("report-send").textContent = say(isCorrection ? "report.send-correction" : "report.send");
 }
 
-/** Takes a month and the version that stands, from the statement. */
+/** Takes a month and the version that stands, from the statement. Lines of another month don't stay. */
 export function openReport(text, version) {
+  const before = typedMonth();
   forget();
+  clearFields(byId("form-report"));
+  if (before !== "" && before !== text) {
+    chosen = null;
+    byId("report-csv").value = "";
+  }
   byId("report-month").value = text ?? "";
   byId("report-version").value = version ?? "";
+  keepVersion();
   showSend();
   if (text) {
     byId("report-file").focus();
@@ -76,6 +100,13 @@ function showFaults(told) {
     make("ul", { id: "report-faults" }, ...lines));
 }
 
+/** Shows what was told of the lines, in the language of now. */
+export function showChecked() {
+  if (checked) {
+    (checked.faults.length ? showFaults : showLines)(checked);
+  }
+}
+
 async function check() {
   const form = byId("form-report");
   forget();
@@ -91,13 +122,9 @@ async function check() {
     }
     return;
   }
-  if (told.faults.length) {
-    showFaults(told);
-    return;
-  }
-  expected = told.expected;
-  showLines(told);
-  byId("report-send").disabled = false;
+  checked = told;
+  showChecked();
+  byId("report-send").disabled = told.faults.length > 0;
 }
 
 /** What the answer says against what was expected of the lines that were sent. */
@@ -115,7 +142,7 @@ async function send(done) {
   clearAnswer();
   byId("report-send").disabled = true;
   const turn = turns;
-  const awaited = expected;
+  const awaited = checked?.expected;
   const told = await sendForm(`/api/commands/${kind}`, kind, fieldsOf(form));
   const isSame = turn === turns;
   if (isSame) {
@@ -153,24 +180,34 @@ async function read(file) {
   check();
 }
 
-/** Checks the lines where they can't be sent yet: Enter does nothing by itself then. A key that is held sends
- * nothing. */
+/** Checks the lines where that wasn't done yet. Enter in a field never sends them: they are looked at first. */
 function checkByEnter(event) {
-  if (event.key === "Enter" && (event.repeat || byId("report-send").disabled)) {
-    event.preventDefault();
-    if (!event.repeat) {
-      check();
-    }
+  if (event.key !== "Enter") {
+    return;
   }
+  event.preventDefault();
+  if (!event.repeat && byId("report-send").disabled) {
+    check();
+  }
+}
+
+/** Another month has another version. */
+function changeMonth() {
+  forget();
+  if (corrected) {
+    byId("report-version").value = typedMonth() === corrected.month ? corrected.version : "";
+  } else {
+    keepVersion();
+  }
+  showSend();
 }
 
 export function beginReport(done) {
   const form = byId("form-report");
   byId("report-check").addEventListener("click", check);
-  byId("report-version").addEventListener("input", () => { forget(); showSend(); });
-  for (const id of ["report-csv", "report-month"]) {
-    byId(id).addEventListener("input", forget);
-  }
+  byId("report-version").addEventListener("input", () => { forget(); keepVersion(); showSend(); });
+  byId("report-csv").addEventListener("input", forget);
+  byId("report-month").addEventListener("input", changeMonth);
   for (const id of ["report-month", "report-version"]) {
     byId(id).addEventListener("keydown", checkByEnter);
   }

@@ -65,13 +65,19 @@ async function load(wanted) {
 /** Fetches the words, so that they can be said. */
 export const beginWords = () => load(wantedLanguage());
 
-/** Says all words of the page, and calls this when another language is chosen. */
-export function sayWords(changed) {
+/** Says all words of the page, and calls the one when another language is chosen, the other where its words
+ * can't be had. */
+export function sayWords(changed, failed) {
   sayAll();
   for (const it of LANGUAGES) {
     document.getElementById(`language-${it}`).addEventListener("click", async () => {
+      try {
+        await load(it);
+      } catch {
+        failed();
+        return;
+      }
       keepLanguage(it);
-      await load(it);
       sayAll();
       changed();
     });

@@ -13,9 +13,11 @@ const READ_PARTS = ["worker-figures", "worker-claims", "worker-earned"];
 const last = lastOnly();
 let shown = null;
 
-function claimRow(claim) {
-  return row(String(claim.claim), make("a", { href: `#/firm/${claim.employer}` }, String(claim.employer)),
-    say(`state.${claim.state}`), euros(claim.cents), claimActions(claim, () => showWorker(shown)));
+function claimRow(claim, worker) {
+  const { employer, cents } = claim;
+  return row(String(claim.claim), make("a", { href: `#/firm/${employer}` }, String(employer)),
+    say(`state.${claim.state}`), euros(cents),
+    claimActions(claim, () => showWorker(shown), { employer, worker, cents }));
 }
 
 /** The sum of amounts, which come as digits: exact, whatever it comes to. */
@@ -27,7 +29,8 @@ function showTables(worker) {
   const claimColumns = [["column.claim", "id"], ["column.firm", "id"], ["column.state", "word"],
     ["column.amount", "amount"], ["column.action", "action"]];
   byId("worker-claims").replaceChildren(worker.claims.length
-    ? table("worker-claims-table", say("worker.claims-caption"), claimColumns, worker.claims.map(claimRow))
+    ? table("worker-claims-table", say("worker.claims-caption"), claimColumns,
+      worker.claims.map((it) => claimRow(it, worker.worker)))
     : make("p", { class: "hint" }, say("worker.no-claims")));
   const earnedColumns = [["column.firm", "id"], ["column.month", "month"], ["column.earned", "amount"]];
   const earned = worker.earned.map((it) => row(

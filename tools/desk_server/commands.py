@@ -10,7 +10,7 @@ Values = dict[str, Any]
 
 # The commands that can't be taken back: the page tells so, and the desk sends them only when that was
 # confirmed.
-FINAL = frozenset(("assign", "bank", "end", "payouts", "rates", "register", "release", "reminders"))
+FINAL = frozenset(("assign", "bank", "end", "payouts", "rates", "register", "release", "reminders", "withdraw"))
 # The members of each command's reply: what has others comes from no office.
 DONE = frozenset(("done",))
 REPLIES = {

@@ -97,11 +97,11 @@ class Desk:
 
     def facts(self, command: Command) -> dict[str, Any]:
         """What the page tells before the second click: the values as they were read; of a claim that is to be
-        released what this desk's log knows, where the office says the same."""
-        if command.kind != "release":
+        released or withdrawn what this desk's log knows, where the office says the same."""
+        if command.kind not in ("release", "withdraw"):
             return command.values
         claim = self.journal.history.claims.get(command.values["claim"])
-        if claim is None or not self.stands(claim):
+        if claim is None or not claim.items() >= command.values.items() or not self.stands(claim):
             return {**command.values, "unknown": "–"}
         return {**command.values, **{name: claim[name] for name in ("employer", "worker", "cents")}}
 

@@ -52,7 +52,7 @@ def read_report(text: str) -> Report:
     """A spreadsheet may put a byte order mark in front, and semicolons in the place of the commas."""
     report = Report()
     text = text.removeprefix("\ufeff")
-    header = text.partition("\n")[0].strip("\r ")
+    header = text.partition("\n")[0].strip("\r ").replace('"', "")
     separator = ";" if ";" in header else ","
     if header != f"worker{separator}gross":
         report.faults.append({"line": 1, "reason": "header", "word": header[:40]})
