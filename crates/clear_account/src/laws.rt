@@ -4,41 +4,41 @@ ghost use Rattle.clear_account.specs.Laws.{CreditsKept, FewPieces, FewShares, On
 ghost use Rattle.clear_account.specs.Laws.{ShareAPiece, SharesSum, WeightByPieces};
 
 /// The shares of a charge sum to what the payments reach of it.
-pub fn shares_sum()
+pub fn law_shares_sum()
     ensures { SharesSum }
 {}
 
 /// The pieces sum to the lesser of all charges and all payments.
-pub fn pieces_sum()
+pub fn law_pieces_sum()
     ensures { PiecesSum }
 {}
 
 /// The pieces and what is prepaid sum to the payments.
-pub fn credits_kept()
+pub fn law_credits_kept()
     ensures { CreditsKept }
 {}
 
 /// The weight month by month is the weight piece by piece, and that of the open part.
-pub fn weight_by_pieces()
+pub fn law_weight_by_pieces()
     ensures { WeightByPieces }
 {}
 
 /// Each charge and each payment with a share have one piece, and no other piece names the two.
-pub fn one_piece()
+pub fn law_one_piece()
     ensures { OnePiece }
 {}
 
 /// There are at most as many pieces as charges and payments together.
-pub fn few_pieces()
+pub fn law_few_pieces()
     ensures { FewPieces }
 {}
 
 /// The shares of all charges, as a settled account tells them, are as many as the pieces.
-pub fn share_a_piece()
+pub fn law_share_a_piece()
     ensures { ShareAPiece }
 {}
 
 /// The shares of all charges are at most as many as charges and payments together.
-pub fn few_shares()
+pub fn law_few_shares()
     ensures { FewShares }
 {}

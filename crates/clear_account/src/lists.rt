@@ -26,8 +26,8 @@ pub(crate) fn put_charge(charges: &mut Vec<Charge>, charge: Charge) -> Result<()
     Ok(())
 }
 
-// How many charges are for earlier months.
-fn months_before(charges: &[Charge], month: Month) -> usize
+/// How many charges are for earlier months.
+pub(crate) fn months_before(charges: &[Charge], month: Month) -> usize
     requires { AllPairs (λ c d. c.month < d.month) charges.now }
     ensures bound { result ≤ length charges.now }
     ensures before { All (λ c. c.month < month) (take result charges.now) }
@@ -48,8 +48,8 @@ pub(crate) fn put_credit(credits: &mut Vec<Credit>, credit: Credit) -> Result<()
     Ok(())
 }
 
-// How many payments come before one.
-fn credits_before(credits: &[Credit], credit: &Credit) -> usize
+/// How many payments come before one.
+pub(crate) fn credits_before(credits: &[Credit], credit: &Credit) -> usize
     requires { AllPairs (λ k l. IsTrue (comes_before k l)) credits.now }
     ensures bound { result ≤ length credits.now }
     ensures before { All (λ k. comes_before k credit.now ≡ true) (take result credits.now) }
@@ -59,7 +59,7 @@ fn credits_before(credits: &[Credit], credit: &Credit) -> usize
 }
 
 /// Whether a payment has the serial.
-pub(crate) fn find_serial(credits: &[Credit], serial: u64) -> bool
+pub(crate) fn holds_serial(credits: &[Credit], serial: u64) -> bool
     ensures { IsTrue result ↔ HoldsSerial credits.now serial }
 {
     credits.iter().any(|k| k.serial == serial)

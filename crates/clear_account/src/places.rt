@@ -1,13 +1,14 @@
 //! Where the charges, payments and pieces of an account lie against a place, which is so many cents
 //! from the first charge and the first payment on. Each call takes one step for each element up to
-//! the place.
-ghost use Rattle.std.specs.Prelude.{◌≡◌, ◌≤◌, ◌<◌, ◌^◌, All, AllPairs, IsTrue, drop, length};
-ghost use Rattle.std.specs.Prelude.{false, nat_lt, sum_by, take, true};
+//! the place; a month or a payment is first found by bisection.
+ghost use Rattle.std.specs.Prelude.{◌≡◌, ◌≤◌, ◌<◌, ◌^◌, All, AllPairs, IsTrue, drop};
+ghost use Rattle.std.specs.Prelude.{false, length, sum_by, take, true};
 ghost use Rattle.clear_account.specs.Account.{charged, charged_up_to, comes_before, credited};
 ghost use Rattle.clear_account.specs.Account.{credited_up_to};
 ghost use Rattle.clear_account.specs.Places.{Ends};
 
 use crate::entries::{Charge, Credit, Piece};
+use crate::lists;
 use clear_money::months::Month;
 
 /// The first elements of a list.
@@ -83,22 +84,11 @@ pub fn charges_before(charges: &[Charge], month: Month) -> Front
     ensures from { All (λ c. month ≤ c.month) (drop result.count charges.now) }
     ensures cents { result.cents ≡ charged_up_to charges.now result.count }
 {
-    let mut front = Front { count: 0, cents: 0 };
-    for charge in charges {
-        if !is_earlier(charge, month) {
-            return front;
-        }
-        front.count += 1;
-        front.cents += charge.cents;
+    let count = lists::months_before(charges, month);
+    Front {
+        count,
+        cents: lists::add_charges(&charges[..count]),
     }
-    front
-}
-
-// Whether a charge is for an earlier month.
-fn is_earlier(charge: &Charge, month: Month) -> bool
-    ensures { result ≡ nat_lt charge.now.month month }
-{
-    charge.month < month
 }
 
 /// The payments that come before one.
@@ -110,13 +100,9 @@ pub fn credits_before(credits: &[Credit], credit: &Credit) -> Front
     ensures from { All (λ k. comes_before k credit.now ≡ false) (drop result.count credits.now) }
     ensures cents { result.cents ≡ credited_up_to credits.now result.count }
 {
-    let mut front = Front { count: 0, cents: 0 };
-    for other in credits {
-        if !other.is_before(credit) {
-            return front;
-        }
-        front.count += 1;
-        front.cents += other.cents.cents();
+    let count = lists::credits_before(credits, credit);
+    Front {
+        count,
+        cents: lists::add_credits(&credits[..count]),
     }
-    front
 }

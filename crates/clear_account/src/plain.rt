@@ -2,7 +2,7 @@
 use crate::entries::{AccountFault, Charge, Credit, Piece};
 use crate::keeper::{Keeper, MAX_CREDITS};
 use crate::lists::{
-    add_charges, add_credits, add_due, find_serial, open_cents, place_of, put_charge, put_credit,
+    add_charges, add_credits, add_due, holds_serial, open_cents, place_of, put_charge, put_credit,
 };
 use crate::refill::refill;
 use crate::turns::Turns;
@@ -80,7 +80,7 @@ impl Keeper for Plain {
     }
 
     fn holds(&self, serial: u64) -> bool {
-        find_serial(self.credits.as_slice(), serial)
+        holds_serial(self.credits.as_slice(), serial)
     }
 
     fn pieces(&self, alloc: Global) -> Result<Vec<Piece>, AccountFault> {

@@ -178,7 +178,7 @@ by-some known lines p first settled e =
     ∙ ap (λ b. b && not (same_content first p.1)) (any-some (λ l. bytes_eq p.1.reference l.reference) before first e)
     ∙ sym (ap (has_other_content p.1) e)
 
-next_taken : (lines rest : List BankLine) (place : ℕ) (line : BankLine) → drop place lines ≡ line ∷ rest → (take (suc place) lines ≡ take place lines ++ line ∷ []) × (drop (suc place) lines ≡ rest)
+pub next_taken : (lines rest : List BankLine) (place : ℕ) (line : BankLine) → drop place lines ≡ line ∷ rest → (take (suc place) lines ≡ take place lines ++ line ∷ []) × (drop (suc place) lines ≡ rest)
 next_taken [] rest zero line e = cc e
 next_taken [] rest (suc place) line e = cc e
 next_taken (x ∷ xs) rest zero line e =

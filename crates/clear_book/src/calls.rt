@@ -79,13 +79,21 @@ pub struct Withdrawal {
 pub enum Command {
     /// The rates from a month on, behind those that stand.
     AddRate(RateRow),
+    /// The clerk registers a firm.
     Register(Registration),
+    /// The clerk sets the last month of a firm's membership.
     EndMembership(MembershipEnd),
+    /// A month's first report.
     Report(WageReport),
+    /// A report in the place of a month's latest one.
     Correct(Correction),
+    /// The clerk brings in the lines of a bank file.
     ImportBank(BankFile),
+    /// The clerk gives a line in suspense to a firm.
     Assign(Assignment),
+    /// A firm claims holiday pay that it has advanced.
     Claim(HolidayClaim),
+    /// A firm takes a claim back.
     Withdraw(Withdrawal),
     /// The clerk settles a claim.
     Release(ClaimNo),

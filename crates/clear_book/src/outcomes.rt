@@ -15,13 +15,17 @@ pub enum Answer {
         arrears: u64,
         prepaid: u64,
     },
+    /// A document's text.
     Text(Document),
 }
 
 /// What a call of a run is answered.
 #[derive(Drop)]
 pub enum Outcome {
+    /// The command is accepted.
     Replied(Reply),
+    /// The query is answered.
     Answered(Answer),
+    /// The rule that refuses it; the book stays as it was.
     Refused(Rule),
 }

@@ -1,7 +1,6 @@
 //! Caller files: TOML texts in which each member is a key and the number of its caller.
 ghost use Rattle.std.specs.Prelude.{◌≡◌, ◌≢◌, OnOk, IfOk, IfErr, map, Some, None, ok_or};
 ghost use Rattle.toml.specs.View.{view, table_view};
-ghost use Rattle.clear_money.specs.RateFile.{document_of};
 ghost use Rattle.clear_callers.specs.CallerFile.{caller_at, caller_numbered, Gives, is_key};
 ghost use Rattle.clear_callers.specs.CallerFile.{keys_in};
 ghost use Rattle.clear_callers.specs.Callers.{key_of, with_key};
@@ -28,19 +27,6 @@ pub enum DirectoryFault {
 
 // The greatest length of a key.
 const MAX_KEY: usize = 64;
-
-// The document that the bytes write.
-pub(crate) fn read_document(alloc: Global, bytes: &[u8]) -> Result<Table, DirectoryFault>
-    ensures ok { IfOk result (λ table. document_of bytes.now ≡ Some (table_view table)) }
-    ensures fault { IfErr result (λ fault. fault ≢ DirectoryFault.Memory
-        → (fault ≡ DirectoryFault.Text) × (document_of bytes.now ≡ None)) }
-{
-    match toml::table_from_slice(alloc, bytes) {
-        Ok(table) => Ok(table),
-        Err(e) if e.is_memory() => Err(DirectoryFault::Memory),
-        Err(_) => Err(DirectoryFault::Text),
-    }
-}
 
 // The keys of a document and their callers.
 pub(crate) fn callers_in(

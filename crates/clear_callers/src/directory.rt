@@ -6,8 +6,9 @@ ghost use Rattle.clear_callers.specs.CallerFile.{directory_of, sample_text, Give
 ghost use Rattle.clear_callers.specs.Callers.{caller_of, sample_keys};
 ghost use Rattle.clear_callers.specs.declared.caller_file.DirectoryFault.TheVariants.{Text, Entry};
 
-use crate::caller_file::{DirectoryFault, add_key, callers_in, read_document};
+use crate::caller_file::{DirectoryFault, add_key, callers_in};
 use clear_book::calls::Caller;
+use clear_money::documents::read_document;
 use clear_money::numbers::EmployerNo;
 use std::alloc::{AllocError, Global};
 use std::collections::BTreeMap;
@@ -40,7 +41,12 @@ impl Directory {
     pub fn read(alloc: Global, bytes: &[u8]) -> Result<Directory, DirectoryFault>
         ensures { Gives (λ directory. directory) result (directory_of bytes.now) }
     {
-        let document = read_document(alloc, bytes)?;
+        let Ok(document) = read_document(alloc, bytes) else {
+            return Err(DirectoryFault::Memory);
+        };
+        let Some(document) = document else {
+            return Err(DirectoryFault::Text);
+        };
         let callers = callers_in(alloc, &document)?;
         Ok(Directory { callers })
     }

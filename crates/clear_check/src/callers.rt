@@ -8,13 +8,15 @@ ghost use Rattle.clear_callers.specs.Callers.{KeyOf};
 ghost use Rattle.clear_check.specs.CallerChecks.{SaysKeys, caller_line, counts_text, is_clerks};
 ghost use Rattle.clear_check.specs.CallerChecks.{is_zero, keys_text};
 
+mod second_look;
+
 use crate::Checked;
-use crate::document::no_document;
 use crate::seen::Seen;
-use crate::texts::{joined, plural, shown};
-use clear_callers::caller_file::{DirectoryFault, is_key};
+use crate::texts::{joined, plural};
+use clear_callers::caller_file::DirectoryFault;
 use clear_callers::directory::Directory;
-use clear_money::numbers::EmployerNo;
+use clear_money::documents::read_document;
+use second_look::look_at;
 use std::alloc::{AllocError, Global};
 use toml::{Table, Value};
 
@@ -44,7 +46,7 @@ fn keys_text(alloc: Global, bytes: &[u8]) -> Result<String, AllocError>
     ensures { (keys : List KeyOf) → directory_of bytes.now ≡ Ok keys
         → IfOk result (λ text. string_bytes text ≡ keys_text keys) }
 {
-    let Ok(document) = toml::table_from_slice(alloc, bytes) else {
+    let Some(document) = read_document(alloc, bytes)? else {
         return Err(AllocError);
     };
     counts_text(alloc, document.len(), count_clerks(&document))
@@ -107,46 +109,5 @@ fn caller_line(alloc: Global, fault: DirectoryFault, seen: &Seen) -> Result<Stri
         DirectoryFault::Text => joined(alloc, &["no TOML text: ", here, "\n"]),
         DirectoryFault::Entry => joined(alloc, &["key ", here, ": ", other, "\n"]),
         DirectoryFault::Memory => Err(AllocError),
-    }
-}
-
-// ---- the second look
-
-// What stands at the first fault.
-fn look_at(alloc: Global, bytes: &[u8]) -> Result<Seen, AllocError> {
-    let document = match toml::table_from_slice(alloc, bytes) {
-        Ok(document) => document,
-        Err(error) => return no_document(alloc, bytes, &error),
-    };
-    for (key, value) in &document {
-        let key = key.as_str().as_bytes();
-        if let Some(fault) = entry_fault(alloc, key, value)? {
-            let key = shown(alloc, key)?;
-            return Seen::new(alloc, &[key.as_str()], &[fault.as_str()]);
-        }
-    }
-    Seen::nothing(alloc)
-}
-
-// Why a member is no key of a caller.
-fn entry_fault(alloc: Global, key: &[u8], value: &Value) -> Result<Option<String>, AllocError> {
-    if !is_key(key) {
-        let fault = "a key is 1 to 64 visible ASCII characters";
-        return Ok(Some(String::from_str(alloc, fault)?));
-    }
-    let Some(number) = value.as_integer() else {
-        return Ok(Some(String::from_str(alloc, "its number is no whole number")?));
-    };
-    match u64::try_from(number) {
-        Ok(0..=EmployerNo::MAX) => Ok(None),
-        _ => {
-            let number = number.to_string(alloc)?;
-            let parts = [
-                "its number is ",
-                number.as_str(),
-                "; 0 is a clerk, 1 to 99999999 a firm",
-            ];
-            Ok(Some(joined(alloc, &parts)?))
-        }
     }
 }

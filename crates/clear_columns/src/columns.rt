@@ -1,5 +1,5 @@
 //! Values of the office's types out of the columns of a row.
-ghost use Rattle.std.specs.Prelude.{◌≡◌, ◌≢◌, ◌<◌, ◌≤◌, ◌+◌, ◌^◌, ◌↔◌, ℕ, List, length};
+ghost use Rattle.std.specs.Prelude.{◌≡◌, ◌≢◌, ◌<◌, ◌≤◌, ◌+◌, ◌↔◌, ℕ, List, length};
 ghost use Rattle.std.specs.Prelude.{IsTrue, IfOk, IfErr, IfSome, IsSome};
 ghost use Rattle.sqlite_value.specs.Order.{column};
 ghost use Rattle.sqlite_value.specs.declared.value.Value.TheVariants.{Blob, Text};
@@ -8,9 +8,9 @@ ghost use Rattle.clear_money.specs.Numbers.{IsAmount, IsEmployerNo, IsWorkerNo};
 ghost use Rattle.clear_money.specs.Rates.{IsDayOfEachMonth};
 ghost use Rattle.clear_values.specs.Texts.{is_note, is_reference};
 ghost use Rattle.clear_values.specs.declared.lines.Purpose.{Purpose};
-ghost use Rattle.clear_values.specs.Limits.{most_base, most_entries, most_gross, most_serials};
+ghost use Rattle.clear_values.specs.Limits.{most_base, most_entries, most_gross};
 ghost use Rattle.clear_values.specs.Limits.{most_versions, most_weight};
-ghost use Rattle.clear_values.specs.Numbers.{IsClaimNo, IsListNo};
+ghost use Rattle.clear_values.specs.Numbers.{IsClaimNo, IsListNo, IsRunNo, IsSerialCount};
 ghost use Rattle.clear_values.specs.RowRanges.{IsSerial};
 ghost use Rattle.clear_values.specs.Texts.{IsCreditReference, IsName};
 ghost use Rattle.clear_schema.specs.Values as stored;
@@ -22,13 +22,24 @@ use crate::ranges::{
 use clear_money::days::Day;
 use clear_money::months::Month;
 use clear_money::numbers::{Amount, EmployerNo, WorkerNo};
+use clear_money::rates::RateRow;
 use clear_schema::fault::Fault;
 use clear_schema::values::value_at;
 use clear_values::causes::StoreCause;
 use clear_values::lines::Purpose;
-use clear_values::numbers::{ClaimNo, ListNo, SerialCount};
+use clear_values::numbers::{ClaimNo, ListNo, RunNo, SerialCount};
 use clear_values::texts::{CreditReference, Name, Note, Reference};
 use sqlite::Row;
+
+// The value, if it is in its range.
+fn in_range<T: Copy>(value: T, is_right: bool) -> Result<T, Fault>
+    ensures right { IfOk result (λ x. (x ≡ value) × IsTrue is_right) }
+    ensures wrong { IfErr result (λ f. (f ≡ Fault.Store StoreCause.Row) × ¬ IsTrue is_right) }
+{
+    is_right
+        .then_some(value)
+        .ok_or(Fault::Store(StoreCause::Row))
+}
 
 /// The whole number in a column.
 pub fn number_at(row: &Row, at: usize) -> Result<u64, Fault>
@@ -159,10 +170,7 @@ pub fn version_at(row: &Row, at: usize) -> Result<u32, Fault>
     ensures reads { ReadsColumn row.now at result stored.number (λ v. (1 ≤ v) × (v ≤ most_versions)) }
 {
     let version: u32 = value_at(row, at)?;
-    if !is_version(version) {
-        return Err(Fault::Store(StoreCause::Row));
-    }
-    Ok(version)
+    in_range(version, is_version(version))
 }
 
 /// The gross amount in a column, in cents, at most 10,000,000.
@@ -170,10 +178,7 @@ pub fn gross_at(row: &Row, at: usize) -> Result<u64, Fault>
     ensures reads { ReadsColumn row.now at result stored.number (λ g. g ≤ most_gross) }
 {
     let gross: u64 = value_at(row, at)?;
-    if !is_gross(gross) {
-        return Err(Fault::Store(StoreCause::Row));
-    }
-    Ok(gross)
+    in_range(gross, is_gross(gross))
 }
 
 /// The contribution of a month in a column, or what is open of it, in cents, at most 5,000,000,000.
@@ -181,10 +186,7 @@ pub fn contribution_at(row: &Row, at: usize) -> Result<u64, Fault>
     ensures reads { ReadsColumn row.now at result stored.number (λ c. c ≤ most_base) }
 {
     let contribution: u64 = value_at(row, at)?;
-    if !is_contribution(contribution) {
-        return Err(Fault::Store(StoreCause::Row));
-    }
-    Ok(contribution)
+    in_range(contribution, is_contribution(contribution))
 }
 
 /// The weight of a contribution in a column: cents, each once for each month begun until it was paid,
@@ -193,10 +195,7 @@ pub fn weight_at(row: &Row, at: usize) -> Result<u64, Fault>
     ensures reads { ReadsColumn row.now at result stored.number (λ w. w ≤ most_weight) }
 {
     let weight: u64 = value_at(row, at)?;
-    if !is_weight(weight) {
-        return Err(Fault::Store(StoreCause::Row));
-    }
-    Ok(weight)
+    in_range(weight, is_weight(weight))
 }
 
 /// The serial of a bank line or a release in a column, 1 to 500,000,000,000.
@@ -204,10 +203,7 @@ pub fn serial_at(row: &Row, at: usize) -> Result<u64, Fault>
     ensures reads { ReadsColumn row.now at result stored.number IsSerial }
 {
     let serial: u64 = value_at(row, at)?;
-    if !is_serial(serial) {
-        return Err(Fault::Store(StoreCause::Row));
-    }
-    Ok(serial)
+    in_range(serial, is_serial(serial))
 }
 
 /// How many requests were accepted, in a column, at most 50,000,000.
@@ -215,10 +211,7 @@ pub fn entry_count_at(row: &Row, at: usize) -> Result<u64, Fault>
     ensures reads { ReadsColumn row.now at result stored.number (λ n. n ≤ most_entries) }
 {
     let count: u64 = value_at(row, at)?;
-    if !is_entry_count(count) {
-        return Err(Fault::Store(StoreCause::Row));
-    }
-    Ok(count)
+    in_range(count, is_entry_count(count))
 }
 
 /// How many claims, payout lists or reminder runs were given numbers, in a column, at most
@@ -227,18 +220,14 @@ pub fn given_count_at(row: &Row, at: usize) -> Result<u32, Fault>
     ensures reads { ReadsColumn row.now at result stored.number (λ n. n ≤ most_entries) }
 {
     let count: u32 = value_at(row, at)?;
-    if !is_entry_count(u64::from(count)) {
-        return Err(Fault::Store(StoreCause::Row));
-    }
-    Ok(count)
+    in_range(count, is_entry_count(u64::from(count)))
 }
 
 /// How many serials were given, in a column, at most 500,000,000,000.
-pub fn serial_count_at(row: &Row, at: usize) -> Result<u64, Fault>
-    ensures reads { ReadsColumn row.now at result stored.number (λ n. n ≤ most_serials) }
+pub fn serial_count_at(row: &Row, at: usize) -> Result<SerialCount, Fault>
+    ensures reads { ReadsColumn row.now at result stored.number IsSerialCount }
 {
-    let count = SerialCount::new(number_at(row, at)?).ok_or(Fault::Store(StoreCause::Row))?;
-    Ok(count.count())
+    SerialCount::new(number_at(row, at)?).ok_or(Fault::Store(StoreCause::Row))
 }
 
 /// The rate in a column, in hundredths of a percent, at most this.
@@ -246,10 +235,7 @@ pub fn rate_at(row: &Row, at: usize, most: u16) -> Result<u16, Fault>
     ensures reads { ReadsColumn row.now at result stored.number (λ r. r ≤ most) }
 {
     let number: u64 = value_at(row, at)?;
-    if number > u64::from(most) {
-        return Err(Fault::Store(StoreCause::Row));
-    }
-    Ok(number as u16)
+    Ok(in_range(number, number <= u64::from(most))? as u16)
 }
 
 /// The day of each month in a column.
@@ -257,10 +243,10 @@ pub fn month_day_at(row: &Row, at: usize) -> Result<u8, Fault>
     ensures reads { ReadsColumn row.now at result stored.number IsDayOfEachMonth }
 {
     let number: u64 = value_at(row, at)?;
-    if number < 1 || number > 28 {
-        return Err(Fault::Store(StoreCause::Row));
-    }
-    Ok(number as u8)
+    Ok(in_range(
+        number,
+        number >= 1 && number <= u64::from(RateRow::LAST_DAY),
+    )? as u8)
 }
 
 /// The number of a claim in a column, 1 to 50,000,000.
@@ -269,6 +255,14 @@ pub fn claim_at(row: &Row, at: usize) -> Result<u32, Fault>
 {
     let claim = ClaimNo::new(number_at(row, at)?).ok_or(Fault::Store(StoreCause::Row))?;
     Ok(claim.number())
+}
+
+/// The number of a payout list in a column, 1 to 50,000,000.
+pub fn list_at(row: &Row, at: usize) -> Result<u32, Fault>
+    ensures reads { ReadsColumn row.now at result stored.number IsListNo }
+{
+    let list = ListNo::new(number_at(row, at)?).ok_or(Fault::Store(StoreCause::Row))?;
+    Ok(list.number())
 }
 
 /// The number of a payout list in a column, 1 to 50,000,000, or none where it is NULL.
@@ -285,15 +279,20 @@ pub fn maybe_list_at(row: &Row, at: usize) -> Result<Option<u32>, Fault>
     }
 }
 
+/// The number of a reminder run in a column, 1 to 50,000,000.
+pub fn run_at(row: &Row, at: usize) -> Result<u32, Fault>
+    ensures reads { ReadsColumn row.now at result stored.number IsRunNo }
+{
+    let run = RunNo::new(number_at(row, at)?).ok_or(Fault::Store(StoreCause::Row))?;
+    Ok(run.number())
+}
+
 /// The level of a reminder in a column, 1 to 3.
 pub fn level_at(row: &Row, at: usize) -> Result<u8, Fault>
     ensures reads { ReadsColumn row.now at result stored.number (λ l. (1 ≤ l) × (l ≤ 3)) }
 {
     let number: u64 = value_at(row, at)?;
-    if number < 1 || number > 3 {
-        return Err(Fault::Store(StoreCause::Row));
-    }
-    Ok(number as u8)
+    Ok(in_range(number, number >= 1 && number <= 3)? as u8)
 }
 
 /// How many months, in a column, at most 2,400.
@@ -301,17 +300,7 @@ pub fn month_count_at(row: &Row, at: usize) -> Result<u32, Fault>
     ensures reads { ReadsColumn row.now at result stored.number (λ n. n ≤ length months) }
 {
     let count: u32 = value_at(row, at)?;
-    if !is_month_count(count) {
-        return Err(Fault::Store(StoreCause::Row));
-    }
-    Ok(count)
-}
-
-/// A number of 32 bits in a column.
-pub fn count_at(row: &Row, at: usize) -> Result<u32, Fault>
-    ensures reads { ReadsColumn row.now at result stored.number (λ n. n < 2 ^ 32) }
-{
-    value_at(row, at)
+    in_range(count, is_month_count(count))
 }
 
 // The month that is so many after 2000-01. None past 2199-12.

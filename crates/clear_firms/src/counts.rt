@@ -18,7 +18,6 @@ use clear_schema::fault::Fault;
 use clear_schema::statement::put;
 use clear_schema::values::number;
 use clear_values::causes::StoreCause;
-use clear_values::numbers::SerialCount;
 use sqlite::{Alter, Connection, Error, Row, Rows, Transaction};
 use sqlite_value::value::ValueRef;
 
@@ -72,8 +71,7 @@ impl StoredTable for Meta {
 }
 
 /// Writes the counts in place of those that stand. More than 50,000,000 entries, claims, lists or
-/// runs, or 500,000,000,000 serials, are refused with `Fault::Store(StoreCause::Row)`, and nothing is
-/// done.
+/// runs are refused with `Fault::Store(StoreCause::Row)`, and nothing is done.
 pub fn put_counts<S: Alter>(tx: &mut Transaction<'_, S>, counts: &Counts) -> Result<(), Fault>
     ensures same_reference { tx.new.conn.ghost_name ≡ tx.old.conn.ghost_name }
     ensures writes { Writes S.Store tx.old.conn.now tx.new.conn.now result
@@ -95,8 +93,9 @@ pub fn put_counts<S: Alter>(tx: &mut Transaction<'_, S>, counts: &Counts) -> Res
 fn are_countable(counts: &Counts) -> bool
     ensures { (result ≡ true) ↔ AreCountable counts.now }
 {
+    // A proof reads the range of the serials from their type.
+    let _serial = counts.serial.count();
     is_entry_count(counts.entries)
-        && SerialCount::new(counts.serial).is_some()
         && is_entry_count(u64::from(counts.claims))
         && is_entry_count(u64::from(counts.lists))
         && is_entry_count(u64::from(counts.runs))
@@ -110,7 +109,7 @@ fn counts_values(counts: &Counts) -> [ValueRef<'static>; 6]
     [
         maybe_day(counts.day),
         number(counts.entries),
-        number(counts.serial),
+        number(counts.serial.count()),
         number(u64::from(counts.claims)),
         number(u64::from(counts.lists)),
         number(u64::from(counts.runs)),

@@ -92,11 +92,11 @@ impl StoredTable for Rates {
 
     fn read(row: &Row) -> Result<RateRow, Fault> {
         let first = month_at(row, 0)?;
-        let contribution = rate_at(row, 1, 10_000)?;
+        let contribution = rate_at(row, 1, RateRow::MAX_SHARE)?;
         let report_day = month_day_at(row, 2)?;
         let due_day = month_day_at(row, 3)?;
-        let interest = rate_at(row, 4, 1_000)?;
-        let entitlement = rate_at(row, 5, 10_000)?;
+        let interest = rate_at(row, 4, RateRow::MAX_INTEREST_RATE)?;
+        let entitlement = rate_at(row, 5, RateRow::MAX_SHARE)?;
         match RateRow::new(
             first,
             contribution,

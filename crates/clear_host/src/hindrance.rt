@@ -7,8 +7,6 @@ use sqlite::{Error, ErrorCode};
 /// What stands in the way of a connection on a store's file.
 #[derive(Clone, Copy)]
 pub enum Hindrance {
-    /// Nothing: there is a connection, or its fault says it.
-    None,
     /// The file can't be opened.
     NotReachable,
     /// Another process holds the file.
@@ -17,14 +15,14 @@ pub enum Hindrance {
     NoDatabase,
 }
 
-/// What an error of the database says of it.
-pub(crate) fn hindrance_of(error: &Error) -> Hindrance
+/// What an error of the database says of it, if that is more than the fault says.
+pub(crate) fn hindrance_of(error: &Error) -> Option<Hindrance>
     ensures { result ≡ hindrance_of error.now }
 {
     match error {
-        Error::SqliteFailure(ErrorCode::CannotOpen) => Hindrance::NotReachable,
-        Error::SqliteFailure(ErrorCode::DatabaseBusy) => Hindrance::InUse,
-        Error::SqliteFailure(ErrorCode::NotADatabase) => Hindrance::NoDatabase,
-        _ => Hindrance::None,
+        Error::SqliteFailure(ErrorCode::CannotOpen) => Some(Hindrance::NotReachable),
+        Error::SqliteFailure(ErrorCode::DatabaseBusy) => Some(Hindrance::InUse),
+        Error::SqliteFailure(ErrorCode::NotADatabase) => Some(Hindrance::NoDatabase),
+        _ => None,
     }
 }

@@ -12,7 +12,6 @@ ghost use Rattle.clear_schema.specs.Seen.{Sees};
 ghost use Rattle.clear_host.specs.Contents.{HoldsStore, IsUntoldUnopened};
 ghost use Rattle.clear_host.specs.Offices.{IsOurs, TellsOf};
 
-use crate::hindrance::Hindrance;
 use crate::offices::NotOpened;
 use crate::opening::open_database;
 use clear_migrate::schemas::{Migration, to_current};
@@ -31,7 +30,8 @@ pub struct Brought<S: Alter> {
 /// Brings the store in the file at a path to this program's schema. Where no file is, none is made.
 /// No schema is brought over yet, so the store is current already, and nothing in it changes. Where
 /// the file holds no store of this program, `WrongVersion` with the number of its schema, 0 without
-/// one; where that is our number, but its tables or indexes are others than ours, `Store(Other)`.
+/// one; where that is our number, but its tables or indexes are others than ours,
+/// `Failed(Fault::Store(StoreCause::Other))`.
 pub fn bring_to_current<S: Start>(
     rt: &HostRuntime,
     path: &str,
@@ -75,7 +75,7 @@ fn bring<S: Alter>(connection: Connection<S>) -> Result<Brought<S>, NotOpened<S>
         }),
         Err(fault) => Err(NotOpened {
             fault,
-            hindrance: Hindrance::None,
+            hindrance: None,
             connection: Some(connection),
         }),
     }

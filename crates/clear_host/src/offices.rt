@@ -52,8 +52,8 @@ impl<S: Alter> Opened<S> {
 #[derive(Drop)]
 pub struct NotOpened<S: Alter> {
     pub fault: OpenFault,
-    /// What stood in the way of a connection. It says more than the fault does.
-    pub hindrance: Hindrance,
+    /// What stood in the way of a connection, where that says more than the fault does.
+    pub hindrance: Option<Hindrance>,
     pub connection: Option<Connection<S>>,
 }
 
@@ -86,7 +86,7 @@ pub(crate) fn new_office<S: Alter>(
         }),
         Err(refusal) => Err(NotOpened {
             fault: refusal.fault,
-            hindrance: Hindrance::None,
+            hindrance: None,
             connection: Some(refusal.connection),
         }),
     }
@@ -96,7 +96,7 @@ pub(crate) fn new_office<S: Alter>(
 /// The store is confirmed to stand, so that a crash leaves the tables that it has and no others.
 /// Where the database is no store of this program, `WrongVersion` with the number of its schema, 0
 /// without one; where that is our number, but its tables or indexes are others than ours,
-/// `Store(Other)`.
+/// `Failed(Fault::Store(StoreCause::Other))`.
 pub(crate) fn find_office<S: Alter>(
     alloc: Global,
     connection: Connection<S>,
@@ -131,7 +131,7 @@ fn find_store<S: Alter>(connection: Connection<S>) -> Result<Store<S>, NotOpened
         Ok(store) => confirm(store),
         Err(refusal) => Err(NotOpened {
             fault: refusal.fault,
-            hindrance: Hindrance::None,
+            hindrance: None,
             connection: Some(refusal.connection),
         }),
     }
@@ -156,7 +156,7 @@ fn confirm<S: Alter>(store: Store<S>) -> Result<Store<S>, NotOpened<S>>
         Ok(()) => Ok(store),
         Err(fault) => Err(NotOpened {
             fault: OpenFault::Failed(fault),
-            hindrance: Hindrance::None,
+            hindrance: None,
             connection: Some(store.into_connection()),
         }),
     }
@@ -190,7 +190,7 @@ fn office_over<S: Alter>(alloc: Global, store: Store<S>) -> Result<Opened<S>, No
         }),
         Err(fault) => Err(NotOpened {
             fault: OpenFault::Failed(fault),
-            hindrance: Hindrance::None,
+            hindrance: None,
             connection: Some(store.into_connection()),
         }),
     }

@@ -62,7 +62,7 @@ pub fn create_office<S: Start>(
 /// The store is confirmed to stand, so that a crash leaves the tables that it has and no others.
 /// Where no file is, none is made. Where the file holds no store of this program, `WrongVersion`
 /// with the number of its schema, 0 without one; where that is our number, but its tables or indexes
-/// are others than ours, `Store(Other)`.
+/// are others than ours, `Failed(Fault::Store(StoreCause::Other))`.
 pub fn open_office<S: Start>(
     rt: &HostRuntime,
     path: &str,

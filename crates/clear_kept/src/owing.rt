@@ -8,7 +8,7 @@ use crate::rows::WeighedCharge;
 use clear_account::entries::Charge;
 use clear_money::days::{Day, begun_months};
 use clear_money::months::Month;
-use clear_money::rates::RateTable;
+use clear_money::rates::{RateRow, RateTable};
 use std::marker::Model;
 
 /// The rows of a firm's charges, each in its ranges: what they sum to stays below 2^64.
@@ -103,7 +103,7 @@ fn are_weighed(rows: &[WeighedCharge]) -> bool
 fn is_weighed(row: &WeighedCharge) -> bool
     ensures { IsTrue result ↔ IsWeighedInRange row.now }
 {
-    row.due.day_of_month() <= 28
+    row.due.day_of_month() <= RateRow::LAST_DAY
         && row.cents <= Charge::MAX_CENTS
         && row.left <= Charge::MAX_CENTS
         && row.weight <= Charge::MAX_WEIGHT

@@ -7,6 +7,7 @@ use Rattle.std.specs.List.{enumerate_from, range_with_len, AllByRecursion}
 use Rattle.std.specs.Option.{option_map, option_or}
 use Rattle.std.specs.Prelude.{is_none}
 use Rattle.std.specs.Str.{bytes_eq}
+use Rattle.clear_bank.proofs.ConflictLemmas.{next_taken}
 use Rattle.clear_bank.specs.Newness.{Placed, line_under, lines_before, earlier_line, is_new}
 use Rattle.clear_values.specs.declared.lines.BankLine.{BankLine}
 use Rattle.clear_book.specs.declared.calls.Assignment.{Assignment}
@@ -116,17 +117,6 @@ module _ (is_registered : ℕ → Bool) where
 -- a line that is new from a place on has not the reference k
 abbrev IsTaken : List BankLine → List BankLine → ℕ → List ℕ → Type 0
 IsTaken known lines place k = (r : List ℕ) → line_under r (lines_before known lines place) ≡ None → is_key r k ≡ false
-
-next_taken : (lines rest : List BankLine) (place : ℕ) (line : BankLine) → drop place lines ≡ line ∷ rest → (take (suc place) lines ≡ take place lines ++ line ∷ []) × (drop (suc place) lines ≡ rest)
-next_taken [] rest zero line e = cc e
-next_taken [] rest (suc place) line e = cc e
-next_taken (x ∷ xs) rest zero line e =
-    let same : x ≡ line = cc e in
-    let tail : xs ≡ rest = cc e in
-    (ap (λ (l : BankLine). l ∷ []) same, tail)
-next_taken (x ∷ xs) rest (suc place) line e =
-    let more = next_taken xs rest place line e in
-    (ap (λ (ls : List BankLine). x ∷ ls) more.0, more.1)
 
 neither : (a b : Option BankLine) → newer a b ≡ None → (a ≡ None) × (b ≡ None)
 neither None b h = (refl, h)

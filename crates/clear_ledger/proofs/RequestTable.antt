@@ -35,9 +35,9 @@ stored x =
       cast_int (pos x.number),
       cast_int (pos x.day),
       cast_int (pos (numbers_of x.reply).kind),
-      cast_int (pos (numbers_of x.reply).a),
-      cast_int (pos (numbers_of x.reply).b),
-      cast_int (pos (numbers_of x.reply).c),
+      cast_int (pos (numbers_of x.reply).first),
+      cast_int (pos (numbers_of x.reply).second),
+      cast_int (pos (numbers_of x.reply).third),
     )
 
 abbrev pub requests : KeyedTable RequestRow

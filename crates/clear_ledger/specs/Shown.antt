@@ -70,25 +70,27 @@ claim_shown row = shown_with row (columns_of row.state)
 
 -- the kind of a reply, and its numbers
 abbrev pub numbers_of : Reply → ReplyNumbers
-numbers_of Done = record { kind = 1; a = 0; b = 0; c = 0 }
-numbers_of (Reported version charge) = record { kind = 2; a = version; b = charge; c = 0 }
-numbers_of (Imported new repeats) = record { kind = 3; a = new; b = repeats; c = 0 }
-numbers_of (Claimed claim) = record { kind = 4; a = claim; b = 0; c = 0 }
+numbers_of Done = record { kind = 1; first = 0; second = 0; third = 0 }
+numbers_of (Reported version charge) =
+    record { kind = 2; first = version; second = charge; third = 0 }
+numbers_of (Imported new repeats) = record { kind = 3; first = new; second = repeats; third = 0 }
+numbers_of (Claimed claim) = record { kind = 4; first = claim; second = 0; third = 0 }
 numbers_of (reply_of_release settlement) = record {
   kind = 5;
-  a = settlement.to_contributions;
-  b = settlement.to_interest;
-  c = settlement.paid;
+  first = settlement.to_contributions;
+  second = settlement.to_interest;
+  third = settlement.paid;
 }
-numbers_of (Listed list items total) = record { kind = 6; a = list; b = items; c = total }
-numbers_of (Reminded run firms) = record { kind = 7; a = run; b = firms; c = 0 }
+numbers_of (Listed list items total) =
+    record { kind = 6; first = list; second = items; third = total }
+numbers_of (Reminded run firms) = record { kind = 7; first = run; second = firms; third = 0 }
 
 -- 63 bits hold each of them
 abbrev pub AreSmall : ReplyNumbers → Type 0
-AreSmall n = (n.kind < 2 ^ 63) × (n.a < 2 ^ 63) × (n.b < 2 ^ 63) × (n.c < 2 ^ 63)
+AreSmall n = (n.kind < 2 ^ 63) × (n.first < 2 ^ 63) × (n.second < 2 ^ 63) × (n.third < 2 ^ 63)
 
 abbrev pub numbers_shown : ReplyNumbers → Row
-numbers_shown n = number n.kind ∷ number n.a ∷ number n.b ∷ number n.c ∷ []
+numbers_shown n = number n.kind ∷ number n.first ∷ number n.second ∷ number n.third ∷ []
 
 -- a request besides its key
 abbrev pub kept_shown : Kept → Row

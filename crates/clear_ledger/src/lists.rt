@@ -11,7 +11,7 @@ ghost use Rattle.clear_columns.specs.Reading.{IsLeftOn, ReadsOn};
 ghost use Rattle.clear_schema.specs.Values.{list_shown};
 ghost use Rattle.clear_schema.specs.Frame.{Finds, Writes};
 
-use clear_columns::columns::{count_at, day_at, number_at};
+use clear_columns::columns::{day_at, list_at, number_at};
 use clear_columns::parameters::{day, list_no};
 use clear_columns::queries::find;
 use clear_columns::ranges::{is_claimed, is_entry_count};
@@ -84,7 +84,7 @@ impl StoredTable for Lists {
 
     fn read(row: &Row) -> Result<ListRow, Fault> {
         let list = ListRow {
-            list: count_at(row, 0)?,
+            list: list_at(row, 0)?,
             day: day_at(row, 1)?,
             items: number_at(row, 2)?,
             total: number_at(row, 3)?,

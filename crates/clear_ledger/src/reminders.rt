@@ -13,7 +13,7 @@ ghost use Rattle.clear_schema.specs.Values.{reminder_shown};
 ghost use Rattle.clear_schema.specs.Frame.{Finds, Writes};
 
 use clear_columns::columns::{
-    count_at, employer_at, level_at, maybe_month_at, month_count_at, number_at,
+    employer_at, level_at, maybe_month_at, month_count_at, number_at, run_at,
 };
 use clear_columns::parameters::{employer as firm, maybe_month, run_no};
 use clear_columns::queries::find;
@@ -97,7 +97,7 @@ impl StoredTable for Reminders {
 
     fn read(row: &Row) -> Result<ReminderRow, Fault> {
         let reminder = ReminderRow {
-            run: count_at(row, 0)?,
+            run: run_at(row, 0)?,
             employer: employer_at(row, 1)?,
             level: level_at(row, 2)?,
             missing: month_count_at(row, 3)?,

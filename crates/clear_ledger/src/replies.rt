@@ -17,9 +17,9 @@ use clear_values::replies::{Reply, Settlement};
 #[derive(Clone, Copy, PartialEq, Eq)]
 pub struct ReplyNumbers {
     pub kind: u64,
-    pub a: u64,
-    pub b: u64,
-    pub c: u64,
+    pub first: u64,
+    pub second: u64,
+    pub third: u64,
 }
 
 /// The numbers of a reply. Kind 1 is done, 2 is reported, 3 is imported, 4 is claimed, 5 is released,
@@ -36,19 +36,24 @@ pub fn reply_numbers(reply: Reply) -> ReplyNumbers
         Reply::Released(settlement) => settlement_numbers(settlement),
         Reply::Listed { list, items, total } => ReplyNumbers {
             kind: 6,
-            a: u64::from(list),
-            b: items,
-            c: total,
+            first: u64::from(list),
+            second: items,
+            third: total,
         },
         Reply::Reminded { run, firms } => numbers(7, u64::from(run), firms),
     }
 }
 
 // A kind and two numbers.
-fn numbers(kind: u64, a: u64, b: u64) -> ReplyNumbers
-    ensures { result ≡ record { kind = kind; a = a; b = b; c = 0 } }
+fn numbers(kind: u64, first: u64, second: u64) -> ReplyNumbers
+    ensures { result ≡ record { kind = kind; first = first; second = second; third = 0 } }
 {
-    ReplyNumbers { kind, a, b, c: 0 }
+    ReplyNumbers {
+        kind,
+        first,
+        second,
+        third: 0,
+    }
 }
 
 // The numbers of a release.
@@ -57,9 +62,9 @@ fn settlement_numbers(settlement: Settlement) -> ReplyNumbers
 {
     ReplyNumbers {
         kind: 5,
-        a: settlement.to_contributions,
-        b: settlement.to_interest,
-        c: settlement.paid,
+        first: settlement.to_contributions,
+        second: settlement.to_interest,
+        third: settlement.paid,
     }
 }
 
@@ -86,38 +91,38 @@ fn reply_of_kind(numbers: ReplyNumbers) -> Option<Reply>
 {
     match numbers.kind {
         1 => Some(Reply::Done),
-        2 => match u32::try_from(numbers.a) {
+        2 => match u32::try_from(numbers.first) {
             Ok(version) => Some(Reply::Reported {
                 version,
-                charge: numbers.b,
+                charge: numbers.second,
             }),
             Err(_) => None,
         },
         3 => Some(Reply::Imported {
-            new: numbers.a,
-            repeats: numbers.b,
+            new: numbers.first,
+            repeats: numbers.second,
         }),
-        4 => match u32::try_from(numbers.a) {
+        4 => match u32::try_from(numbers.first) {
             Ok(claim) => Some(Reply::Claimed { claim }),
             Err(_) => None,
         },
         5 => Some(Reply::Released(Settlement {
-            to_contributions: numbers.a,
-            to_interest: numbers.b,
-            paid: numbers.c,
+            to_contributions: numbers.first,
+            to_interest: numbers.second,
+            paid: numbers.third,
         })),
-        6 => match u32::try_from(numbers.a) {
+        6 => match u32::try_from(numbers.first) {
             Ok(list) => Some(Reply::Listed {
                 list,
-                items: numbers.b,
-                total: numbers.c,
+                items: numbers.second,
+                total: numbers.third,
             }),
             Err(_) => None,
         },
-        7 => match u32::try_from(numbers.a) {
+        7 => match u32::try_from(numbers.first) {
             Ok(run) => Some(Reply::Reminded {
                 run,
-                firms: numbers.b,
+                firms: numbers.second,
             }),
             Err(_) => None,
         },

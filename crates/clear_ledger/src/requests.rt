@@ -213,9 +213,9 @@ fn read_numbers(row: &Row) -> Result<ReplyNumbers, Fault>
 {
     Ok(ReplyNumbers {
         kind: number_at(row, 2)?,
-        a: number_at(row, 3)?,
-        b: number_at(row, 4)?,
-        c: number_at(row, 5)?,
+        first: number_at(row, 3)?,
+        second: number_at(row, 4)?,
+        third: number_at(row, 5)?,
     })
 }
 
@@ -231,8 +231,8 @@ fn request_values(caller: Caller, number: RequestNo, request: &KeptRequest) -> [
         day(request.day),
         bytes(&request.command),
         count(reply.kind),
-        count(reply.a),
-        count(reply.b),
-        count(reply.c),
+        count(reply.first),
+        count(reply.second),
+        count(reply.third),
     ]
 }

@@ -11,7 +11,7 @@ ghost use Rattle.clear_columns.specs.Reading.{IsLeftOn, ReadsOn};
 ghost use Rattle.clear_schema.specs.Values.{run_shown};
 ghost use Rattle.clear_schema.specs.Frame.{Finds, Writes};
 
-use clear_columns::columns::{count_at, day_at, number_at};
+use clear_columns::columns::{day_at, number_at, run_at};
 use clear_columns::parameters::{day, run_no};
 use clear_columns::queries::find;
 use clear_columns::ranges::is_firm_count;
@@ -80,7 +80,7 @@ impl StoredTable for Runs {
 
     fn read(row: &Row) -> Result<RunRow, Fault> {
         let run = RunRow {
-            run: count_at(row, 0)?,
+            run: run_at(row, 0)?,
             day: day_at(row, 1)?,
             firms: number_at(row, 2)?,
         };

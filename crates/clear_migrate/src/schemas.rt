@@ -26,8 +26,8 @@ pub enum Migration {
 
 /// The number of its schema that a database tells, in the row of its first table `meta`, whichever
 /// number that is and whatever other tables there are. `WrongVersion` with 0 where there is no such
-/// table or no such row, `Store` for a number below 0. Nothing changes where a `meta` stands first, or
-/// where nothing is there.
+/// table or no such row, `Failed(Fault::Store(StoreCause::Row))` for a number below 0. Nothing changes
+/// where a `meta` stands first, or where nothing is there.
 pub fn version<S: Alter>(conn: &mut Connection<S>) -> Result<u64, OpenFault>
     ensures told { HasCleanDisk (state S.Store conn.new)
         → (number : ℕ) → TellsSchema number (state S.Store conn.old).now
@@ -58,9 +58,9 @@ pub fn version<S: Alter>(conn: &mut Connection<S>) -> Result<u64, OpenFault>
 
 /// Brings a store to this program's schema. That is done where the database tells its number and has
 /// its tables and indexes, and no others: then `Store::open` takes it. `WrongVersion` with the number
-/// in `meta`, 0 without one, where that is another one, and `Store(Other)` where the number is ours,
-/// but tables or indexes are others than ours. Nothing changes where a `meta` stands first, or where
-/// nothing is there.
+/// in `meta`, 0 without one, where that is another one, and `Failed(Fault::Store(StoreCause::Other))`
+/// where the number is ours, but tables or indexes are others than ours. Nothing changes where a
+/// `meta` stands first, or where nothing is there.
 pub fn to_current<S: Alter>(conn: &mut Connection<S>) -> Result<Migration, OpenFault>
     requires { conn.old.in_transaction ≡ false }
     ensures mode { conn.new.in_transaction ≡ false }

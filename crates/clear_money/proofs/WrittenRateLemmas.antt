@@ -221,15 +221,15 @@ rate_meant-made w (Some q) r month from contribution_rate report_day due_day int
 -- ---- names of members
 
 -- the names behind references, and the names
-any_of : (name : List ℕ) (names : List (Bor (List ℕ))) → list_any (λ other. bytes_eq name other.now) names ≡ list_any (bytes_eq name) (map (λ other. other.now) names)
+pub any_of : (name : List ℕ) (names : List (Bor (List ℕ))) → list_any (λ other. bytes_eq name other.now) names ≡ list_any (bytes_eq name) (map (λ other. other.now) names)
 any_of name [] = refl
 any_of name (x ∷ xs) = ap (λ b. bytes_eq name x.now || b) (any_of name xs)
 
 -- the names of the members from one on
 pub has_only-step : (names : List (Bor (List ℕ))) (name : List ℕ) (b : Bool) (es rest : List Entry) (k : String Global) (v : Value) → es ≡ (k, v) ∷ rest → name ≡ string_bytes k
-    → b ≡ list_any (λ other. bytes_eq name other.now) names
+    → b ≡ list_any (bytes_eq name) (map (λ other. other.now) names)
     → has_only (map (λ other. other.now) names) (members_view es) ≡ (b && has_only (map (λ other. other.now) names) (members_view rest))
 has_only-step names name b es rest k v e same known =
     let only = λ (es : List Entry). has_only (map (λ (other : Bor (List ℕ)). other.now) names) (members_view es) in
-    let here : list_any (bytes_eq (string_bytes k)) (map (λ (other : Bor (List ℕ)). other.now) names) ≡ b = sym (any_of (string_bytes k) names) ∙ ap (λ (n : List ℕ). list_any (λ (other : Bor (List ℕ)). bytes_eq n other.now) names) (sym same) ∙ sym known in
+    let here : list_any (bytes_eq (string_bytes k)) (map (λ (other : Bor (List ℕ)). other.now) names) ≡ b = ap (λ (n : List ℕ). list_any (bytes_eq n) (map (λ (other : Bor (List ℕ)). other.now) names)) (sym same) ∙ sym known in
     ap only e ∙ ap (λ (b : Bool). b && only rest) here

@@ -9,6 +9,8 @@
 
 pub mod bytes;
 pub mod days;
+pub mod documents;
+pub mod laws;
 pub mod months;
 pub mod numbers;
 pub mod rate_file;

@@ -3,16 +3,16 @@
 //! A text reads as rows just if it says them, and otherwise its first fault is told. `Memory` may
 //! be answered at any time and says nothing of the text, so a body that answers nothing else meets
 //! these contracts too: the tests read.
-ghost use Rattle.std.specs.Prelude.{◌≡◌, ◌≢◌, ◌++◌, ◌∷◌, [], map, Ok, Err, Some, IfOk, IfErr};
-ghost use Rattle.std.specs.Prelude.{OnOk, option_map, bytes_eq};
-ghost use Rattle.std.specs.List.{list_any};
+ghost use Rattle.std.specs.Prelude.{◌≡◌, ◌≢◌, ◌++◌, ◌∷◌, [], map, Ok, Err, IfOk, IfErr};
+ghost use Rattle.std.specs.Prelude.{OnOk, option_map};
 ghost use Rattle.toml.specs.View.{view, items_view, table_view};
 ghost use Rattle.clear_money.specs.Rates.{Rate, last_first};
-ghost use Rattle.clear_money.specs.RateFile.{row_alone, row_after, rows_in, rates_in, document_of};
+ghost use Rattle.clear_money.specs.RateFile.{row_alone, row_after, rows_in, rates_in};
 ghost use Rattle.clear_money.specs.RateFile.{rates_of, WrittenRatesAreRead};
 ghost use Rattle.clear_money.specs.WrittenRate.{has_only, text_of, number_of, written_row};
 ghost use Rattle.clear_money.specs.WrittenRate.{rate_meant, row_view};
 
+use crate::documents::{is_one_of, read_document};
 use crate::months::Month;
 use crate::rates::{PushFault, RateRow, RateTable};
 use std::alloc::Global;
@@ -37,7 +37,8 @@ pub enum RateFault {
     Memory,
 }
 
-const ROW_NAMES: [&str; 6] = [
+/// The members of a row.
+pub const ROW_MEMBERS: [&str; 6] = [
     "from",
     "contribution",
     "report_day",
@@ -65,21 +66,14 @@ pub fn read_rates(alloc: Global, bytes: &[u8]) -> Result<RateTable, RateFault>
     ensures fault { IfErr result (λ fault.
         fault ≢ RateFault.Memory → rates_of bytes.now ≡ Err fault) }
 {
-    let document = read_document(alloc, bytes)?;
+    let Ok(document) = read_document(alloc, bytes) else {
+        return Err(RateFault::Memory);
+    };
+    let Some(document) = document else {
+        return Err(RateFault::Text);
+    };
     let rows = rate_rows(&document)?;
     read_rows(alloc, rows)
-}
-
-fn read_document(alloc: Global, bytes: &[u8]) -> Result<Table, RateFault>
-    ensures ok { IfOk result (λ table. document_of bytes.now ≡ Some (table_view table)) }
-    ensures fault { IfErr result (λ fault.
-        fault ≢ RateFault.Memory → (fault ≡ RateFault.Text) × (document_of bytes.now ≡ None)) }
-{
-    match toml::table_from_slice(alloc, bytes) {
-        Ok(table) => Ok(table),
-        Err(e) if e.is_memory() => Err(RateFault::Memory),
-        Err(_) => Err(RateFault::Text),
-    }
 }
 
 // Whether each member has one of these names.
@@ -92,12 +86,6 @@ fn has_only(table: &Table, names: &[&str]) -> bool
         }
     }
     true
-}
-
-fn is_one_of(name: &str, names: &[&str]) -> bool
-    ensures { result ≡ list_any (λ other. bytes_eq name.now other.now) names.now }
-{
-    names.iter().any(|other| *other == name)
 }
 
 // The rows of a document, which may still be none.
@@ -173,7 +161,7 @@ fn written_row(value: &Value) -> Option<WrittenRow<'_>>
     ensures { option_map row_view result ≡ written_row (view value.now) }
 {
     let table = value.as_table()?;
-    if !has_only(table, &ROW_NAMES) {
+    if !has_only(table, &ROW_MEMBERS) {
         return None;
     }
     Some(WrittenRow {

@@ -55,6 +55,16 @@ impl Model for RateRow {
 }
 
 impl RateRow {
+    /// The greatest contribution rate and the greatest entitlement rate, in hundredths of a
+    /// percent.
+    pub const MAX_SHARE: u16 = 10_000;
+
+    /// The greatest interest rate for each begun month, in hundredths of a percent.
+    pub const MAX_INTEREST_RATE: u16 = 1_000;
+
+    /// The last day that each month has: the greatest report day and the greatest due day.
+    pub const LAST_DAY: u8 = 28;
+
     /// The rates from `first` on. In hundredths of a percent, `contribution_rate` is 0 to 10,000,
     /// `interest_rate` for each begun month 0 to 1,000, and `entitlement_rate` 0 to 10,000;
     /// `report_day` and `due_day` are days 1 to 28 of the following month. None outside these
@@ -85,10 +95,16 @@ impl RateRow {
         }) }
     {
         let _number = first.number();
-        if contribution_rate > 10_000 || report_day < 1 || report_day > 28 {
+        if contribution_rate > Self::MAX_SHARE || entitlement_rate > Self::MAX_SHARE {
             return None;
         }
-        if due_day < 1 || due_day > 28 || interest_rate > 1_000 || entitlement_rate > 10_000 {
+        if interest_rate > Self::MAX_INTEREST_RATE {
+            return None;
+        }
+        if report_day < 1 || report_day > Self::LAST_DAY {
+            return None;
+        }
+        if due_day < 1 || due_day > Self::LAST_DAY {
             return None;
         }
         Some(RateRow {

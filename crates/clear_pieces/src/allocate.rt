@@ -34,7 +34,7 @@ use sqlite::{Alter, Transaction};
 use std::alloc::Global;
 
 // The greatest number that a column can hold.
-const MOST_SERIAL: u64 = i64::MAX as u64;
+const MAX_STORED: u64 = i64::MAX as u64;
 
 /// Puts the pieces of a firm anew after the contribution of a month was changed or put in, and
 /// what is open of its contributions from that month on. The tables hold the contribution
@@ -72,28 +72,28 @@ pub fn allocate_from_credits<S: Alter>(
     alloc: Global,
     tx: &mut Transaction<'_, S>,
     employer: EmployerNo,
-    news: &NewCredits,
+    added: &NewCredits,
 ) -> Result<(), Fault>
     ensures same_reference { tx.new.conn.ghost_name ≡ tx.old.conn.ghost_name }
     ensures allocates { Allocates S.Store tx.old.conn.now tx.new.conn.now result
         (λ t pieces charges. IsAccount (kept_charges t employer) (table_credits t employer)
-        → IsWeighedBefore t employer news.now → FromCredit t employer news.now pieces charges)
-        (λ t. KeepsAccount t employer × IsWeighedBefore t employer news.now
-        × IsFreeFromCredit t employer news.now.first × IsFreeBehind t employer news.now
-        × IsSerial news.now.first.serial) }
+        → IsWeighedBefore t employer added.now → FromCredit t employer added.now pieces charges)
+        (λ t. KeepsAccount t employer × IsWeighedBefore t employer added.now
+        × IsFreeFromCredit t employer added.now.first × IsFreeBehind t employer added.now
+        × IsSerial added.now.first.serial) }
 {
     // A greater serial stands in no table, and can't be asked for.
-    if news.first.serial > MOST_SERIAL {
-        return allocate_whole(alloc, tx, employer, news);
+    if added.first.serial > MAX_STORED {
+        return allocate_whole(alloc, tx, employer, added);
     }
     let behind = credits_from(
         tx,
         employer,
         Purpose::Contribution,
-        news.first.day,
-        news.first.serial,
+        added.first.day,
+        added.first.serial,
     )?;
-    allocate_read(alloc, tx, employer, news, behind)
+    allocate_read(alloc, tx, employer, added, behind)
 }
 
 // Puts them anew, `behind` being all of the firm's credits for contributions from the first new
@@ -102,22 +102,22 @@ fn allocate_read<S: Alter>(
     alloc: Global,
     tx: &mut Transaction<'_, S>,
     employer: EmployerNo,
-    news: &NewCredits,
+    added: &NewCredits,
     behind: Vec<CreditRow>,
 ) -> Result<(), Fault>
     ensures same_reference { tx.new.conn.ghost_name ≡ tx.old.conn.ghost_name }
     ensures allocates { Allocates S.Store tx.old.conn.now tx.new.conn.now result
         (λ t pieces charges. IsAccount (kept_charges t employer) (table_credits t employer)
-        → behind.items ≡ rows_from t employer news.now.first → IsWeighedBefore t employer news.now
-        → FromCredit t employer news.now pieces charges)
-        (λ t. KeepsAccount t employer × (behind.items ≡ rows_from t employer news.now.first)
-        × IsWeighedBefore t employer news.now × IsFreeFromCredit t employer news.now.first
-        × IsFreeBehind t employer news.now × IsSerial news.now.first.serial) }
+        → behind.items ≡ rows_from t employer added.now.first → IsWeighedBefore t employer added.now
+        → FromCredit t employer added.now pieces charges)
+        (λ t. KeepsAccount t employer × (behind.items ≡ rows_from t employer added.now.first)
+        × IsWeighedBefore t employer added.now × IsFreeFromCredit t employer added.now.first
+        × IsFreeBehind t employer added.now × IsSerial added.now.first.serial) }
 {
-    if behind.len() as u64 == news.count {
-        allocate_behind(alloc, tx, employer, news, behind)
+    if behind.len() as u64 == added.count {
+        allocate_behind(alloc, tx, employer, added, behind)
     } else {
-        allocate_whole(alloc, tx, employer, news)
+        allocate_whole(alloc, tx, employer, added)
     }
 }
 
@@ -126,17 +126,17 @@ fn allocate_whole<S: Alter>(
     alloc: Global,
     tx: &mut Transaction<'_, S>,
     employer: EmployerNo,
-    news: &NewCredits,
+    added: &NewCredits,
 ) -> Result<(), Fault>
     ensures same_reference { tx.new.conn.ghost_name ≡ tx.old.conn.ghost_name }
     ensures allocates { Allocates S.Store tx.old.conn.now tx.new.conn.now result
         (λ t pieces charges. IsAccount (kept_charges t employer) (table_credits t employer)
-        → FromCredit t employer news.now pieces charges)
-        (λ t. KeepsAccount t employer × IsFreeFromCredit t employer news.now.first
-        × IsSerial news.now.first.serial) }
+        → FromCredit t employer added.now pieces charges)
+        (λ t. KeepsAccount t employer × IsFreeFromCredit t employer added.now.first
+        × IsSerial added.now.first.serial) }
 {
     let firm = read_firm(alloc, tx, employer)?;
-    put_from_credit(alloc, tx, &firm, employer, news)
+    put_from_credit(alloc, tx, &firm, employer, added)
 }
 
 // Puts the pieces of a firm from the contribution of a month on, where a credit reaches beyond its
@@ -178,24 +178,24 @@ fn put_from_credit<S: Alter>(
     tx: &mut Transaction<'_, S>,
     firm: &FirmAccount,
     employer: EmployerNo,
-    news: &NewCredits,
+    added: &NewCredits,
 ) -> Result<(), Fault>
     ensures same_reference { tx.new.conn.ghost_name ≡ tx.old.conn.ghost_name }
     ensures allocates { Allocates S.Store tx.old.conn.now tx.new.conn.now result
         (λ t pieces charges. IsFirm t employer firm.now
-        → FromCredit t employer news.now pieces charges)
+        → FromCredit t employer added.now pieces charges)
         (λ t. IsFirm t employer firm.now × KeepsAccount t employer
-        × IsFreeFromCredit t employer news.now.first × IsSerial news.now.first.serial) }
+        × IsFreeFromCredit t employer added.now.first × IsSerial added.now.first.serial) }
 {
     let charges = firm.account.all_charges();
-    let start = start_of_credits(charges, firm.account.all_credits(), &news.first);
+    let start = start_of_credits(charges, firm.account.all_credits(), &added.first);
     match charges.get(start.charges.count) {
         Some(charge) => {
             let from = PieceFrom {
                 employer,
                 month: charge.month,
-                day: news.first.day,
-                serial: news.first.serial,
+                day: added.first.day,
+                serial: added.first.serial,
             };
             put_anew(alloc, tx, firm, &start, &from)
         }

@@ -70,20 +70,20 @@ pub fn allocate_behind<S: Alter>(
     alloc: Global,
     tx: &mut Transaction<'_, S>,
     employer: EmployerNo,
-    news: &NewCredits,
+    added: &NewCredits,
     behind: Vec<CreditRow>,
 ) -> Result<(), Fault>
     ensures same_reference { tx.new.conn.ghost_name ≡ tx.old.conn.ghost_name }
     ensures allocates { Allocates S.Store tx.old.conn.now tx.new.conn.now result
         (λ t pieces charges. IsAccount (kept_charges t employer) (table_credits t employer)
-        → behind.items ≡ rows_from t employer news.now.first → AreLast t employer news.now
-        → IsWeighedBefore t employer news.now → FromCredit t employer news.now pieces charges)
-        (λ t. KeepsAccount t employer × (behind.items ≡ rows_from t employer news.now.first)
-        × AreLast t employer news.now × IsWeighedBefore t employer news.now
-        × IsFreeBehind t employer news.now) }
+        → behind.items ≡ rows_from t employer added.now.first → AreLast t employer added.now
+        → IsWeighedBefore t employer added.now → FromCredit t employer added.now pieces charges)
+        (λ t. KeepsAccount t employer × (behind.items ≡ rows_from t employer added.now.first)
+        × AreLast t employer added.now × IsWeighedBefore t employer added.now
+        × IsFreeBehind t employer added.now) }
 {
     let firm = read_open(alloc, tx, employer, behind)?;
-    put_behind(alloc, tx, &firm, employer, news)
+    put_behind(alloc, tx, &firm, employer, added)
 }
 
 // What is open of a firm's contributions, with these credits.
@@ -167,19 +167,19 @@ fn put_behind<S: Alter>(
     tx: &mut Transaction<'_, S>,
     firm: &OpenFirm,
     employer: EmployerNo,
-    news: &NewCredits,
+    added: &NewCredits,
 ) -> Result<(), Fault>
     ensures same_reference { tx.new.conn.ghost_name ≡ tx.old.conn.ghost_name }
     ensures allocates { Allocates S.Store tx.old.conn.now tx.new.conn.now result
         (λ t pieces charges. IsAccount (kept_charges t employer) (table_credits t employer)
-        → IsOpenFirm t employer news.now.first firm.now → AreLast t employer news.now
-        → IsWeighedBefore t employer news.now → FromCredit t employer news.now pieces charges)
-        (λ t. KeepsAccount t employer × IsOpenFirm t employer news.now.first firm.now
-        × AreLast t employer news.now × IsWeighedBefore t employer news.now
-        × IsFreeBehind t employer news.now) }
+        → IsOpenFirm t employer added.now.first firm.now → AreLast t employer added.now
+        → IsWeighedBefore t employer added.now → FromCredit t employer added.now pieces charges)
+        (λ t. KeepsAccount t employer × IsOpenFirm t employer added.now.first firm.now
+        × AreLast t employer added.now × IsWeighedBefore t employer added.now
+        × IsFreeBehind t employer added.now) }
 {
     let charges = firm.unpaid.account.all_charges();
-    let start = start_of_credits(charges, firm.unpaid.account.all_credits(), &news.first);
+    let start = start_of_credits(charges, firm.unpaid.account.all_credits(), &added.first);
     if start.charges.count >= charges.len() {
         return Ok(());
     }

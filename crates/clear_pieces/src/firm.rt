@@ -18,6 +18,7 @@ use clear_account::plain::Plain;
 use clear_firms::charges::charges_of;
 use clear_ledger::credits::credits_of;
 use clear_money::numbers::EmployerNo;
+use clear_money::rates::RateRow;
 use clear_schema::fault::Fault;
 use clear_values::causes::StoreCause;
 use clear_values::lines::Purpose;
@@ -135,7 +136,7 @@ fn add_charge(account: &mut Plain, row: &KeptCharge) -> Result<(), Fault>
     ensures credits { account.new.credits ≡ account.old.credits }
     ensures fault { IsCharge (charge_in row.now) → IfErr result IsOfDisk }
 {
-    if row.cents > Charge::MAX_CENTS || row.due.day_of_month() > 28 {
+    if row.cents > Charge::MAX_CENTS || row.due.day_of_month() > RateRow::LAST_DAY {
         return Err(Fault::Store(StoreCause::Row));
     }
     let charge = Charge {

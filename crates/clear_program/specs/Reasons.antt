@@ -33,14 +33,14 @@ fault_reason (Failed (fault.Store cause)) =
     codes "its tables can't be read, or are others than this program's\n"
 
 -- what stood in the way of a connection says, else the fault
-unfoldable pub hindrance_reason : Hindrance → OpenFault → List ℕ
-hindrance_reason hindrance.NotReachable told = codes "this file can't be opened\n"
-hindrance_reason hindrance.InUse told = codes "another process holds this store\n"
-hindrance_reason hindrance.NoDatabase told = codes "this file is no database, or a damaged one\n"
-hindrance_reason hindrance.None told = fault_reason told
+unfoldable pub hindrance_reason : Option Hindrance → OpenFault → List ℕ
+hindrance_reason (Some hindrance.NotReachable) told = codes "this file can't be opened\n"
+hindrance_reason (Some hindrance.InUse) told = codes "another process holds this store\n"
+hindrance_reason (Some hindrance.NoDatabase) told = codes "this file is no database, or a damaged one\n"
+hindrance_reason None told = fault_reason told
 
 -- what stands at the path says, else what stood in the way, else the fault
-unfoldable pub reason : PathKind → Hindrance → OpenFault → List ℕ
+unfoldable pub reason : PathKind → Option Hindrance → OpenFault → List ℕ
 reason path.Missing stood told = codes "there is nothing at this path\n"
 reason path.Folder stood told = codes "this is a folder\n"
 reason path.Empty stood told = codes "this file is empty\n"

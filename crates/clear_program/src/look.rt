@@ -42,7 +42,7 @@ pub(crate) fn look_at<S: Start>(
 }
 
 // Tells the fault, and on a line of its own what it means.
-fn tell_why(rt: &HostRuntime, kind: PathKind, hindrance: Hindrance, fault: OpenFault) -> u8
+fn tell_why(rt: &HostRuntime, kind: PathKind, hindrance: Option<Hindrance>, fault: OpenFault) -> u8
     ensures { result ≤ 3 }
 {
     let mut errors = Counted::new(rt.stderr());

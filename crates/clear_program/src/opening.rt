@@ -27,17 +27,17 @@ pub(crate) struct Whole<'a, S: Alter> {
     pub file: StoreFile<'a>,
 }
 
-/// Why a store isn't opened, and what stood in the way of a connection, which says more.
+/// Why a store isn't opened, and what stood in the way of a connection, where that says more.
 #[derive(Clone, Copy)]
 pub(crate) struct Unopened {
     pub fault: OpenFault,
-    pub hindrance: Hindrance,
+    pub hindrance: Option<Hindrance>,
 }
 
 // The file of a store doesn't stand at its path any more.
 const GONE: Unopened = Unopened {
     fault: OpenFault::Failed(Fault::Store(StoreCause::Other)),
-    hindrance: Hindrance::NotReachable,
+    hindrance: Some(Hindrance::NotReachable),
 };
 
 /// Opens the store at a path, with all that was accepted in its own file: where its log is longer
@@ -53,7 +53,7 @@ pub(crate) fn open_whole<'a, S: Start>(
     if let Some(fault) = refused_path(path_kind(rt, store)) {
         return Err(Unopened {
             fault,
-            hindrance: Hindrance::None,
+            hindrance: None,
         });
     }
     let Some(file) = StoreFile::at(rt, store) else {

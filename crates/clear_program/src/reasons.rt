@@ -29,7 +29,7 @@ pub fn refused_path(kind: PathKind) -> Option<OpenFault>
 pub fn reason(
     alloc: Global,
     kind: PathKind,
-    hindrance: Hindrance,
+    hindrance: Option<Hindrance>,
     fault: &OpenFault,
 ) -> Result<String, AllocError>
     ensures { IfOk result (λ text. string_bytes text ≡ reason kind hindrance fault.now) }
@@ -45,18 +45,18 @@ pub fn reason(
 #[tactic(auto, unfolding(crate::specs::Reasons::hindrance_reason))]
 fn hindrance_reason(
     alloc: Global,
-    hindrance: Hindrance,
+    hindrance: Option<Hindrance>,
     fault: &OpenFault,
 ) -> Result<String, AllocError>
     ensures { IfOk result (λ text. string_bytes text ≡ hindrance_reason hindrance fault.now) }
 {
     match hindrance {
-        Hindrance::NotReachable => String::from_str(alloc, "this file can't be opened\n"),
-        Hindrance::InUse => String::from_str(alloc, "another process holds this store\n"),
-        Hindrance::NoDatabase => {
+        Some(Hindrance::NotReachable) => String::from_str(alloc, "this file can't be opened\n"),
+        Some(Hindrance::InUse) => String::from_str(alloc, "another process holds this store\n"),
+        Some(Hindrance::NoDatabase) => {
             String::from_str(alloc, "this file is no database, or a damaged one\n")
         }
-        Hindrance::None => fault_reason(alloc, fault),
+        None => fault_reason(alloc, fault),
     }
 }
 

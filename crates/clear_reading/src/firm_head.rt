@@ -1,5 +1,5 @@
 //! What a firm's statement tells, but for the pieces that pay its charges.
-ghost use Rattle.std.specs.Prelude.{◌≡◌, IfErr, IfOk, None};
+ghost use Rattle.std.specs.Prelude.{◌≡◌, ℕ, IfErr, IfOk, None};
 ghost use Rattle.sqlite.specs.Held.{state};
 ghost use Rattle.sqlite.specs.State.{HasCleanDisk};
 ghost use Rattle.clear_book.specs.Allocated.{StandsWeighed};
@@ -53,7 +53,7 @@ pub fn firm_head<S: Alter>(
         → IfErr result IsOfDisk }
     ensures leaves { Leaves S.Store tx.old.conn.now tx.new.conn.now result }
 {
-    match find_records(alloc, tx, day, employer)? {
+    match find_records(alloc, tx, employer)? {
         Some(records) => match statement_head(alloc, &records, day) {
             Ok(head) => Ok(Some(head)),
             Err(fault) => Err(fault_told(fault)),
@@ -62,25 +62,23 @@ pub fn firm_head<S: Alter>(
     }
 }
 
-// The records of a firm's statement on a day. None where the firm isn't registered.
+// The records of a firm's statement, which are those of any day. None where the firm isn't
+// registered.
 fn find_records<S: Alter>(
     alloc: Global,
     tx: &mut Transaction<'_, S>,
-    day: Day,
     employer: EmployerNo,
 ) -> Result<Option<StatementRecords>, Fault>
     ensures same_reference { tx.new.conn.ghost_name ≡ tx.old.conn.ghost_name }
     ensures records { HasCleanDisk (state S.Store tx.new.conn.now)
         → (t : Tables) → HasTables t (state S.Store tx.old.conn.now).now
-        → day_back t.day day ≡ None → (b : Book) → IsLawful b → StandsWeighed b t
+        → (day : ℕ) → day_back t.day day ≡ None → (b : Book) → IsLawful b → StandsWeighed b t
         → IfOk result (IsFound b employer (AreStatementRecords b employer day)) }
     ensures fault { HasCleanDisk (state S.Store tx.new.conn.now)
         → (t : Tables) → HasTables t (state S.Store tx.old.conn.now).now
         → (b : Book) → IsLawful b → StandsWeighed b t → IfErr result IsOfDisk }
     ensures leaves { Leaves S.Store tx.old.conn.now tx.new.conn.now result }
 {
-    // The day of the records is a proof's: what is read doesn't depend on it.
-    let _day = day;
     let Some(member) = find_employer(tx, employer)? else {
         return Ok(None);
     };

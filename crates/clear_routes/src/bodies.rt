@@ -19,14 +19,21 @@ use clear_money::numbers::{Amount, EmployerNo, WorkerNo};
 use clear_money::rates::RateRow;
 use std::alloc::Global;
 
+// The bounds of a rate, of the type that a range of numbers takes.
+const MAX_SHARE: u64 = RateRow::MAX_SHARE as u64;
+
+const MAX_INTEREST_RATE: u64 = RateRow::MAX_INTEREST_RATE as u64;
+
+const LAST_DAY: u64 = RateRow::LAST_DAY as u64;
+
 /// A share of wages, in hundredths of a percent.
-type Share = Within<0, 10_000>;
+type Share = Within<0, MAX_SHARE>;
 
 /// An interest rate for each begun month, in hundredths of a percent.
-type InterestRate = Within<0, 1_000>;
+type InterestRate = Within<0, MAX_INTEREST_RATE>;
 
 /// A day that each month has.
-type DayOfEachMonth = Within<1, 28>;
+type DayOfEachMonth = Within<1, LAST_DAY>;
 
 /// The values of a row of rates, in the order of their members.
 type RateValues = (

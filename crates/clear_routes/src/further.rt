@@ -3,10 +3,11 @@ ghost use Rattle.std.specs.Prelude.{◌≡◌, map};
 ghost use Rattle.std.specs.Option.{option_map};
 ghost use Rattle.serde_json.specs.View.{members_view};
 ghost use Rattle.clear_routes.specs.Faults.{Gives};
-ghost use Rattle.clear_routes.specs.Further.{is_listed, least_further, only};
+ghost use Rattle.clear_routes.specs.Further.{least_further, only};
 ghost use Rattle.clear_routes.specs.InOrder.{first_further};
 
 use crate::faults::{BodyFault, Member};
+use clear_money::documents::is_one_of;
 use serde_json::{Map, Value};
 use std::alloc::Global;
 
@@ -40,20 +41,9 @@ fn first_further<'a>(members: &'a Map<String, Value>, listed: &[&str]) -> Option
         ≡ first_further (map (λ name. name.now) listed.now) (members_view members.now.entries) }
 {
     for (name, _) in members {
-        if !is_listed(name.as_str(), listed) {
+        if !is_one_of(name.as_str(), listed) {
             return Some(name.as_str());
         }
     }
     None
-}
-
-fn is_listed(name: &str, listed: &[&str]) -> bool
-    ensures { result ≡ is_listed (map (λ other. other.now) listed.now) name.now }
-{
-    for other in listed {
-        if name == *other {
-            return true;
-        }
-    }
-    false
 }

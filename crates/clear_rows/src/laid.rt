@@ -26,23 +26,31 @@ pub enum ColumnLayout {
 /// `i`, counted from 0, has place `i + 1`.
 pub struct KeyLayout(pub &'static [usize]);
 
-/// A table, and the tree in which its rows are kept. `key` is the column, counted from 0, in which the
-/// number of a row stands, if there is one.
+/// A table, and the tree in which its rows are kept.
 pub struct TableLayout {
     pub name: &'static str,
+    /// The number of its tree in the database.
     pub tree: u32,
+    /// The column, counted from 0, in which the number of a row stands, if there is one.
     pub key: Option<usize>,
+    /// The places of its primary key.
     pub primary: &'static [usize],
+    /// Its keys.
     pub uniques: &'static [KeyLayout],
+    /// Its columns, in their order.
     pub columns: &'static [ColumnLayout],
 }
 
 /// An index, in a tree of its own.
 pub struct IndexLayout {
     pub name: &'static str,
+    /// The number of its tree in the database.
     pub tree: u32,
+    /// The number of the table's tree.
     pub table: u32,
+    /// The places of its columns.
     pub columns: &'static [usize],
+    /// Whether its columns stand together in one row at most.
     pub is_unique: bool,
 }
 

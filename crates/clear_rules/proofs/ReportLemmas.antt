@@ -75,20 +75,17 @@ either false false = refl
 
 module _ (xs : List WageLine) (i : ℕ) (d : WageLine) (within : i < length xs) (is : d ≡ get_or xs i d)
     (seen : ℕ → Bool) (all : (w : ℕ) → seen w ≡ list_any (λ line. line.worker == w) (take i xs))
-    (so_far : NoneTwice i xs) (number : ℕ) (same : number ≡ d.worker) (new : Bool) (added : new ≡ not (seen number)) where
-  earlier : seen number ≡ stands_earlier xs (placed i d)
-  earlier = all number ∙ ap (λ w. list_any (λ line. line.worker == w) (take i xs)) same
-
+    (so_far : NoneTwice i xs) (new : Bool) (added : new ≡ not (seen d.worker)) where
   pub seen_twice : new ≡ false → Some d.worker ≡ worker_twice xs
-  seen_twice h = twice_found xs i d within is so_far (sym earlier ∙ not_false (seen number) (sym added ∙ h))
+  seen_twice h = twice_found xs i d within is so_far (sym (all d.worker) ∙ not_false (seen d.worker) (sym added ∙ h))
 
   pub seen_once : new ≡ true → NoneTwice (i + 1) xs
-  seen_once h = twice_on xs i d within is so_far (sym earlier ∙ not_true (seen number) (sym added ∙ h))
+  seen_once h = twice_on xs i d within is so_far (sym (all d.worker) ∙ not_true (seen d.worker) (sym added ∙ h))
 
-  pub seen_more : (after : ℕ → Bool) → ((w : ℕ) → after w ≡ cond (is_eq (nat_cmp number w)) true (seen w)) → (w : ℕ) → after w ≡ list_any (λ line. line.worker == w) (take (i + 1) xs)
+  pub seen_more : (after : ℕ → Bool) → ((w : ℕ) → after w ≡ cond (is_eq (nat_cmp d.worker w)) true (seen w)) → (w : ℕ) → after w ≡ list_any (λ line. line.worker == w) (take (i + 1) xs)
   seen_more after grown w =
       grown w
-      ∙ ap (λ t. cond t true (seen w)) (at_number number w ∙ ap (λ n. n == w) same)
+      ∙ ap (λ t. cond t true (seen w)) (at_number d.worker w)
       ∙ either (d.worker == w) (seen w)
       ∙ ap (λ o. o || (d.worker == w)) (all w)
       ∙ sym (stands_more xs i d within is w)

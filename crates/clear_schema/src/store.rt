@@ -99,8 +99,9 @@ impl<S: Alter> Store<S> {
     }
 
     /// Finds the store in a database that it was made in. Where the database tells our number, but has
-    /// other tables or indexes than ours, `Store(Other)`. A refusal changes nothing where a `meta`
-    /// stands first, whatever it tells, or where nothing is there, and hands the connection back.
+    /// other tables or indexes than ours, `Failed(Fault::Store(StoreCause::Other))`. A refusal changes
+    /// nothing where a `meta` stands first, whatever it tells, or where nothing is there, and hands the
+    /// connection back.
     pub fn open(connection: Connection<S>) -> Result<Store<S>, Refusal<S>>
         requires { connection.in_transaction ≡ false }
         ensures mode { IfOk result (λ store. store.conn.in_transaction ≡ false) }

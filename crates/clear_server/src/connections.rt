@@ -18,7 +18,7 @@ ghost use Rattle.clear_http.specs.Desk.{MayServe};
 ghost use Rattle.clear_server.specs.Talks.{AreServed};
 ghost use Rattle.clear_server.specs.Told.{AreTold, end_lines, failing_lines, text_of};
 
-use crate::peer::{Peer, Taker, part};
+use crate::peer::{Peer, Taker, close_after_answer};
 use clear_callers::directory::Directory;
 use clear_files::named::NamedStore;
 use clear_http::desk::serve;
@@ -220,7 +220,7 @@ fn talk<S: Alter>(
     match served {
         Ok(served) => {
             if next.is_none() {
-                let _ = part(rt, stream, served.unread);
+                let _ = close_after_answer(rt, stream, served.unread);
             }
             Talked { end: Ok(()), next }
         }

@@ -211,7 +211,11 @@ fn take_waiting(listener: &TcpListener) -> Option<TcpStream> {
 /// Ends what is sent to a peer that was answered, and reads what it still sends: a connection that
 /// is closed over bytes that weren't read is reset, and the peer may lose its answer. Where it has
 /// `more` to send, it is left 2 seconds for that.
-pub(crate) fn part(rt: &HostRuntime, stream: &TcpStream, more: bool) -> io::Result<()> {
+pub(crate) fn close_after_answer(
+    rt: &HostRuntime,
+    stream: &TcpStream,
+    more: bool,
+) -> io::Result<()> {
     stream.shutdown(Shutdown::Write)?;
     let start = Instant::now(rt)?;
     let mut rest = [0u8; 4096];

@@ -17,6 +17,7 @@ use clear_money::days::Day;
 use clear_schema::counts::Counts;
 use clear_schema::fault::Fault;
 use clear_values::causes::StoreCause;
+use clear_values::numbers::SerialCount;
 use clear_values::rows::Change;
 use sqlite::{Alter, Transaction};
 use std::alloc::Global;
@@ -141,14 +142,15 @@ fn note<S: Alter>(
     }
 }
 
-// The counts after one entry more. None where a count would pass its bits.
+// The counts after one entry more. None where a count would pass its bits, and past 500,000,000,000
+// serials.
 fn next_counts(counts: &Counts, day: Day, taken: &Taken) -> Option<Counts>
     ensures next { IfSome result (λ next.
         next ≡ counts_after day taken.now counts.now) }
     ensures none { result ≡ None → ¬ HasRoom counts.now taken.now }
 {
     let entries = counts.entries.checked_add(1)?;
-    let serial = counts.serial.checked_add(taken.serials)?;
+    let serial = SerialCount::new(counts.serial.count().checked_add(taken.serials)?)?;
     let claims = counts.claims.checked_add(taken.claims)?;
     let lists = counts.lists.checked_add(taken.lists)?;
     let runs = counts.runs.checked_add(taken.runs)?;

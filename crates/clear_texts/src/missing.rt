@@ -27,7 +27,7 @@ pub fn missing_months(
         ≡ filter (is_missing_in member.now rates.now charges.now day) months) }
 {
     let mut missing = Vec::new(alloc);
-    for number in 24_000..26_400 {
+    for number in Month::FIRST_NUMBER..Month::LAST_NUMBER + 1 {
         let month = month_of(number);
         add_missing(&mut missing, member, rates, charges, day, month)?;
     }

@@ -3,6 +3,7 @@
 /// What an accepted command is answered.
 #[derive(Clone, Copy)]
 pub enum Reply {
+    /// It is done, and there is nothing to tell.
     Done,
     /// The version of the month's report, and the month's contribution in cents.
     Reported { version: u32, charge: u64 },

@@ -41,6 +41,7 @@ impl EmployerRow {
 pub struct ReportRow {
     pub employer: EmployerNo,
     pub month: Month,
+    /// 1 for the first report, and one more for each correction; at most 10,000.
     pub version: u32,
 }
 
@@ -50,7 +51,7 @@ pub struct WageRow {
     pub employer: EmployerNo,
     pub month: Month,
     pub worker: WorkerNo,
-    /// Cents.
+    /// Cents, at most 10,000,000.
     pub gross: u64,
 }
 
@@ -61,12 +62,12 @@ pub struct KeptCharge {
     pub month: Month,
     /// The day on which it is due.
     pub due: Day,
-    /// Cents.
+    /// Cents, at most 5,000,000,000.
     pub cents: u64,
     /// What is open of it: its cents less those of its pieces.
     pub left: u64,
     /// Its weight so far: the cents of its pieces, each once for each month begun from the due day
-    /// until it was paid.
+    /// until it was paid; at most 12,060,000,000,000.
     pub weight: u64,
 }
 
@@ -74,7 +75,7 @@ pub struct KeptCharge {
 #[derive(Drop)]
 pub struct BankRow {
     pub line: BankLine,
-    /// Its number among all bank lines and releases of the office, from 1.
+    /// Its number among all bank lines and releases of the office, 1 to 500,000,000,000.
     pub serial: u64,
     /// The firm that it is for. None while it is in suspense.
     pub employer: Option<EmployerNo>,
@@ -93,7 +94,8 @@ pub struct CreditRow {
     pub reference: CreditReference,
 }
 
-/// What a credit pays of the contribution of a month: 1 cent or more.
+/// What a credit pays of the contribution of a month: 1 cent or more in a lawful book, which the range
+/// of a row doesn't ask for.
 #[derive(Drop)]
 pub struct PieceRow {
     pub employer: EmployerNo,
@@ -102,7 +104,7 @@ pub struct PieceRow {
     pub day: Day,
     /// The serial of the credit.
     pub serial: u64,
-    /// At most those of the contribution.
+    /// Cents, at most those of the contribution.
     pub cents: u64,
     /// The reference of the credit.
     pub reference: CreditReference,
@@ -111,7 +113,7 @@ pub struct PieceRow {
 /// A firm's claim for the holiday pay that it has advanced to a worker.
 #[derive(Clone, Copy)]
 pub struct ClaimRow {
-    /// Its number among all claims, from 1.
+    /// Its number among all claims, 1 to 50,000,000.
     pub claim: u32,
     pub employer: EmployerNo,
     pub worker: WorkerNo,
@@ -124,8 +126,11 @@ pub struct ClaimRow {
 /// How a claim stands.
 #[derive(Clone, Copy)]
 pub enum ClaimState {
+    /// Neither withdrawn nor released.
     Open,
+    /// Taken back by its firm.
     Withdrawn,
+    /// Settled.
     Released(ReleasedClaim),
 }
 
@@ -134,40 +139,43 @@ pub enum ClaimState {
 pub struct ReleasedClaim {
     pub day: Day,
     pub settlement: Settlement,
-    /// The payout list that it is on.
+    /// The number of the payout list that it is on, if it is on one.
     pub list: Option<u32>,
 }
 
 /// A payout list.
 #[derive(Clone, Copy)]
 pub struct ListRow {
-    /// Its number, from 1.
+    /// Its number, 1 to 50,000,000.
     pub list: u32,
+    /// The day on which it was made.
     pub day: Day,
-    /// How many claims are on it.
+    /// How many claims are on it, at least one.
     pub items: u64,
-    /// Cents.
+    /// What it pays out, in cents.
     pub total: u64,
 }
 
 /// A reminder run.
 #[derive(Clone, Copy)]
 pub struct RunRow {
-    /// Its number, from 1.
+    /// Its number, 1 to 50,000,000.
     pub run: u32,
+    /// The day on which it was made.
     pub day: Day,
-    /// How many firms were reminded.
+    /// How many firms were reminded, at least one.
     pub firms: u64,
 }
 
 /// A firm's reminder in a run.
 #[derive(Clone, Copy)]
 pub struct ReminderRow {
+    /// The number of its run.
     pub run: u32,
     pub employer: EmployerNo,
     /// 1 to 3.
     pub level: u8,
-    /// How many months had no report.
+    /// How many months had no report, at most 2,400.
     pub missing: u32,
     /// The first of them.
     pub first: Option<Month>,

@@ -66,6 +66,7 @@ impl Name {
 #[derive(Clone, Copy)]
 pub struct WageLine {
     pub worker: WorkerNo,
+    /// Cents; the rules of a report allow 10,000,000 at most.
     pub gross: u64,
 }
 

@@ -66,11 +66,11 @@ module _ (lines : List BankLine) (i : ℕ) (line : BankLine) (inside : i < lengt
     pub new_named : (after : List ℕ) → after ≡ firms ++ firm ∷ [] → (e : ℕ) → is_among e after ≡ list_any (names e) (take (i + 1) lines)
     new_named after added e = new_among after added e ∙ named_now e
 
-    module _ (number : ℕ) (same : number ≡ firm) (more : ℕ → Bool) (grown : (e : ℕ) → more e ≡ cond (is_eq (nat_cmp number e)) true (seen e)) where
+    module _ (more : ℕ → Bool) (grown : (e : ℕ) → more e ≡ cond (is_eq (nat_cmp firm e)) true (seen e)) where
       more_seen : (e : ℕ) → more e ≡ (is_among e firms || (firm == e))
       more_seen e =
           grown e
-          ∙ ap (λ t. cond t true (seen e)) (at_number number e ∙ ap (λ n. n == e) same)
+          ∙ ap (λ t. cond t true (seen e)) (at_number firm e)
           ∙ either (firm == e) (seen e)
           ∙ ap (λ o. o || (firm == e)) (has e)
 
@@ -78,12 +78,12 @@ module _ (lines : List BankLine) (i : ℕ) (line : BankLine) (inside : i < lengt
       new_seen after added e = more_seen e ∙ sym (new_among after added e)
 
       -- its firm was named before
-      module _ (added : Bool) (is_new : added ≡ not (seen number)) (old : added ≡ false) where
+      module _ (added : Bool) (is_new : added ≡ not (seen firm)) (old : added ≡ false) where
         old_among : (e : ℕ) → (is_among e firms || (firm == e)) ≡ is_among e firms
         old_among e = told (firm == e) refl
           where
             there : is_among firm firms ≡ true
-            there = sym (has firm) ∙ ap seen (sym same) ∙ not_true (seen number) (sym is_new ∙ old)
+            there = sym (has firm) ∙ not_true (seen firm) (sym is_new ∙ old)
 
             told : (b : Bool) → (firm == e) ≡ b → (is_among e firms || b) ≡ is_among e firms
             told true e-is = ap (λ o. o || true) here ∙ sym here
@@ -116,12 +116,12 @@ not_false false h = refl
 not_false true h = absurd (cc)
 
 -- a firm that was not seen is new
-pub new_once : (seen : ℕ → Bool) (firms : List ℕ) → ((e : ℕ) → seen e ≡ is_among e firms) → (firm number : ℕ) → number ≡ firm → (added : Bool) → added ≡ not (seen number) → added ≡ true
+pub new_once : (seen : ℕ → Bool) (firms : List ℕ) → ((e : ℕ) → seen e ≡ is_among e firms) → (firm : ℕ) → (added : Bool) → added ≡ not (seen firm) → added ≡ true
     → AreOnce firm_key firms → (after : List ℕ) → after ≡ firms ++ firm ∷ [] → AreOnce firm_key after
-new_once seen firms has firm number same added is new once after grown =
+new_once seen firms has firm added is new once after grown =
     subst (AreOnce firm_key) (sym grown)
     (AreOnce-append firm_key firms (firm ∷ []) once (refl, tt)
-    (not_among firm firms (sym (has firm) ∙ ap seen (sym same) ∙ not_false (seen number) (sym is ∙ new)), tt))
+    (not_among firm firms (sym (has firm) ∙ not_false (seen firm) (sym is ∙ new)), tt))
 
 -- ---- each firm that is named is found as it is viewed
 

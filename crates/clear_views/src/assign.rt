@@ -20,6 +20,7 @@ use crate::member::find_member;
 use clear_bank::lines::Purpose;
 use clear_book::calls::Assignment;
 use clear_book::limits::MAX_CREDITS;
+use clear_book::numbers::SerialCount;
 use clear_book::rows::BankRow;
 use clear_ledger::bank::find_line;
 use clear_ledger::credits::credit_count;
@@ -70,7 +71,7 @@ pub fn assign_view<S: Alter>(
 // isn't so, nothing is read.
 fn is_full<S: Alter>(
     tx: &mut Transaction<'_, S>,
-    serials: u64,
+    serials: SerialCount,
     employer: EmployerNo,
     line: &Option<BankRow>,
 ) -> Result<bool, Fault>
@@ -84,7 +85,7 @@ fn is_full<S: Alter>(
         → AreInRange t → IfErr result IsOfDisk }
     ensures leaves { LeavesOpen S.Store tx.old.conn.now tx.new.conn.now result }
 {
-    if serials < MAX_CREDITS {
+    if serials.count() < MAX_CREDITS {
         return Ok(false);
     }
     match line {

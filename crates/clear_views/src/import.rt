@@ -23,7 +23,6 @@ mod limits;
 use clear_bank::lines::BankLine;
 use clear_book::limits::{MAX_CREDITS, MAX_SUSPENSE};
 use clear_book::numbers::SerialCount;
-use clear_book::rules::StoreCause;
 use clear_firms::counts::find_counts;
 use clear_rules::decide::import::ImportView;
 use clear_schema::counts::Counts;
@@ -43,8 +42,7 @@ use std::alloc::Global;
 ///
 /// It costs n log n steps for n lines of the file, and one search for each of its references and
 /// for each firm that it names; where the serials don't serve, also one look at the key of each
-/// credit of these firms, and, where a line stays without a firm, one pass over all lines. More
-/// serials than an office gives are a fault of the store.
+/// credit of these firms, and, where a line stays without a firm, one pass over all lines.
 pub fn import_view<S: Alter>(
     alloc: Global,
     tx: &mut Transaction<'_, S>,
@@ -62,10 +60,7 @@ pub fn import_view<S: Alter>(
         → counts.now ≡ counts_of t → AreInRange t → IfErr result IsOfDisk }
     ensures leaves { Leaves S.Store tx.old.conn.now tx.new.conn.now result }
 {
-    let Some(serials) = SerialCount::new(counts.serial) else {
-        return Err(Fault::Store(StoreCause::Row));
-    };
-    read_view(alloc, tx, serials, lines)
+    read_view(alloc, tx, counts.serial, lines)
 }
 
 // What these lines are judged by, where so many serials were given.

@@ -49,8 +49,8 @@ use std::alloc::Global;
 /// that there is. The firm's credits for contributions are read only once 100,000 serials were
 /// given: while there are fewer, their number serves for that of the credits. What no book holds is
 /// refused with `Fault::Store(StoreCause::Row)`: a value out of its range, more contributions or
-/// credits than an account has, a claim of a firm that isn't registered, and more serials than an
-/// office gives; so is a day before the ledger day.
+/// credits than an account has, and a claim of a firm that isn't registered; so is a day before the
+/// ledger day.
 pub fn release_view<S: Alter>(
     alloc: Global,
     tx: &mut Transaction<'_, S>,
@@ -77,10 +77,8 @@ pub fn release_view<S: Alter>(
     if is_day_back(counts, day) {
         return Err(Fault::Store(StoreCause::Row));
     }
-    let Some(serials) = SerialCount::new(counts.serial) else {
-        return Err(Fault::Store(StoreCause::Row));
-    };
-    let found = find_owing(alloc, tx, counts.serial, day, claim)?;
+    let serials = counts.serial;
+    let found = find_owing(alloc, tx, serials, day, claim)?;
     Ok(ReleaseView { found, serials })
 }
 
@@ -89,7 +87,7 @@ pub fn release_view<S: Alter>(
 fn find_owing<S: Alter>(
     alloc: Global,
     tx: &mut Transaction<'_, S>,
-    serials: u64,
+    serials: SerialCount,
     day: Day,
     claim: ClaimNo,
 ) -> Result<Option<OwingClaim>, Fault>
@@ -121,7 +119,7 @@ fn find_owing<S: Alter>(
 fn firm_debts<S: Alter>(
     alloc: Global,
     tx: &mut Transaction<'_, S>,
-    serials: u64,
+    serials: SerialCount,
     day: Day,
     employer: EmployerNo,
 ) -> Result<FirmDebts, Fault>
@@ -177,7 +175,7 @@ fn find_overdue<S: Alter>(
 // given: these, while they are fewer than the credits that a firm may have. Then nothing is read.
 fn count_contributions<S: Alter>(
     tx: &mut Transaction<'_, S>,
-    serials: u64,
+    serials: SerialCount,
     employer: EmployerNo,
 ) -> Result<u64, Fault>
     ensures same_reference { tx.new.conn.ghost_name ≡ tx.old.conn.ghost_name }
@@ -190,8 +188,9 @@ fn count_contributions<S: Alter>(
         → AreInRange t → IfErr result IsOfDisk }
     ensures leaves { LeavesOpen S.Store tx.old.conn.now tx.new.conn.now result }
 {
-    if serials < MAX_CREDITS {
-        return Ok(serials);
+    let given = serials.count();
+    if given < MAX_CREDITS {
+        return Ok(given);
     }
     credit_count(tx, employer, Purpose::Contribution)
 }

@@ -224,7 +224,7 @@ fn new_rows(
     lines: &[BankLine],
     places: &[usize],
     serials: SerialCount,
-    index: &BTreeMap<u32, EmployerCredits>,
+    index: &BTreeMap<EmployerNo, EmployerCredits>,
 ) -> Result<Vec<BankRow>, AllocError>
     requires { All (λ place. place < length lines.now) places.now }
     ensures { (known : List BankLine) → places.now ≡ new_places known lines.now

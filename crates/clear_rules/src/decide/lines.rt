@@ -133,7 +133,7 @@ fn find_worker_twice(alloc: Global, lines: &[WageLine]) -> Result<Option<WorkerN
 {
     let mut seen = BTreeSet::new(alloc);
     for line in lines {
-        if !seen.insert(line.worker.number())? {
+        if !seen.insert(line.worker)? {
             return Ok(Some(line.worker));
         }
     }

@@ -2,7 +2,7 @@
 ghost use Rattle.std.specs.Prelude.{◌≡◌, IfOk};
 ghost use Rattle.clear_book.specs.declared.calls.Command.TheVariants.{Register as DoRegister};
 ghost use Rattle.clear_book.specs.Book.{Book};
-ghost use Rattle.clear_book.specs.Own.Register.{own_register};
+ghost use Rattle.clear_book.specs.Own.Register.{own_register, register_reply};
 ghost use Rattle.clear_rules.specs.Decisions.{Refuses, IsJudged, TakesTables};
 ghost use Rattle.clear_rules.specs.Views.Register.{IsRegisterView, registered_row};
 
@@ -27,6 +27,9 @@ pub struct RegisterView {
 
 /// Decides on a registration: `EmployerExists`, `OverLimit` of 10,000 employers, `NoRate`, in this
 /// order. `Memory` may stand in place of any answer.
+///
+/// An accepted registration makes the employer a member from its first month on, without an end. It
+/// costs a few steps.
 pub fn decide_register(
     day: Day,
     registration: &Registration,
@@ -42,6 +45,7 @@ pub fn decide_register(
         (own_register view.now.registered view.now.employer_count view.now.has_rate) }
     ensures made { IfOk result (λ decision.
         decision.change ≡ Change.AddEmployer (registered_row registration.now)) }
+    ensures reply { IfOk result (λ decision. decision.reply ≡ register_reply) }
 {
     if view.registered {
         return Err(Rule::EmployerExists);

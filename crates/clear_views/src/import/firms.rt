@@ -52,7 +52,7 @@ fn named_firms(alloc: Global, lines: &[BankLine]) -> Result<Vec<EmployerNo>, All
     let mut firms = Vec::new(alloc);
     for line in lines {
         if let Some(employer) = line.employer {
-            if seen.insert(employer.number())? {
+            if seen.insert(employer)? {
                 firms.push(employer)?;
             }
         }

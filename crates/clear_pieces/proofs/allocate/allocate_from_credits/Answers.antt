@@ -6,8 +6,8 @@ use Rattle.clear_ledger.specs.From.{is_credit_from}
 use Rattle.clear_pieces.proofs.AltersLemmas.{alters_looked, alters_so}
 use Rattle.clear_pieces.proofs.allocate.allocate_from_credits.Goals as goal
 
-pub returns-then-news-gt-MOST_SERIAL-clause-allocates : goal.returns-then-news-gt-MOST_SERIAL-clause-allocates
-returns-then-news-gt-MOST_SERIAL-clause-allocates g c =
+pub returns-then-added-gt-MAX_STORED-clause-allocates : goal.returns-then-added-gt-MAX_STORED-clause-allocates
+returns-then-added-gt-MAX_STORED-clause-allocates g c =
     alters_so g.S.Store c.args.tx.now.conn.now c.allocate_whole.new.tx.conn.now c.allocate_whole.result c.allocate_whole.ensures.allocates
     (λ t has. ((λ put. (put.0, put.1, λ account weighed. put.2 account)), (λ sound. (sound.0, sound.2, sound.4))))
 
@@ -29,7 +29,7 @@ returns-in_err-behind-clause-allocates g c =
       put = λ clean t has. tt;
       fault = λ clean t has sound. (
         looks.cause clean t has,
-        λ told. looks.range clean t has told (all-filter IsCreditRow (is_credit_from c.args.employer Contribution c.args.news.now.first.day c.args.news.now.first.serial) t.credits sound.0.credits),
+        λ told. looks.range clean t has told (all-filter IsCreditRow (is_credit_from c.args.employer Contribution c.args.added.now.first.day c.args.added.now.first.serial) t.credits sound.0.credits),
       );
       stays = record { goes_on = λ clean t has inside. tt; kept = looks.kept; survives = looks.survives };
     })

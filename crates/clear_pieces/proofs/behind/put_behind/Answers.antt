@@ -11,7 +11,7 @@ use Rattle.clear_pieces.proofs.behind.put_behind.Goals as goal
 pub returns-clause-allocates : goal.returns-clause-allocates
 returns-clause-allocates g c =
     let e = c.args.employer in
-    let news = c.args.news.now in
+    let added = c.args.added.now in
     let firm = c.args.firm.now in
     let start = c.start_of_credits-start in
     let within : start.result.charges.count < length c.all_charges-charges.result.now = omega (arith, c.if-start-charges.false) in
@@ -25,16 +25,16 @@ returns-clause-allocates g c =
         (with_rows piece_key t.pieces put.0, _),
         written.1,
         λ account is last weighed.
-            open_anew t e news firm is account last weighed c.all_charges-charges.result.now c.all_credits.result.now c.all_charges-charges.ensures.value c.all_credits.ensures start.result start.ensures.start start.ensures.place start.ensures.rows within (charges_in_order t (state g.S.Store c.args.tx.now.conn.now).now has) put.0 (put.2 (rows_credits t e news.first firm is)),
+            open_anew t e added firm is account last weighed c.all_charges-charges.result.now c.all_credits.result.now c.all_charges-charges.ensures.value c.all_credits.ensures start.result start.ensures.start start.ensures.place start.ensures.rows within (charges_in_order t (state g.S.Store c.args.tx.now.conn.now).now has) put.0 (put.2 (rows_credits t e added.first firm is)),
       )),
-      (λ sound. (as_many t e news.first firm sound.1, paid_good t e news firm sound.1 sound.0.account sound.2 sound.3 c.all_charges-charges.result.now c.all_credits.result.now c.all_charges-charges.ensures.value c.all_credits.ensures start.result start.ensures.start start.ensures.place start.ensures.rows sound.0)),
+      (λ sound. (as_many t e added.first firm sound.1, paid_good t e added firm sound.1 sound.0.account sound.2 sound.3 c.all_charges-charges.result.now c.all_credits.result.now c.all_charges-charges.ensures.value c.all_credits.ensures start.result start.ensures.start start.ensures.place start.ensures.rows sound.0)),
     ))
 
 pub returns-in_err-add_pieces-clause-allocates : goal.returns-in_err-add_pieces-clause-allocates
 returns-in_err-add_pieces-clause-allocates g c =
     let p = err_from_is_err_and c.from_residual.result c.from_residual.ensures.1 in
     let e = c.args.employer in
-    let news = c.args.news.now in
+    let added = c.args.added.now in
     let firm = c.args.firm.now in
     let start = c.start_of_credits-start in
     let within : start.result.charges.count < length c.all_charges-charges.result.now = omega (arith, c.if-start-charges.false) in
@@ -43,7 +43,7 @@ returns-in_err-add_pieces-clause-allocates g c =
       fault = λ clean t has sound.
           let is = sound.1 in
           c.in_err-add_pieces.ensures.alters.fault clean t has
-          (rows_credits t e news.first firm is, rows_good t e news.first firm is sound.0, open_free t e news firm is sound.0.account sound.2 sound.3 c.all_charges-charges.result.now c.all_credits.result.now c.all_charges-charges.ensures.value c.all_credits.ensures start.result start.ensures.start start.ensures.place start.ensures.rows within sound.4);
+          (rows_credits t e added.first firm is, rows_good t e added.first firm is sound.0, open_free t e added firm is sound.0.account sound.2 sound.3 c.all_charges-charges.result.now c.all_credits.result.now c.all_charges-charges.ensures.value c.all_credits.ensures start.result start.ensures.start start.ensures.place start.ensures.rows within sound.4);
       stays = c.in_err-add_pieces.ensures.alters.stays;
     })
 
@@ -55,5 +55,5 @@ returns-then-start-charges-clause-allocates g c =
     (λ t has. (
       (t.pieces, t.charges),
       has,
-      λ account is last weighed. open_stays t c.args.employer c.args.news.now c.args.firm.now is account last weighed c.all_charges-charges.result.now c.all_credits.result.now c.all_charges-charges.ensures.value c.all_credits.ensures start.result start.ensures.start start.ensures.place start.ensures.rows none,
+      λ account is last weighed. open_stays t c.args.employer c.args.added.now c.args.firm.now is account last weighed c.all_charges-charges.result.now c.all_credits.result.now c.all_charges-charges.ensures.value c.all_credits.ensures start.result start.ensures.start start.ensures.place start.ensures.rows none,
     ))

@@ -11,7 +11,7 @@ use Rattle.clear_reading.proofs.FirmHeadLemmas.{records_found}
 use Rattle.clear_reading.proofs.firm_head.find_records.Goals as goal
 
 pub returns-in_default-clause-records : goal.returns-in_default-clause-records
-returns-in_default-clause-records g c clean t has back b lawful weighed =
+returns-in_default-clause-records g c clean t has day back b lawful weighed =
     sym (weighed.stands.employers c.args.employer) ∙ ap (option_map member_in) (sym (rw c.in_default.is at (c.in_ok-member.ensures.looks.found clean t has)))
 
 pub returns-in_err-member-clause-fault : goal.returns-in_err-member-clause-fault
@@ -21,13 +21,13 @@ returns-in_err-member-clause-fault g c clean t has b lawful weighed =
     (rows_in_range b t lawful weighed.stands).employers)
 
 pub returns-clause-records : goal.returns-clause-records
-returns-clause-records g c clean t has back b lawful weighed =
+returns-clause-records g c clean t has day back b lawful weighed =
     let old = state g.S.Store c.args.tx.now.conn.now in
     let one = state g.S.Store c.find_employer.new.tx.conn.now in
     let end = state g.S.Store c.read_records.new.tx.conn.now in
     let clean_one = was_clean one end c.in_ok-records.ensures.leaves.survives clean in
     let has_one = still t old one (c.in_ok-member.ensures.looks.same clean_one t has) has in
-    records_found b t lawful weighed c.args.employer c.args.day back c.in-Some.member
+    records_found b t lawful weighed c.args.employer day back c.in-Some.member
     (sym (rw c.in-Some.is at (c.in_ok-member.ensures.looks.found clean_one t has)))
     c.in_ok-records.records (c.in_ok-records.ensures.read clean t has_one b lawful weighed)
 

@@ -22,25 +22,24 @@ use clear_money::numbers::EmployerNo;
 use std::alloc::{AllocError, Global};
 use std::collections::BTreeMap;
 
-/// The number of credits for each purpose, by the number of the employer.
+/// The number of credits for each purpose, by employer.
 #[derive(Drop)]
 pub(super) struct CreditCounts {
-    contributions: BTreeMap<u32, u64>,
-    interest: BTreeMap<u32, u64>,
+    contributions: BTreeMap<EmployerNo, u64>,
+    interest: BTreeMap<EmployerNo, u64>,
 }
 
 /// The employers of a view by their numbers: of two with one number the first.
 pub(super) fn index_employers(
     alloc: Global,
     employers: &[EmployerCredits],
-) -> Result<BTreeMap<u32, EmployerCredits>, AllocError>
+) -> Result<BTreeMap<EmployerNo, EmployerCredits>, AllocError>
     ensures { IfOk result (IsIndexOf employers.now) }
 {
     let mut index = BTreeMap::new(alloc);
     for credits in employers {
-        let number = credits.employer.number();
-        if !index.contains_key(&number) {
-            index.insert(number, *credits)?;
+        if !index.contains_key(&credits.employer) {
+            index.insert(credits.employer, *credits)?;
         }
     }
     Ok(index)
@@ -48,13 +47,13 @@ pub(super) fn index_employers(
 
 /// The employer of a new line: the one that it names, if that is registered.
 pub(super) fn employer_of(
-    index: &BTreeMap<u32, EmployerCredits>,
+    index: &BTreeMap<EmployerNo, EmployerCredits>,
     line: &BankLine,
 ) -> Option<EmployerNo>
     ensures { result ≡ employer_of_line (is_indexed index.now) line.now }
 {
     let employer = line.employer?;
-    if index.contains_key(&employer.number()) {
+    if index.contains_key(&employer) {
         Some(employer)
     } else {
         None
@@ -66,7 +65,7 @@ pub(super) fn employer_of(
 pub(super) fn check_limits(
     alloc: Global,
     suspense: u64,
-    index: &BTreeMap<u32, EmployerCredits>,
+    index: &BTreeMap<EmployerNo, EmployerCredits>,
     rows: &[BankRow],
 ) -> Result<(), Rule>
     ensures { Refuses result (first_of (limit_rules (suspense + suspense_count rows.now)
@@ -110,7 +109,7 @@ fn count_credits(
     alloc: Global,
     rows: &[BankRow],
     purpose: Purpose,
-) -> Result<BTreeMap<u32, u64>, AllocError>
+) -> Result<BTreeMap<EmployerNo, u64>, AllocError>
     ensures { IfOk result (λ counts.
         (e : ℕ) → count_in counts e ≡ credit_count (credits_of_lines rows.now) e purpose) }
 {
@@ -123,7 +122,7 @@ fn count_credits(
 
 // Counts the credit that a row is, if it is one for the purpose.
 fn count_credit(
-    counts: &mut BTreeMap<u32, u64>,
+    counts: &mut BTreeMap<EmployerNo, u64>,
     row: &BankRow,
     purpose: Purpose,
 ) -> Result<(), AllocError>
@@ -138,14 +137,17 @@ fn count_credit(
     if row.line.purpose != purpose {
         return Ok(());
     }
-    let number = employer.number();
-    let count = counts.get(&number).copied().unwrap_or(0);
-    counts.insert(number, count + 1)?;
+    let count = number_in(counts, employer);
+    counts.insert(employer, count + 1)?;
     Ok(())
 }
 
 // Whether an employer of these rows has too many credits for a purpose.
-fn has_over(index: &BTreeMap<u32, EmployerCredits>, counts: &CreditCounts, rows: &[BankRow]) -> bool
+fn has_over(
+    index: &BTreeMap<EmployerNo, EmployerCredits>,
+    counts: &CreditCounts,
+    rows: &[BankRow],
+) -> bool
     requires { AreCountsOf rows.now counts.now }
     ensures { result ≡ list_any (is_over (count_then index.now rows.now))
         (credits_of_lines rows.now) }
@@ -159,7 +161,11 @@ fn has_over(index: &BTreeMap<u32, EmployerCredits>, counts: &CreditCounts, rows:
 }
 
 // Whether the employer of a row has too many credits for its purpose.
-fn is_over(index: &BTreeMap<u32, EmployerCredits>, counts: &CreditCounts, row: &BankRow) -> bool
+fn is_over(
+    index: &BTreeMap<EmployerNo, EmployerCredits>,
+    counts: &CreditCounts,
+    row: &BankRow,
+) -> bool
     ensures { (rows : List BankRow) → AreCountsOf rows counts.now
         → result ≡ option_map_or (is_over (count_then index.now rows))
         (credit_of_line row.now row.now.employer) false }
@@ -173,13 +179,13 @@ fn is_over(index: &BTreeMap<u32, EmployerCredits>, counts: &CreditCounts, row: &
 
 // How many credits an employer had for a purpose before the file.
 fn credits_before(
-    index: &BTreeMap<u32, EmployerCredits>,
+    index: &BTreeMap<EmployerNo, EmployerCredits>,
     employer: EmployerNo,
     purpose: Purpose,
 ) -> u64
     ensures { result ≡ count_indexed index.now employer purpose }
 {
-    let Some(credits) = index.get(&employer.number()) else {
+    let Some(credits) = index.get(&employer) else {
         return 0;
     };
     match purpose {
@@ -201,8 +207,8 @@ impl CreditCounts {
 }
 
 // The count of an employer, 0 where there is none.
-fn number_in(counts: &BTreeMap<u32, u64>, employer: EmployerNo) -> u64
+fn number_in(counts: &BTreeMap<EmployerNo, u64>, employer: EmployerNo) -> u64
     ensures { result ≡ count_in counts.now employer }
 {
-    counts.get(&employer.number()).copied().unwrap_or(0)
+    counts.get(&employer).copied().unwrap_or(0)
 }

@@ -8,4 +8,4 @@ use Rattle.clear_views.proofs.release.count_contributions.Goals as goal
 
 pub returns-clause-count : goal.returns-clause-count
 returns-clause-count g c clean t has =
-    IfOk-weaker c.credit_count.result _ _ (λ count is. count_taken c.args.serials 100000 (credit_count t.credits c.args.employer Contribution) count (le-ltb c.args.serials 100000 (omega (arith, c.if-serials-lt-MAX_CREDITS.false))) is) (c.credit_count.ensures.looks.found clean t has)
+    IfOk-weaker c.credit_count.result _ _ (λ count is. count_taken c.args.serials 100000 (credit_count t.credits c.args.employer Contribution) count (le-ltb c.args.serials 100000 (omega (arith, c.if-given-lt-MAX_CREDITS.false))) is) (c.credit_count.ensures.looks.found clean t has)

@@ -8,18 +8,18 @@ pub returns-then-not-branch : goal.returns-then-not-branch
 returns-then-not-branch c =
     seen_twice c.args.lines.now c.loop-line.line-index c.line-item.result (omega arith) c.line-item.is
     (set.contains nat_cmp c.loop-line.seen) c.loop-line.invariant.seen c.loop-line.invariant.so_far
-    c.number.result c.number.ensures.value c.in_ok-insert.field-0 c.in_ok-insert.ensures.added c.if-not-branch.true
+    c.in_ok-insert.field-0 c.in_ok-insert.ensures.added c.if-not-branch.true
 
 pub loop-line-preserved : goal.loop-line-preserved
 loop-line-preserved c = record {
   so_far =
       seen_once c.args.lines.now c.loop-line.line-index c.line-item.result (omega arith) c.line-item.is
       (set.contains nat_cmp c.loop-line.seen) c.loop-line.invariant.seen c.loop-line.invariant.so_far
-      c.number.result c.number.ensures.value c.in_ok-insert.field-0 c.in_ok-insert.ensures.added c.if-not-branch.false;
+      c.in_ok-insert.field-0 c.in_ok-insert.ensures.added c.if-not-branch.false;
   seen =
       seen_more c.args.lines.now c.loop-line.line-index c.line-item.result (omega arith) c.line-item.is
       (set.contains nat_cmp c.loop-line.seen) c.loop-line.invariant.seen c.loop-line.invariant.so_far
-      c.number.result c.number.ensures.value c.in_ok-insert.field-0 c.in_ok-insert.ensures.added
+      c.in_ok-insert.field-0 c.in_ok-insert.ensures.added
       (set.contains nat_cmp c.insert.new.self) c.in_ok-insert.ensures.updates.0;
 }
 

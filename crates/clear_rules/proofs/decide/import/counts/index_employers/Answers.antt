@@ -1,6 +1,6 @@
-use Rattle.std.proofs.Common.{ℕ, cond, Some, is_some, sym, ap, ◌∙◌, arith}
+use Rattle.std.proofs.Common.{sym, ap, ◌∙◌, arith}
 use Rattle.std.specs.BTreeMap.{get}
-use Rattle.std.specs.Ordering.{nat_cmp, is_eq}
+use Rattle.std.specs.Ordering.{nat_cmp}
 use Rattle.clear_rules.proofs.CountsLemmas.{index-added, index-kept}
 use Rattle.clear_rules.proofs.decide.import.counts.index_employers.Goals.{then-not-contains_key+in_ok-insert, else-not-contains_key}
 use Rattle.clear_rules.proofs.decide.import.counts.index_employers.Goals as goal
@@ -12,12 +12,11 @@ loop-credits-preserved c =
     let x = c.credits-item.result in
     let old = get nat_cmp c.loop-credits.index in
     let new = get nat_cmp c.if-not-contains_key.index in
-    let same = c.number-number.ensures.value in
-    let known = sym (ap (λ (n : ℕ). is_some (old n)) same) ∙ sym c.contains_key.ensures in
+    let known = sym c.contains_key.ensures in
     elim c.if-not-contains_key.branch [
       | then-not-contains_key+in_ok-insert w ↦
           index-added xs i x (omega arith) c.credits-item.is old new c.loop-credits.invariant (known ∙ w.if-not-contains_key.true)
-          (λ e. ap (λ m. get nat_cmp m e) w.index-is ∙ w.in_ok-insert.ensures.updates.0 e ∙ ap (λ (n : ℕ). cond (is_eq (nat_cmp n e)) (Some x) (old e)) same)
+          (λ e. ap (λ m. get nat_cmp m e) w.index-is ∙ w.in_ok-insert.ensures.updates.0 e)
       | else-not-contains_key w ↦
           λ e. ap (λ m. get nat_cmp m e) w.index-is ∙ index-kept xs i x (omega arith) c.credits-item.is old c.loop-credits.invariant (known ∙ w.if-not-contains_key.false) e
     ]

@@ -1,5 +1,0 @@
-use Rattle.clear_account.proofs.LawLemmas.{shares_sum}
-use Rattle.clear_account.proofs.laws.shares_sum.Goals as goal
-
-pub returns : goal.returns
-returns c = shares_sum

@@ -1,5 +1,0 @@
-use Rattle.clear_account.proofs.LawLemmas.{weight_by_shares}
-use Rattle.clear_account.proofs.laws.weight_by_pieces.Goals as goal
-
-pub returns : goal.returns
-returns c = weight_by_shares

@@ -1,5 +1,0 @@
-use Rattle.clear_kept.proofs.LawLemmas.{charge_rewrites}
-use Rattle.clear_kept.proofs.laws.charge_rewrites.Goals as goal
-
-pub returns : goal.returns
-returns c = charge_rewrites

@@ -1,5 +1,0 @@
-use Rattle.clear_kept.proofs.LawLemmas.{charge_rows_stand}
-use Rattle.clear_kept.proofs.laws.charge_rows_stand.Goals as goal
-
-pub returns : goal.returns
-returns c = charge_rows_stand

@@ -1,5 +1,0 @@
-use Rattle.clear_kept.proofs.PutLemmas.{credit_put}
-use Rattle.clear_kept.proofs.laws.credit_put.Goals as goal
-
-pub returns : goal.returns
-returns c = credit_put

@@ -1,5 +1,0 @@
-use Rattle.clear_kept.proofs.PutLemmas.{credit_taken}
-use Rattle.clear_kept.proofs.laws.credit_taken.Goals as goal
-
-pub returns : goal.returns
-returns c = credit_taken

@@ -1,5 +1,0 @@
-use Rattle.clear_kept.proofs.LawLemmas.{credits_rewrite}
-use Rattle.clear_kept.proofs.laws.credits_rewrite.Goals as goal
-
-pub returns : goal.returns
-returns c = credits_rewrite

@@ -1,5 +1,0 @@
-use Rattle.clear_kept.proofs.DatedLemmas.{names_payments}
-use Rattle.clear_kept.proofs.laws.names_payments.Goals as goal
-
-pub returns : goal.returns
-returns c = names_payments

@@ -1,5 +1,0 @@
-use Rattle.clear_kept.proofs.OwingLemmas.{open_from_rows}
-use Rattle.clear_kept.proofs.laws.open_from_rows.Goals as goal
-
-pub returns : goal.returns
-returns c = open_from_rows

@@ -1,5 +1,0 @@
-use Rattle.clear_kept.proofs.OwingLemmas.{rows_in_range}
-use Rattle.clear_kept.proofs.laws.rows_in_range.Goals as goal
-
-pub returns : goal.returns
-returns c = rows_in_range

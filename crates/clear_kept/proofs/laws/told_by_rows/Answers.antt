@@ -1,5 +1,0 @@
-use Rattle.clear_kept.proofs.ToldLemmas.{told_by_rows}
-use Rattle.clear_kept.proofs.laws.told_by_rows.Goals as goal
-
-pub returns : goal.returns
-returns c = told_by_rows
