@@ -193,7 +193,9 @@ class Plans(unittest.TestCase):
         texts = [text for text in self.texts(seen) if not text.startswith("CREATE")]
         self.assertGreater(len(texts), 30)
         # With the empty text by which an office asks whether its store still stands.
-        self.assertLess(len(texts) + 1, self.MOST)
+        plans = len(texts) + 1
+        self.assertLess(plans, self.MOST)
+        self.assertIn(f"{plans} plans that stay", (ROOT / "docs/performance.md").read_text())
 
 
 class Promises(unittest.TestCase):
