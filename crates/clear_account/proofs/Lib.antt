@@ -6,6 +6,7 @@ pub mod PlaceLemmas
 pub mod ShareLemmas
 pub mod OpenLemmas
 pub mod LawLemmas
+pub mod InterestLemmas
 pub mod PieceLemmas
 pub mod SettledLemmas
 pub mod CountLemmas

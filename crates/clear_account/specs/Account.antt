@@ -5,8 +5,8 @@ use Rattle.std.specs.Prelude.{Option, All, AllPairs, Any, IsTrue, filter, length
 use Rattle.std.specs.Prelude.{sum_by, take}
 use Rattle.std.specs.List.{range_with_len, slice_get, slice_index_or}
 use Rattle.std.specs.Option.{option_map_or}
-use Rattle.clear_money.specs.Limits.{most_base}
-use Rattle.clear_money.specs.Calendar.{IsMonth, day_of_month}
+use Rattle.clear_money.specs.Limits.{most_base, most_credits}
+use Rattle.clear_money.specs.Calendar.{IsMonth, day_of_month, first_day}
 use Rattle.clear_money.specs.Numbers.{IsAmount}
 use Rattle.clear_account.specs.declared.entries.Charge.{Charge}
 use Rattle.clear_account.specs.declared.entries.Credit.{Credit}
@@ -46,7 +46,7 @@ credited credits = sum_by (λ k. k.cents) credits
 
 -- the day of the last payment, or 2000-01-01 without one
 abbrev pub last_day : List Credit → ℕ
-last_day credits = option_map_or (λ k. k.day) (slice_get credits (length credits - 1)) 10957
+last_day credits = option_map_or (λ k. k.day) (slice_get credits (length credits - 1)) first_day
 
 -- the place of a month's charge, from 0
 abbrev pub place_of : List Charge → ℕ → Option ℕ
@@ -84,4 +84,4 @@ pub record IsAccount (charges : List Charge) (credits : List Credit) : Type 0 wh
   pub each_credit : All (λ k. IsAmount k.cents) credits
   pub credits_rise : AllPairs (λ k l. IsTrue (comes_before k l)) credits
   pub serials_differ : AllPairs (λ k l. k.serial ≢ l.serial) credits
-  pub few_credits : length credits ≤ 100000
+  pub few_credits : length credits ≤ most_credits

@@ -1,7 +1,8 @@
 -- Laws that the definitions of an account keep.
-use Rattle.std.specs.Prelude.{◌≡◌, ℕ, ◌+◌, ◌-◌, ◌*◌, ◌<◌, ◌≤◌, ◌==◌, ◌&&◌, Bool, List, All, filter}
-use Rattle.std.specs.Prelude.{length, min, sum_by}
-use Rattle.clear_money.specs.Calendar.{begun_months}
+use Rattle.std.specs.Prelude.{◌≡◌, ℕ, ◌+◌, ◌-◌, ◌*◌, ◌<◌, ◌≤◌, ◌==◌, ◌&&◌, Bool, List, [], ◌∷◌}
+use Rattle.std.specs.Prelude.{All, Some, filter, length, min, sum_by}
+use Rattle.clear_money.specs.Calendar.{IsMonth, begun_months, day_in}
+use Rattle.clear_money.specs.Rates.{Rate, rate_in_force}
 use Rattle.clear_account.specs.declared.entries.Charge.{Charge}
 use Rattle.clear_account.specs.declared.entries.Credit.{Credit}
 use Rattle.clear_account.specs.declared.entries.Piece.{Piece}
@@ -9,7 +10,7 @@ use Rattle.clear_account.specs.Account.{IsAccount, charge_at, charged, charged_u
 use Rattle.clear_account.specs.Account.{credited, places}
 use Rattle.clear_account.specs.Allocation.{open_part, paid_of, piece_of, prepaid, right_pieces}
 use Rattle.clear_account.specs.Allocation.{share}
-use Rattle.clear_account.specs.Interest.{weight_on}
+use Rattle.clear_account.specs.Interest.{all_interest_on, interest_on, weight_on}
 use Rattle.clear_account.specs.Settled.{shares_of}
 
 -- the shares of a charge sum to what the payments reach of it
@@ -75,3 +76,41 @@ abbrev pub FewShares : Type 0
 FewShares = (charges : List Charge) (credits : List Credit) →
     sum_by (λ i. length (shares_of charges credits i)) (places charges)
     ≤ length charges + length credits
+
+-- ---- interest in small cases
+
+-- a month's contribution, due on the 20th of the following month
+abbrev pub charge_of : ℕ → ℕ → Charge
+charge_of month cents = record { month = month; due = day_in (month + 1) 20; cents = cents }
+
+-- 33 cents that come on the 21st of a month
+abbrev pub third_in : ℕ → ℕ → Credit
+third_in month serial = record { day = day_in month 21; serial = serial; cents = 33 }
+
+-- at 1 percent, 99 cents of which a third comes one, two and three months late bear 1.98 cents,
+-- rounded down once to 1: not 0, as the thirds would bear each by itself, or the months would
+abbrev pub InterestRoundedOnce : Type 0
+InterestRoundedOnce = (rates : List Rate) (row : Rate) (m day : ℕ) →
+    IsMonth m → IsMonth (m + 3) → day_in (m + 3) 21 ≤ day →
+    rate_in_force rates m ≡ Some row → row.interest_rate ≡ 100 →
+    interest_on rates (charge_of m 99 ∷ [])
+    (third_in (m + 1) 1 ∷ third_in (m + 2) 2 ∷ third_in (m + 3) 3 ∷ []) 0 day
+    ≡ 1
+
+-- 99 cents of one month at 1 percent, three months late, bear 2.97 cents, and 99 cents of the
+-- following month at 2 percent, two months late, 3.96: each charge is rounded down by itself
+abbrev pub InterestByCharge : Type 0
+InterestByCharge = (rates : List Rate) (row next : Rate) (m : ℕ) →
+    IsMonth m → IsMonth (m + 3) →
+    rate_in_force rates m ≡ Some row → row.interest_rate ≡ 100 →
+    rate_in_force rates (m + 1) ≡ Some next → next.interest_rate ≡ 200 →
+    all_interest_on rates (charge_of m 99 ∷ charge_of (m + 1) 99 ∷ []) [] (day_in (m + 3) 21)
+    ≡ 5
+
+-- of a charge that stays open, each 100.00 euros bear for each begun month as many cents as the
+-- rate of its month has hundredths of a percent
+abbrev pub InterestPerHundred : Type 0
+InterestPerHundred = (rates : List Rate) (row : Rate) (m k n : ℕ) →
+    IsMonth m → IsMonth (m + k) → 1 ≤ k → n ≤ 500000 → rate_in_force rates m ≡ Some row →
+    interest_on rates (charge_of m (n * 10000) ∷ []) [] 0 (day_in (m + k) 21)
+    ≡ n * k * row.interest_rate

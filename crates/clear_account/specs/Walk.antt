@@ -5,25 +5,19 @@ use Rattle.std.specs.List.{flat_map}
 use Rattle.clear_money.specs.Calendar.{begun_months}
 use Rattle.clear_account.specs.declared.entries.Charge.{Charge}
 use Rattle.clear_account.specs.declared.entries.Credit.{Credit}
+use Rattle.clear_account.specs.declared.settled.Paid.{Paid}
 use Rattle.clear_account.specs.declared.settled.Share.{Share}
 use Rattle.clear_account.specs.declared.settled.Walk.{Walk}
 use Rattle.clear_account.specs.Account.{credit_at, credited_up_to, places}
 use Rattle.clear_account.specs.Allocation.{open_part}
 use Rattle.clear_account.specs.Laws.{late_shares}
-use Rattle.clear_account.specs.Settled.{share_at, shares_of}
+use Rattle.clear_account.specs.Settled.{share_at}
 
--- what is paid of a charge: how many cents of it are left open, its late shares, and what pays it
-pub record PaidCharge : Type 0 where
-  pub left : ℕ
-  pub weight : ℕ
-  pub shares : List Share
-
--- charge i
-abbrev pub paid_charge : List Charge → List Credit → ℕ → PaidCharge
+-- what is paid of charge i: how many cents of it are left open, and its late shares
+abbrev pub paid_charge : List Charge → List Credit → ℕ → Paid
 paid_charge charges credits i = record {
   left = open_part charges credits i;
   weight = late_shares charges credits i;
-  shares = shares_of charges credits i;
 }
 
 -- what the payments have in common with a stretch of cents, in order of payment

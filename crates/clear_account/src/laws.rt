@@ -1,6 +1,7 @@
 //! Laws of accounts, over the definitions alone. Each function does nothing: its contract is the
 //! law.
-ghost use Rattle.clear_account.specs.Laws.{CreditsKept, FewPieces, FewShares, OnePiece, PiecesSum};
+ghost use Rattle.clear_account.specs.Laws.{CreditsKept, FewPieces, FewShares, InterestByCharge};
+ghost use Rattle.clear_account.specs.Laws.{InterestPerHundred, InterestRoundedOnce, OnePiece, PiecesSum};
 ghost use Rattle.clear_account.specs.Laws.{ShareAPiece, SharesSum, WeightByPieces};
 
 /// The shares of a charge sum to what the payments reach of it.
@@ -41,4 +42,20 @@ pub fn law_share_a_piece()
 /// The shares of all charges are at most as many as charges and payments together.
 pub fn law_few_shares()
     ensures { FewShares }
+{}
+
+/// Interest is rounded down once for a charge, and not for its pieces or months.
+pub fn law_interest_rounded_once()
+    ensures { InterestRoundedOnce }
+{}
+
+/// It is rounded down for each charge by itself, at the rate of the charge's own month.
+pub fn law_interest_by_charge()
+    ensures { InterestByCharge }
+{}
+
+/// Of a charge that stays open, each 100.00 euros bear for each begun month as many cents as the rate
+/// has hundredths of a percent.
+pub fn law_interest_per_hundred()
+    ensures { InterestPerHundred }
 {}

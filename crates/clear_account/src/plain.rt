@@ -65,12 +65,14 @@ impl Keeper for Plain {
     ghost credits = { λ a. a.credits };
 
     fn set_charge(&mut self, charge: Charge) -> Result<(), AccountFault> {
+        // No effect at run time: the proof reads the month's range from this call.
         let _number = charge.month.number();
         put_charge(&mut self.charges, charge)?;
         Ok(())
     }
 
     fn add_credit(&mut self, credit: Credit) -> Result<(), AccountFault> {
+        // No effect at run time: the proof reads the amount's range from this call.
         let _cents = credit.cents.cents();
         if self.credits.len() >= MAX_CREDITS {
             return Err(AccountFault::OverLimit);

@@ -11,7 +11,6 @@ use crate::places::credits_ended;
 use crate::weights::{common, weigh_part};
 use clear_money::days::Day;
 use std::alloc::{AllocError, Global};
-use std::marker::Model;
 
 /// So many cents of the payment at a place, counted from 0 in the account's order.
 #[derive(Clone, Copy)]
@@ -22,36 +21,13 @@ pub struct Share {
 }
 
 /// What is paid of a charge, whatever the day. Amounts are in cents.
-#[derive(Drop)]
+#[derive(Clone, Copy)]
 pub struct Paid {
-    left: u64,
-    weight: u64,
-    shares: Vec<Share>,
-}
-
-impl Model for Paid {
-    ghost use Rattle.clear_account.specs.Walk.{PaidCharge};
-
-    ghost Value = { PaidCharge };
-
-    ghost view = { λ a. record { left = a.left; weight = a.weight; shares = a.shares.items } };
-}
-
-impl Paid {
     /// What is open of the charge.
-    pub fn left(&self) -> u64
-        ensures { result ≡ self.now.left }
-    {
-        self.left
-    }
-
+    pub left: u64,
     /// Its weight so far: its shares, each once for each month begun from the due day until it was
     /// paid.
-    pub fn weight(&self) -> u64
-        ensures { result ≡ self.now.weight }
-    {
-        self.weight
-    }
+    pub weight: u64,
 }
 
 /// A walk along charges and payments, from one charge to the next.
@@ -109,7 +85,6 @@ impl Walk {
         Ok(Paid {
             left: charge.cents - add_shares(shares.as_slice()),
             weight: weigh_shares(shares.as_slice(), credits, charge.due),
-            shares,
         })
     }
 }

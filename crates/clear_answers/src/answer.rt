@@ -13,6 +13,7 @@ ghost use Rattle.clear_answers.specs.Answer.{further_field, first_lines};
 ghost use Rattle.clear_answers.specs.Answer.{answer_of, head_of};
 
 use crate::said::{Extra, Refused, Said};
+use clear_book::numbers::{ListNo, RunNo};
 use clear_book::outcomes::{Answer, Reply, Settlement};
 use clear_book::rules::Carried;
 use clear_money::days::Day;
@@ -164,7 +165,7 @@ fn reply_body(alloc: Global, reply: &Reply) -> Result<Vec<u8>, AllocError>
         }
         Reply::Claimed { claim } => {
             let mut body = Vec::new(alloc);
-            append_number(&mut body, b"{\"claim\":", u64::from(*claim))?;
+            append_number(&mut body, b"{\"claim\":", u64::from(claim.number()))?;
             body.extend_from_slice(b"}")?;
             Ok(body)
         }
@@ -191,24 +192,24 @@ fn settlement_body(alloc: Global, settlement: &Settlement) -> Result<Vec<u8>, Al
 }
 
 #[tactic(auto, unfolding(crate::specs::Answer::reply_body))]
-fn list_body(alloc: Global, list: u32, items: u64, total: u64) -> Result<Vec<u8>, AllocError>
+fn list_body(alloc: Global, list: ListNo, items: u64, total: u64) -> Result<Vec<u8>, AllocError>
     ensures { IfOk result (λ body. body.items ≡ reply_body (Listed list items total)) }
 {
     let mut body = Vec::new(alloc);
     append_number(&mut body, b"{\"items\":", items)?;
-    append_number(&mut body, b",\"list\":", u64::from(list))?;
+    append_number(&mut body, b",\"list\":", u64::from(list.number()))?;
     append_number(&mut body, b",\"total\":", total)?;
     body.extend_from_slice(b"}")?;
     Ok(body)
 }
 
 #[tactic(auto, unfolding(crate::specs::Answer::reply_body))]
-fn run_body(alloc: Global, run: u32, firms: u64) -> Result<Vec<u8>, AllocError>
+fn run_body(alloc: Global, run: RunNo, firms: u64) -> Result<Vec<u8>, AllocError>
     ensures { IfOk result (λ body. body.items ≡ reply_body (Reminded run firms)) }
 {
     let mut body = Vec::new(alloc);
     append_number(&mut body, b"{\"firms\":", firms)?;
-    append_number(&mut body, b",\"run\":", u64::from(run))?;
+    append_number(&mut body, b",\"run\":", u64::from(run.number()))?;
     body.extend_from_slice(b"}")?;
     Ok(body)
 }

@@ -7,6 +7,8 @@ use Rattle.std.specs.List.{find, filter_map, enumerate_from, range_with_len, zip
 use Rattle.std.specs.Result.{result_ok, result_err}
 use Rattle.std.specs.Str.{bytes_eq}
 use Rattle.csv.specs.Reading.{records, default_config, strip_bom}
+use Rattle.clear_money.specs.Calendar.{first_day, latest_day}
+use Rattle.clear_money.specs.Numbers.{most_amount, most_employer_no}
 use Rattle.clear_money.specs.Results.{◌>>=◌, or_fault}
 use Rattle.clear_money.specs.Texts.{day_text}
 use Rattle.clear_bank.specs.declared.fault.BankFault.{BankFault}
@@ -32,16 +34,16 @@ reference_in field = if is_reference field then Some field else None
 
 -- a day from 2000-01-01 to 2200-12-31
 abbrev pub value_in : List ℕ → Option ℕ
-value_in field = written day_text 10957 84370 field
+value_in field = written day_text first_day latest_day field
 
 -- the number of a firm; an empty field names none
 abbrev pub employer_in : List ℕ → Option (Option ℕ)
 employer_in [] = Some None
-employer_in (b ∷ bs) = option_map Some (written decimal 1 99999999 (b ∷ bs))
+employer_in (b ∷ bs) = option_map Some (written decimal 1 most_employer_no (b ∷ bs))
 
 -- an amount in cents
 abbrev pub cents_in : List ℕ → Option ℕ
-cents_in field = written decimal 1 100000000000 field
+cents_in field = written decimal 1 most_amount field
 
 -- what a payment is for: C is a contribution and I is interest; an empty field means a
 -- contribution

@@ -4,6 +4,7 @@ use Rattle.std.specs.Prelude.{ℕ, ◌-◌, List, Option, Some, None, Bool, fals
 use Rattle.std.specs.Prelude.{filter, is_none, map, nat_lt, sum_by}
 use Rattle.std.specs.Option.{option_map_or}
 use Rattle.std.specs.List.{filter_map}
+use Rattle.clear_money.specs.Calendar.{first_day}
 pub use Rattle.clear_money.specs.Calendar.{months}
 use Rattle.clear_money.specs.Rates.{Rate, rate_in_force, contribution_of, due_day_of, report_day_of}
 use Rattle.clear_account.specs.Account.{credited}
@@ -38,7 +39,7 @@ contribution_of_lines rate lines = contribution_of_base rate (base_of lines)
 -- the day on which a month's contribution is due at a rate row; without one, which no reported
 -- month of a lawful book is, the first day of all
 abbrev pub due_by : Option Rate → ℕ → ℕ
-due_by rate m = option_map_or (due_day_of m) rate 10957
+due_by rate m = option_map_or (due_day_of m) rate first_day
 
 -- the day on which a month's contribution is due
 abbrev pub due_at : List Rate → ℕ → ℕ

@@ -157,10 +157,11 @@ set_offs (x ∷ xs) = set_offs xs ++ set_offs_by xs x.day x.reply x.command
 abbrev pub credits_made : List Entry → List CreditRow
 credits_made xs = set_offs xs ++ credits_of_lines (lines_standing xs)
 
--- the lines that stand once a file has come in, and the credits that there are then
+-- the lines that stand once a file has come in
 abbrev pub lines_after : List Entry → List ℕ → List BankRow
 lines_after xs file = lines_standing xs ++ rows_brought xs (lines_seen xs) file
 
+-- the credits that there are then
 abbrev pub credits_after : List Entry → List ℕ → List CreditRow
 credits_after xs file = set_offs xs ++ credits_of_lines (lines_after xs file)
 

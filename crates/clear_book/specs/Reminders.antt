@@ -45,6 +45,7 @@ pub record Overdue : Type 0 where
   pub owed : ℕ
   pub interest : ℕ
 
+-- what is overdue of an employer on a day
 abbrev pub overdue_on : Book → ℕ → ℕ → Overdue
 overdue_on b t e =
     record {

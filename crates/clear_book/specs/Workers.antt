@@ -117,10 +117,11 @@ released_by t reply claim = claim
 abbrev pub is_claim : ℕ → ClaimRow → Bool
 is_claim number claim = claim.claim == number
 
--- a claim of which something is to be paid out: it is released, and on no list yet
+-- something of a release is to be paid out: it is on no list yet
 abbrev pub is_payable_release : ReleasedClaim → Bool
 is_payable_release release = nat_lt 0 release.settlement.paid && is_none release.list
 
+-- so is a claim that stands so
 abbrev pub is_payable : ClaimState → Bool
 is_payable Open = false
 is_payable Withdrawn = false

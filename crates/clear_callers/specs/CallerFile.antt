@@ -5,6 +5,7 @@ use Rattle.std.specs.Prelude.{Result, Ok, Err, ok_or}
 use Rattle.std.specs.List.{list_all}
 use Rattle.toml.specs.Data.{Data, Members, no_members, member, as_integer, get_member}
 use Rattle.clear_money.specs.Bytes.{is_visible}
+use Rattle.clear_money.specs.Numbers.{most_employer_no}
 use Rattle.clear_money.specs.Options.{◌>>=◌}
 use Rattle.clear_money.specs.RateFile.{document_of}
 use Rattle.clear_book.specs.declared.calls.Caller.{Caller}
@@ -20,7 +21,7 @@ is_key key = nat_le 1 (length key) && nat_le (length key) 64 && list_all is_visi
 -- who has the number: a clerk has 0, and a firm has its own, 1 to 99,999,999
 abbrev pub caller_numbered : ℤ → Option Caller
 caller_numbered (pos n) =
-    if n == 0 then Some Clerk else if nat_le n 99999999 then Some (Firm n) else None
+    if n == 0 then Some Clerk else if nat_le n most_employer_no then Some (Firm n) else None
 caller_numbered (negsuc n) = None
 
 -- who calls with a key of this value

@@ -150,7 +150,7 @@ fn released(
     interest_count: u64,
 ) -> Option<&'static str> {
     let claim = ClaimRow {
-        claim: 1,
+        claim: ClaimNo::new(1)?,
         employer: EmployerNo::new(1001)?,
         worker: WorkerNo::new(7)?,
         cents: Amount::new(100)?,

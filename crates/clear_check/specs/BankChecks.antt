@@ -11,6 +11,7 @@ use Rattle.clear_bank.specs.declared.fault.BankFault.{BankFault}
 use Rattle.clear_bank.specs.declared.fault.BankFault.TheVariants.{OverLimit, BadCsv, RefConflict}
 use Rattle.clear_bank.specs.declared.fault.BankFault.TheVariants.{Memory}
 use Rattle.clear_book.specs.Documents.Amounts.{euros_text}
+use Rattle.clear_book.specs.Limits.{most_records}
 use Rattle.clear_check.specs.Hints.{hint_lines}
 use Rattle.clear_check.specs.Shown.{Found, IsInLine, plural}
 use Rattle.clear_check.specs.declared.bank.Held.{Held}
@@ -30,10 +31,10 @@ contents_of lines = do
   judged ← judgement [] lines
   Ok (record { lines = lines; new = judged.0; repeats = judged.1 })
 
--- what a file of at most 10,000 lines holds, or its first fault
+-- what a file holds, or its first fault
 unfoldable pub bank_of : List ℕ → Result Contents BankFault
 bank_of bytes = do
-  lines ← file_lines 10000 bytes
+  lines ← file_lines most_records bytes
   contents_of lines
 
 -- what was read says

@@ -250,41 +250,38 @@ pub fn month_day_at(row: &Row, at: usize) -> Result<u8, Fault>
 }
 
 /// The number of a claim in a column, 1 to 50,000,000.
-pub fn claim_at(row: &Row, at: usize) -> Result<u32, Fault>
+pub fn claim_at(row: &Row, at: usize) -> Result<ClaimNo, Fault>
     ensures reads { ReadsColumn row.now at result stored.number IsClaimNo }
 {
-    let claim = ClaimNo::new(number_at(row, at)?).ok_or(Fault::Store(StoreCause::Row))?;
-    Ok(claim.number())
+    ClaimNo::new(number_at(row, at)?).ok_or(Fault::Store(StoreCause::Row))
 }
 
 /// The number of a payout list in a column, 1 to 50,000,000.
-pub fn list_at(row: &Row, at: usize) -> Result<u32, Fault>
+pub fn list_at(row: &Row, at: usize) -> Result<ListNo, Fault>
     ensures reads { ReadsColumn row.now at result stored.number IsListNo }
 {
-    let list = ListNo::new(number_at(row, at)?).ok_or(Fault::Store(StoreCause::Row))?;
-    Ok(list.number())
+    ListNo::new(number_at(row, at)?).ok_or(Fault::Store(StoreCause::Row))
 }
 
 /// The number of a payout list in a column, 1 to 50,000,000, or none where it is NULL.
-pub fn maybe_list_at(row: &Row, at: usize) -> Result<Option<u32>, Fault>
+pub fn maybe_list_at(row: &Row, at: usize) -> Result<Option<ListNo>, Fault>
     ensures reads { ReadsColumn row.now at result stored.maybe (λ n. IfSome n IsListNo) }
 {
     let found: Option<u64> = value_at(row, at)?;
     match found {
         Some(number) => {
             let list = ListNo::new(number).ok_or(Fault::Store(StoreCause::Row))?;
-            Ok(Some(list.number()))
+            Ok(Some(list))
         }
         None => Ok(None),
     }
 }
 
 /// The number of a reminder run in a column, 1 to 50,000,000.
-pub fn run_at(row: &Row, at: usize) -> Result<u32, Fault>
+pub fn run_at(row: &Row, at: usize) -> Result<RunNo, Fault>
     ensures reads { ReadsColumn row.now at result stored.number IsRunNo }
 {
-    let run = RunNo::new(number_at(row, at)?).ok_or(Fault::Store(StoreCause::Row))?;
-    Ok(run.number())
+    RunNo::new(number_at(row, at)?).ok_or(Fault::Store(StoreCause::Row))
 }
 
 /// The level of a reminder in a column, 1 to 3.

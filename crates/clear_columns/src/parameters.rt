@@ -114,11 +114,11 @@ pub fn list_no(value: ListNo) -> ValueRef<'static>
 }
 
 /// The number of a payout list, or NULL.
-pub fn maybe_list(value: Option<u32>) -> ValueRef<'static>
+pub fn maybe_list(value: Option<ListNo>) -> ValueRef<'static>
     ensures { bound_value (owned result) ≡ stored.maybe value }
 {
     match value {
-        Some(list) => number(u64::from(list)),
+        Some(list) => list_no(list),
         None => ValueRef::Null,
     }
 }

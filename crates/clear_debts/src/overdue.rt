@@ -47,8 +47,8 @@ pub struct Overdue {
 
 /// What a firm has overdue on a day that is not before the ledger day, at these rates. It reads each
 /// contribution that is kept of the firm and each of its credits for interest once. It takes a step
-/// for each of these and for each month that there is, and walks along the rates, from the newest on,
-/// for each contribution and each member month. What no book holds is refused with
+/// for each of these and for each month that there is, and a search among the rates for each
+/// contribution and each member month. What no book holds is refused with
 /// `Fault::Store(StoreCause::Row)`: a value out of its range, and more contributions or credits than
 /// an account has.
 pub fn read_overdue<S: Alter>(

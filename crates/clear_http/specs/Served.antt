@@ -37,6 +37,7 @@ module _ {S : Type 0} (g : Ghosts S) where
       (told ≡ refused_by Memory) × KeepsOn old new × StaysFailed old new
 
   module _ (reads : Heading → List ℕ → Result Call Refused → Type 0) where
+    -- a call that was read is taken; what was none is refused, and the office stays
     abbrev pub CallSteps : Result Call Refused → AtOffice S → Said → AtOffice S → Type 0
     CallSteps (Ok call) old told new = (o : Outcome) × (told ≡ said_of o) × Acts g old call o new
     CallSteps (Err refused) old told new = (told ≡ No refused) × (new ≡ old)
@@ -50,6 +51,7 @@ module _ {S : Type 0} (g : Ghosts S) where
 -- ---- over books: by whether the office has failed before, and whether it has then
 
 module _ (reads : Heading → List ℕ → Result Call Refused → Type 0) where
+  -- a call that was read is taken; what was none is refused, and the book stays
   abbrev pub CallTakes : Bool → Bool → Book → Result Call Refused → Said → Book → Type 0
   CallTakes failed then b (Ok call) told next =
       (o : Outcome) × (told ≡ said_of o) × Goes failed then b call o next

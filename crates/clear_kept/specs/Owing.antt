@@ -2,7 +2,7 @@
 use Rattle.std.specs.Prelude.{◌≡◌, ℕ, ◌+◌, ◌-◌, ◌*◌, ◌/◌, ◌<◌, ◌≤◌, List, All, filter, length}
 use Rattle.std.specs.Prelude.{AllPairs, nat_lt, sum_by}
 use Rattle.clear_money.specs.Calendar.{begun_months, day_of_month}
-use Rattle.clear_money.specs.Limits.{most_base}
+use Rattle.clear_money.specs.Limits.{most_base, most_weight}
 use Rattle.clear_money.specs.Rates.{Rate}
 use Rattle.clear_account.specs.declared.entries.Charge.{Charge}
 use Rattle.clear_account.specs.declared.entries.Credit.{Credit}
@@ -15,13 +15,12 @@ use Rattle.clear_kept.specs.Weighed.{weighed_charge, weighed_charges}
 
 -- ---- ranges
 
--- a row due on a day that each month has, with cents and an open part that a charge can have, and at
--- most the weight of the greatest base in 2,412 begun months
+-- a row due on a day that each month has, with cents, an open part and a weight that a charge can have
 pub record IsWeighedInRange (row : WeighedCharge) : Type 0 where
   pub due : day_of_month row.due ≤ 28
   pub cents : row.cents ≤ most_base
   pub left : row.left ≤ most_base
-  pub weight : row.weight ≤ 12060000000000
+  pub weight : row.weight ≤ most_weight
 
 -- no more rows than there are months, each in its ranges
 pub record AreWeighedInRange (rows : List WeighedCharge) : Type 0 where

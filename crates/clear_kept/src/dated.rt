@@ -1,10 +1,10 @@
 //! The rows of pieces.
-ghost use Rattle.std.specs.Prelude.{◌≡◌, ◌≢◌, ◌<◌, All, AllPairs, IfErr, IfOk, length, map};
+ghost use Rattle.std.specs.Prelude.{◌≡◌, ◌≢◌, ◌<◌, All, AllPairs, IfOk, length, map};
 ghost use Rattle.clear_account.specs.Account.{HoldsSerial, credit_at};
 ghost use Rattle.clear_kept.specs.Dated.{placed};
 
 use crate::rows::{DatedPiece, PlacedPiece};
-use clear_account::entries::{AccountFault, Credit, Piece};
+use clear_account::entries::{Credit, Piece};
 use clear_money::days::Day;
 use std::alloc::{AllocError, Global};
 
@@ -13,22 +13,6 @@ use std::alloc::{AllocError, Global};
 ///
 /// Where the pieces name the payments in order, it takes one pass over both.
 pub fn place_pieces(
-    alloc: Global,
-    pieces: &[Piece],
-    credits: &[Credit],
-) -> Result<Vec<PlacedPiece>, AccountFault>
-    requires differ { AllPairs (λ k l. k.serial ≢ l.serial) credits.now }
-    requires held { All (λ p. HoldsSerial credits.now p.serial) pieces.now }
-    ensures rows { IfOk result (λ rows. rows.items ≡ map (placed credits.now) pieces.now) }
-    ensures within { IfOk result (λ rows. All (λ r. r.place < length credits.now) rows.items) }
-    ensures serials { IfOk result (λ rows.
-        All (λ r. (credit_at credits.now r.place).serial ≡ r.piece.serial) rows.items) }
-    ensures err { IfErr result (λ fault. fault ≡ AccountFault.Memory) }
-{
-    Ok(place_all(alloc, pieces, credits)?)
-}
-
-fn place_all(
     alloc: Global,
     pieces: &[Piece],
     credits: &[Credit],

@@ -78,8 +78,8 @@ impl WeighedCharges {
     }
 
     /// The interest of all charges, in cents, that of each rounded down once at the rate of its own
-    /// month, on a day that is not before that of a payment. For each charge it takes one walk along
-    /// the rates, from the newest on.
+    /// month, on a day that is not before that of a payment. For each charge it takes a search among
+    /// the rates.
     pub fn interest(&self, rates: &RateTable, day: Day) -> u64
         ensures { result ≡ interest_in rates.now self.now day }
     {

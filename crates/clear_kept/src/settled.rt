@@ -1,11 +1,11 @@
 //! The rows of charges from one on.
-ghost use Rattle.std.specs.Prelude.{◌≡◌, ◌+◌, ◌<◌, ◌≤◌, IfErr, IfOk, drop, length};
+ghost use Rattle.std.specs.Prelude.{◌≡◌, ◌+◌, ◌<◌, ◌≤◌, IfOk, drop, length};
 ghost use Rattle.clear_account.specs.Account.{IsAccount, charged_up_to};
 ghost use Rattle.clear_account.specs.Walk.{Stands};
 ghost use Rattle.clear_kept.specs.Weighed.{weighed_charge, weighed_charges};
 
 use crate::rows::WeighedCharge;
-use clear_account::entries::{AccountFault, Charge, Credit};
+use clear_account::entries::{Charge, Credit};
 use clear_account::places::Front;
 use clear_account::settled::Walk;
 use std::alloc::{AllocError, Global};
@@ -15,22 +15,6 @@ use std::alloc::{AllocError, Global};
 /// It takes one step for each payment up to where the front ends, and then one walk along the
 /// charges and payments behind that.
 pub fn settle_from(
-    alloc: Global,
-    charges: &[Charge],
-    credits: &[Credit],
-    front: Front,
-) -> Result<Vec<WeighedCharge>, AccountFault>
-    requires account { IsAccount charges.now credits.now }
-    requires within { front.count ≤ length charges.now }
-    requires front { front.cents ≡ charged_up_to charges.now front.count }
-    ensures rows { IfOk result (λ rows.
-        rows.items ≡ drop front.count (weighed_charges charges.now credits.now)) }
-    ensures err { IfErr result (λ fault. fault ≡ AccountFault.Memory) }
-{
-    Ok(settle_all(alloc, charges, credits, front)?)
-}
-
-fn settle_all(
     alloc: Global,
     charges: &[Charge],
     credits: &[Credit],
@@ -72,7 +56,7 @@ fn settle_charge(
         month: charge.month,
         due: charge.due,
         cents: charge.cents,
-        left: paid.left(),
-        weight: paid.weight(),
+        left: paid.left,
+        weight: paid.weight,
     })
 }

@@ -115,12 +115,15 @@ one_at_most : (last t : ℕ) (command : Command) → length (claims_by last t co
 one_at_most last t (Claim c) = omega arith
 one_at_most last t command = omega arith
 
-pub claims_few : (xs : List Entry) → length (claims_of xs) ≤ length xs
-claims_few [] = omega arith
-claims_few (x ∷ xs) =
+pub claims_more : (x : Entry) (xs : List Entry) → length (claims_of (x ∷ xs)) ≤ length (claims_of xs) + 1
+claims_more x xs =
     let old = map (claim_after x.day x.reply x.command) (claims_of xs) in
     let new = claims_by (length (claims_of xs)) x.day x.command in
-    omega (arith, length-append old new, length-map (claims_of xs) (claim_after x.day x.reply x.command), one_at_most (length (claims_of xs)) x.day x.command, claims_few xs)
+    omega (arith, length-append old new, length-map (claims_of xs) (claim_after x.day x.reply x.command), one_at_most (length (claims_of xs)) x.day x.command)
+
+pub claims_few : (xs : List Entry) → length (claims_of xs) ≤ length xs
+claims_few [] = omega arith
+claims_few (x ∷ xs) = omega (arith, claims_more x xs, claims_few xs)
 
 -- ---- a claim is settled whole
 

@@ -6,6 +6,7 @@ pub mod AllocatedLemmas
 pub mod AssignLemmas
 pub mod AssignTablesLemmas
 pub mod ChargesLemmas
+pub mod CheckOrderLemmas
 pub mod ChecksLemmas
 pub mod ClaimTablesLemmas
 pub mod ClaimsLemmas
@@ -28,6 +29,7 @@ pub mod JudgeLemmas
 pub mod KeptChargesLemmas
 pub mod KeptLemmas
 pub mod KeyedFilterLemmas
+pub mod LatestLemmas
 pub mod LawsLemmas
 pub mod LimitsLemmas
 pub mod LinesLemmas
@@ -37,6 +39,8 @@ pub mod ListRangeLemmas
 pub mod ListTablesLemmas
 pub mod ListedLemmas
 pub mod MembersLemmas
+pub mod MissingLemmas
+pub mod NextLemmas
 pub mod OneTableLemmas
 pub mod OtherKeyLemmas
 pub mod PieceOrderLemmas

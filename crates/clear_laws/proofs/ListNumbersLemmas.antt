@@ -59,11 +59,12 @@ one_at_most t reply PayoutList = told reply
     told r = omega arith
 one_at_most t reply command = omega arith
 
+pub lists_more : (x : Entry) (xs : List Entry) → length (lists_of (x ∷ xs)) ≤ length (lists_of xs) + 1
+lists_more x xs = omega (arith, length-append (lists_of xs) (lists_by x.day x.reply x.command), one_at_most x.day x.reply x.command)
+
 pub lists_few : (xs : List Entry) → length (lists_of xs) ≤ length xs
 lists_few [] = omega arith
-lists_few (x ∷ xs) =
-    let new = lists_by x.day x.reply x.command in
-    omega (arith, length-append (lists_of xs) new, one_at_most x.day x.reply x.command, lists_few xs)
+lists_few (x ∷ xs) = omega (arith, lists_more x xs, lists_few xs)
 
 -- ---- a list is there under each number up to as many
 

@@ -35,11 +35,12 @@ one_at_most t reply RemindRun = told reply
     told r = omega arith
 one_at_most t reply command = omega arith
 
+pub runs_more : (x : Entry) (xs : List Entry) → length (runs_of (x ∷ xs)) ≤ length (runs_of xs) + 1
+runs_more x xs = omega (arith, length-append (runs_of xs) (runs_by x.day x.reply x.command), one_at_most x.day x.reply x.command)
+
 pub runs_few : (xs : List Entry) → length (runs_of xs) ≤ length xs
 runs_few [] = omega arith
-runs_few (x ∷ xs) =
-    let new = runs_by x.day x.reply x.command in
-    omega (arith, length-append (runs_of xs) new, one_at_most x.day x.reply x.command, runs_few xs)
+runs_few (x ∷ xs) = omega (arith, runs_more x xs, runs_few xs)
 
 -- and so many in a lawful book
 pub last_run-in-range : (b : Book) → IsLawful b → length (runs_of b.entries) ≤ 50000000

@@ -5,6 +5,7 @@ ghost use Rattle.clear_account.specs.Allocation.{prepaid, right_pieces};
 ghost use Rattle.clear_account.specs.Arrears.{arrears_on};
 ghost use Rattle.clear_bank.specs.declared.fault.BankFault.TheVariants.{RefConflict};
 ghost use Rattle.clear_bank.specs.Newness.{judgement};
+ghost use Rattle.clear_money.specs.Rates.{Rate};
 ghost use Rattle.clear_money.specs.Texts.{day_text};
 ghost use Rattle.clear_book.specs.declared.calls.Command.TheVariants.{Register, Report, Correct};
 ghost use Rattle.clear_book.specs.declared.calls.Command.TheVariants.{AddRate, EndMembership};
@@ -12,9 +13,14 @@ ghost use Rattle.clear_book.specs.declared.calls.Command.TheVariants.{ImportBank
 ghost use Rattle.clear_book.specs.declared.calls.Command.TheVariants.{Claim, Withdraw, Release};
 ghost use Rattle.clear_book.specs.declared.calls.Command.TheVariants.{PayoutList, RemindRun};
 ghost use Rattle.clear_values.specs.declared.lines.Purpose.TheVariants.{Contribution, Interest};
+ghost use Rattle.clear_values.specs.declared.callers.Caller.TheVariants.{Clerk};
+ghost use Rattle.clear_values.specs.declared.replies.Reply.{Reply};
 ghost use Rattle.clear_values.specs.declared.replies.Reply.TheVariants.{Listed};
-ghost use Rattle.clear_values.specs.declared.rows.ClaimState.TheVariants.{Open};
+ghost use Rattle.clear_values.specs.declared.replies.Reply.TheVariants.{Released as settled_by};
+ghost use Rattle.clear_values.specs.declared.rows.ClaimState.TheVariants.{Open, Released};
+ghost use Rattle.clear_values.specs.Credits.{set_offs_of};
 ghost use Rattle.clear_book.specs.Accounts.{credits_under};
+ghost use Rattle.clear_book.specs.Book.{entry, first_book};
 ghost use Rattle.clear_book.specs.Conserved.{is_line_of, line_cents};
 ghost use Rattle.clear_book.specs.Documents.Amounts.{amount_text};
 ghost use Rattle.clear_book.specs.Documents.Lines.{missing_line};
@@ -26,10 +32,11 @@ ghost use Rattle.clear_book.specs.Documents.Worker.{worker_text};
 ghost use Rattle.clear_book.specs.Examples.{charge, claim, credit, february, four_claims};
 ghost use Rattle.clear_book.specs.Examples.{january, last_of, line, piece, released, two_lines};
 ghost use Rattle.clear_book.specs.Examples.{two_reminders};
-ghost use Rattle.clear_book.specs.Lines.{credits_of_lines, is_in_suspense};
+ghost use Rattle.clear_book.specs.Lines.{credits_of_lines, is_in_suspense, set_offs};
 ghost use Rattle.clear_book.specs.Own.PayoutList.{payout_list_reply};
 ghost use Rattle.clear_book.specs.Reminders.{level_due};
-ghost use Rattle.clear_book.specs.Workers.{is_on, is_payable, on_list};
+ghost use Rattle.clear_book.specs.Workers.{entitlement_for, entitlement_of, is_on, is_payable};
+ghost use Rattle.clear_book.specs.Workers.{on_list};
 ghost use Rattle.clear_book.specs.Calls.{command_bytes};
 
 /// Two payments, of which the first reaches a part of January, and the second the rest of it and
@@ -292,4 +299,70 @@ pub fn law_arrears()
     ensures paid { (day : ℕ)
         → arrears_on (record (charge january 200000) { due = day } ∷ []) (credit 1 150000 ∷ [])
         (day + 1) ≡ 50000 }
+{}
+
+/// Entitlement is rounded down, for each line: 14.25 percent of 0.35 are 4 cents, and of two such
+/// lines 8, where those of their sum would be 9.
+pub fn law_entitlement_rounded()
+    ensures line { (r : Rate) → r.entitlement_rate ≡ 1425 → entitlement_for (Some r) 35 ≡ 4 }
+    ensures lines { (day : ℕ) (reply : Reply) → entitlement_of (record (first_book (record {
+      first = january;
+      contribution_rate = 1900;
+      report_day = 15;
+      due_day = 20;
+      interest_rate = 90;
+      entitlement_rate = 1425;
+    } ∷ [])) {
+      entries = entry Clerk 3 day (Report (record {
+        employer = 1001;
+        month = february;
+        lines = record { worker = 7; gross = 35 } ∷ record { worker = 8; gross = 35 } ∷ [];
+      })) reply ∷ entry Clerk 2 day (Report (record {
+        employer = 1001;
+        month = january;
+        lines = record { worker = 7; gross = 35 } ∷ [];
+      })) reply ∷ entry Clerk 1 day (Register (record {
+        employer = 1001;
+        name = codes "Bau Nord";
+        start = january;
+      })) reply ∷ [];
+    }) 7 ≡ 8 }
+{}
+
+/// A release is a credit for each purpose to which something is set off, with its day and its
+/// serial, and under the number of its claim. A first release takes the first serial where no bank
+/// line came before it.
+pub fn law_set_offs()
+    ensures both { (day serial : ℕ) → set_offs_of (claim 1 50000 (Released (record {
+      day = day;
+      settlement = record { to_contributions = 30000; to_interest = 125; paid = 19875 };
+      list = None;
+    }))) serial ≡ record {
+      employer = 1001;
+      purpose = Contribution;
+      day = day;
+      serial = serial;
+      cents = 30000;
+      reference = codes "set-off 1";
+    } ∷ record {
+      employer = 1001;
+      purpose = Interest;
+      day = day;
+      serial = serial;
+      cents = 125;
+      reference = codes "set-off 1";
+    } ∷ [] }
+    ensures nothing { (serial : ℕ)
+        → set_offs_of (claim 1 50000 (released 0 50000 None)) serial ≡ [] }
+    ensures first { (made day : ℕ) (reply : Reply) → set_offs (entry Clerk 2 day (Release 1)
+        (settled_by (record { to_contributions = 0; to_interest = 125; paid = 49875 }))
+        ∷ entry Clerk 1 made (Claim (record { employer = 1001; worker = 7; cents = 50000 })) reply
+        ∷ []) ≡ record {
+          employer = 1001;
+          purpose = Interest;
+          day = day;
+          serial = 1;
+          cents = 125;
+          reference = codes "set-off 1";
+        } ∷ [] }
 {}

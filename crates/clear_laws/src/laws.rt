@@ -1,37 +1,48 @@
 //! Laws: what follows from the definitions alone. A law has no parameters and no effect; its
 //! contract is the law.
 ghost use Rattle.std.specs.Prelude.{◌≡◌, ◌≢◌, ◌↔◌, ℕ, ◌+◌, List, ◌∷◌, ◌++◌, Bool, true};
-ghost use Rattle.std.specs.Prelude.{◌==◌, ◌≤◌, ◌<◌};
+ghost use Rattle.std.specs.Prelude.{◌==◌, ◌≤◌, ◌<◌, ◌⊎◌, [], false};
 ghost use Rattle.std.specs.Prelude.{IfSome, IsSome, IsTrue, length, map};
 ghost use Rattle.std.specs.Prelude.{Option, None, Some};
 ghost use Rattle.std.specs.List.{AllByRecursion, list_any, range_with_len, Contains};
+ghost use Rattle.std.specs.Option.{option_map_or};
+ghost use Rattle.clear_money.specs.Calendar.{IsMonth, day_in};
 ghost use Rattle.clear_money.specs.Rates.{Rate, rate_in_force};
 ghost use Rattle.clear_account.specs.Allocation.{right_pieces};
 ghost use Rattle.clear_bank.specs.Laws.{HasNoReferenceTwice};
 ghost use Rattle.clear_values.specs.First.{first_tables};
 ghost use Rattle.clear_values.specs.Keyed.{AreInOrder};
 ghost use Rattle.clear_book.specs.declared.calls.Call.{Call};
-ghost use Rattle.clear_book.specs.declared.calls.Call.TheVariants.{Do};
+ghost use Rattle.clear_book.specs.declared.calls.Call.TheVariants.{Ask, Do};
 ghost use Rattle.clear_values.specs.declared.callers.Caller.{Caller};
 ghost use Rattle.clear_values.specs.declared.lines.Purpose.TheVariants.{Contribution, Interest};
 ghost use Rattle.clear_book.specs.declared.calls.Command.{Command};
-ghost use Rattle.clear_book.specs.declared.calls.Command.TheVariants.{ImportBank};
+ghost use Rattle.clear_book.specs.declared.calls.Command.TheVariants.{Correct, ImportBank, Report};
+ghost use Rattle.clear_book.specs.declared.calls.Correction.{Correction};
+ghost use Rattle.clear_book.specs.declared.calls.Query.{Query};
+ghost use Rattle.clear_book.specs.declared.calls.WageReport.{WageReport};
 ghost use Rattle.clear_book.specs.declared.outcomes.Outcome.{Outcome};
 ghost use Rattle.clear_book.specs.declared.outcomes.Outcome.TheVariants.{Refused};
 ghost use Rattle.clear_values.specs.declared.replies.Reply.{Reply};
+ghost use Rattle.clear_book.specs.declared.rules.Limit.TheVariants.{Book as BookLimit};
 ghost use Rattle.clear_book.specs.declared.rules.Rule.{Rule};
-ghost use Rattle.clear_book.specs.declared.rules.Rule.TheVariants.{BadBody, Failed, Store};
+ghost use Rattle.clear_book.specs.declared.rules.Rule.TheVariants.{BadBody, DayBack, Failed};
+ghost use Rattle.clear_book.specs.declared.rules.Rule.TheVariants.{NotYours, NumberReused};
+ghost use Rattle.clear_book.specs.declared.rules.Rule.TheVariants.{OverLimit, Store};
 ghost use Rattle.clear_values.specs.declared.causes.StoreCause.{StoreCause};
 ghost use Rattle.clear_values.specs.declared.causes.StoreCause.TheVariants.{Other};
 ghost use Rattle.clear_book.specs.Accounts.{charges_of, credit_key, credits_of, credits_standing};
+ghost use Rattle.clear_book.specs.Accounts.{is_overdue, missing};
 ghost use Rattle.clear_book.specs.Allocated.{AreAllocated, AreSameCharges, Represents, StandsWeighed};
-ghost use Rattle.clear_book.specs.Book.{Book, Entry, entry, first_book, latest_lines};
-ghost use Rattle.clear_book.specs.Book.{ledger_day, rates_of};
+ghost use Rattle.clear_book.specs.Book.{Book, Entry, Member, entry, entry_under, first_book};
+ghost use Rattle.clear_book.specs.Book.{latest_lines, ledger_day, member_of, rates_of};
+ghost use Rattle.clear_book.specs.Book.{reported_version};
 ghost use Rattle.clear_book.specs.Conserved.{firm_cents, interest_cents, pieces_cents};
 ghost use Rattle.clear_book.specs.Conserved.{prepaid_cents, set_off_cents, standing_cents};
 ghost use Rattle.clear_book.specs.Conserved.{suspense_cents};
-ghost use Rattle.clear_book.specs.Judge.{a_refusal, judge, kept_reply, new_reply, run_text};
-ghost use Rattle.clear_book.specs.Calls.{command_bytes, same_command};
+ghost use Rattle.clear_book.specs.Judge.{a_refusal, judge, kept_reply, new_reply, own_rule};
+ghost use Rattle.clear_book.specs.Judge.{own_query, run_text};
+ghost use Rattle.clear_book.specs.Calls.{command_bytes, may_do, may_query, same_command};
 ghost use Rattle.clear_book.specs.Laws.{AreCounted, AreEmployers, AreNumbered, AreSorted, IsBy};
 ghost use Rattle.clear_book.specs.Laws.{IsSmall};
 ghost use Rattle.clear_values.specs.declared.rows.BankRow.{BankRow};
@@ -41,6 +52,7 @@ ghost use Rattle.clear_book.specs.Machine.{Goes, IsLawful, Runs, appended, step}
 ghost use Rattle.clear_book.specs.Own.Release.{settlement_of};
 ghost use Rattle.clear_book.specs.Pieces.{piece_rows_of, row_piece};
 ghost use Rattle.clear_book.specs.Calls.{IsCall, IsCommand};
+ghost use Rattle.clear_values.specs.Limits.{most_entries};
 ghost use Rattle.clear_values.specs.Ranges.{AreRates};
 ghost use Rattle.clear_values.specs.RowRanges.{AreInRange, settled};
 ghost use Rattle.clear_values.specs.declared.rows.ClaimRow.{ClaimRow};
@@ -123,6 +135,46 @@ pub fn law_judged()
         → (7 ≤ number_of rule) × (number_of rule ≤ 33) × (rule ≢ BadBody) }
 {}
 
+/// The checks of a command come in one order, whatever else applies. One that access does not allow
+/// is refused for that. Then, where another command stands under its number, the number is used.
+/// Where nothing does, a day before that of the last request is refused with that day; then a full
+/// book refuses; and then the first of the command's own rules that applies.
+pub fn law_order_for_commands()
+    ensures access { (b : Book) (caller : Caller) (number day : ℕ) (command : Command)
+        → may_do caller command ≡ false
+        → judge b (Do caller number day command) ≡ a_refusal NotYours }
+    ensures used { (b : Book) (caller : Caller) (number day : ℕ) (command : Command) (x : Entry)
+        → may_do caller command ≡ true → entry_under b.entries caller number ≡ Some x
+        → x.command ≢ command
+        → judge b (Do caller number day command) ≡ a_refusal NumberReused }
+    ensures back { (b : Book) (caller : Caller) (number day last : ℕ) (command : Command)
+        → may_do caller command ≡ true → entry_under b.entries caller number ≡ None
+        → ledger_day b.entries ≡ Some last → day < last
+        → judge b (Do caller number day command) ≡ a_refusal (DayBack last) }
+    ensures full { (b : Book) (caller : Caller) (number day : ℕ) (command : Command)
+        → may_do caller command ≡ true → entry_under b.entries caller number ≡ None
+        → IfSome (ledger_day b.entries) (λ last. last ≤ day) → most_entries ≤ length b.entries
+        → judge b (Do caller number day command) ≡ a_refusal (OverLimit BookLimit) }
+    ensures own { (b : Book) (caller : Caller) (number day : ℕ) (command : Command) (rule : Rule)
+        → may_do caller command ≡ true → entry_under b.entries caller number ≡ None
+        → IfSome (ledger_day b.entries) (λ last. last ≤ day) → length b.entries < most_entries
+        → own_rule b day command ≡ Some rule
+        → judge b (Do caller number day command) ≡ a_refusal rule }
+{}
+
+/// The checks of a query come in one order, too: access, the day, the query's own rules.
+pub fn law_order_for_queries()
+    ensures access { (b : Book) (caller : Caller) (day : ℕ) (query : Query)
+        → may_query caller query ≡ false
+        → judge b (Ask caller day query) ≡ a_refusal NotYours }
+    ensures back { (b : Book) (caller : Caller) (day last : ℕ) (query : Query)
+        → may_query caller query ≡ true → ledger_day b.entries ≡ Some last → day < last
+        → judge b (Ask caller day query) ≡ a_refusal (DayBack last) }
+    ensures own { (b : Book) (caller : Caller) (day : ℕ) (query : Query) (rule : Rule)
+        → may_query caller query ≡ true → IfSome (ledger_day b.entries) (λ last. last ≤ day)
+        → own_query b query ≡ Some rule → judge b (Ask caller day query) ≡ a_refusal rule }
+{}
+
 /// A call that is answered with a fault of the store is so because the store failed: no key that
 /// stands already and no value out of its range is ever to blame.
 pub fn law_store_fault()
@@ -163,6 +215,56 @@ pub fn law_one_table()
 /// Each row of the tables of a lawful book, its pieces aside, lies in its ranges.
 pub fn law_rows_in_range()
     ensures { (b : Book) (t : Tables) → IsLawful b → Stands b t → AreInRange t }
+{}
+
+/// After a report or a correction of a firm's month the latest lines of it are those that came, and
+/// its version is one more than before, 1 where there was none; those of other firms and months are
+/// as before. After another command all are.
+pub fn law_latest_lines()
+    ensures reported { (xs : List Entry) (caller : Caller) (number day : ℕ) (r : WageReport)
+        (reply : Reply) → let after = entry caller number day (Report r) reply ∷ xs in
+        (latest_lines after r.employer r.month ≡ Some r.lines)
+        × (reported_version after r.employer r.month
+        ≡ Some (option_map_or (λ v. v + 1) (reported_version xs r.employer r.month) 1)) }
+    ensures corrected { (xs : List Entry) (caller : Caller) (number day : ℕ) (c : Correction)
+        (reply : Reply) → let after = entry caller number day (Correct c) reply ∷ xs in
+        (latest_lines after c.report.employer c.report.month ≡ Some c.report.lines)
+        × (reported_version after c.report.employer c.report.month
+        ≡ Some (option_map_or (λ v. v + 1)
+        (reported_version xs c.report.employer c.report.month) 1)) }
+    ensures others { (xs : List Entry) (x : Entry) (e m : ℕ)
+        → ((r : WageReport) → x.command ≡ Report r → (e ≢ r.employer) ⊎ (m ≢ r.month))
+        → ((c : Correction) → x.command ≡ Correct c
+        → (e ≢ c.report.employer) ⊎ (m ≢ c.report.month))
+        → (latest_lines (x ∷ xs) e m ≡ latest_lines xs e m)
+        × (reported_version (x ∷ xs) e m ≡ reported_version xs e m) }
+{}
+
+/// The report of a month is overdue from the day after its report day on, which is one of the
+/// month behind it, at the rate row in force; without such a row it never is.
+pub fn law_overdue()
+    ensures due { (rates : List Rate) (m t : ℕ) (r : Rate) → rate_in_force rates m ≡ Some r
+        → t ≤ day_in (m + 1) r.report_day → is_overdue rates t m ≡ false }
+    ensures late { (rates : List Rate) (m t : ℕ) (r : Rate) → rate_in_force rates m ≡ Some r
+        → day_in (m + 1) r.report_day < t → is_overdue rates t m ≡ true }
+    ensures unrated { (rates : List Rate) (m t : ℕ) → rate_in_force rates m ≡ None
+        → is_overdue rates t m ≡ false }
+{}
+
+/// A month is missing of a firm just where it is not before the firm's first member month, nor
+/// behind its last one, its report is overdue, and there is none. Of one that isn't registered none
+/// is missing.
+pub fn law_missing()
+    ensures just { (b : Book) (e t : ℕ) (member : Member) → member_of b.entries e ≡ Some member
+        → AllByRecursion (λ m. (member.start ≤ m) × IfSome member.last (λ last. m ≤ last)
+        × (is_overdue (rates_of b) t m ≡ true) × (latest_lines b.entries e m ≡ None))
+        (missing b e t) }
+    ensures all { (b : Book) (e t m : ℕ) (member : Member)
+        → member_of b.entries e ≡ Some member → IsMonth m → member.start ≤ m
+        → IfSome member.last (λ last. m ≤ last) → is_overdue (rates_of b) t m ≡ true
+        → latest_lines b.entries e m ≡ None → Contains (missing b e t) m }
+    ensures unregistered { (b : Book) (e t : ℕ) → member_of b.entries e ≡ None
+        → missing b e t ≡ [] }
 {}
 
 /// The contributions that follow from the report and wage rows of the tables of a lawful book are

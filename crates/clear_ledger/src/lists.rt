@@ -29,9 +29,8 @@ use sqlite_value::value::ValueRef;
 // The payout list of a number.
 const LIST: &str = "SELECT no, day, items, total FROM lists WHERE no = ?1";
 
-/// Adds a payout list whose number is free. A number out of 1 to 50,000,000, and counts of claims and
-/// cents that no list can have, are refused with `Fault::Store(StoreCause::Row)`, and nothing is
-/// done.
+/// Adds a payout list whose number is free. Counts of claims and cents that no list can have are
+/// refused with `Fault::Store(StoreCause::Row)`, and nothing is done.
 pub fn insert_list<S: Alter>(tx: &mut Transaction<'_, S>, row: &ListRow) -> Result<(), Fault>
     ensures same_reference { tx.new.conn.ghost_name ≡ tx.old.conn.ghost_name }
     ensures writes { Writes S.Store tx.old.conn.now tx.new.conn.now result (IsListRow row.now)
@@ -105,15 +104,14 @@ fn is_list_row(row: &ListRow) -> bool
     is_listed(row.list, row.items, row.total)
 }
 
-/// Whether a payout list can have this number, so many claims and so many cents: 1 to 50,000,000 of
-/// each but the cents, which are at most 5,000,000,000,000,000,000.
-pub fn is_listed(list: u32, items: u64, total: u64) -> bool
+/// Whether a payout list can have so many claims and so many cents: 1 to 50,000,000 claims, and at most
+/// 5,000,000,000,000,000,000 cents.
+pub fn is_listed(list: ListNo, items: u64, total: u64) -> bool
     ensures { IsTrue result ↔ IsReply (Reply.Listed list items total) }
 {
-    ListNo::new(u64::from(list)).is_some()
-        && items >= 1
-        && is_entry_count(items)
-        && is_claimed(total)
+    // A proof reads the range of the number from its type.
+    let _list = list.number();
+    items >= 1 && is_entry_count(items) && is_claimed(total)
 }
 
 // The parameters of a statement that writes a row.
@@ -122,7 +120,7 @@ fn list_values(row: &ListRow) -> [ValueRef<'static>; 4]
     ensures { bound result ≡ list_shown row.now }
 {
     [
-        number(u64::from(row.list)),
+        list_no(row.list),
         day(row.day),
         number(row.items),
         number(row.total),

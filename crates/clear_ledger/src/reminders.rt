@@ -116,11 +116,11 @@ impl StoredTable for Reminders {
 fn is_reminder_row(row: &ReminderRow) -> bool
     ensures { (result ≡ true) ↔ IsReminderRow row.now }
 {
-    // A proof reads the ranges of the firm and of the month from their types.
+    // A proof reads the ranges of the run, of the firm and of the month from their types.
+    let _run = row.run.number();
     let _employer = row.employer.number();
     let _first = month_number(row.first);
-    RunNo::new(u64::from(row.run)).is_some()
-        && row.level >= 1
+    row.level >= 1
         && row.level <= 3
         && is_month_count(row.missing)
         && is_charged(row.arrears)
@@ -143,7 +143,7 @@ fn reminder_values(row: &ReminderRow) -> [ValueRef<'static>; 7]
     ensures { bound result ≡ reminder_shown row.now }
 {
     [
-        number(u64::from(row.run)),
+        run_no(row.run),
         firm(row.employer),
         number(u64::from(row.level)),
         number(u64::from(row.missing)),

@@ -10,7 +10,7 @@ use crate::states::settled_cents;
 use clear_columns::ranges::{is_contribution, is_version};
 use clear_money::numbers::Amount;
 use clear_values::limits::MAX_RECORDS;
-use clear_values::numbers::ClaimNo;
+use clear_values::numbers::{ClaimNo, ListNo, RunNo};
 use clear_values::replies::{Reply, Settlement};
 
 /// The kind of a reply, and its own numbers: 0 stands for those that it has not.
@@ -24,23 +24,23 @@ pub struct ReplyNumbers {
 
 /// The numbers of a reply. Kind 1 is done, 2 is reported, 3 is imported, 4 is claimed, 5 is released,
 /// 6 is listed, and 7 is reminded.
-pub fn reply_numbers(reply: Reply) -> ReplyNumbers
-    ensures value { result ≡ numbers_of reply }
-    ensures small { IsReply reply → AreSmall result }
+pub fn reply_numbers(reply: &Reply) -> ReplyNumbers
+    ensures value { result ≡ numbers_of reply.now }
+    ensures small { IsReply reply.now → AreSmall result }
 {
     match reply {
         Reply::Done => numbers(1, 0, 0),
-        Reply::Reported { version, charge } => numbers(2, u64::from(version), charge),
-        Reply::Imported { new, repeats } => numbers(3, new, repeats),
-        Reply::Claimed { claim } => numbers(4, u64::from(claim), 0),
-        Reply::Released(settlement) => settlement_numbers(settlement),
+        Reply::Reported { version, charge } => numbers(2, u64::from(*version), *charge),
+        Reply::Imported { new, repeats } => numbers(3, *new, *repeats),
+        Reply::Claimed { claim } => numbers(4, u64::from(claim.number()), 0),
+        Reply::Released(settlement) => settlement_numbers(*settlement),
         Reply::Listed { list, items, total } => ReplyNumbers {
             kind: 6,
-            first: u64::from(list),
-            second: items,
-            third: total,
+            first: u64::from(list.number()),
+            second: *items,
+            third: *total,
         },
-        Reply::Reminded { run, firms } => numbers(7, u64::from(run), firms),
+        Reply::Reminded { run, firms } => numbers(7, u64::from(run.number()), *firms),
     }
 }
 
@@ -78,7 +78,7 @@ pub fn reply_of(numbers: ReplyNumbers) -> Option<Reply>
         Some(reply) => reply,
         None => return None,
     };
-    if reply_numbers(reply) == numbers && is_reply(reply) {
+    if reply_numbers(&reply) == numbers && is_reply(&reply) {
         Some(reply)
     } else {
         None
@@ -102,50 +102,54 @@ fn reply_of_kind(numbers: ReplyNumbers) -> Option<Reply>
             new: numbers.first,
             repeats: numbers.second,
         }),
-        4 => match u32::try_from(numbers.first) {
-            Ok(claim) => Some(Reply::Claimed { claim }),
-            Err(_) => None,
+        4 => match ClaimNo::new(numbers.first) {
+            Some(claim) => Some(Reply::Claimed { claim }),
+            None => None,
         },
         5 => Some(Reply::Released(Settlement {
             to_contributions: numbers.first,
             to_interest: numbers.second,
             paid: numbers.third,
         })),
-        6 => match u32::try_from(numbers.first) {
-            Ok(list) => Some(Reply::Listed {
+        6 => match ListNo::new(numbers.first) {
+            Some(list) => Some(Reply::Listed {
                 list,
                 items: numbers.second,
                 total: numbers.third,
             }),
-            Err(_) => None,
+            None => None,
         },
-        7 => match u32::try_from(numbers.first) {
-            Ok(run) => Some(Reply::Reminded {
+        7 => match RunNo::new(numbers.first) {
+            Some(run) => Some(Reply::Reminded {
                 run,
                 firms: numbers.second,
             }),
-            Err(_) => None,
+            None => None,
         },
         _ => None,
     }
 }
 
 /// Whether the numbers of a reply are in their ranges.
-pub fn is_reply(reply: Reply) -> bool
-    ensures { IsTrue result ↔ IsReply reply }
+pub fn is_reply(reply: &Reply) -> bool
+    ensures { IsTrue result ↔ IsReply reply.now }
 {
     match reply {
         Reply::Done => true,
-        Reply::Reported { version, charge } => is_version(version) && is_contribution(charge),
+        Reply::Reported { version, charge } => is_version(*version) && is_contribution(*charge),
         Reply::Imported { new, repeats } => {
-            new <= MAX_RECORDS as u64 && repeats <= MAX_RECORDS as u64
+            *new <= MAX_RECORDS as u64 && *repeats <= MAX_RECORDS as u64
         }
-        Reply::Claimed { claim } => ClaimNo::new(u64::from(claim)).is_some(),
-        Reply::Released(settlement) => match settled_cents(settlement) {
+        Reply::Claimed { claim } => {
+            // A proof reads the range of the number from its type.
+            let _claim = claim.number();
+            true
+        }
+        Reply::Released(settlement) => match settled_cents(*settlement) {
             Some(cents) => Amount::new(cents).is_some(),
             None => false,
         },
-        Reply::Listed { list, items, total } => is_listed(list, items, total),
-        Reply::Reminded { run, firms } => is_reminded(run, firms),
+        Reply::Listed { list, items, total } => is_listed(*list, *items, *total),
+        Reply::Reminded { run, firms } => is_reminded(*run, *firms),
     }
 }

@@ -96,7 +96,7 @@ pub fn insert_request<S: Alter>(
           requests = with_row request_key t.requests (row_of caller number request.now);
         }) }
 {
-    if !is_reply(request.reply) {
+    if !is_reply(&request.reply) {
         return Err(Fault::Store(StoreCause::Row));
     }
     put(
@@ -224,7 +224,7 @@ fn request_values(caller: Caller, number: RequestNo, request: &KeptRequest) -> [
     requires { IsReply request.now.reply }
     ensures { bound result ≡ request_shown (row_of caller number request.now) }
 {
-    let reply = reply_numbers(request.reply);
+    let reply = reply_numbers(&request.reply);
     [
         calling(caller),
         request_no(number),

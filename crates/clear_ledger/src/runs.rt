@@ -29,8 +29,8 @@ use sqlite_value::value::ValueRef;
 // The reminder run of a number.
 const RUN: &str = "SELECT no, day, firms FROM runs WHERE no = ?1";
 
-/// Adds a reminder run whose number is free. A number out of 1 to 50,000,000, and a count of firms
-/// that no run can have, are refused with `Fault::Store(StoreCause::Row)`, and nothing is done.
+/// Adds a reminder run whose number is free. A count of firms that no run can have is refused with
+/// `Fault::Store(StoreCause::Row)`, and nothing is done.
 pub fn insert_run<S: Alter>(tx: &mut Transaction<'_, S>, row: &RunRow) -> Result<(), Fault>
     ensures same_reference { tx.new.conn.ghost_name ≡ tx.old.conn.ghost_name }
     ensures writes { Writes S.Store tx.old.conn.now tx.new.conn.now result (IsRunRow row.now)
@@ -100,11 +100,13 @@ fn is_run_row(row: &RunRow) -> bool
     is_reminded(row.run, row.firms)
 }
 
-/// Whether a reminder run can have this number and so many firms: 1 to 50,000,000, and 1 to 10,000.
-pub fn is_reminded(run: u32, firms: u64) -> bool
+/// Whether a reminder run can have so many firms: 1 to 10,000.
+pub fn is_reminded(run: RunNo, firms: u64) -> bool
     ensures { IsTrue result ↔ IsReply (Reply.Reminded run firms) }
 {
-    RunNo::new(u64::from(run)).is_some() && firms >= 1 && is_firm_count(firms)
+    // A proof reads the range of the number from its type.
+    let _run = run.number();
+    firms >= 1 && is_firm_count(firms)
 }
 
 // The parameters of a statement that writes a row.
@@ -112,5 +114,5 @@ fn run_values(row: &RunRow) -> [ValueRef<'static>; 3]
     requires { IsRunRow row.now }
     ensures { bound result ≡ run_shown row.now }
 {
-    [number(u64::from(row.run)), day(row.day), number(row.firms)]
+    [run_no(row.run), day(row.day), number(row.firms)]
 }

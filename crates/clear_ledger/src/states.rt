@@ -1,12 +1,13 @@
 //! How a claim stands, as the columns of its row tell it.
 ghost use Rattle.std.specs.Prelude.{◌≡◌, ◌≤◌, ◌↔◌, ◌^◌, None, Some, true, IfSome};
+ghost use Rattle.clear_values.specs.Numbers.{IsListNo};
 ghost use Rattle.clear_values.specs.RowRanges.{IsClaimRow, IsClaimState, settled};
 ghost use Rattle.clear_values.specs.declared.rows.ClaimState.{ClaimState};
 ghost use Rattle.clear_ledger.specs.Shown.{columns_of, unsettled};
 
 use clear_money::days::Day;
 use clear_money::numbers::Amount;
-use clear_values::numbers::{ClaimNo, ListNo};
+use clear_values::numbers::ListNo;
 use clear_values::replies::Settlement;
 use clear_values::rows::{ClaimRow, ClaimState, ReleasedClaim};
 
@@ -20,7 +21,7 @@ pub struct StateColumns {
     /// Three times 0 without a release.
     pub settlement: Settlement,
     /// The payout list of a release, if it is on one.
-    pub list: Option<u32>,
+    pub list: Option<ListNo>,
 }
 
 /// The columns that tell of a state.
@@ -113,16 +114,17 @@ fn is_unsettled(columns: &StateColumns) -> bool
         && columns.list.is_none()
 }
 
-/// Whether the numbers of a claim are in their ranges, and what a release settled is its amount.
+/// Whether what a release of a claim settled is its amount.
 pub fn is_claim_row(row: &ClaimRow) -> bool
     ensures { (result ≡ true) ↔ IsClaimRow row.now }
 {
     // A proof reads the ranges of these from their types.
+    let _claim = row.claim.number();
     let _employer = row.employer.number();
     let _worker = row.worker.number();
     let _cents = row.cents.cents();
     let _made = row.made.number();
-    ClaimNo::new(u64::from(row.claim)).is_some() && is_state(row.cents, &row.state)
+    is_state(row.cents, &row.state)
 }
 
 // Whether a claim of these cents can stand so.
@@ -141,15 +143,21 @@ fn is_released(cents: Amount, release: &ReleasedClaim) -> bool
     ensures { (result ≡ true) ↔ IsClaimState cents (ClaimState.Released release.now) }
 {
     let _day = release.day.number();
-    let whole = match settled_cents(release.settlement) {
+    let _list = list_number(release.list);
+    match settled_cents(release.settlement) {
         Some(sum) => sum == cents.cents(),
         None => false,
-    };
-    let listed = match release.list {
-        Some(list) => ListNo::new(u64::from(list)).is_some(),
-        None => true,
-    };
-    whole && listed
+    }
+}
+
+// The number of a payout list that may be there.
+fn list_number(list: Option<ListNo>) -> Option<u32>
+    ensures { IfSome list IsListNo }
+{
+    match list {
+        Some(list) => Some(list.number()),
+        None => None,
+    }
 }
 
 /// The sum of the three amounts of a settlement. None where 64 bits don't hold it.

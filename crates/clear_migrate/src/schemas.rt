@@ -25,8 +25,8 @@ pub enum Migration {
 }
 
 /// The number of its schema that a database tells, in the row of its first table `meta`, whichever
-/// number that is and whatever other tables there are. `WrongVersion` with 0 where there is no such
-/// table or no such row, `Failed(Fault::Store(StoreCause::Row))` for a number below 0. Nothing changes
+/// number that is and whatever other tables there are. `WrongVersion` with 0 where the
+/// database is empty, `Failed(Fault::Store(StoreCause::Row))` for a number below 0. Nothing changes
 /// where a `meta` stands first, or where nothing is there.
 pub fn version<S: Alter>(conn: &mut Connection<S>) -> Result<u64, OpenFault>
     ensures told { HasCleanDisk (state S.Store conn.new)

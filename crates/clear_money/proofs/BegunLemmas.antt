@@ -3,9 +3,10 @@ use Rattle.std.proofs.Common.{◌≡◌, ℕ, ◌+◌, ◌-◌, ◌<◌, ◌≤�
 use Rattle.std.proofs.lemmas.Bool.{cases_order}
 use Rattle.std.proofs.lemmas.Bool.Decides.{nat_tests}
 use Rattle.std.specs.List.{range_with_len}
-use Rattle.clear_money.specs.Calendar.{IsDay, day_in, month_of, day_of_month, months_after, month_steps, begun_months}
+use Rattle.clear_money.specs.Calendar.{IsDay, IsMonth, day_in, month_of, day_of_month, months_after, month_steps, begun_months}
+use Rattle.clear_money.specs.Rates.{IsDayOfEachMonth}
 use Rattle.clear_money.proofs.CountLemmas.{count_first}
-use Rattle.clear_money.proofs.MonthLemmas.{month_of-lies, day_of_month_bounds, day_in-place, first_day-later, first_day-mono, month_length_bounds}
+use Rattle.clear_money.proofs.MonthLemmas.{month_of-lies, month_of-day_in, day_of_month_bounds, day_of_month-day_in, day_in-is_day, day_in-place, first_day-later, first_day-mono, month_length_bounds}
 
 steps_are : (n : ℕ) → n ≡ 2412 → month_steps ≡ range_with_len 0 n
 unfolding month_steps
@@ -82,3 +83,33 @@ module _ (due t : ℕ) (from : IsDay due) (to : IsDay t) (place : day_of_month d
       let high = (month_of-lies t to).high in
       let least = (month_of-lies due from).low in
       begun-is (month_of t - month_of due + 1) 2412 refl (omega arith) (λ k lt. up_to_month k (month_of t - month_of due) refl lt low h) (λ k le. later k (omega arith))
+
+-- ---- days that each month has
+record Place (m d : ℕ) : Type 0 where
+  day : IsDay (day_in m d)
+  month : month_of (day_in m d) ≡ m
+  place : day_of_month (day_in m d) ≡ d
+
+place_of : (m d : ℕ) → IsMonth m → IsDayOfEachMonth d → Place m d
+place_of m d im id =
+    let last : d ≤ 28 = id.1 in
+    let length = (month_length_bounds m).0 in
+    record {
+      day = day_in-is_day m d im.0 (omega arith) id.0 (omega (arith, length));
+      month = month_of-day_in m d im.0 (omega arith) id.0 (omega (arith, length));
+      place = day_of_month-day_in m d im.0 (omega arith) id.0 (omega (arith, length));
+    }
+
+-- from a place in a month up to one that is no later, k months on
+pub begun_months-up_to : (m k d e : ℕ) → IsMonth m → IsMonth (m + k) → IsDayOfEachMonth d → IsDayOfEachMonth e → e ≤ d → begun_months (day_in m d) (day_in (m + k) e) ≡ k
+begun_months-up_to m k d e im in_ id ie le =
+    let a = place_of m d im id in
+    let b = place_of (m + k) e in_ ie in
+    omega (arith, a.month, b.month, begun-whole (day_in m d) (day_in (m + k) e) a.day b.day (omega (arith, a.place)) (omega (arith, a.month, b.month)) (omega (arith, a.place, b.place)))
+
+-- and to a later one
+pub begun_months-behind : (m k d e : ℕ) → IsMonth m → IsMonth (m + k) → IsDayOfEachMonth d → IsDayOfEachMonth e → d < e → begun_months (day_in m d) (day_in (m + k) e) ≡ k + 1
+begun_months-behind m k d e im in_ id ie lt =
+    let a = place_of m d im id in
+    let b = place_of (m + k) e in_ ie in
+    omega (arith, a.month, b.month, begun-more (day_in m d) (day_in (m + k) e) a.day b.day (omega (arith, a.place)) (omega (arith, a.month, b.month)) (omega (arith, a.place, b.place)))

@@ -5,7 +5,7 @@ use Rattle.jiff_core.specs.Calendar.{IsCivilDate}
 use Rattle.clear_money.specs.Calendar.{IsDay, day_in, month_of, day_of_month}
 use Rattle.clear_money.specs.Texts.{date_text, day_text}
 use Rattle.clear_money.proofs.DateLemmas.{IsDated, civil-dated, dated-civil}
-use Rattle.clear_money.proofs.MonthLemmas.{month_length_bounds, day_of_month_bounds}
+use Rattle.clear_money.proofs.MonthLemmas.{month_length_bounds, day_in-parts, day_of_month_bounds}
 
 -- no text that spells no date spells a day
 pub unspelled : (bytes : List ℕ) → ((y m d : ℕ) → y < 10000 → m < 100 → d < 100 → bytes ≢ date_text y m d) → (t : ℕ) → IsDay t → bytes ≢ day_text t
@@ -51,3 +51,14 @@ uncivil bytes y m d None text a b c some = λ t h is.
     let place = day_of_month_bounds t h in
     let same = date_text-injective y m d (month_of t / 12) (month_of t % 12 + 1) (day_of_month t) a b c (omega (arith, civil.1)) (omega arith) (omega (arith, place.1, (month_length_bounds (month_of t)).1)) (sym text ∙ is) in
     absurd (cc (some.1 (same_civil y m d _ _ _ same civil)))
+
+-- days that are spelled alike are one
+pub day_text-injective : (t u : ℕ) → IsDay t → IsDay u → day_text t ≡ day_text u → t ≡ u
+day_text-injective t u h k e =
+    let civil = dated-civil t h in
+    let other = dated-civil u k in
+    let place = day_of_month_bounds t h in
+    let other_place = day_of_month_bounds u k in
+    let same = date_text-injective (month_of t / 12) (month_of t % 12 + 1) (day_of_month t) (month_of u / 12) (month_of u % 12 + 1) (day_of_month u) (omega (arith, civil.1)) (omega arith) (omega (arith, place.1, (month_length_bounds (month_of t)).1)) (omega (arith, other.1)) (omega arith) (omega (arith, other_place.1, (month_length_bounds (month_of u)).1)) e in
+    let month : month_of t ≡ month_of u = omega (arith, same.year, same.month) in
+    sym (day_in-parts t h) ∙ (λ i. day_in (month i) (same.day i)) ∙ day_in-parts u k

@@ -13,9 +13,17 @@ IsMonth m = (24000 ≤ m) × (m ≤ 26399)
 unfoldable pub months : List ℕ
 months = range_with_len 24000 2400
 
+-- 2000-01-01
+abbrev pub first_day : ℕ
+first_day = 10957
+
+-- 2200-12-31
+abbrev pub latest_day : ℕ
+latest_day = 84370
+
 -- a day from 2000-01-01 to 2200-12-31
 abbrev pub IsDay : ℕ → Type 0
-IsDay t = (10957 ≤ t) × (t ≤ 84370)
+IsDay t = (first_day ≤ t) × (t ≤ latest_day)
 
 -- day d of month m, counted from 1
 unfoldable pub day_in : ℕ → ℕ → ℕ
@@ -37,7 +45,7 @@ day_of_month t = t + 1 - day_in (month_of t) 1
 abbrev pub months_after : ℕ → ℕ → ℕ
 months_after t k = day_in (month_of t + k) (day_of_month t)
 
--- no day has a month's place 2,412 months later
+-- 0 to 2,411: so many months lie between the months of the first day and of the latest one
 unfoldable pub month_steps : List ℕ
 month_steps = range_with_len 0 2412
 

@@ -2,7 +2,7 @@
 ghost use Rattle.std.specs.Prelude.{◌≡◌, ◌≢◌, ℕ, ◌≤◌, ◌<◌, ◌+◌, ◌*◌, ◌-◌, ◌/◌, ◌%◌, ◌↔◌, pos};
 ghost use Rattle.std.specs.Prelude.{IsSome, IfSome, IfNone};
 ghost use Rattle.jiff_core.specs.Calendar.{IsCivilDate};
-ghost use Rattle.clear_money.specs.Calendar.{IsDay, day_in, month_of, day_of_month, begun_months};
+ghost use Rattle.clear_money.specs.Calendar.{IsDay, begun_months, day_in, day_of_month, first_day, month_of};
 ghost use Rattle.clear_money.specs.Rates.{due_day_of, report_day_of, IsDayOfEachMonth};
 ghost use Rattle.clear_money.specs.Texts.{date_text, day_text};
 
@@ -43,6 +43,8 @@ struct WrittenDate {
 }
 
 impl Day {
+    /// The first day number, that of 2000-01-01.
+    pub const MIN: u64 = 10_957;
     /// The last day number, that of 2200-12-31.
     pub const MAX: u64 = 84_370;
 
@@ -51,7 +53,7 @@ impl Day {
         ensures some { IsSome result ↔ IsDay number }
         ensures value { IfSome result (λ t. t ≡ number) }
     {
-        if number < 10_957 || number > Self::MAX {
+        if number < Self::MIN || number > Self::MAX {
             return None;
         }
         Some(Day {
@@ -61,9 +63,11 @@ impl Day {
 
     /// 2000-01-01.
     pub fn first() -> Day
-        ensures { result ≡ 10957 }
+        ensures { result ≡ first_day }
     {
-        Day { number: 10_957 }
+        Day {
+            number: Self::MIN as u32,
+        }
     }
 
     /// Reads exactly `YYYY-MM-DD`. None for any other text, for a date that the calendar lacks,

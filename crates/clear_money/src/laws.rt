@@ -1,10 +1,32 @@
 //! Laws of months, days and contributions, over the definitions alone. Each function does nothing:
 //! its contract is the law.
-ghost use Rattle.std.specs.Prelude.{◌≡◌, ℕ, ◌+◌, ◌/◌, ◌%◌, ◌<◌, ◌≤◌};
-ghost use Rattle.clear_money.specs.Calendar.{IsMonth, begun_months, day_in, day_of_month};
+ghost use Rattle.std.specs.Prelude.{◌≡◌, ℕ, ◌+◌, ◌/◌, ◌%◌, ◌<◌, ◌≤◌, pos};
+ghost use Rattle.jiff_core.specs.Calendar.{days_in_month};
+ghost use Rattle.clear_money.specs.Calendar.{IsDay, IsMonth, begun_months, day_in, day_of_month};
 ghost use Rattle.clear_money.specs.Calendar.{month_of, months_after};
-ghost use Rattle.clear_money.specs.Rates.{IsDayOfEachMonth, contribution_of};
+ghost use Rattle.clear_money.specs.Rates.{IsDayOfEachMonth, IsRate, Rate, contribution_of};
+ghost use Rattle.clear_money.specs.Rates.{due_day_of, report_day_of};
 ghost use Rattle.clear_money.specs.Texts.{date_text, day_text};
+
+/// 2000-01-01 is day 10957, each month begins as many days behind the one before it as that one has,
+/// and the last day, 2200-12-31, is day 84370.
+pub fn law_months_follow()
+    ensures first { day_in 24000 1 ≡ 10957 }
+    ensures last { day_in 26411 31 ≡ 84370 }
+    ensures next { (m : ℕ) → IsMonth m
+        → day_in (m + 1) 1 ≡ day_in m 1 + days_in_month (pos (m / 12)) (m % 12 + 1) }
+{}
+
+/// A day lies in its month: from that month's first day on, and before the following month's.
+pub fn law_month_of()
+    ensures from { (t : ℕ) → IsDay t → day_in (month_of t) 1 ≤ t }
+    ensures to { (t : ℕ) → IsDay t → t < day_in (month_of t + 1) 1 }
+{}
+
+/// Different days are spelled differently.
+pub fn law_day_text()
+    ensures { (t u : ℕ) → IsDay t → IsDay u → day_text t ≡ day_text u → t ≡ u }
+{}
 
 /// A day that each month has lies in its month, at its place there, and is spelled so.
 pub fn law_day_in_month()
@@ -12,6 +34,19 @@ pub fn law_day_in_month()
     ensures place { (m d : ℕ) → IsMonth m → IsDayOfEachMonth d → day_of_month (day_in m d) ≡ d }
     ensures text { (m d : ℕ) → IsMonth m → IsDayOfEachMonth d
         → day_text (day_in m d) ≡ date_text (m / 12) (m % 12 + 1) d }
+{}
+
+/// The contribution and the report of a month are due in the following month, each at the place that
+/// the month's rate row has for it.
+pub fn law_due_days()
+    ensures due_month { (m : ℕ) (r : Rate) → IsMonth m → IsRate r
+        → month_of (due_day_of m r) ≡ m + 1 }
+    ensures due_place { (m : ℕ) (r : Rate) → IsMonth m → IsRate r
+        → day_of_month (due_day_of m r) ≡ r.due_day }
+    ensures report_month { (m : ℕ) (r : Rate) → IsMonth m → IsRate r
+        → month_of (report_day_of m r) ≡ m + 1 }
+    ensures report_place { (m : ℕ) (r : Rate) → IsMonth m → IsRate r
+        → day_of_month (report_day_of m r) ≡ r.report_day }
 {}
 
 /// A due day comes again in each later month, at the same place.

@@ -3,8 +3,8 @@
 //! A month is seen as a number, a day as its day number, an amount as its cents and a rate row as
 //! its six numbers; a value of these types is always within its range. What a caller learns is
 //! exact: a text reads as a value just if it is that value's spelling, and each day, contribution
-//! and count of months is its definition in `specs/`. Only what keeps a list of rate rows takes
-//! memory, and it leaves what was there unchanged where it is refused.
+//! and count of months is its definition in `specs/`. Only what reads a document or keeps a list of
+//! rate rows takes memory, and it leaves what was there unchanged where it is refused.
 #![tactic(auto)]
 
 pub mod bytes;

@@ -94,6 +94,7 @@ impl RateRow {
           entitlement_rate = entitlement_rate;
         }) }
     {
+        // No effect at run time: the proof reads the month's range from this call.
         let _number = first.number();
         if contribution_rate > Self::MAX_SHARE || entitlement_rate > Self::MAX_SHARE {
             return None;

@@ -151,12 +151,8 @@ fn opened_row(row: &KeptCharge) -> KeptCharge
     ensures { result ≡ open_row row.now }
 {
     KeptCharge {
-        employer: row.employer,
-        month: row.month,
-        due: row.due,
         cents: row.left,
-        left: row.left,
-        weight: row.weight,
+        ..*row
     }
 }
 
@@ -274,11 +270,8 @@ fn add_paid(row: &KeptCharge, paid: &KeptCharge) -> Result<KeptCharge, Fault>
         return Err(Fault::Store(StoreCause::Row));
     };
     Ok(KeptCharge {
-        employer: row.employer,
-        month: row.month,
-        due: row.due,
-        cents: row.cents,
         left: paid.left,
         weight,
+        ..*row
     })
 }

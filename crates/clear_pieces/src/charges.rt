@@ -31,10 +31,8 @@ pub fn charges_to_put(
 {
     let charges = firm.account.all_charges();
     let credits = firm.account.all_credits();
-    match settle_from(alloc, charges, credits, front) {
-        Ok(settled) => Ok(rows_of(alloc, employer, settled.as_slice())?),
-        Err(_) => Err(Fault::Memory),
-    }
+    let settled = settle_from(alloc, charges, credits, front)?;
+    Ok(rows_of(alloc, employer, settled.as_slice())?)
 }
 
 // These contributions as rows of a firm.

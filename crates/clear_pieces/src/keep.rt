@@ -34,7 +34,8 @@ use std::alloc::{AllocError, Global};
 use std::collections::BTreeMap;
 
 /// Whether the contribution that a change is to put stands already as it is: only a correction's
-/// can. It is asked before the change is put.
+/// can. It is asked before the change is put, and changes nothing. A row out of its range is refused
+/// with `Fault::Store(StoreCause::Row)`.
 pub fn charge_stood<S: Alter>(tx: &mut Transaction<'_, S>, change: &Change) -> Result<bool, Fault>
     ensures same_reference { tx.new.conn.ghost_name ≡ tx.old.conn.ghost_name }
     ensures told { HasCleanDisk (state S.Store tx.new.conn.now)
@@ -68,6 +69,9 @@ pub fn charge_stood<S: Alter>(tx: &mut Transaction<'_, S>, change: &Change) -> R
 /// the first changed place on; the other pieces stay, whatever they hold. What is open of the
 /// firm's contributions, and their weights so far, are written from there on, too. Where the
 /// contribution of a correction stood already, nothing is read or written.
+///
+/// What no book holds is refused with `Fault::Store(StoreCause::Row)`. A fault may leave a part
+/// written, which a rollback of the transaction takes back: what is committed stays as it was.
 pub fn keep_pieces<S: Alter>(
     alloc: Global,
     tx: &mut Transaction<'_, S>,

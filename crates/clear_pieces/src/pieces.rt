@@ -24,7 +24,8 @@ use std::alloc::{AllocError, Global};
 /// The rows of the pieces of the contributions and credits that reach beyond a start, by month, then
 /// by credit.
 ///
-/// It takes one turn for each of them. Rows that are not those of the credits are a fault of the row.
+/// It takes at most one turn more than there are of them. Rows that are not those of the credits are a
+/// fault of the row.
 pub fn pieces_to_put(
     alloc: Global,
     firm: &FirmAccount,
@@ -79,10 +80,7 @@ fn refill_from(
         Ok(pieces) => pieces,
         Err(_) => return Err(Fault::Memory),
     };
-    match place_pieces(alloc, pieces.as_slice(), credits) {
-        Ok(placed) => Ok(placed),
-        Err(_) => Err(Fault::Memory),
-    }
+    Ok(place_pieces(alloc, pieces.as_slice(), credits)?)
 }
 
 // The rows of pieces whose credits have their places among these.

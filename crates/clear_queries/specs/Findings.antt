@@ -10,7 +10,6 @@ use Rattle.clear_book.specs.Judge.{answer_to, own_query}
 use Rattle.clear_book.specs.Machine.{IsLawful}
 use Rattle.clear_book.specs.Allocated.{Represents, StandsWeighed}
 use Rattle.clear_book.specs.Tables.{Tables}
-use Rattle.clear_values.specs.Numbers.{IsListNo, IsRunNo}
 use Rattle.clear_reading.specs.Documents.{list_over, run_over, suspense_over}
 use Rattle.clear_reading.specs.Look.{AreFewSuspended}
 use Rattle.clear_reading.specs.Paid.{ArePiecesFor, pieces_for}
@@ -37,11 +36,11 @@ answer_of t (finding.Answer answer) = answer
 answer_of t (finding.Document document) = Text (text_of t document)
 
 -- the document can be told over the tables: each of a firm's pieces stands under a charge of its
--- statement, a list and a run have numbers of their kind, and as few lines are in suspense as may be
+-- statement, and as few lines are in suspense as may be
 abbrev pub IsTellable : RowDocument → Tables → Type 0
 IsTellable (rows.Statement head) t = ArePiecesFor head t
-IsTellable (rows.List list) t = IsListNo list.list
-IsTellable (rows.Run run) t = IsRunNo run.run
+IsTellable (rows.List list) t = Unit {0}
+IsTellable (rows.Run run) t = Unit {0}
 IsTellable (rows.Suspense day) t = AreFewSuspended t
 
 -- so it is with what is found, where the tables are those of a lawful book

@@ -2,6 +2,7 @@
 use Rattle.std.specs.Prelude.{◌≡◌, ℕ, List, [], ◌∷◌, IsSome, true, filter, sum_by}
 use Rattle.std.specs.List.{AllByRecursion}
 use Rattle.std.specs.Option.{option_map_or}
+use Rattle.clear_money.specs.Calendar.{first_day}
 use Rattle.clear_values.specs.Keyed.{find_row, AreOnce}
 use Rattle.clear_values.specs.Tables.{claim_key, list_key}
 use Rattle.clear_values.specs.declared.rows.ClaimRow.{ClaimRow}
@@ -18,7 +19,7 @@ AreSince day claims =
 -- the day of a list, and 2000-01-01 where there is none of the number
 abbrev pub day_of_list : List ListRow → ℕ → ℕ
 day_of_list lists number =
-    option_map_or (λ list. list.day) (find_row list_key lists (number ∷ [])) 10957
+    option_map_or (λ list. list.day) (find_row list_key lists (number ∷ [])) first_day
 
 -- the number of each is one of a claim, and no number stands twice
 abbrev pub AreAmong : List ClaimRow → List ClaimRow → Type 0

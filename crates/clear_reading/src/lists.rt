@@ -1,6 +1,5 @@
 //! The document of a payout list, told outside of a transaction.
 ghost use Rattle.std.specs.Prelude.{◌≡◌, false};
-ghost use Rattle.clear_values.specs.Numbers.{IsListNo};
 ghost use Rattle.clear_reading.specs.Documents.{list_over};
 ghost use Rattle.clear_reading.specs.Reader.{TellsDocument};
 
@@ -10,15 +9,12 @@ use clear_ledger::claims::{Claims, read_listed};
 use clear_schema::fault::Fault;
 use clear_texts::payout::payout_text;
 use clear_texts::rows::{RowFault, RowSource};
-use clear_values::causes::StoreCause;
-use clear_values::numbers::ListNo;
 use clear_values::rows::{ClaimRow, ListRow};
 use sqlite::{Alter, Connection};
 use std::alloc::Global;
 
 /// The document of a payout list over the claims that the table holds, which are read one at a time.
-/// Nothing is changed. It takes as many steps as the list has claims. A list whose number none can
-/// have is refused with `Fault::Store(StoreCause::Row)`.
+/// Nothing is changed. It takes as many steps as the list has claims.
 pub fn tell_list<S: Alter>(
     alloc: Global,
     conn: &mut Connection<S>,
@@ -27,12 +23,9 @@ pub fn tell_list<S: Alter>(
     requires outside { conn.old.in_transaction ≡ false }
     ensures mode { conn.new.in_transaction ≡ false }
     ensures tells { TellsDocument S.Store conn.old conn.new (list_over list.now)
-        (λ t. IsListNo list.now.list) result }
+        (λ t. Unit {0}) result }
 {
-    let Some(number) = ListNo::new(u64::from(list.list)) else {
-        return Err(Fault::Store(StoreCause::Row));
-    };
-    let mut rows = read_listed(conn, number)?;
+    let mut rows = read_listed(conn, list.list)?;
     tell_rows(alloc, list, &mut rows)
 }
 

@@ -33,7 +33,7 @@ use sqlite::{Alter, Transaction};
 ///
 /// It takes one search for the last list, and reads each claim that was released on its day or later
 /// once: what was to be paid out before is on a list. What no book holds is refused with
-/// `Fault::Store(StoreCause::Row)`: besides a value out of its range, more lists than can be counted,
+/// `Fault::Store(StoreCause::Row)`: besides a value out of its range, more lists than can be numbered,
 /// and amounts whose sum is not below 2^64 cents.
 pub fn payout_view<S: Alter>(
     tx: &mut Transaction<'_, S>,
@@ -54,7 +54,7 @@ pub fn payout_view<S: Alter>(
         → IfErr result IsOfDisk }
     ensures leaves { Leaves S.Store tx.old.conn.now tx.new.conn.now result }
 {
-    let Some(next) = counts.lists.checked_add(1) else {
+    let Some(next) = ListNo::new(u64::from(counts.lists) + 1) else {
         return Err(Fault::Store(StoreCause::Row));
     };
     match ListNo::new(u64::from(counts.lists)) {
@@ -68,7 +68,7 @@ pub fn payout_view<S: Alter>(
 fn payable_after<S: Alter>(
     tx: &mut Transaction<'_, S>,
     last: ListNo,
-    next: u32,
+    next: ListNo,
 ) -> Result<PayoutView, Fault>
     ensures same_reference { tx.new.conn.ghost_name ≡ tx.old.conn.ghost_name }
     ensures claims { HasCleanDisk (state S.Store tx.new.conn.now)
@@ -93,7 +93,7 @@ fn payable_after<S: Alter>(
 fn payable_since<S: Alter>(
     tx: &mut Transaction<'_, S>,
     since: Day,
-    next: u32,
+    next: ListNo,
 ) -> Result<PayoutView, Fault>
     ensures same_reference { tx.new.conn.ghost_name ≡ tx.old.conn.ghost_name }
     ensures claims { HasCleanDisk (state S.Store tx.new.conn.now)
@@ -112,7 +112,7 @@ fn payable_since<S: Alter>(
 }
 
 // The view of the claims among these of which something is to be paid out.
-fn view_of(rows: Vec<ClaimRow>, next: u32) -> Result<PayoutView, Fault>
+fn view_of(rows: Vec<ClaimRow>, next: ListNo) -> Result<PayoutView, Fault>
     ensures view { IfOk result (IsViewOf rows.items next) }
     ensures fault { sum_by (λ row. paid_out row.state)
         (filter (λ row. is_payable row.state) rows.items) < 2 ^ 64 → IfErr result IsOfDisk }

@@ -8,7 +8,7 @@ ghost use Rattle.clear_book.specs.Book.{Book, rates_of};
 ghost use Rattle.clear_book.specs.Judge.{day_back};
 ghost use Rattle.clear_book.specs.Machine.{IsLawful};
 ghost use Rattle.clear_book.specs.Reminders.{as_last, last_among};
-ghost use Rattle.clear_book.specs.RowRanges.{AreInRange, IsReminderRow};
+ghost use Rattle.clear_book.specs.RowRanges.{AreInRange};
 ghost use Rattle.clear_book.specs.Tables.{Tables};
 ghost use Rattle.clear_book.specs.Workers.{employers_of};
 ghost use Rattle.clear_rules.specs.Views.RemindRun.{IsRemindView, firm_on_day, last_viewed};
@@ -43,7 +43,7 @@ use std::alloc::Global;
 /// each of its credits for interest once, its last reminder and the run of that, by a search each;
 /// of each firm it takes one step for each month that there is. What no book holds is refused with
 /// `Fault::Store(StoreCause::Row)`: a value out of its range, more contributions or credits than an
-/// account has, and more runs than can be counted; so is a day before the ledger day.
+/// account has, and more runs than can be numbered; so is a day before the ledger day.
 pub fn remind_view<S: Alter>(
     alloc: Global,
     tx: &mut Transaction<'_, S>,
@@ -65,7 +65,7 @@ pub fn remind_view<S: Alter>(
     if is_day_back(counts, day) {
         return Err(Fault::Store(StoreCause::Row));
     }
-    let Some(next) = counts.runs.checked_add(1) else {
+    let Some(next) = RunNo::new(u64::from(counts.runs) + 1) else {
         return Err(Fault::Store(StoreCause::Row));
     };
     let rates = rate_table(tx)?;
@@ -159,7 +159,6 @@ fn read_run<S: Alter>(
     tx: &mut Transaction<'_, S>,
     row: &ReminderRow,
 ) -> Result<Option<LastReminder>, Fault>
-    requires { IsReminderRow row.now }
     ensures same_reference { tx.new.conn.ghost_name ≡ tx.old.conn.ghost_name }
     ensures last { HasCleanDisk (state S.Store tx.new.conn.now)
         → (t : Tables) → HasTables t (state S.Store tx.old.conn.now).now
@@ -169,22 +168,11 @@ fn read_run<S: Alter>(
         → AreInRange t → IfErr result IsOfDisk }
     ensures leaves { Leaves S.Store tx.old.conn.now tx.new.conn.now result }
 {
-    match find_run(tx, run_of(row))? {
+    match find_run(tx, row.run)? {
         Some(run) => Ok(Some(LastReminder {
             level: row.level,
             day: run.day,
         })),
         None => Ok(None),
-    }
-}
-
-// The number of the run of a reminder.
-fn run_of(row: &ReminderRow) -> RunNo
-    requires { IsReminderRow row.now }
-    ensures { result ≡ row.now.run }
-{
-    match RunNo::new(u64::from(row.run)) {
-        Some(run) => run,
-        None => unreachable!(),
     }
 }

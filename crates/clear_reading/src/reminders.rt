@@ -1,6 +1,5 @@
 //! The document of a reminder run, told outside of a transaction.
 ghost use Rattle.std.specs.Prelude.{◌≡◌, false};
-ghost use Rattle.clear_values.specs.Numbers.{IsRunNo};
 ghost use Rattle.clear_reading.specs.Documents.{run_over};
 ghost use Rattle.clear_reading.specs.Reader.{TellsDocument};
 
@@ -10,15 +9,12 @@ use clear_ledger::reminders::{Reminders, read_reminders};
 use clear_schema::fault::Fault;
 use clear_texts::reminders::remind_text;
 use clear_texts::rows::{RowFault, RowSource};
-use clear_values::causes::StoreCause;
-use clear_values::numbers::RunNo;
 use clear_values::rows::{ReminderRow, RunRow};
 use sqlite::{Alter, Connection};
 use std::alloc::Global;
 
 /// The document of a reminder run over the reminders that the table holds, which are read one at a
-/// time. Nothing is changed. It takes as many steps as the run has reminders. A run whose number
-/// none can have is refused with `Fault::Store(StoreCause::Row)`.
+/// time. Nothing is changed. It takes as many steps as the run has reminders.
 pub fn tell_reminders<S: Alter>(
     alloc: Global,
     conn: &mut Connection<S>,
@@ -27,12 +23,9 @@ pub fn tell_reminders<S: Alter>(
     requires outside { conn.old.in_transaction ≡ false }
     ensures mode { conn.new.in_transaction ≡ false }
     ensures tells { TellsDocument S.Store conn.old conn.new (run_over run.now)
-        (λ t. IsRunNo run.now.run) result }
+        (λ t. Unit {0}) result }
 {
-    let Some(number) = RunNo::new(u64::from(run.run)) else {
-        return Err(Fault::Store(StoreCause::Row));
-    };
-    let mut rows = read_reminders(conn, number)?;
+    let mut rows = read_reminders(conn, run.run)?;
     tell_rows(alloc, run, &mut rows)
 }
 

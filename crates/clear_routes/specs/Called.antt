@@ -94,6 +94,7 @@ called_by (action.Do what) at caller day heading body = do
   Ok (Do caller number day told)
 called_by (action.Ask what) at caller day heading body = Ok (Ask caller day (query_for what at))
 
+-- what a request of this route calls for
 abbrev pub called_for : Route → Caller → ℕ → Heading → List ℕ → Result Call Part
 called_for route caller day heading body =
     called_by route.action route.parameters caller day heading body

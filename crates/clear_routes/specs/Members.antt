@@ -6,6 +6,7 @@ use Rattle.std.specs.Str.{is_utf8}
 use Rattle.serde_json.specs.Data.{Data, Items, no_items, item}
 use Rattle.serde_json.specs.Find.{get, as_object, as_array, as_number, as_u64, as_str}
 use Rattle.clear_money.specs.Bytes.{is_printable}
+use Rattle.clear_money.specs.Numbers.{most_amount, most_employer_no, most_worker_no}
 use Rattle.clear_money.specs.Options.{◌>>=◌}
 use Rattle.clear_money.specs.WrittenRate.{month_spelled}
 use Rattle.clear_book.specs.Limits.{most_name_bytes}
@@ -35,15 +36,15 @@ within low high n = where_so (nat_le low n && nat_le n high) n
 
 -- the number of a firm that the member is
 abbrev pub employer_at : List ℕ → Data → Option ℕ
-employer_at name d = number_at name d >>= within 1 99999999
+employer_at name d = number_at name d >>= within 1 most_employer_no
 
 -- the number of a worker that the member is
 abbrev pub worker_at : List ℕ → Data → Option ℕ
-worker_at name d = number_at name d >>= within 1 999999999
+worker_at name d = number_at name d >>= within 1 most_worker_no
 
 -- the cents of a payment or a claim that the member is
 abbrev pub amount_at : List ℕ → Data → Option ℕ
-amount_at name d = number_at name d >>= within 1 100000000000
+amount_at name d = number_at name d >>= within 1 most_amount
 
 -- the number from low to high that the member is
 abbrev pub within_at : ℕ → ℕ → List ℕ → Data → Option ℕ

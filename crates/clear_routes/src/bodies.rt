@@ -96,6 +96,7 @@ fn rate_row(
       entitlement_rate = entitlement;
     } }
 {
+    // No effect at run time: the proof reads the month's range from this call.
     let _number = first.number();
     let row = RateRow::new(
         first,

@@ -13,7 +13,6 @@ use clear_money::numbers::Amount;
 use clear_schema::fault::Fault;
 use clear_values::causes::StoreCause;
 use clear_values::lines::Purpose;
-use clear_values::numbers::ClaimNo;
 use clear_values::rows::{Change, ClaimRow, ClaimState, CreditRow, ReleasedClaim};
 use clear_values::texts::CreditReference;
 use sqlite::{Alter, Transaction};
@@ -131,11 +130,7 @@ fn add_set_off(
         Some(amount) => amount,
         None => return Err(Fault::Store(StoreCause::Row)),
     };
-    let number = match ClaimNo::new(u64::from(claim.claim)) {
-        Some(number) => number,
-        None => return Err(Fault::Store(StoreCause::Row)),
-    };
-    let reference = CreditReference::of_set_off(*credits.allocator(), number)?;
+    let reference = CreditReference::of_set_off(*credits.allocator(), claim.claim)?;
     let credit = CreditRow {
         employer: claim.employer,
         purpose,

@@ -13,8 +13,8 @@ use clear_money::rates::RateTable;
 
 /// The interest of all charges up to a day that no payment comes after, less all credits for
 /// interest, at least 0, in cents. None where the credits before one already come to more than
-/// `MAX_CREDITED`, as those of an account never do. It takes a walk along the rates, from the newest
-/// on, for each charge, and one step for each credit.
+/// `MAX_CREDITED`, as those of an account never do. It takes a search among the rates for each
+/// charge, and one step for each credit.
 pub fn interest_arrears(
     rates: &RateTable,
     charges: &WeighedCharges,

@@ -15,7 +15,7 @@ use clear_money::months::Month;
 use std::alloc::{AllocError, Global};
 
 /// The charges of a firm as they stand on a day that no payment comes after. For each charge it takes
-/// a search among the reports and a walk along the rates, from the newest on.
+/// a search among the reports and one among the rates.
 pub(crate) fn charge_states(
     alloc: Global,
     records: &StatementRecords,

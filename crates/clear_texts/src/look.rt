@@ -132,7 +132,7 @@ fn append_list_or_dash(
         ≡ string_bytes text.old ++ before.now ++ list_or_dash list) }
 {
     match list {
-        Some(list) => append_dated(text, before, list.list, list.day),
+        Some(list) => append_dated(text, before, list.list.number(), list.day),
         None => append_dash(text, before),
     }
 }
@@ -147,7 +147,7 @@ fn append_run_or_dash(
         ≡ string_bytes text.old ++ before.now ++ run_or_dash run) }
 {
     match run {
-        Some(run) => append_dated(text, before, run.run, run.day),
+        Some(run) => append_dated(text, before, run.run.number(), run.day),
         None => append_dash(text, before),
     }
 }

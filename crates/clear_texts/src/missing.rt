@@ -14,8 +14,7 @@ use std::alloc::{AllocError, Global};
 
 /// The months of a membership without a charge, which are those without a report, whose report was
 /// to be in before the day, rising. It takes a step for each month that there is, for each member
-/// month a walk along the rates, from the newest on, and for each that is overdue a search among the
-/// charges.
+/// month a search among the rates, and for each that is overdue one among the charges.
 pub fn missing_months(
     alloc: Global,
     member: &EmployerRow,

@@ -62,7 +62,7 @@ fn append_list(text: &mut String, list: &ListRow) -> Result<(), AllocError>
     ensures { IfOk result (λ _. string_bytes text.new
         ≡ string_bytes text.old ++ list_line list.now) }
 {
-    append_number(text, "payout ", u64::from(list.list))?;
+    append_number(text, "payout ", u64::from(list.list.number()))?;
     append_day(text, " ", list.day)?;
     text.push_str("\n")?;
     Ok(())
@@ -84,7 +84,7 @@ fn append_claim(text: &mut String, claim: &ClaimRow) -> Result<(), AllocError>
     ensures { IfOk result (λ _. string_bytes text.new
         ≡ string_bytes text.old ++ payout_line claim.now) }
 {
-    append_number(text, "claim ", u64::from(claim.claim))?;
+    append_number(text, "claim ", u64::from(claim.claim.number()))?;
     append_number(text, " employer ", u64::from(claim.employer.number()))?;
     append_number(text, " worker ", u64::from(claim.worker.number()))?;
     append_amount(text, " ", paid_cents(claim))?;

@@ -62,7 +62,7 @@ fn append_run_day(text: &mut String, run: &RunRow) -> Result<(), AllocError>
     ensures { IfOk result (λ _. string_bytes text.new
         ≡ string_bytes text.old ++ run_line run.now) }
 {
-    append_number(text, "reminders ", u64::from(run.run))?;
+    append_number(text, "reminders ", u64::from(run.run.number()))?;
     append_day(text, " ", run.day)?;
     text.push_str("\n")?;
     Ok(())

@@ -120,7 +120,7 @@ fn append_claim(text: &mut String, claim: &ClaimRow) -> Result<(), AllocError>
     ensures { IfOk result (λ _. string_bytes text.new
         ≡ string_bytes text.old ++ claim_line claim.now) }
 {
-    append_number(text, "claim ", u64::from(claim.claim))?;
+    append_number(text, "claim ", u64::from(claim.claim.number()))?;
     append_number(text, " employer ", u64::from(claim.employer.number()))?;
     append_state(text, &claim.state)?;
     append_amount(text, " ", claim.cents.cents())?;

@@ -1,6 +1,6 @@
 -- How much a book, a request and an account may hold.
 use Rattle.std.specs.Prelude.{ℕ}
-pub use Rattle.clear_money.specs.Limits.{most_base}
+pub use Rattle.clear_money.specs.Limits.{most_base, most_credits, most_weight}
 
 -- ---- judged by the rule on limits
 
@@ -32,10 +32,6 @@ most_records = 10000
 abbrev pub most_suspense : ℕ
 most_suspense = 100000
 
--- the credits of an employer for one purpose
-abbrev pub most_credits : ℕ
-most_credits = 100000
-
 -- ---- values of requests
 
 -- the number of a request
@@ -45,6 +41,14 @@ most_request_no = 999999999999999999
 -- the bytes of a name
 abbrev pub most_name_bytes : ℕ
 most_name_bytes = 60
+
+-- the bytes of a reference
+abbrev pub most_reference_bytes : ℕ
+most_reference_bytes = 35
+
+-- the bytes of a note
+abbrev pub most_note_bytes : ℕ
+most_note_bytes = 140
 
 -- ---- what follows for sums
 
@@ -60,10 +64,6 @@ most_credited = 10000000000000000
 -- each of 2,412 begun months
 abbrev pub most_interest : ℕ
 most_interest = 2894400000000000
-
--- the weight of a contribution, in cents: the greatest base, once for each of 2,412 begun months
-abbrev pub most_weight : ℕ
-most_weight = 12060000000000
 
 -- all that a worker has earned, in cents: one line of the greatest gross amount in each of 2,400
 -- months at each of 10,000 employers, at 100 percent

@@ -5,7 +5,7 @@ use Rattle.std.specs.Fmt.{decimal}
 use Rattle.std.specs.List.{list_all}
 use Rattle.std.specs.Str.{IsUtf8, is_utf8}
 pub use Rattle.clear_money.specs.Bytes.{is_printable, is_visible}
-use Rattle.clear_values.specs.Limits.{most_name_bytes}
+use Rattle.clear_values.specs.Limits.{most_name_bytes, most_note_bytes, most_reference_bytes}
 use Rattle.clear_values.specs.Numbers.{IsClaimNo}
 
 -- 1 to 60 bytes of UTF-8 without control characters
@@ -18,7 +18,8 @@ pub record IsName (bytes : List ℕ) : Type 0 where
 -- 1 to 35 visible bytes
 abbrev pub is_reference : List ℕ → Bool
 is_reference bytes =
-    nat_le 1 (length bytes) && nat_le (length bytes) 35 && list_all is_visible bytes
+    nat_le 1 (length bytes) && nat_le (length bytes) most_reference_bytes
+    && list_all is_visible bytes
 
 -- UTF-8 without control characters
 abbrev pub is_plain_text : List ℕ → Bool
@@ -26,7 +27,7 @@ is_plain_text bytes = is_utf8 bytes && list_all is_printable bytes
 
 -- at most 140 bytes of plain text
 abbrev pub is_note : List ℕ → Bool
-is_note bytes = nat_le (length bytes) 140 && is_plain_text bytes
+is_note bytes = nat_le (length bytes) most_note_bytes && is_plain_text bytes
 
 -- the reference of the set-offs of a claim
 abbrev pub set_off_reference : ℕ → List ℕ

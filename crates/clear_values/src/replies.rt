@@ -1,4 +1,5 @@
 //! What an accepted command is answered.
+use crate::numbers::{ClaimNo, ListNo, RunNo};
 
 /// What an accepted command is answered.
 #[derive(Clone, Copy)]
@@ -6,18 +7,33 @@ pub enum Reply {
     /// It is done, and there is nothing to tell.
     Done,
     /// The version of the month's report, and the month's contribution in cents.
-    Reported { version: u32, charge: u64 },
+    Reported {
+        version: u32,
+        charge: u64,
+    },
     /// How many lines of a bank file were new, and how many repeat an earlier one.
-    Imported { new: u64, repeats: u64 },
+    Imported {
+        new: u64,
+        repeats: u64,
+    },
     /// The number of the claim that was made.
-    Claimed { claim: u32 },
+    Claimed {
+        claim: ClaimNo,
+    },
     /// How the claim was settled.
     Released(Settlement),
     /// The number of the payout list, how many claims are on it, and what they pay out together, in
     /// cents.
-    Listed { list: u32, items: u64, total: u64 },
+    Listed {
+        list: ListNo,
+        items: u64,
+        total: u64,
+    },
     /// The number of the reminder run, and how many firms were reminded.
-    Reminded { run: u32, firms: u64 },
+    Reminded {
+        run: RunNo,
+        firms: u64,
+    },
 }
 
 /// How the cents of a claim are settled: first what the firm owes of contributions, then what it

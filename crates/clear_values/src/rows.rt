@@ -2,6 +2,7 @@
 ghost use Rattle.std.specs.Prelude.{◌≡◌};
 
 use crate::lines::{BankLine, Purpose};
+use crate::numbers::{ClaimNo, ListNo, RunNo};
 use crate::replies::{Reply, Settlement};
 use crate::texts::{CreditReference, Name, WageLines};
 use clear_money::days::Day;
@@ -113,8 +114,7 @@ pub struct PieceRow {
 /// A firm's claim for the holiday pay that it has advanced to a worker.
 #[derive(Clone, Copy)]
 pub struct ClaimRow {
-    /// Its number among all claims, 1 to 50,000,000.
-    pub claim: u32,
+    pub claim: ClaimNo,
     pub employer: EmployerNo,
     pub worker: WorkerNo,
     pub cents: Amount,
@@ -139,15 +139,14 @@ pub enum ClaimState {
 pub struct ReleasedClaim {
     pub day: Day,
     pub settlement: Settlement,
-    /// The number of the payout list that it is on, if it is on one.
-    pub list: Option<u32>,
+    /// The payout list that it is on, if it is on one.
+    pub list: Option<ListNo>,
 }
 
 /// A payout list.
 #[derive(Clone, Copy)]
 pub struct ListRow {
-    /// Its number, 1 to 50,000,000.
-    pub list: u32,
+    pub list: ListNo,
     /// The day on which it was made.
     pub day: Day,
     /// How many claims are on it, at least one.
@@ -159,8 +158,7 @@ pub struct ListRow {
 /// A reminder run.
 #[derive(Clone, Copy)]
 pub struct RunRow {
-    /// Its number, 1 to 50,000,000.
-    pub run: u32,
+    pub run: RunNo,
     /// The day on which it was made.
     pub day: Day,
     /// How many firms were reminded, at least one.
@@ -170,8 +168,7 @@ pub struct RunRow {
 /// A firm's reminder in a run.
 #[derive(Clone, Copy)]
 pub struct ReminderRow {
-    /// The number of its run.
-    pub run: u32,
+    pub run: RunNo,
     pub employer: EmployerNo,
     /// 1 to 3.
     pub level: u8,

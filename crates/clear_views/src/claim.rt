@@ -17,6 +17,7 @@ mod earned;
 use crate::member::find_member;
 use claimed::read_claimed;
 use clear_book::calls::HolidayClaim;
+use clear_book::numbers::ClaimNo;
 use clear_book::rules::StoreCause;
 use clear_rules::decide::claim::ClaimView;
 use clear_schema::counts::Counts;
@@ -31,7 +32,7 @@ use sqlite::{Alter, Transaction};
 /// It takes one search for the firm, reads the rates, and reads each line that the latest reports
 /// have of the worker and each claim for the worker once, whatever else the book holds. What no
 /// book holds is refused with `Fault::Store(StoreCause::Row)`: besides a value out of its range, more
-/// claims than can be counted, and amounts whose sum is not below 2^64 cents.
+/// claims than can be numbered, and amounts whose sum is not below 2^64 cents.
 pub fn claim_view<S: Alter>(
     tx: &mut Transaction<'_, S>,
     counts: &Counts,
@@ -48,7 +49,7 @@ pub fn claim_view<S: Alter>(
         → IfErr result IsOfDisk }
     ensures leaves { Leaves S.Store tx.old.conn.now tx.new.conn.now result }
 {
-    let Some(next) = counts.claims.checked_add(1) else {
+    let Some(next) = ClaimNo::new(u64::from(counts.claims) + 1) else {
         return Err(Fault::Store(StoreCause::Row));
     };
     let registered = find_member(tx, claim.employer)?.is_some();

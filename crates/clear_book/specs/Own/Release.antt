@@ -39,6 +39,7 @@ pub record Debts : Type 0 where
   pub interest : ℕ
   pub count : Purpose → ℕ
 
+-- what an employer owes on a day
 abbrev pub debts_of : Book → ℕ → ℕ → Debts
 debts_of b t e =
     record {

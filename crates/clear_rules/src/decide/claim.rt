@@ -8,6 +8,7 @@ ghost use Rattle.clear_rules.specs.Decisions.{Obeys, IsJudged, TakesTables};
 ghost use Rattle.clear_rules.specs.Views.Claim.{IsClaimView};
 
 use clear_book::calls::HolidayClaim;
+use clear_book::numbers::ClaimNo;
 use clear_book::outcomes::Reply;
 use clear_book::rows::{Change, ClaimRow, ClaimState, Decision};
 use clear_book::rules::Rule;
@@ -23,7 +24,7 @@ pub struct ClaimView {
     /// What of the worker's entitlement is still to be claimed, in cents.
     pub balance: u64,
     /// The number that the claim is to have: the one behind the last that was given.
-    pub next: u32,
+    pub next: ClaimNo,
 }
 
 /// Decides on a claim on the request's day: `UnknownEmployer`, `NotEmployed`, `OverBalance` with

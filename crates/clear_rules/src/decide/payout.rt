@@ -9,6 +9,7 @@ ghost use Rattle.clear_book.specs.Workers.{on_list, state_on};
 ghost use Rattle.clear_rules.specs.Decisions.{Refuses, IsJudged, TakesTables};
 ghost use Rattle.clear_rules.specs.Views.PayoutList.{IsPayoutView, Lists};
 
+use clear_book::numbers::ListNo;
 use clear_book::outcomes::Reply;
 use clear_book::rows::{Change, ClaimRow, ClaimState, Decision, ListRow, ReleasedClaim, Rows};
 use clear_book::rules::Rule;
@@ -23,7 +24,7 @@ pub struct PayoutView {
     /// What is paid out of them together, in cents.
     pub total: u64,
     /// The number that the list is to have.
-    pub next: u32,
+    pub next: ListNo,
 }
 
 /// Decides on a payout list: `NothingToPay` where nothing is to be paid out. `Memory` may stand in
@@ -65,7 +66,11 @@ pub fn decide_payout(alloc: Global, day: Day, view: &PayoutView) -> Result<Decis
 }
 
 // The rows of claims, each on the list where something of it is to be paid out.
-fn listed_rows(alloc: Global, list: u32, claims: &[ClaimRow]) -> Result<Vec<ClaimRow>, AllocError>
+fn listed_rows(
+    alloc: Global,
+    list: ListNo,
+    claims: &[ClaimRow],
+) -> Result<Vec<ClaimRow>, AllocError>
     ensures { IfOk result (λ rows. rows.items ≡ map (on_list list) claims.now) }
 {
     let mut rows = Vec::new(alloc);
@@ -76,7 +81,7 @@ fn listed_rows(alloc: Global, list: u32, claims: &[ClaimRow]) -> Result<Vec<Clai
 }
 
 // A claim, on the list where something of it is to be paid out.
-fn on_list(list: u32, claim: &ClaimRow) -> ClaimRow
+fn on_list(list: ListNo, claim: &ClaimRow) -> ClaimRow
     ensures { result ≡ on_list list claim.now }
 {
     ClaimRow {
@@ -86,7 +91,7 @@ fn on_list(list: u32, claim: &ClaimRow) -> ClaimRow
 }
 
 // How a claim stands, on the list where something of it is to be paid out.
-fn state_on(list: u32, state: ClaimState) -> ClaimState
+fn state_on(list: ListNo, state: ClaimState) -> ClaimState
     ensures { result ≡ state_on list state }
 {
     match state {
@@ -97,7 +102,7 @@ fn state_on(list: u32, state: ClaimState) -> ClaimState
 }
 
 // A release, on the list where something of it is to be paid out.
-fn release_on(list: u32, release: ReleasedClaim) -> ReleasedClaim
+fn release_on(list: ListNo, release: ReleasedClaim) -> ReleasedClaim
     ensures { Released result ≡ state_on list (Released release) }
 {
     if release.settlement.paid == 0 || release.list.is_some() {

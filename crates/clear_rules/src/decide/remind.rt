@@ -11,6 +11,7 @@ ghost use Rattle.clear_rules.specs.Decisions.{Refuses, IsJudged, TakesTables};
 ghost use Rattle.clear_rules.specs.Views.RemindRun.{IsRemindView, Reminds, firm_due};
 ghost use Rattle.clear_rules.specs.Views.RemindRun.{has_overdue, last_seen, rows_due};
 
+use clear_book::numbers::RunNo;
 use clear_book::outcomes::Reply;
 use clear_book::rows::{Change, Decision, ReminderRow, Rows, RunRow};
 use clear_book::rules::Rule;
@@ -50,7 +51,7 @@ pub struct RemindView {
     /// All firms, by their numbers.
     pub firms: Vec<OverdueFirm>,
     /// The number that the run is to have.
-    pub next: u32,
+    pub next: RunNo,
 }
 
 /// Decides on a reminder run on the request's day: `NothingToRemind` where no reminder is due.
@@ -93,7 +94,7 @@ pub fn decide_remind(alloc: Global, day: Day, view: &RemindView) -> Result<Decis
 // The reminders that a run on a day gives to these firms.
 fn due_rows(
     alloc: Global,
-    run: u32,
+    run: RunNo,
     day: Day,
     firms: &[OverdueFirm],
 ) -> Result<Vec<ReminderRow>, AllocError>
@@ -109,7 +110,7 @@ fn due_rows(
 }
 
 // The reminder to a firm in a run on a day, if one is due.
-fn firm_due(run: u32, day: Day, firm: &OverdueFirm) -> Option<ReminderRow>
+fn firm_due(run: RunNo, day: Day, firm: &OverdueFirm) -> Option<ReminderRow>
     ensures { result ≡ firm_due run day firm.now }
 {
     if !is_in_default(firm) {

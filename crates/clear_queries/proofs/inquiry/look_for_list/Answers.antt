@@ -9,7 +9,7 @@ use Rattle.clear_queries.proofs.inquiry.look_for_list.Goals as goal
 
 pub returns-in-Some-clause-told : goal.returns-in-Some-clause-told
 returns-in-Some-clause-told g c clean t has day = (
-  λ b lawful represents. (rw c.in-Some.is at c.in_ok-row.ensures.looks.good).list,
+  λ b lawful represents. tt,
   λ b lawful represents. list_found b t c.args.list represents.stands day c.in-Some.row (sym (rw c.in-Some.is at c.in_ok-row.ensures.looks.found clean t has)),
 )
 

@@ -9,7 +9,7 @@ use Rattle.clear_queries.proofs.inquiry.look_for_run.Goals as goal
 
 pub returns-in-Some-clause-told : goal.returns-in-Some-clause-told
 returns-in-Some-clause-told g c clean t has day = (
-  λ b lawful represents. (rw c.in-Some.is at c.in_ok-row.ensures.looks.good).run,
+  λ b lawful represents. tt,
   λ b lawful represents. run_found b t c.args.run represents.stands day c.in-Some.row (sym (rw c.in-Some.is at c.in_ok-row.ensures.looks.found clean t has)),
 )
 

@@ -7,5 +7,5 @@ use Rattle.clear_reading.proofs.lists.tell_list.Goals as goal
 
 pub returns-clause-tells : goal.returns-clause-tells
 returns-clause-tells g c =
-    tells_tables g.S.Store _ claim_shown c.args.conn.now c.in_ok-rows.rows.conn.now c.tell_rows.new.rows.conn.now _ _ _ _ _ c.tell_rows.result (search rules) (rw (c.in-Some.ensures.value, c.from.ensures) at c.in_ok-rows.ensures.begun) c.tell_rows.ensures.tells
-    (λ t ranges number. (all-filter IsClaimRow _ t.claims ranges.claims, tt))
+    tells_tables g.S.Store _ claim_shown c.args.conn.now c.in_ok-rows.rows.conn.now c.tell_rows.new.rows.conn.now _ _ _ _ _ c.tell_rows.result (search rules) c.in_ok-rows.ensures.begun c.tell_rows.ensures.tells
+    (λ t ranges right. (all-filter IsClaimRow _ t.claims ranges.claims, tt))

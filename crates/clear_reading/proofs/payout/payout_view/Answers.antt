@@ -1,5 +1,6 @@
 use Rattle.std.proofs.Common.{◌≡◌, ◌+◌, ℕ, ap, arith, subst, sym}
 use Rattle.std.proofs.lemmas.Result.{IfOk-weaker}
+use Rattle.clear_laws.proofs.NextLemmas.{next_list-in-range}
 use Rattle.clear_laws.proofs.RowRangeLemmas.{rows_in_range}
 use Rattle.clear_schema.specs.declared.counts.Counts.{Counts}
 use Rattle.clear_reading.specs.Payout.{AreSince}
@@ -8,15 +9,15 @@ use Rattle.clear_reading.proofs.payout.payout_view.Goals as goal
 
 pub returns-in_default-clause-fault : goal.returns-in_default-clause-fault
 returns-in_default-clause-fault g c clean t has same b lawful stands =
-    let few = (rows_in_range b t lawful stands).last_list in
     let given = ap (λ (x : Counts). x.lists) same in
-    absurd (c.in_default.ensures (omega (arith, given, few)))
+    let next = next_list-in-range b lawful in
+    absurd (cc (c.in_default.ensures.some.1 (omega arith, omega (arith, c.from.ensures, given, stands.last_list, next))))
 
 pub returns-in-Some-new-clause-view : goal.returns-in-Some-new-clause-view
 returns-in-Some-new-clause-view g c clean t has same b lawful stands =
     let given = ap (λ (x : Counts). x.lists) same in
-    let last : c.in-Some-new.last ≡ t.last_list = omega (arith, c.in-Some-new.ensures.value, c.from.ensures, given) in
-    let next : c.in-Some.next ≡ t.last_list + 1 = omega (arith, c.in-Some.ensures.1, given) in
+    let last : c.in-Some-new.last ≡ t.last_list = omega (arith, c.in-Some-new.ensures.value, c.from-2.ensures, given) in
+    let next : c.in-Some.next ≡ t.last_list + 1 = omega (arith, c.in-Some.ensures.value, c.from.ensures, given) in
     IfOk-weaker c.payable_after.result _ _ (payout_viewed b t lawful stands c.in-Some.next next) (c.payable_after.ensures.view clean t has (since_last b t lawful stands c.in-Some-new.last last))
 
 pub returns-in-Some-new-clause-fault : goal.returns-in-Some-new-clause-fault
@@ -26,7 +27,7 @@ returns-in-Some-new-clause-fault g c clean t has same b lawful stands =
 pub returns-in-None-clause-view : goal.returns-in-None-clause-view
 returns-in-None-clause-view g c clean t has same b lawful stands =
     let given = ap (λ (x : Counts). x.lists) same in
-    let next : c.in-Some.next ≡ t.last_list + 1 = omega (arith, c.in-Some.ensures.1, given) in
+    let next : c.in-Some.next ≡ t.last_list + 1 = omega (arith, c.in-Some.ensures.value, c.from.ensures, given) in
     IfOk-weaker c.payable_since.result _ _ (payout_viewed b t lawful stands c.in-Some.next next) (c.payable_since.ensures.view clean t has (subst (λ (day : ℕ). AreSince day t.claims) (sym c.first.ensures) (since_first_day b t lawful stands)))
 
 pub returns-in-None-clause-fault : goal.returns-in-None-clause-fault

@@ -1,6 +1,7 @@
 use Rattle.std.proofs.Common.{◌+◌, ◌∙◌, ℕ, ap, arith}
 use Rattle.std.proofs.lemmas.Result.{err_from_is_err_and}
 use Rattle.sqlite.specs.Held.{state}
+use Rattle.clear_laws.proofs.NextLemmas.{next_run-in-range}
 use Rattle.clear_laws.proofs.RowRangeLemmas.{rows_in_range}
 use Rattle.clear_schema.specs.declared.counts.Counts.{Counts}
 use Rattle.clear_debts.proofs.OwedLemmas.{day_free, day_refused}
@@ -13,9 +14,9 @@ returns-then-is_day_back-clause-fault g c clean t has same back b lawful stands 
 
 pub returns-in_default-clause-fault : goal.returns-in_default-clause-fault
 returns-in_default-clause-fault g c clean t has same back b lawful stands =
-    let few = (rows_in_range b t lawful stands.stands).last_run in
     let given = ap (λ (x : Counts). x.runs) same in
-    absurd (c.in_default.ensures (omega (arith, given, few)))
+    let next = next_run-in-range b lawful in
+    absurd (cc (c.in_default.ensures.some.1 (omega arith, omega (arith, c.from.ensures, given, stands.stands.last_run, next))))
 
 pub returns-in_err-rates-clause-fault : goal.returns-in_err-rates-clause-fault
 returns-in_err-rates-clause-fault g c clean t has same back b lawful stands =
@@ -35,5 +36,7 @@ returns-clause-view g c clean t has same b lawful stands =
     let back = day_free c.args.counts.now.day t.day c.args.day c.is_day_back.result (ap (λ (x : Counts). x.day) same) c.is_day_back.ensures c.if-is_day_back.false in
     record {
       firms_are = c.in_ok-firms.ensures.firms clean t has_one back b lawful stands (c.in_ok-rates.ensures.looks.found clean_one t has ∙ stands.stands.rates);
-      next_is = c.in-Some.ensures.1 ∙ ap (λ (n : ℕ). n + 1) (ap (λ (x : Counts). x.runs) same ∙ stands.stands.last_run);
+      next_is =
+          let given = ap (λ (x : Counts). x.runs) same in
+          omega (arith, c.in-Some.ensures.value, c.from.ensures, given, stands.stands.last_run);
     }

@@ -1,6 +1,7 @@
 use Rattle.std.proofs.Common.{ap, arith}
 use Rattle.std.proofs.lemmas.Result.{err_from_is_err_and}
 use Rattle.sqlite.specs.Held.{state}
+use Rattle.clear_laws.proofs.NextLemmas.{next_claim-in-range}
 use Rattle.clear_laws.proofs.RowRangeLemmas.{rows_in_range}
 use Rattle.clear_schema.specs.declared.counts.Counts.{Counts}
 use Rattle.clear_views.proofs.ClaimLemmas.{claim_viewed, claimed_below, earned_below}
@@ -9,9 +10,9 @@ use Rattle.clear_views.proofs.claim.claim_view.Goals as goal
 
 pub returns-in_default-clause-fault : goal.returns-in_default-clause-fault
 returns-in_default-clause-fault g c clean t has same b lawful stands =
-    let few = (rows_in_range b t lawful stands).last_claim in
     let given = ap (λ (x : Counts). x.claims) same in
-    absurd (c.in_default.ensures (omega (arith, given, few)))
+    let next = next_claim-in-range b lawful in
+    absurd (cc (c.in_default.ensures.some.1 (omega arith, omega (arith, c.from.ensures, given, stands.last_claim, next))))
 
 pub returns-in_err-find_member-clause-fault : goal.returns-in_err-find_member-clause-fault
 returns-in_err-find_member-clause-fault g c clean t has same b lawful stands =
@@ -55,4 +56,4 @@ returns-clause-view g c clean t has same b lawful stands =
     c.is_some-registered.ensures (c.in_ok-find_member.ensures.member clean_one t has)
     (c.in_ok-earned.ensures.employed clean_two t has_one) (c.in_ok-earned.ensures.entitlement clean_two t has_one)
     (c.in_ok-claimed.ensures.claimed clean t has_two) c.saturating_sub.ensures
-    (ap (λ (x : Counts). x.claims) same) c.in-Some.ensures.1
+    (ap (λ (x : Counts). x.claims) same) (omega (arith, c.in-Some.ensures.value, c.from.ensures))

@@ -2,7 +2,7 @@ use Rattle.std.proofs.Common.{◌≡◌, ◌<◌, List, length, sym, ap, ◌∙�
 use Rattle.std.specs.List.{All, sum_by}
 use Rattle.clear_account.specs.declared.settled.Share.{Share}
 use Rattle.clear_account.specs.Walk.{late_cents}
-use Rattle.clear_account.proofs.SettledLemmas.{ends_low, late_is, left_is, paid-le, paid-low, places_within, shares_are}
+use Rattle.clear_account.proofs.SettledLemmas.{ends_low, late_is, left_is, paid-le, paid-low, places_within}
 use Rattle.clear_account.proofs.settled.Walk.find_paid.Goals as goal
 
 pub overflow_add-end : goal.overflow_add-end
@@ -39,5 +39,4 @@ returns-clause-paid c =
           (c.weigh_shares.ensures
           ∙ ap (sum_by (late_cents c.args.credits.now c.index-charges-place.result.due)) c.as_slice-2.ensures.value
           ∙ late_is c.args.charges.now c.args.credits.now c.args.place c.args.self.now.charged c.index-charges-place.result c.in_ok-shares.shares.items c.requires.account c.requires.place c.index-charges-place.is c.requires.charged c.in_ok-shares.ensures.shares) i;
-      shares = shares_are c.args.charges.now c.args.credits.now c.args.place c.args.self.now.charged c.index-charges-place.result c.in_ok-shares.shares.items c.requires.account c.requires.place c.index-charges-place.is c.requires.charged c.in_ok-shares.ensures.shares i;
     })

@@ -7,7 +7,7 @@ use Rattle.clear_account.proofs.AccountLemmas.{All-read}
 use Rattle.clear_kept.specs.declared.rows.PlacedPiece.{PlacedPiece}
 use Rattle.clear_kept.specs.Dated.{placed}
 use Rattle.clear_kept.proofs.DatedLemmas.{placed_is, placed_serials, placed_within}
-use Rattle.clear_kept.proofs.dated.place_all.Goals as goal
+use Rattle.clear_kept.proofs.dated.place_pieces.Goals as goal
 
 pub find_serial-place-requires : goal.find_serial-place-requires
 find_serial-place-requires c = All-read (λ (p : Piece). HoldsSerial c.args.credits.now p.serial) c.args.pieces.now c.loop-piece.piece-index c.piece-item.result c.requires.held c.loop-piece-test.true c.piece-item.is

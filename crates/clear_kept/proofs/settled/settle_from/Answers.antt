@@ -4,7 +4,7 @@ use Rattle.std.proofs.lemmas.List.FromFn.{map-range_with_len_more}
 use Rattle.clear_account.proofs.AccountLemmas.{credited-le}
 use Rattle.clear_kept.specs.Weighed.{weighed_charge}
 use Rattle.clear_kept.proofs.WeighedLemmas.{drop-map-range}
-use Rattle.clear_kept.proofs.settled.settle_all.Goals as goal
+use Rattle.clear_kept.proofs.settled.settle_from.Goals as goal
 
 pub behind-walk-requires : goal.behind-walk-requires
 behind-walk-requires c = omega (arith, credited-le c.args.charges.now c.args.credits.now c.requires.account)

@@ -3,7 +3,7 @@ use Rattle.std.specs.List.{range_with_len}
 use Rattle.clear_account.specs.Account.{charged_up_to}
 use Rattle.clear_account.specs.Walk.{Stands}
 use Rattle.clear_kept.specs.Weighed.{weighed_charge}
-use Rattle.clear_kept.proofs.settled.settle_all.Given as goal
+use Rattle.clear_kept.proofs.settled.settle_from.Given as goal
 
 abbrev pub invariant-loop-place : goal.invariant-loop-place
 invariant-loop-place l = record {
