@@ -125,7 +125,9 @@ class Firms(BankFiles):
     def test_groups_and_telephones(self):
         none = ("St.-Nr. 60 123 4567", "60 123 4567", "+49 421 1001", "+49 (0)421 1001", "0049 421 1001",
                 "Tel. 0421 1001", "(0421) 1001", "Tel. (0421) 1001", "0421 / 1001", "Tel. 0421 / 1001", "030 1001",
-                "Tel.: +49 421/77-1001", "Fax 0049 421 75147 23. 2. 2025", "Telefon 0421/386392 / 7. 11. 2024")
+                "500,00 EUR +49 421 1001", "EUR 500 +49 421 1001", "500 EUR: +49 (421) 1001", "+49 (421) 1001",
+                ["500 EUR +", "49 421 1001"], "Tel.: +49 421/77-1001", "Fax 0049 421 75147 23. 2. 2025",
+                "Telefon 0421/386392 / 7. 11. 2024")
         known = ("SVWZ+1001 Mai", "+1001", "Beitrag 052024 1001", "Beitrag 0524 1001", "Tel. 0421/824025 (1001)",
                  "1001 Tel. 0421 77", "0524 / 500,00 EUR / 1001")
         self.finds_each((2, 11, 421, 1001, 4567), none, known)
@@ -140,11 +142,12 @@ class Firms(BankFiles):
     def test_dashes_and_parts(self):
         none = ("RE 2024–1001", "Tel. 0421–1001", "1001–24", "1001−24", ["1001", ",", "24 EUR"],
                 ["2024", "-", "1001"], "1001\n/\n2024", ["echnung vom 12.05.24 Nummer RE2024A", "1001 Danke"],
-                ["Bau Nord Rechnung RE2024A7B", "1001"], [*["10", "01"] * 150, "Betrieb 1001"],
+                ["Bau Nord Rechnung RE2024A7B", "1001"],
+                ["Beitrag R-", "1001 Mai"], ["Beitrag 1001-", "A"], [*["10", "01"] * 150, "Betrieb 1001"],
                 "Betrieb 1001" + 5_000 * ".")
         known = ("1001 – 05/2024", "Mai – 1001", ["Nummer RE2024A", "1001 Danke"],
                  ["Beiträge vom Mai in Betrieb", "1001"], ["Beitrag für Mai 2024, unser Betrieb", "1001"],
-                 ["Mai", "–", "1001"])
+                 ["Mai", "–", "1001"], ["Betrieb-", "Nr. 1001"], ["Nr. 1001-", "Nord"])
         self.finds_each((1001,), none, known)
 
     def test_numbers_behind_words_for_others(self):
@@ -157,7 +160,7 @@ class Firms(BankFiles):
                 "Postfach 1001", "PLZ 28195", "Rechnung No. 1001", "Rech.-Nr. 1001", "Invoice 1001", "INV-1001",
                 "Schlussrechnung 1001", "Order-Nr. 1001", "Bankleitzahl 1001", "Fon: 1001", "Rufnummer 1001",
                 "USt-IdNr. 1001", "Lohnsumme 1001", "Überweisungsbetrag 1001", "1.TAN 1001")
-        known = ("Rechnung 77, Betrieb 1001", "Rechnung vom 12.05.24 1001", "RE 77/24 1001", "1001 Rechnung 77",
+        known = ("Rechnung 77, Betrieb 1001", "RE 77/24 1001", "1001 Rechnung 77",
                  "1001, Re. 77", "Betrag 500,00 1001", "Rechnung 1001, Betrieb 1001", "Nr-1001", "1001-Nord",
                  "BG-Nr. 1001", "Mitgliedsnr. 1001", "Beitragskonto 1001", "Betriebskonto-Nr. 1001", "Firma 1001",
                  "Mai 2024 / 1001", "2024 / 1001", "1001 / 24. Mai", "1001 / 24/05/24", "1001 / 2024-05",
@@ -168,8 +171,57 @@ class Firms(BankFiles):
         self.finds_each((1001, 1003), ["Rechnung 1001, 1003", "Re 1001"], ["Rechnung 1001", "Rechnung-Nr. 1001"],
                         "--number-word", "Rechnung")
 
+    def test_numbers_in_the_books_of_the_payer(self):
+        none = ("Ref. 1001", "Kundenref.: 1001", "End-to-End-Ref.: 1001", "Referenz-Nr. 1001", "Mandatsref. 1001",
+                "BREF+1001 SVWZ+Mai", "Kreditor 1001", "Kred.-Nr. 1001", "Debitorenkonto 1001", "Lieferantennr. 1001",
+                "RNr. 77 / KNr. 1001", "Mandant 1001", "Berater 77, Mandant 1001", "Vertrag 1001", "Az. 1001",
+                "Unser Zeichen: 1001", "Kassenzeichen 1001", "Beitragsbescheid 1001", "Abrechnung 1001",
+                "Beitragsrechnung Nr. 1001", "Zahlungsavis 1001", "Lfd. Nr. 1001", "Projekt 1001", "Baustelle 1001",
+                "BV 1001", "Pers.-Nr. 1001", "Arbeitnehmer 1001", "Bruttolohn 1001", "Löhne brutto 1001", "1001 Std.",
+                "1001 Stunden", "1001 ,50 EUR", "Hauptstr. 5, 28195 Bremen", "Hauptstraße 5 28195 Bremen",
+                "Hauptstraße 5a, 28195 Bremen", "D 28195 Bremen", "Dauerauftrag 1001", "AN-Nr. 1001", "pushTAN 1001",
+                "Rest 1001", "Betrag von 1001", "Zahlung über 1001", "Rechnungsnr.77Kundennr.1001")
+        known = ("Betrieb 1001, Hauptstr. 5, 28195 Bremen", "Kreditor 77, Betrieb 1001", "1001, Ref. 77",
+                 "Baustelle Nord, 1001", "Beitragskonto 1001", "Urlaubskasse 1001", "Lohn Mai 1001",
+                 "Müller Bau e.K. 1001", "Bauverein e.V. 1001")
+        self.finds_each((28195, 1001), none, ())
+        self.finds_each((1001,), (), known)
+
+    def test_dates_behind_words_for_others(self):
+        none = ("Rechnung vom 12.05.24 1001", "Ihre Rg. v. 12.04.24, 1001", "RG V. 12.04. NR. 1001",
+                "Rechnung vom 12. April 2024 Nr. 1001", "Rechnung 12.4.24: 1001", "Rechnung 77 v. 12.4., 1001 v. 13.4.",
+                "Rechnung Nr. 77 vom 12.04.24 und 1001 vom 13.04.24", "Rechnung 77 (12.04.24) 1001",
+                "Re. 77 v. 12.4., 78 v. 13.4., 1001 v. 14.4.", "Kassenzeichen vom 12.4.24, 1001")
+        known = ("Beitrag vom 12.05.24 1001", "12.05.24, 1001", "Rechnung 77 vom 12.5.24, Betrieb 1001", "Mai 24, 1001",
+                 "Rechnung 77 vom 12.5.24 (1001)", "Betrieb 1001, Rechnung vom 12.5.24", "1001 vom 12.5.24, 77",
+                 "1001 vom 12.5.24, Rg. vom 11.5.24")
+        self.finds_each((1001,), none, known)
+        # With the word that the clerk names nothing changes.
+        self.finds_each((1001, 1003), ["Rechnung vom 12.5.24 1001"], ["Betrieb 1001 vom 12.5.24, 1003"],
+                        "--number-word", "Betrieb")
+
+    def test_the_form_of_a_company(self):
+        self.finds_each((1224, 1001), ("Bau AG 1224", "Bau AG 1001 / 24"), ("Bau AG 1001",))
+        self.finds("1224", "AG-Nr. 1224", table="iban,employer\n,1224\n")
+
+    def test_small_numbers(self):
+        none = ("9", "Monat 9", "9 Arbeiter", "9. Abschlag", "Anzahl 9", "Beitrag 500", "500", "12 Uhr", "5, 9")
+        for text in ("Nr. 9", "Betrieb 9", "Mitglieds-Nr. 9, Mai", "Firma 9, 12 Arbeiter"):
+            self.finds("9", text, table="iban,employer\n,9\n")
+        self.finds_each((9, 12, 500), none, ())
+
+    def test_what_is_paid(self):
+        """A number that is the sum itself, in whole euros."""
+        self.write("firms.csv", "iban,employer\n,1001\n,1500\n")
+        for amount, text, firm in (
+                ("1500.00", "Beitrag Mai 1500", ""), ("1500", "1500", ""), ("1500.01", "1500", "1500"),
+                ("1500.00", "Betrieb 1500", "1500"), ("1500.00", "Nr. 1500", "1500"), ("1500.00", "1001", "1001"),
+                ("1500.00", "1001, 1500", "")):
+            output, _ = self.made(one("0", amount, payment(amount, text, "", STRANGE, "F")))
+            self.assertEqual(output.split(",")[2], firm, (amount, text))
+
     def test_dates_without_points_and_quarters(self):
-        dates = (1224, 52024, 122024, 202405, 150524, 15052024, 20240515)
+        dates = (1224, 52024, 122024, 202405, 150524, 15052024, 20240515, 2405, 240515)
         none = (*map(str, dates), "SOKA 1224", "Beitrag 122024", "Q1 24", "Q1/24", "KW 24", "KW 12/24", "1. Quartal 24",
                 "IV. Quartal 24", "Quartal 1/24", "Rechnung Nr. 1224")
         known = ("Q1 24 1001", "1001 Q1", "1. Quartal 2024, 1001", "KW 24 1001", "KW 24/25 - 1001", "1001 KW 24",
@@ -211,7 +263,7 @@ class Firms(BankFiles):
 
     def test_other_tables(self):
         self.finds("99999999", "", NORD, table=f"\ufeffiban,employer\r\n\r\n{NORD}, 99999999 \r\n")
-        self.finds("7", "7", table=f'"iban","employer"\n{NORD},7\n{WEST},7\n')
+        self.finds("7", "Nr. 7", table=f'"iban","employer"\n{NORD},7\n{WEST},7\n')
         self.finds("", "7", table="iban,employer\n")
 
     def faulty(self, table, said):

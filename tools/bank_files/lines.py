@@ -232,7 +232,7 @@ class BankFile:
 
     def firm_of(self, payment: Payment) -> tuple[str, Found]:
         """The firm of all transactions of a payment; none where they have several, or aren't all known."""
-        found = {self.firms.firm_of(it.iban, it.texts) for it in payment.transactions}
+        found = {self.firms.firm_of(it.iban, it.texts, payment.money.amount) for it in payment.transactions}
         is_sure = payment.is_detailed and not any(it.is_return for it in payment.transactions)
         if not is_sure or len({firm for firm, _ in found}) != 1:
             return "", Found.NOT_FOUND
