@@ -1,4 +1,5 @@
--- What a store keeps of each account, beside what its other tables come to:
+-- What a store keeps of each account, beside what its other tables come to, and what its tables have, beside what the
+-- accepted requests say:
 --
 --     sqlite3 copy.db < examples/recompute.sql
 --
@@ -8,25 +9,109 @@
 -- releases, pieces beside contributions and payments, and what is open of a contribution, with its
 -- weight, beside the pieces. Of a claim the three parts of its release have to come to it, and a
 -- payout list has to have the claims that are on it, with their sum. Behind these, `requests` has what
--- the tables count and what the accepted requests come to, as where a part is of another book. `said`
+-- the tables count and what the accepted requests come to, as where a part is of another book, and
+-- `request` one that its caller may not send, or whose answer has a number that its kind doesn't use. `said`
 -- has what an accepted request says and no row has, or the other way round, `rates` an added block
--- that is missing, `wages` a latest report whose lines are others than those that were sent, and
--- `database` what SQLite itself finds wrong with the file.
+-- that is missing, `report` a version out of turn or with another contribution than that of its lines, and
+-- `wages` a latest report whose lines are others than those that were sent. `line` has what a bank file
+-- says of a line and no row has, or the other way round, `file` one that has more records than were
+-- answered, or fewer, and `serial` a serial out of turn. `run` has a run of another number of firms, `level`
+-- a reminder of another level than the last one leads to, `reminder` one of other figures than those of its
+-- day, `set-off` a release that set off something else than was in arrears on its day, `firm` a line whose
+-- firm isn't that of its file, and `database` what SQLite itself finds wrong with the file.
+
+-- Tables of this look alone, which the file doesn't get.
+DROP TABLE IF EXISTS temp.terms;
+DROP TABLE IF EXISTS temp.reported;
+DROP TABLE IF EXISTS temp.sent;
+DROP TABLE IF EXISTS temp.came;
+DROP TABLE IF EXISTS temp.paid;
+DROP TABLE IF EXISTS temp.ended;
+DROP TABLE IF EXISTS temp.stood;
+DROP TABLE IF EXISTS temp.owed;
+DROP TABLE IF EXISTS temp.payment;
+DROP TABLE IF EXISTS temp.figures;
+CREATE TEMP TABLE terms (
+  month INTEGER PRIMARY KEY, contribution INTEGER, interest INTEGER, reported_by INTEGER, due INTEGER);
+CREATE TEMP TABLE reported (employer INTEGER, month INTEGER, version INTEGER, cents INTEGER, day INTEGER, lines TEXT);
+CREATE TEMP TABLE sent (file INTEGER, day INTEGER, new INTEGER, place INTEGER, reference TEXT, said TEXT);
+CREATE TEMP TABLE came (reference TEXT, file INTEGER, day INTEGER, place INTEGER, serial INTEGER);
+CREATE TEMP TABLE paid (
+  employer INTEGER, purpose TEXT, day INTEGER, serial INTEGER, cents INTEGER, request TEXT, since INTEGER);
+CREATE TEMP TABLE ended (employer INTEGER, since INTEGER);
+CREATE TEMP TABLE stood (
+  id INTEGER PRIMARY KEY, run INTEGER, claim INTEGER, employer INTEGER, day INTEGER, known INTEGER);
+CREATE TEMP TABLE owed (id INTEGER, month INTEGER, cents INTEGER, till INTEGER);
+CREATE TEMP TABLE payment (id INTEGER, day INTEGER, is_last INTEGER, cents INTEGER, till INTEGER);
+CREATE TEMP TABLE figures (
+  run INTEGER, claim INTEGER, employer INTEGER, missing INTEGER, first INTEGER, arrears INTEGER, interest INTEGER);
+CREATE INDEX temp.reported_by_month ON reported (employer, month, version);
+CREATE INDEX temp.sent_by_reference ON sent (reference);
+CREATE INDEX temp.came_by_reference ON came (reference);
+CREATE INDEX temp.paid_by_employer ON paid (employer, purpose);
+CREATE INDEX temp.payment_by_id ON payment (id);
+
+-- Of each month its rates, and the days by which its report is to be in and its contribution is due, up to the month of
+-- the last request or some more: 365 times 30 days reach from 1970 to 2000, and all months but February have as many.
+INSERT INTO temp.terms WITH RECURSIVE
+  months(month) AS (SELECT min(first) FROM rates UNION ALL
+    SELECT month + 1 FROM months WHERE month < min(2399, (SELECT max(day) FROM requests) / 30 - 365))
+SELECT month, contribution, interest, strftime('%s', next || printf('%02d', report_day)) / 86400,
+  strftime('%s', next || printf('%02d', due_day)) / 86400
+FROM (SELECT month, printf('%d-%02d-', 2000 + (month + 1) / 12, (month + 1) % 12 + 1) AS next FROM months)
+JOIN rates ON first = (SELECT max(first) FROM rates WHERE first <= month);
+
+-- The accepted reports and corrections, each with the contribution that was answered, and its lines between blanks.
+INSERT INTO temp.reported
+SELECT employer, month, a, b, day, CASE WHEN said GLOB front || ' *' THEN substr(said, length(front) + 1) END
+FROM (
+  SELECT *, CASE a WHEN 1 THEN 'report ' ELSE 'correct ' END || employer
+    || printf(' %d-%02d', 2000 + month / 12, month % 12 + 1) || CASE a WHEN 1 THEN '' ELSE ' ' || (a - 1) END AS front
+  FROM (
+    SELECT a, b, day, said, CAST(rest AS INTEGER) AS employer,
+      substr(rest, instr(rest, ' ') + 1, 4) * 12 + substr(rest, instr(rest, ' ') + 6, 2) - 24001 AS month
+    FROM (SELECT a, b, day, said, substr(said, instr(said, ' ') + 1) AS rest
+      FROM (SELECT a, b, day, CAST(command AS TEXT) || ' ' AS said FROM requests WHERE kind = 2))));
+
+-- The records of the accepted bank files, each as a JSON array of six texts. No field of theirs has a byte below 0x20,
+-- so each line is a record, nor 0x7F, which stands for other bytes here. A line without quotes is taken apart at once,
+-- one with quotes field by field: `quoted` is what stood in quotes at the front of the next field, `rest` what comes
+-- behind.
+INSERT INTO temp.sent WITH RECURSIVE
+  record(file, day, new, place, text) AS (
+    SELECT number, day, a, line.key, line.value
+    FROM requests, json_each('[' || replace(json_quote(replace(replace(CAST(substr(command, 6) AS TEXT),
+      char(13), char(127)), char(10), char(127))), char(127), '","') || ']') AS line
+    -- The header is line 0.
+    WHERE kind = 3 AND line.key > 0 AND line.value <> ''),
+  field(file, day, new, place, said, quoted, rest) AS (
+    SELECT file, day, new, place,
+      CASE WHEN instr(text, '"') THEN '[]' ELSE '[' || replace(json_quote(text), ',', '","') || ']' END,
+      '', CASE WHEN instr(text, '"') THEN text END
+    FROM record
+    UNION ALL
+    SELECT file, day, new, place, json_insert(said, '$[#]', quoted || substr(rest, 1, instr(rest || ',', ',') - 1)),
+      '', CASE WHEN instr(rest, ',') THEN substr(rest, instr(rest, ',') + 1) END
+    FROM field WHERE substr(rest, 1, 1) <> '"'
+    UNION ALL
+    SELECT file, day, new, place, said,
+      replace(substr(behind.value, 1, instr(behind.value || '"', '"') - 1), char(127), '"'),
+      replace(substr(behind.value, instr(behind.value || '"', '"') + 1), char(127), '""')
+    FROM field, json_each(json_array(replace(substr(rest, 2), '""', char(127)))) AS behind
+    WHERE substr(rest, 1, 1) = '"')
+SELECT file, day, new, place, json_extract(said, '$[0]'),
+  CASE json_extract(said, '$[4]') WHEN '' THEN json_set(said, '$[4]', 'C') ELSE said END
+FROM field WHERE rest IS NULL;
 
 SELECT 'contribution', employer, printf('%d-%02d', 2000 + month / 12, month % 12 + 1),
   CASE WHEN sum(side) > 0 THEN 'kept' ELSE 'recomputed' END, date(due * 86400, 'unixepoch'), cents
 FROM (
   SELECT employer, month, due, cents, 1 AS side FROM charges
   UNION ALL
-  SELECT reported.employer, reported.month,
-    strftime('%s', printf('%d-%02d-%02d', 2000 + (reported.month + 1) / 12,
-      (reported.month + 1) % 12 + 1, rate.due_day)) / 86400,
+  SELECT employer, month, due,
     (coalesce((SELECT sum(line.gross) FROM wages AS line
-      WHERE line.employer = reported.employer AND line.month = reported.month), 0)
-      * rate.contribution + 5000) / 10000,
-    -1
-  FROM reports AS reported
-  LEFT JOIN rates AS rate ON rate.first = (SELECT max(first) FROM rates WHERE first <= reported.month))
+      WHERE line.employer = reports.employer AND line.month = reports.month), 0) * contribution + 5000) / 10000, -1
+  FROM reports LEFT JOIN terms USING (month))
 GROUP BY employer, month, due, cents HAVING sum(side) <> 0;
 
 SELECT 'payment', employer, date(day * 86400, 'unixepoch'),
@@ -82,7 +167,8 @@ FROM (
 GROUP BY employer, month, open, weight HAVING sum(side) <> 0;
 
 SELECT 'release', employer, no, 'kept', cents, to_contributions, to_interest, paid
-FROM claims WHERE CASE state WHEN 2 THEN cents ELSE 0 END <> to_contributions + to_interest + paid;
+FROM claims WHERE CASE state WHEN 2 THEN cents ELSE 0 END <> to_contributions + to_interest + paid
+  OR (state = 2) = (released IS NULL) OR state NOT BETWEEN 0 AND 2;
 
 SELECT 'list', no, date(max(day) * 86400, 'unixepoch'),
   CASE WHEN sum(side) > 0 THEN 'kept' ELSE 'recomputed' END, items, total
@@ -95,6 +181,8 @@ GROUP BY no, items, total HAVING sum(side) <> 0;
 WITH request AS (SELECT kind, a, b, CAST(substr(command, 1, 9) AS TEXT) AS verb FROM requests)
 SELECT 'requests', what, 'kept', kept, 'recomputed', recomputed FROM (
   SELECT 'requests' AS what, (SELECT entries FROM meta) AS kept, (SELECT count(*) FROM requests) AS recomputed
+  UNION ALL
+  SELECT 'schema', (SELECT group_concat(schema * one) FROM meta), '1'
   UNION ALL
   SELECT 'ledger day', (SELECT date(day * 86400, 'unixepoch') FROM meta),
     (SELECT date(max(day) * 86400, 'unixepoch') FROM requests)
@@ -131,8 +219,15 @@ SELECT 'requests', what, 'kept', kept, 'recomputed', recomputed FROM (
   SELECT 'reminders', count(*), (SELECT coalesce(sum(b), 0) FROM request WHERE kind = 7) FROM reminders)
 WHERE kept IS NOT recomputed;
 
--- What an accepted request says of itself, with its answer, beside the row that it made: claims, releases with their three
--- parts, withdrawals, lists and runs, each with its day, firms, ends, and the lines that were given to firms.
+-- A firm sends for itself alone, and what a kind of answer doesn't use is 0.
+SELECT 'request', caller, number, said
+FROM (SELECT *, CAST(substr(command, 1, 60) AS TEXT) AS said FROM requests)
+WHERE caller <> 0
+    AND substr(said, 1, instr(said || ' ', ' ' || caller || ' ') - 1) NOT IN ('report', 'correct', 'claim', 'withdraw')
+  OR kind NOT BETWEEN 1 AND 7 OR a <> 0 AND kind = 1 OR b <> 0 AND kind IN (1, 4) OR c <> 0 AND kind NOT IN (5, 6);
+
+-- What an accepted request says of itself, with its answer, beside the row that it made: claims, releases with their
+-- three parts, withdrawals, lists and runs, each with its day, firms, ends, and the lines that were given to firms.
 SELECT 'said', CASE WHEN sum(side) > 0 THEN 'kept' ELSE 'requested' END, said, date(day * 86400, 'unixepoch')
 FROM (
   SELECT 'claim ' || employer || ' ' || worker || ' ' || cents || ': ' || no AS said, made AS day, 1 AS side FROM claims
@@ -169,20 +264,189 @@ EXCEPT
 SELECT 'rates', 'requested', 'rate ' || printf('%d-%02d', 2000 + first / 12, first % 12 + 1) || ' ' || contribution
   || ' ' || report_day || ' ' || due_day || ' ' || interest || ' ' || entitlement FROM rates;
 
+-- The versions of a report count from 1, and each has the contribution of its lines.
+SELECT 'report', employer, printf('%d-%02d', 2000 + month / 12, month % 12 + 1), version, 'answered', cents,
+  'recomputed', wanted
+FROM (
+  SELECT reported.*, row_number() OVER turn AS turn, lag(day) OVER turn AS last_day, (contribution * (
+      -- (of each line the worker, then the gross amount)
+      SELECT coalesce(sum(CAST(value AS INTEGER)), 0) FROM json_each('[' || replace(replace(json_quote(trim(lines)),
+        ':', '","'), ' ', '","') || ']') WHERE key % 2 = 1) + 5000) / 10000 AS wanted
+  FROM reported LEFT JOIN terms USING (month)
+  WINDOW turn AS (PARTITION BY employer, month ORDER BY version))
+WHERE version <> turn OR day < last_day OR cents IS NOT wanted OR lines IS NULL;
+
 -- The lines of each latest report.
-WITH report AS (
-  SELECT CAST(rest AS INTEGER) AS employer, substr(rest, instr(rest, ' ') + 1, 7) AS month, a AS version,
-    rest || ' ' AS said
-  FROM (SELECT a, substr(CAST(command AS TEXT), instr(CAST(command AS TEXT), ' ') + 1) AS rest
-    FROM requests WHERE kind = 2))
-SELECT 'wages', kept.employer, printf('%d-%02d', 2000 + kept.month / 12, kept.month % 12 + 1)
-FROM reports AS kept
-LEFT JOIN report ON report.employer = kept.employer AND report.version = kept.version
-  AND report.month = printf('%d-%02d', 2000 + kept.month / 12, kept.month % 12 + 1)
-LEFT JOIN wages AS line ON line.employer = kept.employer AND line.month = kept.month
-GROUP BY kept.employer, kept.month
-HAVING count(line.worker) IS NOT length(said) - length(replace(said, ':', ''))
-  OR sum(instr(said, ' ' || line.worker || ':' || line.gross || ' ') = 0) > 0;
+SELECT 'wages', employer, printf('%d-%02d', 2000 + month / 12, month % 12 + 1)
+FROM reports LEFT JOIN reported USING (employer, month, version) LEFT JOIN wages USING (employer, month)
+GROUP BY employer, month
+HAVING count(worker) IS NOT length(lines) - length(replace(lines, ':', ''))
+  OR sum(instr(lines, ' ' || worker || ':' || gross || ' ') = 0) > 0
+UNION
+SELECT 'wages', employer, printf('%d-%02d', 2000 + month / 12, month % 12 + 1)
+FROM wages LEFT JOIN reports USING (employer, month) WHERE version IS NULL;
+
+-- What the bank files say of each line.
+SELECT 'line', CASE WHEN sum(side) > 0 THEN 'kept' ELSE 'sent' END, said
+FROM (
+  SELECT json_array(reference, date(value * 86400, 'unixepoch'), coalesce(named, '') || '', cents || '', purpose, note)
+    AS said, 1 AS side FROM bank
+  UNION ALL
+  SELECT DISTINCT said, -1 FROM sent)
+GROUP BY said HAVING sum(side) <> 0;
+
+-- Of the lines of a file the new ones have the last serials.
+INSERT INTO temp.came
+SELECT reference, file, day, place, serial
+FROM (
+  SELECT file, day, new, min(place) AS place, reference, serial,
+    row_number() OVER (PARTITION BY file ORDER BY serial DESC) AS back
+  FROM sent JOIN bank USING (reference) GROUP BY file, reference)
+WHERE back <= new;
+
+-- Each record of a file is a new line or a repeat.
+SELECT 'file', number, date(requests.day * 86400, 'unixepoch'), 'answered', a + b, 'recomputed', count(place)
+FROM requests LEFT JOIN sent ON file = number
+WHERE kind = 3 GROUP BY caller, number HAVING count(place) <> a + b;
+
+-- They follow each other in the order of their records.
+SELECT 'serial', reference, 'kept', serial, 'recomputed', wanted
+FROM (
+  SELECT reference, serial,
+    min(serial) OVER (PARTITION BY file) - 1 + row_number() OVER (PARTITION BY file ORDER BY place) AS wanted
+  FROM came)
+WHERE serial <> wanted;
+
+-- Each line and each release has a serial of its own, and the serials rise with the days of the requests.
+SELECT 'serial', what, 'kept', serial
+FROM (
+  SELECT what, serial, day, lag(serial) OVER turn AS last_serial, lag(day) OVER turn AS last_day,
+    count(*) OVER (PARTITION BY what) AS times
+  FROM (
+    SELECT reference AS what, serial, day FROM came
+    UNION
+    SELECT ref, serial, day FROM credits WHERE ref LIKE 'set-off %')
+  WINDOW turn AS (ORDER BY serial))
+WHERE serial = last_serial OR day < last_day OR times > 1 OR serial NOT BETWEEN 1 AND (SELECT serial FROM meta);
+
+-- A line that names a firm has it by its file where the firm was registered before, and where it was registered on a
+-- later day, by an assignment alone.
+WITH firm AS MATERIALIZED (
+  SELECT CAST(substr(said, 10) AS INTEGER) AS named, day AS since
+  FROM (SELECT day, CAST(command AS TEXT) AS said FROM requests WHERE kind = 1) WHERE said LIKE 'employer %')
+SELECT 'firm', reference, 'kept', employer, 'named', named
+FROM bank JOIN came USING (reference) JOIN firm USING (named)
+WHERE since < day AND employer IS NOT named OR since > day AND employer = named
+  AND 'assign ' || reference || ' ' || employer NOT IN (SELECT CAST(command AS TEXT) FROM requests WHERE kind = 1);
+
+SELECT 'run', no, 'kept', firms, 'recomputed', count(run)
+FROM runs LEFT JOIN reminders ON run = no GROUP BY no HAVING firms <> count(run);
+
+-- The level goes by the firm's last reminder, and there is a first missing month just where one is missing.
+SELECT 'level', employer, run, 'kept', level, 'recomputed', wanted
+FROM (
+  SELECT reminders.*, CASE WHEN day - lag(day) OVER turn < 14 THEN 0
+    WHEN day - lag(day) OVER turn <= 60 THEN min(lag(level) OVER turn + 1, 3) ELSE 1 END AS wanted
+  FROM reminders LEFT JOIN runs ON no = run
+  WINDOW turn AS (PARTITION BY employer ORDER BY run))
+WHERE level <> wanted OR (missing = 0) <> (first IS NULL) OR missing + arrears + interest = 0;
+
+-- The request by which each payment came to its firm, and its day: a file, an assignment or a release.
+WITH given AS MATERIALIZED (
+  SELECT day, substr(said, 8) AS said, CAST(substr(said, 8, instr(substr(said, 8), ' ') - 1) AS TEXT) AS ref
+  FROM (SELECT day, CAST(command AS TEXT) AS said FROM requests WHERE kind = 1) WHERE said LIKE 'assign %')
+INSERT INTO temp.paid
+SELECT employer, purpose, credits.day, credits.serial, cents, coalesce(said, file, credits.serial),
+  coalesce(given.day, came.day, credits.day)
+FROM credits LEFT JOIN came ON reference = ref LEFT JOIN given USING (ref);
+
+INSERT INTO temp.ended
+SELECT CAST(substr(said, 5) AS INTEGER), day
+FROM (SELECT day, CAST(command AS TEXT) AS said FROM requests WHERE kind = 1) WHERE said LIKE 'end %';
+
+-- What was known of each firm that was reminded, or whose claim was released: what was accepted on the days before and,
+-- where one request of the run's own day changed something of the firm, perhaps that too. The order within a day stands
+-- nowhere, so what several such requests leave open, or one on the day of a release, isn't looked at.
+WITH
+changed AS (
+  SELECT employer, day, count(*) AS changes
+  FROM (
+    SELECT employer, day FROM reported
+    UNION ALL
+    SELECT employer, since FROM (SELECT DISTINCT employer, since, request FROM paid)
+    UNION ALL
+    SELECT employer, since FROM ended)
+  GROUP BY employer, day),
+asked AS (
+  SELECT run, NULL AS claim, employer, day, coalesce(changes, 0) AS changes
+  FROM reminders JOIN runs ON no = run LEFT JOIN changed USING (employer, day)
+  UNION ALL
+  -- (what the release itself sets off is one of the changes)
+  SELECT NULL, no, claims.employer, released, coalesce(changes, 0) - (to_contributions + to_interest > 0)
+  FROM claims LEFT JOIN changed ON changed.employer = claims.employer AND day = released WHERE state = 2)
+INSERT INTO temp.stood (run, claim, employer, day, known)
+SELECT run, claim, employer, day, day - 1 FROM asked WHERE changes = 0 OR changes = 1 AND claim IS NULL
+UNION ALL
+SELECT run, claim, employer, day, day FROM asked WHERE changes = 1 AND claim IS NULL;
+
+-- Its contributions and its payments, each with the sum up to it. What is open is as if it were paid by a last payment
+-- on the day of the run, which is as large as need be.
+INSERT INTO temp.owed
+SELECT id, month, cents, sum(cents) OVER (PARTITION BY id ORDER BY month)
+FROM (
+  SELECT id, month, cents, max(version) FROM stood JOIN reported USING (employer)
+  WHERE reported.day <= known GROUP BY id, month)
+WHERE cents > 0;
+
+INSERT INTO temp.payment
+SELECT id, day, is_last, cents, sum(cents) OVER (PARTITION BY id ORDER BY is_last, day, serial)
+FROM (
+  SELECT id, paid.day, 0 AS is_last, serial, cents FROM stood JOIN paid USING (employer)
+  WHERE purpose = 'C' AND since <= known
+  UNION ALL
+  SELECT id, day, 1, 0, 1000000000000000 FROM stood);
+
+WITH
+missed AS (
+  SELECT id, count(*) AS missing, min(month) AS first
+  FROM stood JOIN employers ON no = employer
+  LEFT JOIN ended USING (employer)
+  JOIN terms ON month BETWEEN start AND CASE WHEN since <= known THEN last ELSE month END AND reported_by < stood.day
+  WHERE NOT EXISTS (SELECT * FROM reported
+    WHERE reported.employer = stood.employer AND reported.month = terms.month AND reported.day <= known)
+  GROUP BY id),
+-- What was paid, or is open, behind the due day.
+late AS (
+  SELECT owed.id, month, due, interest, day, is_last,
+    min(owed.till, payment.till) - max(owed.till - owed.cents, payment.till - payment.cents) AS cents
+  FROM owed JOIN terms USING (month) JOIN payment ON payment.id = owed.id AND day > due
+    AND payment.till > owed.till - owed.cents AND owed.till > payment.till - payment.cents),
+borne AS (
+  SELECT id, sum(cents * is_last) AS arrears, sum(cents * (
+    12 * (strftime('%Y', day * 86400, 'unixepoch') - strftime('%Y', due * 86400, 'unixepoch'))
+    + strftime('%m', day * 86400, 'unixepoch') - strftime('%m', due * 86400, 'unixepoch')
+    + (strftime('%d', day * 86400, 'unixepoch') > strftime('%d', due * 86400, 'unixepoch')))) * interest / 10000
+    AS interest
+  FROM late GROUP BY id, month)
+INSERT INTO temp.figures
+SELECT run, claim, employer, coalesce(missing, 0), first, coalesce(sum(arrears), 0),
+  max(0, coalesce(sum(interest), 0) - coalesce((SELECT sum(cents) FROM paid
+    WHERE paid.employer = stood.employer AND purpose = 'I' AND since <= known), 0))
+FROM stood LEFT JOIN missed USING (id) LEFT JOIN borne USING (id)
+GROUP BY id;
+
+SELECT 'reminder', kept.employer, kept.run, 'kept', kept.missing, kept.first, kept.arrears, kept.interest,
+  'recomputed', figures.missing, figures.first, figures.arrears, figures.interest
+FROM reminders AS kept JOIN figures USING (run, employer)
+GROUP BY run, employer
+HAVING max((kept.missing, kept.first, kept.arrears, kept.interest)
+  IS (figures.missing, figures.first, figures.arrears, figures.interest)) = 0;
+
+-- A release sets off what is in arrears, first of contributions, and there is none while a month is missing.
+SELECT 'set-off', claims.employer, no, 'kept', to_contributions, to_interest, 'recomputed', min(cents, arrears),
+  min(cents - min(cents, arrears), interest), first
+FROM claims JOIN figures ON claim = no
+WHERE to_contributions <> min(cents, arrears) OR to_interest <> min(cents - to_contributions, interest) OR missing > 0;
 
 -- What the store says of itself as a database, as where an index is of another book than its table.
 SELECT 'database', integrity_check FROM pragma_integrity_check WHERE integrity_check <> 'ok';

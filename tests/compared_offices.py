@@ -6,6 +6,7 @@ import sqlite3
 from machine_answers import answer_to
 from machine_tables import tables_of
 from machine_values import day_text, month_text
+from office_under_test import recomputed
 from program_under_test import ProgramUnderTest
 
 RATE_NAMES = ("contribution", "report_day", "due_day", "interest", "entitlement")
@@ -70,6 +71,7 @@ class ComparedOffices(ProgramUnderTest):
                 found = connection.execute(f"SELECT * FROM {table}").fetchall()
                 self.assertEqual(sorted(map(comparable, found)), sorted(map(comparable, rows)))
         connection.close()
+        self.assertEqual(recomputed(self.folder / store), [])
 
 
 def comparable(row):
