@@ -22,6 +22,7 @@ KEY = re.compile(r"[!-~]{1,64}")
 # The first line of a document.
 TITLE = re.compile(r"[a-z]+( [0-9-]+)+")
 AGAIN = "run the same command again: nothing is done twice"
+BROKEN_OFF = f"broken off; to go on, {AGAIN}"
 # The members of what else an office answers: of a refusal, and of each reply.
 REFUSAL = {"detail", "name", "rule"}
 REPLIES = (
@@ -205,15 +206,23 @@ def run(script):
     if sys.stdout is not None:
         sys.stdout.reconfigure(errors="replace")
     try:
-        sys.exit(script())
+        status = script()
+        if sys.stdout is not None:
+            sys.stdout.flush()
     except Fault as fault:
         print(fault, file=sys.stderr)
         if fault.status == 3:
             print(f"when the office answers, {AGAIN}", file=sys.stderr)
-        sys.exit(fault.status)
+        status = fault.status
     except KeyboardInterrupt:
-        print(f"broken off; to go on, {AGAIN}", file=sys.stderr)
-        sys.exit(130)
+        print(BROKEN_OFF, file=sys.stderr)
+        status = 130
     except OSError as why:
         print(why, file=sys.stderr)
-        sys.exit(2)
+        # Without a name it is a write that failed: on a disk that is full, or to `head`, which has read enough.
+        if why.filename is None:
+            print(BROKEN_OFF, file=sys.stderr)
+            # What is left to print would fail once more.
+            sys.stdout = None
+        status = 2
+    sys.exit(status)

@@ -5,6 +5,7 @@
 PROGRAM is crates/clear_app/out/clear_app where it isn't given, as `rt ci` leaves it.
 """
 
+import os
 import signal
 import socket
 import subprocess
@@ -12,7 +13,8 @@ import sys
 
 # No __pycache__ is left beside the sources.
 sys.dont_write_bytecode = True
-from examples import AGAIN, CSV_HEADER, JANUARY, NO_LINES, REGISTRATION_LINE, REPORT_LINE, Scripts  # noqa: E402
+from examples import (AGAIN, BROKEN_OFF, CSV_HEADER, JANUARY, NO_LINES, REGISTRATION_LINE, REPORT_LINE,  # noqa: E402
+                      Scripts)
 from program import REGISTRATION  # noqa: E402
 from program_under_test import run_tests  # noqa: E402
 
@@ -35,7 +37,6 @@ class BrokenOff(Scripts):
 
     def test_control_c(self):
         """It is told without a trace of the program, with what is to be done."""
-        said = "broken off; to go on, run the same command again: nothing is done twice\n"
         for name, words, told in (("month_end", ["april", 2, 1001], ""), ("reports_from_csv", [1, "wages.csv"], ""),
                                   ("answer_log", ["batch", "log"], "sent: 0, skipped: 0, refused: 0, left: 2\n")):
             with socket.create_server(("127.0.0.1", 0)) as silent:
@@ -47,8 +48,24 @@ class BrokenOff(Scripts):
                 with running, silent.accept()[0] as peer:
                     peer.recv(1)
                     running.send_signal(signal.SIGINT)
-                    self.assertEqual(running.communicate(timeout=60), (told, said))
+                    self.assertEqual(running.communicate(timeout=60), (told, BROKEN_OFF))
                 self.assertEqual(running.returncode, 130)
+
+    def test_what_cannot_be_printed(self):
+        """To `head`, which has read enough, or on a disk that is full."""
+        self.open_office()
+        self.ask_desk(REGISTRATION)
+        reader, closed = os.pipe()
+        os.close(reader)
+        full = os.open("/dev/full", os.O_WRONLY)
+        for stream in (closed, full):
+            self.addCleanup(os.close, stream)
+        for name, words in (("month_end", ["april", 2, 1001]), ("reports_from_csv", [4, "wages.csv"]),
+                            ("answer_log", ["batch", "log"])):
+            for stream, why in ((closed, "[Errno 32] Broken pipe"), (full, "[Errno 28] No space left on device")):
+                ran = subprocess.run(self.command(name, *words), cwd=self.folder, stdout=stream,
+                                     stderr=subprocess.PIPE, timeout=60)
+                self.assertEqual((ran.returncode, ran.stderr.decode()), (2, f"{why}\n{BROKEN_OFF}"), name)
 
     def test_a_number_of_a_month_end_that_is_taken(self):
         """The run is made, and it is told that the list isn't."""

@@ -34,6 +34,7 @@ JANUARY = CSV_HEADER + "1001,2024-01,7,1000000\n"
 NO_LINES = "no lines; a month in which nobody worked is reported by hand (docs/clerk.md, section 3)"
 # Where no office answers.
 AGAIN = "when the office answers, run the same command again: nothing is done twice\n"
+BROKEN_OFF = "broken off; to go on, run the same command again: nothing is done twice\n"
 REGISTRATION_LINE = 'POST /employers 1 {"employer":1001,"name":"Bau Nord","start":"2024-01"}\n'
 REPORT_LINE = 'POST /employers/1001/reports/2024-02 2 {"lines":[{"gross":100,"worker":8}]}\n'
 
@@ -365,7 +366,7 @@ class MonthEnd(Scripts):
         words = self.command("month_end", "april", 2, "1001")
         ran = subprocess.run(words, cwd=self.folder, capture_output=True, timeout=60, check=False,
                              preexec_fn=lambda: resource.setrlimit(resource.RLIMIT_FSIZE, (10, 10)))
-        self.assertEqual((ran.returncode, ran.stderr), (2, b"[Errno 27] File too large\n"))
+        self.assertEqual((ran.returncode, ran.stderr.decode()), (2, f"[Errno 27] File too large\n{BROKEN_OFF}"))
         self.assertEqual(statement.read_text(), before)
         self.assertEqual([it.name for it in (self.folder / "april").iterdir() if it.suffix != ".txt"], [])
 

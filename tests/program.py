@@ -60,6 +60,12 @@ JANUARY = post("/employers/1001/reports/2024-01", 1, '{"lines":[{"gross":1000000
 FEBRUARY = post("/employers/1001/reports/2024-02", 2, '{"lines":[{"gross":500050,"worker":7}]}', "k1001")
 
 
+def no_room():
+    """No file takes a byte behind its first 4,096."""
+    signal.signal(signal.SIGXFSZ, signal.SIG_IGN)
+    resource.setrlimit(resource.RLIMIT_FSIZE, (4_096, 4_096))
+
+
 class Program(ProgramUnderTest):
     """The folder has a bank file too."""
 
@@ -408,12 +414,6 @@ class Serve(Program):
 
     def test_a_fault_of_the_store(self):
         self.init()
-
-        def no_room():
-            """No file takes a byte behind its first 4,096."""
-            signal.signal(signal.SIGXFSZ, signal.SIG_IGN)
-            resource.setrlimit(resource.RLIMIT_FSIZE, (4_096, 4_096))
-
         server = self.serving(2, preexec_fn=no_room)
         head = b"HTTP/1.1 500 Internal Server Error\r\nContent-Type: application/json\r\nContent-Length: "
         close = b"\r\nConnection: close\r\n\r\n"
@@ -423,6 +423,20 @@ class Serve(Program):
         self.assertEqual(self.send(server, REGISTRATION + JANUARY), failing)
         self.assertEqual(self.send(server, JANUARY), failed)
         # It is told once, when it happens.
+        self.assertEqual(self.ended(server), (0, "served 2\n", "rule 41 Store\n"))
+        again = self.serving(1)
+        self.assertIn(b'{"done":true}', self.send(again, REGISTRATION))
+        self.assertEqual(self.ended(again), (0, "served 1\n", ""))
+
+    def test_what_was_done_before_a_fault(self):
+        """A failed office answers 42 to it as to all else; once it is started anew, it has its reply."""
+        self.init()
+        server = self.serving(1)
+        self.assertIn(b'{"done":true}', self.send(server, REGISTRATION))
+        self.assertEqual(self.ended(server), (0, "served 1\n", ""))
+        server = self.serving(2, preexec_fn=no_room)
+        self.assertIn(b'"rule":41', self.send(server, JANUARY))
+        self.assertIn(b'"rule":42', self.send(server, REGISTRATION))
         self.assertEqual(self.ended(server), (0, "served 2\n", "rule 41 Store\n"))
         again = self.serving(1)
         self.assertIn(b'{"done":true}', self.send(again, REGISTRATION))
