@@ -281,7 +281,7 @@ class Month(InBrowser):
                           ["done", "Contribution €400.00, version 2"])
         self.browser.click("#firm-claims-table .release[data-claim='1']")
         self.confirm("A release is for good", "€1,500.00")
-        self.answers("done", "Paid out: €421.90.", "Set off to contributions: €1,000.10, to interest: €78.00.")
+        self.answers("done", "To be paid out: €421.90.", "Set off to contributions: €1,000.10, to interest: €78.00.")
         self.browser.wait_for_text("#firm-claims-table", "released")
         self.go("morning")
 
@@ -418,7 +418,7 @@ class Page(InBrowser):
 
     def test_narrow_and_wide(self):
         """Nothing lies beside the window or a table's place, where a clerk would have to move it to see it."""
-        for width in (360, 1280, 1920):
+        for width in (360, 683, 800, 944, 960, 1280, 1920):
             self.browser.resize(width, 900)
             for view in self.each_view():
                 whole = self.browser.run("return document.documentElement.scrollWidth")

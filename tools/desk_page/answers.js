@@ -3,7 +3,7 @@
 
 import { askSettled, sendForm } from "./api.js";
 import { byId, make, pairs } from "./elements.js";
-import { day, euros, month, percent } from "./formats.js";
+import { day, euros, firmName, month, percent } from "./formats.js";
 import { hasWords, say } from "./words.js";
 
 const MARKS = { done: "✓", repeated: "✓", refused: "✕", "given-up": "–" };
@@ -22,6 +22,8 @@ export function written(kind, values) {
       told[name] = euros(value);
     } else if (MONTHS.includes(name)) {
       told[name] = month(value);
+    } else if (name === "name") {
+      told[name] = firmName(value);
     } else if (kind === "rates" && RATES.includes(name)) {
       told[name] = percent(value);
     }

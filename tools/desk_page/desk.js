@@ -7,7 +7,7 @@ import { byId, make } from "./elements.js";
 import { askFirm, beginFirm, showFirm, showRecent } from "./firm.js";
 import { beginFinder, beginForm, clearFields, wasSentAs } from "./forms.js";
 import { askLog, showLog } from "./log.js";
-import { askMorning, beginMorning, openMorning } from "./morning.js";
+import { askMorning, beginMorning, isMaker, keepMade, openMorning } from "./morning.js";
 import { clearReport, showChecked, showSend } from "./report.js";
 import { askWorker, beginWorker, showWorker } from "./worker.js";
 import { beginWords, say, sayWords } from "./words.js";
@@ -76,10 +76,12 @@ async function show({ view, number, asked } = askView()) {
   document.body.dataset.shown = `${view}${number ? `/${number}` : ""}`;
 }
 
-function goTo(hash) {
+/** Goes to a view. The answer that stands there goes, unless it is what leads there. */
+function goTo(hash, isLed = false) {
   if (location.hash === hash) {
     show();
   } else {
+    keepsAnswer = isLed;
     location.hash = hash;
   }
 }
@@ -154,8 +156,7 @@ function beginForms() {
   beginWorker();
   beginForm("form-register", (told) => {
     if (isDone(told)) {
-      keepsAnswer = true;
-      goTo(`#/firm/${told.entry.values.employer}`);
+      goTo(`#/firm/${told.entry.values.employer}`, true);
     }
   });
   beginForm("form-rates", () => {});
@@ -164,7 +165,12 @@ function beginForms() {
     if (isDone(told)) {
       clearForm(told.entry);
     }
-    show();
+    if (isDone(told) && isMaker(told)) {
+      keepMade(told);
+      goTo("#/morning", true);
+    } else {
+      show();
+    }
   });
 }
 

@@ -43,7 +43,7 @@ export function table(id, caption, columns, rows) {
     const made = cells.map((cell, place) => {
       const [name, kind] = named[place];
       return place === 0
-        ? make("th", { scope: "row", role: "rowheader", class: kind }, cell)
+        ? make("th", { scope: "row", role: "rowheader", class: kind, "data-column": name }, cell)
         : make("td", { role: "cell", class: kind, "data-column": name }, cell);
     });
     body.append(make("tr", { role: "row", ...attributes }, ...made));

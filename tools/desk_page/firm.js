@@ -2,15 +2,16 @@
 
 import { tellFault } from "./answers.js";
 import { get, lastOnly, theSession } from "./api.js";
+import { tellDay } from "./days.js";
 import { button, byId, make, makeSvg, pairs, row, table } from "./elements.js";
 import { beginForm, claimActions, clearFields } from "./forms.js";
-import { day, euros, month } from "./formats.js";
+import { day, euros, firmName, month } from "./formats.js";
 import { beginReport, clearReport, openReport } from "./report.js";
 import { say } from "./words.js";
 
 // What stands empty where the desk doesn't understand the statement.
 const READ_PARTS = [
-  "firm-member", "firm-day", "firm-owed", "statement-months", "statement-legend", "statement-interest",
+  "firm-member", "firm-owed", "statement-months", "statement-legend", "statement-interest",
 ];
 // So many payments of a month stand in its row; all of them stand in the text.
 const MOST_PAYMENTS = 4;
@@ -30,9 +31,9 @@ export function showRecent(recent) {
   }
   offered = recent;
   byId("recent-firms").replaceChildren(...recent.map((it) =>
-    make("option", { value: it.employer }, it.name)));
+    make("option", { value: it.employer }, firmName(it.name))));
   byId("firm-recent").replaceChildren(...recent.slice(0, 20).map((it) =>
-    make("li", {}, make("a", { href: `#/firm/${it.employer}` }, `${it.employer} ${it.name}`))));
+    make("li", {}, make("a", { href: `#/firm/${it.employer}` }, `${it.employer} ${firmName(it.name)}`))));
 }
 
 /** A bar as long as the month's contribution: what is paid is full, what is open is an outline. */
@@ -50,10 +51,16 @@ function bar(charge, most) {
     part("bar-paid", 0, paid), part("bar-open", paid, open));
 }
 
+/** The reference of a payment; of what a release has set off, its claim. */
+function referenceText(reference) {
+  const [, claim] = /^set-off (\d+)$/.exec(reference) ?? [];
+  return claim ? say("statement.set-off", { claim }) : reference;
+}
+
 function paymentLines(payments) {
   const lines = payments.slice(0, MOST_PAYMENTS).map((it) => make("li", {},
     make("span", {}, day(it.day)), " ", make("span", { class: "amount" }, euros(it.cents)), " ",
-    make("span", {}, it.reference)));
+    make("span", {}, referenceText(it.reference))));
   const count = payments.length - MOST_PAYMENTS;
   if (count > 0) {
     lines.push(make("li", { class: "more" }, say("statement.more", { count })));
@@ -135,7 +142,8 @@ function showMonths(statement) {
     : make("p", {}, say("statement.none")));
   byId("statement-legend").replaceChildren(...(rows.length ? legend() : []));
   const columns = [["column.day", "day"], ["column.amount", "amount"], ["column.reference", "reference"]];
-  const interest = statement.interest_payments.map((it) => row(day(it.day), euros(it.cents), it.reference));
+  const interest = statement.interest_payments.map((it) =>
+    row(day(it.day), euros(it.cents), referenceText(it.reference)));
   byId("statement-interest").replaceChildren(interest.length
     ? table("interest-table", say("interest.caption"), columns, interest)
     : "");
@@ -156,9 +164,10 @@ function showClaims(claims) {
 
 function showStatement(told) {
   const { statement } = told;
+  tellDay("firm", statement?.day ?? null, "day.as-of");
   byId("firm-text").textContent = told.text;
   byId("firm-text-note").hidden = Boolean(statement);
-  byId("firm-title").textContent = statement ? `${shown} · ${statement.name}` : shown;
+  byId("firm-title").textContent = statement ? `${shown} · ${firmName(statement.name)}` : shown;
   if (!statement) {
     for (const id of READ_PARTS) {
       byId(id).replaceChildren();
@@ -167,7 +176,6 @@ function showStatement(told) {
   }
   const carried = { start: month(statement.start), last: month(statement.last) };
   byId("firm-member").textContent = say(statement.last ? "firm.member-until" : "firm.member", carried);
-  byId("firm-day").textContent = say("as-of", { day: day(statement.day) });
   showOwed(statement);
   showMonths(statement);
 }

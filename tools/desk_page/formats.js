@@ -3,6 +3,9 @@
 
 import { currentLanguage, hasWords, say } from "./words.js";
 
+// Blanks, and signs of which nothing is drawn.
+const UNSEEN = /^[\p{White_Space}\p{Default_Ignorable_Code_Point}\p{Cc}\u2800]*$/u;
+
 function withGroups(digits, separator) {
   return digits.replace(/\B(?=(\d{3})+$)/g, separator);
 }
@@ -64,3 +67,9 @@ export function today() {
   const parts = [now.getFullYear(), now.getMonth() + 1, now.getDate()];
   return parts.map((it) => String(it).padStart(2, "0")).join("-");
 }
+
+/** Whether a text has no sign that can be seen. */
+export const isUnseen = (text) => UNSEEN.test(text);
+
+/** The name of a firm, which may have been registered with signs that can't be seen alone. */
+export const firmName = (name) => (isUnseen(name) ? say("name.unseen") : name);

@@ -3,7 +3,7 @@
 import { clearAnswer, confirmed, noteAnswer, outcomeText, subject, tellAnswer, toldLines, written } from "./answers.js";
 import { fieldsOf, get, sendForm } from "./api.js";
 import { button, byId, make } from "./elements.js";
-import { time } from "./formats.js";
+import { firmName, time } from "./formats.js";
 import { currentLanguage, say } from "./words.js";
 
 // The most digits of a number that is asked for; nine of any other.
@@ -47,7 +47,7 @@ async function firmFact(employer, tell) {
     tell(told);
     return null;
   }
-  return ["label.firm", `${employer} ${told.statement.name}`];
+  return ["label.firm", `${employer} ${firmName(told.statement.name)}`];
 }
 
 /** The values of a command as the desk has read them, with the name of a firm that should be there; or

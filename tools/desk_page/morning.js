@@ -4,25 +4,30 @@
 import { clearFault, isDone, noteAnswer, tellAnswer, tellFault, whatStops } from "./answers.js";
 import { get, lastOnly } from "./api.js";
 import { beginBank } from "./bank.js";
+import { beginDays, tellDay } from "./days.js";
 import { button, byId, make, pairs, row, table } from "./elements.js";
 import { beginFinder, beginForm, clearFields } from "./forms.js";
-import { day, euros, month, today } from "./formats.js";
+import { day, euros, isUnseen, month } from "./formats.js";
 import { say } from "./words.js";
 
 const PAGE = 200;
-// In milliseconds.
-const MINUTE = 60_000;
+// The forms that make lists and runs.
+const MAKERS = ["payouts", "reminders"];
 const last = lastOnly();
 const lastDocument = lastOnly();
 let first = 0;
 // The day on which the office works.
 let officeDay = null;
+// What became of the request that made a list or run, until the view is opened which shows it.
+let made = null;
 // What is told of the line that is being assigned, beside its reference.
 let lineFacts = [];
 
 function firmLink(employer) {
   return employer ? make("a", { href: `#/firm/${employer}` }, String(employer)) : say("dash");
 }
+
+const noteText = ({ note }) => (isUnseen(note) ? say("dash") : note);
 
 function openAssign(line) {
   if (whatStops()) {
@@ -33,7 +38,7 @@ function openAssign(line) {
   byId("assign-reference").value = line.reference;
   byId("assign-employer").value = line.employer ?? "";
   lineFacts = [["label.value", day(line.day)], ["column.amount", euros(line.cents)],
-    ["column.purpose", say(`purpose.${line.purpose}`)], ["column.note", line.note || say("dash")]];
+    ["column.purpose", say(`purpose.${line.purpose}`)], ["column.note", noteText(line)]];
   pairs(byId("assign-facts"), ["label.reference", line.reference], ...lineFacts);
   byId("assign-dialog").showModal();
   byId("assign-employer").focus();
@@ -50,7 +55,7 @@ function suspenseRow(line) {
     class: "assign", "data-reference": line.reference, "aria-label": name,
   });
   return row(line.reference, day(line.day), say(`purpose.${line.purpose}`), line.employer ?? say("dash"),
-    euros(line.cents), line.note || say("dash"), assign);
+    euros(line.cents), noteText(line), assign);
 }
 
 function turnTo(place) {
@@ -73,13 +78,14 @@ function pager({ first: from, lines, count }) {
   const later = turn("suspense.later", from + PAGE, "suspense-later");
   earlier.disabled = from === 0;
   later.disabled = from + lines.length >= count;
-  return make("p", { class: "buttons" }, say("suspense.page", place), earlier, later);
+  return make("div", {}, make("p", {}, say("suspense.page", place)),
+    make("p", { class: "buttons" }, earlier, later));
 }
 
-/** Warns where the office works on another day than today. */
-function showOtherDay() {
-  byId("morning-other-day").textContent = say("morning.other-day", { today: day(today()) });
-  byId("morning-other-day").hidden = officeDay === null || officeDay === today();
+/** Says on which day the office works; nothing where it doesn't say so. */
+function showDay({ suspense }) {
+  officeDay = suspense?.day ?? null;
+  tellDay("morning", officeDay, "morning.day");
 }
 
 function showSuspense(told) {
@@ -98,9 +104,6 @@ function showSuspense(told) {
     ? table("suspense-table", say("suspense.caption"), SUSPENSE_COLUMNS, suspense.lines.map(suspenseRow))
     : "";
   byId("suspense-lines").replaceChildren(lines, pager(suspense) ?? "");
-  officeDay = suspense.day;
-  byId("morning-day").textContent = say("morning.day", { day: day(suspense.day) });
-  showOtherDay();
 }
 
 function showKnown(kind, word, numbers, show) {
@@ -123,7 +126,7 @@ function payoutTable({ payout }) {
 function remindersTable({ reminders }) {
   const caption = say("reminders.caption", { ...reminders, day: day(reminders.day) });
   const columns = [["column.firm", "id"], ["column.level", "number"], ["column.missing", "number"],
-    ["column.first-missing", "day"], ["column.arrears", "amount"], ["column.interest", "amount"]];
+    ["column.first-missing", "day"], ["column.arrears", "amount"], ["owed.interest", "amount"]];
   return table("reminders-table", caption, columns, reminders.reminded.map((it) => row(
     firmLink(it.employer), String(it.level), String(it.missing), month(it.first), euros(it.arrears),
     euros(it.interest))));
@@ -162,11 +165,11 @@ async function showDocument(kind, number) {
   return (told.payout ?? told.reminders)?.day ?? null;
 }
 
-/** Shows the list or run that was just made. One of an earlier day was made before, under the same number. */
-async function showMade(kind, { entry }) {
-  await showMorning();
-  const made = await showDocument(kind, entry.reply[kind === "payouts" ? "list" : "run"]);
-  if (entry.outcome.startsWith("done") && made !== null && made !== officeDay) {
+/** Shows the list or run that was made. One of an earlier day was made before, under the same number. */
+async function showMade({ entry }) {
+  const its = await showDocument(entry.kind, entry.reply[entry.kind === "payouts" ? "list" : "run"]);
+  const isKnown = its !== null && officeDay !== null;
+  if (entry.outcome.startsWith("done") && isKnown && its !== officeDay) {
     noteAnswer(say("document.known"));
   }
 }
@@ -180,6 +183,7 @@ async function showMorning(asked = ask(first)) {
   }
   // Where the office doesn't answer, nothing is said of what is in suspense.
   byId("suspense").hidden = told.text === undefined;
+  showDay(told);
   if (told.text === undefined) {
     tellFault(told);
     return;
@@ -195,14 +199,18 @@ async function showMorning(asked = ask(first)) {
 
 export function beginMorning() {
   const again = () => showMorning();
-  // The page may stand open over night.
-  setInterval(showOtherDay, MINUTE);
+  beginDays();
   beginBank(again);
   beginForm("form-assign", again, () => lineFacts);
   beginForm("form-release", again);
   byId("assign-cancel").addEventListener("click", () => byId("assign-dialog").close());
-  for (const kind of ["payouts", "reminders"]) {
-    beginForm(`form-${kind}`, (told) => (isDone(told) ? showMade(kind, told) : again()));
+  for (const kind of MAKERS) {
+    beginForm(`form-${kind}`, async (told) => {
+      await showMorning();
+      if (isDone(told)) {
+        await showMade(told);
+      }
+    });
     beginFinder(`find-${kind}`, (number) => showDocument(kind, number));
   }
 }
@@ -210,9 +218,22 @@ export function beginMorning() {
 /** Asks for the first lines in suspense. */
 export const askMorning = () => ask(0);
 
+/** Whether a command that was done has made a list or a run. */
+export const isMaker = ({ entry }) => MAKERS.includes(entry.kind);
+
+/** Has the view show the list or run that was made, when it is opened next. */
+export function keepMade(told) {
+  made = told;
+}
+
 /** Begins the view anew, where another one was shown before. */
-export function openMorning(_number, asked = askMorning()) {
+export async function openMorning(_number, asked = askMorning()) {
+  const kept = made;
+  made = null;
   first = 0;
   byId("document").hidden = true;
-  return showMorning(asked);
+  await showMorning(asked);
+  if (kept) {
+    await showMade(kept);
+  }
 }

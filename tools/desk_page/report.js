@@ -164,7 +164,7 @@ async function read(file) {
   chosen = file;
   forget();
   if (file.size > MOST_BYTES) {
-    tellAnswer({ fault: "file-too-large", carried: {} });
+    tellAnswer({ fault: "report-too-large", carried: {} });
     return;
   }
   const text = await file.text().catch(() => null);

@@ -3,9 +3,10 @@
 
 import { tellFault } from "./answers.js";
 import { get, lastOnly } from "./api.js";
+import { tellDay } from "./days.js";
 import { byId, make, pairs, row, table } from "./elements.js";
 import { beginFinder, claimActions } from "./forms.js";
-import { day, euros, month } from "./formats.js";
+import { euros, month } from "./formats.js";
 import { say } from "./words.js";
 
 // What stands empty where the desk doesn't understand the document.
@@ -64,15 +65,14 @@ export async function showWorker(number, asked = askWorker(number)) {
   const { worker } = told;
   byId("worker-text").textContent = told.text;
   byId("worker-download").href = `/documents/worker-${number}.txt`;
-  byId("worker-day").textContent = worker
-    ? say("as-of", { day: day(worker.day) })
-    : say("text.not-understood");
+  tellDay("worker", worker?.day ?? null, "day.as-of");
   if (worker) {
     pairs(byId("worker-figures"), ["worker.balance", euros(worker.balance), { id: "worker-balance" }],
       ["worker.earned", euros(sum(worker.earned)), { id: "worker-earned-sum" }],
       ["worker.claimed", euros(sum(worker.claims)), { id: "worker-claimed" }]);
     showTables(worker);
   } else {
+    byId("worker-day").textContent = say("text.not-understood");
     for (const id of READ_PARTS) {
       byId(id).replaceChildren();
     }

@@ -22,6 +22,12 @@ REFERENCE = re.compile(r"[!-~]{1,35}")
 CONTROL = re.compile(r"[\x00-\x1f\x7f]")
 # Marks, embeddings, overrides and isolates: what stands behind one may be shown in another order than it has.
 TURNING = re.compile("[\u061c\u200e\u200f\u202a-\u202e\u2066-\u2069]")
+# Blanks, further control characters, and signs of which nothing is drawn: Unicode's default ignorable ones, and
+# the empty one of braille.
+UNSEEN = re.compile(
+    "[\\s\x80-\x9f\u00ad\u034f\u061c\u115f\u1160\u17b4\u17b5\u180b-\u180f\u200b-\u200f\u202a-\u202e\u2060-\u206f"
+    "\u2800\u3164\ufe00-\ufe0f\ufeff\uffa0\ufff0-\ufff8\U0001bca0-\U0001bca3\U0001d173-\U0001d17a"
+    "\U000e0000-\U000e0fff]*")
 
 
 def read_cents(text: str, language: str) -> int | None:
@@ -89,6 +95,8 @@ def name(field: str, text: str) -> str:
         raise FieldFault(field, "name")
     if TURNING.search(text):
         raise FieldFault(field, "name-turned")
+    if UNSEEN.fullmatch(text):
+        raise FieldFault(field, "name-unseen")
     return text
 
 

@@ -26,6 +26,8 @@ MOST_DROPPED = 16 * 1_048_576
 DROP_SECONDS = 2
 LENGTH = re.compile(r"[0-9]{1,10}")
 METHODS = "GET, POST"
+# The forms that take a bank's file. Of the others only a report could be as large.
+BANK_FORMS = ("bank", "check-bank")
 
 
 def refusal(fault: Fault) -> Response:
@@ -92,20 +94,20 @@ class Handler(http.server.BaseHTTPRequestHandler):
         check_site(self.headers)
         self.server.routes.tokens.check(form, one(self.headers, "Desk-Token"))
         request = Request(
-            word=form, body=self.read_body(), kind=self.headers.get_content_type(),
+            word=form, body=self.read_body(form), kind=self.headers.get_content_type(),
             is_confirmed=one(self.headers, "Desk-Confirmed") == "yes",
             file_name=one(self.headers, "Desk-File") or "",
         )
         return self.server.routes.post(self.path, request)
 
-    def read_body(self) -> bytes:
+    def read_body(self, form: str) -> bytes:
         if one(self.headers, "Transfer-Encoding") is not None:
             raise Fault("head", 501)
         length = one(self.headers, "Content-Length")
         if length is None or not LENGTH.fullmatch(length):
             raise Fault("head", 411)
         if int(length) > MOST_REQUEST:
-            raise Fault("file-too-large", 413)
+            raise Fault("file-too-large" if form in BANK_FORMS else "report-too-large", 413)
         try:
             body = self.rfile.read(int(length))
         except OSError:
