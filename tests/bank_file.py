@@ -200,10 +200,27 @@ class Batches(BankFiles):
         self.assertIn("left out in all, returned payment (a debit): 1, 9.00 EUR\n",
                       self.makes(as_02(one("9.00", "0", taken)), []))
 
-    def test_the_amounts_of_its_transactions_are_its_own(self):
-        for content in (BATCH, as_02(BATCH)):
-            self.refuses(content.replace("99.89", "99.90"),
-                         f"{FIRST}: its 3 transactions don't make its amount, 200.00 EUR")
+    def test_transactions_that_do_not_make_its_amount(self):
+        """The bank took its charges off, or doesn't tell all of them."""
+        both = 'BT,2024-04-30,,20000,C,"Bau Nord, Büro: Beitrag Zinsen 1003 1001, 1003"'
+        for amount in ("99.90", "99.88"):
+            for content in (BATCH.replace("99.89", amount), as_02(BATCH.replace("99.89", amount))):
+                self.makes(content, [both])
+        nord = transaction("100.00", "Zinsen", "Bau Nord", NORD, "T1"), transaction("99.00", "Zinsen", "", NORD, "T2")
+        for amount, firm, purpose in (("198.50", "1001", "I"), ("199.50", "", "C")):
+            line = f"B,2024-04-30,{firm},{amount.replace('.', '')},{purpose},Bau Nord: Zinsen Zinsen"
+            self.makes(one("0", amount, entry(amount, *nord, reference="B")), [line])
+
+    def test_a_debit_among_the_transactions_of_a_credit(self):
+        """What it is can't be known, though it has an account or a number of a firm, but for one that came back."""
+        nord, fee = transaction("9.00", "Zinsen", "Bau Nord", NORD), transaction("1.00", "Zinsen", "", NORD)
+        taken = transaction("9.00", "Zinsen", "Bau Nord", NORD).replace("CRDT", "DBIT")
+        for details, note in (((taken,), "Zinsen"), ((nord, fee.replace("CRDT", "DBIT")), "Zinsen Zinsen")):
+            self.makes(one("0", "9.00", entry("9.00", *details, reference="B")),
+                       [f"B,2024-04-30,,900,C,Bau Nord: {note}"])
+        back = taken.replace("</TxDtls>", f"{RETURNED}</TxDtls>")
+        self.assertIn("left out in all, returned transfer (a credit): 1, 9.00 EUR\n",
+                      self.makes(one("0", "9.00", entry("9.00", back, reference="B")), []))
 
     def test_one_that_came_back_is_left_out(self):
         back = transaction("1.00", reference="X", more=RETURNED)
@@ -255,7 +272,7 @@ class LeftOut(BankFiles):
         payout = "Payout list 1 of 2024-02-10, claim 1, employer 1001, worker 7"
         cut = f"<Ustrd>{payout[:27]}</Ustrd><Ustrd>{payout[27:54]}</Ustrd><Ustrd>{payout[54:]}</Ustrd>"
         texts = (f"RUECKZAHLUNG {payout}", f"EREF+L1-C1 SVWZ+RETOURE {payout}", "EREF+L1-C1 SVWZ+Betrieb 1001",
-                 payout.upper().replace(",", ""))
+                 payout.upper().replace(",", ""), payout[:27], f"RETOURE {payout[:21]}")
         sent_back = [payment("1.00", text, "", iban, "A") for text in texts for iban in ("", NORD)]
         sent_back.append(payment("1.00", "TEXT", "", "", "A").replace("<Ustrd>TEXT</Ustrd>", cut))
         for back in (payment("1.00", "employer 1001", "", "", "A", "L1-C1"), coded, *sent_back,
@@ -263,13 +280,15 @@ class LeftOut(BankFiles):
             told = self.makes(one("0", "1.00", back), [])
             self.assertIn("left out in all, returned transfer (a credit): 1, 1.00 EUR\n", told)
         # Others are firms' own.
-        for text in ("Payout; 1001", "EREF+L2024-C5678AB SVWZ+1001", "EREF+L10-C3-XY SVWZ+1001"):
+        for text in ("Payout; 1001", "Payout list 5 Betrieb 1001", "Payout list of 2024 Betrieb 1001",
+                     "EREF+L2024-C5678AB SVWZ+1001", "EREF+L10-C3-XY SVWZ+1001"):
             self.makes(one("0", "1.00", payment("1.00", text, reference="A")), [f"A,2024-04-30,1001,100,C,{text}"])
         taken_back = entry("1.00", direction="DBIT").replace("<BkTxCd/>", code)
         self.assertIn("left out in all, returned payment (a debit): 1, 1.00 EUR\n",
                       self.makes(one("1.00", "0", taken_back), []))
-        # Direct debits, and what only Germany's number says; then codes and numbers of others.
-        back, other = ("UPDD", "RCDD", "PRDD", "NDDT+181+00931", "NTRF+159"), ("ESDD", "NTRF+166+159", "159")
+        # Direct debits, cheques, and what only Germany's number says; then codes and numbers of others.
+        back = "UPDD", "RCDD", "PRDD", "UPCQ", "CQRV", "NDDT+181+00931", "NTRF+159", "N051+159+9310"
+        other = "ESDD", "NTRF+166+159", "159", "N159+166", "N0511+159"
         for code in (*back, *other):
             own = f"<Domn><Fmly><SubFmlyCd>{code}</SubFmlyCd></Fmly></Domn><Prtry><Cd>{code}</Cd></Prtry>"
             coded = payment("1.00", reference="A").replace("<BkTxCd/>", f"<BkTxCd>{own}</BkTxCd>")
@@ -283,6 +302,29 @@ class LeftOut(BankFiles):
         # The transfer itself is a debit as others.
         out = entry("1.00", transaction("", "", "", ACCOUNT, "A", "L1-C1"), direction="DBIT")
         self.assertIn("left out in all, debit: 1, 1.00 EUR\n", self.makes(one("1.00", "0", out), []))
+
+    def test_which_payout_it_is(self):
+        """By the bank's references, else by the text, as far as it goes; of a list in one sum the list."""
+        payout = "Payout list 20 of 2024-02-10, claim 37, employer 1001, worker 7"
+        out, many = {"direction": "DBIT"}, [transaction("1.00", end_to_end=f"L7-C{at}") for at in range(1, 8)]
+        listed = "<Btch>{}<PmtInfId>PAYOUT-7-2024-04-30</PmtInfId></Btch>"
+        by_text = transaction("1.00", f"RETOURE {payout}"), transaction("1.00", payout[:38]), transaction("1.00")
+        for found, told in (
+                (payment("1.00", payout, end_to_end="L3-C17"), "1.00 EUR, L3-C17"),
+                (payment("1.00", "EREF+L3-C17 SVWZ+Retoure"), "1.00 EUR, L3-C17"),
+                (payment("1.00", payout, **out), "1.00 EUR, L20-C37"),
+                # Claim 37 may be the beginning of another one's number.
+                (payment("1.00", payout[:38]), "1.00 EUR, L20"),
+                (entry("2.00", *by_text[:2], **out), "2.00 EUR, L20-C37, L20"),
+                (entry("7.00", *many, **out), "7.00 EUR, L7-C1, L7-C2, L7-C3, L7-C4, L7-C5 and 2 more"),
+                (entry("7.00", batch=listed.format(""), **out), "7.00 EUR, PAYOUT-7-2024-04-30"),
+                (entry("7.00", batch=listed.format("<MsgId>PAYOUT-7-2024-04-30</MsgId>"), **out),
+                 "7.00 EUR, PAYOUT-7-2024-04-30"),
+                (entry("7.00", many[0], batch=listed.format(""), **out), "7.00 EUR, L7-C1"),
+                (entry("1.00", by_text[2], batch=listed.format("").replace("PAYOUT", "OTHER"), **out), "1.00 EUR")):
+            amount = told.partition(" ")[0]
+            ends = ("0", amount) if "CRDT</CdtDbtInd><Sts>" in found else (amount, "0")
+            self.assertIn(f": {FIRST}, 2024-04-30, {told}\n", self.makes(one(*ends, found), []))
 
     def test_a_payment_that_is_taken_back_at_once(self):
         """It is written, and all lines of its amount are told, but for those that were imported before."""
@@ -432,6 +474,20 @@ class References(BankFiles):
                      words=words)
         self.write("made.csv", HEADER + "B,2024-04-30,,800,C,\n")
         self.makes(document(parted), ["T1,2024-04-30,,400,C,", "T2,2024-04-30,,500,C,"], "--earlier", "made.csv")
+
+    def test_one_entry_whose_transactions_make_it_no_more(self):
+        """They stand in an earlier file; without it, or on another day, nothing tells that they are the same."""
+        more = one("0", "9.00", entry("9.00", transaction("4.00", reference="T1"), transaction("6.00", reference="T2"),
+                                      reference="B"))
+        words = "--firms", "firms.csv", "--earlier", "made.csv"
+        self.write("made.csv", HEADER + "T1,2024-04-30,,400,C,\nT2,2024-04-30,,500,C,\n")
+        for content in (more, more.replace("6.00", "1.00")):
+            self.refuses(content, f"{FIRST} stands in an earlier file in its transactions, as T1, and now comes as one "
+                         "line, so it would count twice; give the statement that it was made of", words=words)
+        self.write("made.csv", HEADER + "T1,2024-04-29,,400,C,\n")
+        self.makes(more, ["B,2024-04-30,,900,C,"], "--earlier", "made.csv")
+        self.write("made.csv", HEADER + "T1,2024-04-30,,400,C,\nB,2024-04-30,,900,C,\n")
+        self.makes(more, ["B,2024-04-30,,900,C,"], "--earlier", "made.csv")
 
     def test_two_entries_of_one_reference_in_two_statements(self):
         both = [entry("3.00", transaction("3.00", reference=it), reference="E") for it in ("T1", "T2")]

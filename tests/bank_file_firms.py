@@ -200,6 +200,33 @@ class Firms(BankFiles):
         self.finds_each((1001, 1003), ["Rechnung vom 12.5.24 1001"], ["Betrieb 1001 vom 12.5.24, 1003"],
                         "--number-word", "Betrieb")
 
+    def test_words_for_amounts_and_files(self):
+        none = ("Beitrag i.H.v. 1001", "i. H. v. 1001", "i.H.v. EUR 1001", "Rate 1001", "2. Rate: 1001", "Anzahlung 1001",
+                "Teilzahlung 1001", "Abschlag 1001", "Skonto 1001", "minus 1001", "Abzug 1001", "Gebühr 1001",
+                "Akte 1001", "Dok.-Nr. 1001", "Artikel 1001", "Filiale 1001", "i.H.v.: 1001", "i.H.v 1001",
+                "i.H.v. 500 + 1001", "i.H.v. 500 und 1001", "i. H. v. 500 / 1001",
+                "Abschlagszahlung 1001", "Überzahlung 1001")
+        known = ("Zahlung 1001", "Bauverein e.V. 1001", "i.A. 1001", "Rate 5, Betrieb 1001", "1001 i.H.v. 500 EUR",
+                 "Betrieb 1001 i.H.v. 500", "i.H.v. 500, 1001", "i.H.v. 500,00 / 1001", "i.H.v. 500 EUR - 1001",
+                 "1001, i.H.v.: 500 EUR", "i.H.v. 500 1001")
+        # What is paid itself, and no part that goes off it.
+        known += tuple(f"{kind}zahlung 1001" for kind in (
+            "Beitrags", "Urlaubskassen", "Sammel", "Monats", "Nach", "Zins", "Voraus", "Raten", "Rest"))
+        self.finds_each((500, 1001), none, ())
+        self.finds_each((1001,), none, known)
+
+    def test_words_for_others_apart_from_their_numbers(self):
+        """Whatever signs stand between, and where the number is called one."""
+        none = [f"{word}{between}1001" for word in ("Rechnung", "Kunden", "Konto") for between in (
+            " Nr. : ", "-Nr. : ", ". : ", " -> ", " ..... ", " (Nr.): #", " No. : ", " N° ", " Nº ", " n. ", " Num. ")]
+        none += ["Rechnung Nr. : 77, 1001", "Rechnung vom 12.5.24, 77, 1001", "Rechnung Nr. : 12.5.24, 1001",
+                 "Rechnung vom 12.5.24, 77 und 78, 1001"]
+        known = ("Betrieb Nr. : 1001", "Betrieb ..... 1001", "1001 Rechnung Nr. : 77", "Rechnung Nr. : 77, Betrieb 1001",
+                 "Rechnung Nr. : 77 (1001)", "Rechnung vom 12.5.24, 77, Betrieb 1001", "Beitrag ... 1001", "N° 1001")
+        self.finds_each((1001,), none, known)
+        # Behind a firm's word they make no number surer.
+        self.finds_each((9, 1224), ("Betrieb: --- 9", "Betrieb ..... 1224"), ())
+
     def test_the_form_of_a_company(self):
         self.finds_each((1224, 1001), ("Bau AG 1224", "Bau AG 1001 / 24"), ("Bau AG 1001",))
         self.finds("1224", "AG-Nr. 1224", table="iban,employer\n,1224\n")

@@ -169,6 +169,18 @@ class Limits(BankFiles):
         self.misread(many, ": the zip has more than 1000 files")
 
 
+    def test_texts_of_many_parts(self):
+        """Neither a word that may be cut at many places nor a row of amounts takes long, or much memory."""
+        few = {"preexec_fn": lambda: resource.setrlimit(resource.RLIMIT_AS, (500_000_000, 500_000_000))}
+        amounts, words = ["1.001 + " * 370, *["1"] * 190], ["Zin", "sen", *["a" * 70] * 190, *["b."] * 1_000_000]
+        for parts, purpose, note in ((amounts, "C", ("1.001 + " * 18)[:140]),
+                                     (words, "I", f"Zin sen {'a' * 70} {'a' * 61}")):
+            line = f"A,2024-04-30,,100,{purpose},{note}"
+            self.write("statement", one("0", "1", payment("1.00", parts, reference="A")))
+            status, output, told = self.tool("statement", "--firms", "firms.csv", "--interest-word", "Zinsen", **few)
+            self.assertEqual((status, output), (0, f"{HEADER}{line}\n"), told)
+
+
 class CommandLine(BankFiles):
     words = ("statement", "--firms", "firms.csv")
 

@@ -51,7 +51,9 @@ os.fsync = lambda handle: os.kill(os.getpid(), number)
 del sys.argv[0]
 runpy.run_path(sys.argv[0], run_name="__main__")
 """
-SUMMARY = "payments 3, total 1234826.95 euros, on 2024-05-02, message PAYOUT-7-2024-05-02\n"
+OVER = "{} is over, and some banks refuse such a day: see --execution-date\n"
+SUMMARY = ("payments 3, total 1234826.95 euros, on 2024-05-02, message PAYOUT-7-2024-05-02\n"
+           + OVER.format("2024-05-02"))
 
 
 class Runs:
@@ -113,7 +115,7 @@ def iban_of(account):
 
 
 def summary(count, total, day="2024-05-02"):
-    return f"payments {count}, total {total} euros, on {day}, message PAYOUT-7-2024-05-02\n"
+    return f"payments {count}, total {total} euros, on {day}, message PAYOUT-7-2024-05-02\n{OVER.format(day)}"
 
 
 class Files(Tool):
@@ -206,6 +208,18 @@ class Files(Tool):
                         *self.words, "--execution-date", day)
         self.refuse(2, "argument --execution-date: day is out of range for month\n",
                     *self.words, "--execution-date", "2024-02-30")
+
+    def test_a_day_that_is_over(self):
+        """A bank that refuses it may know the list again: it is told of each day before today, and of no other."""
+        today = datetime.date.today()
+        for days in (-1, 0, 1):
+            day = today + datetime.timedelta(days=days)
+            self.write("list.txt", LIST.replace("2024-05-02", str(day)))
+            told = f"payments 3, total 1234826.95 euros, on {day}, message PAYOUT-7-{day}\n"
+            self.make(*self.words, told=told + (OVER.format(day) if days < 0 else ""))
+        self.write("list.txt", LIST.replace("2024-05-02", str(today - datetime.timedelta(days=9))))
+        ran = self.run_tool(*self.words, "--execution-date", today)
+        self.assertEqual((ran.returncode, ran.stderr.count(b"\n")), (0, 1))
 
     def test_many_payments(self):
         """Four thousand, of 1 to 4,000 cents: 80,020.00 euros."""

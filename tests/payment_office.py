@@ -24,7 +24,7 @@ sys.dont_write_bytecode = True
 from desk_safety import as_another  # noqa: E402
 from desk_under_test import OFFICE_USER  # noqa: E402
 from documents import commands  # noqa: E402
-from payment_file import DEBTOR, HEADER, LIST, MADE, NORD, TOOL, Runs, Tool  # noqa: E402
+from payment_file import DEBTOR, HEADER, LIST, MADE, NORD, OVER, TOOL, Runs, Tool  # noqa: E402
 from payment_rules import leaves  # noqa: E402
 from program import REGISTRATION, post  # noqa: E402
 from program_under_test import NOBODY, ROOT, ProgramUnderTest, run_tests  # noqa: E402
@@ -170,7 +170,8 @@ total         547.49
                 "--table", "accounts.csv", *DEBTOR)
 
     def test_from_the_office_to_the_bank(self):
-        told = "payments 2, total 547.49 euros, on 2024-02-10, message PAYOUT-1-2024-02-10\n"
+        told = ("payments 2, total 547.49 euros, on 2024-02-10, message PAYOUT-1-2024-02-10\n"
+                + OVER.format("2024-02-10"))
         made = self.make(*self.words(), *MADE, told=told)
         found = leaves(ElementTree.fromstring(made))
         wanted = {
@@ -219,14 +220,18 @@ total         547.49
             (self.folder / path).unlink()
         shown = commands(section.partition("\n## ")[0])
         self.assertEqual(len(shown), 10)
+        # What is said in each window first holds for all that follows.
+        first = "\n".join(["umask 022", *(command for command, _ in commands(text.partition("\n## ")[0]))])
         for command, printed in shown:
             command = command.replace("127.0.0.1:8080", f"127.0.0.1:{self.server.port}")
             command = command.replace("--office ", " ".join([*OFFICE_USER, "--office "]))
-            ran = subprocess.run(["bash", "-c", command], cwd=self.folder, timeout=60,
+            ran = subprocess.run(["bash", "-c", f"{first}\n{command}"], cwd=self.folder, timeout=60,
                                  env={**os.environ, "LC_ALL": "C.UTF-8", "no_proxy": "*"},
                                  stdout=subprocess.PIPE, stderr=subprocess.STDOUT)
             self.assertEqual(ran.stdout.decode(), printed, command)
         made, again = ((self.folder / name).read_text() for name in ("list-1.xml", "again.xml"))
+        for name in ("desk.key", "accounts.csv", "list-1.txt", "list-1.xml", "again.xml"):
+            self.assertEqual((self.folder / name).stat().st_mode & 0o077, 0, name)
         time = "<CreDtTm>.*</CreDtTm>"
         self.assertEqual(re.sub(time, "", made), re.sub(time, "", again))
         self.compare_lists(*re.findall(r"`(curl -s [^`]* \| cmp - list-1\.txt)`", section))

@@ -33,13 +33,19 @@ DEBTOR_NAME = ("RltdPties/Dbtr/Pty/Nm", "RltdPties/Dbtr/Nm", "RltdPties/Dbtr/Agt
 DIRECTIONS = {"CRDT": True, "DBIT": False}
 # What banks write where they have no reference.
 NO_REFERENCE = re.compile("NON-?REF|NOT ?PROVIDED|NONE|0+", re.IGNORECASE)
-# The end-to-end references of tools/payment-file, and what stands in a text of one, or of its transfer, without spaces.
+# The end-to-end references of tools/payment-file, and what stands in a text of one, or of its transfer, without spaces:
+# so much of it that it is no other, since the bank may cut it off behind a line. Then the reference of a whole list.
 OF_A_PAYOUT = re.compile("L[1-9][0-9]{0,7}-C[1-9][0-9]{0,7}")
-TEXT_OF_A_PAYOUT = re.compile("payoutlist[0-9]+of[0-9-]{10},?claim|eref[+:]l[0-9]+-c[0-9]+(?=[a-z]{4}[+:]|$)")
+TEXT_OF_A_PAYOUT = re.compile("payoutlist([0-9]{1,8})of2[0-9]{3}(?:[0-9-]*,?claim([0-9]{1,8}),?employer)?|"
+                              "eref[+:](l[0-9]{1,8}-c[0-9]{1,8})(?=[a-z]{4}[+:]|$)")
+OF_A_LIST = re.compile("PAYOUT-[1-9][0-9]{0,7}-[0-9]{4}-[0-9]{2}-[0-9]{2}")
+# Where that may stand in the details of an entry.
+LIST_REFERENCES = ("Btch/PmtInfId", "TxDtls/Refs/PmtInfId", "Btch/MsgId", "TxDtls/Refs/MsgId")
 # The bank's codes of what came back: a transfer that was undeliverable or recalled; a direct debit that wasn't
-# paid, was recalled or reversed. German banks have numbers for the same.
-CAME_BACK = ("RRTN", "RPCR", "UPDD", "RCDD", "PRDD")
-CAME_BACK_IN_GERMANY = re.compile(r"[A-Z]{4}\+(108|109|159|181|184)(\+.*)?", re.DOTALL)
+# paid, was recalled or reversed; a cheque that wasn't paid, or was reversed. German banks have numbers for the same.
+CAME_BACK = ("RRTN", "RPCR", "UPDD", "RCDD", "PRDD", "UPCQ", "CQRV")
+# Behind SWIFT's code for it: NTRF+159+9310, N051+159
+CAME_BACK_IN_GERMANY = re.compile(r"[A-Z][A-Z0-9]{3}\+(108|109|159|181|184)(\+.*)?", re.DOTALL)
 FLAGS = {"": False, "false": False, "0": False, "true": True, "1": True}
 
 
@@ -66,8 +72,12 @@ class Transaction:
 
     reference: str
     end_to_end: str
+    # The claim of a payout list, as L1-C1, or the list alone, as L1; empty of other payments.
+    payout: str
     # What it adds to the entry, where the details say so.
     credited: Money | None
+    # Whether it says so of itself, as a fee that was taken off a credit.
+    is_debit: bool
     is_return: bool
     name: str
     iban: str
@@ -92,6 +102,8 @@ class Entry:
     is_detailed: bool
     # All that are told of the transactions of a debit, which has fees in it where it takes a payment back.
     amounts: frozenset[Money]
+    # The claims of payout lists in it; where none is told, the lists, as PAYOUT-1-2024-02-10.
+    payouts: tuple[str, ...]
 
     @property
     def is_return(self) -> bool:
@@ -235,7 +247,14 @@ def read_entry(node: Node, account: str) -> Entry:
         is_detailed=all(map(has_all_transactions, details)) and not (is_credit and is_part(transactions, money)),
         amounts=frozenset() if is_credit else frozenset(
             money for part in details for it in part.parts("TxDtls") for money in read_amounts(it)),
+        payouts=read_payouts(details, transactions),
     )
+
+
+def read_payouts(details: list[Node], transactions: tuple[Transaction, ...]) -> tuple[str, ...]:
+    claims = [it.payout for it in transactions if it.payout]
+    told = (node.own_text() for part in details for path in LIST_REFERENCES for node in part.parts(path))
+    return tuple(dict.fromkeys(claims or filter(OF_A_LIST.fullmatch, told)))
 
 
 def read_amounts(transaction: Node) -> Iterator[Money]:
@@ -250,9 +269,17 @@ def has_all_transactions(details: Node) -> bool:
 
 
 def is_part(transactions: tuple[Transaction, ...], whole: Money) -> bool:
-    """Whether a single transaction is less than its credit, so that others aren't told."""
-    credited = transactions[0].credited if len(transactions) == 1 else None
-    return credited is not None and credited.currency == whole.currency and credited.amount < whole.amount
+    """Whether the transactions are less than their credit, so that others aren't told."""
+    told = credited_by(transactions)
+    return told is not None and told.currency == whole.currency and told.amount < whole.amount
+
+
+def credited_by(transactions: tuple[Transaction, ...]) -> Money | None:
+    """What transactions add to their entry, where it is known of each, and in one currency."""
+    amounts = [it.credited for it in transactions if it.credited]
+    if len(amounts) != len(transactions) or len({it.currency for it in amounts}) != 1:
+        return None
+    return Money(sum((it.amount for it in amounts), Decimal(0)), amounts[0].currency)
 
 
 def read_transaction(node: Node, credited_account: str | None) -> Transaction:
@@ -262,12 +289,16 @@ def read_transaction(node: Node, credited_account: str | None) -> Transaction:
     texts = [plain(piece) for part in parts for piece in UNSHOWN.split(part)]
     end_to_end = read_reference(node, "Refs/EndToEndId")
     iban = node.text("RltdPties/DbtrAcct/Id/IBAN")
+    payout = end_to_end if OF_A_PAYOUT.fullmatch(end_to_end) else payout_of(texts)
+    is_debit = node.text("CdtDbtInd") == "DBIT"
     # A credit from the account itself, or of a payout by its reference or text, is a transfer that came back.
-    is_own = iban == credited_account or OF_A_PAYOUT.fullmatch(end_to_end) or is_of_a_payout(texts)
+    is_own = iban == credited_account or payout
     return Transaction(
         reference=read_reference(node, "Refs/AcctSvcrRef"),
         end_to_end=end_to_end,
-        credited=read_credited(node),
+        payout=payout,
+        credited=None if is_debit else read_credited(node),
+        is_debit=is_debit,
         is_return=node.has("RtrInf") or came_back(node) or credited_account is not None and bool(is_own),
         name=plain(node.text(*DEBTOR_NAME)),
         iban=iban,
@@ -275,8 +306,13 @@ def read_transaction(node: Node, credited_account: str | None) -> Transaction:
     )
 
 
-def is_of_a_payout(texts: Iterable[str]) -> bool:
-    return TEXT_OF_A_PAYOUT.search("".join(texts).replace(" ", "").casefold()) is not None
+def payout_of(texts: Iterable[str]) -> str:
+    """The claim or the list of a payout by its text; nothing where it is another one's."""
+    found = TEXT_OF_A_PAYOUT.search("".join(texts).replace(" ", "").casefold())
+    if not found:
+        return ""
+    number, claim, reference = found.groups()
+    return reference.upper() if reference else f"L{number}-C{claim}" if claim else f"L{number}"
 
 
 def came_back(node: Node) -> bool:
@@ -287,9 +323,7 @@ def came_back(node: Node) -> bool:
 def read_credited(node: Node) -> Money | None:
     """The amount of a transaction, which stands in the details of its amounts alone in version 02."""
     path = next((path for path in ("Amt", "AmtDtls/TxAmt/Amt") if node.has(path)), None)
-    if path is None or node.text("CdtDbtInd") == "DBIT":
-        return None
-    return read_money(node, path)
+    return read_money(node, path) if path else None
 
 
 def read_reference(node: Node, path: str) -> str:

@@ -16,11 +16,11 @@ from datetime import date
 from decimal import Decimal
 from enum import Enum
 
-from .camt import Entry, Money, Transaction
+from .camt import Entry, Money, Transaction, credited_by
 from .earlier import HEADER, EarlierLine
 from .firms import Firms, Found
 from .statements import Statement
-from .texts import Refusal, cut, readings, shown
+from .texts import Refusal, cut, shown, words_in
 
 # The limits of the office (docs/formats.md).
 REFERENCE = re.compile("[!-~]{1,35}")
@@ -56,6 +56,8 @@ class LeftOut:
     money: Money
     # Its own, and those of its transactions.
     amounts: frozenset[Money]
+    # Of which payout lists it is, or of which of their claims.
+    payouts: tuple[str, ...]
 
 
 @dataclass(frozen=True)
@@ -115,13 +117,10 @@ def reason_to_leave_out(entry: Entry) -> Reason | None:
 
 
 def payments_of(statement: Statement, place: int, entry: Entry) -> Iterator[Payment]:
-    """The payments of a booked credit: one a transaction, or one for all where their amounts aren't known."""
+    """The payments of a booked credit: one a transaction, or one for all where their amounts aren't what it is."""
     called = f"entry {place} of {statement.called}"
     details = entry.transactions
-    is_parted = len(details) > 1 and entry.is_detailed and all(
-        it.credited and it.credited.currency == "EUR" for it in details)
-    if is_parted and sum(it.credited.amount for it in details) != entry.money.amount:
-        raise Refusal(f"{called}: its {len(details)} transactions don't make its amount, {entry.money}")
+    is_parted = len(details) > 1 and entry.is_detailed and credited_by(details) == entry.money
     groups = [((it,), it.credited) for it in details] if is_parted else [(details, entry.money)]
     for number, (group, money) in enumerate(groups, 1):
         own = group[0] if len(group) == 1 else None
@@ -136,7 +135,7 @@ def payments_of(statement: Statement, place: int, entry: Entry) -> Iterator[Paym
             value=entry.value or entry.booked,
             money=money,
             transactions=group,
-            is_detailed=entry.is_detailed,
+            is_detailed=entry.is_detailed and not any(it.is_debit for it in group),
         )
 
 
@@ -168,7 +167,8 @@ class BankFile:
             if reason := reason_to_leave_out(entry):
                 called = f"entry {place} of {statement.called}"
                 amounts = entry.amounts | {entry.money}
-                self.left_out.append(LeftOut(reason, called, entry.value or entry.booked, entry.money, amounts))
+                self.left_out.append(LeftOut(reason, called, entry.value or entry.booked, entry.money, amounts,
+                                             entry.payouts))
                 continue
             payments = [*payments_of(statement, place, entry)]
             self.check_parts(statement, f"entry {place} of {statement.called}", entry, payments)
@@ -193,6 +193,16 @@ class BankFile:
         if not is_known and any((it.value, it.cents) == whole for it in self.earlier_lines(entry.reference)):
             raise Refusal(f"{called} stands in an earlier file as one line, {shown(entry.reference)}, and now comes "
                           "in its transactions, so it would count twice; give the statement that it was made of")
+        parts = (it.reference for it in entry.transactions if it.reference and it.reference not in own)
+        part = next((it for it in parts if not is_known and self.is_earlier(it, whole[0])), None)
+        if part:
+            raise Refusal(f"{called} stands in an earlier file in its transactions, as {shown(part)}, and now comes as "
+                          "one line, so it would count twice; give the statement that it was made of")
+
+    def is_earlier(self, reference: str, value: str) -> bool:
+        """Whether an earlier file has a line of that day under a reference of the bank."""
+        line = self.earlier.get(fit_reference(reference, 1))
+        return line is not None and line.value == value
 
     def earlier_lines(self, reference: str) -> Iterator[EarlierLine]:
         """The lines that an earlier file has under a reference of the bank: the first one, and those behind it."""
@@ -218,7 +228,8 @@ class BankFile:
 
     def leave_out(self, reason: Reason, payment: Payment) -> None:
         money = payment.money
-        self.left_out.append(LeftOut(reason, payment.called, payment.value, money, frozenset({money})))
+        payouts = tuple(it.payout for it in payment.transactions if it.payout)
+        self.left_out.append(LeftOut(reason, payment.called, payment.value, money, frozenset({money}), payouts))
 
     def line_of(self, payment: Payment, reference: str) -> Line:
         if payment.value is None:
@@ -239,7 +250,7 @@ class BankFile:
         return min(found, key=lambda it: it[1].value)
 
     def is_interest(self, payment: Payment) -> bool:
-        words = [set(re.findall(r"\w+", " ".join(readings(it.texts)))) for it in payment.transactions]
+        words = [words_in(it.texts) for it in payment.transactions]
         return payment.is_detailed and bool(words) and all(self.interest_words & it for it in words)
 
 

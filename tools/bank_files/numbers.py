@@ -24,6 +24,8 @@ CURRENCY_NAME = "(?:t?eur|euros?|usd|chf|gbp|pln|czk|huf|ron|dm|cent|sfr|zł|kč
 CURRENCY = rf"(?:\b{CURRENCY_NAME}\b|[€$£¤])"
 # Also as `EUR_` and `BetragEUR`.
 ANY_CURRENCY = rf"(?:(?:(?<![^\W_])|(?<=betrag|eitrag)|(?<=summe)){CURRENCY_NAME}(?![^\W_])|[€$£¤])"
+# What stands before an amount that needs no currency: i.H.v. 1001
+IN_THE_SUM_OF = r"\bi\. ?h\. ?v\b\.?"
 GROUPS = "[0-9]{1,3}(?:[ .'’][0-9]{3})+"
 # Where digits begin that don't go on from others, as the 24 of 1001,24 does.
 BEGIN = "(?<![0-9])(?<![0-9][.,:/-])"
@@ -48,13 +50,16 @@ OTHER_NUMBERS = re.compile("|".join((
     # The payer's own reference and the like, up to the bank's next mark: EREF+1001 SVWZ+
     r"\b(?:[a-z]ref|coam|oamt|ocmt|chrg|debt|cred|abw[ae]|mdat|purp) ?[+:].*?(?=\b[a-z]{1,4} ?\+|$)",
     # The first of two amounts: 1001 + 500 EUR, 1001 / 500 EUR; not Betrieb 1001 / 500 EUR
-    f"{NOT_BEHIND_A_NAME}(?:(?:{AMOUNT} ?{AND} ?){{1,9}}(?={AMOUNT} ?{CURRENCY})|{AMOUNT} ?/ ?(?=[0-9]+ ?{CURRENCY}))",
-    # Two amounts: EUR 500 + 1001, EUR 500 / 1001
-    f"{CURRENCY}[ :]{{0,2}}(?:[0-9]+ ?/|{AMOUNT}{NO_TELEPHONE} ?{AND}) ?{NO_DATE}{AMOUNT}",
+    # (Each amount is read in one way, since the ways of several in a row are multiplied.)
+    f"{NOT_BEHIND_A_NAME}(?:(?:(?>{AMOUNT}) ?{AND} ?){{1,9}}(?={AMOUNT} ?{CURRENCY})|{AMOUNT} ?/ ?(?=[0-9]+ ?{CURRENCY}))",
+    # Two amounts: EUR 500 + 1001, EUR 500 / 1001, i.H.v. 500 + 1001
+    f"(?:{CURRENCY}|{IN_THE_SUM_OF})[ :]{{0,2}}(?:[0-9]+ ?/|{AMOUNT}{NO_TELEPHONE} ?{AND}) ?{NO_DATE}{AMOUNT}",
     # An amount before its currency, or on both sides: 1001 EUR, 1001, 24 EUR, 1001 EUR 500
     rf"{AMOUNT}(?:[.,] [0-9]{{2}})? ?[-*/(]?{CURRENCY}(?:{AMOUNT_BEHIND})?",
     # An amount behind its currency: EUR 1001
     f"{CURRENCY}[*/;|+( -]{{0,2}}{AMOUNT_BEHIND}",
+    # An amount without its currency: i.H.v. 1001
+    rf"{IN_THE_SUM_OF}[ :]{{0,2}}(?>{AMOUNT})(?!\w| ?[-*/(]?{CURRENCY})",
     # An amount without its cents, a percentage, and hours: 1001,- 1001,OO 5 % 1001 Std
     rf"{AMOUNT} ?(?:[.,]-|%|std\b|stunden\b)|{BEGIN}[0-9]+[.,]oo\b",
     # A bank's number: 370 400 44
@@ -100,6 +105,9 @@ SHORT_DATE = re.compile("|".join((
 )))
 # The word right before a number: Betrieb 1001, Betrieb-Nr. 1001
 WORD_BEFORE = re.compile(r"(?<!\w)(\w+)(?:\W{1,3}(nr|nummer|no))?\W{1,3}\Z")
+# The same whatever signs stand between, of which it is enough that it may be a word for another number:
+# Rechnung Nr. : 1001, Rechnung N° 1001
+WORD_SOMEWHERE_BEFORE = re.compile(r"(?<!\w)(\w+)(?:\W+(?:nr|nummer|num|no|n|nº))?\W+\Z")
 LONGEST_WORD = 60
 # One of fewer is often a month, a count or an hour: Monat 9, 9 Arbeiter
 LEAST_SURE_DIGITS = 4
@@ -113,19 +121,20 @@ OTHER_WORD = re.compile("[0-9]*(?:(?:" + "|".join((
     # of an invoice, an order, or a payment
     r"\w*rechnung(?:s|en)?|rechn?g?|reg?|rg|inv(?:oice)?|faktura|belege?|gutschrift|storno|mahnung|\w*bescheid",
     r"\w*avis|buchungs?|lfd|op|pos(?:ition)?|angebots?|\w*auftr(?:ags?)?|order|best(?:ell(?:ung(?:s|en)?)?)?",
-    "lieferscheine?|ls",
+    "lieferscheine?|ls|artikel|dok(?:ument)?s?",
     # of who buys or sells, of a client, a contract, a file, or a reference
     "kunden?|kd|debitor(?:en)?|deb|kreditor(?:en)?|kred|lieferant(?:en)?|lief|mandant(?:en)?|mdt|berater",
     r"vertr(?:ags?)?|darl(?:ehens?)?|police|vers(?:icherungs?)?|mandats?|vorgangs?|\w*zeichen|az|gz|\w*ref(?:erenz)?",
-    "end|e2e|id(?:ent)?",
+    "end|e2e|id(?:ent)?|akten?",
     # of a building site, a worker, a house, or a town
-    "proj(?:ekt)?|bauvorhaben|bvh?|baustellen?|objekt|kostenstellen?|kst|pers(?:onal)?|arbeit(?:er|nehmer)|an",
+    "filialen?|proj(?:ekt)?|bauvorhaben|bvh?|baustellen?|objekt|kostenstellen?|kst|pers(?:onal)?|arbeit(?:er|nehmer)|an",
     r"mitarbeiter|ma|\w*(?:str|strasse|weg|platz|allee)|[0-9]{1,3}[a-z]|plz|postfach|de?",
     # of an account, a bank, a register, or a telephone
     "(?:kunden|vertrags|debitoren|kreditoren|lohn|bank|giro)?konto|kto|blz|bankleitzahl|bic|hr[ab]",
     "tel(?:efon)?|fon|(?:tele)?fax|mobil|handy|rufnummer|durchwahl",
     # an amount, a secret number, or of a tax
     r"\w*(?:betrag|summe|brutto|netto|lohn|löhne|loehne|saldo)|rest|gesamt|total|guthaben|r(?:ü|ue)ckstand|(?:ü|ue)ber",
+    r"(?:an|teil|abschlags|(?:ü|ue)ber)zahlung|raten?|abschlags?|skonto|abzug|minus|geb(?:ü|ue)hr(?:en)?",
     r"von|ihv|abzgl|zzgl|\w*tan|(?:kredit)?karten?|steuer",
 )) + ")(?:nr|nummer)?|(?:k|p|r|u?st)(?:nr|nummer))")
 # A word for a firm's number, which is no date and of no year: Betrieb 1224, Mitglieds-Nr. 1001 / 24
@@ -174,14 +183,18 @@ def numbers_in(text: str) -> list[Number]:
     for found in NUMBER_WORD.finditer(left):
         is_joined = bool(numbers and JOINED.fullmatch(left, end, found.start()))
         words = numbers[-1].words if is_joined else words_before(left, found.start())
-        is_another = is_for_another(words) or is_dated(left, found.start(), numbers[-1] if numbers else None, end)
+        is_another = numbers[-1].is_another if is_joined else is_behind_another(left, found.start())
+        is_another |= is_dated(left, found.start(), numbers[-1] if numbers else None, end)
         end, was_of_a_year = found.end(), goes_on
         goes_on = OF_A_YEAR.match(left, end) is not None
         numbers.append(Number(found[0], words, is_joined, is_another, was_of_a_year or goes_on))
     return numbers
 
 
-def is_for_another(words: frozenset[str]) -> bool:
+def is_behind_another(text: str, end: int) -> bool:
+    """Whether a word for another number stands right before."""
+    before = WORD_SOMEWHERE_BEFORE.search(text, max(0, end - LONGEST_WORD), end)
+    words = {before[1], *words_before(text, end)} if before else ()
     return any(map(OTHER_WORD.fullmatch, words))
 
 
@@ -192,7 +205,7 @@ def is_dated(text: str, start: int, before: Number | None, end: int) -> bool:
         return False
     if before and not re.search(r"\w", text[end:date.start()]):
         return before.is_another
-    return is_for_another(words_before(text, date.start()))
+    return is_behind_another(text, date.start())
 
 
 def words_before(text: str, end: int) -> frozenset[str]:

@@ -4,6 +4,7 @@ import re
 import unicodedata
 from collections.abc import Iterable
 from enum import IntEnum
+from itertools import accumulate
 
 # Control characters, and those without a width that hide something or turn the direction of writing.
 UNSHOWN = re.compile("[\x00-\x1f\x7f-\x9f\u00ad\u061c\u200b-\u200f\u2028-\u202e\u2060-\u206f\ufeff]")
@@ -69,13 +70,29 @@ def shown(text: str) -> str:
 def readings(parts: Iterable[str]) -> list[str]:
     """The parts of a text apart, and with what the bank may have cut in two put together: at all places, and at
     each one alone, for a search."""
-    text = whole = "\n".join(parts)
+    text = "\n".join(parts)
     seams = [*SEAM.finditer(text)]
+    joined = (text[:it.start()] + text[it.end():] for it in seams if len(seams) < MOST_PARTS)
+    return [it.replace("\n", " ").casefold() for it in (text, put_together(text), *joined)]
+
+
+def put_together(text: str) -> str:
+    """The text, put together at all places where the bank may have cut it."""
+    whole = text
     # A part may be a lone sign, which goes on into the next part only where it is put to that before it.
     while (more := SEAM.sub("", whole)) != whole:
         whole = more
-    joined = (text[:it.start()] + text[it.end():] for it in seams if len(seams) < MOST_PARTS)
-    return [it.replace("\n", " ").casefold() for it in (text, whole, *joined)]
+    return whole
+
+
+def words_in(parts: Iterable[str]) -> set[str]:
+    """The words of all readings of a text: one that is put together at a single place is of the parts beside it."""
+    text = "\n".join(parts)
+    lines = text.split("\n")
+    places = accumulate(len(it) + 1 for it in lines)
+    pairs = {place - 1: before + behind for place, before, behind in zip(places, lines, lines[1:])}
+    joined = (pairs[it.start()] for it in SEAM.finditer(text))
+    return set(re.findall(r"\w+", "\n".join((text, put_together(text), *joined)).casefold()))
 
 
 def cut(text: str, most_bytes: int) -> str:
