@@ -132,10 +132,13 @@ class Browser:
         self.wait(lambda: [self.one(selector).click()], f"a click on {selector}")
 
     def type(self, selector, text):
-        """Types a text in the place of what stands in a field."""
-        field = self.one(selector)
-        field.clear()
-        field.send_keys(text)
+        """Types a text in the place of what stands in a field, as soon as it can be typed there: a view that is asked
+        for anew is hidden meanwhile."""
+        def fill():
+            field = self.one(selector)
+            field.clear()
+            field.send_keys(text)
+        self.wait(lambda: [fill()], f"a text in {selector}")
 
     def press(self, *keys):
         """Presses keys wherever the focus is."""

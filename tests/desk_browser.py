@@ -57,6 +57,11 @@ class InBrowser(DeskUnderTest):
         super().setUpClass()
         cls.browser = Browser()
         cls.addClassCleanup(cls.browser.end)
+        cls.set_clock()
+
+    @classmethod
+    def set_clock(cls):
+        """Sets the clock of this window."""
         clock = {"source": CLOCK.replace("DAY", DAY)}
         cls.browser.driver.execute_cdp_cmd("Page.addScriptToEvaluateOnNewDocument", clock)
 

@@ -11,13 +11,37 @@ import sys
 
 # No __pycache__ is left beside the sources.
 sys.dont_write_bytecode = True
+from browser import what_is_missing  # noqa: E402
 from desk_browser import CLOCK, setUpModule  # noqa: E402, F401
 from desk_mishaps import Mishaps  # noqa: E402
 from desk_under_test import BANK_HEADER, DONE  # noqa: E402
 from program_under_test import run_tests  # noqa: E402
 
+if not what_is_missing():
+    from selenium.webdriver.common.keys import Keys
+
 # A zero-width space and a soft hyphen, a filler, an empty sign of braille, a tag.
 UNSEEN = ("\u200b\u00ad", "\u3164", "\u2800", "\U000e0041")
+
+
+class Counts(Mishaps):
+    """Counts have groups, in the form of the page's language."""
+
+    def test_a_large_bank_file(self):
+        # 49 bytes and 1,000 lines of 28.
+        lines = "".join(f"P{it:04},2024-02-10,,1000,C,ab\n" for it in range(1_000))
+        self.does({"new": 1000, "repeats": 0}, self.bank(BANK_HEADER + lines))
+        for language, told, total in (("en", "Lines 1 to 200 of 1,000", "1,000, together €10,000.00"),
+                                      ("de", "Zeilen 1 bis 200 von 1.000", "1.000, zusammen 10.000,00")):
+            self.browser.driver.get("about:blank")
+            self.browser.open(f"{self.address}?lang={language}")
+            self.browser.wait_for_text("#suspense-lines", told)
+            self.assertIn(total, self.browser.text("#suspense-summary"))
+        self.go("log")
+        what, reply = self.browser.table("#log-table")[1][3:]
+        self.assertEqual((what, reply), ("Bankdatei: bank.csv, 28.049 Byte", "Neu: 1.000, Wiederholungen: 0."))
+        # A number that names something has none.
+        self.assertIn("Meldung: 1001, Jan. 2024, Zeilen 1", self.browser.text("#log-table"))
 
 
 class MadeLater(Mishaps):
@@ -175,6 +199,68 @@ class Days(Mishaps):
         self.go("morning")
         self.assertEqual(self.browser.text("#morning-day"), "The office works on 30 Apr 2024.")
 
+    def start_anew(self, day):
+        """The office, for another day."""
+        self.close_office()
+        self.open_office(day, self.server.port)
+
+    def read_it(self):
+        """Takes the time to read what was told. A click before that may be the second half of a double click."""
+        self.browser.driver.execute_async_script("setTimeout(arguments[0], 700)")
+
+    def test_an_office_that_is_started_anew_for_another_day(self):
+        """Nothing is sent on a day that nobody was told of: the first request would make it the ledger day for good."""
+        self.open_firm("1001")
+        self.start_anew("2025-04-30")
+        self.claim("7", "10.00")
+        self.answers("The office works on 30 Apr 2025, and that isn't today (30 Apr 2024).", "Nothing was sent.")
+        # What is shown is of that day by now: of January 15 months were begun, of which the contribution is open.
+        self.browser.wait_for_text("#firm-day", "As of 30 Apr 2025")
+        self.browser.wait_for_text("#owed-interest", "€300.00")
+        self.assertEqual(self.browser.one("#claim-amount").get_attribute("value"), "10.00")
+        self.start_anew("2025-05-30")
+        self.browser.click("#claim-send")
+        self.browser.wait_for_text("#answer", "The office works on 30 May 2025")
+        self.assertNotIn("claim", self.worker("7"))
+        # Who was told may go on.
+        self.read_it()
+        self.browser.click("#claim-send")
+        self.browser.wait_for_text("#answer", "The claim has the number 1.")
+
+    def test_a_bank_file_on_another_day(self):
+        """The second click comes first, and the page shows the day behind it."""
+        path = self.write("late.csv", BANK_HEADER + "B1,2024-04-30,,1000,C,\n")
+        self.browser.one("#bank-file").send_keys(str(path))
+        self.browser.wait(lambda: self.browser.one("#bank-import").is_enabled(), "a checked file")
+        self.start_anew("2025-04-30")
+        self.browser.click("#bank-import")
+        self.confirm("can't be taken out")
+        self.answers("The office works on 30 Apr 2025", "Nothing was sent.")
+        self.browser.wait_for_text("#morning-day", "The office works on 30 Apr 2025.")
+        self.assertTrue(self.browser.one("#bank-import").is_enabled())
+        self.assertEqual([it[2] for it in self.logged() if it[2].startswith("bank")], [])
+
+    def test_a_view_that_tells_no_day(self):
+        self.start_anew("2024-05-31")
+        self.browser.driver.get("about:blank")
+        self.browser.open(self.address + "?lang=en#/new", "new")
+        self.type_in("register", employer="1003", name="Bau Ost", start="2024-04")
+        self.browser.click("#register-send")
+        self.answers("The office works on 31 May 2024", "Nothing was sent.")
+        self.read_it()
+        self.browser.click("#register-send")
+        self.confirm("1003", "Bau Ost")
+        self.browser.wait_for_text("#answer", "Registration: 1003 Bau Ost")
+
+    def test_the_next_morning(self):
+        """An office that was started for today is what the clerk expects, whatever day the page shows."""
+        self.open_firm("1001")
+        self.start_anew("2024-05-02")
+        self.browser.run(CLOCK.replace("DAY", "2024-05-02"))
+        self.claim("7", "10.00")
+        self.answers("done", "The claim has the number 1.")
+        self.browser.wait_for_text("#firm-day", "As of 02 May 2024")
+
     def test_a_membership_that_begins_later(self):
         self.does(DONE, self.register("1003", "Bau Ost", "2024-07"))
         self.open_firm("1003")
@@ -248,18 +334,61 @@ class Told(Mishaps):
         self.faults(413, "report-too-large", self.report("2024-02", large))
 
 
-class Paper(Mishaps):
-    """A page of the payments in suspense as it is printed."""
+class Pages(Mishaps):
+    """More payments in suspense than stand on one page."""
 
-    def test_which_lines_they_are(self):
+    def setUp(self):
+        super().setUp()
         lines = "".join(f"P{it},2024-02-10,,1000,C,\n" for it in range(1, 202))
         self.does({"new": 201, "repeats": 0}, self.bank(BANK_HEADER + lines))
         self.browser.open(self.address + "?lang=en")
         self.browser.wait_for_text("#suspense-lines", "Lines 1 to 200 of 201")
+
+    def test_another_page_begins_on_top(self):
+        """Its first line is seen, and the keyboard is there."""
+        self.browser.click("#suspense-later")
+        self.browser.wait_for_text("#suspense-lines", "Lines 201 to 201 of 201")
+        self.browser.click("#suspense-earlier")
+        self.browser.wait_for_text("#suspense-lines", "Lines 1 to 200 of 201")
+        seen = """const it = document.querySelector("#suspense-table tbody tr").getBoundingClientRect();
+            return it.top >= 0 && it.bottom <= innerHeight"""
+        self.browser.wait(lambda: self.browser.run(seen), "the first line")
+        self.assertTrue(self.browser.run("return document.activeElement.contains(document.querySelector('#suspense-table'))"
+                                         " && document.activeElement !== document.body"))
+        self.browser.press(Keys.TAB)
+        self.assertEqual(self.browser.run("return document.activeElement.dataset.reference"), "P1")
+
+    def test_which_lines_are_printed(self):
         self.addCleanup(self.browser.driver.execute_cdp_cmd, "Emulation.setEmulatedMedia", {"media": ""})
         self.browser.driver.execute_cdp_cmd("Emulation.setEmulatedMedia", {"media": "print"})
         self.assertIn("Lines 1 to 200 of 201", self.browser.text("#suspense"))
         self.assertFalse(self.browser.is_shown("#suspense-later"))
+
+
+class Focus(Mishaps):
+    """Where the keyboard is, and how a text is read out."""
+
+    def test_a_list_that_is_closed(self):
+        self.does({"firms": 1, "run": 1}, self.command("reminders"))
+        self.go("firm")
+        self.go("morning")
+        self.browser.click("#reminders-known button")
+        self.browser.wait(lambda: self.browser.focus() == "document", "the run")
+        self.browser.click("#document-close")
+        self.assertEqual(self.browser.focus(), "find-reminders-number")
+
+    def test_the_offices_texts_are_english(self):
+        """A screen reader takes them for that on the German page too."""
+        self.browser.click("#language-de")
+        self.browser.wait_for_text("#morning-title", "Tagesarbeit")
+        self.addCleanup(self.browser.click, "#language-en")
+        self.does({"firms": 1, "run": 1}, self.command("reminders"))
+        self.browser.type("#find-reminders-number", "1")
+        self.browser.click("#find-reminders-show")
+        self.browser.wait(lambda: self.browser.is_shown("#document"), "the run")
+        languages = self.browser.run("""return [...document.querySelectorAll("pre")].map((it) => [it.id, it.lang])""")
+        texts = ("document-text", "firm-text", "suspense-text", "worker-text")
+        self.assertEqual(sorted(languages), [[it, "en"] for it in texts])
 
 
 if __name__ == "__main__":

@@ -55,6 +55,7 @@ class Hurry(desk_mishaps.Mishaps):
         driver = self.browser.driver
         first = driver.current_window_handle
         driver.switch_to.new_window("tab")
+        self.set_clock()
         try:
             self.browser.open(self.address + "?lang=en")
             yield
@@ -339,6 +340,56 @@ class Late(Hurry):
         self.answers("done", "B2 to 1001")
         self.browser.wait_for_text("#suspense-summary", "1, together €1,500.00")
 
+    def register_late(self):
+        """A registration whose answer is held back."""
+        self.go("new")
+        self.type_in("register", employer="1003", name="Bau Ost", start="2024-04")
+        self.browser.click("#register-send")
+        self.browser.wait(lambda: self.browser.is_shown("#confirm"), "the second click")
+        self.hold("/api/commands/register")
+        self.browser.click("#confirm-yes")
+
+    def test_a_firm_that_is_registered_behind_another_view(self):
+        """It doesn't take the clerk away from there, with what is typed."""
+        self.register_late()
+        self.open_firm("1001")
+        self.type_in("claim", worker="7", amount="12.50")
+        self.let_go()
+        self.answers("done", "Registration: 1003 Bau Ost")
+        self.assertEqual(self.browser.text("#firm-title"), "1001 · Bau Nord")
+        self.assertEqual((self.value("claim-worker"), self.value("claim-amount")), ("7", "12.50"))
+
+    def test_a_firm_that_is_registered_while_the_next_one_is_typed(self):
+        self.register_late()
+        self.type_in("register", employer="1004", name="Bau West", start="2024-04")
+        self.let_go()
+        self.answers("done", "Registration: 1003 Bau Ost")
+        self.assertTrue(self.browser.is_shown("#form-register"))
+        self.assertEqual(self.value("register-name"), "Bau West")
+
+    def test_a_view_that_cannot_be_shown(self):
+        """It is told there, and not above another view that is shown by now."""
+        for path, late, other in (("firms/1099", "firm/1099", "worker/7"), ("firms/1098", "firm/1098", "log"),
+                                  ("payouts/9", "morning", "firm/1001"), ("suspense/0", "morning", "new")):
+            self.browser.run("location.hash = '#/firm'")
+            self.browser.wait_for_view("firm")
+            self.browser.run("globalThis.isHeld = globalThis.isRead = false")
+            self.hold(f"/api/{path}")
+            if path == "suspense/0":
+                self.close_office()
+            self.browser.run("location.hash = arguments[0]", f"#/{late}")
+            if path == "payouts/9":
+                self.browser.wait_for_view("morning")
+                self.browser.type("#find-payouts-number", "9")
+                self.browser.click("#find-payouts-show")
+            self.browser.wait(lambda: self.browser.run("return globalThis.isHeld"), path)
+            self.browser.run("location.hash = arguments[0]", f"#/{other}")
+            self.browser.wait_for_view(other)
+            self.let_go()
+            self.assertFalse(self.browser.is_shown("#fault"), (path, self.browser.text("#fault")))
+        self.go("morning")
+        self.browser.wait_for_text("#fault", "The office isn't there")
+
     def test_another_request_by_the_second_click(self):
         """The request that the clerk has looked for is dropped, and no other one."""
         self.open_firm("1001")
@@ -409,6 +460,34 @@ class Unanswered(Hurry):
         self.browser.click("#pending-send-again")
         self.browser.wait_for_text("#answer", "The claim has the number 1.")
         self.assertEqual((self.value("claim-worker"), self.value("claim-amount")), ("", ""))
+
+    def test_what_wants_a_second_click(self):
+        """Before it nothing is sent, so a desk that isn't there has done nothing. Behind it that isn't known."""
+        self.kill_desk()
+        self.browser.click("#reminders-make")
+        self.answers("The desk isn't there. Look at the window in which it was started.")
+        self.assertNotIn("known", self.browser.text("#answer"))
+        self.desk = self.start_desk(self.server.port, "--port", str(self.port), first="202404301101")
+        self.browser.click("#reminders-make")
+        self.browser.wait_for_text("#answer", "The desk was started anew, and nothing was sent.")
+        self.browser.click("#reminders-make")
+        self.browser.wait_for_text("#confirm", "A run can't be taken back")
+        self.lose_the_answer("/api/commands/reminders")
+        self.browser.click("#confirm-yes")
+        self.answers("it isn't known whether this was done")
+
+    def test_a_desk_that_is_not_there(self):
+        """It is asked for the office's day first, so what it never got wasn't done."""
+        self.open_firm("1001")
+        self.kill_desk()
+        self.claim("7", "10.00")
+        self.answers("The desk isn't there. Look at the window in which it was started.")
+        self.assertNotIn("known", self.browser.text("#answer"))
+        self.desk = self.start_desk(self.server.port, "--port", str(self.port), first="202404301101")
+        self.browser.click("#claim-send")
+        self.browser.wait_for_text("#answer", "The desk was started anew, and nothing was sent.")
+        self.browser.click("#claim-send")
+        self.browser.wait_for_text("#answer", "The claim has the number 1.")
 
 
 class TwoWindows(Hurry):

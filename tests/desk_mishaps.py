@@ -348,6 +348,24 @@ class Stopped(MadeAnswers):
             self.browser.click("#stopped-again")
             self.browser.wait(lambda: not self.browser.is_shown("#stopped"), view)
 
+    def test_a_command_that_is_not_decided(self):
+        """It may stand in the records all the same, so nothing says that it was refused."""
+        self.heals = True
+        self.open_page(self.answer)
+        self.go("new")
+        self.heals = False
+        self.type_in("register", employer="1003", name="Bau Ost", start="2024-04")
+        self.browser.click("#register-send")
+        self.confirm("Bau Ost")
+        self.answers("not decided", "The office has failed: rule 41, Store")
+        self.assertEqual(self.browser.text("#stopped-rule"), "The office has failed: rule 41, Store")
+        self.assertNotIn("efused", self.browser.text("main"))
+        # Where the office answers again, the keyboard goes on below what is gone.
+        self.heals = True
+        self.browser.click("#stopped-again")
+        self.browser.wait(lambda: self.browser.focus() == "main", "the focus")
+        self.assertTrue(self.browser.is_shown("#pending"))
+
     def test_an_answer_from_before_that_comes_late(self):
         """It doesn't take away what a later one has said."""
         self.heals = True

@@ -52,6 +52,11 @@ class Words(unittest.TestCase):
             carried = [sorted(re.findall(r"\{\w+\}", WORDS[it][key])) for it in LANGUAGES]
             self.assertEqual(carried[0], carried[1], key)
 
+    def test_a_number_that_is_anothers(self):
+        """A firm has a Betriebsnummer too, of the Federal Employment Agency and of eight digits, which the fund's forms
+        would take."""
+        self.assertEqual([key for key, text in WORDS["de"].items() if "Betriebsnummer" in text], [])
+
     def test_refusals_are_those_of_the_manual(self):
         """Number, meaning and what to do: the English words are the manual's, and the German ones stand
         beside them."""

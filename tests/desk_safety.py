@@ -25,7 +25,7 @@ from unittest import mock
 # No __pycache__ is left beside the sources.
 sys.dont_write_bytecode = True
 from desk_under_test import (  # noqa: E402
-    DONE, DeskUnderTest, FakeOffice, answer_bytes, free_port, read_message)
+    BANK_HEADER, DONE, DeskUnderTest, FakeOffice, answer_bytes, free_port, read_message)
 from program_under_test import NOBODY, ROOT, run_tests  # noqa: E402
 
 sys.path.append(str(ROOT / "tools"))
@@ -536,6 +536,11 @@ class Numbers(DeskUnderTest):
         status, told = self.post("/api/pending/send-again", "send-again", {"number": 2})
         self.assertEqual((status, told["entry"]["outcome"], told["entry"]["reply"]["rule"], told["state"]["pending"]),
                          (409, "refused-unwritten", 29, None))
+
+    def test_a_files_name_that_a_terminal_would_obey(self):
+        self.open_desk(FakeOffice(self, lambda request: answer_bytes(200, {"new": 0, "repeats": 0})).port)
+        self.bank(BANK_HEADER, "april%C2%9B2J%1B%5D.csv")
+        self.assertEqual([it["values"]["file"] for it in self.lines("log.jsonl")], ["april 2J ].csv"])
 
     def test_who_may_read_the_folder(self):
         self.open_desk(FakeOffice(self, lambda request: answer_bytes(200, DONE)).port)

@@ -19,6 +19,9 @@ from desk_safety import as_another  # noqa: E402
 from desk_under_test import DONE, FakeOffice, answer_bytes  # noqa: E402
 from program_under_test import NOBODY, run_tests  # noqa: E402
 
+# Of a claim, where the desk can't say more.
+UNKNOWN = "Not known at this desk, not open any more, or not to be learnt now: firm, worker and amount"
+
 
 def setUpModule():
     if missing := what_is_missing():
@@ -72,7 +75,7 @@ class Told(InBrowser):
         self.go("morning")
         self.type_in("release", claim="9")
         self.browser.click("#release-send")
-        self.confirm("A release is for good", "Not known at this desk: firm, worker and amount")
+        self.confirm("A release is for good", UNKNOWN)
         self.answers("refused", "rule 26, UnknownClaim")
 
     def send_as_the_firm(self, path, body=b""):
@@ -104,8 +107,8 @@ class Told(InBrowser):
         self.assertEqual(self.facts_to_withdraw(*warned), one)
         self.type_in("withdraw", claim="2")
         self.browser.click("#withdraw-send")
-        self.assertEqual(self.facts_to_withdraw("Not known at this desk: firm, worker and amount")[:2],
-                         [one[0], ["Number of the claim", "2"]])
+        facts = self.facts_to_withdraw(UNKNOWN)
+        self.assertEqual(facts[:2], [one[0], ["Number of the claim", "2"]])
         # The office's own rows tell what this desk doesn't know.
         self.browser.open(self.address + "?lang=en#/worker/7", "worker/7")
         for claim, amount in (("1", "€10.00"), ("2", "€25.00")):
@@ -123,6 +126,15 @@ class Told(InBrowser):
         self.open_firm("1001")
         self.browser.wait_for_text("#firm-claims-table tbody", "open")
         self.browser.wait_for_text("#firm-claims-table caption", "and what was done with them here")
+        # Once the office has said so, the desk knows it too, and a desk that is started anew.
+        self.browser.click("#firm-claims-table .release[data-claim='1']")
+        self.confirm("A release is for good", UNKNOWN)
+        self.answers("refused", "rule 27, ClaimNotOpen")
+        self.browser.wait_for_text("#firm-claims-table tbody", "not open any more")
+        self.assertEqual(self.browser.all("#firm-claims-table button"), [])
+        self.kill_desk()
+        self.start_desk(self.server.port, "--port", str(self.port), first="202404301101")
+        self.assertEqual(self.get("/api/firms/1001")[1]["claims"][0]["state"], "over")
         self.browser.open(self.address + "#/worker/7", "worker/7")
         self.browser.wait_for_text("#worker-claims", "There is no claim for the worker.")
 
@@ -130,7 +142,7 @@ class Told(InBrowser):
         self.go("new")
         self.type_in("register", employer="1003", name="Bau \u202eOst", start="2024-04")
         self.browser.click("#register-send")
-        self.browser.wait_for_text("#form-register .field-fault", "no invisible signs that turn the direction")
+        self.browser.wait_for_text("#form-register .field-fault", "no control signs, as those that turn the direction")
         self.assertEqual(self.browser.focus(), "register-name")
 
 

@@ -76,15 +76,18 @@ class FakeOffice:
                 peer, _ = self.listener.accept()
             except OSError:
                 return
-            with peer:
-                request = read_message(peer)
-                if request.startswith(KEY_QUESTION):
-                    peer.sendall(self.key_answer)
-                    continue
-                self.requests.append(request)
-                answer = self.answer(request)
-                if answer is not None:
-                    peer.sendall(answer)
+            self.take(peer)
+
+    def take(self, peer):
+        with peer:
+            request = read_message(peer)
+            if request.startswith(KEY_QUESTION):
+                peer.sendall(self.key_answer)
+                return
+            self.requests.append(request)
+            answer = self.answer(request)
+            if answer is not None:
+                peer.sendall(answer)
 
 
 def answer_bytes(status, body, kind="application/json"):

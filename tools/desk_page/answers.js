@@ -81,20 +81,26 @@ export function replyText(entry) {
   return hasWords(key) ? say(key, written(entry.kind, entry.reply)) : "";
 }
 
+/** Whether a rule says that the office's records have failed. */
+const isFailure = (rule) => rule === 41 || rule === 42;
+
 /** What the clerk does about a refusal. Where the manual says to look further, that is what stands here. */
 function actText(rule, detail) {
   if (rule === 18 && hasWords(`limit.${detail}.do`)) {
     return say(`limit.${detail}.do`);
   }
-  return rule === 41 || rule === 42 ? say("stopped.text") : say(`refusal.${rule}.do`);
+  return isFailure(rule) ? say("stopped.text") : say(`refusal.${rule}.do`);
 }
+
+/** Number and name of a refusal. Where the records failed, a command may have been done all the same. */
+const ruleText = (refusal) => say(isFailure(refusal.rule) ? "answer.failure" : "answer.rule", refusal);
 
 /** The lines that tell a refusal: number and name, what it means, what it carries, what to do. */
 function refusalLines(refusal) {
-  const { rule, name, detail } = refusal;
+  const { rule, detail } = refusal;
   const carried = detailText(rule, detail);
   return [
-    make("h2", {}, say("answer.rule", { rule, name })),
+    make("h2", {}, ruleText(refusal)),
     make("p", { class: "means" }, say(`refusal.${rule}.means`)),
     carried ? make("p", { class: "detail strong" }, carried) : null,
     make("p", { class: "do" }, make("strong", {}, say("answer.do")), " ", actText(rule, detail)),
@@ -112,9 +118,9 @@ export function toldLines(told) {
   return lines.filter(Boolean);
 }
 
-/** Tells why a view can't be shown. What stops the forms is told on top. */
-export function tellFault(told) {
-  if (told.state?.failure) {
+/** Tells why a view can't be shown, if it is still the one that is open. What stops the forms is told on top. */
+export function tellFault(told, view) {
+  if (told.state?.failure || byId(`view-${view}`).hidden) {
     return;
   }
   byId("fault").replaceChildren(...toldLines(told));
@@ -179,7 +185,7 @@ export function showState(state) {
   }
   byId("stopped").hidden = !failure;
   if (failure) {
-    byId("stopped-rule").textContent = say("answer.rule", failure);
+    byId("stopped-rule").textContent = ruleText(failure);
   }
   byId("pending").hidden = !pending;
   if (pending) {

@@ -1,10 +1,17 @@
 // Asks the desk. The key of the office is the desk's: this page never has it.
 
+import { unexpected } from "./days.js";
 import { byId } from "./elements.js";
 import { currentLanguage, hasWords, say } from "./words.js";
 
 // Of a file: the office takes no more at once.
 export const MOST_BYTES = 1_048_576;
+// A short document of the office, whether there is such a worker or not: it has the office's day.
+const DAY_PATH = "/api/workers/999999999";
+// In milliseconds: a busy office isn't waited for twice.
+const DAY_WAIT = 3_000;
+// What moves the office's ledger day.
+const MOVES_DAY = /^\/api\/(?:commands\/|pending\/send-again$)/;
 
 let session = null;
 let heard = () => {};
@@ -23,15 +30,18 @@ export function onState(listener) {
   heard = listener;
 }
 
-async function ask(path, options, read = (answer) => answer.json()) {
-  let answer;
-  let told;
+/** What the desk answers; a fault where it isn't there. */
+async function answered(path, options, read = (answer) => answer.json()) {
   try {
-    answer = await fetch(path, { cache: "no-store", redirect: "error", ...options });
-    told = await read(answer);
+    return await read(await fetch(path, { cache: "no-store", redirect: "error", ...options }));
   } catch {
     return { fault: "no-desk", carried: {} };
   }
+}
+
+/** What the desk answers, when its state was heard. */
+async function ask(...asked) {
+  const told = await answered(...asked);
   // An answer may come behind a later one.
   if (told.state && told.state.at > heardAt) {
     heardAt = told.state.at;
@@ -88,18 +98,38 @@ async function showSending(asked, word) {
   return told;
 }
 
+/** Why nothing goes on to the office: the desk isn't there, or the office was started anew for another day. Null
+ * where it may, or where the office doesn't soon say its day. The state isn't heard: in it what is being sent has no
+ * answer yet, and the command's own answer has one. */
+async function dayFault() {
+  const askedAt = performance.now();
+  const signal = AbortSignal.timeout(DAY_WAIT);
+  const told = await answered(DAY_PATH, { signal });
+  if (told.fault === "no-desk") {
+    return signal.aborted ? null : { ...told, isUnsent: true };
+  }
+  return told.worker ? unexpected(told.worker.day, askedAt) : null;
+}
+
+/** Sends a body to the desk, if it isn't stopped by the office's day. */
+async function send(path, options) {
+  return (MOVES_DAY.test(path) ? await dayFault() : null) ?? ask(path, options);
+}
+
 async function post(path, form, body, fields) {
   const headers = { "Desk-Token": session?.tokens[form] ?? "", ...fields };
-  const asked = ask(path, { method: "POST", headers, body });
+  const asked = send(path, { method: "POST", headers, body });
   // Nothing is sent on before the second click.
-  const word = fields["Desk-Confirmed"] === "no" && hasWords(`confirm.${form}.yes`) ? "loading" : "sending";
+  const isSent = fields["Desk-Confirmed"] === "yes" || !hasWords(`confirm.${form}.yes`);
+  const word = isSent ? "sending" : "loading";
   const told = await (path.startsWith("/api/check/") ? asked : showSending(asked, word));
   if (told.fault === "token") {
     // The desk was started anew: the next try has its new tokens.
     await beginSession();
   }
   // The desk may have sent the command on before it stopped, or the machine slept.
-  const isUnanswered = told.fault === "no-desk" && path.startsWith("/api/commands/");
+  const isLost = told.fault === "no-desk" && isSent && !told.isUnsent;
+  const isUnanswered = isLost && path.startsWith("/api/commands/");
   return isUnanswered ? { ...told, fault: "unanswered" } : told;
 }
 

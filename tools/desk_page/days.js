@@ -6,8 +6,15 @@ import { say } from "./words.js";
 
 // In milliseconds.
 const MINUTE = 60_000;
+// As long as a double click may take: whoever sends sooner hasn't read what was told.
+const READING = 500;
 // The day that each view was told last; null where the office didn't tell it.
 const days = new Map();
+// The day of which the clerk was told last, by whichever view.
+let lastTold = null;
+// When such a day was told in the place of sending something.
+let toldAt = -Infinity;
+let showAnew = () => {};
 
 function warn(view) {
   const warning = byId(`${view}-other-day`);
@@ -19,8 +26,32 @@ function warn(view) {
  * known. */
 export function tellDay(view, officeDay, word) {
   days.set(view, officeDay);
+  // Of a view that was left meanwhile nobody reads it.
+  lastTold = (byId(`view-${view}`).hidden ? null : officeDay) ?? lastTold;
   byId(`${view}-day`).textContent = officeDay === null ? "" : say(word, { day: day(officeDay) });
   warn(view);
+}
+
+/** Calls this when the office has come to work on another day than what is shown. */
+export function onOtherDay(listener) {
+  showAnew = listener;
+}
+
+/** The fault of an office that works on another day than today, if the clerk wasn't told of that day before this was
+ * asked for, at a time of the page's: who is told now may go on. Null where there is none. */
+export function unexpected(officeDay, askedAt) {
+  const isTold = officeDay === lastTold;
+  if (officeDay === today() || (isTold && askedAt - toldAt > READING)) {
+    // Another day, that was told before this one, is told anew.
+    lastTold = isTold ? officeDay : null;
+    return null;
+  }
+  lastTold = officeDay;
+  toldAt = performance.now();
+  if (!isTold) {
+    showAnew();
+  }
+  return { fault: "other-day", carried: { day: day(officeDay), today: day(today()) } };
 }
 
 /** The page may stand open over night. */

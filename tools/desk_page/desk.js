@@ -3,7 +3,8 @@
 import { beginPending, clearAnswer, clearFault, isDone, showState, tellAnswer, tellFault } from "./answers.js";
 import { askSettled, beginSession, getFile, onState, theSession } from "./api.js";
 import { clearBank, showBank } from "./bank.js";
-import { byId, make } from "./elements.js";
+import { onOtherDay } from "./days.js";
+import { byId, goAlong, make } from "./elements.js";
 import { askFirm, beginFirm, showFirm, showRecent } from "./firm.js";
 import { beginFinder, beginForm, clearFields, wasSentAs } from "./forms.js";
 import { askLog, showLog } from "./log.js";
@@ -36,11 +37,11 @@ function place() {
   return isView ? { view, number: number ?? null } : { view: "morning", number: null };
 }
 
-/** Whether there is a session with the desk; begins one where that failed before. */
-async function hasSession() {
+/** Whether there is a session with the desk, which a view needs; begins one where that failed before. */
+async function hasSession(view) {
   const told = theSession() ?? await beginSession();
   if (told.fault) {
-    tellFault(told);
+    tellFault(told, view);
   }
   return !told.fault;
 }
@@ -64,7 +65,7 @@ async function show({ view, number, asked } = askView()) {
     }
   }
   byId("loading").hidden = false;
-  if (await hasSession()) {
+  if (await hasSession(view)) {
     await VIEWS[view].open(number, asked);
   }
   if (turn !== turns) {
@@ -155,7 +156,9 @@ function beginForms() {
   beginFirm();
   beginWorker();
   beginForm("form-register", (told) => {
-    if (isDone(told)) {
+    // Who went on meanwhile, to another view or the next registration, is left there.
+    const isAwaited = place().view === "new" && wasSentAs(byId("form-register"), told.entry.number);
+    if (isDone(told) && isAwaited) {
       goTo(`#/firm/${told.entry.values.employer}`, true);
     }
   });
@@ -175,11 +178,15 @@ function beginForms() {
 }
 
 function beginLinks() {
-  byId("stopped-again").addEventListener("click", async () => {
+  byId("stopped-again").addEventListener("click", () => goAlong(async () => {
     // Not every view asks the office.
     await askMorning();
-    show();
-  });
+    await show();
+  }, () => {
+    if (byId("stopped").hidden) {
+      byId("main").focus({ preventScroll: true });
+    }
+  }));
   for (const kind of ["dragover", "drop"]) {
     // A file that is dropped beside its place would be opened, and the page with what is typed in it be gone.
     document.addEventListener(kind, (event) => event.preventDefault());
@@ -200,6 +207,7 @@ function beginLinks() {
 function begin() {
   onState(takeState);
   takeState(state);
+  onOtherDay(() => show());
   beginForms();
   beginLinks();
   addEventListener("hashchange", () => {

@@ -54,6 +54,16 @@ export function table(id, caption, columns, rows) {
   return make("div", { class: "scroll", tabindex: "0", role: "region", "aria-label": caption }, whole);
 }
 
+/** Does what the clerk has clicked on and then this, as taking the focus along, unless the clerk has gone on to
+ * something else meanwhile. */
+export async function goAlong(act, then) {
+  const before = document.activeElement;
+  await act();
+  if ([before, document.body].includes(document.activeElement)) {
+    then();
+  }
+}
+
 export const row = (...cells) => ({ cells });
 
 /** The pairs of a description list: the key of a term's words, and what is said of it. */

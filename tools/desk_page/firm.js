@@ -198,7 +198,7 @@ export async function showFirm(number, asked = askFirm(number)) {
     return;
   }
   if (told.text === undefined) {
-    tellFault(told);
+    tellFault(told, "firm");
     return;
   }
   theSession().recent = told.recent;

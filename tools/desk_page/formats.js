@@ -1,14 +1,10 @@
 // Writes amounts, days, months and rates as the clerk's language has them. Amounts come as the digits of
 // whole cents and are never made into numbers, which hold no more than 2^53.
 
-import { currentLanguage, hasWords, say } from "./words.js";
+import { currentLanguage, hasWords, say, withGroups } from "./words.js";
 
 // Blanks, and signs of which nothing is drawn.
 const UNSEEN = /^[\p{White_Space}\p{Default_Ignorable_Code_Point}\p{Cc}\u2800]*$/u;
-
-function withGroups(digits, separator) {
-  return digits.replace(/\B(?=(\d{3})+$)/g, separator);
-}
 
 /** 123456 as 1.234,56 € in German, €1,234.56 in English. */
 export function euros(cents) {
@@ -16,9 +12,9 @@ export function euros(cents) {
   const whole = digits.slice(0, -2);
   const rest = digits.slice(-2);
   if (currentLanguage() === "de") {
-    return `${withGroups(whole, ".")},${rest}\u00a0€`;
+    return `${withGroups(whole)},${rest}\u00a0€`;
   }
-  return `€${withGroups(whole, ",")}.${rest}`;
+  return `€${withGroups(whole)}.${rest}`;
 }
 
 /** 1425 as 14,25 % in German, 14.25 % in English. */

@@ -21,7 +21,7 @@ export async function showLog(_number, asked = askLog()) {
     return;
   }
   if (!told.log) {
-    tellFault(told);
+    tellFault(told, "log");
     return;
   }
   byId("log-folder").textContent = say("log.folder", theSession());

@@ -5,7 +5,7 @@ import { clearFault, isDone, noteAnswer, tellAnswer, tellFault, whatStops } from
 import { get, lastOnly } from "./api.js";
 import { beginBank } from "./bank.js";
 import { beginDays, tellDay } from "./days.js";
-import { button, byId, make, pairs, row, table } from "./elements.js";
+import { button, byId, goAlong, make, pairs, row, table } from "./elements.js";
 import { beginFinder, beginForm, clearFields } from "./forms.js";
 import { day, euros, isUnseen, month } from "./formats.js";
 import { say } from "./words.js";
@@ -63,6 +63,12 @@ function turnTo(place) {
   return showMorning();
 }
 
+/** Turns to another page at the wish of the clerk, who reads it from its first line on. */
+const turnPage = (place) => goAlong(() => turnTo(place), () => {
+  byId("suspense-lines").querySelector(".scroll")?.focus({ preventScroll: true });
+  byId("suspense").scrollIntoView({ block: "start" });
+});
+
 /** Whether the lines of a page that isn't the first are all gone, as its last one was assigned. */
 function isBehind({ suspense }) {
   return Boolean(suspense) && suspense.first > 0 && suspense.first >= suspense.count;
@@ -73,7 +79,7 @@ function pager({ first: from, lines, count }) {
     return null;
   }
   const place = { first: from + 1, last: from + lines.length, count };
-  const turn = (word, place, id) => button(say(word), () => turnTo(place), { id });
+  const turn = (word, place, id) => button(say(word), () => turnPage(place), { id });
   const earlier = turn("suspense.earlier", Math.max(0, from - PAGE), "suspense-earlier");
   const later = turn("suspense.later", from + PAGE, "suspense-later");
   earlier.disabled = from === 0;
@@ -149,17 +155,20 @@ async function showDocument(kind, number) {
   const place = byId("document");
   if (told.text === undefined) {
     place.hidden = true;
-    tellFault(told);
+    tellFault(told, "morning");
     return null;
   }
   const href = `/documents/${kind === "payouts" ? "payout" : kind}-${number}.txt`;
-  const text = make("pre", { id: "document-text", tabindex: "0" }, told.text);
+  const text = make("pre", { id: "document-text", lang: "en", tabindex: "0" }, told.text);
   place.replaceChildren(
     make("h2", {}, say(`${kind}.title`)), documentTable(told),
     make("details", {}, make("summary", {}, say("text")), text),
     make("p", { class: "buttons" },
       make("a", { id: "document-download", class: "button", href, download: "" }, say("download")),
-      button(say("close"), () => { place.hidden = true; }, { id: "document-close" })));
+      button(say("close"), () => {
+        place.hidden = true;
+        byId(`find-${kind}-number`).focus();
+      }, { id: "document-close" })));
   place.hidden = false;
   place.focus();
   return (told.payout ?? told.reminders)?.day ?? null;
@@ -185,7 +194,7 @@ async function showMorning(asked = ask(first)) {
   byId("suspense").hidden = told.text === undefined;
   showDay(told);
   if (told.text === undefined) {
-    tellFault(told);
+    tellFault(told, "morning");
     return;
   }
   if (isBehind(told)) {

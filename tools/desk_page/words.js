@@ -2,6 +2,8 @@
 
 const LANGUAGES = ["de", "en"];
 const KEPT = "desk-language";
+// What words carry of things that are counted. Another number is a name of something, and has no groups.
+const COUNTS = ["bytes", "count", "first", "firms", "items", "last", "lines", "new", "repeats"];
 let words = {};
 let language = "en";
 
@@ -33,10 +35,17 @@ function wantedLanguage() {
 
 export const currentLanguage = () => language;
 
+/** Digits with what stands between thousands in the language. */
+export const withGroups = (digits) => digits.replace(/\B(?=(\d{3})+$)/g, language === "de" ? "." : ",");
+
+function carriedText(name, value) {
+  return COUNTS.includes(name) && typeof value === "number" ? withGroups(String(value)) : String(value);
+}
+
 /** The words under a key, with what they carry in the place of {names}. A key without words stays. */
 export function say(key, carried = {}) {
   const text = words[key] ?? key;
-  return text.replace(/\{(\w+)\}/g, (whole, name) => String(carried[name] ?? whole));
+  return text.replace(/\{(\w+)\}/g, (whole, name) => carriedText(name, carried[name] ?? whole));
 }
 
 export const hasWords = (key) => key in words;

@@ -59,7 +59,7 @@ export async function showWorker(number, asked = askWorker(number)) {
     return;
   }
   if (told.text === undefined) {
-    tellFault(told);
+    tellFault(told, "worker");
     return;
   }
   const { worker } = told;

@@ -19,7 +19,8 @@ NUMBER = re.compile(r"[1-9][0-9]{0,17}")
 YEAR_FIRST = re.compile(r"(2[01][0-9]{2})-(0[1-9]|1[0-2])")
 MONTH_FIRST = re.compile(r"(0?[1-9]|1[0-2])[./](2[01][0-9]{2})")
 REFERENCE = re.compile(r"[!-~]{1,35}")
-CONTROL = re.compile(r"[\x00-\x1f\x7f]")
+# A terminal may obey them, those behind 0x7F too, as where a statement or the log is shown there.
+CONTROL = re.compile(r"[\x00-\x1f\x7f-\x9f]")
 # Marks, embeddings, overrides and isolates: what stands behind one may be shown in another order than it has.
 TURNING = re.compile("[\u061c\u200e\u200f\u202a-\u202e\u2066-\u2069]")
 # Blanks, further control characters, and signs of which nothing is drawn: Unicode's default ignorable ones, and
@@ -91,9 +92,9 @@ def name(field: str, text: str) -> str:
         size = len(text.encode())
     except UnicodeEncodeError:
         raise FieldFault(field, "name") from None
-    if not 1 <= size <= NAME_BYTES or CONTROL.search(text):
+    if not 1 <= size <= NAME_BYTES:
         raise FieldFault(field, "name")
-    if TURNING.search(text):
+    if CONTROL.search(text) or TURNING.search(text):
         raise FieldFault(field, "name-turned")
     if UNSEEN.fullmatch(text):
         raise FieldFault(field, "name-unseen")

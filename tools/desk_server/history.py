@@ -14,6 +14,8 @@ from .rates import RateRow
 
 MOST_ENTRIES = 500
 ACCEPTED = ("done", "repeated")
+# The rule by which a claim that isn't open any more is neither released nor withdrawn.
+CLAIM_NOT_OPEN = 27
 
 
 def drop_from(known: dict[Any, Any], first: Any) -> None:
@@ -32,11 +34,17 @@ class History:
 
     def add(self, entry: dict[str, Any]) -> None:
         self.entries.append(entry)
-        if entry.get("outcome") not in ACCEPTED:
-            return
-        learn = getattr(self, f"learn_{entry['kind']}", None)
-        if learn is not None:
-            learn(entry["values"], entry["reply"])
+        if entry.get("outcome") in ACCEPTED:
+            learn = getattr(self, f"learn_{entry['kind']}", None)
+            if learn is not None:
+                learn(entry["values"], entry["reply"])
+        elif entry.get("outcome") == "refused" and entry["reply"].get("rule") == CLAIM_NOT_OPEN:
+            self.learn_over(entry["values"])
+
+    def learn_over(self, values: dict[str, Any]) -> None:
+        """What became of the claim isn't known: its firm has withdrawn it, or another desk did something with it."""
+        if self.claims.get(values["claim"], {}).get("state") == "open":
+            self.claims[values["claim"]]["state"] = "over"
 
     def learn_rates(self, values: dict[str, Any], _reply: dict[str, Any]) -> None:
         drop_from(self.rates, values["from"])
