@@ -14,6 +14,7 @@ import json
 import re
 from collections import defaultdict
 from datetime import datetime
+from pathlib import Path
 
 from office import Answer, Fault, Office, command_line, read_text, run, stops
 
@@ -129,9 +130,11 @@ def main():
     words = command_line(
         __doc__,
         ("requests", {"help": "the file of requests"}),
-        ("log", {"help": "it is made where it isn't there"}),
+        ("log", {"type": Path, "help": "it is made where it isn't there"}),
     )
     requests = read_requests(words.requests)
+    if words.log.exists() and not words.log.is_file():
+        raise Fault(f"{words.log}: what was answered can't be read there again", 2)
     with open(words.log, "a+b") as log:
         try:
             fcntl.flock(log, fcntl.LOCK_EX | fcntl.LOCK_NB)

@@ -12,7 +12,8 @@ import re
 from pathlib import Path
 from typing import NamedTuple
 
-from office import Fault, Office, check_numbers, command_line, read_text, request_number, run, write_whole
+from office import (
+    Fault, Office, check_numbers, command_line, printable, read_text, request_number, run, write_whole)
 
 FIRMS = re.compile(r"([1-9][0-9]{0,7})(?:-([1-9][0-9]{0,7}))?")
 # So many of the skipped numbers are told.
@@ -57,14 +58,14 @@ def save(folder, answer):
     """Writes a document into its file. Its first line."""
     title = answer.done().title
     if title is None:
-        raise Fault(f"no document of an office: {answer.text[:60]}", 3)
+        raise Fault(printable(f"no document of an office: {answer.text[:60]}"), 3)
     write_whole(file_of(folder, title), answer.text.encode())
     return title
 
 
 def save_and_tell(folder, answer):
     title = save(folder, answer)
-    print(f"{title}: {' '.join(answer.text.splitlines()[-1].split())}")
+    print(printable(f"{title}: {' '.join(answer.text.splitlines()[-1].split())}"))
     return title
 
 

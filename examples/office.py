@@ -5,11 +5,13 @@
 """
 
 import argparse
+import contextlib
 import http.client
 import json
 import os
 import re
 import sys
+import tempfile
 from pathlib import Path
 from typing import NamedTuple
 
@@ -75,7 +77,7 @@ class Answer(NamedTuple):
         if self.status == 200 and self.title:
             return 0
         members = self.members
-        if self.status == 200 and set(members) in REPLIES:
+        if self.status == 200 and set(members) in REPLIES and all(isinstance(it, int) for it in members.values()):
             return 0
         if self.status != 200 and set(members) == REFUSAL and isinstance(members["rule"], int):
             return members["rule"]
@@ -83,12 +85,12 @@ class Answer(NamedTuple):
 
     def no_answer_of_an_office(self):
         """The Fault of an answer that something else gave, as a proxy."""
-        return Fault(f"no answer of an office: {self.status} {self.reason}", 3)
+        return Fault(printable(f"no answer of an office: {self.status} {self.reason}"), 3)
 
     @property
     def refusal(self):
         told = self.members
-        return f"rule {told.get('rule')} {told.get('name')} {told.get('detail')}".rstrip()
+        return printable(f"rule {told.get('rule')} {told.get('name')} {told.get('detail')}".rstrip())
 
     def done(self):
         """The same answer, of a request that is to be done."""
@@ -122,7 +124,7 @@ class Office:
         except (http.client.HTTPException, OSError) as why:
             self.connection.close()
             address = f"{self.connection.host}:{self.connection.port}"
-            raise Fault(f"no answer from {address}: {why}", 3) from why
+            raise Fault(f"no answer from {address}: {printable(str(why).strip())}", 3) from why
 
     def ask_once(self, method, path, number, body):
         fields = {"Office-Key": self.key}
@@ -132,6 +134,11 @@ class Office:
         self.connection.request(method, path, body.encode() or None, fields)
         answer = self.connection.getresponse()
         return Answer(answer.status, answer.reason, answer.read().decode(errors="replace"))
+
+
+def printable(text):
+    """A text that others wrote, so that a terminal only shows it."""
+    return "".join(sign if sign.isprintable() else "?" for sign in text)
 
 
 def euros(cents):
@@ -173,16 +180,18 @@ def check_numbers(first, count):
 
 
 def write_whole(path, content):
-    """Writes a file whole or not at all; one that stands there is replaced."""
-    part = path.with_name(f"{path.name}.part")
+    """Writes a file whole or not at all; one that stands there is replaced. The part has a name that nobody can
+    tell beforehand: in a folder of several users one might stand there already, theirs or a link."""
+    handle, part = tempfile.mkstemp(prefix=".part-", dir=path.parent)
     try:
-        with open(part, "wb") as file:
+        with open(handle, "wb") as file:
             file.write(content)
             file.flush()
             os.fsync(file.fileno())
         os.replace(part, path)
-    except OSError:
-        part.unlink(missing_ok=True)
+    except BaseException:
+        with contextlib.suppress(FileNotFoundError):
+            os.unlink(part)
         raise
 
 
@@ -199,30 +208,57 @@ def command_line(text, *arguments):
     return parser.parse_args()
 
 
+def tell(*lines):
+    """Tells these lines on standard error. Where it is closed, or on a full disk, the status alone says what happened."""
+    if sys.stderr is not None:
+        try:
+            print(*lines, sep="\n", file=sys.stderr)
+        except OSError:
+            # What is left to tell would fail once more.
+            sys.stderr = None
+
+
+def outcome(work):
+    """The status of some work, which returns it or ends by a fault, which is told."""
+    try:
+        return work()
+    except SystemExit as end:
+        # Of a wrong command line, or of --help.
+        return end.code
+    except Fault as fault:
+        tell(fault)
+        if fault.status == 3:
+            tell(f"when the office answers, {AGAIN}")
+        return fault.status
+    except KeyboardInterrupt:
+        tell(BROKEN_OFF)
+        return 130
+    except OSError as why:
+        tell(why)
+        # Without a name it is a write that failed: on a disk that is full, or to `head`, which has read enough.
+        if why.filename is None:
+            tell(BROKEN_OFF)
+            # What is left to print would fail once more.
+            sys.stdout = None
+        return 2
+
+
+def flush():
+    """Writes what was printed and isn't written yet."""
+    if sys.stdout is not None:
+        sys.stdout.flush()
+    return 0
+
+
 def run(script):
     """Runs a script, which returns its status; tells its fault. Its files are its user's alone."""
     os.umask(0o077)
     # A letter that standard output can't have is told as `?`; standard error has an escape for it.
     if sys.stdout is not None:
         sys.stdout.reconfigure(errors="replace")
-    try:
-        status = script()
-        if sys.stdout is not None:
-            sys.stdout.flush()
-    except Fault as fault:
-        print(fault, file=sys.stderr)
-        if fault.status == 3:
-            print(f"when the office answers, {AGAIN}", file=sys.stderr)
-        status = fault.status
-    except KeyboardInterrupt:
-        print(BROKEN_OFF, file=sys.stderr)
-        status = 130
-    except OSError as why:
-        print(why, file=sys.stderr)
-        # Without a name it is a write that failed: on a disk that is full, or to `head`, which has read enough.
-        if why.filename is None:
-            print(BROKEN_OFF, file=sys.stderr)
-            # What is left to print would fail once more.
-            sys.stdout = None
-        status = 2
-    sys.exit(status)
+    # Where standard error is closed, argparse would tell a wrong command line elsewhere, or fail.
+    if sys.stderr is None:
+        sys.stderr = open(os.devnull, "w", errors="replace")
+    status = outcome(script)
+    # Whatever ended the script: a write that fails as Python ends has a status of its own.
+    sys.exit(outcome(flush) or status)

@@ -11,9 +11,8 @@ import csv
 import io
 import json
 import re
-import sys
 
-from office import Fault, Office, check_numbers, command_line, euros, read_text, request_number, run, stops
+from office import Fault, Office, check_numbers, command_line, euros, read_text, request_number, run, stops, tell
 
 HEADER = ["employer", "month", "worker", "gross"]
 MONTH = re.compile(r"2[01][0-9]{2}-(0[1-9]|1[0-2])")
@@ -106,7 +105,7 @@ def main():
     if words.version and len(reports) != 1 and not faults:
         faults.append(f"{len(reports)} reports; a correction is of one")
     if faults:
-        print(*faults, f"{words.file}: nothing is sent", sep="\n", file=sys.stderr)
+        tell(*faults, f"{words.file}: nothing is sent")
         return 2
     check_numbers(words.number, len(reports))
     refused = send(Office(words.address, words.key), words.number, reports, words.version)

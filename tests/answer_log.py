@@ -50,6 +50,12 @@ class AnswerLog(Scripts):
         self.assertEqual(entries[0], {"request": first.strip(), "status": "200 OK", "answer": '{"done":true}'})
         self.assertEqual(entries[-1]["answer"], '{"charge":20,"version":1}')
 
+    def test_a_log_that_cannot_be_read_again(self):
+        """As a window, a pipe or a device; of some what is read has no end."""
+        self.write("batch", REPORT_LINE)
+        for log in ("/dev/stdout", "/dev/null", "."):
+            self.refuses_to_start(f"{log}: what was answered can't be read there again\n", "answer_log", "batch", log)
+
     def test_refusals(self):
         self.open_office()
         self.write("batch", REPORT_LINE + "POST /payouts -\n")

@@ -5,11 +5,14 @@
 PROGRAM is crates/clear_app/out/clear_app where it isn't given, as `rt ci` leaves it.
 """
 
+import contextlib
 import os
+import shlex
 import signal
 import socket
 import subprocess
 import sys
+import threading
 
 # No __pycache__ is left beside the sources.
 sys.dont_write_bytecode = True
@@ -67,6 +70,56 @@ class BrokenOff(Scripts):
                                      stderr=subprocess.PIPE, timeout=60)
                 self.assertEqual((ran.returncode, ran.stderr.decode()), (2, f"{why}\n{BROKEN_OFF}"), name)
 
+    def test_what_was_printed_before_the_end(self):
+        """It is written whatever ended the script, or the status is that of what can't be written."""
+        self.open_office()
+        self.ask_desk(REGISTRATION)
+        no_clerk = self.command("month_end", "april", 2, 1001, key="firm.key")
+        unknown = self.command("month_end", "april", 2, 9999)
+        usage = self.command("month_end")[:-2] + ["--help"]
+        buffered = {name: value for name, value in os.environ.items() if name != "PYTHONUNBUFFERED"}
+        for command, told in ((no_clerk, "rule 7 NotYours\n"), (usage, ""),
+                              (unknown, "no number is a firm's, so no run and no list is made\n")):
+            with open("/dev/full", "w") as full:
+                ran = subprocess.run(command, cwd=self.folder, env=buffered, stdout=full, stderr=subprocess.PIPE, timeout=60)
+            self.assertEqual((ran.returncode, ran.stderr.decode()),
+                             (2, f"{told}[Errno 28] No space left on device\n{BROKEN_OFF}"), command)
+
+    def test_what_cannot_be_told(self):
+        """Where standard error is closed, or on a disk that is full, the status says what there is to say."""
+        self.open_office()
+        self.close_office()
+        self.write("wrong.csv", "employer,month,worker,gross\n1001,2024-02,7,1.50\n")
+        cases = ((3, "month_end", ["april", 2, 1001]), (3, "reports_from_csv", [4, "wages.csv"]),
+                 (3, "answer_log", ["batch", "log"]), (2, "reports_from_csv", [4, "wrong.csv"]),
+                 (2, "answer_log", ["no file", "log"]), (2, "month_end", []))
+        for status, name, words in cases:
+            command = " ".join(map(shlex.quote, self.command(name, *words)))
+            for stream in ("2>/dev/full", "2>&-"):
+                ran = subprocess.run(f"{command} {stream}", cwd=self.folder, shell=True, stdout=subprocess.PIPE, timeout=60)
+                printed = b"sent: 0, skipped: 0, refused: 0, left: 2\n" if status == 3 and name == "answer_log" else b""
+                self.assertEqual((ran.returncode, ran.stdout), (status, printed), (name, words, stream))
+
+    def test_what_is_no_office(self):
+        """None of its signs reaches the terminal as it came, and no value is taken for a number."""
+        of_length = "HTTP/1.1 200 OK\r\nContent-Length: {}\r\n\r\n{}".format
+        document, reply = "suspense 2024-04-30\n\x1b[2J\n", r'{"charge":1,"version":"\u001b[2J"}'
+        no_office = f"no answer of an office: 200 OK\n{AGAIN}"
+        for answer, name, words, printed, told in (
+                ("\x1b]0;x\x07 no HTTP\r\n", "answer_log", ["batch", "log"], "sent: 0, skipped: 0, refused: 0, left: 2\n",
+                 f"no answer from ADDRESS: ?]0;x? no HTTP\n{AGAIN}"),
+                ("HTTP/9\x1b[2J 200 OK\r\n", "month_end", ["april", 2, 1001], "",
+                 f"no answer from ADDRESS: HTTP/9?[2J\n{AGAIN}"),
+                (of_length(len(document), document), "month_end", ["april", 2, 1001],
+                 "statements: 1\nsuspense 2024-04-30: ?[2J\n", no_office),
+                (of_length(len(reply), reply), "reports_from_csv", [1, "wages.csv"], "",
+                 f"no answer of an office: 200 OK\n2 reports have no answer\n{AGAIN}")):
+            with self.subTest(answer), socket.create_server(("127.0.0.1", 0)) as listener:
+                self.address = f"127.0.0.1:{listener.getsockname()[1]}"
+                threading.Thread(target=answers, args=(listener, answer.encode()), daemon=True).start()
+                errors = told.replace("ADDRESS", self.address)
+                self.assertEqual(self.script(name, *words, status=3, errors=errors), printed)
+
     def test_a_number_of_a_month_end_that_is_taken(self):
         """The run is made, and it is told that the list isn't."""
         self.open_office()
@@ -107,6 +160,16 @@ class Corrections(Scripts):
             self.write("wages.csv", CSV_HEADER + lines)
             self.refuses_to_start(f"{fault}\nwages.csv: nothing is sent\n",
                                   "reports_from_csv", 1, "wages.csv", 1)
+
+
+def answers(listener, answer):
+    """Answers each request over a connection of its own with these bytes."""
+    with contextlib.suppress(OSError):
+        for _ in range(8):
+            peer, _ = listener.accept()
+            with peer:
+                peer.recv(65536)
+                peer.sendall(answer)
 
 
 if __name__ == "__main__":

@@ -9,6 +9,7 @@ PROGRAM is crates/clear_app/out/clear_app where it isn't given, as `rt ci` leave
 import contextlib
 import os
 import re
+import shlex
 import shutil
 import signal
 import socket
@@ -167,6 +168,35 @@ class Manual(Documents):
         self.server.wait(timeout=30)
         self.assertEqual(self.log.read_text(), self.printed)
         self.server = None
+
+
+class Starters(unittest.TestCase):
+    """Today's date in the lines of programs that start the office, by what their own manuals say of `%` and `$`."""
+
+    def setUp(self):
+        self.text = (ROOT / "docs/clerk.md").read_text()
+
+    def tells(self, command, said):
+        """A shell tells this, with today's date, of whatever day it is: another one may begin meanwhile."""
+        days = [time.strftime("%F")]
+        told = subprocess.run(["sh", "-c", command], capture_output=True, text=True, timeout=60)
+        days.append(time.strftime("%F"))
+        self.assertIn(told.stdout, [f"{said.format(day)}\n" for day in days], told)
+
+    def test_a_crontab(self):
+        """crontab(5): the command ends at a `%`, but for one behind a backslash, which stands for itself."""
+        word = re.search(r"in a crontab `([^`]+)`", self.text, re.IGNORECASE)[1]
+        self.tells(re.split(r"(?<!\\)%", f"echo {word}")[0].replace(r"\%", "%"), "{}")
+
+    def test_a_unit(self):
+        """systemd.unit(5) and systemd.service(5): `%%` and `$$` stand for `%` and `$`, each alone for something else."""
+        unit = next(block for block in indented_blocks(self.text) if block[0] == "[Service]")
+        line = next(it for it in unit if it.startswith("ExecStart="))
+        self.assertFalse(set("%$") & set(re.sub(r"%%|\$\$", "", line)), line)
+        shell, flag, command = shlex.split(line.removeprefix("ExecStart=").replace("%%", "%").replace("$$", "$"))
+        self.assertEqual((shell, flag, command.split()[0]), ("/bin/sh", "-c", "exec"))
+        self.tells(command.replace("exec ", "echo ", 1),
+                   "/srv/vonyakes/clearing serve fund.db callers.toml {} 8080 1000000")
 
 
 class Plans(unittest.TestCase):

@@ -15,6 +15,7 @@ import resource
 import shutil
 import socket
 import sqlite3
+import stat
 import subprocess
 import sys
 import tempfile
@@ -370,6 +371,22 @@ class MonthEnd(Scripts):
         self.assertEqual(statement.read_text(), before)
         self.assertEqual([it.name for it in (self.folder / "april").iterdir() if it.suffix != ".txt"], [])
 
+    def test_what_another_user_put_in_the_folder(self):
+        """Under names that can be told beforehand: neither is it written into, nor does a link lead elsewhere."""
+        april = self.folder / "april"
+        april.mkdir(mode=0o777)
+        theirs, ours = self.write("theirs", "theirs\n"), self.write("ours", "ours\n")
+        names = ["statement-1001-2024-04-30.txt", "suspense-2024-04-30.txt", "reminders-1-2024-04-30.txt"]
+        os.link(theirs, april / f"{names[0]}.part")
+        (april / f"{names[1]}.part").symlink_to(ours)
+        (april / names[2]).symlink_to(ours)
+        self.script("month_end", "april", 2, "1001")
+        self.assertEqual((theirs.read_text(), ours.read_text()), ("theirs\n", "ours\n"))
+        for name in names:
+            made = (april / name).lstat()
+            self.assertTrue(stat.S_ISREG(made.st_mode), name)
+            self.assertEqual((made.st_nlink, made.st_mode & 0o077), (1, 0), name)
+
     def test_numbers_that_do_not_serve_for_all(self):
         last = 999_999_999_999_999_999
         fault = f"2 numbers from {last} on go past {last}\n"
@@ -506,6 +523,18 @@ class Client(Scripts):
             self.assertEqual(office.Answer(200, "OK", body).rule, 0)
         refusal, = re.findall(r"^\| a refusal \| `(.*)` \|$", text, re.M)
         self.assertEqual(office.Answer(409, "Conflict", refusal).rule, 10)
+
+    def test_signs_that_a_terminal_would_obey(self):
+        """Of a refusal, whose detail may be a member's name, and of what is no office."""
+        self.open_office()
+        names = "\\u001b]0;x\\u0007", "\\u009b2J"
+        self.write("batch", "".join(f'POST /assign {at} {{"employer":1,"reference":"B","{name}":1}}\n'
+                                    for at, name in enumerate(names, 1)))
+        said = self.script("answer_log", "batch", "log", status=1)
+        self.assertEqual(said, "POST /assign 1: rule 8 BadBody ?]0;x?\nPOST /assign 2: rule 8 BadBody ?2J\n"
+                               "sent: 2, skipped: 0, refused: 2\n")
+        with self.assertRaisesRegex(office.Fault, r"^no answer of an office: 404 \?\[2J$"):
+            office.Answer(404, "\x1b[2J", "none").done()
 
     def test_what_is_no_office(self):
         with socket.create_server(("127.0.0.1", 0)) as listener:

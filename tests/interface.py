@@ -154,6 +154,20 @@ class Client(Streams):
         self.assertEqual(done, ['{"done":true}'] * 2 + ['{"new":1,"repeats":0}'] * 2)
         self.assertEqual(reused, '{"detail":"","name":"NumberReused","rule":9}')
 
+    def test_which_refusals_of_head_have_a_body(self):
+        head, cut = b"HEAD /suspense HTTP/1.1\r\n", b"HEAD /suspense HTTP/1.1\r\nHost: office\r\n"
+        for request, rule, has_body in (
+                (head + b"Host : office\r\n\r\n", 1, True), (cut, 1, True), (head + b"\r\n", 1, False),
+                (cut + b"Host: office\r\n\r\n", 1, False),
+                (cut + b"A: b\r\n" * 64 + b"\r\n", 2, True), (cut + b"A: " + b"b" * 16384, 2, True),
+                (cut + b"Content-Length: 1048577\r\n\r\n", 2, False), (cut + b"Expect: x\r\n\r\n", 3, False),
+                (cut + b"\r\n", 5, False)):
+            status, output, errors = self.run_program("stream", "rates.toml", "callers.toml", DAY, stdin=request)
+            self.assertEqual((status, errors), (0, ""))
+            answer, _, body = output.partition("\r\n\r\n")
+            self.assertEqual(bool(body), has_body, request)
+            self.assertIn({1: "400 Bad", 2: "413 Content", 3: "417 Expect", 5: "405 Method"}[rule], answer)
+
     def test_what_is_no_json_object(self):
         def fault(employer):
             return json.loads(self.stream(post("/employers", 1, f'{{"employer":{employer}}}'))[0])["detail"]
@@ -162,8 +176,13 @@ class Client(Streams):
             "1e3": "employer", "1.0": "employer", "-0": "employer", "1e308": "employer", "1.8e308": "body",
             "1" + "0" * 308: "employer", "1" + "0" * 309: "body",
             "[" * 126 + "]" * 126: "employer", "[" * 127 + "]" * 127: "body",
+            r'"\ud83d\ude00"': "employer", r'"\ud83d"': "body", r'"\ude00"': "body",
         }.items():
             self.assertEqual(fault(employer), named, employer)
+        marked = self.stream(post("/employers", 1, '\ufeff{"employer":1001}'))[0]
+        self.assertEqual(json.loads(marked)["detail"], "body")
+        for part in ("byte order mark", "half of a surrogate pair", "1.8e308 or more", "127 deep"):
+            self.assertIn(part, PAGE[PAGE.index("Numbers are written as whole numbers"):PAGE.index("is no JSON object.")])
 
     def test_a_bank_file_of_another_program(self):
         """Line ends of each kind, and a double quote within a field."""

@@ -424,6 +424,27 @@ class Faults(Launcher):
         self.program.write_text("#!/bin/sh\nkill -XFSZ $$\necho goes on\n")
         self.assertEqual(self.run_script(), (0, "goes on\n", ""))
 
+    def test_another_user(self):
+        """What is built is for each user of the machine, whatever umask it was built under; the program has its caller's."""
+        os.umask(0o077)
+        self.write("state/program", PROGRAM.replace("cat\n", "cat\numask >&2\n"))
+        self.assertEqual(self.builds()[-1], "0077")
+        self.assertEqual(self.runs(user=NOBODY), ["0077"])
+        self.assertEqual(self.calls(), [])
+        # What keeps that user from it is told: the program need not be built again.
+        for it in (self.program.parent, self.kit, self.root / "crates/clear_http/src"):
+            mode = it.stat().st_mode
+            it.chmod(0)
+            self.assertEqual(len(self.fails("as far as this user may read", user=NOBODY)), 1)
+            it.chmod(mode)
+        self.assertEqual(self.runs(user=NOBODY), ["0077"])
+
+    def test_a_group_that_builds(self):
+        """What a group may write it may write afterwards, too."""
+        os.umask(0o002)
+        self.builds()
+        self.assertEqual(self.kit.stat().st_mode & 0o777, 0o664)
+
     def test_a_checkout_that_is_read_only(self):
         self.make_writable(False)
         self.assertEqual(len(self.fails("no file can be written", user=NOBODY)), 1)

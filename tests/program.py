@@ -186,6 +186,24 @@ class Init(Program):
         for words in (["init", "fund.db", "rates.toml"], ["statement", "fund.db", DAY, "1001"]):
             self.expect(words, 3, "", "rule 43 WrongVersion 0\n")
 
+    def database(self, *statements):
+        with contextlib.closing(sqlite3.connect(self.write("fund.db", ""))) as other:
+            for statement in statements:
+                other.execute(statement)
+                other.commit()
+        return (self.folder / "fund.db").read_bytes()
+
+    def test_a_database_in_which_nothing_was_made_is_taken(self):
+        self.assertTrue(self.database("CREATE TABLE note (title TEXT)", "DROP TABLE note"))
+        self.init()
+
+    def test_what_tells_no_schema_is_left_as_it_is(self):
+        for number, told in (("-5", "rule 41 Store\n"), ("'one'", "rule 41 Store\n"), ("7", "rule 43 WrongVersion 7\n")):
+            with self.subTest(number):
+                before = self.database("CREATE TABLE meta (one, schema)", f"INSERT INTO meta VALUES (1, {number})")
+                self.expect(["init", "fund.db", "rates.toml"], 3, "", told)
+                self.assertEqual((self.folder / "fund.db").read_bytes(), before)
+
     def test_a_store_of_another_build_is_left_as_it_is(self):
         changes = (
             "CREATE TABLE sums (employer INTEGER NOT NULL, month INTEGER NOT NULL, cents INTEGER NOT NULL) STRICT",

@@ -36,6 +36,16 @@ class Stops(program.Program):
                 server.send_signal(ended)
                 self.assertEqual(self.ended(server), (-ended, "", ""), number)
 
+    def test_a_script_that_starts_it_in_the_background(self):
+        """A shell has such a program leave SIGINT aside; SIGTERM stops it."""
+        self.init()
+        server = self.serving(9, preexec_fn=lambda: signal.signal(signal.SIGINT, signal.SIG_IGN))
+        with self.connect(server) as peer:
+            server.send_signal(signal.SIGINT)
+            self.assertIn(b'{"done":true}', ask(peer, REGISTRATION))
+            server.send_signal(signal.SIGTERM)
+            self.assertEqual(self.ended(server), (-signal.SIGTERM, "", ""))
+
     def test_no_descriptors(self):
         """Where the system gives no connections for 10 seconds, serving ends, and says that it isn't done."""
         self.init()
