@@ -3,6 +3,7 @@ ghost use Rattle.std.specs.Prelude.{◌≡◌, ◌≢◌, ◌≤◌, ◌↔◌, 
 ghost use Rattle.std.specs.Prelude.{OnOk, length};
 ghost use Rattle.std.specs.List.{slice_get};
 ghost use Rattle.clear_money.specs.Calendar.{day_of_month};
+ghost use Rattle.clear_money.specs.Limits.{most_months};
 ghost use Rattle.clear_account.specs.declared.entries.Charge.{Charge as AnyCharge};
 ghost use Rattle.clear_account.specs.declared.entries.Credit.{Credit as AnyCredit};
 ghost use Rattle.clear_account.specs.Account.{HoldsSerial, IsAccount, charged, credited, last_day};
@@ -94,7 +95,7 @@ pub trait Keeper {
     /// How many months have a charge.
     fn charge_count(&self) -> usize
         ensures count { result ≡ length (charges self.now) }
-        ensures range { result ≤ 2_400 }
+        ensures range { result ≤ most_months }
         ensures account { IsAccount (charges self.now) (credits self.now) };
 
     /// Charge `index` in month order, from 0.

@@ -1,5 +1,6 @@
 //! What a firm owes on a day, by its account.
 ghost use Rattle.std.specs.Prelude.{◌≡◌, ◌≤◌, ◌<◌, ◌↔◌, IsTrue, length};
+ghost use Rattle.clear_money.specs.Limits.{most_charge_interest};
 ghost use Rattle.clear_account.specs.Account.{IsAccount, last_day};
 ghost use Rattle.clear_account.specs.Arrears.{arrears_on};
 ghost use Rattle.clear_account.specs.Interest.{HasRates, all_interest_on, interest_on};
@@ -53,7 +54,7 @@ fn interest_of_charge<K: Keeper>(keeper: &K, rates: &RateTable, index: usize, da
     requires day { last_day (K.credits keeper.now) ≤ day }
     ensures value { result
         ≡ interest_on rates.now (K.charges keeper.now) (K.credits keeper.now) index day }
-    ensures range { result ≤ 1_206_000_000_000 }
+    ensures range { result ≤ most_charge_interest }
 {
     let Some(charge) = keeper.charge_at(index) else {
         unreachable!()

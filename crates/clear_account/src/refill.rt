@@ -3,6 +3,7 @@ ghost use Rattle.std.specs.Prelude.{◌≡◌, ◌++◌, ◌+◌, ◌^◌, ◌<�
 ghost use Rattle.std.specs.Prelude.{length};
 ghost use Rattle.clear_account.specs.Allocation.{piece_of};
 ghost use Rattle.clear_account.specs.Suffix.{pieces_behind};
+ghost use Rattle.clear_money.specs.Limits.{most_charged, most_credited, most_credits, most_months};
 
 use crate::entries::{AccountFault, Charge, Credit, Piece};
 use crate::turns::Turns;
@@ -21,10 +22,10 @@ pub fn refill(
     credits: &[Credit],
     turns: &mut Turns,
 ) -> Result<Vec<Piece>, AccountFault>
-    requires charged { charged ≤ 12_000_000_000_000 }
-    requires credited { credited ≤ 10_000_000_000_000_000 }
-    requires charges { length charges.now ≤ 2_400 }
-    requires credits { length credits.now ≤ 100_000 }
+    requires charged { charged ≤ most_charged }
+    requires credited { credited ≤ most_credited }
+    requires charges { length charges.now ≤ most_months }
+    requires credits { length credits.now ≤ most_credits }
     requires owed { All (λ c. c.cents ≤ Charge.MAX_CENTS) charges.now }
     requires turns { turns.old < 2 ^ 62 }
     ensures right { IfOk result (λ pieces.
@@ -49,10 +50,10 @@ fn walk(
     credits: &[Credit],
     turns: &mut Turns,
 ) -> Result<Vec<Piece>, AllocError>
-    requires charged { charged ≤ 12_000_000_000_000 }
-    requires credited { credited ≤ 10_000_000_000_000_000 }
-    requires charges { length charges.now ≤ 2_400 }
-    requires credits { length credits.now ≤ 100_000 }
+    requires charged { charged ≤ most_charged }
+    requires credited { credited ≤ most_credited }
+    requires charges { length charges.now ≤ most_months }
+    requires credits { length credits.now ≤ most_credits }
     requires owed { All (λ c. c.cents ≤ Charge.MAX_CENTS) charges.now }
     requires turns { turns.old < 2 ^ 62 }
     ensures right { IfOk result (λ pieces.

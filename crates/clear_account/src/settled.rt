@@ -1,7 +1,7 @@
 //! What an account tells of each of its charges, by one walk along charges and payments.
 ghost use Rattle.std.specs.Prelude.{◌≡◌, ◌++◌, ◌+◌, ◌^◌, ◌<◌, ◌≤◌, All, IfOk, OnOk, length, sum_by};
 ghost use Rattle.clear_money.specs.Calendar.{day_of_month};
-ghost use Rattle.clear_money.specs.Limits.{most_base};
+ghost use Rattle.clear_money.specs.Limits.{most_base, most_charged};
 ghost use Rattle.clear_account.specs.Account.{IsAccount, charged_up_to};
 ghost use Rattle.clear_account.specs.Settled.{share_at};
 ghost use Rattle.clear_account.specs.Walk.{Stands, late_cents, shares_between};
@@ -98,7 +98,7 @@ fn find_shares(
     walk: &mut Walk,
 ) -> Result<Vec<Share>, AllocError>
     requires order { walk.old.charged ≤ end }
-    requires small { end ≤ 12_000_000_000_000 }
+    requires small { end ≤ most_charged }
     requires stands { Stands credits.now walk.old }
     ensures shares { IfOk result (λ shares. shares.items
         ≡ shares_between walk.old.charged end credits.now) }

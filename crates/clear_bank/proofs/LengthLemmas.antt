@@ -8,6 +8,9 @@ use Rattle.std.specs.Result.{result_ok, result_err}
 use Rattle.csv.specs.Reading.{strip_bom}
 use Rattle.clear_bank.specs.declared.fault.BankFault.{BankFault}
 use Rattle.clear_bank.specs.declared.fault.BankFault.TheVariants.{BadCsv, OverLimit as LongFile}
+use Rattle.clear_bank.specs.declared.fields.BankField.TheVariants.{Reference}
+use Rattle.clear_bank.specs.declared.fields.RecordFault.{RecordFault}
+use Rattle.clear_bank.specs.declared.fields.RecordFault.TheVariants.{Field}
 use Rattle.clear_values.specs.declared.lines.BankLine.{BankLine}
 use Rattle.clear_bank.specs.Files.{Fields, file_lines, records_of, begins_with_r, record_lines, rows_read, line_of, all_lines, unless_faulty, after_header, header_fault, is_over as is_long}
 
@@ -23,9 +26,9 @@ fault-none : (faults : List BankFault) (xs lines : List BankLine) → unless_fau
 fault-none [] xs lines e = cc
 fault-none (fault ∷ faults) xs lines e = cc
 
-header-none : (o : Option ℕ) (r : Result (List BankLine) BankFault) (lines : List BankLine) → after_header o r ≡ Ok lines → r ≡ Ok lines
+header-none : (o : Option RecordFault) (r : Result (List BankLine) BankFault) (lines : List BankLine) → after_header o r ≡ Ok lines → r ≡ Ok lines
 header-none None r lines e = e
-header-none (Some field) r lines e = cc
+header-none (Some fault) r lines e = cc
 
 record-few : (rows : List Fields) (lines : List BankLine) → record_lines rows ≡ Ok lines → length lines ≤ length rows - 1
 record-few [] lines e =
@@ -46,9 +49,9 @@ tests-pass true true f g r lines e =
 tests-pass true false f g r lines e = (refl, e)
 
 text-few : (n : ℕ) (text : List ℕ) (lines : List BankLine)
-    → cond (not (begins_with_r text)) (Err (BadCsv 1 1)) (cond (is_long n (records_of text)) (Err LongFile) (record_lines (records_of text))) ≡ Ok lines → length lines ≤ n
+    → cond (not (begins_with_r text)) (Err (BadCsv 1 (Field Reference))) (cond (is_long n (records_of text)) (Err LongFile) (record_lines (records_of text))) ≡ Ok lines → length lines ≤ n
 text-few n text lines e =
-    let t = tests-pass (begins_with_r text) (is_long n (records_of text)) (BadCsv 1 1) LongFile (record_lines (records_of text)) lines e in
+    let t = tests-pass (begins_with_r text) (is_long n (records_of text)) (BadCsv 1 (Field Reference)) LongFile (record_lines (records_of text)) lines e in
     omega (arith, ltb-false n (length (records_of text) - 1) t.0, record-few (records_of text) lines t.1)
 
 -- a file has at most as many lines as the limit allows

@@ -1,5 +1,6 @@
 pub mod AnswerLemmas
 pub mod ConflictLemmas
+pub mod ExampleLemmas
 pub mod FieldLemmas
 pub mod IndexLemmas
 pub mod LengthLemmas

@@ -12,6 +12,10 @@ use Rattle.clear_values.specs.Ranges.{IsBankLine}
 use Rattle.clear_values.specs.Texts.{is_reference, is_note}
 use Rattle.clear_bank.specs.declared.fault.BankFault.{BankFault}
 use Rattle.clear_bank.specs.declared.fault.BankFault.TheVariants.{OverLimit, BadCsv}
+use Rattle.clear_bank.specs.declared.fields.BankField.{BankField}
+use Rattle.clear_bank.specs.declared.fields.BankField.TheVariants.{Reference, ValueDate, Employer, Cents, Purpose, Note}
+use Rattle.clear_bank.specs.declared.fields.RecordFault.{RecordFault}
+use Rattle.clear_bank.specs.declared.fields.RecordFault.TheVariants.{Field}
 use Rattle.clear_values.specs.declared.lines.BankLine.{BankLine}
 
 -- ---- a number that is found in a range lies in it
@@ -50,7 +54,7 @@ employer-within (b ∷ bs) employer h = told (written decimal 1 99999999 (b ∷ 
 abbrev IsInRange : Result BankLine BankFault → Type 0
 IsInRange r = IfOk r IsBankLine
 
-on_field : {A : Type 0} (n field : ℕ) (o : Option A) (next : A → Result BankLine BankFault) → ((x : A) → o ≡ Some x → IsInRange (next x)) → IsInRange (or_bad n field o >>= next)
+on_field : {A : Type 0} (n : ℕ) (field : BankField) (o : Option A) (next : A → Result BankLine BankFault) → ((x : A) → o ≡ Some x → IsInRange (next x)) → IsInRange (or_bad n field o >>= next)
 on_field n field None next h = tt
 on_field n field (Some x) next h = h x refl
 
@@ -63,8 +67,8 @@ line-in-range n (a ∷ b ∷ c ∷ d ∷ []) = tt
 line-in-range n (a ∷ b ∷ c ∷ d ∷ e ∷ []) = tt
 line-in-range n (a ∷ b ∷ c ∷ d ∷ e ∷ f ∷ g ∷ more) = tt
 line-in-range n (a ∷ b ∷ c ∷ d ∷ e ∷ f ∷ []) =
-    on_field n 1 (reference_in a) _ (λ reference a_is. on_field n 2 (value_in b) _ (λ value b_is. on_field n 3 (employer_in c) _ (λ employer c_is.
-    on_field n 4 (cents_in d) _ (λ cents d_is. on_field n 5 (purpose_in e) _ (λ purpose _. on_field n 6 (note_in f) _ (λ note f_is.
+    on_field n Reference (reference_in a) _ (λ reference a_is. on_field n ValueDate (value_in b) _ (λ value b_is. on_field n Employer (employer_in c) _ (λ employer c_is.
+    on_field n Cents (cents_in d) _ (λ cents d_is. on_field n Purpose (purpose_in e) _ (λ purpose _. on_field n Note (note_in f) _ (λ note f_is.
     record {
       reference = text-passes is_reference a reference a_is;
       value = numbers-within _ 10957 84370 value b_is (omega arith);
@@ -94,9 +98,9 @@ unless-in-range : (faults : List BankFault) (lines : List BankLine) → AreInRan
 unless-in-range [] lines h = h
 unless-in-range (fault ∷ faults) lines h = tt
 
-header-in-range : (o : Option ℕ) (lines : Result (List BankLine) BankFault) → HaveRanges lines → HaveRanges (after_header o lines)
+header-in-range : (o : Option RecordFault) (lines : Result (List BankLine) BankFault) → HaveRanges lines → HaveRanges (after_header o lines)
 header-in-range None lines h = h
-header-in-range (Some field) lines h = tt
+header-in-range (Some fault) lines h = tt
 
 records-in-range : (records : List Fields) → HaveRanges (record_lines records)
 records-in-range [] = tt
@@ -107,7 +111,7 @@ records-in-range (header ∷ rows) =
 pub file-lines-in-range : LinesAreInRange
 file-lines-in-range limit file = told (begins_with_r (strip_bom file)) (is_over limit (records_of (strip_bom file)))
   where
-    told : (p q : Bool) → HaveRanges (cond (not p) (Err (BadCsv 1 1)) (cond q (Err OverLimit) (record_lines (records_of (strip_bom file)))))
+    told : (p q : Bool) → HaveRanges (cond (not p) (Err (BadCsv 1 (Field Reference))) (cond q (Err OverLimit) (record_lines (records_of (strip_bom file)))))
     told true true = tt
     told true false = records-in-range (records_of (strip_bom file))
     told false q = tt

@@ -19,6 +19,8 @@ use Rattle.clear_bank.specs.Files.{Fields, begins_with_r, file_lines, is_over, l
 use Rattle.clear_bank.specs.declared.fault.BankFault.{BankFault}
 use Rattle.clear_values.specs.declared.lines.BankLine.{BankLine}
 use Rattle.clear_bank.specs.declared.fault.BankFault.TheVariants.{OverLimit, BadCsv}
+use Rattle.clear_bank.specs.declared.fields.BankField.TheVariants.{Reference}
+use Rattle.clear_bank.specs.declared.fields.RecordFault.TheVariants.{Field}
 
 -- ---- the byte order mark
 
@@ -271,7 +273,7 @@ either false rows = refl
 
 file_lines-r : (limit : ℕ) (file text : List ℕ) → text ≡ strip_bom file → begins_with_r text ≡ true → file_lines limit file ≡ limited_lines (limited_records limit (strip_bom text))
 file_lines-r limit file text e h =
-    ap (λ b. cond (not b) (Err (BadCsv 1 1)) (cond (is_over limit (records default_config (strip_bom file))) (Err OverLimit) (record_lines (records default_config (strip_bom file))))) (ap begins_with_r (sym e) ∙ h)
+    ap (λ b. cond (not b) (Err (BadCsv 1 (Field Reference))) (cond (is_over limit (records default_config (strip_bom file))) (Err OverLimit) (record_lines (records default_config (strip_bom file))))) (ap begins_with_r (sym e) ∙ h)
     ∙ either (is_over limit (records default_config (strip_bom file))) (records default_config (strip_bom file))
     ∙ ap (λ t. limited_lines (limited_records limit t)) (sym e ∙ sym (strip_bom-r text h))
 

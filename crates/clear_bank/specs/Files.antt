@@ -13,6 +13,11 @@ use Rattle.clear_money.specs.Results.{◌>>=◌, or_fault}
 use Rattle.clear_money.specs.Texts.{day_text}
 use Rattle.clear_bank.specs.declared.fault.BankFault.{BankFault}
 use Rattle.clear_bank.specs.declared.fault.BankFault.TheVariants.{OverLimit, BadCsv}
+use Rattle.clear_bank.specs.declared.fields.BankField.{BankField}
+use Rattle.clear_bank.specs.declared.fields.BankField.TheVariants as field
+use Rattle.clear_bank.specs.declared.fields.RecordFault.{RecordFault}
+use Rattle.clear_bank.specs.declared.fields.RecordFault.TheVariants.{FieldCount, Field}
+use Rattle.clear_bank.specs.Fields.{all_fields, field_name}
 use Rattle.clear_values.specs.declared.lines.BankLine.{BankLine}
 use Rattle.clear_values.specs.declared.lines.Purpose.{Purpose}
 use Rattle.clear_values.specs.declared.lines.Purpose.TheVariants.{Contribution, Interest}
@@ -64,19 +69,19 @@ abbrev pub Fields : Type 0
 Fields = List (List ℕ)
 
 -- the value of a field in the record of a number, or the fault that it is none
-abbrev pub or_bad : {A : Type 0} → ℕ → ℕ → Option A → Result A BankFault
-or_bad number field value = or_fault (BadCsv number field) value
+abbrev pub or_bad : {A : Type 0} → ℕ → BankField → Option A → Result A BankFault
+or_bad number bad value = or_fault (BadCsv number (Field bad)) value
 
--- the line that the record of a number says, or its first bad field, 0 for another number of
--- fields
+-- the line that the record of a number says, or its first bad field; a record of another number of
+-- fields says none
 abbrev pub line_of : ℕ → Fields → Result BankLine BankFault
 line_of n (a ∷ b ∷ c ∷ d ∷ e ∷ f ∷ []) = do
-  reference ← or_bad n 1 (reference_in a)
-  value ← or_bad n 2 (value_in b)
-  employer ← or_bad n 3 (employer_in c)
-  cents ← or_bad n 4 (cents_in d)
-  purpose ← or_bad n 5 (purpose_in e)
-  note ← or_bad n 6 (note_in f)
+  reference ← or_bad n field.Reference (reference_in a)
+  value ← or_bad n field.ValueDate (value_in b)
+  employer ← or_bad n field.Employer (employer_in c)
+  cents ← or_bad n field.Cents (cents_in d)
+  purpose ← or_bad n field.Purpose (purpose_in e)
+  note ← or_bad n field.Note (note_in f)
   Ok (record {
     reference = reference;
     value = value;
@@ -85,31 +90,24 @@ line_of n (a ∷ b ∷ c ∷ d ∷ e ∷ f ∷ []) = do
     purpose = purpose;
     note = note;
   })
-line_of n _ = Err (BadCsv n 0)
+line_of n _ = Err (BadCsv n FieldCount)
 
--- the names in the header
-abbrev pub header_names : Fields
-header_names =
-    codes "reference" ∷ codes "value_date" ∷ codes "employer" ∷ codes "cents" ∷ codes "purpose"
-    ∷ codes "note" ∷ []
-
--- a field of the header, and the name that it ought to be
+-- what stands in the header, and the field whose name it ought to be
 abbrev pub Named : Type 0
-Named = List ℕ × List ℕ
+Named = List ℕ × BankField
 
--- the field is not its name
+-- it is not that name
 abbrev pub is_misnamed : Named → Bool
-is_misnamed named = not (bytes_eq named.0 named.1)
+is_misnamed named = not (bytes_eq named.0 (field_name named.1))
 
--- the number of the first field that is not its name
-abbrev pub first_misnamed : List (ℕ × Named) → Option ℕ
-first_misnamed numbered = option_map (λ p. p.0) (find (λ p. is_misnamed p.1) numbered)
+-- the first field under another name
+abbrev pub first_misnamed : List Named → Option RecordFault
+first_misnamed names = option_map (λ named. Field named.1) (find is_misnamed names)
 
--- the first field of a header that is not its name, 0 for another number of fields
-abbrev pub header_fault : Fields → Option ℕ
+-- what is wrong with a header: its number of fields, or the first that is not under its name
+abbrev pub header_fault : Fields → Option RecordFault
 header_fault fields =
-    if length fields == 6 then first_misnamed (enumerate_from 1 (zip fields header_names))
-    else Some 0
+    if length fields == 6 then first_misnamed (zip fields all_fields) else Some FieldCount
 
 -- ---- what a file says
 
@@ -127,15 +125,15 @@ abbrev pub all_lines : List (Result BankLine BankFault) → Result (List BankLin
 all_lines results = unless_faulty (filter_map result_err results) (filter_map result_ok results)
 
 -- a fault of the header comes before those of the data records
-abbrev pub after_header : Option ℕ
+abbrev pub after_header : Option RecordFault
     → Result (List BankLine) BankFault → Result (List BankLine) BankFault
 after_header None lines = lines
-after_header (Some field) lines = Err (BadCsv 1 field)
+after_header (Some fault) lines = Err (BadCsv 1 fault)
 
 -- the lines of a file's records, of which the first is the header, or the first fault; a file that
 -- begins with r has a header
 abbrev pub record_lines : List Fields → Result (List BankLine) BankFault
-record_lines [] = Err (BadCsv 1 1)
+record_lines [] = Err (BadCsv 1 (Field field.Reference))
 record_lines (header ∷ rows) = after_header (header_fault header) (all_lines (rows_read rows))
 
 -- whether more than `limit` records stand behind the header
@@ -156,7 +154,7 @@ records_of text = records default_config text
 -- the beginning is dropped
 abbrev pub file_lines : ℕ → List ℕ → Result (List BankLine) BankFault
 file_lines limit file =
-    if not (begins_with_r (strip_bom file)) then Err (BadCsv 1 1)
+    if not (begins_with_r (strip_bom file)) then Err (BadCsv 1 (Field field.Reference))
     else if is_over limit (records_of (strip_bom file)) then Err OverLimit
     else record_lines (records_of (strip_bom file))
 

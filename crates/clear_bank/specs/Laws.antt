@@ -1,5 +1,5 @@
 -- What is said of the values of a file's lines, and of conflicts over all earlier lines.
-use Rattle.std.specs.Prelude.{◌≡◌, ℕ, Bool, not, ◌&&◌, List, map, IfOk}
+use Rattle.std.specs.Prelude.{◌≡◌, ℕ, Bool, not, ◌&&◌, List, [], map, codes, Some, None, IfOk}
 use Rattle.std.specs.List.{find, enumerate_from, list_any, AllByRecursion, IsDistinct}
 use Rattle.std.specs.Str.{bytes_eq}
 use Rattle.clear_bank.specs.Files.{file_lines}
@@ -7,6 +7,7 @@ use Rattle.clear_values.specs.Lines.{same_content}
 use Rattle.clear_bank.specs.Newness.{Placed, lines_before, first_conflict}
 use Rattle.clear_values.specs.Ranges.{IsBankLine}
 use Rattle.clear_values.specs.declared.lines.BankLine.{BankLine}
+use Rattle.clear_values.specs.declared.lines.Purpose.TheVariants.{Contribution, Interest}
 
 -- where a file is read, the values of all its lines are in range
 abbrev pub LinesAreInRange : Type 0
@@ -34,3 +35,37 @@ abbrev pub ConflictsAreWithAny : Type 0
 ConflictsAreWithAny =
     (known lines : List BankLine) → HasNoReferenceTwice known
     → first_conflict known lines ≡ find (differs_earlier known lines) (enumerate_from 0 lines)
+
+-- ---- examples
+
+-- the header of a bank file, with the end of its line
+abbrev pub header_text : List ℕ
+header_text = codes "reference,value_date,employer,cents,purpose,note\n"
+
+-- one cent that came on 2024-02-25 from nobody known, as it is written, and the line that this is
+abbrev pub cent_text : List ℕ
+cent_text = codes "B1,2024-02-25,,1,,\n"
+
+abbrev pub cent_line : BankLine
+cent_line = record {
+  reference = codes "B1";
+  value = 19778;
+  employer = None;
+  cents = 1;
+  purpose = Contribution;
+  note = [];
+}
+
+-- interest that came from a firm on the same day, with a note in which a comma and quotes stand
+abbrev pub interest_text : List ℕ
+interest_text = codes "B2,2024-02-25,1001,150000,I,\"late, \"\"May\"\"\"\n"
+
+abbrev pub interest_line : BankLine
+interest_line = record {
+  reference = codes "B2";
+  value = 19778;
+  employer = Some 1001;
+  cents = 150000;
+  purpose = Interest;
+  note = codes "late, \"May\"";
+}

@@ -1,4 +1,5 @@
 pub mod Answers
+pub mod Fields
 pub mod Files
 pub mod Index
 pub mod Laws

@@ -1,4 +1,5 @@
 //! Why a bank file is refused.
+use crate::fields::RecordFault;
 use std::alloc::{AllocError, AllocFailed};
 
 /// The number of the first data record: the header is record 1.
@@ -9,9 +10,8 @@ pub const FIRST_ROW: usize = 2;
 pub enum BankFault {
     /// More data records than the limit.
     OverLimit,
-    /// A record that is not as it should be, with its first bad field, or 0 for another number of
-    /// fields.
-    BadCsv { line: usize, field: u8 },
+    /// A record that is not as it should be.
+    BadCsv { line: usize, fault: RecordFault },
     /// A record whose reference stands earlier with another content.
     RefConflict { line: usize },
     Memory,

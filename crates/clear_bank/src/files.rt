@@ -6,22 +6,29 @@ ghost use Rattle.clear_bank.specs.Answers.{Gives};
 ghost use Rattle.clear_bank.specs.Files.{begins_with_r, file_lines, limited_records, record_lines};
 
 use crate::fault::BankFault;
+use crate::fields::{BankField, RecordFault};
 use crate::lines::BankLine;
-use crate::records::{read_lines, wrong_name};
+use crate::records::{header_fault, read_lines};
 use csv::{ByteRecord, Error, ErrorKind, ReaderBuilder};
 use std::alloc::Global;
 
+// The fault of a file that doesn't begin with a header.
+const NO_HEADER: BankFault = BankFault::BadCsv {
+    line: 1,
+    fault: RecordFault::Field(BankField::Reference),
+};
+
 /// The lines of a file, in order.
 ///
-/// BadCsv (1, 1) if the file, one byte order mark at its beginning aside, does not begin with the
-/// letter r. OverLimit if it has more data records than `limit`, whatever they hold. Else BadCsv
-/// with the first bad record and its first bad field.
+/// BadCsv of the header's first field if the file, one byte order mark at its beginning aside, does
+/// not begin with the letter r. OverLimit if it has more data records than `limit`, whatever they
+/// hold. Else BadCsv with the first bad record and what is wrong with it.
 pub fn read_file(alloc: Global, bytes: &[u8], limit: usize) -> Result<Vec<BankLine>, BankFault>
     ensures { Gives (λ lines. lines.items) result (file_lines limit bytes.now) }
 {
     let text = without_mark(bytes);
     if !starts_with_r(text) {
-        return Err(BankFault::BadCsv { line: 1, field: 1 });
+        return Err(NO_HEADER);
     }
     let records = read_records(alloc, text, limit)?;
     read_table(alloc, records.as_slice())
@@ -32,10 +39,10 @@ fn read_table(alloc: Global, records: &[ByteRecord]) -> Result<Vec<BankLine>, Ba
     ensures { Gives (λ lines. lines.items) result (record_lines (map fields_of records.now)) }
 {
     let Some((header, rows)) = records.split_first() else {
-        return Err(BankFault::BadCsv { line: 1, field: 1 });
+        return Err(NO_HEADER);
     };
-    if let Some(field) = wrong_name(header) {
-        return Err(BankFault::BadCsv { line: 1, field });
+    if let Some(fault) = header_fault(header) {
+        return Err(BankFault::BadCsv { line: 1, fault });
     }
     read_lines(alloc, rows)
 }

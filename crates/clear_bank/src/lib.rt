@@ -10,7 +10,7 @@
 #![tactic(auto)]
 
 pub mod fault;
-mod fields;
+pub mod fields;
 pub mod files;
 pub mod laws;
 pub mod newness;

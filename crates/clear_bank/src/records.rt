@@ -5,7 +5,7 @@ ghost use Rattle.clear_bank.specs.Answers.{Gives};
 ghost use Rattle.clear_bank.specs.Files.{all_lines, header_fault, line_of, rows_read};
 
 use crate::fault::{BankFault, FIRST_ROW};
-use crate::fields::{read_cents, read_employer, read_purpose, read_value};
+use crate::fields::{BankField, RecordFault, read_cents, read_employer, read_purpose, read_value};
 use crate::lines::BankLine;
 use crate::texts::{Note, Reference};
 use csv::ByteRecord;
@@ -52,30 +52,30 @@ fn field(row: &ByteRecord, place: usize) -> &[u8]
     }
 }
 
-// The first field of a header that is not its name, 0 for another number of fields.
-pub(crate) fn wrong_name(header: &ByteRecord) -> Option<u8>
+// What is wrong with a header: its number of fields, or the first that is not under its name.
+pub(crate) fn header_fault(header: &ByteRecord) -> Option<RecordFault>
     ensures { result ≡ header_fault (fields_of header.now) }
 {
     let Some(row) = split(header) else {
-        return Some(0);
+        return Some(RecordFault::FieldCount);
     };
-    if row.reference != b"reference".as_slice() {
-        return Some(1);
+    if row.reference != BankField::Reference.name().as_bytes() {
+        return Some(RecordFault::Field(BankField::Reference));
     }
-    if row.value != b"value_date".as_slice() {
-        return Some(2);
+    if row.value != BankField::ValueDate.name().as_bytes() {
+        return Some(RecordFault::Field(BankField::ValueDate));
     }
-    if row.employer != b"employer".as_slice() {
-        return Some(3);
+    if row.employer != BankField::Employer.name().as_bytes() {
+        return Some(RecordFault::Field(BankField::Employer));
     }
-    if row.cents != b"cents".as_slice() {
-        return Some(4);
+    if row.cents != BankField::Cents.name().as_bytes() {
+        return Some(RecordFault::Field(BankField::Cents));
     }
-    if row.purpose != b"purpose".as_slice() {
-        return Some(5);
+    if row.purpose != BankField::Purpose.name().as_bytes() {
+        return Some(RecordFault::Field(BankField::Purpose));
     }
-    if row.note != b"note".as_slice() {
-        return Some(6);
+    if row.note != BankField::Note.name().as_bytes() {
+        return Some(RecordFault::Field(BankField::Note));
     }
     None
 }
@@ -99,25 +99,28 @@ fn read_line(alloc: Global, row: &ByteRecord, number: usize) -> Result<BankLine,
     ensures { Gives (λ line. line) result (line_of number (fields_of row.now)) }
 {
     let Some(row) = split(row) else {
-        return Err(bad(number, 0));
+        return Err(BankFault::BadCsv {
+            line: number,
+            fault: RecordFault::FieldCount,
+        });
     };
     let Some(reference) = Reference::new(alloc, row.reference)? else {
-        return Err(bad(number, 1));
+        return Err(bad(number, BankField::Reference));
     };
     let Some(value) = read_value(row.value) else {
-        return Err(bad(number, 2));
+        return Err(bad(number, BankField::ValueDate));
     };
     let Some(employer) = read_employer(row.employer) else {
-        return Err(bad(number, 3));
+        return Err(bad(number, BankField::Employer));
     };
     let Some(cents) = read_cents(row.cents) else {
-        return Err(bad(number, 4));
+        return Err(bad(number, BankField::Cents));
     };
     let Some(purpose) = read_purpose(row.purpose) else {
-        return Err(bad(number, 5));
+        return Err(bad(number, BankField::Purpose));
     };
     let Some(note) = Note::new(alloc, row.note)? else {
-        return Err(bad(number, 6));
+        return Err(bad(number, BankField::Note));
     };
     Ok(BankLine {
         reference,
@@ -130,8 +133,11 @@ fn read_line(alloc: Global, row: &ByteRecord, number: usize) -> Result<BankLine,
 }
 
 // A record of a number with a bad field.
-fn bad(line: usize, field: u8) -> BankFault
-    ensures { result ≡ BankFault.BadCsv line field }
+fn bad(line: usize, field: BankField) -> BankFault
+    ensures { result ≡ BankFault.BadCsv line (RecordFault.Field field) }
 {
-    BankFault::BadCsv { line, field }
+    BankFault::BadCsv {
+        line,
+        fault: RecordFault::Field(field),
+    }
 }

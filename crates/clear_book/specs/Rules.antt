@@ -24,6 +24,7 @@ use Rattle.clear_book.specs.declared.rules.Rule.TheVariants.{EndBeforeReports, N
 use Rattle.clear_book.specs.declared.rules.Rule.TheVariants.{UnknownDocument, Memory, Store, Failed}
 use Rattle.clear_book.specs.declared.rules.Rule.TheVariants.{WrongVersion, BadOldRow}
 use Rattle.clear_book.specs.declared.rules.RuleEntry.{RuleEntry}
+use Rattle.clear_bank.specs.Fields.{fault_number}
 pub use Rattle.clear_values.specs.Causes.{cause_of}
 
 -- how a rule is known, and what is told of it
@@ -60,7 +61,7 @@ entry_of (StaleVersion version) = entry 16 (codes "StaleVersion") (Number versio
 entry_of (WorkerTwice worker) = entry 17 (codes "WorkerTwice") (Number worker)
 entry_of (OverLimit limit) = entry 18 (codes "OverLimit") (Limit limit)
 entry_of RateOrder = entry 19 (codes "RateOrder") Nothing
-entry_of (BadCsv line field) = entry 20 (codes "BadCsv") (Field line field)
+entry_of (BadCsv line fault) = entry 20 (codes "BadCsv") (Field line (fault_number fault))
 entry_of (RefConflict number) = entry 21 (codes "RefConflict") (Number number)
 entry_of (ValueAhead number) = entry 22 (codes "ValueAhead") (Number number)
 entry_of NotInSuspense = entry 23 (codes "NotInSuspense") Nothing

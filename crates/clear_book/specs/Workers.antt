@@ -23,7 +23,8 @@ use Rattle.clear_values.specs.declared.rows.ClaimState.TheVariants.{Open, Withdr
 use Rattle.clear_values.specs.declared.texts.WageLine.{WageLine}
 use Rattle.clear_book.specs.Book.{Book, Entry, rates_of, registration_in, latest_lines}
 use Rattle.clear_values.specs.Keyed.{find_row, in_key_order}
-pub use Rattle.clear_values.specs.Payouts.{is_on, is_released_since}
+pub use Rattle.clear_values.specs.Payouts.{is_on, is_open, is_payable, is_payable_release}
+pub use Rattle.clear_values.specs.Payouts.{is_released_since, is_withdrawn, paid_out}
 use Rattle.clear_values.specs.Tables.{claim_key, list_key}
 
 -- ---- employers
@@ -117,22 +118,6 @@ released_by t reply claim = claim
 abbrev pub is_claim : ℕ → ClaimRow → Bool
 is_claim number claim = claim.claim == number
 
--- something of a release is to be paid out: it is on no list yet
-abbrev pub is_payable_release : ReleasedClaim → Bool
-is_payable_release release = nat_lt 0 release.settlement.paid && is_none release.list
-
--- so is a claim that stands so
-abbrev pub is_payable : ClaimState → Bool
-is_payable Open = false
-is_payable Withdrawn = false
-is_payable (Released release) = is_payable_release release
-
--- what is paid out of a claim, in cents: nothing before it is released
-abbrev pub paid_out : ClaimState → ℕ
-paid_out Open = 0
-paid_out Withdrawn = 0
-paid_out (Released release) = release.settlement.paid
-
 -- a state, on a list where something is to be paid out
 abbrev pub state_on : ℕ → ClaimState → ClaimState
 state_on list Open = Open
@@ -169,18 +154,6 @@ claims_of (x ∷ xs) =
 -- the claim of a number, if there is one
 abbrev pub claim_of : List Entry → ℕ → Option ClaimRow
 claim_of xs number = find_row claim_key (claims_of xs) (number ∷ [])
-
--- the claim is open
-abbrev pub is_open : ClaimState → Bool
-is_open Open = true
-is_open Withdrawn = false
-is_open (Released release) = false
-
--- the claim is withdrawn
-abbrev pub is_withdrawn : ClaimState → Bool
-is_withdrawn Open = false
-is_withdrawn Withdrawn = true
-is_withdrawn (Released release) = false
 
 -- the claims of a worker that aren't withdrawn, by their numbers
 abbrev pub claims_of_worker : List Entry → ℕ → List ClaimRow

@@ -1,8 +1,10 @@
 //! The rules by which a call is refused: the number and the name of each, and what it carries.
 ghost use Rattle.std.specs.Prelude.{◌≡◌};
+ghost use Rattle.clear_bank.specs.Fields.{fault_number};
 ghost use Rattle.clear_book.specs.Rules.{entry_of, known, number_of, name_of, carried_by};
 ghost use Rattle.clear_book.specs.Rules.{word_of, table_word};
 
+use clear_bank::fields::RecordFault;
 use clear_money::days::Day;
 use clear_money::months::Month;
 use clear_money::numbers::WorkerNo;
@@ -86,8 +88,8 @@ pub enum Rule {
     /// month.
     RateOrder,
     /// A record of a bank file is not as it should be. `line` is its number from 1, the header
-    /// being 1, and `field` its first bad field from 1 to 6, or 0 for another number of fields.
-    BadCsv { line: u64, field: u8 },
+    /// being 1.
+    BadCsv { line: u64, fault: RecordFault },
     /// The reference of the record of this number stands earlier with another content.
     RefConflict(u64),
     /// The record of this number is new and has a value date after the request's day.
@@ -133,7 +135,8 @@ pub enum Carried {
     Day(Day),
     Month(Month),
     Number(u64),
-    /// A record of a file, and a field of it.
+    /// The number of a record of a file from 1, and of its bad field from 1, or 0 where it has another
+    /// number of fields.
     Field { line: u64, field: u8 },
     Limit(Limit),
     Table(OldTable),
@@ -203,7 +206,7 @@ impl Rule {
             Rule::WorkerTwice(worker) => numbered(17, "WorkerTwice", u64::from(worker.number())),
             Rule::OverLimit(limit) => entry(18, "OverLimit", Carried::Limit(limit)),
             Rule::RateOrder => entry(19, "RateOrder", Carried::Nothing),
-            Rule::BadCsv { line, field } => entry(20, "BadCsv", Carried::Field { line, field }),
+            Rule::BadCsv { line, fault } => entry(20, "BadCsv", bad_record(line, fault)),
             Rule::RefConflict(number) => numbered(21, "RefConflict", number),
             Rule::ValueAhead(number) => numbered(22, "ValueAhead", number),
             Rule::NotInSuspense => entry(23, "NotInSuspense", Carried::Nothing),
@@ -223,6 +226,16 @@ impl Rule {
             Rule::WrongVersion(number) => numbered(43, "WrongVersion", number),
             Rule::BadOldRow(table) => entry(44, "BadOldRow", Carried::Table(table)),
         }
+    }
+}
+
+// What is told of a bad record.
+fn bad_record(line: u64, fault: RecordFault) -> Carried
+    ensures { result ≡ Carried.Field line (fault_number fault) }
+{
+    Carried::Field {
+        line,
+        field: fault.number(),
     }
 }
 

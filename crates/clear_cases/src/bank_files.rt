@@ -227,7 +227,7 @@ fn is_bad(alloc: Global, records: &str, line: usize, field: u8) -> bool {
     match with_header(alloc, records) {
         Ok(file) => matches!(
             read_file(alloc, file.as_bytes(), LIMIT),
-            Err(BankFault::BadCsv { line: found, field: place }) if found == line && place == field
+            Err(BankFault::BadCsv { line: found, fault }) if found == line && fault.number() == field
         ),
         Err(_) => false,
     }

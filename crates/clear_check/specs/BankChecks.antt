@@ -5,6 +5,11 @@ use Rattle.std.specs.Fmt.{decimal}
 use Rattle.std.specs.List.{concat, filter_map}
 use Rattle.clear_money.specs.Results.{◌>>=◌}
 use Rattle.clear_values.specs.declared.lines.BankLine.{BankLine}
+use Rattle.clear_bank.specs.declared.fields.BankField.{BankField}
+use Rattle.clear_bank.specs.declared.fields.BankField.TheVariants as field
+use Rattle.clear_bank.specs.declared.fields.RecordFault.{RecordFault}
+use Rattle.clear_bank.specs.declared.fields.RecordFault.TheVariants.{FieldCount, Field}
+use Rattle.clear_bank.specs.Fields.{field_name}
 use Rattle.clear_bank.specs.Files.{file_lines}
 use Rattle.clear_bank.specs.Newness.{judgement}
 use Rattle.clear_bank.specs.declared.fault.BankFault.{BankFault}
@@ -78,25 +83,14 @@ bank_text file =
 
 -- ---- what is said of a fault
 
--- the name of a field, counted from 1
-abbrev pub field_name : ℕ → List ℕ
-field_name field =
-    if field == 1 then codes "reference"
-    else (if field == 2 then codes "value_date"
-    else (if field == 3 then codes "employer"
-    else (if field == 4 then codes "cents"
-    else (if field == 5 then codes "purpose"
-    else codes "note"))))
-
--- what can stand in it
-abbrev pub field_wanted : ℕ → List ℕ
-field_wanted field =
-    if field == 1 then codes "reference (1 to 35 visible ASCII characters)"
-    else (if field == 2 then codes "day (YYYY-MM-DD, 2000-01-01 to 2200-12-31)"
-    else (if field == 3 then codes "number of a firm (1 to 99999999, or nothing)"
-    else (if field == 4 then codes "amount in cents (a whole number, 1 to 100000000000)"
-    else (if field == 5 then codes "purpose (C, I, or nothing)"
-    else codes "note (at most 140 bytes of UTF-8 without control characters)"))))
+-- what can stand in a field
+abbrev pub field_wanted : BankField → List ℕ
+field_wanted field.Reference = codes "reference (1 to 35 visible ASCII characters)"
+field_wanted field.ValueDate = codes "day (YYYY-MM-DD, 2000-01-01 to 2200-12-31)"
+field_wanted field.Employer = codes "number of a firm (1 to 99999999, or nothing)"
+field_wanted field.Cents = codes "amount in cents (a whole number, 1 to 100000000000)"
+field_wanted field.Purpose = codes "purpose (C, I, or nothing)"
+field_wanted field.Note = codes "note (at most 140 bytes of UTF-8 without control characters)"
 
 -- a field of this name in the record of a number, in which something else has to stand
 unfoldable pub field_line : ℕ → List ℕ → List ℕ → List ℕ → List ℕ
@@ -104,13 +98,11 @@ field_line line name here wanted = concat (
     codes "record " ∷ decimal line ∷ codes ", " ∷ name ∷ codes ": " ∷ here ∷ codes " is no "
     ∷ wanted ∷ codes "\n" ∷ [])
 
--- a record with a bad field, 0 for another number of fields, and what was found there
-unfoldable pub record_line : ℕ → ℕ → List ℕ → List ℕ
-record_line line field here =
-    if field == 0
-    then concat (codes "record " ∷ decimal line ∷ codes ": it has " ∷ here
-    ∷ codes "; a line has 6\n" ∷ [])
-    else field_line line (field_name field) here (field_wanted field)
+-- what is wrong with the record of a number, and what was found there
+unfoldable pub record_line : ℕ → RecordFault → List ℕ → List ℕ
+record_line line FieldCount here = concat (
+    codes "record " ∷ decimal line ∷ codes ": it has " ∷ here ∷ codes "; a line has 6\n" ∷ [])
+record_line line (Field bad) here = field_line line (field_name bad) here (field_wanted bad)
 
 -- a header that isn't as it has to be, and what was found there
 abbrev pub header_line : List ℕ → List ℕ
@@ -121,8 +113,8 @@ header_line here = concat (
 -- the line on a fault, with what was found there; want of memory isn't told here
 unfoldable pub bank_line : BankFault → Found → List ℕ
 bank_line OverLimit found = codes "more than 10000 lines\n"
-bank_line (BadCsv line field) found =
-    if line == 1 then header_line found.here else record_line line field found.here
+bank_line (BadCsv line fault) found =
+    if line == 1 then header_line found.here else record_line line fault found.here
 bank_line (RefConflict line) found = concat (
     codes "record " ∷ decimal line ∷ codes ", reference: " ∷ found.here
     ∷ codes " stands with another content in record " ∷ found.other ∷ codes "\n" ∷ [])

@@ -3,7 +3,7 @@ ghost use Rattle.std.specs.Prelude.{◌≡◌, ◌≢◌, IfOk, OnOk, is_ok, cou
 ghost use Rattle.clear_bank.specs.Answers.{Gives};
 ghost use Rattle.clear_book.specs.Documents.Amounts.{euros_text};
 ghost use Rattle.clear_check.specs.BankChecks.{SaysBank, SaysFault, bank_line, bank_of, bank_text};
-ghost use Rattle.clear_check.specs.BankChecks.{cents_of, counts_text, field_line, field_name, field_wanted};
+ghost use Rattle.clear_check.specs.BankChecks.{cents_of, counts_text, field_line, field_wanted};
 ghost use Rattle.clear_check.specs.BankChecks.{held_of, lines_at, names_no_firm, record_line};
 ghost use Rattle.clear_check.specs.BankChecks.{totals_text};
 
@@ -15,6 +15,7 @@ use crate::records::read_records;
 use crate::seen::Seen;
 use crate::texts::{joined, plural};
 use clear_bank::fault::BankFault;
+use clear_bank::fields::{BankField, RecordFault};
 use clear_bank::files::read_file;
 use clear_bank::newness::{Judged, judge_file};
 use clear_values::limits::MAX_RECORDS;
@@ -165,7 +166,7 @@ fn bank_line(alloc: Global, fault: BankFault, seen: &Seen) -> Result<String, All
                 reference,value_date,employer,cents,purpose,note; ";
             joined(alloc, &[header, here, "\n"])
         }
-        BankFault::BadCsv { line, field } => record_line(alloc, line, field, here),
+        BankFault::BadCsv { line, fault } => record_line(alloc, line, fault, here),
         BankFault::RefConflict { line } => {
             let line = line.to_string(alloc)?;
             let parts = [
@@ -185,23 +186,30 @@ fn bank_line(alloc: Global, fault: BankFault, seen: &Seen) -> Result<String, All
 
 // The line on a record that isn't as it should be.
 #[tactic(auto, unfolding(crate::specs::BankChecks::record_line))]
-fn record_line(alloc: Global, line: usize, field: u8, here: &str) -> Result<String, AllocError>
-    ensures { IfOk result (λ text. string_bytes text ≡ record_line line field here.now) }
+fn record_line(
+    alloc: Global,
+    line: usize,
+    fault: RecordFault,
+    here: &str,
+) -> Result<String, AllocError>
+    ensures { IfOk result (λ text. string_bytes text ≡ record_line line fault here.now) }
 {
-    if field != 0 {
-        return field_line(alloc, line, field_name(field), here, field_wanted(field));
+    match fault {
+        RecordFault::FieldCount => {
+            let line = line.to_string(alloc)?;
+            let parts = [
+                "record ",
+                line.as_str(),
+                ": it has ",
+                here,
+                "; a line has 6\n",
+            ];
+            joined(alloc, &parts)
+        }
+        RecordFault::Field(field) => {
+            field_line(alloc, line, field.name(), here, field_wanted(field))
+        }
     }
-    let line = line.to_string(alloc)?;
-    joined(
-        alloc,
-        &[
-            "record ",
-            line.as_str(),
-            ": it has ",
-            here,
-            "; a line has 6\n",
-        ],
-    )
 }
 
 // The line on a field of this name, in which something else has to stand.
@@ -231,28 +239,16 @@ fn field_line<'a>(
     joined(alloc, &parts)
 }
 
-fn field_name(field: u8) -> &'static str
-    ensures { result.now ≡ field_name field }
-{
-    match field {
-        1 => "reference",
-        2 => "value_date",
-        3 => "employer",
-        4 => "cents",
-        5 => "purpose",
-        _ => "note",
-    }
-}
-
-fn field_wanted(field: u8) -> &'static str
+// What can stand in a field.
+fn field_wanted(field: BankField) -> &'static str
     ensures { result.now ≡ field_wanted field }
 {
     match field {
-        1 => "reference (1 to 35 visible ASCII characters)",
-        2 => "day (YYYY-MM-DD, 2000-01-01 to 2200-12-31)",
-        3 => "number of a firm (1 to 99999999, or nothing)",
-        4 => "amount in cents (a whole number, 1 to 100000000000)",
-        5 => "purpose (C, I, or nothing)",
-        _ => "note (at most 140 bytes of UTF-8 without control characters)",
+        BankField::Reference => "reference (1 to 35 visible ASCII characters)",
+        BankField::ValueDate => "day (YYYY-MM-DD, 2000-01-01 to 2200-12-31)",
+        BankField::Employer => "number of a firm (1 to 99999999, or nothing)",
+        BankField::Cents => "amount in cents (a whole number, 1 to 100000000000)",
+        BankField::Purpose => "purpose (C, I, or nothing)",
+        BankField::Note => "note (at most 140 bytes of UTF-8 without control characters)",
     }
 }

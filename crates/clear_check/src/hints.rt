@@ -2,9 +2,10 @@
 ghost use Rattle.std.specs.Prelude.{◌≡◌, IfOk, string_bytes};
 ghost use Rattle.clear_check.specs.Hints.{hint_lines, when};
 
-use crate::records::{read_records, record_at};
+use crate::records::{bytes_in, read_records, record_at};
 use crate::texts::joined;
 use clear_bank::fault::BankFault;
+use clear_bank::fields::{BankField, RecordFault};
 use csv::ByteRecord;
 use std::alloc::{AllocError, Global};
 use std::str;
@@ -81,8 +82,8 @@ pub(crate) fn hints_of(
     if hints.semicolons {
         let records = read_records(alloc, bytes, b';')?;
         look_at_fields(&mut hints, records.as_slice());
-    } else if let BankFault::BadCsv { line, field } = fault {
-        look_at_field(&mut hints, record_at(records, line), field);
+    } else if let BankFault::BadCsv { line, fault } = fault {
+        look_at_field(&mut hints, record_at(records, line), fault);
     }
     Ok(hints)
 }
@@ -125,23 +126,26 @@ fn look_at_fields(hints: &mut Hints, records: &[ByteRecord]) {
 
 // How the field at a fault is written, if it is a day or an amount. An amount without quotation marks
 // is cut into two fields by its comma.
-fn look_at_field(hints: &mut Hints, record: Option<&ByteRecord>, field: u8) {
+fn look_at_field(hints: &mut Hints, record: Option<&ByteRecord>, fault: RecordFault) {
     let Some(record) = record else {
         return;
     };
-    let day = record.get(1).unwrap_or(b"");
-    let amount = record.get(3).unwrap_or(b"");
-    let rest = record.get(4).unwrap_or(b"");
-    match field {
-        0 => {
+    match fault {
+        RecordFault::FieldCount => {
+            let amount = bytes_in(record, BankField::Cents);
+            let rest = bytes_in(record, BankField::Purpose);
             hints.parted_amount = record.len() == 7
                 && rest.len() == 2
                 && are_digits(amount)
                 && are_digits(rest);
         }
-        2 => hints.pointed_day = is_pointed_day(day),
-        4 => hints.parted_amount = is_parted_amount(amount),
-        _ => {}
+        RecordFault::Field(BankField::ValueDate) => {
+            hints.pointed_day = is_pointed_day(bytes_in(record, BankField::ValueDate));
+        }
+        RecordFault::Field(BankField::Cents) => {
+            hints.parted_amount = is_parted_amount(bytes_in(record, BankField::Cents));
+        }
+        RecordFault::Field(_) => {}
     }
 }
 

@@ -1,5 +1,6 @@
 //! The records of a bank file, looked at once more.
 
+use clear_bank::fields::BankField;
 use clear_values::limits::MAX_RECORDS;
 use csv::{ByteRecord, ReaderBuilder};
 use std::alloc::{AllocError, Global};
@@ -32,4 +33,10 @@ pub(crate) fn read_records(
 // The record of a number, counted from 1.
 pub(crate) fn record_at(records: &[ByteRecord], line: usize) -> Option<&ByteRecord> {
     records.get(line.checked_sub(1)?)
+}
+
+// What stands in a field of a record; nothing where the record is too short.
+pub(crate) fn bytes_in(record: &ByteRecord, field: BankField) -> &[u8] {
+    let place = usize::from(field.number()).saturating_sub(1);
+    record.get(place).unwrap_or(b"")
 }

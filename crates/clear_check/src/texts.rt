@@ -5,7 +5,7 @@ ghost use Rattle.clear_check.specs.Shown.{plural, shown, shown_byte};
 
 use std::alloc::{AllocError, Global};
 
-// How many characters of a value are shown.
+// How many bytes of a value are shown.
 const MAX_SHOWN: usize = 40;
 
 // These parts, one after another.

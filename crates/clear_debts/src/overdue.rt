@@ -6,7 +6,7 @@ ghost use Rattle.sqlite.specs.State.{HasCleanDisk};
 ghost use Rattle.clear_book.specs.Allocated.{StandsWeighed};
 ghost use Rattle.clear_book.specs.Book.{Book, rates_of};
 ghost use Rattle.clear_book.specs.Judge.{day_back};
-ghost use Rattle.clear_book.specs.Limits.{most_credits};
+ghost use Rattle.clear_book.specs.Limits.{most_credits, most_months};
 ghost use Rattle.clear_book.specs.Machine.{IsLawful};
 ghost use Rattle.clear_book.specs.Tables.{Tables};
 ghost use Rattle.clear_schema.specs.Frame.{Leaves};
@@ -47,8 +47,8 @@ pub struct Overdue {
 
 /// What a firm has overdue on a day that is not before the ledger day, at these rates. It reads each
 /// contribution that is kept of the firm and each of its credits for interest once. It takes a step
-/// for each of these and for each month that there is, and a search among the rates for each
-/// contribution and each member month. What no book holds is refused with
+/// for each of these and for each member month before that of the day, and a search among the rates
+/// for each contribution and each such month. What no book holds is refused with
 /// `Fault::Store(StoreCause::Row)`: a value out of its range, and more contributions or credits than
 /// an account has.
 pub fn read_overdue<S: Alter>(
@@ -102,7 +102,7 @@ fn overdue_on(
 
 // How many months these are: there are 2,400 at most.
 fn month_count(months: &[Month]) -> u32
-    ensures { length months.now ≤ 2400 → result ≡ length months.now }
+    ensures { length months.now ≤ most_months → result ≡ length months.now }
 {
     months.len().min(Month::COUNT as usize) as u32
 }

@@ -1,4 +1,5 @@
 //! Whether the files of a store still stand where they stood. No contract knows what a path names.
+ghost use Rattle.std.specs.Prelude.{◌≡◌, IfSome};
 
 use crate::logs::log_beside;
 use std::alloc::AllocError;
@@ -38,7 +39,9 @@ pub struct StoreFile<'a> {
 impl<'a> StoreFile<'a> {
     /// The file that stands at a path now, through links too. `None` says that it can't be asked for.
     /// Taken before the store is opened, it tells afterwards whether that file is the one that was opened.
-    pub fn at(rt: &HostRuntime, path: &'a str) -> Option<StoreFile<'a>> {
+    pub fn at(rt: &HostRuntime, path: &'a str) -> Option<StoreFile<'a>>
+        ensures { IfSome result (λ file. file.path.now ≡ path.now) }
+    {
         match id_at(rt, path) {
             Ok(id) => Some(StoreFile { path, id }),
             Err(_) => None,

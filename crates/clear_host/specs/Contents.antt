@@ -1,7 +1,8 @@
 -- What the two files of a store hold, its log and its database file. No contract knows that, so clauses
 -- speak of each content.
-use Rattle.std.specs.Prelude.{◌≡◌, ◌≢◌, ⊤, ℕ, IfSome, None}
+use Rattle.std.specs.Prelude.{◌≡◌, ◌≢◌, ⊤, ℕ, IfSome, MatchOption, None}
 use Rattle.sqlite_wal.specs.Recovery.{Image}
+use Rattle.sqlite.specs.declared.error.Error.{Error}
 use Rattle.sqlite.specs.Effect.{Database}
 use Rattle.sqlite.specs.Files.{HoldsDatabase}
 use Rattle.sqlite.specs.Held.{state}
@@ -11,12 +12,13 @@ use Rattle.sqlite.specs.Tree.{Trees}
 use Rattle.clear_book.specs.Allocated.{Represents}
 use Rattle.clear_book.specs.Book.{Book}
 use Rattle.clear_book.specs.Tables.{Tables}
-use Rattle.clear_schema.specs.Faults.{other_layout}
+use Rattle.clear_schema.specs.Faults.{fault_of, other_layout}
 use Rattle.clear_schema.specs.Held.{HasObjects, StandsAs, StandsOtherwise, TellsAs}
 use Rattle.clear_schema.specs.Schema.{Layout, this_layout}
 use Rattle.clear_schema.specs.declared.fault.Fault.TheVariants.{Memory}
 use Rattle.clear_schema.specs.declared.fault.OpenFault.{OpenFault}
 use Rattle.clear_schema.specs.declared.fault.OpenFault.TheVariants.{WrongVersion, Failed}
+use Rattle.clear_host.specs.Hindrances.{hindrance_of}
 use Rattle.clear_host.specs.declared.offices.NotOpened.{NotOpened}
 
 -- they hold a store of this layout, with these tables
@@ -65,6 +67,13 @@ abbrev pub IfRefused : {S : Type 0} (g : Ghosts S) → (OpenFault → Type 0) �
 IfRefused g P refused =
     IfSome refused.connection (λ conn. HasCleanDisk (state g conn) → P refused.fault)
 
--- where the files weren't even opened, the fault tells no number
-abbrev pub IsUntoldUnopened : {S : Type 0} → NotOpened S → Type 0
-IsUntoldUnopened refused = refused.connection ≡ None → TellsNone refused.fault
+-- the refusal tells the fault of some error of the database, and what that error says of the file
+abbrev pub IsByError : {S : Type 0} → NotOpened S → Type 0
+IsByError refused =
+    (error : Error) × (refused.fault ≡ Failed (fault_of error)) × (refused.hindrance ≡ hindrance_of error)
+
+-- where the files weren't even opened, an error of the database is told, which has no number; where
+-- they were, nothing stood in the way of a connection
+abbrev pub IsWhyUnopened : {S : Type 0} → NotOpened S → Type 0
+IsWhyUnopened refused =
+    MatchOption refused.connection (IsByError refused) (λ connection. refused.hindrance ≡ None)

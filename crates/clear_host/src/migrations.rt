@@ -9,7 +9,7 @@ ghost use Rattle.clear_book.specs.Tables.{Tables};
 ghost use Rattle.clear_schema.specs.Held.{HasTables};
 ghost use Rattle.clear_schema.specs.Schema.{this_layout};
 ghost use Rattle.clear_schema.specs.Seen.{Sees};
-ghost use Rattle.clear_host.specs.Contents.{HoldsStore, IsUntoldUnopened};
+ghost use Rattle.clear_host.specs.Contents.{HoldsStore, IsWhyUnopened};
 ghost use Rattle.clear_host.specs.Offices.{IsOurs, TellsOf};
 
 use crate::offices::NotOpened;
@@ -45,7 +45,7 @@ pub fn bring_to_current<S: Start>(
     ensures ours { IfOk result (λ brought. HasCleanDisk (state over_files brought.connection)
         → IsOurs (image_at S.Start)) }
     ensures tells { IfErr result (TellsOf over_files (image_at S.Start)) }
-    ensures unopened { IfErr result IsUntoldUnopened }
+    ensures unopened { IfErr result IsWhyUnopened }
 {
     let connection = open_database(rt, path, start)?;
     bring(connection)
@@ -65,7 +65,7 @@ fn bring<S: Alter>(connection: Connection<S>) -> Result<Brought<S>, NotOpened<S>
         → IsOurs image) }
     ensures tells { (image : Image) → Sees S.Store image connection
         → IfErr result (TellsOf S.Store image) }
-    ensures unopened { IfErr result IsUntoldUnopened }
+    ensures unopened { IfErr result IsWhyUnopened }
 {
     let mut connection = connection;
     match to_current(&mut connection) {

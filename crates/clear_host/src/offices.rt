@@ -16,7 +16,7 @@ ghost use Rattle.clear_schema.specs.Seen.{Sees};
 ghost use Rattle.clear_schema.specs.Still.{Holds};
 ghost use Rattle.clear_office.specs.Office.{IsHonest, Keeps};
 ghost use Rattle.clear_host.specs.Contents.{HoldsObjects, HoldsSchema, HoldsStore, IfRefused};
-ghost use Rattle.clear_host.specs.Contents.{IsUntoldUnopened, TellsNone, TellsOnly};
+ghost use Rattle.clear_host.specs.Contents.{IsWhyUnopened, TellsNone, TellsOnly};
 ghost use Rattle.clear_host.specs.Offices.{IsNewOffice, IsOfficeOver, IsOurs, TellsOf};
 
 use crate::hindrance::Hindrance;
@@ -77,7 +77,7 @@ pub(crate) fn new_office<S: Alter>(
         → IfErr result (IfRefused S.Store (TellsOnly number)) }
     ensures empty { (image : Image) → Sees S.Store image connection → IsNothing image
         → IfErr result (IfRefused S.Store TellsNone) }
-    ensures unopened { IfErr result IsUntoldUnopened }
+    ensures unopened { IfErr result IsWhyUnopened }
 {
     match make_office(alloc, connection, rates) {
         Ok(office) => Ok(Opened {
@@ -108,7 +108,7 @@ pub(crate) fn find_office<S: Alter>(
         → IsOfficeOver S.Store image opened) }
     ensures tells { (image : Image) → Sees S.Store image connection
         → IfErr result (TellsOf S.Store image) }
-    ensures unopened { IfErr result IsUntoldUnopened }
+    ensures unopened { IfErr result IsWhyUnopened }
 {
     let store = find_store(connection)?;
     office_over(alloc, store)
@@ -125,7 +125,7 @@ fn find_store<S: Alter>(connection: Connection<S>) -> Result<Store<S>, NotOpened
         → IfOk result (λ store. HasCleanDisk (state S.Store store.conn) → IsOurs image) }
     ensures tells { (image : Image) → Sees S.Store image connection
         → IfErr result (TellsOf S.Store image) }
-    ensures unopened { IfErr result IsUntoldUnopened }
+    ensures unopened { IfErr result IsWhyUnopened }
 {
     match Store::open(connection) {
         Ok(store) => confirm(store),
@@ -147,7 +147,7 @@ fn confirm<S: Alter>(store: Store<S>) -> Result<Store<S>, NotOpened<S>>
     ensures clean { IfOk result (λ confirmed. HasCleanDisk (state S.Store confirmed.conn)
         → HasCleanDisk (state S.Store store.conn)) }
     ensures untold { IfErr result (IfRefused S.Store TellsNone) }
-    ensures unopened { IfErr result IsUntoldUnopened }
+    ensures unopened { IfErr result IsWhyUnopened }
     ensures clean_left { IfErr result (IfRefused S.Store (λ fault.
         HasCleanDisk (state S.Store store.conn))) }
 {
@@ -178,7 +178,7 @@ fn office_over<S: Alter>(alloc: Global, store: Store<S>) -> Result<Opened<S>, No
         → (t : Tables) → HasTables t (state S.Store store.conn).now
         → opened.ledger_day ≡ t.day) }
     ensures untold { IfErr result (IfRefused S.Store TellsNone) }
-    ensures unopened { IfErr result IsUntoldUnopened }
+    ensures unopened { IfErr result IsWhyUnopened }
     ensures clean_left { IfErr result (IfRefused S.Store (λ fault.
         HasCleanDisk (state S.Store store.conn))) }
 {

@@ -4,7 +4,7 @@ ghost use Rattle.sqlite.specs.Files.{over_files};
 ghost use Rattle.sqlite_std_file.specs.File.{file_is_usable, IsFresh};
 ghost use Rattle.sqlite_wal.specs.Files.{image_at};
 ghost use Rattle.clear_schema.specs.Seen.{Sees};
-ghost use Rattle.clear_host.specs.Contents.{TellsNone};
+ghost use Rattle.clear_host.specs.Contents.{IsByError};
 
 use crate::hindrance::hindrance_of;
 use crate::offices::NotOpened;
@@ -31,7 +31,7 @@ pub(crate) fn open_database<S: Start>(
     ensures mode { IfOk result (λ connection. connection.in_transaction ≡ false) }
     ensures sees { IfOk result (Sees over_files (image_at S.Start)) }
     ensures none { IfErr result (λ refused. refused.connection ≡ None) }
-    ensures untold { IfErr result (λ refused. TellsNone refused.fault) }
+    ensures why { IfErr result IsByError }
 {
     let files = open_files(rt, path, start)?;
     let seed = random_seed(rt)?;
@@ -82,9 +82,12 @@ fn random_seed(rt: &HostRuntime) -> Result<u64, Error> {
 
 impl<S: Alter> From<Error> for NotOpened<S> {
     ghost use Rattle.std.specs.Prelude.{◌≡◌, None};
-    ghost use Rattle.clear_host.specs.Contents.{TellsNone};
+    ghost use Rattle.clear_schema.specs.Faults.{fault_of};
+    ghost use Rattle.clear_schema.specs.declared.fault.OpenFault.TheVariants.{Failed};
+    ghost use Rattle.clear_host.specs.Hindrances.{hindrance_of};
 
-    ghost from_gives = { λ _ refused. (refused.connection ≡ None) × TellsNone refused.fault };
+    ghost from_gives = { λ error refused. (refused.connection ≡ None)
+        × (refused.fault ≡ Failed (fault_of error)) × (refused.hindrance ≡ hindrance_of error) };
 
     fn from(error: Error) -> NotOpened<S> {
         let hindrance = hindrance_of(&error);

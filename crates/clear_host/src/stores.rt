@@ -9,7 +9,7 @@ ghost use Rattle.sqlite_wal.specs.Files.{image_at};
 ghost use Rattle.clear_book.specs.Book.{first_book};
 ghost use Rattle.clear_book.specs.Machine.{IsLawful};
 ghost use Rattle.clear_office.specs.Office.{IsHonest};
-ghost use Rattle.clear_host.specs.Contents.{HoldsObjects, HoldsSchema, IfRefused, IsUntoldUnopened};
+ghost use Rattle.clear_host.specs.Contents.{HoldsObjects, HoldsSchema, IfRefused, IsWhyUnopened};
 ghost use Rattle.clear_host.specs.Contents.{TellsNone, TellsOnly};
 ghost use Rattle.clear_host.specs.Offices.{IsNewOffice, IsOfficeOver, TellsOf};
 
@@ -49,7 +49,7 @@ pub fn create_office<S: Start>(
         → IfErr result (IfRefused over_files (TellsOnly number)) }
     ensures empty { IsNothing (image_at S.Start)
         → IfErr result (IfRefused over_files TellsNone) }
-    ensures unopened { IfErr result IsUntoldUnopened }
+    ensures unopened { IfErr result IsWhyUnopened }
 {
     // No effect at run time: the proof reads from this call that the rates are lawful.
     rates_in_range(rates);
@@ -72,7 +72,7 @@ pub fn open_office<S: Start>(
     ensures opened { IfOk result (λ opened. IsHonest over_files opened.office
         → IsOfficeOver over_files (image_at S.Start) opened) }
     ensures tells { IfErr result (TellsOf over_files (image_at S.Start)) }
-    ensures unopened { IfErr result IsUntoldUnopened }
+    ensures unopened { IfErr result IsWhyUnopened }
 {
     let connection = open_database(rt, path, start)?;
     find_office(rt.alloc(), connection)

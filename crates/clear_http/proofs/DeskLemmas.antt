@@ -2,21 +2,12 @@
 use Rattle.std.proofs.Common.{◌≡◌, ◌∙◌, ℕ, inl, inr, Bool, true, false, true≢false, List, [], ◌++◌, Option, Result, Ok, Err, IfOk, IfErr, refl, sym, ap, subst}
 use Rattle.sqlite.specs.Store.{Ghosts}
 use Rattle.clear_book.specs.declared.calls.Call.{Call}
-use Rattle.clear_book.specs.declared.calls.Call.TheVariants.{Ask, Do}
-use Rattle.clear_book.specs.declared.calls.Caller.{Caller}
-use Rattle.clear_book.specs.declared.calls.Command.{Command}
-use Rattle.clear_book.specs.declared.calls.Query.{Query}
-use Rattle.clear_book.specs.declared.outcomes.Answer.{Answer}
-use Rattle.clear_book.specs.declared.outcomes.Reply.{Reply}
-use Rattle.clear_book.specs.declared.rules.Rule.{Rule}
-use Rattle.clear_book.specs.declared.rules.StoreCause.{StoreCause}
-use Rattle.clear_book.specs.Calls.{may_do, may_query}
 use Rattle.clear_book.specs.declared.outcomes.Outcome.{Outcome}
 use Rattle.clear_book.specs.declared.outcomes.Outcome.TheVariants.{Refused}
-use Rattle.clear_book.specs.declared.rules.Rule.TheVariants.{Failed, Memory, NotYours, Store}
+use Rattle.clear_book.specs.declared.rules.Rule.TheVariants.{Failed, Memory, NotYours}
 use Rattle.clear_book.specs.Book.{Book}
 use Rattle.clear_book.specs.Machine.{IsLawful, is_allowed}
-use Rattle.clear_office.specs.Office.{Acts, AtOffice, IsHonest, Keeps, MayLeave, Steps, TellsStoreFault, answered, replied}
+use Rattle.clear_office.specs.Office.{Acts, AtOffice, IsHonest, Keeps, MayLeave, Steps, TellsStoreFault, answered}
 use Rattle.clear_answers.specs.Said.{refused_by, said_of}
 use Rattle.clear_callers.specs.Callers.{KeyOf}
 use Rattle.clear_routes.specs.Reading.{Reads}
@@ -38,32 +29,19 @@ pub record Taken {S : Type 0} (g : Ghosts S) (old : AtOffice S) (call : Call) (o
   pub access : old.failed ≡ false → is_allowed call ≡ false → (outcome ≡ Refused NotYours) × (new ≡ old)
   pub told : old.failed ≡ false → new.failed ≡ true → TellsStoreFault outcome
 
-module _ {S : Type 0} (g : Ghosts S) (old new : AtOffice S) (clean : IsHonest g new → IsHonest g old) where
-  pub taken_command : (caller : Caller) (number day : ℕ) (command : Command) (result : Result Reply Rule)
-      → Steps g old (Do caller number day command) (replied result) new → MayLeave g old (Do caller number day command) new
-      → (old.failed ≡ false → may_do caller command ≡ false → (result ≡ Err NotYours) × (new ≡ old))
-      → (old.failed ≡ false → new.failed ≡ true → (cause : StoreCause) × (result ≡ Err (Store cause)))
-      → (old.failed ≡ true → (result ≡ Err Failed) × (new ≡ old))
-      → Taken g old (Do caller number day command) (replied result) new
-  taken_command caller number day command result steps leaves access told failed = record {
-    acts = record { steps = steps; leaves = leaves; stays = λ was. (failed was).1 };
-    clean = clean;
-    access = λ working denied. (let it = access working denied in (ap replied it.0, it.1));
-    told = λ working fails. (let it = told working fails in (it.0, ap replied it.1));
-  }
-
-  pub taken_query : (caller : Caller) (day : ℕ) (query : Query) (result : Result Answer Rule)
-      → Steps g old (Ask caller day query) (answered result) new → MayLeave g old (Ask caller day query) new
-      → (old.failed ≡ false → may_query caller query ≡ false → (result ≡ Err NotYours) × (new ≡ old))
-      → (old.failed ≡ false → new.failed ≡ true → (cause : StoreCause) × (result ≡ Err (Store cause)))
-      → (old.failed ≡ true → (result ≡ Err Failed) × (new ≡ old))
-      → Taken g old (Ask caller day query) (answered result) new
-  taken_query caller day query result steps leaves access told failed = record {
-    acts = record { steps = steps; leaves = leaves; stays = λ was. (failed was).1 };
-    clean = clean;
-    access = λ working denied. (let it = access working denied in (ap answered it.0, it.1));
-    told = λ working fails. (let it = told working fails in (it.0, ap answered it.1));
-  }
+-- so it is by what the office says of a call that it takes
+pub taken_by : {S : Type 0} (g : Ghosts S) (old : AtOffice S) (call : Call) (outcome : Outcome) (new : AtOffice S)
+    → Steps g old call outcome new → MayLeave g old call new → (IsHonest g new → IsHonest g old)
+    → (old.failed ≡ false → is_allowed call ≡ false → (outcome ≡ Refused NotYours) × (new ≡ old))
+    → (old.failed ≡ false → new.failed ≡ true → TellsStoreFault outcome)
+    → (old.failed ≡ true → (outcome ≡ Refused Failed) × (new ≡ old))
+    → Taken g old call outcome new
+taken_by g old call outcome new steps leaves clean access told failed = record {
+  acts = record { steps = steps; leaves = leaves; stays = λ was. (failed was).1 };
+  clean = clean;
+  access = access;
+  told = told;
+}
 
 -- so much may be said to the request that reads as it
 module _ {S : Type 0} (g : Ghosts S) (keys : List KeyOf) (day : ℕ) (heading : Heading) (body : List ℕ) (old new : AtOffice S) (call : Call) (outcome : Outcome)

@@ -7,6 +7,7 @@ ghost use Rattle.clear_office.specs.Office.{IsHonest, Keeps};
 ghost use Rattle.clear_wire.specs.Counted.{inner, has_failed, reads_of};
 ghost use Rattle.clear_wire.specs.Limits.{read_limit};
 ghost use Rattle.clear_routes.specs.Reading.{Reads};
+ghost use Rattle.clear_answers.specs.Said.{said_of};
 ghost use Rattle.clear_http.specs.Desk.{MaySay, MayServe};
 ghost use Rattle.clear_http.specs.Guarded.{Guards};
 ghost use Rattle.clear_http.specs.Serve.{Serves, ServesPart, TellsFailed};
@@ -14,7 +15,7 @@ ghost use Rattle.clear_http.specs.Served.{IsServed, IsServedPart};
 
 use crate::serve::{Fault, Responder, ServeFault, Served, serve_stream, tell_failed};
 use clear_answers::said::{Refused, Said};
-use clear_book::calls::Call;
+use clear_book::outcomes::Outcome;
 use clear_callers::directory::Directory;
 use clear_money::days::Day;
 use clear_office::office::Office;
@@ -45,21 +46,19 @@ impl<S: Alter> Responder<Office<S>> for Desk<'_> {
             Ok(call) => call,
             Err(refused) => return Said::No(refused),
         };
-        match &call {
-            Call::Do {
-                caller,
-                number,
-                day,
-                command,
-            } => match office.submit(*caller, *number, *day, command) {
-                Ok(reply) => Said::Reply(reply),
-                Err(rule) => Said::No(Refused::by(rule)),
-            },
-            Call::Ask { caller, day, query } => match office.ask(*caller, *day, query) {
-                Ok(answer) => Said::Answer(answer),
-                Err(rule) => Said::No(Refused::by(rule)),
-            },
-        }
+        let outcome = office.take(&call);
+        said_of(outcome)
+    }
+}
+
+// What is said of what the office answers a call with.
+fn said_of(outcome: Outcome) -> Said
+    ensures { result ≡ said_of outcome }
+{
+    match outcome {
+        Outcome::Replied(reply) => Said::Reply(reply),
+        Outcome::Answered(answer) => Said::Answer(answer),
+        Outcome::Refused(rule) => Said::No(Refused::by(rule)),
     }
 }
 

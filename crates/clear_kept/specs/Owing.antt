@@ -2,7 +2,7 @@
 use Rattle.std.specs.Prelude.{◌≡◌, ℕ, ◌+◌, ◌-◌, ◌*◌, ◌/◌, ◌<◌, ◌≤◌, List, All, filter, length}
 use Rattle.std.specs.Prelude.{AllPairs, nat_lt, sum_by}
 use Rattle.clear_money.specs.Calendar.{begun_months, day_of_month}
-use Rattle.clear_money.specs.Limits.{most_base, most_weight}
+use Rattle.clear_money.specs.Limits.{most_base, most_months, most_weight}
 use Rattle.clear_money.specs.Rates.{Rate}
 use Rattle.clear_account.specs.declared.entries.Charge.{Charge}
 use Rattle.clear_account.specs.declared.entries.Credit.{Credit}
@@ -24,7 +24,7 @@ pub record IsWeighedInRange (row : WeighedCharge) : Type 0 where
 
 -- no more rows than there are months, each in its ranges
 pub record AreWeighedInRange (rows : List WeighedCharge) : Type 0 where
-  pub few : length rows ≤ 2400
+  pub few : length rows ≤ most_months
   pub each : All IsWeighedInRange rows
 
 -- ---- sums over the rows

@@ -1,5 +1,6 @@
 //! What a firm owes, told from the rows of its charges alone.
-ghost use Rattle.std.specs.Prelude.{◌≡◌, ◌↔◌, ◌^◌, ◌<◌, ◌≤◌, All, IsTrue};
+ghost use Rattle.std.specs.Prelude.{◌≡◌, ◌↔◌, ◌*◌, ◌^◌, ◌<◌, ◌≤◌, All, IsTrue};
+ghost use Rattle.clear_money.specs.Limits.{most_charge_interest};
 ghost use Rattle.clear_kept.specs.Owing.{AreWeighedInRange, IsWeighedInRange, arrears_in, charged_in};
 ghost use Rattle.clear_kept.specs.Owing.{interest_in, open_in, row_interest};
 ghost use Rattle.clear_account.specs.Interest.{interest_rate};
@@ -20,6 +21,7 @@ pub struct WeighedCharges {
 impl Model for WeighedCharges {
     ghost use Rattle.std.specs.Prelude.{List};
     ghost use Rattle.clear_kept.specs.declared.rows.WeighedCharge.{WeighedCharge};
+    ghost use Rattle.clear_money.specs.Limits.{most_charge_interest};
     ghost use Rattle.clear_kept.specs.Owing.{AreWeighedInRange};
 
     ghost Value = { List WeighedCharge };
@@ -31,6 +33,7 @@ impl Model for WeighedCharges {
 
 impl WeighedCharges {
     ghost use Rattle.std.specs.Prelude.{◌≡◌, All, IfSome, IsSome};
+    ghost use Rattle.clear_money.specs.Limits.{most_charge_interest};
     ghost use Rattle.clear_kept.specs.Owing.{AreWeighedInRange, IsWeighedInRange, arrears_in};
     ghost use Rattle.clear_kept.specs.Owing.{charged_in, interest_in, open_in};
 
@@ -153,7 +156,7 @@ fn add_interest(rows: &[WeighedCharge], rates: &RateTable, day: Day) -> u64
 pub fn interest_of(row: &WeighedCharge, rates: &RateTable, day: Day) -> u64
     requires { IsWeighedInRange row.now }
     ensures value { result ≡ row_interest rates.now day row.now }
-    ensures range { result ≤ 2_412_000_000_000 }
+    ensures range { result ≤ 2 * most_charge_interest }
 {
     let weight = row.weight + row.left * u64::from(begun_months(row.due, day));
     weight * interest_rate(rates, row.month) / 10_000

@@ -8,6 +8,10 @@ use Rattle.std.specs.Result.{result_err, result_ok}
 use Rattle.clear_money.specs.Results.{◌>>=◌}
 use Rattle.clear_bank.specs.declared.fault.BankFault.{BankFault}
 use Rattle.clear_bank.specs.declared.fault.BankFault.TheVariants as fault
+use Rattle.clear_bank.specs.declared.fields.BankField.{BankField}
+use Rattle.clear_bank.specs.declared.fields.BankField.TheVariants as field
+use Rattle.clear_bank.specs.declared.fields.RecordFault.{RecordFault}
+use Rattle.clear_bank.specs.declared.fields.RecordFault.TheVariants.{Field}
 use Rattle.clear_bank.specs.Files.{Fields, after_header, all_lines, begins_with_r, cents_in, employer_in, file_lines, header_fault, is_over, line_of as line_in, note_in, or_bad, purpose_in, record_lines, records_of, reference_in, rows_read, unless_faulty, value_in}
 use Rattle.clear_bank.specs.Newness.{Placed, unless_conflict}
 use Rattle.clear_values.specs.Limits.{most_records}
@@ -71,9 +75,9 @@ abbrev IsRead : {A : Type 0} → Result A BankFault → Type 0
 IsRead (Ok x) = Unit {0}
 IsRead (Err fault) = is_within (rule_of fault) ≡ true
 
-on_field : {A : Type 0} (n field : ℕ) (o : Option A) (next : A → Result BankLine BankFault) → ((x : A) → IsRead (next x)) → IsRead (or_bad n field o >>= next)
-on_field n field None next h = refl
-on_field n field (Some x) next h = h x
+on_field : {A : Type 0} (n : ℕ) (bad : BankField) (o : Option A) (next : A → Result BankLine BankFault) → ((x : A) → IsRead (next x)) → IsRead (or_bad n bad o >>= next)
+on_field n bad None next h = refl
+on_field n bad (Some x) next h = h x
 
 line_read : (n : ℕ) (fields : Fields) → IsRead (line_in n fields)
 line_read n [] = refl
@@ -84,8 +88,8 @@ line_read n (a ∷ b ∷ c ∷ d ∷ []) = refl
 line_read n (a ∷ b ∷ c ∷ d ∷ e ∷ []) = refl
 line_read n (a ∷ b ∷ c ∷ d ∷ e ∷ f ∷ g ∷ more) = refl
 line_read n (a ∷ b ∷ c ∷ d ∷ e ∷ f ∷ []) =
-    on_field n 1 (reference_in a) _ (λ reference. on_field n 2 (value_in b) _ (λ value. on_field n 3 (employer_in c) _ (λ employer.
-    on_field n 4 (cents_in d) _ (λ cents. on_field n 5 (purpose_in e) _ (λ purpose. on_field n 6 (note_in f) _ (λ note. tt))))))
+    on_field n field.Reference (reference_in a) _ (λ reference. on_field n field.ValueDate (value_in b) _ (λ value. on_field n field.Employer (employer_in c) _ (λ employer.
+    on_field n field.Cents (cents_in d) _ (λ cents. on_field n field.Purpose (purpose_in e) _ (λ purpose. on_field n field.Note (note_in f) _ (λ note. tt))))))
 
 abbrev AreOfFile : List BankFault → Type 0
 AreOfFile faults = AllByRecursion (λ fault. is_within (rule_of fault) ≡ true) faults
@@ -102,19 +106,19 @@ unless_read : (faults : List BankFault) (lines : List BankLine) → AreOfFile fa
 unless_read [] lines h = tt
 unless_read (fault ∷ faults) lines h = h.0
 
-header_read : (o : Option ℕ) (lines : Result (List BankLine) BankFault) → IsRead lines → IsRead (after_header o lines)
+header_read : (o : Option RecordFault) (lines : Result (List BankLine) BankFault) → IsRead lines → IsRead (after_header o lines)
 header_read None lines h = h
-header_read (Some field) lines h = refl
+header_read (Some wrong) lines h = refl
 
 records_read : (rows : List Fields) → IsRead (record_lines rows)
 records_read [] = refl
 records_read (header ∷ rows) =
     header_read (header_fault header) (all_lines (rows_read rows)) (unless_read (filter_map result_err (rows_read rows)) (filter_map result_ok (rows_read rows)) (rows_faults 2 rows))
 
-text_read : (limit : ℕ) (text : List ℕ) → IsRead (cond (not (begins_with_r text)) (Err (fault.BadCsv 1 1)) (cond (is_over limit (records_of text)) (Err fault.OverLimit) (record_lines (records_of text))))
+text_read : (limit : ℕ) (text : List ℕ) → IsRead (cond (not (begins_with_r text)) (Err (fault.BadCsv 1 (Field field.Reference))) (cond (is_over limit (records_of text)) (Err fault.OverLimit) (record_lines (records_of text))))
 text_read limit text = told (begins_with_r text) (is_over limit (records_of text))
   where
-    told : (p q : Bool) → IsRead (cond (not p) (Err (fault.BadCsv 1 1)) (cond q (Err fault.OverLimit) (record_lines (records_of text))))
+    told : (p q : Bool) → IsRead (cond (not p) (Err (fault.BadCsv 1 (Field field.Reference))) (cond q (Err fault.OverLimit) (record_lines (records_of text))))
     told true true = refl
     told true false = records_read (records_of text)
     told false q = refl

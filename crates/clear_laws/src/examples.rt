@@ -288,6 +288,8 @@ pub fn law_repeat_or_conflict()
         ≡ Err (RefConflict 3) }
     ensures seen { judgement ((line None 1 2000).line ∷ []) ((line None 2 2000).line ∷ [])
         ≡ Ok ([], 1) }
+    ensures seen_otherwise { judgement ((line None 1 2000).line ∷ [])
+        ((line None 2 2001).line ∷ []) ≡ Err (RefConflict 2) }
 {}
 
 /// A contribution is in arrears from the day after its due day on, less what was paid.

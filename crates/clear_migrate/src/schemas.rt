@@ -2,9 +2,8 @@
 ghost use Rattle.std.specs.Prelude.{◌≡◌, ◌≢◌, false, true, ℕ, Ok, Err, IsTrue, IfErr, OnOk};
 ghost use Rattle.sqlite.specs.Held.{state};
 ghost use Rattle.sqlite.specs.State.{HasCleanDisk, Survives};
-ghost use Rattle.clear_values.specs.Tables.{Tables};
 ghost use Rattle.clear_schema.specs.Faults.{IsWrong, other_layout};
-ghost use Rattle.clear_schema.specs.Held.{HasOtherLayout, HasTables, TellsSchema, this_schema};
+ghost use Rattle.clear_schema.specs.Held.{HasOtherLayout, TellsSchema, this_schema};
 ghost use Rattle.clear_schema.specs.Opening.{HasMetaOrNothing, IsBelowZero};
 ghost use Rattle.clear_schema.specs.Schema.{no_schema, store_schema};
 ghost use Rattle.clear_schema.specs.Still.{IsStill};
@@ -65,7 +64,8 @@ pub fn to_current<S: Alter>(conn: &mut Connection<S>) -> Result<Migration, OpenF
     requires { conn.old.in_transaction ≡ false }
     ensures mode { conn.new.in_transaction ≡ false }
     ensures current { HasCleanDisk (state S.Store conn.new)
-        → (t : Tables) → HasTables t (state S.Store conn.old).now
+        → TellsSchema this_schema (state S.Store conn.old).now
+        → (state S.Store conn.old).now.schema ≡ store_schema
         → AnswersOrFails (Ok Migration.AlreadyCurrent) result }
     ensures another { HasCleanDisk (state S.Store conn.new)
         → (number : ℕ) → TellsSchema number (state S.Store conn.old).now → number ≢ this_schema

@@ -100,14 +100,7 @@ place_of m d im id =
       place = day_of_month-day_in m d im.0 (omega arith) id.0 (omega (arith, length));
     }
 
--- from a place in a month up to one that is no later, k months on
-pub begun_months-up_to : (m k d e : ℕ) → IsMonth m → IsMonth (m + k) → IsDayOfEachMonth d → IsDayOfEachMonth e → e ≤ d → begun_months (day_in m d) (day_in (m + k) e) ≡ k
-begun_months-up_to m k d e im in_ id ie le =
-    let a = place_of m d im id in
-    let b = place_of (m + k) e in_ ie in
-    omega (arith, a.month, b.month, begun-whole (day_in m d) (day_in (m + k) e) a.day b.day (omega (arith, a.place)) (omega (arith, a.month, b.month)) (omega (arith, a.place, b.place)))
-
--- and to a later one
+-- from a place in a month to a later one, k months on
 pub begun_months-behind : (m k d e : ℕ) → IsMonth m → IsMonth (m + k) → IsDayOfEachMonth d → IsDayOfEachMonth e → d < e → begun_months (day_in m d) (day_in (m + k) e) ≡ k + 1
 begun_months-behind m k d e im in_ id ie lt =
     let a = place_of m d im id in

@@ -34,14 +34,14 @@ module _ (m d : ℕ) (low : 24000 ≤ m) (first : 1 ≤ d) where
   count_low : 4_382_910 ≤ count m d
   count_low = ⊎_elim (λ (h : 3 ≡ m % 12 + 1). late (omega arith)) (λ (h : (3 < m % 12 + 1) ⊎ (m % 12 + 1 < 3)). ⊎_elim (λ (k : 3 < m % 12 + 1). late (omega arith)) early h) (cases_order 3 (m % 12 + 1))
 
-natural : (z : ℤ) (n : ℕ) → up z + 4_371_953 ≡ down z + n → 4_382_910 ≤ n → (z ≡ pos (unsigned_abs z)) × (unsigned_abs z + 4_371_953 ≡ n)
+natural : (z : ℤ) (n : ℕ) → up z + 4_371_953 ≡ down z + n → 4_371_953 ≤ n → (z ≡ pos (unsigned_abs z)) × (unsigned_abs z + 4_371_953 ≡ n)
 natural (pos k) n e low = (refl, omega (arith, signed_arith))
 natural (negsuc k) n e low = absurd (omega (arith, signed_arith))
 
 day_number : (m d : ℕ) → 24000 ≤ m → 1 ≤ d → (days_from_civil (pos (m / 12)) (m % 12 + 1) d ≡ pos (day_in m d)) × (day_in m d + 4_371_953 ≡ count m d)
 unfolding day_in
 day_number m d low first =
-    natural _ _ (days_from_civil-day_count (pos (m / 12)) (m % 12 + 1) d) (count_low m d low first)
+    natural _ _ (days_from_civil-day_count (pos (m / 12)) (m % 12 + 1) d) (omega (arith, count_low m d low first))
 
 -- the calendar's day number of a day of a month is its number here
 pub days_from_civil-day_in : (m d : ℕ) → 24000 ≤ m → 1 ≤ d → days_from_civil (pos (m / 12)) (m % 12 + 1) d ≡ pos (day_in m d)
@@ -56,6 +56,23 @@ month_length_bounds m = let b = days_in_month_bounds (pos (m / 12)) (m % 12 + 1)
 pub day_in-place : (m d : ℕ) → 24000 ≤ m → 1 ≤ d → day_in m d + 1 ≡ day_in m 1 + d
 day_in-place m d low first =
     omega (arith, (day_number m d low first).1, (day_number m 1 low (omega arith)).1, day_count-day (pos (m / 12)) (m % 12 + 1) d 1 first (omega arith))
+
+-- place 0 of a month, at which no day stands, is counted as the day before its first, or as that one
+count_none : (m : ℕ) → count m 1 ≤ count m 0 + 1
+unfolding day_count
+count_none m = omega arith
+
+day_none : (m : ℕ) → 24000 ≤ m → day_in m 1 ≤ day_in m 0 + 1
+unfolding day_in
+day_none m low =
+    let least = count_low m 1 low (omega arith) in
+    let none = count_none m in
+    omega (arith, none, (day_number m 1 low (omega arith)).1, (natural _ _ (days_from_civil-day_count (pos (m / 12)) (m % 12 + 1) 0) (omega (arith, least, none))).1)
+
+-- no place of a month comes before the day ahead of its first
+pub day_in-low : (m d : ℕ) → 24000 ≤ m → day_in m 1 ≤ day_in m d + 1
+day_in-low m zero low = day_none m low
+day_in-low m (suc d) low = omega (arith, day_in-place m (suc d) low (omega arith))
 
 same_count : (y y₂ m m₂ : ℕ) → y ≡ y₂ → m ≡ m₂ → day_count (pos y) m 1 ≡ day_count (pos y₂) m₂ 1
 same_count y y₂ m m₂ a b = cc
@@ -104,6 +121,10 @@ first_day-mono m n low le =
 pub first_day-2000 : day_in 24000 1 ≡ 10957
 first_day-2000 =
     omega (arith, (day_number 24000 1 (omega arith) (omega arith)).1, day_count-early (pos 2000) 11999 1 1 refl (omega arith) (omega arith) (omega arith))
+
+pub leap_day-2024 : day_in 24289 29 ≡ 19782
+leap_day-2024 =
+    omega (arith, (day_number 24289 29 (omega arith) (omega arith)).1, day_count-early (pos 2024) 12023 2 29 refl (omega arith) (omega arith) (omega arith))
 
 pub first_day-2201 : day_in 26412 1 ≡ 84371
 first_day-2201 =

@@ -2,7 +2,7 @@
 -- from 1, and 0 is the top level.
 use Rattle.std.specs.Prelude.{◌≡◌, ℕ, suc, pos, List, [], ◌∷◌, map, codes, if◌then◌else◌, Option}
 use Rattle.std.specs.Prelude.{Some, None, Result, Ok, Err, nat_lt}
-use Rattle.std.specs.List.{AllByRecursion}
+use Rattle.std.specs.List.{AllByRecursion, concat}
 use Rattle.std.specs.Str.{is_utf8}
 use Rattle.toml.specs.Data.{Data, string, integer, array, table, Items, no_items, item, Members}
 use Rattle.toml.specs.Data.{no_members, member, get_member, as_array}
@@ -92,3 +92,22 @@ abbrev pub WrittenRatesAreRead : Type 0
 WrittenRatesAreRead = (row : Rate) (rows : List Rate) →
     AllByRecursion IsRate (row ∷ rows) → IsRising (row ∷ rows) →
     rates_in (rate_document (row ∷ rows)) ≡ Ok (row ∷ rows)
+
+-- ---- an example
+
+-- a row as it is written, with its first month and its due day
+abbrev pub example_text : List ℕ → List ℕ → List ℕ
+example_text from due_day =
+    concat (codes "[[rate]]\nfrom = \"" ∷ from ∷ codes "\"\ncontribution = 2000\nreport_day = 15\n"
+    ∷ codes "due_day = " ∷ due_day ∷ codes "\ninterest = 100\nentitlement = 1425\n" ∷ [])
+
+-- the rate that it means
+abbrev pub example_rate : ℕ → ℕ → Rate
+example_rate first due_day = record {
+  first = first;
+  contribution_rate = 2000;
+  report_day = 15;
+  due_day = due_day;
+  interest_rate = 100;
+  entitlement_rate = 1425;
+}

@@ -4,13 +4,16 @@
 //! be answered at any time and says nothing of the text, so a body that answers nothing else meets
 //! these contracts too: the tests read.
 ghost use Rattle.std.specs.Prelude.{◌≡◌, ◌≢◌, ◌++◌, ◌∷◌, [], map, Ok, Err, IfOk, IfErr};
-ghost use Rattle.std.specs.Prelude.{OnOk, option_map};
+ghost use Rattle.std.specs.Prelude.{OnOk, option_map, codes};
 ghost use Rattle.toml.specs.View.{view, items_view, table_view};
 ghost use Rattle.clear_money.specs.Rates.{Rate, last_first};
 ghost use Rattle.clear_money.specs.RateFile.{row_alone, row_after, rows_in, rates_in};
-ghost use Rattle.clear_money.specs.RateFile.{rates_of, WrittenRatesAreRead};
+ghost use Rattle.clear_money.specs.RateFile.{rates_of, WrittenRatesAreRead, example_text};
+ghost use Rattle.clear_money.specs.RateFile.{example_rate};
 ghost use Rattle.clear_money.specs.WrittenRate.{has_only, text_of, number_of, written_row};
 ghost use Rattle.clear_money.specs.WrittenRate.{rate_meant, row_view};
+ghost use Rattle.clear_money.specs.declared.rate_file.RateFault.TheVariants.{Text, Field, Range};
+ghost use Rattle.clear_money.specs.declared.rate_file.RateFault.TheVariants.{Order, Empty};
 
 use crate::documents::{is_one_of, read_document};
 use crate::months::Month;
@@ -204,4 +207,24 @@ fn rate_meant(row: &WrittenRow) -> Option<RateRow>
 /// document that writes them.
 pub fn law_written_rates()
     ensures { WrittenRatesAreRead }
+{}
+
+/// A law of the definitions, without effect: what a rate file of one row says, byte for byte, and
+/// which fault each of some others has.
+pub fn law_rate_files_by_example()
+    ensures good { rates_of (example_text (codes "2024-01") (codes "20"))
+        ≡ Ok (example_rate 24288 20 ∷ []) }
+    ensures no_text { rates_of (255 ∷ []) ≡ Err Text }
+    ensures no_toml { rates_of (codes "rate\n") ≡ Err Text }
+    ensures empty { rates_of [] ≡ Err Empty }
+    ensures no_array { rates_of (codes "rate = 1\n") ≡ Err (Field 0) }
+    ensures other_member { rates_of (codes "rates = []\n") ≡ Err (Field 0) }
+    ensures no_table { rates_of (codes "rate = [1]\n") ≡ Err (Field 1) }
+    ensures no_number { rates_of (example_text (codes "2024-01") (codes "\"20\"")) ≡ Err (Field 1) }
+    ensures no_month { rates_of (example_text (codes "2024-13") (codes "20")) ≡ Err (Range 1) }
+    ensures due_day { rates_of (example_text (codes "2024-01") (codes "29")) ≡ Err (Range 1) }
+    ensures order { rates_of (example_text (codes "2025-01") (codes "20")
+        ++ example_text (codes "2024-12") (codes "20")) ≡ Err (Order 2) }
+    ensures same_month { rates_of (example_text (codes "2025-01") (codes "20")
+        ++ example_text (codes "2025-01") (codes "21")) ≡ Err (Order 2) }
 {}

@@ -29,11 +29,11 @@ use Rattle.clear_store.proofs.OnceLemmas.{all_new}
 use Rattle.clear_pieces.specs.Anew.{FromCredit, IsFreeBehind, IsFreeFromCredit}
 use Rattle.clear_pieces.specs.Behind.{AreLast, IsWeighedBefore, rows_from}
 use Rattle.clear_pieces.specs.Firm.{KeepsAccount}
-use Rattle.clear_pieces.specs.Keeping.{AreCreditsPut, AreFirst, AreFollowing, IsFirst, IsFirstOf, IsPut}
+use Rattle.clear_pieces.specs.Keeping.{AreCreditsPut, AreFirst, IsFirst, IsFirstOf, IsPut}
 use Rattle.clear_pieces.specs.declared.behind.NewCredits.{NewCredits}
 use Rattle.clear_pieces.proofs.OnlyNewLemmas.{old_before}
 use Rattle.clear_pieces.proofs.RangeLemmas.{paid_in_range, same_in_range}
-use Rattle.clear_pieces.proofs.StepLemmas.{FollowSoFar, account_so_far, all_put, credit_next, credit_next-free, credit_next-free_behind, none_put}
+use Rattle.clear_pieces.proofs.StepLemmas.{FollowSoFar, account_so_far, credit_next, credit_next-free, credit_next-free_behind, none_put}
 
 -- ---- which changes put credits
 
@@ -129,7 +129,3 @@ module _ (news : List CreditRow) (t v : Tables) (put : AreCreditsPut news t v) w
           credits = ranges.credits;
           account = next_account;
         }
-
-  -- without a new credit for contributions all pieces stay
-  pub none_new : AreFirst (λ e. None) news → AreFollowing t v v.pieces v.charges
-  none_new are = all_put t v v.pieces v.charges (firms_first (λ e. None) are [] (λ e is. refl))

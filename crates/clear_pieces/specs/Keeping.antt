@@ -1,6 +1,6 @@
 -- The pieces, and what is open of the contributions, follow a change that was put into the tables.
 use Rattle.std.specs.Prelude.{◌≡◌, ◌≢◌, ◌≤◌, ◌+◌, ℕ, List, [], Bool, true, false, Option, Some, None}
-use Rattle.std.specs.Prelude.{◌==◌, Result, filter, if◌then◌else◌, length}
+use Rattle.std.specs.Prelude.{Result, filter, if◌then◌else◌, length}
 use Rattle.std.specs.List.{AllByRecursion, Contains}
 use Rattle.sqlite.specs.Held.{Held}
 use Rattle.sqlite.specs.Store.{Ghosts}
@@ -23,7 +23,6 @@ use Rattle.clear_book.specs.Tables.{charge_key, table_credits}
 use Rattle.clear_schema.specs.declared.fault.Fault.{Fault}
 use Rattle.clear_pieces.specs.Allocates.{Allocates}
 use Rattle.clear_pieces.specs.declared.behind.NewCredits.{NewCredits}
-use Rattle.clear_pieces.specs.declared.keep.NewCredit.{NewCredit}
 
 -- what the tables keep of each firm is an account, in the order of its keys
 pub record AreAccounts (t : Tables) : Type 0 where
@@ -87,10 +86,9 @@ AreFirst firms news = (e : ℕ) → IsFirstOf (filter (is_credit_of e Contributi
 abbrev pub alone : Credit → NewCredits
 alone k = record { first = k; count = 1 }
 
--- the firm's credit, if the one that is new is its
-abbrev pub credit_for : Option NewCredit → ℕ → Option NewCredits
-credit_for None e = None
-credit_for (Some new) e = if new.employer == e then Some (alone new.credit) else None
+-- the firm's credit, if the row is its and for contributions
+abbrev pub credit_for : CreditRow → ℕ → Option NewCredits
+credit_for row e = if is_credit_of e Contribution row then Some (alone (row_credit row)) else None
 
 -- of two credits the one that comes first, and the former where neither does
 abbrev pub earlier : Credit → Credit → Credit

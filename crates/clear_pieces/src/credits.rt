@@ -69,14 +69,20 @@ fn add_credit(account: &mut Plain, row: &CreditRow) -> Result<(), Fault>
     ensures charges { account.new.charges ≡ account.old.charges }
     ensures fault { length account.old.credits + 1 ≤ most_credits → IfErr result IsOfDisk }
 {
-    let credit = Credit {
-        day: row.day,
-        serial: row.serial,
-        cents: row.cents,
-    };
-    match account.add_credit(credit) {
+    match account.add_credit(credit_of(row)) {
         Ok(()) => Ok(()),
         Err(AccountFault::Memory) => Err(Fault::Memory),
         Err(AccountFault::OverLimit) => Err(Fault::Store(StoreCause::Row)),
+    }
+}
+
+/// The credit that a row is.
+pub fn credit_of(row: &CreditRow) -> Credit
+    ensures { result ≡ row_credit row.now }
+{
+    Credit {
+        day: row.day,
+        serial: row.serial,
+        cents: row.cents,
     }
 }

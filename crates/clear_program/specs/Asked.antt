@@ -1,5 +1,6 @@
 -- Which task the words of a command line ask for.
-use Rattle.std.specs.Prelude.{◌≡◌, ◌≢◌, ◌⊎◌, ⊤, ℕ, true, ◌||◌, List, Result, codes, is_ok, string_bytes}
+use Rattle.std.specs.Prelude.{◌≡◌, ◌≢◌, ◌≤◌, ◌⊎◌, ⊤, ℕ, true, ◌||◌, List, Result, codes, is_ok, length}
+use Rattle.std.specs.Prelude.{string_bytes}
 use Rattle.clear_money.specs.RateFile.{rates_of}
 use Rattle.clear_book.specs.declared.calls.Command.TheVariants.{ImportBank}
 use Rattle.clear_callers.specs.CallerFile.{directory_of}
@@ -9,7 +10,7 @@ use Rattle.clear_check.specs.CallerChecks.{SaysKeys}
 use Rattle.clear_check.specs.BankChecks.{SaysBank, bank_of}
 use Rattle.clear_check.specs.declared.Checked.{Checked}
 use Rattle.clear_sample.specs.Samples.{sample_rates}
-use Rattle.clear_files.specs.Contents.{SomeFileSays}
+use Rattle.clear_files.specs.Contents.{SomeFileSays, most_file_bytes}
 use Rattle.clear_cli.specs.Lines.{Says, Text, asks_help, calls_help}
 use Rattle.clear_cli.specs.declared.words.FileKind.{FileKind}
 use Rattle.clear_cli.specs.declared.words.FileKind.TheVariants.{Bank, Callers, Rates}
@@ -52,12 +53,13 @@ IsTaskFor (words.Serve store callers day port count) (OnStore at (Serve keys on 
     (at.now ≡ store.now) × (on ≡ day) × (place ≡ port) × (many ≡ count)
     × SomeFileSays directory_of keys
 IsTaskFor (words.Import store day number file) (OnStore at (Import on under (ImportBank bytes))) =
-    (at.now ≡ store.now) × (on ≡ day) × (under ≡ number)
+    (at.now ≡ store.now) × (on ≡ day) × (under ≡ number) × (length bytes ≤ most_file_bytes)
 IsTaskFor (words.Statement store day employer) (OnStore at (Statement on firm)) =
     (at.now ≡ store.now) × (on ≡ day) × (firm ≡ employer)
 IsTaskFor (words.Migrate store) (Migrate at) = at.now ≡ store.now
 IsTaskFor (words.Look store) (Look at) = at.now ≡ store.now
-IsTaskFor (words.Check kind file) (Check checked) = (bytes : List ℕ) × IsChecked kind bytes checked
+IsTaskFor (words.Check kind file) (Check checked) =
+    (bytes : List ℕ) × (length bytes ≤ most_file_bytes) × IsChecked kind bytes checked
 IsTaskFor (words.Backup store file) (OnStore at (Backup copy)) =
     (at.now ≡ store.now) × (copy.now ≡ file.now)
 IsTaskFor _ _ = ⊥

@@ -1,25 +1,32 @@
 -- What a look says of a store, and what is done with an office before its store is closed.
-use Rattle.std.specs.Prelude.{◌≡◌, ℕ, List, [], Option, Result, Ok, IfOk}
+use Rattle.std.specs.Prelude.{◌≡◌, ℕ, List, [], Option, Result, Ok, IfErr, IfOk}
 use Rattle.sqlite.specs.Held.{Held, state}
-use Rattle.sqlite.specs.State.{HasCleanDisk}
+use Rattle.sqlite.specs.State.{HasCleanDisk, KeepsCommit, Survives}
 use Rattle.sqlite.specs.Store.{Ghosts}
 use Rattle.clear_book.specs.Tables.{Tables}
 use Rattle.clear_schema.specs.Held.{HasTables, this_schema}
 use Rattle.clear_office.specs.Office.{AtOffice}
 use Rattle.clear_reading.specs.Look.{look_of}
 use Rattle.clear_texts.specs.Look.{look_text}
+use Rattle.clear_program.specs.Stops.{IsOfStoreFault}
 use Rattle.clear_program.specs.Works.{IsSaid, Works}
 use Rattle.clear_program.specs.declared.jobs.Job.{Job}
 use Rattle.clear_program.specs.declared.jobs.Job.TheVariants as job
 use Rattle.clear_program.specs.declared.stop.Stop.{Stop}
 
 module _ {A S : Type 0} (bytes : A → List ℕ) (g : Ghosts S) (result : Result A Stop) where
-  -- what stands in the tables that a connection has is said, and they stay
-  abbrev pub Looks : Held S → Held S → Type 0
-  Looks old new =
-      HasCleanDisk (state g new) → (t : Tables) → HasTables t (state g old).now
-      → IfOk result (λ text. (bytes text ≡ look_text this_schema (look_of t))
-      × HasTables t (state g new).now)
+  -- what stands in the tables that a connection has is said, and they stay; where it can't be said, a
+  -- fault of the store is told; whatever comes of it, what was committed stays, and a crash leaves no
+  -- more than before
+  pub record Looks (old new : Held S) : Type 0 where
+    pub said : HasCleanDisk (state g new) → (t : Tables) → HasTables t (state g old).now
+        → IfOk result (λ text. (bytes text ≡ look_text this_schema (look_of t))
+        × HasTables t (state g new).now)
+    pub kept : HasCleanDisk (state g new) → (t : Tables) → HasTables t (state g old).now
+        → KeepsCommit (state g old) (state g new)
+    pub survives : HasCleanDisk (state g new) → (t : Tables) → HasTables t (state g old).now
+        → Survives (state g old) (state g new) (λ _. ⊥)
+    pub why : IfErr result IsOfStoreFault
 
   -- what a job does with an office of this ledger day, whose connection it leaves, and what is said
   abbrev pub DoesJob : Option ℕ → AtOffice S → Held S → Job → Type 0

@@ -6,6 +6,7 @@ use Rattle.std.specs.Io.KnownBytes.{Appends}
 use Rattle.clear_book.specs.declared.rules.Rule.{Rule}
 use Rattle.clear_book.specs.declared.rules.Rule.TheVariants as rules
 use Rattle.clear_book.specs.Rules.{number_of, name_of, carried_by}
+use Rattle.clear_schema.specs.declared.fault.Fault.{Fault as StoreFault}
 use Rattle.clear_schema.specs.declared.fault.Fault.TheVariants as store
 use Rattle.clear_schema.specs.declared.fault.OpenFault.{OpenFault}
 use Rattle.clear_schema.specs.declared.fault.OpenFault.TheVariants.{WrongVersion, Failed}
@@ -38,6 +39,14 @@ abbrev pub by_store : OpenFault → Stop
 by_store (WrongVersion found) = stop.Rule (rules.WrongVersion found)
 by_store (Failed store.Memory) = no_memory
 by_store (Failed (store.Store cause)) = stop.Rule (rules.Store cause)
+
+-- a store isn't opened
+abbrev pub IsOfStore : Stop → Type 0
+IsOfStore why = (fault : OpenFault) × (why ≡ by_store fault)
+
+-- a store that was opened can't be read or written, or there was no memory
+abbrev pub IsOfStoreFault : Stop → Type 0
+IsOfStoreFault why = (fault : StoreFault) × (why ≡ by_store (Failed fault))
 
 -- a stream that isn't served to its end
 abbrev pub by_stream : Fault → Stop

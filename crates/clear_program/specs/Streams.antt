@@ -1,18 +1,28 @@
 -- What is answered to the requests of a stream over a new office. `reads` says which call a request is,
 -- or what refuses it before the office sees it.
-use Rattle.std.specs.Prelude.{◌≡◌, ◌++◌, ℕ, Bool, false, List, Option, Result, IfSome}
+use Rattle.std.specs.Prelude.{◌≡◌, ◌⊎◌, ◌+◌, ◌++◌, ℕ, Bool, false, true, List, Option, Result, IfSome}
 use Rattle.std.specs.Io.KnownBytes.{Appends}
 use Rattle.clear_money.specs.Rates.{Rate}
 use Rattle.clear_book.specs.declared.calls.Call.{Call}
 use Rattle.clear_book.specs.Book.{Book, first_book}
 use Rattle.clear_wire.specs.Cut.{BeginsCut}
 use Rattle.clear_wire.specs.Head.{Heading}
-use Rattle.clear_wire.specs.Limits.{request_limit}
+use Rattle.clear_wire.specs.Limits.{read_limit, request_limit}
 use Rattle.clear_wire.specs.Stream.{NextItem}
 use Rattle.clear_routes.specs.declared.refused.Refused.{Refused}
 use Rattle.clear_answers.specs.declared.said.Said.{Said}
 use Rattle.clear_http.specs.Serve.{IsCutBy, answer_text}
 use Rattle.clear_http.specs.Served.{ItemsTake}
+use Rattle.clear_program.specs.Stops.{no_memory}
+use Rattle.clear_program.specs.declared.stop.Stop.{Stop}
+use Rattle.clear_program.specs.declared.stop.Stop.TheVariants as stop
+
+-- why a stream isn't served to its end: for want of memory, since its reader or its writer failed, or
+-- since it took all reads that it may make
+abbrev pub IsCutShort : Bool → Bool → ℕ → ℕ → Stop → Type 0
+IsCutShort reader_failed writer_failed reads_before reads_now why =
+    (why ≡ no_memory) ⊎ ((why ≡ stop.Stream) × ((reader_failed ≡ true)
+    ⊎ ((writer_failed ≡ true) ⊎ (reads_now ≡ reads_before + read_limit))))
 
 module _ (reads : Heading → List ℕ → Result Call Refused → Type 0) (rates : List Rate) where
   -- the machine takes each request in the bytes of a stream, one after another from the book without

@@ -1,5 +1,5 @@
 -- What work does to an office that was opened, and what is said of it at the end.
-use Rattle.std.specs.Prelude.{◌≡◌, ◌⊎◌, ℕ, List, Option, Result, Ok, Err, IfOk}
+use Rattle.std.specs.Prelude.{◌≡◌, ◌⊎◌, ℕ, List, Option, Result, Ok, Err, IfErr, IfOk}
 use Rattle.sqlite.specs.Store.{Ghosts}
 use Rattle.clear_book.specs.declared.calls.Call.{Call}
 use Rattle.clear_book.specs.declared.calls.Call.TheVariants.{Do, Ask}
@@ -18,7 +18,7 @@ use Rattle.clear_cli.specs.Ready.{copied_line, imported_line, served_line}
 use Rattle.clear_server.specs.Talks.{AreServed}
 use Rattle.clear_server.specs.declared.connections.Ended.{Ended}
 use Rattle.clear_server.specs.declared.connections.Ended.TheVariants.{NoConnections, Served, StoreGone}
-use Rattle.clear_program.specs.Stops.{no_memory}
+use Rattle.clear_program.specs.Stops.{IsOfFile, no_memory}
 use Rattle.clear_program.specs.declared.stop.Stop.{Stop}
 use Rattle.clear_program.specs.declared.stop.Stop.TheVariants as stop
 use Rattle.clear_program.specs.declared.tasks.Work.{Work}
@@ -42,6 +42,10 @@ serving_said count NoConnections = Err stop.Net
 abbrev pub CannotServe : Stop → Type 0
 CannotServe why =
     (why ≡ no_memory) ⊎ ((why ≡ stop.Rule (rules.Store Other)) ⊎ (why ≡ stop.Net))
+
+-- there was no memory, the copy can't be made, or the store's own file isn't the whole store
+abbrev pub CannotCopy : Stop → Type 0
+CannotCopy why = IsOfFile why ⊎ (why ≡ stop.Rule (rules.Store Other))
 
 module _ {A : Type 0} (bytes : A → List ℕ) where
   -- this is said, or that there was no memory for it
@@ -70,3 +74,4 @@ module _ {A : Type 0} (bytes : A → List ℕ) where
     Works ledger_day (work.Statement day employer) = IsDone (Ask Clerk day (query.Statement employer))
     Works ledger_day (work.Backup copy) =
         (new ≡ old) × IfOk result (λ text. bytes text ≡ copied_line ledger_day)
+        × IfErr result CannotCopy

@@ -1,7 +1,8 @@
 //! Whether a store has this program's schema.
-ghost use Rattle.std.specs.Prelude.{◌≡◌, IfOk, string_bytes};
+ghost use Rattle.std.specs.Prelude.{◌≡◌, IfErr, IfOk, string_bytes};
 ghost use Rattle.clear_cli.specs.Ready.{schema_line};
 ghost use Rattle.clear_schema.specs.Held.{this_schema};
+ghost use Rattle.clear_program.specs.Stops.{IsOfStore};
 
 use crate::opening::{close_store, why_unopened};
 use crate::reasons::refused_path;
@@ -16,7 +17,8 @@ use sqlite_disk::Start;
 /// Says which schema the store at a path has, and closes it; a store of another one is refused. A path
 /// that can hold no store is refused before it is opened, so that an empty file stays empty.
 pub(crate) fn migrate_at<S: Start>(rt: &HostRuntime, store: &str, start: S) -> Result<String, Stop>
-    ensures { IfOk result (λ said. string_bytes said ≡ schema_line this_schema) }
+    ensures said { IfOk result (λ said. string_bytes said ≡ schema_line this_schema) }
+    ensures why { IfErr result IsOfStore }
 {
     if let Some(fault) = refused_path(path_kind(rt, store)) {
         return Err(Stop::from(fault));

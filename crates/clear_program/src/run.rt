@@ -1,7 +1,8 @@
 //! The program as a whole.
-ghost use Rattle.std.specs.Prelude.{◌≡◌, ◌≤◌, IfOk, string_bytes};
+ghost use Rattle.std.specs.Prelude.{◌≡◌, ◌≤◌, ◌⊎◌, IfErr, IfOk, string_bytes};
 ghost use Rattle.clear_cli.specs.Ready.{schema_line};
 ghost use Rattle.clear_schema.specs.Held.{this_schema};
+ghost use Rattle.clear_program.specs.Stops.{IsOfFile, IsOfStore};
 
 use crate::jobs::Job;
 use crate::look::look_at;
@@ -99,7 +100,8 @@ fn make_at<S: Start>(
     rates: &RateTable,
     start: S,
 ) -> Result<String, Stop>
-    ensures { IfOk result (λ said. string_bytes said ≡ schema_line this_schema) }
+    ensures said { IfOk result (λ said. string_bytes said ≡ schema_line this_schema) }
+    ensures why { IfErr result (λ why. IsOfFile why ⊎ IsOfStore why) }
 {
     if is_left_log(rt, store)? {
         return Err(Stop::File);

@@ -3,11 +3,11 @@ ghost use Rattle.std.specs.Prelude.{◌≡◌, ℕ, false, IfErr, IfOk};
 ghost use Rattle.clear_book.specs.Book.{Book};
 ghost use Rattle.clear_book.specs.Machine.{IsLawful};
 ghost use Rattle.clear_office.specs.Office.{AtOffice, IsHonest, Keeps};
-ghost use Rattle.clear_wire.specs.Counted.{has_failed, inner};
+ghost use Rattle.clear_wire.specs.Counted.{has_failed, inner, reads_of};
 ghost use Rattle.clear_routes.specs.Reading.{Reads};
 ghost use Rattle.clear_http.specs.Served.{IsServed, IsServedPart};
 ghost use Rattle.clear_http.specs.declared.serve.Served.{Served};
-ghost use Rattle.clear_program.specs.Streams.{AnswersAll, AnswersFront};
+ghost use Rattle.clear_program.specs.Streams.{AnswersAll, AnswersFront, IsCutShort};
 
 use crate::stop::{NO_MEMORY, Stop};
 use clear_callers::directory::Directory;
@@ -43,6 +43,8 @@ pub(crate) fn serve_in_memory<I: RequestRead, O: Write>(
     ensures fault { IfErr result (λ _. AnswersFront (Reads directory.now day) rates.now
         (I.remaining (inner reader.old))
         (O.contents (inner writer.old)) (O.contents (inner writer.new))) }
+    ensures why { IfErr result (IsCutShort (has_failed reader.new) (has_failed writer.new)
+        (reads_of reader.old) (reads_of reader.new)) }
 {
     match office_in_memory(alloc, rates) {
         Some(office) => serve_new(alloc, office, directory, day, reader, writer),
@@ -73,6 +75,8 @@ fn serve_new<S: Alter + Drop, I: RequestRead, O: Write>(
         → (answered : ℕ) × IsServedPart S.Store (Reads directory.now day) office b
         (I.remaining (inner reader.old))
         (O.contents (inner writer.old)) (O.contents (inner writer.new)) then answered)) }
+    ensures why { IfErr result (IsCutShort (has_failed reader.new) (has_failed writer.new)
+        (reads_of reader.old) (reads_of reader.new)) }
 {
     let mut office = office;
     match serve(alloc, &mut office, directory, day, reader, writer) {

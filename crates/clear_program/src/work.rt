@@ -6,7 +6,7 @@ ghost use Rattle.clear_cli.specs.Ready.{copied_line};
 ghost use Rattle.clear_office.specs.Office.{answered, replied};
 ghost use Rattle.clear_program.specs.Stops.{no_memory};
 ghost use Rattle.clear_program.specs.Works.{IsDone, IsSaid, IsServing, Works, outcome_said};
-ghost use Rattle.clear_program.specs.Works.{serving_said};
+ghost use Rattle.clear_program.specs.Works.{CannotCopy, serving_said};
 
 use crate::stop::{NO_MEMORY, Stop, stop_at_records};
 use crate::tasks::Work;
@@ -206,7 +206,8 @@ fn backup(
     copy: &str,
     ledger_day: &Option<Day>,
 ) -> Result<String, Stop>
-    ensures { IfOk result (λ line. string_bytes line ≡ copied_line ledger_day.now) }
+    ensures line { IfOk result (λ line. string_bytes line ≡ copied_line ledger_day.now) }
+    ensures why { IfErr result CannotCopy }
 {
     if !is_brought_over(rt, file.path) {
         return Err(LOG_LEFT);
@@ -215,9 +216,10 @@ fn backup(
     Ok(copied_line(rt.alloc(), ledger_day)?)
 }
 
-/// Writes a text on standard output.
+/// Writes a text on standard output. An error tells that standard output failed.
 pub fn say<O: Write>(output: &mut O, text: &str) -> Result<(), Stop>
-    ensures { OnOk result (Appends (O.contents output.old) (O.contents output.new) text.now) }
+    ensures said { OnOk result (Appends (O.contents output.old) (O.contents output.new) text.now) }
+    ensures why { IfErr result (λ why. why ≡ Stop.Stream) }
 {
     if output.write_all(text.as_bytes()).is_err() || output.flush().is_err() {
         return Err(Stop::Stream);

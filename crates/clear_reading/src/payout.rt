@@ -22,10 +22,9 @@ use clear_money::days::Day;
 use clear_rules::decide::payout::PayoutView;
 use clear_schema::counts::Counts;
 use clear_schema::fault::Fault;
-use clear_texts::payout::paid_cents;
 use clear_values::causes::StoreCause;
 use clear_values::numbers::ListNo;
-use clear_values::rows::{ClaimRow, ClaimState};
+use clear_values::rows::ClaimRow;
 use sqlite::{Alter, Transaction};
 
 /// What a payout list is judged by, where these counts stand: the claims of which something is to be
@@ -133,7 +132,7 @@ fn view_of(rows: Vec<ClaimRow>, next: ListNo) -> Result<PayoutView, Fault>
 fn keep_payable(rows: &mut Vec<ClaimRow>)
     ensures { rows.new.items ≡ filter (λ row. is_payable row.state) rows.old.items }
 {
-    rows.retain(|row| is_payable(row));
+    rows.retain(|row| row.state.is_payable());
 }
 
 // What is paid out of claims together, in cents. None of a sum from 2^64 on.
@@ -143,19 +142,7 @@ fn add_paid(rows: &[ClaimRow]) -> Option<u64>
 {
     let mut sum: u64 = 0;
     for row in rows {
-        sum = sum.checked_add(paid_cents(row))?;
+        sum = sum.checked_add(row.state.paid_out())?;
     }
     Some(sum)
-}
-
-/// Whether something of a claim is to be paid out: it is released with something paid,
-/// and on no list yet.
-pub(crate) fn is_payable(row: &ClaimRow) -> bool
-    ensures { result ≡ is_payable row.now.state }
-{
-    match row.state {
-        ClaimState::Open => false,
-        ClaimState::Withdrawn => false,
-        ClaimState::Released(release) => { release.settlement.paid > 0 && release.list.is_none() }
-    }
 }

@@ -41,9 +41,10 @@ use std::alloc::Global;
 ///
 /// It reads the rates and all firms once, and then each contribution that is kept of a firm and
 /// each of its credits for interest once, its last reminder and the run of that, by a search each;
-/// of each firm it takes one step for each month that there is. What no book holds is refused with
-/// `Fault::Store(StoreCause::Row)`: a value out of its range, more contributions or credits than an
-/// account has, and more runs than can be numbered; so is a day before the ledger day.
+/// of each firm it takes one step for each member month before that of the day. What no book holds
+/// is refused with `Fault::Store(StoreCause::Row)`: a value out of its range, more contributions or
+/// credits than an account has, and more runs than can be numbered; so is a day before the ledger
+/// day.
 pub fn remind_view<S: Alter>(
     alloc: Global,
     tx: &mut Transaction<'_, S>,

@@ -6,12 +6,10 @@ ghost use Rattle.clear_reading.specs.LookParts.{suspended_cents};
 ghost use Rattle.clear_reading.specs.Reader.{TellsTables};
 
 use crate::counting::{AllRows, Tally, count_rows};
-use crate::payout::is_payable;
 use clear_firms::employers::{Employers, read_employers};
 use clear_firms::reports::{Reports, read_reports};
 use clear_ledger::bank::{Bank, lines};
 use clear_ledger::claims::{Claims, read_claims};
-use clear_rules::decide::withdraw::is_open;
 use clear_schema::fault::Fault;
 use clear_values::rows::{BankRow, ClaimRow};
 use sqlite::{Alter, Connection};
@@ -168,8 +166,8 @@ impl Tally for AllClaims {
 
     fn with(count: ClaimCount, claim: &ClaimRow) -> Option<ClaimCount> {
         Some(ClaimCount {
-            open_claims: count.open_claims + u64::from(is_open(claim)),
-            payable_claims: count.payable_claims + u64::from(is_payable(claim)),
+            open_claims: count.open_claims + u64::from(claim.state.is_open()),
+            payable_claims: count.payable_claims + u64::from(claim.state.is_payable()),
         })
     }
 }

@@ -1,12 +1,20 @@
--- What is said of any two paths and routes, and of the readings of any request.
-use Rattle.std.specs.Prelude.{◌≡◌, ◌⊎◌, ℕ, List, Result, Ok, Err}
+-- What is said of any two paths and routes, of the parameters that a request needs, and of the
+-- readings of any request.
+use Rattle.std.specs.Prelude.{◌≡◌, ◌⊎◌, ℕ, List, All, Contains, Some, Result, Ok, Err}
 use Rattle.clear_book.specs.declared.calls.Call.{Call}
+use Rattle.clear_book.specs.declared.calls.Caller.{Caller}
 use Rattle.clear_book.specs.declared.rules.Rule.TheVariants.{Memory}
 use Rattle.clear_callers.specs.Callers.{KeyOf}
-use Rattle.clear_routes.specs.Paths.{Path}
+use Rattle.clear_routes.specs.Called.{called_by}
+use Rattle.clear_routes.specs.Kinds.{kinds_in}
+use Rattle.clear_routes.specs.Methods.{action_for}
+use Rattle.clear_routes.specs.Needs.{needs, AgreeOn}
+use Rattle.clear_routes.specs.Paths.{Path, IsListed, paths}
 use Rattle.clear_routes.specs.Reading.{Reads}
 use Rattle.clear_routes.specs.Refusals.{by_rule}
 use Rattle.clear_routes.specs.Routes.{IsAt, IsRoute}
+use Rattle.clear_routes.specs.declared.methods.Action.{Action}
+use Rattle.clear_routes.specs.declared.parameters.Parameters.{Parameters}
 use Rattle.clear_routes.specs.declared.refused.Refused.{Refused}
 use Rattle.clear_routes.specs.declared.route.Route.{Route}
 use Rattle.clear_wire.specs.Head.{Heading}
@@ -23,6 +31,20 @@ abbrev pub OneRoute : Type 0
 OneRoute =
     (m : Method) (target : List ℕ) (r s : Route) → IsRoute m target r → IsRoute m target s
     → r ≡ s
+
+-- each kind of parameter that a request of the table needs is a kind of its path
+abbrev pub ParametersAreThere : Type 0
+ParametersAreThere =
+    (path : Path) (m : Method) (action : Action) → IsListed paths path
+    → action_for m path.1.methods ≡ Some action
+    → All (Contains (kinds_in path.1.kinds)) (needs action)
+
+-- with the parameters that it needs a request calls for the same, whatever the others are
+abbrev pub NoOthersAreRead : Type 0
+NoOthersAreRead =
+    (action : Action) (at other : Parameters) (caller : Caller) (day : ℕ) (heading : Heading)
+    (body : List ℕ) → AgreeOn (needs action) at other
+    → called_by action at caller day heading body ≡ called_by action other caller day heading body
 
 -- a request that reads as a call reads as no other, and nothing but want of memory refuses it
 abbrev pub OneReading : Type 0

@@ -453,7 +453,7 @@ new_few n view lines rows made few = omega (arith, few, new-length view lines ro
 -- a file that can't be read
 refused_unread : (read : Result (List BankLine) BankFault) (why : BankFault) → Fails why read → RefusedBy (rule_of why) (fault_rule read)
 refused_unread read fault.OverLimit fails = inr (ap (λ (found : Result (List BankLine) BankFault). fault_rule found) fails)
-refused_unread read (fault.BadCsv line field) fails = inr (ap (λ (found : Result (List BankLine) BankFault). fault_rule found) fails)
+refused_unread read (fault.BadCsv line wrong) fails = inr (ap (λ (found : Result (List BankLine) BankFault). fault_rule found) fails)
 refused_unread read (fault.RefConflict line) fails = inr (ap (λ (found : Result (List BankLine) BankFault). fault_rule found) fails)
 refused_unread read fault.Memory fails = inl refl
 

@@ -1,18 +1,18 @@
 //! The new lines of a bank file, and the credits that they are.
-ghost use Rattle.std.specs.Prelude.{◌≡◌, IfOk};
+ghost use Rattle.std.specs.Prelude.{◌≡◌};
 ghost use Rattle.clear_values.specs.Credits.{credit_key};
 ghost use Rattle.clear_values.specs.Keyed.{with_rows};
 ghost use Rattle.clear_values.specs.Credits.{credits_of_lines};
 ghost use Rattle.clear_values.specs.Tables.{bank_key, serial_key};
 ghost use Rattle.clear_store.specs.Changes.{AreFree, AreSerials, HaveSerials, Puts};
 
+use crate::new_credits::credits_of_rows;
 use clear_ledger::bank::insert_line;
 use clear_ledger::credits::insert_credit;
 use clear_schema::fault::Fault;
 use clear_values::rows::{BankRow, CreditRow};
-use clear_values::texts::CreditReference;
 use sqlite::{Alter, Transaction};
-use std::alloc::{AllocError, Global};
+use std::alloc::Global;
 
 // Adds bank lines, one after another.
 fn insert_lines<S: Alter>(tx: &mut Transaction<'_, S>, rows: &[BankRow]) -> Result<(), Fault>
@@ -60,26 +60,6 @@ pub(crate) fn insert_credits_of<S: Alter>(
 {
     let credits = credits_of_rows(alloc, rows)?;
     insert_credits(tx, credits.as_slice())
-}
-
-// The credits that bank lines are for their firms.
-fn credits_of_rows(alloc: Global, rows: &[BankRow]) -> Result<Vec<CreditRow>, AllocError>
-    ensures { IfOk result (λ credits. credits.items ≡ credits_of_lines rows.now) }
-{
-    let mut credits = Vec::new(alloc);
-    for row in rows {
-        if let Some(employer) = row.employer {
-            credits.push(CreditRow {
-                employer,
-                purpose: row.line.purpose,
-                day: row.line.value,
-                serial: row.serial,
-                cents: row.line.cents,
-                reference: CreditReference::of_line(alloc, &row.line.reference)?,
-            })?;
-        }
-    }
-    Ok(credits)
 }
 
 // Adds the new lines of a bank file, and the credits that they are.

@@ -1,20 +1,16 @@
 //! Claims: made, withdrawn, and released with their set-offs.
-ghost use Rattle.std.specs.Prelude.{◌≡◌, ◌≢◌, ◌≤◌, ◌++◌, IfErr, IfOk, OnOk};
-ghost use Rattle.clear_values.specs.Credits.{credit_key, set_off, set_offs_at, set_offs_of};
+ghost use Rattle.std.specs.Prelude.{◌≡◌};
+ghost use Rattle.clear_values.specs.Credits.{credit_key, set_offs_of};
 ghost use Rattle.clear_values.specs.Keyed.{put_row, with_row, with_rows};
-ghost use Rattle.clear_values.specs.RowRanges.{IsClaimRow, IsReleased};
+ghost use Rattle.clear_values.specs.RowRanges.{IsClaimRow};
 ghost use Rattle.clear_values.specs.Tables.{claim_key};
 ghost use Rattle.clear_store.specs.Changes.{IsClaimThere, IsFree, IsInRange, Puts};
 
 use crate::bank_file::insert_credits;
+use crate::new_credits::set_offs;
 use clear_ledger::claims::{insert_claim, replace_claim};
-use clear_money::days::Day;
-use clear_money::numbers::Amount;
 use clear_schema::fault::Fault;
-use clear_values::causes::StoreCause;
-use clear_values::lines::Purpose;
-use clear_values::rows::{Change, ClaimRow, ClaimState, CreditRow, ReleasedClaim};
-use clear_values::texts::CreditReference;
+use clear_values::rows::{Change, ClaimRow};
 use sqlite::{Alter, Transaction};
 use std::alloc::Global;
 
@@ -57,88 +53,4 @@ pub(crate) fn put_release<S: Alter>(
     let credits = set_offs(alloc, claim, serial)?;
     insert_credits(tx, credits.as_slice())?;
     put_claim(tx, claim)
-}
-
-// The set-offs of a claim as it stands.
-fn set_offs(alloc: Global, claim: &ClaimRow, serial: u64) -> Result<Vec<CreditRow>, Fault>
-    ensures value { IfOk result (λ credits. credits.items ≡ set_offs_of claim.now serial) }
-    ensures cause { IfErr result (λ fault. fault ≢ Fault.Store StoreCause.Constraint) }
-    ensures range { IfErr result (λ fault. fault ≡ Fault.Store StoreCause.Row
-        → ¬ IsClaimRow claim.now) }
-{
-    match claim.state {
-        ClaimState::Open => Ok(Vec::new(alloc)),
-        ClaimState::Withdrawn => Ok(Vec::new(alloc)),
-        ClaimState::Released(release) => release_set_offs(alloc, claim, &release, serial),
-    }
-}
-
-// The set-offs of a release of a claim: to contributions and to interest.
-fn release_set_offs(
-    alloc: Global,
-    claim: &ClaimRow,
-    release: &ReleasedClaim,
-    serial: u64,
-) -> Result<Vec<CreditRow>, Fault>
-    ensures value { IfOk result (λ credits.
-        credits.items ≡ set_offs_at claim.now serial release.now) }
-    ensures cause { IfErr result (λ fault. fault ≢ Fault.Store StoreCause.Constraint) }
-    ensures range { IfErr result (λ fault. fault ≡ Fault.Store StoreCause.Row
-        → ¬ (IsClaimRow claim.now × IsReleased claim.now.cents release.now)) }
-{
-    let mut credits = Vec::new(alloc);
-    let owed = release.settlement.to_contributions;
-    add_set_off(
-        &mut credits,
-        claim,
-        release.day,
-        serial,
-        Purpose::Contribution,
-        owed,
-    )?;
-    let interest = release.settlement.to_interest;
-    add_set_off(
-        &mut credits,
-        claim,
-        release.day,
-        serial,
-        Purpose::Interest,
-        interest,
-    )?;
-    Ok(credits)
-}
-
-// Adds what is set off from a claim on a day for a purpose, where it is above 0.
-fn add_set_off(
-    credits: &mut Vec<CreditRow>,
-    claim: &ClaimRow,
-    day: Day,
-    serial: u64,
-    purpose: Purpose,
-    cents: u64,
-) -> Result<(), Fault>
-    ensures value { OnOk result (credits.new.items
-        ≡ credits.old.items ++ set_off claim.now day serial purpose cents) }
-    ensures cause { IfErr result (λ fault. fault ≢ Fault.Store StoreCause.Constraint) }
-    ensures range { IfErr result (λ fault. fault ≡ Fault.Store StoreCause.Row
-        → ¬ (IsClaimRow claim.now × (cents ≤ claim.now.cents))) }
-{
-    if cents == 0 {
-        return Ok(());
-    }
-    let amount = match Amount::new(cents) {
-        Some(amount) => amount,
-        None => return Err(Fault::Store(StoreCause::Row)),
-    };
-    let reference = CreditReference::of_set_off(*credits.allocator(), claim.claim)?;
-    let credit = CreditRow {
-        employer: claim.employer,
-        purpose,
-        day,
-        serial,
-        cents: amount,
-        reference,
-    };
-    credits.push(credit)?;
-    Ok(())
 }

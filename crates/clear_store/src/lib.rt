@@ -15,6 +15,7 @@ mod claims;
 mod firms;
 mod lists;
 mod month_report;
+pub mod new_credits;
 pub mod pieces;
 mod runs;
 mod suspense;

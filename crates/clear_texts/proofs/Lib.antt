@@ -1,6 +1,7 @@
 pub mod AmountLemmas
 pub mod LawLemmas
 pub mod LineLemmas
+pub mod MissingLemmas
 pub mod PaidBookLemmas
 pub mod PaidLemmas
 pub mod PartLemmas

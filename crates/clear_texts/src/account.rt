@@ -7,7 +7,7 @@ ghost use Rattle.clear_book.specs.RowRanges.{IsWageRow};
 ghost use Rattle.clear_book.specs.Workers.{is_withdrawn};
 ghost use Rattle.clear_texts.specs.Earned.{account_told, claimed_total, earned_total, earned_told};
 
-use crate::balance::{claimed_cents, earned_cents, entitlement, is_withdrawn};
+use crate::balance::{claimed_cents, earned_cents, entitlement};
 use crate::records::WorkerRecords;
 use crate::rows::RowFault;
 use crate::worker::WorkerAccount;
@@ -95,7 +95,7 @@ fn standing_claims(alloc: Global, rows: &[ClaimRow]) -> Result<Vec<ClaimRow>, Ro
 {
     let mut claims = Vec::new(alloc);
     for row in rows {
-        if !is_withdrawn(&row.state) {
+        if !row.state.is_withdrawn() {
             claims.push(*row)?;
         }
     }

@@ -6,7 +6,7 @@ ghost use Rattle.clear_book.specs.Limits.{most_gross};
 ghost use Rattle.clear_book.specs.RowRanges.{IsWageRow};
 ghost use Rattle.clear_book.specs.Workers.{entitlement_for, is_withdrawn};
 
-use clear_book::rows::{ClaimRow, ClaimState, WageRow};
+use clear_book::rows::{ClaimRow, WageRow};
 use clear_money::rates::RateTable;
 
 /// What is earned with these lines, in cents. None where the sum is 2^64 or more, or the gross
@@ -57,19 +57,8 @@ pub fn claimed_cents(rows: &[ClaimRow]) -> Option<u64>
 fn standing_cents(row: &ClaimRow) -> u64
     ensures { result ≡ if is_withdrawn row.now.state then 0 else row.now.cents }
 {
-    if is_withdrawn(&row.state) {
+    if row.state.is_withdrawn() {
         return 0;
     }
     row.cents.cents()
-}
-
-/// Whether a claim is withdrawn.
-pub(crate) fn is_withdrawn(state: &ClaimState) -> bool
-    ensures { result ≡ is_withdrawn state.now }
-{
-    match state {
-        ClaimState::Open => false,
-        ClaimState::Withdrawn => true,
-        ClaimState::Released(_) => false,
-    }
 }

@@ -3,11 +3,12 @@
 //!
 //! `statement_head` tells what the records of a firm say of its statement on a day: each charge as
 //! it stands, its credits for interest, the months without a report, and what is prepaid, in arrears
-//! and owed in interest. It takes one step for each credit for interest and each month of the
-//! calendar; for each charge a search among the reports and two among the rates; for each member
-//! month one among the rates, and, where its report is overdue, one among the charges. `statement_text` appends the statement over the pieces that pay the charges, which
-//! it reads one at a time, each under the charge of its month. `interest_arrears` and
-//! `missing_months` say the same of interest and of reports for a release or a reminder run.
+//! and owed in interest. It takes one step for each credit for interest, for each charge a search
+//! among the reports and two among the rates, and for each member month before the day's one among
+//! the rates and, where its report is overdue, one among the charges. `statement_text` appends the
+//! statement over the pieces that pay the charges, which it reads one at a time, each under the charge
+//! of its month. `interest_arrears` and `missing_months` say the same of interest and of reports for a
+//! release or a reminder run.
 //! `worker_document` tells what the records of a worker say: what it has earned, by firm, then
 //! month, the claims for it that aren't withdrawn, and its balance. It takes one step for each line
 //! and each claim, and for each line a search among the rates. `earned_cents` and `claimed_cents` say

@@ -4,7 +4,6 @@ ghost use Rattle.std.specs.Prelude.{IfErr, IfOk, OnErr};
 ghost use Rattle.std.specs.Iterator.{YieldsThen};
 ghost use Rattle.clear_book.specs.Documents.Payout.{list_line, payout_line, payout_text};
 ghost use Rattle.clear_book.specs.Documents.Payout.{total_lines};
-ghost use Rattle.clear_book.specs.Workers.{paid_out};
 ghost use Rattle.clear_book.specs.declared.rows.ClaimRow.{ClaimRow};
 ghost use Rattle.clear_texts.specs.Rows.{IsCutOff};
 
@@ -13,7 +12,7 @@ use crate::line_rows::{LineRow, append_lines};
 use crate::lines::{append_day, append_number};
 use crate::rows::{RowFault, RowSource};
 use crate::whole::append_whole;
-use clear_book::rows::{ClaimRow, ClaimState, ListRow};
+use clear_book::rows::{ClaimRow, ListRow};
 use std::alloc::{AllocError, Global};
 
 /// Appends the document of a payout list, whose claims are those that the source gives up to its
@@ -87,20 +86,9 @@ fn append_claim(text: &mut String, claim: &ClaimRow) -> Result<(), AllocError>
     append_number(text, "claim ", u64::from(claim.claim.number()))?;
     append_number(text, " employer ", u64::from(claim.employer.number()))?;
     append_number(text, " worker ", u64::from(claim.worker.number()))?;
-    append_amount(text, " ", paid_cents(claim))?;
+    append_amount(text, " ", claim.state.paid_out())?;
     text.push_str("\n")?;
     Ok(())
-}
-
-/// What is paid out of a claim, in cents: nothing before it is released.
-pub fn paid_cents(claim: &ClaimRow) -> u64
-    ensures { result ≡ paid_out claim.now.state }
-{
-    match claim.state {
-        ClaimState::Open => 0,
-        ClaimState::Withdrawn => 0,
-        ClaimState::Released(release) => release.settlement.paid,
-    }
 }
 
 // The lines on what it comes to.

@@ -1,6 +1,7 @@
 -- How much a book, a request and an account may hold.
 use Rattle.std.specs.Prelude.{ℕ}
-pub use Rattle.clear_money.specs.Limits.{most_base, most_credits, most_weight}
+pub use Rattle.clear_money.specs.Limits.{most_base, most_charged, most_credited, most_credits}
+pub use Rattle.clear_money.specs.Limits.{most_months, most_weight}
 
 -- ---- judged by the rule on limits
 
@@ -51,14 +52,6 @@ abbrev pub most_note_bytes : ℕ
 most_note_bytes = 140
 
 -- ---- what follows for sums
-
--- all contributions of an employer, in cents: 2,400 months of the greatest base
-abbrev pub most_charged : ℕ
-most_charged = 12000000000000
-
--- all credits of an employer for one purpose, in cents: 100,000 credits of 100,000,000,000 cents
-abbrev pub most_credited : ℕ
-most_credited = 10000000000000000
 
 -- all interest of an employer, in cents: that of 2,400 months of the greatest base, 10 percent for
 -- each of 2,412 begun months

@@ -134,6 +134,58 @@ pub enum ClaimState {
     Released(ReleasedClaim),
 }
 
+impl ClaimState {
+    ghost use Rattle.std.specs.Prelude.{◌≡◌};
+    ghost use Rattle.clear_values.specs.Payouts.{is_open, is_payable, is_withdrawn, paid_out};
+
+    /// Whether the claim is neither withdrawn nor released.
+    pub fn is_open(&self) -> bool
+        ensures { result ≡ is_open self.now }
+    {
+        match self {
+            ClaimState::Open => true,
+            ClaimState::Withdrawn => false,
+            ClaimState::Released(_) => false,
+        }
+    }
+
+    /// Whether the claim was taken back by its firm.
+    pub fn is_withdrawn(&self) -> bool
+        ensures { result ≡ is_withdrawn self.now }
+    {
+        match self {
+            ClaimState::Open => false,
+            ClaimState::Withdrawn => true,
+            ClaimState::Released(_) => false,
+        }
+    }
+
+    /// Whether something of the claim is still to be paid out: it is released with something paid, and
+    /// on no list yet.
+    pub fn is_payable(&self) -> bool
+        ensures { result ≡ is_payable self.now }
+    {
+        match self {
+            ClaimState::Open => false,
+            ClaimState::Withdrawn => false,
+            ClaimState::Released(release) => {
+                release.settlement.paid > 0 && release.list.is_none()
+            }
+        }
+    }
+
+    /// What is paid out of the claim, in cents: nothing before it is released.
+    pub fn paid_out(&self) -> u64
+        ensures { result ≡ paid_out self.now }
+    {
+        match self {
+            ClaimState::Open => 0,
+            ClaimState::Withdrawn => 0,
+            ClaimState::Released(release) => release.settlement.paid,
+        }
+    }
+}
+
 /// When a claim was released, and how it was settled.
 #[derive(Clone, Copy)]
 pub struct ReleasedClaim {

@@ -6,7 +6,7 @@ use Rattle.clear_wire.specs.Known.{Leads}
 use Rattle.clear_wire.specs.Limits.{request_limit}
 use Rattle.clear_wire.specs.Head.{Meaning, meaning_of, ParsesLines, Parses}
 use Rattle.clear_wire.specs.Stream.{Front, nothing, unended, too_long, head, front, NextItem, whole, bad, ended, taken, NextAt, Next}
-use Rattle.clear_wire.specs.Cut.{left_after, left_after_all, IsAnswered, Cuts, IsOver, IsCut, BeginsCut, HasOneCut}
+use Rattle.clear_wire.specs.Cut.{left_after, left_after_all, IsAnswered, Cuts, IsOver, IsCut, BeginsCut, HasAtMostOneCut}
 
 parsed_by_lines : (t : Bool) (bytes : List ℕ) (v w : Meaning) → ParsesLines t bytes v → ParsesLines t bytes w → v ≡ w
 parsed_by_lines true bytes v w p q = p ∙ sym q
@@ -65,8 +65,8 @@ one_cut_from left bytes (bad rule bare ∷ ps) (q ∷ qs) r s x over y past =
     λ i. one.0 i ∷ (front ∙ sym tail) i
 one_cut_from left bytes (ended ∷ ps) (q ∷ qs) r s x over y past = absurd x.1
 
--- the bytes have one cut
-pub one_cut : (bytes : List ℕ) → HasOneCut bytes
+-- the bytes have one cut at most
+pub one_cut : (bytes : List ℕ) → HasAtMostOneCut bytes
 one_cut bytes ps qs x y = one_cut_from request_limit bytes ps qs x.0 y.0 x.1 x.2 y.1 y.2
 
 -- no item is a cut of none

@@ -42,7 +42,7 @@ IsCut bytes items =
 abbrev pub BeginsCut : List ℕ → List NextItem → Type 0
 BeginsCut bytes items = (rest : List ℕ) × Cuts request_limit bytes items rest
 
--- the bytes determine the items of the stream
-abbrev pub HasOneCut : List ℕ → Type 0
-HasOneCut bytes =
+-- the bytes are a stream of these items and of no others
+abbrev pub HasAtMostOneCut : List ℕ → Type 0
+HasAtMostOneCut bytes =
     (some others : List NextItem) → IsCut bytes some → IsCut bytes others → some ≡ others

@@ -23,7 +23,7 @@ use Rattle.clear_book.specs.Lines.{lines_in, new_lines, credits_of_lines}
 -- the rule on a fault of a bank file
 abbrev pub rule_of : BankFault → Rule
 rule_of fault.OverLimit = OverLimit File
-rule_of (fault.BadCsv line field) = BadCsv line field
+rule_of (fault.BadCsv line wrong) = BadCsv line wrong
 rule_of (fault.RefConflict line) = RefConflict line
 rule_of fault.Memory = Memory
 

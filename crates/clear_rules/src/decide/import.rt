@@ -65,8 +65,8 @@ pub struct ImportView {
 }
 
 /// The lines of a bank file: `OverLimit` above 10,000 data records, and `BadCsv`, in this order. A
-/// file that doesn't begin with the letter r is `BadCsv` (1, 1) before all else. `Memory` may stand
-/// in place of any answer. These are the first of the own rules on a bank file.
+/// file that doesn't begin with the letter r is `BadCsv` of the header before all else. `Memory` may
+/// stand in place of any answer. These are the first of the own rules on a bank file.
 pub fn file_lines(alloc: Global, file: &BankFile) -> Result<Vec<BankLine>, Rule>
     // A refusal is the judge's, whatever the book and the day, but for want of memory.
     ensures judged { (b : Book) (day : ℕ)
@@ -195,9 +195,9 @@ fn rule_of(fault: BankFault) -> Rule
 {
     match fault {
         BankFault::OverLimit => Rule::OverLimit(Limit::File),
-        BankFault::BadCsv { line, field } => Rule::BadCsv {
+        BankFault::BadCsv { line, fault } => Rule::BadCsv {
             line: line as u64,
-            field,
+            fault,
         },
         BankFault::RefConflict { line } => Rule::RefConflict(line as u64),
         BankFault::Memory => Rule::Memory,

@@ -8,7 +8,6 @@ ghost use Rattle.clear_rules.specs.Views.Release.{IsReleaseView, Releases, Repli
 ghost use Rattle.clear_rules.specs.Views.Release.{counts_in, release_rule, settlement_in};
 
 use super::settle::settle;
-use super::withdraw::is_open;
 use clear_book::limits::MAX_CREDITS;
 use clear_book::numbers::SerialCount;
 use clear_book::outcomes::Reply;
@@ -99,7 +98,7 @@ fn settle_claim(found: &OwingClaim) -> Result<Settlement, Rule>
 {
     let claim = &found.claim;
     let debts = &found.debts;
-    if !is_open(claim) {
+    if !claim.state.is_open() {
         return Err(Rule::ClaimNotOpen);
     }
     if let Some(month) = debts.missing {

@@ -3,7 +3,6 @@ ghost use Rattle.std.specs.Prelude.{◌≡◌, ℕ, IfOk};
 ghost use Rattle.clear_book.specs.declared.calls.Command.TheVariants.{Withdraw as DoWithdraw};
 ghost use Rattle.clear_book.specs.Book.{Book};
 ghost use Rattle.clear_book.specs.Own.Withdraw.{own_withdraw, withdraw_reply};
-ghost use Rattle.clear_book.specs.Workers.{is_open};
 ghost use Rattle.clear_rules.specs.Decisions.{Obeys, IsJudged, TakesTables};
 ghost use Rattle.clear_rules.specs.Views.Withdraw.{IsWithdrawView, Withdraws};
 
@@ -48,7 +47,7 @@ pub fn decide_withdraw(withdrawal: &Withdrawal, view: &WithdrawView) -> Result<D
     if claim.employer != withdrawal.employer {
         return Err(Rule::UnknownClaim);
     }
-    if !is_open(&claim) {
+    if !claim.state.is_open() {
         return Err(Rule::ClaimNotOpen);
     }
     let row = ClaimRow {
@@ -59,15 +58,4 @@ pub fn decide_withdraw(withdrawal: &Withdrawal, view: &WithdrawView) -> Result<D
         change: Change::WithdrawClaim(row),
         reply: Reply::Done,
     })
-}
-
-/// Whether a claim is open: neither withdrawn nor released.
-pub fn is_open(claim: &ClaimRow) -> bool
-    ensures { result ≡ is_open claim.now.state }
-{
-    match claim.state {
-        ClaimState::Open => true,
-        ClaimState::Withdrawn => false,
-        ClaimState::Released(_) => false,
-    }
 }

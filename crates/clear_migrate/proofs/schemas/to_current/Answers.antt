@@ -1,18 +1,15 @@
 use Rattle.std.proofs.Common.{◌∙◌, Err, IfErr, ap, inl, subst, sym}
 use Rattle.std.proofs.lemmas.Result.{err_from_is_err_and}
-use Rattle.sqlite.specs.Held.{state}
 use Rattle.clear_schema.specs.Faults.{IsWrong}
 use Rattle.clear_schema.specs.Held.{this_schema}
-use Rattle.clear_schema.specs.Schema.{this_layout}
 use Rattle.clear_schema.specs.declared.fault.OpenFault.TheVariants.{WrongVersion}
-use Rattle.clear_schema.proofs.OpenLemmas.{store_tells}
 use Rattle.clear_migrate.proofs.AnswerLemmas.{fails_so, fails_untold, not_true, other_error, on_ok_so, told_is}
 use Rattle.clear_migrate.proofs.schemas.to_current.Goals as goal
 
 pub returns-clause-current : goal.returns-clause-current
-returns-clause-current g c clean t has =
-    let told = told_is c.in_ok-number.number this_schema (c.in_ok-number.ensures.told clean this_schema (store_tells this_layout t (state g.S.Store c.args.conn.now).now has)) in
-    inl (c.current_if.ensures.current told (c.has_this_layout-ours.ensures.1 (c.schema.ensures.value ∙ has.schema)))
+returns-clause-current g c clean tells laid =
+    let told = told_is c.in_ok-number.number this_schema (c.in_ok-number.ensures.told clean this_schema tells) in
+    inl (c.current_if.ensures.current told (c.has_this_layout-ours.ensures.1 (c.schema.ensures.value ∙ laid)))
 
 pub returns-clause-another : goal.returns-clause-another
 returns-clause-another g c clean number tells other =
@@ -29,9 +26,9 @@ returns-clause-only_this g c clean number tells =
     on_ok_so c.current_if.result _ _ (λ same. sym (told_is c.in_ok-number.number number (c.in_ok-number.ensures.told clean number tells)) ∙ same) c.current_if.ensures.only_this
 
 pub returns-in_err-number-clause-current : goal.returns-in_err-number-clause-current
-returns-in_err-number-clause-current g c clean t has =
+returns-in_err-number-clause-current g c clean tells laid =
     let p = err_from_is_err_and c.from_residual.result c.from_residual.ensures.1 in
-    rw (p.1, p.2) (fails_so this_schema _ c.in_err-number.field-0.0 (c.in_err-number.ensures.told clean this_schema (store_tells this_layout t (state g.S.Store c.args.conn.now).now has)))
+    rw (p.1, p.2) (fails_so this_schema _ c.in_err-number.field-0.0 (c.in_err-number.ensures.told clean this_schema tells))
 
 pub returns-in_err-number-clause-another : goal.returns-in_err-number-clause-another
 returns-in_err-number-clause-another g c clean number tells other =

@@ -1,4 +1,4 @@
-use Rattle.std.proofs.Common.{ℕ, ◌≡◌, ◌≤◌, ◌+◌, arith}
+use Rattle.std.proofs.Common.{ℕ, ◌≡◌, ◌+◌, arith}
 use Rattle.clear_money.specs.Calendar.{IsMonth, day_in, day_of_month, month_of}
 use Rattle.clear_money.specs.Rates.{IsDayOfEachMonth}
 use Rattle.clear_money.proofs.MonthLemmas.{day_of_month-day_in, month_length_bounds, month_of-day_in}

@@ -5,6 +5,6 @@ use Rattle.clear_money.proofs.laws.law_months_after.Goals as goal
 
 pub returns : goal.returns
 returns c =
-    λ m d k im id.
-    ap (λ n. day_in (n + k) (day_of_month (day_in m d))) (month_of-day_in m d im.0 (omega arith) id.0 (omega (arith, (month_length_bounds m).0)))
-    ∙ ap (day_in (m + k)) (day_of_month-day_in m d im.0 (omega arith) id.0 (omega (arith, (month_length_bounds m).0)))
+    λ m d k low high id.
+    ap (λ n. day_in (n + k) (day_of_month (day_in m d))) (month_of-day_in m d low high id.0 (omega (arith, (month_length_bounds m).0)))
+    ∙ ap (day_in (m + k)) (day_of_month-day_in m d low high id.0 (omega (arith, (month_length_bounds m).0)))

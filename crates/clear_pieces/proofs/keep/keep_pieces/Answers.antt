@@ -44,10 +44,12 @@ returns-else-stood-clause-fault g c =
 
 pub returns-in-AssignLine-clause-keeps : goal.returns-in-AssignLine-clause-keeps
 returns-in-AssignLine-clause-keeps g c =
+    let lines = c.keep_lines-in-AssignLine in
+    let call = rw c.from_ref.ensures.value at lines.ensures.keeps in
     rw c.in-AssignLine.is
     (λ clean v has.
-    on_ok_weaker c.keep_line.result (λ kept. (kept.0.0, kept.0.1, kept.1, λ t put told. kept.2 t (line_put c.in-AssignLine.row t v put)))
-    (c.keep_line.ensures.keeps.put clean v has))
+    on_ok_weaker lines.result (λ kept. (kept.0.0, kept.0.1, kept.1, λ t put told. kept.2 t (line_put c.in-AssignLine.row t v put)))
+    (call.put clean v has))
 
 pub returns-in-ReleaseClaim-clause-keeps : goal.returns-in-ReleaseClaim-clause-keeps
 returns-in-ReleaseClaim-clause-keeps g c =

@@ -4,11 +4,11 @@ use Rattle.clear_pieces.proofs.AltersLemmas.{goes_none}
 use Rattle.clear_pieces.proofs.CreditLemmas.{new_in_range}
 use Rattle.clear_pieces.proofs.keep.keep_release.Goals as goal
 
-pub returns-in_err-new-clause-keeps : goal.returns-in_err-new-clause-keeps
-returns-in_err-new-clause-keeps g c =
+pub returns-in_err-news-clause-keeps : goal.returns-in_err-news-clause-keeps
+returns-in_err-news-clause-keeps g c =
     let p = err_from_is_err_and c.from_residual.result c.from_residual.ensures.1 in
     rw (p.1, p.2) (record {
       put = λ clean v has. tt;
-      fault = λ clean v has right. c.in_err-new.ensures.fault (new_in_range (set_offs_of c.args.claim.now c.args.serial) right.t v right.put right.ranges);
+      fault = λ clean v has right. c.in_err-news.ensures.fault (new_in_range (set_offs_of c.args.claim.now c.args.serial) right.t v right.put right.ranges);
       stays = goes_none g.S.Store c.args.tx.now.conn.now _;
     })

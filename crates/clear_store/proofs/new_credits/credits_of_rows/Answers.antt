@@ -1,7 +1,7 @@
 use Rattle.std.proofs.Common.{◌∙◌}
 use Rattle.clear_store.proofs.CreditLemmas.{credits_of_lines-none, credits_of_lines-some}
-use Rattle.clear_store.proofs.bank_file.credits_of_rows.Goals.{in-Some+in_ok-of_line+in_ok-push, in_default}
-use Rattle.clear_store.proofs.bank_file.credits_of_rows.Goals as goal
+use Rattle.clear_store.proofs.new_credits.credits_of_rows.Goals.{in-Some+in_ok-of_line+in_ok-push, in_default}
+use Rattle.clear_store.proofs.new_credits.credits_of_rows.Goals as goal
 
 pub loop-row-preserved : goal.loop-row-preserved
 loop-row-preserved c =
