@@ -27,19 +27,26 @@ STATEMENT = (b"statement 1001 2024-04-30\nname Bau Nord\nmember 2024-01 -\nprepa
 class OtherDays(desk_hurry.Hurry):
     """An office that is started anew for a day that nobody was told of."""
 
-    mouse = desk_hurry.Hands.mouse
-    press_and_release = desk_hurry.Hands.press_and_release
-
     def start_anew(self, day):
         self.close_office()
         self.open_office(day, self.server.port)
 
     def double_click(self, selector):
-        """Its second half, when the first one was answered."""
-        place = self.mouse(selector)
-        self.press_and_release(place, 1)
-        self.browser.wait(lambda: "Nothing was sent." in self.browser.text("main"), "the first half's answer")
-        self.press_and_release(place, 2)
+        """Its second half comes as soon as the first one was answered, by the page itself: a driver may take too long."""
+        self.browser.driver.execute_async_script("""
+            const [selector, done] = arguments;
+            const button = document.querySelector(selector);
+            button.scrollIntoView();
+            const { left, top, width, height } = button.getBoundingClientRect();
+            const click = () => document.elementFromPoint(left + width / 2, top + height / 2).click();
+            click();
+            const watch = setInterval(() => {
+                if (document.querySelector("main").innerText.includes("Nothing was sent.")) {
+                    clearInterval(watch);
+                    click();
+                    done();
+                }
+            }, 10);""", selector)
 
     def test_a_double_click_sends_nothing_on_such_a_day(self):
         """The button to send a request again stays under the mouse as the day is told."""
