@@ -280,7 +280,7 @@ class LeftOut(BankFiles):
             told = self.makes(one("0", "1.00", back), [])
             self.assertIn("left out in all, returned transfer (a credit): 1, 1.00 EUR\n", told)
         # Others are firms' own.
-        for text in ("Payout; 1001", "Payout list 5 Betrieb 1001", "Payout list of 2024 Betrieb 1001",
+        for text in ("Payout; Betrieb 1001", "Payout list 5 Betrieb 1001", "Payout list of 2024 Betrieb 1001",
                      "EREF+L2024-C5678AB SVWZ+1001", "EREF+L10-C3-XY SVWZ+1001"):
             self.makes(one("0", "1.00", payment("1.00", text, reference="A")), [f"A,2024-04-30,1001,100,C,{text}"])
         taken_back = entry("1.00", direction="DBIT").replace("<BkTxCd/>", code)

@@ -32,8 +32,8 @@ class Firms(BankFiles):
         self.finds("", "", STRANGE)
 
     def test_by_one_number_of_the_table(self):
-        for text in ("1001", "Betrieb 1001", "Nr.1001", "Nr:1001, Mai", "(1001)", "1001.", "1001 4711 1001",
-                     "#1001/x", ["Betrieb", "1001"], "1001 Februar 03/2024"):
+        for text in ("1001", "Betrieb 1001", "Nr.1001", "Nr:1001, Mai", "(1001)", "1001.", "1001 Mai, Nr. 1001",
+                     ["Betrieb", "1001"], "1001 Februar 03/2024"):
             self.finds("1001", text)
 
     def test_no_number_or_several(self):
@@ -79,8 +79,8 @@ class Firms(BankFiles):
         known = ("1001 / 03/2024", "1001/Mai 24", "Mai/1001", "Betrieb 1001 - EUR 500", "1001, 12.04.2024",
                  "KW24 Betrieb 1001", ["Beitrag 03/2024,", "Betrieb 1001"], ["Nr.", "1001", "-Mai"],
                  ["EUR 500", "Betrieb 1001", "Mai 24"], "Beitrag\nBetrieb 1001\nMai 24",
-                 "500 EUR - 1001", "Betrieb 1001, 24. Mai 2024", "1001, 24/05/24", "1001 05/24", "1001 12/2024",
-                 "1001, Mar-24", "1001 / 24. Mai", ["Betrieb 1001", "Danke", "Nord"],
+                 "Betrieb 1001, 24. Mai 2024", "1001, 24/05/24", "1001 05/24", "1001 12/2024", "1001, Mar-24",
+                 "1001 / 24. Mai", ["Betrieb 1001", "Danke", "Nord"],
                  "1001 - 03/2024", "Betrieb 1001, 3 - 5/24", "1001 bis 24. Mai", "1001, 1. und 24. Mai 2024",
                  "Betrieb 1001 IBAN DE89 3704 0044 0532 0130 00")
         self.finds_each((1, 3, 5, 12, 24, 25, 500, 1001, 1002, 3704, 4898), none, known)
@@ -98,15 +98,13 @@ class Firms(BankFiles):
     def test_amounts(self):
         """A number beside a currency, whatever signs stand between, and a second amount."""
         none = ("EUR **1001**", "Betrag (EUR) 1001", "Beitrag (1001) EUR", "EUR: -1001", "Summe 1001: EUR",
-                "1001 = EUR", "1001. EUR", "EUR ... 1001", "EUR–1001", "BetragEUR 1001", "BeitragEUR 1001",
+                "1001 = EUR", "1001 = €", "1001. EUR", "EUR ... 1001", "EUR–1001", "BetragEUR 1001", "BeitragEUR 1001",
                 "1001, 24 EUR", "1001,OO EUR", "1001,OO", "EUR [1001]", 'EUR "1001"', "EUR#1001", "1001* EUR",
                 "EUR_1001", "TEUR 1001", "PLN 1001", "RON 1001", "CZK 1001", "HUF 1001", "DM 1001", "SFr. 1001",
                 "1001 Cent", "1001 ¤", "¤ 1001 Mai", "EUR 500 / 1001", "EUR 500 + 1001", "1001 + 500 EUR",
                 "1001 / 500 EUR", "1001 und 500 EUR", "1001 bis 1500 EUR", "500 EUR + 1001", "1001,-- EUR",
                 "5469,- EUR 1 / 24")
-        known = ("500 EUR - 1001", "500,- EUR - 1001", "500,-- EUR (1001)", "1001 - EUR 500", "1001 / EUR 500",
-                 "1001 500,00 EUR", "1001, 500 EUR", "1001 / 500,00 EUR", "EUR 500,00 / 1001", "Betrieb 1001 / 500 EUR",
-                 "Nr. 1001 + 500,00 EUR", "Euro-Bau, Betrieb 1001", "Ingenieur 1001", "Baron 1001")
+        known = ("Betrieb 1001 / 500 EUR", "Euro-Bau, Betrieb 1001")
         self.finds_each((1, 24, 500, 1001), none, known)
 
     def test_accounts(self):
@@ -117,9 +115,7 @@ class Firms(BankFiles):
                 "Bau_DE89 3704 0044 0532 0130 00", "GmbHDE89 3704 0044 0532 0130 00",
                 "IBAN 89 3704 0044 0532 0130 00", "DE89–3704–0044–0532–0130–00", ["DE89/3704", "/0044/0532/0130/00"])
         known = ("AT61 1904 3002 3457 3201 1001", "BE68 5390 0754 7034 1001", "ES91 2100 0418 4502 0005 1332 1001",
-                 "RO49 AAAA 1B31 0075 9384 0000 1001", "PL61 1090 1014 0000 0712 1981 2874 1001",
-                 ["IBAN DE89 3704 0044 0532 0130 00", "1001 Danke"], "Gemeinde 1001 Beitrag Mai",
-                 "Büro 1001 Beitrag Mai 2024 Nord GmbH Danke", "BG 1001 Beitrag Mai 2024 Nord GmbH")
+                 "RO49 AAAA 1B31 0075 9384 0000 1001", "PL61 1090 1014 0000 0712 1981 2874 1001")
         self.finds_each((404, 1001, 2811, 3704, 11101, 19043, 30004), none, known)
 
     def test_groups_and_telephones(self):
@@ -128,15 +124,14 @@ class Firms(BankFiles):
                 "500,00 EUR +49 421 1001", "EUR 500 +49 421 1001", "500 EUR: +49 (421) 1001", "+49 (421) 1001",
                 ["500 EUR +", "49 421 1001"], "Tel.: +49 421/77-1001", "Fax 0049 421 75147 23. 2. 2025",
                 "Telefon 0421/386392 / 7. 11. 2024")
-        known = ("SVWZ+1001 Mai", "+1001", "Beitrag 052024 1001", "Beitrag 0524 1001", "Tel. 0421/824025 (1001)",
-                 "1001 Tel. 0421 77", "0524 / 500,00 EUR / 1001")
+        known = ("SVWZ+1001 Mai", "+1001", "Beitrag 052024 1001", "Beitrag 0524 1001")
         self.finds_each((2, 11, 421, 1001, 4567), none, known)
 
     def test_references_of_the_payer(self):
         none = ("EREF+1001 SVWZ+Rechnung 77", "KREF+1001", "MREF+1001 SVWZ+Mai", "EREF+RE 1001 SVWZ+Mai",
                 ["EREF+1001 SVWZ", "+Mai"], "SVWZ+Mai EREF+RE 1001", "RREF+1001", "ABWA+1001 SVWZ+Mai")
         known = ("EREF+NOTPROVIDED SVWZ+Beitrag 1001", "EREF+77 KREF+78 SVWZ+1001", "SVWZ+1001 EREF+77",
-                 ["EREF+77 SVWZ", "+1001"], "Payout, 1001")
+                 ["EREF+77 SVWZ", "+1001"])
         self.finds_each((7, 77, 1001), none, known)
 
     def test_dashes_and_parts(self):
@@ -144,10 +139,10 @@ class Firms(BankFiles):
                 ["2024", "-", "1001"], "1001\n/\n2024", ["echnung vom 12.05.24 Nummer RE2024A", "1001 Danke"],
                 ["Bau Nord Rechnung RE2024A7B", "1001"],
                 ["Beitrag R-", "1001 Mai"], ["Beitrag 1001-", "A"], [*["10", "01"] * 150, "Betrieb 1001"],
-                "Betrieb 1001" + 5_000 * ".")
-        known = ("1001 – 05/2024", "Mai – 1001", ["Nummer RE2024A", "1001 Danke"],
+                "Betrieb 1001" + 5_000 * ".", ["Auftr", "agnr. 1001"], ["Auftr", "ag-Nr. 1001"])
+        known = ("1001 – 05/2024", "Mai – 1001", ["Beitrag Mai", "Betrieb 1001"], ["Nord Mitgl", "ieds-Nr. 1001"],
                  ["Beiträge vom Mai in Betrieb", "1001"], ["Beitrag für Mai 2024, unser Betrieb", "1001"],
-                 ["Mai", "–", "1001"], ["Betrieb-", "Nr. 1001"], ["Nr. 1001-", "Nord"])
+                 ["Mai", "–", "1001"], ["Betrieb-", "Nr. 1001"])
         self.finds_each((1001,), none, known)
 
     def test_numbers_behind_words_for_others(self):
@@ -160,11 +155,10 @@ class Firms(BankFiles):
                 "Postfach 1001", "PLZ 28195", "Rechnung No. 1001", "Rech.-Nr. 1001", "Invoice 1001", "INV-1001",
                 "Schlussrechnung 1001", "Order-Nr. 1001", "Bankleitzahl 1001", "Fon: 1001", "Rufnummer 1001",
                 "USt-IdNr. 1001", "Lohnsumme 1001", "Überweisungsbetrag 1001", "1.TAN 1001")
-        known = ("Rechnung 77, Betrieb 1001", "RE 77/24 1001", "1001 Rechnung 77",
-                 "1001, Re. 77", "Betrag 500,00 1001", "Rechnung 1001, Betrieb 1001", "Nr-1001", "1001-Nord",
-                 "BG-Nr. 1001", "Mitgliedsnr. 1001", "Beitragskonto 1001", "Betriebskonto-Nr. 1001", "Firma 1001",
-                 "Mai 2024 / 1001", "2024 / 1001", "1001 / 24. Mai", "1001 / 24/05/24", "1001 / 2024-05",
-                 "Betrieb 1001 / 2024", "Rechnung 77 #1001", "Rechnung 77 (1001)")
+        known = ("Rechnung 77, Betrieb 1001", "Rechnung 1001, Betrieb 1001", "Nr-1001", "Mitgliedsnr. 1001",
+                 "Beitragskonto 1001", "Betriebskonto-Nr. 1001", "Betr.-Nr. 1001", "Firma 1001", "Arbeitgebernr. 1001",
+                 "Baufirma 1001", "Mai 2024 / 1001", "2024 / 1001", "1001 / 24. Mai", "1001 / 24/05/24",
+                 "1001 / 2024-05", "Betrieb 1001 / 2024")
         self.finds_each((24, 1001, 1003, 28195, 37040044), none, known)
         self.finds_each((1001,), ["1001 / 24", "Nr. 1001 / 24"], ["Mitgl.-Nr.: 1001 / 24", "Betrieb 1001 / 24"])
         # As the clerk names it.
@@ -181,9 +175,8 @@ class Firms(BankFiles):
                 "1001 Stunden", "1001 ,50 EUR", "Hauptstr. 5, 28195 Bremen", "Hauptstraße 5 28195 Bremen",
                 "Hauptstraße 5a, 28195 Bremen", "D 28195 Bremen", "Dauerauftrag 1001", "AN-Nr. 1001", "pushTAN 1001",
                 "Rest 1001", "Betrag von 1001", "Zahlung über 1001", "Rechnungsnr.77Kundennr.1001")
-        known = ("Betrieb 1001, Hauptstr. 5, 28195 Bremen", "Kreditor 77, Betrieb 1001", "1001, Ref. 77",
-                 "Baustelle Nord, 1001", "Beitragskonto 1001", "Urlaubskasse 1001", "Lohn Mai 1001",
-                 "Müller Bau e.K. 1001", "Bauverein e.V. 1001")
+        known = ("Betrieb 1001, Hauptstr. 5, 28195 Bremen", "Kreditor 77, Betrieb 1001", "Beitragskonto 1001",
+                 "Urlaubskasse 1001")
         self.finds_each((28195, 1001), none, ())
         self.finds_each((1001,), (), known)
 
@@ -192,9 +185,8 @@ class Firms(BankFiles):
                 "Rechnung vom 12. April 2024 Nr. 1001", "Rechnung 12.4.24: 1001", "Rechnung 77 v. 12.4., 1001 v. 13.4.",
                 "Rechnung Nr. 77 vom 12.04.24 und 1001 vom 13.04.24", "Rechnung 77 (12.04.24) 1001",
                 "Re. 77 v. 12.4., 78 v. 13.4., 1001 v. 14.4.", "Kassenzeichen vom 12.4.24, 1001")
-        known = ("Beitrag vom 12.05.24 1001", "12.05.24, 1001", "Rechnung 77 vom 12.5.24, Betrieb 1001", "Mai 24, 1001",
-                 "Rechnung 77 vom 12.5.24 (1001)", "Betrieb 1001, Rechnung vom 12.5.24", "1001 vom 12.5.24, 77",
-                 "1001 vom 12.5.24, Rg. vom 11.5.24")
+        known = ("Beitrag 12.05.24 1001", "12.05.24, 1001", "Rechnung 77 vom 12.5.24, Betrieb 1001", "Mai 24, 1001",
+                 "Betrieb 1001, Rechnung vom 12.5.24")
         self.finds_each((1001,), none, known)
         # With the word that the clerk names nothing changes.
         self.finds_each((1001, 1003), ["Rechnung vom 12.5.24 1001"], ["Betrieb 1001 vom 12.5.24, 1003"],
@@ -206,9 +198,7 @@ class Firms(BankFiles):
                 "Akte 1001", "Dok.-Nr. 1001", "Artikel 1001", "Filiale 1001", "i.H.v.: 1001", "i.H.v 1001",
                 "i.H.v. 500 + 1001", "i.H.v. 500 und 1001", "i. H. v. 500 / 1001",
                 "Abschlagszahlung 1001", "Überzahlung 1001")
-        known = ("Zahlung 1001", "Bauverein e.V. 1001", "i.A. 1001", "Rate 5, Betrieb 1001", "1001 i.H.v. 500 EUR",
-                 "Betrieb 1001 i.H.v. 500", "i.H.v. 500, 1001", "i.H.v. 500,00 / 1001", "i.H.v. 500 EUR - 1001",
-                 "1001, i.H.v.: 500 EUR", "i.H.v. 500 1001")
+        known = ("Rate 5, Betrieb 1001", "Betrieb 1001 i.H.v. 500")
         # What is paid itself, and no part that goes off it.
         known += tuple(f"{kind}zahlung 1001" for kind in (
             "Beitrags", "Urlaubskassen", "Sammel", "Monats", "Nach", "Zins", "Voraus", "Raten", "Rest"))
@@ -221,14 +211,55 @@ class Firms(BankFiles):
             " Nr. : ", "-Nr. : ", ". : ", " -> ", " ..... ", " (Nr.): #", " No. : ", " N° ", " Nº ", " n. ", " Num. ")]
         none += ["Rechnung Nr. : 77, 1001", "Rechnung vom 12.5.24, 77, 1001", "Rechnung Nr. : 12.5.24, 1001",
                  "Rechnung vom 12.5.24, 77 und 78, 1001"]
-        known = ("Betrieb Nr. : 1001", "Betrieb ..... 1001", "1001 Rechnung Nr. : 77", "Rechnung Nr. : 77, Betrieb 1001",
-                 "Rechnung Nr. : 77 (1001)", "Rechnung vom 12.5.24, 77, Betrieb 1001", "Beitrag ... 1001", "N° 1001")
+        known = ("Betrieb Nr. : 1001", "Betrieb ..... 1001", "Rechnung Nr. : 77, Betrieb 1001",
+                 "Rechnung vom 12.5.24, 77, Betrieb 1001", "Beitrag ... 1001", "N° 1001")
         self.finds_each((1001,), none, known)
         # Behind a firm's word they make no number surer.
         self.finds_each((9, 1224), ("Betrieb: --- 9", "Betrieb ..... 1224"), ())
 
+    def test_numbers_of_texts_that_are_not_plain(self):
+        """What another word or number makes of a number isn't known, but for one right behind a firm's word."""
+        words = ("Bauvorh.", "Vorg.-Nr.", "Bel.-Nr.", "Ku.-Nr.", "Personenkonto", "Gegenkonto", "Abr.-Nr.", "Haus",
+                 "Kfz HB-AB", "Kostentr.", "Mitarb.-Nr.", "Kassenz.", "Gesch.-Z.", "Los", "Zahllauf Nr.", "Blatt", "Trx",
+                 "TAN1", "T 0421", "AZ 12 O", "Kundennummer lautet", "Kunde Bau Nord", "Rechnung Bau Nord", "Ticket",
+                 "Rechnung Mai", "RE Mai 2024 Nr.", "Rechnung für Mai,", "Umlage", "Bruttosumme Mai:", "Urlaub",
+                 "Urlaubsgeld", "Bremen", "ca.", "Zahlung", "Zahlung Nr.", "Beitrag f.", "UNr.", "FNr.")
+        texts = [f"{word} 1001" for word in words] + [f"1001 {unit}" for unit in ("Tage", "h", "m", "km", "Bremen")]
+        texts += ["Mai 1001, Juni 1400", "Beitrag 1001 Zinsen 12", "Beitrag 1001, 03-77", "Beitrag 1001 77/2024",
+                  "Nr. 1001 vom 12.5.24", "Beitrag vom 12.05.24 1001", "Arbeitgeber 1001 Arbeitnehmer 900",
+                  "Mai 1001 Juni 1997", "Mai 1001, Juni 2405", "1001 4711 1001", "#1001/x",
+                  ["Nummer RE2024A", "1001 Danke"], ["Nr. 1001-", "Nord"],
+                  ["IBAN DE89 3704 0044 0532 0130 00", "1001 Danke"], "Gemeinde 1001 Beitrag Mai", "Ingenieur 1001",
+                  "Büro 1001 Beitrag Mai 2024 Nord GmbH Danke", "BG 1001 Beitrag Mai 2024 Nord GmbH", "Baron 1001",
+                  "Rechnung 77 vom 12.5.24 (1001)", "1001 vom 12.5.24, 77", "1001 vom 12.5.24, Rg. vom 11.5.24",
+                  "Tel. 0421/824025 (1001)", "1001 Tel. 0421 77", "RE 77/24 1001", "1001 Rechnung 77", "1001, Re. 77",
+                  "Betrag 500,00 1001", "1001-Nord", "BG-Nr. 1001", "Rechnung 77 #1001", "Rechnung 77 (1001)",
+                  "1001, Ref. 77", "Baustelle Nord, 1001", "Lohn Mai 1001", "Müller Bau e.K. 1001", "Bauverein e.V. 1001",
+                  "Payout, 1001", "Bau AG 1001", "i.A. 1001", "1001 i.H.v. 500 EUR", "i.H.v. 500 EUR - 1001",
+                  "1001, i.H.v.: 500 EUR", "i.H.v. 500, 1001", "i.H.v. 500,00 / 1001", "i.H.v. 500 1001",
+                  "1001 500,00 EUR", "1001 / 500,00 EUR", "EUR 500,00 / 1001", "1001 + 500,00 EUR", "1001 und 500,00 EUR",
+                  "0524 / 500,00 EUR / 1001", "€ **1001**", "Beitrag 1001 500,00", "1001 + 500",
+                  "500 EUR - 1001", "500,- EUR - 1001", "500,-- EUR (1001)", "1001 - EUR 500", "1001 / EUR 500",
+                  "1001, 500 EUR", "1001 Rechnung Nr. : 77", "Rechnung Nr. : 77 (1001)"]
+        named = [[part.replace("1001", "Betrieb 1001", 1) for part in ([text] if isinstance(text, str) else text)]
+                 for text in texts]
+        self.finds_each((1001,), texts, named)
+
+    def test_plain_texts(self):
+        """Those of contributions alone, also where the bank cut a word."""
+        self.finds_each((1001,), (), (
+            "SOKA-BAU 1001", "Soka Bau Beitrag Mai 2024, 1001", "Urlaubskassenbeitrag 05.2024 1001", "Nr. 1001 Mai 24",
+            "Monatsbeitrag für Mai 1001", "1001 Beiträge April und Mai 2024", "january 2024 1001",
+            "Beitragszahlung: 1001", "ULAK 1001", ["Beitrag M", "ai 2024 1001"], ["Urlaubskassenbei", "trag 1001"],
+            "Urlaubs-Beitrag Mai 1001", "Mitgliedsbeitrag 1001"))
+
+    def test_a_long_word(self):
+        """It takes no time to find that it is no plain one."""
+        self.finds("", "betriebsnrbeitragmai" * 240 + "x 1001")
+
     def test_the_form_of_a_company(self):
-        self.finds_each((1224, 1001), ("Bau AG 1224", "Bau AG 1001 / 24"), ("Bau AG 1001",))
+        none = ("Bau AG 1224", "Bau AG 1001 / 24", "Bau AG Nr. 1001", "betr. Nr. 1001")
+        self.finds_each((1224, 1001), none, ("AG-Nr. 1001", "Betr.-Nr. 1001"))
         self.finds("1224", "AG-Nr. 1224", table="iban,employer\n,1224\n")
 
     def test_small_numbers(self):
@@ -255,9 +286,11 @@ class Firms(BankFiles):
                  "Quartal 1001")
         self.finds_each((1, 24, 1001, *dates), none, known)
         # One of them may be a firm beside another one.
-        texts = "1001 Beitrag 1224", "Beitrag 122024 1001", "1001, 150524", "Betriebe 1001 und 1224", "Nr. 1001 1224"
-        self.finds_each((1001, *dates), texts, ())
-        self.finds_each((1001,), (), texts)
+        texts = "Beitrag 122024 1001", "1001, 150524"
+        amounts = "1001 Beitrag 1224", "Betriebe 1001 und 1224", "Nr. 1001 1224"
+        self.finds_each((1001, *dates), texts + amounts, ())
+        # Or an amount, where it has four digits.
+        self.finds_each((1001,), amounts, texts)
         for text in ("Betrieb 1224", "Nr. 1224", "Mitglieds-Nr. 1224 Mai", "Mitgliedsnummer: 1224", "Firma 1224"):
             self.finds("1224", text, table="iban,employer\n,1224\n")
 
@@ -277,6 +310,10 @@ class Firms(BankFiles):
                  "Betrieb 1001 Mai 2024", "Betrieb 1001, 05/2024", "1003 Betrieb 1001")
         self.finds_each((1001, 1003, 2024), none, known, "--number-word", "Betrieb")
         self.finds_each((1001,), ["Betrieb Nr. 1001"], ["Betriebs-Nr. 1001"], "--number-word", "Betriebsnr")
+        # An amount isn't one behind any word.
+        none = ("Beitrag 1001 EUR", "Beitrag (1001) EUR", "Beitrag 1001* EUR", "Beitrag **1001** EUR",
+                "Beitrag 1001 + 500 EUR", "Beitrag 1001 und 500 EUR", "Beitrag 1001 / 500 EUR", "Beitrag 1001,-", "Beitrag 1 001", "Beitrag 1001 %")
+        self.finds_each((1, 1001), none, ["Beitrag 1001", "Beitrag 1001, 500,00 EUR"], "--number-word", "Beitrag")
 
     def test_interest_by_a_word(self):
         for text in ("Zinsen", "ZINSEN", "für Zinsen, Mai", "Zinsen/Mai", ["Mai und Zin", "sen"], "Zin\nsen",

@@ -6,7 +6,6 @@ What is expected is worked out by hand.
 """
 
 import sys
-import unittest
 import xml.etree.ElementTree as ElementTree
 
 # No __pycache__ is left beside the sources.

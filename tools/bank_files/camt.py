@@ -12,6 +12,9 @@ from datetime import date
 from decimal import Decimal
 from xml.etree.ElementTree import Element
 
+from payment_files.accounts import SPELLINGS
+
+from .ibans import without_spaces
 from .texts import UNSHOWN, Fault, plain, shown
 from .xml_text import read_root
 
@@ -21,7 +24,8 @@ OTHER_MESSAGES = {
     "camt.052": "a report within the day, which isn't final; the statement of the day, camt.053, is wanted",
     "camt.054": "a notification of single payments; the statement of the day, camt.053, is wanted",
 }
-AMOUNT = re.compile(r"[0-9]{1,15}(\.[0-9]{0,5})?")
+# A decimal number of XML: 1500, 1500.00, .50, +1500
+AMOUNT = re.compile(r"\+?(?=\.?[0-9])0*[0-9]{0,18}(\.[0-9]{0,5}0*)?")
 CURRENCY = re.compile("[A-Z]{3}")
 # A date or a date with a time, of which the day counts as it is written.
 DAY = re.compile(r"([0-9]{4}-[0-9]{2}-[0-9]{2})(T.*|Z|[+-][0-9]{2}:[0-9]{2})?", re.DOTALL)
@@ -30,9 +34,16 @@ PAGE_NUMBER = re.compile("[0-9]{1,5}")
 AMOUNTS = ("Amt", "AmtDtls/TxAmt/Amt", "AmtDtls/InstdAmt/Amt")
 REMITTANCE = ("RmtInf/Ustrd", "RmtInf/Strd/CdtrRefInf/Ref", "RmtInf/Strd/AddtlRmtInf")
 DEBTOR_NAME = ("RltdPties/Dbtr/Pty/Nm", "RltdPties/Dbtr/Nm", "RltdPties/Dbtr/Agt/FinInstnId/Nm")
+# Some banks have an IBAN among the other numbers of an account.
+DEBTOR_ACCOUNT = ("RltdPties/DbtrAcct/Id/IBAN", "RltdPties/DbtrAcct/Id/Othr/Id")
+# Whose debt it pays, where that isn't the debtor's own.
+ULTIMATE_DEBTOR = ("RltdPties/UltmtDbtr/Pty/Nm", "RltdPties/UltmtDbtr/Nm")
 DIRECTIONS = {"CRDT": True, "DBIT": False}
 # What banks write where they have no reference.
-NO_REFERENCE = re.compile("NON-?REF|NOT ?PROVIDED|NONE|0+", re.IGNORECASE)
+NO_REFERENCE = re.compile(
+    "NON[- ]?REF(?:ERENCE)?|NOT ?(?:PROVIDED|AVAILABLE|APPLICABLE)|NONE|UNKNOWN|NULL|N/?A|0+|[-.]+", re.IGNORECASE)
+# The same of the payer's. (The references that are made of it have to stay as they are.)
+NO_END_TO_END = re.compile("NON-?REF|NOT ?PROVIDED|NONE|0+", re.IGNORECASE)
 # The end-to-end references of tools/payment-file, and what stands in a text of one, or of its transfer, without spaces:
 # so much of it that it is no other, since the bank may cut it off behind a line. Then the reference of a whole list.
 OF_A_PAYOUT = re.compile("L[1-9][0-9]{0,7}-C[1-9][0-9]{0,7}")
@@ -80,8 +91,14 @@ class Transaction:
     is_debit: bool
     is_return: bool
     name: str
+    # Whose debt it pays, where the bank says that it is another one's.
+    other_name: str
     iban: str
     texts: tuple[str, ...]
+
+    @property
+    def payer(self) -> str:
+        return f"{self.name} ({self.other_name})".strip() if self.other_name else self.name
 
     @property
     def text(self) -> str:
@@ -287,12 +304,14 @@ def read_transaction(node: Node, credited_account: str | None) -> Transaction:
     parts = (it.own_text() for path in REMITTANCE for it in node.parts(path))
     # Where a line ends, or a sign without a width stands, a number may go on as where one part follows another.
     texts = [plain(piece) for part in parts for piece in UNSHOWN.split(part)]
-    end_to_end = read_reference(node, "Refs/EndToEndId")
-    iban = node.text("RltdPties/DbtrAcct/Id/IBAN")
+    end_to_end = read_reference(node, "Refs/EndToEndId", NO_END_TO_END)
+    iban = node.text(*DEBTOR_ACCOUNT)
     payout = end_to_end if OF_A_PAYOUT.fullmatch(end_to_end) else payout_of(texts)
     is_debit = node.text("CdtDbtInd") == "DBIT"
+    name, other_name = plain(node.text(*DEBTOR_NAME)), plain(node.text(*ULTIMATE_DEBTOR))
+    is_of_another = letters_of(other_name) != letters_of(name) and not NO_REFERENCE.fullmatch(other_name)
     # A credit from the account itself, or of a payout by its reference or text, is a transfer that came back.
-    is_own = iban == credited_account or payout
+    is_own = iban and without_spaces(iban) == without_spaces(credited_account or "") or payout
     return Transaction(
         reference=read_reference(node, "Refs/AcctSvcrRef"),
         end_to_end=end_to_end,
@@ -300,10 +319,16 @@ def read_transaction(node: Node, credited_account: str | None) -> Transaction:
         credited=None if is_debit else read_credited(node),
         is_debit=is_debit,
         is_return=node.has("RtrInf") or came_back(node) or credited_account is not None and bool(is_own),
-        name=plain(node.text(*DEBTOR_NAME)),
+        name=name,
+        other_name=other_name if is_of_another else "",
         iban=iban,
         texts=tuple(filter(None, texts)),
     )
+
+
+def letters_of(name: str) -> str:
+    """The letters and digits of a name, by which two are the same."""
+    return re.sub(r"[\W_]", "", name.translate(SPELLINGS).casefold())
 
 
 def payout_of(texts: Iterable[str]) -> str:
@@ -326,9 +351,9 @@ def read_credited(node: Node) -> Money | None:
     return read_money(node, path) if path else None
 
 
-def read_reference(node: Node, path: str) -> str:
+def read_reference(node: Node, path: str, none: re.Pattern = NO_REFERENCE) -> str:
     reference = node.text(path)
-    return "" if NO_REFERENCE.fullmatch(reference) else reference
+    return "" if none.fullmatch(reference) else reference
 
 
 def read_money(node: Node, path: str) -> Money:

@@ -8,10 +8,10 @@ from dataclasses import dataclass, field
 from decimal import Decimal
 from enum import Enum
 
-from .ibans import is_iban, without_ibans
+from .ibans import is_iban, without_ibans, without_spaces
 from .numbers import Number, numbers_in
 from .tables import read_rows
-from .texts import DASHES, MOST_PARTS, MOST_SIGNS, Fault, readings, shown
+from .texts import DASHES, MOST_PARTS, MOST_SIGNS, PUT_TOGETHER, Fault, readings, shown
 
 HEADER = ("iban", "employer")
 EMPLOYER = re.compile("[1-9][0-9]{0,7}")
@@ -42,10 +42,11 @@ class Firms:
         parts = [it.translate(DASHES) for it in texts]
         if len(parts) > MOST_PARTS or sum(map(len, parts)) > MOST_SIGNS:
             return "", Found.NOT_FOUND
-        # The firm has to stand there by each reading, and no other one by any.
+        # The firm has to stand there by each reading, and no other one by any; for sure by that which has whole words.
         named = [self.named_in(reading, amount) for reading in readings(without_ibans(parts))]
         told = set().union(*(possible for _, possible in named))
-        is_one = len(told) == 1 and all(told <= sure for sure, _ in named)
+        sure, _ = named[PUT_TOGETHER]
+        is_one = len(told) == 1 and told == sure and all(told == possible for _, possible in named)
         return (*told, Found.BY_NUMBER) if is_one else ("", Found.NOT_FOUND)
 
     def named_in(self, reading: str, amount: Decimal) -> tuple[set[str], set[str]]:
@@ -58,10 +59,6 @@ class Firms:
 
     def is_sure(self, number: Number, amount: Decimal) -> bool:
         return not (number.is_joined if self.number_words else number.is_in_doubt(amount))
-
-
-def without_spaces(iban: str) -> str:
-    return "".join(iban.split()).upper()
 
 
 def read_firms(path: str, number_words: Iterable[str] = ()) -> Firms:

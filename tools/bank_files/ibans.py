@@ -16,6 +16,10 @@ NEXT_SIGN = re.compile(f"{BETWEEN}([A-Za-z0-9])")
 LEAST_DIGITS = 10
 
 
+def without_spaces(iban: str) -> str:
+    return "".join(iban.split()).upper()
+
+
 def is_iban(text: str) -> bool:
     """Whether it is written as an IBAN, and its check digits are right."""
     if not IBAN.fullmatch(text):

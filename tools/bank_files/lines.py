@@ -19,6 +19,7 @@ from enum import Enum
 from .camt import Entry, Money, Transaction, credited_by
 from .earlier import HEADER, EarlierLine
 from .firms import Firms, Found
+from .ibans import without_spaces
 from .statements import Statement
 from .texts import Refusal, cut, shown, words_in
 
@@ -32,6 +33,7 @@ MOST_BYTES = 1_048_576
 
 # References of this program's own making, which none of the bank's may look like.
 MADE = re.compile("(bank|place)~.*")
+BY_PLACE = "place~"
 DIGEST_SIGNS = 26
 
 
@@ -41,6 +43,7 @@ class Reason(Enum):
     DEBIT = "debit"
     RETURNED_PAYMENT = "returned payment (a debit)"
     RETURNED_TRANSFER = "returned transfer (a credit)"
+    BETWEEN_ACCOUNTS = "from another account of the statements"
     PENDING = "pending"
     NOT_BOOKED = "neither booked nor pending"
     OTHER_CURRENCY = "other currency"
@@ -98,7 +101,7 @@ class Payment:
 
     @property
     def name(self) -> str:
-        return ", ".join(dict.fromkeys(filter(None, (it.name for it in self.transactions))))
+        return ", ".join(dict.fromkeys(filter(None, (it.payer for it in self.transactions))))
 
     @property
     def text(self) -> str:
@@ -154,6 +157,8 @@ class BankFile:
     interest_words: frozenset[str]
     # By their references.
     earlier: dict[str, EarlierLine]
+    # Those of all statements.
+    accounts: frozenset[str] = frozenset()
     lines: list[Line] = field(default_factory=list)
     left_out: list[LeftOut] = field(default_factory=list)
     # Each line's payment by its reference.
@@ -216,6 +221,8 @@ class BankFile:
         if not payment.money.amount:
             return self.leave_out(Reason.NOTHING, payment)
         reference = reference_of(payment, used)
+        if self.is_between_accounts(payment):
+            return self.leave_out(Reason.BETWEEN_ACCOUNTS, payment)
         line = self.line_of(payment, reference)
         first = self.payments.setdefault(reference, payment)
         if first is payment:
@@ -226,10 +233,29 @@ class BankFile:
             raise Refusal(f"{payment.called} and {first.called} are different payments, and the bank gives "
                           f"both the reference {shown(payment.reference)}; ask the bank")
 
+    def is_between_accounts(self, payment: Payment) -> bool:
+        """Whether the fund has moved its own money, from an account of which a statement stands here."""
+        ibans = {without_spaces(it.iban) for it in payment.transactions}
+        return payment.is_detailed and bool(ibans) and ibans <= self.accounts
+
     def leave_out(self, reason: Reason, payment: Payment) -> None:
         money = payment.money
         payouts = tuple(it.payout for it in payment.transactions if it.payout)
         self.left_out.append(LeftOut(reason, payment.called, payment.value, money, frozenset({money}), payouts))
+
+    def likely_repeats(self) -> list[str]:
+        """The references made here for want of the bank's whose lines another statement, or an earlier file, has, too,
+        by their day, amount and note."""
+        statements: dict[tuple, set[str]] = {}
+        by_place = [it for it in self.lines if it.reference.startswith(BY_PLACE)]
+        for line in by_place:
+            account, identifier, *_ = self.payments[line.reference].place
+            statements.setdefault((account, *alike(line)), set()).add(identifier)
+        earlier = {alike(it) for reference, it in self.earlier.items()
+                   if reference.startswith(BY_PLACE) and reference not in self.payments}
+        several = {key[1:] for key, identifiers in statements.items() if len(identifiers) > 1}
+        return [it.reference for it in by_place
+                if it.found is not Found.EARLIER and alike(it) in earlier | several]
 
     def line_of(self, payment: Payment, reference: str) -> Line:
         if payment.value is None:
@@ -243,7 +269,10 @@ class BankFile:
 
     def firm_of(self, payment: Payment) -> tuple[str, Found]:
         """The firm of all transactions of a payment; none where they have several, or aren't all known."""
-        found = {self.firms.firm_of(it.iban, it.texts, payment.money.amount) for it in payment.transactions}
+        # An account tells whose payment it is, where it isn't for another one.
+        ibans = ("" if it.other_name else it.iban for it in payment.transactions)
+        found = {self.firms.firm_of(iban, it.texts, payment.money.amount)
+                 for iban, it in zip(ibans, payment.transactions)}
         is_sure = payment.is_detailed and not any(it.is_return for it in payment.transactions)
         if not is_sure or len({firm for firm, _ in found}) != 1:
             return "", Found.NOT_FOUND
@@ -254,11 +283,15 @@ class BankFile:
         return payment.is_detailed and bool(words) and all(self.interest_words & it for it in words)
 
 
+def alike(line: Line | EarlierLine) -> tuple[str, str, str]:
+    """What two lines of one payment have in common, whatever their references are."""
+    return str(line.value), str(line.cents), line.note
+
+
 def as_earlier(line: Line, earlier: EarlierLine | None) -> Line:
     """The line as an earlier file has it. One of another day, amount, payer or text is another payment, and
     stays, for the office to refuse."""
-    here = str(line.value), str(line.cents), line.note
-    if earlier is None or (earlier.value, earlier.cents, earlier.note) != here:
+    if earlier is None or alike(earlier) != alike(line):
         return line
     return replace(line, found=Found.EARLIER, employer=earlier.employer, purpose=earlier.purpose)
 

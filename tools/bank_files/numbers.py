@@ -8,9 +8,12 @@ from decimal import Decimal
 
 # ---- parts of the patterns below, for a text as casefold() leaves it, in which each dash is "-"
 
-MONTH = ("(?:januar|jänner|jaenner|january|jän|jaen|jan|februar|feber|february|febr|feb|märz|maerz|march|mär|maer|mar|"
-         "mrz|april|apr|mai|may|juni|june|jun|juli|july|jul|august|aug|september|sept|sep|oktober|october|okt|oct|"
-         r"november|nov|dezember|december|dez|dec)\b\.?")
+# (The longer ones first.)
+MONTH_NAME = (
+    "(?:january|januar|jänner|jaenner|jän|jaen|jan|february|februar|feber|febr|feb|märz|maerz|march|mär|maer|mar|mrz|"
+    "april|apr|mai|may|june|juni|jun|july|juli|jul|august|aug|september|sept|sep|oktober|october|okt|oct|november|nov|"
+    "dezember|december|dez|dec)")
+MONTH = rf"{MONTH_NAME}\b\.?"
 YEAR = "(?:19[0-9]{2}|2[01][0-9]{2}|2200)"
 # A day of a month, and what may stand between a month and its year.
 DAY = rf"[0-3]?[0-9](?:\. ?[01]?[0-9]\.|\.?[ /-]?\b{MONTH})"
@@ -24,8 +27,6 @@ CURRENCY_NAME = "(?:t?eur|euros?|usd|chf|gbp|pln|czk|huf|ron|dm|cent|sfr|zł|kč
 CURRENCY = rf"(?:\b{CURRENCY_NAME}\b|[€$£¤])"
 # Also as `EUR_` and `BetragEUR`.
 ANY_CURRENCY = rf"(?:(?:(?<![^\W_])|(?<=betrag|eitrag)|(?<=summe)){CURRENCY_NAME}(?![^\W_])|[€$£¤])"
-# What stands before an amount that needs no currency: i.H.v. 1001
-IN_THE_SUM_OF = r"\bi\. ?h\. ?v\b\.?"
 GROUPS = "[0-9]{1,3}(?:[ .'’][0-9]{3})+"
 # Where digits begin that don't go on from others, as the 24 of 1001,24 does.
 BEGIN = "(?<![0-9])(?<![0-9][.,:/-])"
@@ -40,30 +41,17 @@ AMOUNT_BEHIND = f"{NO_TELEPHONE}[ :.=+]{{0,3}}{NO_DATE}{AMOUNT}"
 
 # What has digits and isn't a firm's number, each with an example.
 OTHER_NUMBERS = re.compile("|".join((
-    # An IBAN of any country, also with wrong check digits: TR33 0006 1005 1978 6457 8413 26
-    r"(?:\b|iban)(?:de ?|[a-z]{2})[0-9]{2} ?[a-z0-9]{4}(?: ?(?=[a-z]?[0-9])[a-z0-9]{4}){1,6}"
-    rf"(?: ?(?!{DAY})[0-9]{{1,3}})?\b",
-    # Its country apart: TR 33 0006 1005 1978 6457 8413 26
-    rf"\b[a-z]{{2}} [0-9]{{2}} ?[a-z0-9]{{4}}(?: ?(?=[a-z]?[0-9])[a-z0-9]{{4}}){{2,6}}(?: ?(?!{DAY})[0-9]{{1,3}})?\b",
-    # None of its country: IBAN 89 3704 0044 0532 0130 00
-    rf"\biban[ :.]{{0,3}}[0-9]{{2}}(?: ?[0-9]{{4}}){{3,7}}(?: ?(?!{DAY})[0-9]{{1,3}})?\b",
     # The payer's own reference and the like, up to the bank's next mark: EREF+1001 SVWZ+
     r"\b(?:[a-z]ref|coam|oamt|ocmt|chrg|debt|cred|abw[ae]|mdat|purp) ?[+:].*?(?=\b[a-z]{1,4} ?\+|$)",
     # The first of two amounts: 1001 + 500 EUR, 1001 / 500 EUR; not Betrieb 1001 / 500 EUR
     # (Each amount is read in one way, since the ways of several in a row are multiplied.)
     f"{NOT_BEHIND_A_NAME}(?:(?:(?>{AMOUNT}) ?{AND} ?){{1,9}}(?={AMOUNT} ?{CURRENCY})|{AMOUNT} ?/ ?(?=[0-9]+ ?{CURRENCY}))",
-    # Two amounts: EUR 500 + 1001, EUR 500 / 1001, i.H.v. 500 + 1001
-    f"(?:{CURRENCY}|{IN_THE_SUM_OF})[ :]{{0,2}}(?:[0-9]+ ?/|{AMOUNT}{NO_TELEPHONE} ?{AND}) ?{NO_DATE}{AMOUNT}",
     # An amount before its currency, or on both sides: 1001 EUR, 1001, 24 EUR, 1001 EUR 500
     rf"{AMOUNT}(?:[.,] [0-9]{{2}})? ?[-*/(]?{CURRENCY}(?:{AMOUNT_BEHIND})?",
     # An amount behind its currency: EUR 1001
     f"{CURRENCY}[*/;|+( -]{{0,2}}{AMOUNT_BEHIND}",
-    # An amount without its currency: i.H.v. 1001
-    rf"{IN_THE_SUM_OF}[ :]{{0,2}}(?>{AMOUNT})(?!\w| ?[-*/(]?{CURRENCY})",
     # An amount without its cents, a percentage, and hours: 1001,- 1001,OO 5 % 1001 Std
     rf"{AMOUNT} ?(?:[.,]-|%|std\b|stunden\b)|{BEGIN}[0-9]+[.,]oo\b",
-    # A bank's number: 370 400 44
-    r"(?<![0-9])[0-9]{3} [0-9]{3} [0-9]{2}(?![0-9]| ?/|\. ?[0-9])",
     # Digits in groups, and those behind them: 1 001, 60 123 4567
     f"(?<![0-9]){GROUPS}(?:[.,][0-9]+|(?: {NO_DATE}[0-9]+)+)?(?![0-9])",
     # A telephone's number: +49 421 1001, (0421) 1001, 0421 / 1001, 030 1001
@@ -84,7 +72,6 @@ OTHER_NUMBERS = re.compile("|".join((
     # The first of several months: 10 - 12/2024
     rf"(?<![0-9])(?:1[0-2]|0?[1-9])(?: ?[-+&]| {TO_WORD}) ?(?={MONTH_OF_YEAR})",
 )))
-DATE = re.compile(DAY)
 # The same, once those are gone: a number on either side of a currency that has no amount yet.
 # EUR **1001**, (1001) EUR
 BESIDE_A_CURRENCY = re.compile(rf"{ANY_CURRENCY}[\W_]{{0,6}}{AMOUNT}|{AMOUNT}[\W_]{{0,4}}{ANY_CURRENCY}")
@@ -103,45 +90,41 @@ SHORT_DATE = re.compile("|".join((
     # 2405, 240515
     "[23][0-9](?:0[1-9]|1[0-2])(?:0[1-9]|[12][0-9]|3[01])?",
 )))
-# The word right before a number: Betrieb 1001, Betrieb-Nr. 1001
-WORD_BEFORE = re.compile(r"(?<!\w)(\w+)(?:\W{1,3}(nr|nummer|no))?\W{1,3}\Z")
-# The same whatever signs stand between, of which it is enough that it may be a word for another number:
-# Rechnung Nr. : 1001, Rechnung N° 1001
-WORD_SOMEWHERE_BEFORE = re.compile(r"(?<!\w)(\w+)(?:\W+(?:nr|nummer|num|no|n|nº))?\W+\Z")
-LONGEST_WORD = 60
-# One of fewer is often a month, a count or an hour: Monat 9, 9 Arbeiter
-LEAST_SURE_DIGITS = 4
 # What joins a number to that before it: 1001, 1003 and 1001 und 1003; not 1001 (1003)
 JOINED = re.compile(r"[^\w#(]{1,3}(?:(?:und|u|sowie|bis)\W{1,2})?")
 # What makes of a number that of a year, behind it: 1001 / 24, 1001 / 2024
 OF_A_YEAR = re.compile(rf" ?/ ?(?:{YEAR}|[0-9]{{2}})(?!\w|[.,:/-][0-9]| ?[./-] ?[0-9]+\b)")
-# A word for another number, as it stands before one, also glued to that before it: Rechnung 1001, Rg.-Nr. 1001,
-# Kontonummer 1001, 77Kundennr. 1001
-OTHER_WORD = re.compile("[0-9]*(?:(?:" + "|".join((
-    # of an invoice, an order, or a payment
-    r"\w*rechnung(?:s|en)?|rechn?g?|reg?|rg|inv(?:oice)?|faktura|belege?|gutschrift|storno|mahnung|\w*bescheid",
-    r"\w*avis|buchungs?|lfd|op|pos(?:ition)?|angebots?|\w*auftr(?:ags?)?|order|best(?:ell(?:ung(?:s|en)?)?)?",
-    "lieferscheine?|ls|artikel|dok(?:ument)?s?",
-    # of who buys or sells, of a client, a contract, a file, or a reference
-    "kunden?|kd|debitor(?:en)?|deb|kreditor(?:en)?|kred|lieferant(?:en)?|lief|mandant(?:en)?|mdt|berater",
-    r"vertr(?:ags?)?|darl(?:ehens?)?|police|vers(?:icherungs?)?|mandats?|vorgangs?|\w*zeichen|az|gz|\w*ref(?:erenz)?",
-    "end|e2e|id(?:ent)?|akten?",
-    # of a building site, a worker, a house, or a town
-    "filialen?|proj(?:ekt)?|bauvorhaben|bvh?|baustellen?|objekt|kostenstellen?|kst|pers(?:onal)?|arbeit(?:er|nehmer)|an",
-    r"mitarbeiter|ma|\w*(?:str|strasse|weg|platz|allee)|[0-9]{1,3}[a-z]|plz|postfach|de?",
-    # of an account, a bank, a register, or a telephone
-    "(?:kunden|vertrags|debitoren|kreditoren|lohn|bank|giro)?konto|kto|blz|bankleitzahl|bic|hr[ab]",
-    "tel(?:efon)?|fon|(?:tele)?fax|mobil|handy|rufnummer|durchwahl",
-    # an amount, a secret number, or of a tax
-    r"\w*(?:betrag|summe|brutto|netto|lohn|löhne|loehne|saldo)|rest|gesamt|total|guthaben|r(?:ü|ue)ckstand|(?:ü|ue)ber",
-    r"(?:an|teil|abschlags|(?:ü|ue)ber)zahlung|raten?|abschlags?|skonto|abzug|minus|geb(?:ü|ue)hr(?:en)?",
-    r"von|ihv|abzgl|zzgl|\w*tan|(?:kredit)?karten?|steuer",
-)) + ")(?:nr|nummer)?|(?:k|p|r|u?st)(?:nr|nummer))")
-# A word for a firm's number, which is no date and of no year: Betrieb 1224, Mitglieds-Nr. 1001 / 24
-FIRM_WORD = re.compile(
-    "(?:betriebs?|betriebskonto|bkn|firmen|firma|arbeitgebers?|mitgl(?:ieds?)?)(?:nr|nummer)?|ag(?:nr|nummer)")
-# A date that was replaced, and what joins a number to it: vom 12.5.24, 1001 and 12.5.24 Nr. 1001
-DATE_BEFORE = re.compile(r"(?<!\w)(?:vo?m?\W{1,3})?0__[^\w#(]{1,3}(?:(?:und|u|sowie|nr|nummer|no)\W{1,3})?\Z")
+# The word right before a number: Betrieb 1001, Betrieb-Nr. 1001; of `Bau AG Nr. 1001` and `betr. Nr. 1001` it is `nr`
+WORD_BEFORE = re.compile(
+    r"(?<!\w)(\w+)(?:(?!(?:(?<=\bag)|(?<=\bbetr))\.? )\W{1,3}(nr|nummer|no))?\W{1,3}\Z")
+LONGEST_WORD = 60
+# A word for a firm's number, which is no date and of no year: Betrieb 1224, Mitglieds-Nr. 1001 / 24; also at the end of a
+# longer word, as where the bank has put two together
+FIRM = "(?:betriebskonto|betriebs?|bkn|firmen|firma|mitglieds?|mitgl)"
+FIRM_WORD = re.compile(rf"\w*{FIRM}(?:nr|nummer)?|(?:ag|arbeitgeber|betr)(?:nr|nummer)")
+# One of fewer is often a month, a count or an hour: Monat 9, 9 Arbeiter
+LEAST_SURE_DIGITS = 4
+# The words of a plain text, which tells of contributions alone, also where the bank has put two of them together:
+# Beitrag Mai 2024, 1001 (The longer ones first: none is read in a second way.)
+CONTRIBUTIONS = "beitr(?:ag|äge|aege)"
+PLAIN_WORD = re.compile("(?:" + "|".join((
+    MONTH_NAME, f"betriebe|{FIRM}|nummer|nr",
+    # (A payment alone may have a number.)
+    "(?:beitrags|urlaubskassen|monats|nach|raten|rest|sammel|voraus|zins)zahlung|zinsen|svwz",
+    rf"{CONTRIBUTIONS}(?:skonto|s)?|soka(?:\W{{0,3}}bau)?|ulak|zvk|(?:urlaubs|ferien|sozial)kassen?|urlaubs",
+    "monat[es]?|quartale?|jahr|für|fuer|im|und|bis|danke|no|n",
+)) + ")++")
+WORD = re.compile(r"\bsoka\W{0,3}bau\b|[^\W\d_]+")
+# Where one stands, the number may be an amount, too.
+IN_A_CURRENCY = re.compile(CURRENCY)
+# What such a text may have besides its one number: years with their months, and dates, as `05.2024`, `2024-05`, `0524`,
+# `122024`; not `1224`, which may be an amount.
+YEARS = re.compile("(?<![0-9])(?:" + "|".join((
+    "(?:[01]?[0-9][./-])?20[1-3][0-9](?:-[01][0-9])?", "0[1-9](?:0[1-9]|1[0-2])?(?:20)?[23][0-9]",
+    f"(?=[0-9]{{5}})(?:{SHORT_DATE.pattern})",
+)) + ")(?![0-9])")
+# What was put for something else isn't one.
+DIGITS = re.compile("[0-9]+(?![0-9_])")
 
 
 @dataclass(frozen=True)
@@ -151,8 +134,8 @@ class Number:
     # joined to a number, those of that one.
     words: frozenset[str]
     is_joined: bool
-    # Whether it stands behind a word for another number, or a date stands between: Rechnung vom 12.5.24, 1001
-    is_another: bool
+    # Whether it is the one number of a plain text.
+    is_plain: bool
     # Whether it and the next one are of a year, or it and that before.
     is_of_a_year: bool
 
@@ -163,11 +146,10 @@ class Number:
     def is_in_doubt(self, amount: Decimal) -> bool:
         """Whether it may be something else than a firm's number by what stands around it, or by its digits."""
         words = frozenset() if self.is_joined else self.words
-        if self.is_another:
-            return True
         if any(map(FIRM_WORD.fullmatch, words)):
             return False
-        return self.is_of_a_year or words.isdisjoint(("nr", "nummer")) and self.is_like_another(amount)
+        is_like_another = words.isdisjoint(("nr", "nummer")) and self.is_like_another(amount)
+        return not self.is_plain or self.is_of_a_year or is_like_another
 
     def is_like_another(self, amount: Decimal) -> bool:
         """Whether it is like a count, a date, or what is paid, in whole euros."""
@@ -178,34 +160,17 @@ class Number:
 def numbers_in(text: str) -> list[Number]:
     """The numbers in a text that are nothing else."""
     left = BESIDE_A_CURRENCY.sub(replaced, OTHER_NUMBERS.sub(replaced, text))
+    is_plain = not IN_A_CURRENCY.search(text) and all(map(PLAIN_WORD.fullmatch, WORD.findall(left)))
+    told = set(DIGITS.findall(YEARS.sub("", left)))
     numbers: list[Number] = []
     end, goes_on = 0, False
     for found in NUMBER_WORD.finditer(left):
         is_joined = bool(numbers and JOINED.fullmatch(left, end, found.start()))
         words = numbers[-1].words if is_joined else words_before(left, found.start())
-        is_another = numbers[-1].is_another if is_joined else is_behind_another(left, found.start())
-        is_another |= is_dated(left, found.start(), numbers[-1] if numbers else None, end)
         end, was_of_a_year = found.end(), goes_on
         goes_on = OF_A_YEAR.match(left, end) is not None
-        numbers.append(Number(found[0], words, is_joined, is_another, was_of_a_year or goes_on))
+        numbers.append(Number(found[0], words, is_joined, is_plain and told <= {found[0]}, was_of_a_year or goes_on))
     return numbers
-
-
-def is_behind_another(text: str, end: int) -> bool:
-    """Whether a word for another number stands right before."""
-    before = WORD_SOMEWHERE_BEFORE.search(text, max(0, end - LONGEST_WORD), end)
-    words = {before[1], *words_before(text, end)} if before else ()
-    return any(map(OTHER_WORD.fullmatch, words))
-
-
-def is_dated(text: str, start: int, before: Number | None, end: int) -> bool:
-    """Whether the date right before a number is that of something else, or of the number before, which ends there."""
-    date = DATE_BEFORE.search(text, max(end, start - LONGEST_WORD), start)
-    if date is None:
-        return False
-    if before and not re.search(r"\w", text[end:date.start()]):
-        return before.is_another
-    return is_behind_another(text, date.start())
 
 
 def words_before(text: str, end: int) -> frozenset[str]:
@@ -216,7 +181,5 @@ def words_before(text: str, end: int) -> frozenset[str]:
 
 def replaced(other: re.Match) -> str:
     """What is put for something else. Where it began with a digit, one stands, so that what goes on into it, as the
-    1001 of 1001,24 Mai, is no number; and a date is told from others."""
-    if not other[0][0].isdecimal():
-        return "_"
-    return "0__" if DATE.match(other[0]) else "0_"
+    1001 of 1001,24 Mai, is no number."""
+    return "0_" if other[0][0].isdecimal() else "_"

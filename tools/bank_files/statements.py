@@ -100,6 +100,19 @@ def join_pages(pages: Iterable[Page]) -> list[Statement]:
     ]
 
 
+def beginnings(statements: list[Statement]) -> dict[str, list[Statement]]:
+    """By the account the statements that begin where none of them ends: where there are several, one between them is
+    missing, or some tell of the same days."""
+    ends = Counter((it.account, it.balances()[1]) for it in statements)
+    groups: dict[tuple[str, str], list[Statement]] = {}
+    for it in statements:
+        opening, _ = it.balances()
+        if ends[it.account, opening] < 1:
+            groups.setdefault((it.account, opening.currency), []).append(it)
+        ends[it.account, opening] -= 1
+    return {account: group for (account, _), group in groups.items() if len(group) > 1}
+
+
 def check_messages(messages: Iterable[Message]) -> None:
     """Refuses messages of which a part is missing: each that isn't the last of its message is followed by one."""
     parts = [(it.number, it.is_last) for it in messages if it.number is not None]

@@ -15,6 +15,8 @@ DASHES = dict.fromkeys(map(ord, "‐‑‒–—―−"), "-")
 MOST_PARTS = 200
 # Nor of a longer one: banks have some 500 signs at most.
 MOST_SIGNS = 5_000
+# The place of a reading among those of a text.
+PUT_TOGETHER = 1
 # The parts into which banks cut a text have so many signs; one that has is cut for certain, or by chance.
 WHOLE_PARTS = (27, 35, 65, 70, 140)
 # Where a number or a word may go on from one part of a text to the next.
