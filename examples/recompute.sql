@@ -3,22 +3,9 @@
 --
 --     sqlite3 copy.db < examples/recompute.sql
 --
--- Nothing is told where they are equal. Else a line has what it is of, the firm or the list, the month
--- or the day, whether it is kept or recomputed, and its values. Contributions are set beside the latest
--- reports and the rates, payments beside the bank lines that have a firm and the set-offs of
--- releases, pieces beside contributions and payments, and what is open of a contribution, with its
--- weight, beside the pieces. Of a claim the three parts of its release have to come to it, and a
--- payout list has to have the claims that are on it, with their sum. Behind these, `requests` has what
--- the tables count and what the accepted requests come to, as where a part is of another book, and
--- `request` one that its caller may not send, or whose answer has a number that its kind doesn't use. `said`
--- has what an accepted request says and no row has, or the other way round, `rates` an added block
--- that is missing, `report` a version out of turn or with another contribution than that of its lines, and
--- `wages` a latest report whose lines are others than those that were sent. `line` has what a bank file
--- says of a line and no row has, or the other way round, `file` one that has more records than were
--- answered, or fewer, and `serial` a serial out of turn. `run` has a run of another number of firms, `level`
--- a reminder of another level than the last one leads to, `reminder` one of other figures than those of its
--- day, `set-off` a release that set off something else than was in arrears on its day, `firm` a line whose
--- firm isn't that of its file, and `database` what SQLite itself finds wrong with the file.
+-- Nothing is told where they are equal. Else a line has what it is of, the firm or the list, the month or the day,
+-- whether it is kept or recomputed, and its values. docs/formats.md says of each what it tells, and what isn't looked
+-- at.
 
 -- Tables of this look alone, which the file doesn't get.
 DROP TABLE IF EXISTS temp.terms;
@@ -26,19 +13,28 @@ DROP TABLE IF EXISTS temp.reported;
 DROP TABLE IF EXISTS temp.sent;
 DROP TABLE IF EXISTS temp.came;
 DROP TABLE IF EXISTS temp.paid;
+DROP TABLE IF EXISTS temp.registered;
 DROP TABLE IF EXISTS temp.ended;
+DROP TABLE IF EXISTS temp.withdrawn;
+DROP TABLE IF EXISTS temp.earned;
+DROP TABLE IF EXISTS temp.changed;
 DROP TABLE IF EXISTS temp.stood;
 DROP TABLE IF EXISTS temp.owed;
 DROP TABLE IF EXISTS temp.payment;
 DROP TABLE IF EXISTS temp.figures;
 CREATE TEMP TABLE terms (
-  month INTEGER PRIMARY KEY, contribution INTEGER, interest INTEGER, reported_by INTEGER, due INTEGER);
+  month INTEGER PRIMARY KEY, contribution INTEGER, interest INTEGER, entitlement INTEGER, reported_by INTEGER,
+  due INTEGER);
 CREATE TEMP TABLE reported (employer INTEGER, month INTEGER, version INTEGER, cents INTEGER, day INTEGER, lines TEXT);
 CREATE TEMP TABLE sent (file INTEGER, day INTEGER, new INTEGER, place INTEGER, reference TEXT, said TEXT);
 CREATE TEMP TABLE came (reference TEXT, file INTEGER, day INTEGER, place INTEGER, serial INTEGER);
 CREATE TEMP TABLE paid (
   employer INTEGER, purpose TEXT, day INTEGER, serial INTEGER, cents INTEGER, request TEXT, since INTEGER);
+CREATE TEMP TABLE registered (employer INTEGER PRIMARY KEY, since INTEGER);
 CREATE TEMP TABLE ended (employer INTEGER, since INTEGER);
+CREATE TEMP TABLE withdrawn (no INTEGER PRIMARY KEY, since INTEGER);
+CREATE TEMP TABLE earned (employer INTEGER, worker INTEGER, cents INTEGER, since INTEGER, till INTEGER);
+CREATE TEMP TABLE changed (employer INTEGER, day INTEGER, changes INTEGER);
 CREATE TEMP TABLE stood (
   id INTEGER PRIMARY KEY, run INTEGER, claim INTEGER, employer INTEGER, day INTEGER, known INTEGER);
 CREATE TEMP TABLE owed (id INTEGER, month INTEGER, cents INTEGER, till INTEGER);
@@ -48,6 +44,7 @@ CREATE TEMP TABLE figures (
 CREATE INDEX temp.reported_by_month ON reported (employer, month, version);
 CREATE INDEX temp.sent_by_reference ON sent (reference);
 CREATE INDEX temp.came_by_reference ON came (reference);
+CREATE INDEX temp.earned_by_worker ON earned (worker);
 CREATE INDEX temp.paid_by_employer ON paid (employer, purpose);
 CREATE INDEX temp.payment_by_id ON payment (id);
 
@@ -56,7 +53,7 @@ CREATE INDEX temp.payment_by_id ON payment (id);
 INSERT INTO temp.terms WITH RECURSIVE
   months(month) AS (SELECT min(first) FROM rates UNION ALL
     SELECT month + 1 FROM months WHERE month < min(2399, (SELECT max(day) FROM requests) / 30 - 365))
-SELECT month, contribution, interest, strftime('%s', next || printf('%02d', report_day)) / 86400,
+SELECT month, contribution, interest, entitlement, strftime('%s', next || printf('%02d', report_day)) / 86400,
   strftime('%s', next || printf('%02d', due_day)) / 86400
 FROM (SELECT month, printf('%d-%02d-', 2000 + (month + 1) / 12, (month + 1) % 12 + 1) AS next FROM months)
 JOIN rates ON first = (SELECT max(first) FROM rates WHERE first <= month);
@@ -177,6 +174,14 @@ FROM (
   UNION ALL
   SELECT list, NULL, count(*), sum(paid), -1 FROM claims WHERE list IS NOT NULL GROUP BY list)
 GROUP BY no, items, total HAVING sum(side) <> 0;
+
+-- A claim of which something is paid out comes on the first list behind its release, which may be of the same day, and
+-- no other claim comes on any.
+SELECT 'listed', employer, claims.no, 'kept', list, date(released * 86400, 'unixepoch'), paid
+FROM claims LEFT JOIN lists ON lists.no = list
+WHERE paid = 0 AND list IS NOT NULL OR lists.day < released
+  OR released < (SELECT day FROM lists WHERE no = list - 1)
+  OR paid > 0 AND list IS NULL AND released < (SELECT max(day) FROM lists);
 
 WITH request AS (SELECT kind, a, b, CAST(substr(command, 1, 9) AS TEXT) AS verb FROM requests)
 SELECT 'requests', what, 'kept', kept, 'recomputed', recomputed FROM (
@@ -309,6 +314,10 @@ SELECT 'file', number, date(requests.day * 86400, 'unixepoch'), 'answered', a + 
 FROM requests LEFT JOIN sent ON file = number
 WHERE kind = 3 GROUP BY caller, number HAVING count(place) <> a + b;
 
+-- Each line came once as a new one.
+SELECT 'new', reference, 'files', count(file)
+FROM bank LEFT JOIN came USING (reference) GROUP BY reference HAVING count(file) <> 1;
+
 -- They follow each other in the order of their records.
 SELECT 'serial', reference, 'kept', serial, 'recomputed', wanted
 FROM (
@@ -329,15 +338,16 @@ FROM (
   WINDOW turn AS (ORDER BY serial))
 WHERE serial = last_serial OR day < last_day OR times > 1 OR serial NOT BETWEEN 1 AND (SELECT serial FROM meta);
 
+INSERT OR IGNORE INTO temp.registered
+SELECT CAST(substr(said, 10) AS INTEGER), day
+FROM (SELECT day, CAST(command AS TEXT) AS said FROM requests WHERE kind = 1) WHERE said LIKE 'employer %';
+
 -- A line that names a firm has it by its file where the firm was registered before, and where it was registered on a
 -- later day, by an assignment alone.
-WITH firm AS MATERIALIZED (
-  SELECT CAST(substr(said, 10) AS INTEGER) AS named, day AS since
-  FROM (SELECT day, CAST(command AS TEXT) AS said FROM requests WHERE kind = 1) WHERE said LIKE 'employer %')
-SELECT 'firm', reference, 'kept', employer, 'named', named
-FROM bank JOIN came USING (reference) JOIN firm USING (named)
-WHERE since < day AND employer IS NOT named OR since > day AND employer = named
-  AND 'assign ' || reference || ' ' || employer NOT IN (SELECT CAST(command AS TEXT) FROM requests WHERE kind = 1);
+SELECT 'firm', reference, 'kept', bank.employer, 'named', named
+FROM bank JOIN came USING (reference) JOIN registered ON registered.employer = named
+WHERE since < day AND bank.employer IS NOT named OR since > day AND bank.employer = named
+  AND 'assign ' || reference || ' ' || named NOT IN (SELECT CAST(command AS TEXT) FROM requests WHERE kind = 1);
 
 SELECT 'run', no, 'kept', firms, 'recomputed', count(run)
 FROM runs LEFT JOIN reminders ON run = no GROUP BY no HAVING firms <> count(run);
@@ -364,19 +374,109 @@ INSERT INTO temp.ended
 SELECT CAST(substr(said, 5) AS INTEGER), day
 FROM (SELECT day, CAST(command AS TEXT) AS said FROM requests WHERE kind = 1) WHERE said LIKE 'end %';
 
+INSERT OR IGNORE INTO temp.withdrawn
+SELECT CAST(substr(said, instr(said, ' ')) AS INTEGER), day
+FROM (SELECT day, substr(CAST(command AS TEXT), 10) AS said FROM requests
+  WHERE kind = 1 AND CAST(substr(command, 1, 9) AS TEXT) = 'withdraw ');
+
+-- What the lines of each report earned the workers for whom something was claimed, until the report was corrected.
+INSERT INTO temp.earned
+SELECT employer, CAST(value AS INTEGER) AS worker, substr(value, instr(value, ':') + 1) * entitlement / 10000, day, till
+FROM (SELECT *, lead(day) OVER (PARTITION BY employer, month ORDER BY version) AS till FROM reported)
+JOIN terms USING (month), json_each('[' || replace(json_quote(trim(lines)), ' ', '","') || ']')
+WHERE worker IN (SELECT worker FROM claims);
+
+-- A claim is for a worker whom its firm has reported, and with those before it of no more than the worker has earned.
+-- Where a report of the worker came or went on the day of the claim, it isn't looked at.
+SELECT 'balance', employer, no, date(made * 86400, 'unixepoch'), 'claimed', cents + before, 'earned', total
+FROM (
+  SELECT *, (
+      SELECT coalesce(sum(earlier.cents), 0) FROM claims AS earlier LEFT JOIN withdrawn USING (no)
+      WHERE earlier.worker = claims.worker AND earlier.no < claims.no AND since <= claims.made IS NOT TRUE) AS before, (
+      SELECT coalesce(sum(earned.cents), 0) FROM earned
+      WHERE earned.worker = claims.worker AND since < made AND till < made IS NOT TRUE) AS total
+  FROM claims) AS asked
+WHERE NOT EXISTS (SELECT * FROM earned WHERE earned.worker = asked.worker AND made IN (since, till))
+  AND (cents + before > total OR NOT EXISTS (
+    SELECT * FROM earned
+    WHERE earned.worker = asked.worker AND earned.employer = asked.employer AND since < made
+      AND till < made IS NOT TRUE));
+
+-- What a rule would have refused on its day: what is of a firm before its registration (11) or outside of its
+-- membership (13), a report, rates and a value date ahead (14, 19, 22), an assignment before its line came (23), what
+-- becomes of a claim before it was made (26), and a membership that begins before all rates (32).
+SELECT 'rule', rule, what || iif(month IS NULL, '', printf(' %d-%02d', 2000 + month / 12, month % 12 + 1)),
+  date(day * 86400, 'unixepoch')
+FROM (
+  SELECT 11 AS rule, 'report ' || employer AS what, month, day FROM reported JOIN registered USING (employer)
+  WHERE day < since
+  UNION ALL
+  SELECT 11, 'claim ' || no, NULL, made FROM claims JOIN registered USING (employer) WHERE made < since
+  UNION ALL
+  SELECT 11, 'payment ' || serial, NULL, paid.since FROM paid JOIN registered USING (employer)
+  WHERE paid.since < registered.since
+  UNION ALL
+  SELECT 11, 'end ' || employer, NULL, ended.since FROM ended JOIN registered USING (employer)
+  WHERE ended.since < registered.since
+  UNION ALL
+  SELECT 13, 'report ' || employer, month, day FROM reported JOIN employers ON no = employer
+  WHERE month NOT BETWEEN start AND coalesce(last, month)
+  UNION ALL
+  SELECT 14, 'report ' || employer, month, day FROM reported
+  WHERE month > strftime('%Y', day * 86400, 'unixepoch') * 12 + strftime('%m', day * 86400, 'unixepoch') - 24001
+  UNION ALL
+  SELECT 19, said, NULL, day FROM (SELECT CAST(command AS TEXT) AS said, day FROM requests WHERE kind = 1)
+  WHERE said LIKE 'rate %' AND substr(said, 6, 7) <= strftime('%Y-%m', day * 86400, 'unixepoch')
+  UNION ALL
+  SELECT 22, 'line ' || reference, NULL, day FROM bank JOIN came USING (reference) WHERE value > day
+  UNION ALL
+  SELECT 23, 'assign ' || reference, NULL, since FROM came JOIN paid USING (serial) WHERE since < came.day
+  UNION ALL
+  SELECT 26, 'release ' || no, NULL, released FROM claims WHERE released < made
+  UNION ALL
+  SELECT 26, 'withdraw ' || no, NULL, since FROM withdrawn JOIN claims USING (no) WHERE since < made
+  UNION ALL
+  SELECT 32, 'employer ' || no, NULL, NULL FROM employers WHERE start < (SELECT min(first) FROM rates));
+
+-- How many requests of each day changed something of a firm. Their order within the day stands nowhere.
+INSERT INTO temp.changed
+SELECT employer, day, count(*)
+FROM (
+  SELECT employer, day FROM reported
+  UNION ALL
+  SELECT employer, since FROM (SELECT DISTINCT employer, since, request FROM paid)
+  UNION ALL
+  SELECT employer, since FROM ended)
+GROUP BY employer, day;
+
+-- A run reminds each firm of which a month is missing, or something is in arrears, but for those that were reminded
+-- fewer than 14 days before. Not looked at are firms that owe interest alone, and those of which something was changed,
+-- or which were registered, on the day of the run.
+WITH unreminded AS (
+  SELECT no AS run, runs.day, registered.employer
+  FROM runs JOIN registered ON since < runs.day
+  LEFT JOIN changed ON changed.employer = registered.employer AND changed.day = runs.day
+  WHERE changes IS NULL AND NOT EXISTS (
+    SELECT * FROM reminders JOIN runs AS sent ON sent.no = run
+    WHERE reminders.employer = registered.employer AND run <= runs.no AND sent.day > runs.day - 14))
+SELECT 'left out', unreminded.employer, run
+FROM unreminded JOIN employers ON no = unreminded.employer LEFT JOIN ended ON ended.employer = no
+WHERE EXISTS (
+    SELECT * FROM terms
+    WHERE month BETWEEN start AND CASE WHEN since < unreminded.day THEN last ELSE month END
+      AND reported_by < unreminded.day AND NOT EXISTS (
+        SELECT * FROM reported
+        WHERE reported.employer = no AND reported.month = terms.month AND reported.day < unreminded.day))
+  OR (
+    SELECT sum(cents) FROM (
+      SELECT cents, max(version) FROM reported JOIN terms USING (month)
+      WHERE employer = no AND reported.day < unreminded.day AND terms.due < unreminded.day GROUP BY month))
+  > (SELECT coalesce(sum(cents), 0) FROM paid WHERE employer = no AND purpose = 'C' AND since < unreminded.day);
+
 -- What was known of each firm that was reminded, or whose claim was released: what was accepted on the days before and,
--- where one request of the run's own day changed something of the firm, perhaps that too. The order within a day stands
--- nowhere, so what several such requests leave open, or one on the day of a release, isn't looked at.
+-- where one request of the run's own day changed something of the firm, perhaps that too. What several such requests
+-- leave open, or one on the day of a release, isn't looked at.
 WITH
-changed AS (
-  SELECT employer, day, count(*) AS changes
-  FROM (
-    SELECT employer, day FROM reported
-    UNION ALL
-    SELECT employer, since FROM (SELECT DISTINCT employer, since, request FROM paid)
-    UNION ALL
-    SELECT employer, since FROM ended)
-  GROUP BY employer, day),
 asked AS (
   SELECT run, NULL AS claim, employer, day, coalesce(changes, 0) AS changes
   FROM reminders JOIN runs ON no = run LEFT JOIN changed USING (employer, day)

@@ -197,9 +197,10 @@ class OfficeUnderTest(ProgramUnderTest):
         self.assertEqual(self.run_program("look", "fund.db")[0], 0)
         return self.kept()
 
-    def change(self, statement):
+    def change(self, *statements):
         store = sqlite3.connect(self.folder / "fund.db")
-        store.execute(statement)
+        for statement in statements:
+            store.execute(statement)
         store.commit()
         store.close()
 

@@ -18,6 +18,61 @@ from office_under_test import (DAY_SERVED, FEBRUARY, HEADER, Office, OfficeUnder
                                register, report)
 from program_under_test import ROOT, run_tests  # noqa: E402
 
+RUN = "POST", "/reminders", ""
+PAYOUTS = "POST", "/payouts", ""
+RATE = "rate 2026-01 1950 15 20 90 142"
+ADDED_RATES = "POST", "/rates", json.dumps({"from": "2026-01", "contribution": 1950, "report_day": 15, "due_day": 20,
+                                            "interest": 90, "entitlement": 142})
+# What is told of a store to which `requests_of_each_kind` were sent, by what is made wrong in it.
+SAID = {
+    "UPDATE claims SET employer = 1002 WHERE no = 1": {
+        ("said", "kept", "claim 1002 1001 100000: 1"), ("said", "requested", "claim 1001 1001 100000: 1")},
+    "UPDATE claims SET worker = 7 WHERE no = 3": {
+        ("said", "kept", "claim 1001 7 2000: 3"), ("said", "requested", "claim 1001 1001 2000: 3")},
+    "UPDATE bank SET employer = NULL WHERE reference = 'B9'": {("said", "requested", "assign B9 1001")},
+    "UPDATE bank SET employer = 1002 WHERE reference = 'B9'": {
+        ("said", "kept", "assign B9 1002"), ("said", "requested", "assign B9 1001")},
+    "DELETE FROM rates WHERE first = 312": {("rates", "requested", RATE)},
+    "UPDATE rates SET interest = 91 WHERE first = 312": {("rates", "requested", RATE)},
+    "UPDATE employers SET name = 'Bau Süd'": {
+        ("said", "kept", "employer 1001 2024-01 Bau Süd"), ("said", "requested", "employer 1001 2024-01 Bau")},
+    "UPDATE employers SET last = last + 1": {
+        ("said", "kept", "end 1001 2024-07"), ("said", "requested", "end 1001 2024-06")},
+    "UPDATE wages SET worker = 7 WHERE month = 288": {("wages", 1001, "2024-01")},
+    "UPDATE wages SET gross = gross + 1 WHERE month = 288": {("wages", 1001, "2024-01")},
+    "DELETE FROM wages WHERE month = 289": {("wages", 1001, "2024-02")},
+}
+# Files with each line end, with quotes in many places, with a mark in front and with a quotation that is never closed. A
+# line comes twice in one file, another one in two files, some have no firm.
+FILES = (
+    '\ufeffreference,"value_date",employer,cents,purpose,note\r\n\r\n'
+    'B1,2024-02-25,1001,150000,,"a ""b"", c"\r\nB2,"2024-04-21","",5,"I",say "x"\r\n',
+    HEADER + '"B\\3",2024-04-22,9999,7,C,"a"b"c\nB2,2024-04-21,,5,I,"say ""x"""\n'
+    '"B,4",2024-04-22,,8,,\n"B,4",2024-04-22,,8,C,""\nB5,2024-04-20,,9,,Grüße',
+    HEADER.strip().replace("note", '"note"') + '\rB6,2024-04-22,,10,,""""\rB7,2024-04-22,,11,,"never, ""closed')
+
+
+def requests_of_each_kind(office, firm):
+    """The line of no firm is given to it; something of 600,000 cents stays open, so that the firm is reminded."""
+    office.bank([(firm, "2024-02-20", 550_000, "C")])
+    office.done("POST", "/bank", HEADER + "B9,2024-04-25,,5000,C,\n")
+    office.done("POST", "/assign", '{"employer":1001,"reference":"B9"}')
+    office.done(*RUN)
+    for cents in (100_000, 1_000, 2_000):
+        office.done(*claim(cents, worker=1001))
+    for path in ("/claims/1/release", "/employers/1001/claims/2/withdraw", "/payouts"):
+        office.done("POST", path)
+    office.done("POST", "/employers/1001/end", '{"last":"2024-06"}')
+    office.done(*ADDED_RATES)
+
+
+def claim(cents, worker=7):
+    return "POST", "/employers/1001/claims", json.dumps({"cents": cents, "worker": worker})
+
+
+def release(number):
+    return "POST", f"/claims/{number}/release", ""
+
 
 class Recompute(OfficeUnderTest):
     def test_what_is_told_from_outside(self):
@@ -59,8 +114,7 @@ class Recompute(OfficeUnderTest):
             # (contributions of 600,000 cents are due; a worker is entitled to 427,500)
             office.bank([(firm, "2024-02-20", 550_000, "C")])
             for cents in (100_000, 1_000):
-                body = json.dumps({"worker": firm.number, "cents": cents})
-                office.done("POST", f"/employers/{firm.number}/claims", body)
+                office.done(*claim(cents, worker=1001))
             for path in ("/claims/1/release", "/claims/2/release", "/payouts"):
                 office.done("POST", path)
 
@@ -114,6 +168,8 @@ class Recompute(OfficeUnderTest):
             "DELETE FROM requests WHERE kind = 2": {("requests", 5, 4), ("reports", 1, 0)},
             "INSERT INTO bank VALUES ('B7', 7, 0, NULL, NULL, 1, 'C', '')": {("bank lines", 2, 1), ("last serial", 1, 2)},
             "INSERT INTO claims VALUES (1, 1001, 7, 1, 0, 0, NULL, 0, 0, 0, NULL)": {("claims", 1, 0), ("last claim", 0, 1)},
+            "INSERT INTO requests SELECT caller, 9, day, command, kind, a, b, c FROM requests WHERE number = 1": {
+                ("requests", 5, 6), ("firms", 1, 2)},
             "DELETE FROM runs": {("runs", 0, 1), ("last run", 1, 0)},
             "DELETE FROM reminders": {("reminders", 0, 1)},
         }.items():
@@ -125,43 +181,11 @@ class Recompute(OfficeUnderTest):
 
     def test_what_is_told_of_what_requests_say(self):
         """What an accepted request says, and answered, is set beside the row that it made."""
-        def month(office, firm):
-            # (the line of no firm is given to it; something of 600,000 cents stays open, so that the firm is reminded)
-            office.bank([(firm, "2024-02-20", 550_000, "C")])
-            office.done("POST", "/bank", HEADER + "B9,2024-04-25,,5000,C,\n")
-            office.done("POST", "/assign", '{"employer":1001,"reference":"B9"}')
-            office.done("POST", "/reminders")
-            for cents in (100_000, 1_000, 2_000):
-                office.done("POST", "/employers/1001/claims", json.dumps({"worker": 1001, "cents": cents}))
-            for path in ("/claims/1/release", "/employers/1001/claims/2/withdraw", "/payouts"):
-                office.done("POST", path)
-            office.done("POST", "/employers/1001/end", '{"last":"2024-06"}')
-            office.done("POST", "/rates", json.dumps({"from": "2026-01", "contribution": 1950, "report_day": 15,
-                                                      "due_day": 20, "interest": 90, "entitlement": 142}))
-
         reports = [lambda office, firm, month=month: office.report(firm, month, 1_000_000) for month in (1, 2, 3)]
-        self.one_firm(*reports, month)
+        self.one_firm(*reports, requests_of_each_kind)
         self.assertEqual(self.recomputed(), [])
         whole = (self.folder / "fund.db").read_bytes()
-        rate = "rate 2026-01 1950 15 20 90 142"
-        for statement, told in {
-            "UPDATE claims SET employer = 1002 WHERE no = 1": {
-                ("said", "kept", "claim 1002 1001 100000: 1"), ("said", "requested", "claim 1001 1001 100000: 1")},
-            "UPDATE claims SET worker = 7 WHERE no = 3": {
-                ("said", "kept", "claim 1001 7 2000: 3"), ("said", "requested", "claim 1001 1001 2000: 3")},
-            "UPDATE bank SET employer = NULL WHERE reference = 'B9'": {("said", "requested", "assign B9 1001")},
-            "UPDATE bank SET employer = 1002 WHERE reference = 'B9'": {
-                ("said", "kept", "assign B9 1002"), ("said", "requested", "assign B9 1001")},
-            "DELETE FROM rates WHERE first = 312": {("rates", "requested", rate)},
-            "UPDATE rates SET interest = 91 WHERE first = 312": {("rates", "requested", rate)},
-            "UPDATE employers SET name = 'Bau Süd'": {
-                ("said", "kept", "employer 1001 2024-01 Bau Süd"), ("said", "requested", "employer 1001 2024-01 Bau")},
-            "UPDATE employers SET last = last + 1": {
-                ("said", "kept", "end 1001 2024-07"), ("said", "requested", "end 1001 2024-06")},
-            "UPDATE wages SET worker = 7 WHERE month = 288": {("wages", 1001, "2024-01")},
-            "UPDATE wages SET gross = gross + 1 WHERE month = 288": {("wages", 1001, "2024-01")},
-            "DELETE FROM wages WHERE month = 289": {("wages", 1001, "2024-02")},
-        }.items():
+        for statement, told in SAID.items():
             with self.subTest(statement):
                 self.write("fund.db", whole)
                 self.change(statement)
@@ -186,15 +210,8 @@ class Recompute(OfficeUnderTest):
         self.write("fund.db", whole)
 
     def test_what_is_told_of_bank_files(self):
-        """Files with each line end, with quotes in many places, with a mark in front and with a quotation that is never
-        closed. A line comes twice in one file, another one in two files, some have no firm."""
-        files = (
-            '\ufeffreference,"value_date",employer,cents,purpose,note\r\n\r\n'
-            'B1,2024-02-25,1001,150000,,"a ""b"", c"\r\nB2,"2024-04-21","",5,"I",say "x"\r\n',
-            HEADER + '"B\\3",2024-04-22,9999,7,C,"a"b"c\nB2,2024-04-21,,5,I,"say ""x"""\n'
-            '"B,4",2024-04-22,,8,,\n"B,4",2024-04-22,,8,C,""\nB5,2024-04-20,,9,,Grüße',
-            HEADER.strip().replace("note", '"note"') + '\rB6,2024-04-22,,10,,""""\rB7,2024-04-22,,11,,"never, ""closed')
-        self.one_firm(lambda office, firm: [office.done("POST", "/bank", file.encode()) for file in files])
+        """Each field of a line is told, and the number of records and the serials."""
+        self.one_firm(lambda office, firm: [office.done("POST", "/bank", file.encode()) for file in FILES])
 
         def told(*records):
             return {("line", side, json.dumps(record, ensure_ascii=False, separators=(",", ":")))
@@ -227,6 +244,97 @@ class Recompute(OfficeUnderTest):
                 ("serial", "B6", "kept", 8, "recomputed", 7), ("serial", "B7", "kept", 7, "recomputed", 8),
                 ("serial", "B6", "kept", 8)},
         }, "line", "file", "serial")
+
+    def test_what_is_told_of_lines_that_came_twice(self):
+        """The second file has a line of the first one again, and says so in its answer."""
+        self.worked((DAY_SERVED, [bank("B1,2024-04-01,,1,C,", "B2,2024-04-01,,2,C,"),
+                                  bank("B1,2024-04-01,,1,C,", "B3,2024-04-01,,3,C,")]))
+        self.told_of({
+            "UPDATE requests SET a = 2, b = 0 WHERE b = 1": {("new", "B1", "files", 2)},
+            "UPDATE requests SET a = 1, b = 1 WHERE b = 0": {("new", "B1", "files", 0)},
+        }, "new")
+
+    def test_what_is_told_of_claims_on_another_list(self):
+        """Two claims of one amount, each released before a list of its own, and an open one."""
+        self.worked(
+            ("2024-04-30", [register(1001), report(1001, "2024-01", 1_000_000), bank("B1,2024-02-20,1001,200000,C,"),
+                            report(1001, "2024-02", 0), report(1001, "2024-03", 0), *[claim(1_000)] * 3, release(1)]),
+            ("2024-05-01", [PAYOUTS]), ("2024-05-02", [release(2)]), ("2024-05-03", [PAYOUTS]))
+
+        def told(number, kept, released, paid=1_000):
+            return "listed", 1001, number, "kept", kept, released, paid
+
+        first, second = "2024-04-30", "2024-05-02"
+        self.told_of({
+            "UPDATE claims SET list = 3 - list": {told(1, 2, first), told(2, 1, second)},
+            "UPDATE claims SET list = NULL": {told(1, None, first), told(2, None, second)},
+            "UPDATE claims SET list = 2 WHERE no = 3": {told(3, 2, None, 0)},
+            # What is wholly set off comes on none.
+            "UPDATE claims SET list = NULL, paid = 0": set(),
+            # A list of the day of a release may have come before it.
+            "UPDATE lists SET day = day - 1": set(),
+        }, "listed")
+
+    def test_what_is_told_of_requests_that_a_rule_would_have_refused(self):
+        """All is sent on the days on which it may be; then a day is changed, or what is to be there before."""
+        reports = [report(1001, f"2024-0{month}", gross) for month, gross in ((1, 1_000_000), (2, 0), (3, 0))]
+        self.worked(
+            ("2024-01-10", [register(1001)]),
+            ("2024-04-20", [*reports, bank("B1,2024-02-19,1001,200000,C,", "B2,2024-04-19,,1,C,"), *[claim(1_000)] * 2]),
+            ("2024-04-22", [("POST", "/assign", '{"employer":1001,"reference":"B2"}'),
+                            ("POST", "/employers/1001/claims/1/withdraw", ""), release(2)]),
+            ("2024-04-25", [("POST", "/employers/1001/end", '{"last":"2024-06"}'), ADDED_RATES]))
+
+        def told(rule, *what, day="2024-04-20"):
+            return {("rule", rule, it, day) for it in what}
+
+        day = "UPDATE requests SET day = day {} WHERE CAST(command AS TEXT) LIKE '{}%'".format
+        first, *others = "report 1001 2024-01", "report 1001 2024-02", "report 1001 2024-03"
+        assigned = "2024-04-22"
+        self.told_of({
+            day("+ 200", "employer"): {
+                *told(11, first, *others, "claim 1", "claim 2", "payment 1"), *told(11, "payment 2", day=assigned),
+                *told(11, "end 1001", day="2024-04-25")},
+            "UPDATE employers SET start = start + 1": told(13, first),
+            "UPDATE employers SET last = 288": told(13, *others),
+            day("- 60", "report 1001 2024-03"): told(14, others[1], day="2024-02-20"),
+            day("+ 615", "rate"): set(),
+            day("+ 616", "rate"): told(19, RATE, day="2026-01-01"),
+            "UPDATE requests SET day = day - 1 WHERE kind = 3": set(),
+            "UPDATE requests SET day = day - 2 WHERE kind = 3": told(22, "line B2", day="2024-04-18"),
+            "UPDATE requests SET day = day + 2 WHERE kind = 3": set(),
+            "UPDATE requests SET day = day + 3 WHERE kind = 3": told(23, "assign B2", day=assigned),
+            "UPDATE claims SET made = made + 2": set(),
+            "UPDATE claims SET made = made + 3": told(26, "withdraw 1", "release 2", day=assigned),
+            "UPDATE rates SET first = 289 WHERE first = 288": told(32, "employer 1001", day=None),
+        }, "rule")
+
+    def test_what_is_told_of_claims_beyond_the_balance(self):
+        """January earns worker 7 142.50 with the first firm, and 14.25 with the second one until it is corrected to nothing.
+        Claims 1 and 3 are of 100.00 and 40.00, one of 50.00 between them is withdrawn."""
+        self.worked(
+            ("2024-02-01", [register(1001), register(1002), report(1001, "2024-01", 100_000),
+                            report(1002, "2024-01", 10_000)]),
+            ("2024-02-02", [claim(10_000), claim(5_000)]),
+            ("2024-02-03", [("POST", "/employers/1001/claims/2/withdraw", ""), correction(1002, "2024-01", 0)]),
+            ("2024-02-04", [claim(4_000)]))
+
+        def told(number, day, claimed, earned):
+            return {("balance", 1001, number, day, "claimed", claimed, "earned", earned)}
+
+        self.told_of({
+            "UPDATE claims SET cents = 4250 WHERE no = 3": set(),
+            "UPDATE claims SET cents = 4251 WHERE no = 3": told(3, "2024-02-04", 14_251, 14_250),
+            "UPDATE claims SET cents = 15675 WHERE no = 1": {
+                *told(2, "2024-02-02", 20_675, 15_675), *told(3, "2024-02-04", 19_675, 14_250)},
+            "UPDATE requests SET day = day + 2 WHERE CAST(command AS TEXT) LIKE 'withdraw %'": told(
+                3, "2024-02-04", 19_000, 14_250),
+            "UPDATE claims SET employer = 1002 WHERE no = 3": {
+                ("balance", 1002, 3, "2024-02-04", "claimed", 14_000, "earned", 14_250)},
+            # Before the correction the second firm had the worker, and on its day perhaps.
+            "UPDATE claims SET employer = 1002 WHERE no = 2": set(),
+            "UPDATE claims SET cents = 9999999, made = made - 1 WHERE no = 3": set(),
+        }, "balance")
 
     def test_what_is_told_of_the_firm_of_a_line(self):
         """Lines that came before their firm was registered, and behind it: what is told where the accounts follow."""
@@ -263,18 +371,17 @@ class Recompute(OfficeUnderTest):
     def test_what_is_told_of_reminders(self):
         """January owes 2,000.00 from 2024-02-20 on; the other months are missing from the 16th of the next one on. One
         per cent is borne for each month begun. The figures are reckoned by hand."""
-        run = "POST", "/reminders", ""
         reported = [report(1001, "2024-02", 0), report(1001, "2024-03", 0)]
         self.worked(
             ("2024-03-20", [register(1001), report(1001, "2024-01", 1_000_000)]),
-            ("2024-04-10", [run]),
+            ("2024-04-10", [RUN]),
             # Of 2,000.00 1,500.00 were paid in the first month.
-            ("2024-04-22", [bank("B1,2024-02-25,1001,150000,C,")]), ("2024-04-24", [run]),
+            ("2024-04-22", [bank("B1,2024-02-25,1001,150000,C,")]), ("2024-04-24", [RUN]),
             # On the day itself, by one file: before it 500.00 were open, and no interest was paid.
-            ("2024-05-08", [bank("B2,2024-05-08,1001,50000,C,", "B3,2024-05-08,1001,1000,I,"), run]),
+            ("2024-05-08", [bank("B2,2024-05-08,1001,50000,C,", "B3,2024-05-08,1001,1000,I,"), RUN]),
             # Two requests of the firm on the day itself.
-            ("2024-05-22", [*reported, run]),
-            ("2024-07-22", [run]))
+            ("2024-05-22", [*reported, RUN]),
+            ("2024-07-22", [RUN]))
         rows = [(1, 1001, 1, 1, 289, 200_000, 4_000), (2, 1001, 2, 2, 289, 50_000, 3_000),
                 (3, 1001, 3, 2, 289, 0, 2_000), (4, 1001, 3, 1, 291, 0, 2_000), (5, 1001, 1, 3, 291, 0, 2_000)]
         self.assertEqual(self.rows("SELECT * FROM reminders"), rows)
@@ -297,8 +404,26 @@ class Recompute(OfficeUnderTest):
             "UPDATE reminders SET missing = 0, first = NULL, interest = 0 WHERE run = 4": {
                 ("level", 1001, 4, "kept", 3, "recomputed", 3)},
             "UPDATE runs SET firms = 2 WHERE no = 4": {("run", 4, "kept", 2, "recomputed", 1)},
-            "DELETE FROM reminders WHERE run = 5": {("run", 5, "kept", 1, "recomputed", 0)},
-        }, "reminder", "level", "run")
+            "DELETE FROM reminders WHERE run = 5": {("run", 5, "kept", 1, "recomputed", 0), ("left out", 1001, 5)},
+            # Without it the file of that day may have come first.
+            "DELETE FROM reminders WHERE run = 3": {("run", 3, "kept", 1, "recomputed", 0)},
+        }, "reminder", "level", "run", "left out")
+
+    def test_what_is_told_of_firms_that_a_run_left_out(self):
+        """The first firm owes the contribution of January alone, of the others January is missing; the last one was
+        registered on the day of the run, perhaps behind it. The second run is of the fourth firm alone."""
+        self.worked(
+            ("2024-03-10", [register(1001), report(1001, "2024-01", 1_000_000), report(1001, "2024-02", 0), register(1002)]),
+            ("2024-03-12", [register(1003), RUN]), ("2024-03-13", [register(1004)]), ("2024-03-14", [RUN]))
+        self.told_of({
+            "DELETE FROM reminders WHERE employer = 1001": {("left out", 1001, 1), ("left out", 1001, 2)},
+            "DELETE FROM reminders WHERE employer = 1002": {("left out", 1002, 1), ("left out", 1002, 2)},
+            "DELETE FROM reminders WHERE employer = 1003": {("left out", 1003, 2)},
+            "DELETE FROM reminders WHERE employer = 1004": {("left out", 1004, 2)},
+            # As if it had been registered behind the second run, or had its report in time.
+            "UPDATE requests SET day = day + 1 WHERE CAST(command AS TEXT) LIKE 'employer 1004 %'": set(),
+        }, "left out")
+
 
     def test_what_is_told_of_set_offs(self):
         """January owes 2,000.00, of which 1,900.00 were paid in the first month, and the rest is open in it. So of 500.00
@@ -306,8 +431,7 @@ class Recompute(OfficeUnderTest):
         self.worked(
             ("2024-03-12", [register(1001), report(1001, "2024-01", 1_000_000), report(1001, "2024-02", 0),
                             bank("B1,2024-02-25,1001,190000,C,")]),
-            ("2024-03-18", [("POST", "/employers/1001/claims", '{"cents":50000,"worker":7}'),
-                            ("POST", "/claims/1/release", "")]))
+            ("2024-03-18", [claim(50_000), release(1)]))
 
         def told(to_contributions, to_interest, missing=None):
             return {("set-off", 1001, 1, "kept", to_contributions, to_interest, "recomputed", 10_000, 2_000, missing)}
@@ -319,6 +443,14 @@ class Recompute(OfficeUnderTest):
             "UPDATE requests SET day = day + 7 WHERE CAST(command AS TEXT) LIKE 'report 1001 2024-02%'":
                 told(10_000, 2_000, FEBRUARY),
         }, "set-off")
+
+    def test_what_is_told_of_the_database(self):
+        """An index has other rows than its table, as where its pages are of another file."""
+        self.worked((DAY_SERVED, [register(1001), report(1001, "2024-01", 1_000_000), claim(1_000)]))
+        self.assertEqual(self.recomputed(), [])
+        self.change("PRAGMA writable_schema = ON",
+                    "UPDATE sqlite_schema SET sql = replace(sql, 'released', 'made') WHERE name = 'claims_by_release'")
+        self.assertEqual(self.recomputed(), [("database", "row 1 missing from index claims_by_release")])
 
     @unittest.skipUnless(shutil.which("sqlite3"), "sqlite3 isn't here")
     def test_a_store_is_left_as_it_is(self):
