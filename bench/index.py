@@ -128,6 +128,12 @@ def read_options():
     return parser.parse_args()
 
 
+def measured(builds, folder):
+    """What each kind takes, by size and build."""
+    return {(kind, size, build.name): spent for size in SIZES for build in builds
+            for kind, spent in build.measure(size, folder).items()}
+
+
 def main():
     options = read_options()
     builds = [Build("program", options.program)]
@@ -141,11 +147,8 @@ def main():
                 build.make(size, firms, folder)
         for turn in range(options.repeats):
             print(f"measuring, {turn + 1} of {options.repeats}", file=sys.stderr)
-            for size in SIZES:
-                for build in builds:
-                    for kind, spent in build.measure(size, folder).items():
-                        key = kind, size, build.name
-                        found[key] = tuple(map(min, found.get(key, spent), spent))
+            for key, spent in measured(builds, folder).items():
+                found[key] = tuple(map(min, found.get(key, spent), spent))
     show(found, builds)
 
 

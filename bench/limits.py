@@ -38,7 +38,7 @@ from itertools import zip_longest
 
 sys.dont_write_bytecode = True
 import server  # noqa: E402
-from pieces import Account, RATE_ROWS, begun_months, contribution  # noqa: E402
+from accounts import RATE_ROWS, Account, begun_months, contribution  # noqa: E402
 from serve import row, tell  # noqa: E402
 from server import HEADER, Server, option_parser, request  # noqa: E402
 from suspense import Desk, FILE, FIRST  # noqa: E402

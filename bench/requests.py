@@ -59,6 +59,12 @@ def measure(store, size, pages):
             for line, count in zip(lines, COUNTS.values(), strict=True)]
 
 
+def measured(stores, pages):
+    """What each kind takes, by size."""
+    return {(kind, size): spent for size, store in stores.items()
+            for kind, spent in zip(COUNTS, measure(store, size, pages), strict=True)}
+
+
 def main():
     words = argparse.ArgumentParser(
         description=__doc__, formatter_class=argparse.RawDescriptionHelpFormatter)
@@ -73,9 +79,8 @@ def main():
             make(store, size, given.pages)
         for turn in range(given.repeats):
             print(f"measuring, {turn + 1} of {given.repeats}", file=sys.stderr)
-            for size, store in stores.items():
-                for kind, spent in zip(COUNTS, measure(store, size, given.pages), strict=True):
-                    found[kind, size] = least(found.get((kind, size)), spent)
+            for key, spent in measured(stores, given.pages).items():
+                found[key] = least(found.get(key), spent)
     show(found)
 
 

@@ -40,6 +40,12 @@ def measure(store, kind, size, pages):
     return int(calls) / CALLS / 1_000, int(commit) / CALLS / 1_000
 
 
+def measured(stores, pages):
+    """What each call takes, by size."""
+    return {(kind, size): measure(store, kind, size, pages)
+            for kind in LOOKS + WRITES + SCANS for size, store in stores.items()}
+
+
 def main():
     words = argparse.ArgumentParser(
         description=__doc__, formatter_class=argparse.RawDescriptionHelpFormatter)
@@ -55,10 +61,8 @@ def main():
             PROGRAM.run(store, "make", size)
         for turn in range(given.repeats):
             print(f"measuring, {turn + 1} of {given.repeats}", file=sys.stderr)
-            for kind in LOOKS + WRITES + SCANS:
-                for size, store in stores.items():
-                    spent = measure(store, kind, size, given.pages)
-                    found[kind, size] = least(found.get((kind, size)), spent)
+            for key, spent in measured(stores, given.pages).items():
+                found[key] = least(found.get(key), spent)
     show(found)
 
 

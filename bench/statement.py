@@ -37,9 +37,9 @@ from itertools import zip_longest
 from pathlib import Path
 
 sys.dont_write_bytecode = True
+from accounts import Account, begun_months  # noqa: E402
 from documents import Measured  # noqa: E402
 from limits import count_alike, day_number, read_store  # noqa: E402
-from pieces import Account, begun_months  # noqa: E402
 from serve import print_machine, row, tell  # noqa: E402
 from server import HEADER, Server, option_parser  # noqa: E402
 from suspense import Desk, FILE  # noqa: E402

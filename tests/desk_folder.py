@@ -11,6 +11,7 @@ import json
 import os
 import resource
 import sys
+import threading
 from pathlib import Path
 from unittest import mock
 
@@ -22,6 +23,7 @@ from program_under_test import ROOT, run_tests  # noqa: E402
 sys.path.append(str(ROOT / "tools"))
 from desk_server.commands import command  # noqa: E402
 from desk_server.journal import Journal, Lines  # noqa: E402
+from desk_server.recent import Recent  # noqa: E402
 
 
 class StoreOfBefore(DeskUnderTest):
@@ -145,6 +147,24 @@ class Files(DeskUnderTest):
         self.assertIsNone(journal.pending)
         self.assertFalse(journal.pending_path.exists())
         self.assertEqual([it[:2] for it in self.logged()], [(2, "repeated")])
+
+    def test_firms_that_are_opened_at_once(self):
+        """In two windows: while the first firm is written down, the second one comes."""
+        recent = Recent(self.folder)
+        second = threading.Thread(target=recent.add, args=(1002, "Bau West"))
+        whole = Path.write_text
+
+        def write(path, *words, **options):
+            if second.ident is None:
+                second.start()
+                second.join(0.5)
+            return whole(path, *words, **options)
+
+        with mock.patch.object(Path, "write_text", write):
+            recent.add(1001, "Bau Nord")
+            second.join()
+        firms = [{"employer": "1002", "name": "Bau West"}, {"employer": "1001", "name": "Bau Nord"}]
+        self.assertEqual((recent.told(), Recent(self.folder).told()), (firms, firms))
 
     def anew(self, journal):
         os.close(journal.lock)

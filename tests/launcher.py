@@ -350,20 +350,7 @@ class Faults(Launcher):
         for number, status in ((signal.SIGHUP, 129), (signal.SIGINT, 130), (signal.SIGTERM, 143), (signal.SIGKILL, -9)):
             for step in ("clear_http", "run"):
                 with self.subTest(f"{number.name} in {step}"):
-                    held = self.holds(step)
-                    first = self.start()
-                    waits_in = "run" if step == "run" else "all test"
-                    calls = self.state / "calls"
-                    self.wait_for(lambda: calls.exists() and waits_in in "".join(calls.read_text().splitlines()[-1:]))
-                    if step == "run":
-                        self.wait_for(lambda: os.access(self.program, os.X_OK))
-                    stub = int((self.state / "process").read_text() or 0)
-                    first.send_signal(number)
-                    self.assertEqual(self.ended(first)[0], status)
-                    # rt has ended with it; where it was killed, rt ends as soon as it writes.
-                    if number != signal.SIGKILL and stub:
-                        self.assertFalse(Path(f"/proc/{stub}").exists())
-                    held.unlink()
+                    self.break_off(number, status, step)
                     self.calls()
                     # Half a program is never run.
                     (self.bin / "rt").rename(self.folder / "rt")
@@ -373,6 +360,23 @@ class Faults(Launcher):
                     self.runs_at_once()
                     self.kit.unlink()
                     self.program.unlink()
+
+    def break_off(self, number, status, step):
+        """Starts the launcher, which gets this signal at this step of the build, and ends with the status."""
+        held = self.holds(step)
+        first = self.start()
+        waits_in = "run" if step == "run" else "all test"
+        calls = self.state / "calls"
+        self.wait_for(lambda: calls.exists() and waits_in in "".join(calls.read_text().splitlines()[-1:]))
+        if step == "run":
+            self.wait_for(lambda: os.access(self.program, os.X_OK))
+        stub = int((self.state / "process").read_text() or 0)
+        first.send_signal(number)
+        self.assertEqual(self.ended(first)[0], status)
+        # rt has ended with it; where it was killed, rt ends as soon as it writes.
+        if number != signal.SIGKILL and stub:
+            self.assertFalse(Path(f"/proc/{stub}").exists())
+        held.unlink()
 
     def test_a_proof_that_fails(self):
         self.write("state/refused", "clear_http")

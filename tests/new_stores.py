@@ -5,6 +5,7 @@
 PROGRAM is crates/clear_app/out/clear_app where it isn't given, as `rt ci` leaves it.
 """
 
+import itertools
 import stat
 import struct
 import sys
@@ -98,15 +99,14 @@ class Begun(Stores):
         self.init()
         made = (self.folder / "fund.db").read_bytes()
         of_a_close = (self.folder / "fund.db-wal").read_bytes()
-        for held in (b"\0" * 1024, b"\0" + made[1:1024], b"\0" + made[1:]):
-            for log in (b"", of_a_close):
-                with self.subTest(held=len(held), log=len(log)):
-                    self.remove_store()
-                    self.write("fund.db", held)
-                    if log:
-                        self.write("fund.db-wal", log)
-                    self.expect(["init", "fund.db", "rates.toml"], 3, "", "rule 41 Store\n")
-                    self.assertEqual((self.folder / "fund.db").read_bytes(), held)
+        for held, log in itertools.product((b"\0" * 1024, b"\0" + made[1:1024], b"\0" + made[1:]), (b"", of_a_close)):
+            with self.subTest(held=len(held), log=len(log)):
+                self.remove_store()
+                self.write("fund.db", held)
+                if log:
+                    self.write("fund.db-wal", log)
+                self.expect(["init", "fund.db", "rates.toml"], 3, "", "rule 41 Store\n")
+                self.assertEqual((self.folder / "fund.db").read_bytes(), held)
 
     def remove_store(self):
         for name in ("fund.db", "fund.db-wal"):

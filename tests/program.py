@@ -60,6 +60,13 @@ JANUARY = post("/employers/1001/reports/2024-01", 1, '{"lines":[{"gross":1000000
 FEBRUARY = post("/employers/1001/reports/2024-02", 2, '{"lines":[{"gross":500050,"worker":7}]}', "k1001")
 
 
+def send_by_bytes(peer, data):
+    """Sends each byte by itself, as far as they are taken."""
+    with contextlib.suppress(BrokenPipeError):
+        for byte in data:
+            peer.send(bytes((byte,)))
+
+
 def no_room():
     """No file takes a byte behind its first 4,096."""
     signal.signal(signal.SIGXFSZ, signal.SIG_IGN)
@@ -376,9 +383,7 @@ class Stream(Program):
             mine, its = socket.socketpair(socket.AF_UNIX, socket.SOCK_SEQPACKET)
             with self.start("stream", "sample", "sample", DAY, stdin=its) as running, mine:
                 its.close()
-                with contextlib.suppress(BrokenPipeError):
-                    for byte in sent:
-                        mine.send(bytes((byte,)))
+                send_by_bytes(mine, sent)
                 output, said = running.communicate(timeout=60)
             self.assertEqual((running.returncode, said.decode()), (status, errors))
             self.assertEqual(output.decode().endswith(told), status == 0)

@@ -57,18 +57,14 @@ def trickle(peer, pieces, pause):
     """Sends a piece, waits for an answer or so long, and so on. It is over once the other side ends the connection,
     after 40 seconds, or with the last piece, behind which this side ends."""
     until = time.monotonic() + 40
-    try:
+    with contextlib.suppress(OSError):
         for piece in pieces:
             peer.sendall(piece)
             peer.settimeout(pause)
-            try:
+            with contextlib.suppress(TimeoutError):
                 if peer.recv(65536) == b"" or time.monotonic() > until:
                     return
-            except TimeoutError:
-                pass
         peer.shutdown(socket.SHUT_WR)
-    except OSError:
-        pass
 
 
 def go_on(peer, data, pause):

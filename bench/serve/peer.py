@@ -290,6 +290,15 @@ def serve_connection(office, callers, connection):
             return
 
 
+def take(office, callers, connection):
+    connection.settimeout(PATIENCE)
+    with connection:
+        try:
+            serve_connection(office, callers, connection)
+        except OSError:
+            print("fault net", file=sys.stderr)
+
+
 def serve(store, callers, day, port, count):
     with open(callers, "rb") as file:
         callers = tomllib.load(file)
@@ -297,13 +306,7 @@ def serve(store, callers, day, port, count):
     office.open()
     with socket.create_server(("127.0.0.1", int(port))) as listener:
         for _ in range(int(count)):
-            connection, _ = listener.accept()
-            connection.settimeout(PATIENCE)
-            with connection:
-                try:
-                    serve_connection(office, callers, connection)
-                except OSError:
-                    print("fault net", file=sys.stderr)
+            take(office, callers, listener.accept()[0])
     print(f"served {count}")
 
 

@@ -28,21 +28,22 @@ CREATE TABLE requests (caller INT, number INT, day TEXT, command BLOB, reply TEX
   PRIMARY KEY (caller, number)) STRICT, WITHOUT ROWID;
 INSERT INTO meta VALUES (1, NULL, 0, 0, 0);
 """
+# Behind the last credit.
+NO_MORE = None, 0, None
 
 
 def pieces_of(charges, credits):
     """Of each charge what pays it, as day, cents and reference: a walk along both."""
-    waiting, left, found = iter(credits), 0, []
+    waiting, found = iter(credits), []
+    day, left, reference = next(waiting, NO_MORE)
     for charge in charges:
         pieces = []
-        while charge:
-            if not left:
-                day, left, reference = next(waiting, (None, 0, None))
-                if not left:
-                    break
+        while charge and left:
             piece = min(charge, left)
             pieces.append((day, piece, reference))
             charge, left = charge - piece, left - piece
+            if not left:
+                day, left, reference = next(waiting, NO_MORE)
         found.append(pieces)
     return found
 
