@@ -179,6 +179,9 @@ class Client(Streams):
             r'"\ud83d\ude00"': "employer", r'"\ud83d"': "body", r'"\ude00"': "body",
         }.items():
             self.assertEqual(fault(employer), named, employer)
+        for nested in ("[" * 200, "[" * 200 + "]" * 200):
+            refused, = self.stream(post("/employers", 1, nested))
+            self.assertEqual(refused, '{"detail":"body","name":"BadBody","rule":8}')
         marked = self.stream(post("/employers", 1, '\ufeff{"employer":1001}'))[0]
         self.assertEqual(json.loads(marked)["detail"], "body")
         for part in ("byte order mark", "half of a surrogate pair", "1.8e308 or more", "127 deep"):

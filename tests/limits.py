@@ -1,5 +1,5 @@
-"""Bank files and assignments at the limits of 100,000, and registrations at that of 10,000, on stores that another
-SQLite fills up to these.
+"""Bank files and assignments at the limits of 100,000, registrations at that of 10,000, and requests at that of
+50,000,000, on stores that another SQLite fills up to these, or sets to them.
 
     python3 tests/limits.py [PROGRAM]
 
@@ -18,9 +18,11 @@ from stores import HEADER, OTHER, REGISTRATION, request  # noqa: E402
 
 MOST = 100_000
 MOST_FIRMS = 10_000
+MOST_REQUESTS = 50_000_000
 # 2024-02-25 as a day number.
 VALUE = 19_778
 DONE = '{"done":true}'
+OWED = request("/employers/1001/owed", 0, method="GET").replace(b"Request-Number: 0\r\n", b"")
 
 
 def new(count, repeats=0):
@@ -82,8 +84,7 @@ class Limits(ProgramUnderTest):
             (self.assigned("M1"), DONE),
             (self.file(second, "M5,2024-02-25,1002,100,I,"), new(2)),
             (self.file(unknown), over("suspense")),
-            (request("/employers/1001/owed", 0, method="GET").replace(b"Request-Number: 0\r\n", b""),
-             '{"arrears":0,"charged":0,"credited":200,"prepaid":200}')])
+            (OWED, '{"arrears":0,"charged":0,"credited":200,"prepaid":200}')])
 
     def joins(self, employer):
         return self.posted("/employers", f'{{"employer":{employer},"name":"Bau {employer}","start":"2024-01"}}')
@@ -106,6 +107,20 @@ class Limits(ProgramUnderTest):
     def test_few_firms_after_many_requests(self):
         self.fill_firms(1, MOST_FIRMS - 1)
         self.says([(self.joins(2001), DONE), (self.joins(2002), DONE), (self.joins(2003), DONE)])
+
+    def test_a_full_book(self):
+        """The last request that is taken, and one more, which has a fault besides; a repeat still has its reply."""
+        with contextlib.closing(sqlite3.connect(self.folder / "fund.db")) as store, store:
+            store.execute("UPDATE meta SET entries = ?1", [MOST_REQUESTS - 1])
+        last = self.joins(2001)
+        self.says([
+            (last, DONE),
+            (self.joins(2002), over("book")),
+            (self.joins(2001), over("book")),
+            (last, DONE),
+            (last.replace(b"2001", b"2002"), '{"detail":"","name":"NumberReused","rule":9}'),
+            (REGISTRATION, DONE),
+            (OWED, '{"arrears":0,"charged":0,"credited":0,"prepaid":0}')])
 
     def test_credits_of_a_firm(self):
         self.fill(MOST - 1, 1001, "I")

@@ -90,9 +90,7 @@ fn caller_at(key: &[u8], value: &Value) -> Option<Caller>
     if !is_key(key) {
         return None;
     }
-    let Some(number) = value.as_integer() else {
-        return None;
-    };
+    let number = value.as_integer()?;
     caller_numbered(number)
 }
 
@@ -112,8 +110,6 @@ fn caller_numbered(number: i64) -> Option<Caller>
     let Ok(number) = u64::try_from(number) else {
         return None;
     };
-    let Some(employer) = EmployerNo::new(number) else {
-        return None;
-    };
+    let employer = EmployerNo::new(number)?;
     Some(Caller::Firm(employer))
 }

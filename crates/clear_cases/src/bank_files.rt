@@ -84,16 +84,6 @@ fn is_copied(line: &BankLine, said: &Said) -> bool {
     }
 }
 
-// Whether no front of a file is answered by want of memory.
-fn answers_each_cut(alloc: Global, bytes: &[u8]) -> bool {
-    (0..bytes.len()).all(|end| {
-        !matches!(
-            read_file(alloc, &bytes[..end], LIMIT),
-            Err(BankFault::Memory)
-        )
-    })
-}
-
 const REFERENCES: [(&[u8], bool); 6] = [
     (b"", false),
     (b"!", true),
@@ -131,7 +121,7 @@ fn lines_say_their_fields(rt: HostRuntime) {
     let alloc = rt.alloc();
     assert!(rt; has_lines(alloc, PAYMENTS, &[FIRST, SECOND]));
     assert!(rt; has_lines(alloc, QUOTED, &[THIRD]));
-    assert!(rt; answers_each_cut(alloc, PAYMENTS.as_bytes()));
+    assert!(rt; payments_end_anywhere(alloc));
     assert!(rt;
         REFERENCES
             .iter()
@@ -192,11 +182,134 @@ const BAD_RECORDS: [(&str, usize, u8); 9] = [
 ];
 
 // What a file adds to what is known: how many lines are new and how many are repeats.
-fn added(alloc: Global, file: &str, known: &str) -> Result<(usize, usize), BankFault> {
+fn added(alloc: Global, file: &[u8], known: &str) -> Result<(usize, usize), BankFault> {
     let known = read_file(alloc, known.as_bytes(), LIMIT)?;
-    let lines = read_file(alloc, file.as_bytes(), LIMIT)?;
+    let lines = read_file(alloc, file, LIMIT)?;
     let judged = judge_file(alloc, lines.as_slice(), known.as_slice())?;
     Ok((judged.new.len(), judged.repeats))
+}
+
+// What becomes of a file: how many lines are new and how many are repeats, or which record is
+// refused, and its bad field.
+fn becomes(alloc: Global, file: &[u8]) -> (&'static str, usize, usize) {
+    match added(alloc, file, HEADER) {
+        Ok((new, repeats)) => ("read", new, repeats),
+        Err(BankFault::BadCsv { line, fault }) => ("bad", line, usize::from(fault.number())),
+        Err(BankFault::RefConflict { line }) => ("conflict", line, 0),
+        Err(BankFault::OverLimit) => ("too long", 0, 0),
+        Err(BankFault::Memory) => ("no memory", 0, 0),
+    }
+}
+
+fn is_told(alloc: Global, file: &[u8], word: &str, first: usize, second: usize) -> bool {
+    let (told, one, other) = becomes(alloc, file);
+    told == word && one == first && other == second
+}
+
+// A part of a file, and what becomes of the file where it ends within that part or with it.
+type Part = (&'static [u8], &'static str, usize, usize);
+
+// Whether a file that has begun goes on by these parts.
+fn ends_so(alloc: Global, begun: &[u8], parts: &[Part]) -> bool {
+    let Ok(begun) = Vec::from_slice(alloc, begun) else {
+        return false;
+    };
+    let mut file = begun;
+    for (part, word, first, second) in parts {
+        for byte in *part {
+            if file.push(*byte).is_err() {
+                return false;
+            }
+            if !is_told(alloc, file.as_slice(), word, *first, *second) {
+                return false;
+            }
+        }
+    }
+    true
+}
+
+const MARKED_HEADER: &[u8] = b"\xEF\xBB\xBFreference,value_date,employer,cents,purpose,note\n";
+
+const MARK_PARTS: [Part; 1] = [(b"\xEF\xBB\xBF", "bad", 1, 1)];
+
+const TWO_MARKS_PARTS: [Part; 1] = [(
+    b"\xEF\xBB\xBF\xEF\xBB\xBFreference,value_date,employer,cents,purpose,note\n",
+    "bad",
+    1,
+    1,
+)];
+
+const HEADER_PARTS: [Part; 3] = [
+    (b"reference,value_date,employer,cents,purpose", "bad", 1, 0),
+    (b",not", "bad", 1, 6),
+    (b"e\n", "read", 0, 0),
+];
+
+const SHORT_HEADER_PARTS: [Part; 1] = [(
+    b"reference,value_date\nB1,2024-02-25,1001,150000,C,\n",
+    "bad",
+    1,
+    0,
+)];
+
+const PAYMENT_PARTS: [Part; 4] = [
+    (b"B1,2024-02-25,1001,150000,C", "bad", 2, 0),
+    (b",\n", "read", 1, 0),
+    (b"B2,2024-04-21,1001,200000,", "bad", 3, 0),
+    (b",January rest\n", "read", 2, 0),
+];
+
+// Whether each end of a file of two payments is told, with a byte order mark in front or without
+// one; two of them are no file.
+fn payments_end_anywhere(alloc: Global) -> bool {
+    is_told(alloc, b"", "bad", 1, 1)
+        && ends_so(alloc, b"", &HEADER_PARTS)
+        && ends_so(alloc, HEADER.as_bytes(), &PAYMENT_PARTS)
+        && ends_so(alloc, b"", &MARK_PARTS)
+        && ends_so(alloc, b"\xEF\xBB\xBF", &HEADER_PARTS)
+        && ends_so(alloc, MARKED_HEADER, &PAYMENT_PARTS)
+        && ends_so(alloc, b"", &TWO_MARKS_PARTS)
+}
+
+// A reference twice, with one content.
+const REPEAT_PARTS: [Part; 6] = [
+    (b"B6,2024-03-01,,10,I", "bad", 2, 0),
+    (b",\n", "read", 1, 0),
+    (b"B5,2024-03-01,,20,", "bad", 3, 0),
+    (b",\n", "read", 2, 0),
+    (b"B5,2024-03-01,,20,C", "bad", 4, 0),
+    (b",\n", "read", 2, 1),
+];
+
+// With two.
+const CONFLICT_PARTS: [Part; 6] = [
+    (b"B6,2024-03-01,,10,I", "bad", 2, 0),
+    (b",\n", "read", 1, 0),
+    (b"B5,2024-03-01,,20,", "bad", 3, 0),
+    (b",\n", "read", 2, 0),
+    (b"B5,2024-03-01,,21,", "bad", 4, 0),
+    (b",\n", "conflict", 4, 0),
+];
+
+// No day, and a record behind it.
+const DAY_PARTS: [Part; 2] = [
+    (b"B1,2024-02-30,1001,150000,C", "bad", 2, 0),
+    (b",\nB2,2024-04-21,1001,200000,,January rest\n", "bad", 2, 2),
+];
+
+// No cents.
+const CENTS_PARTS: [Part; 2] = [
+    (b"B1,2024-02-25,1001,0,C", "bad", 2, 0),
+    (b",\nB2,2024-04-21,1001,200000,,January rest\n", "bad", 2, 4),
+];
+
+// Whether each end of files that are repeated, in conflict or bad is told.
+fn refused_files_end_anywhere(alloc: Global) -> bool {
+    ends_so(alloc, HEADER.as_bytes(), &REPEAT_PARTS)
+        && ends_so(alloc, HEADER.as_bytes(), &CONFLICT_PARTS)
+        && ends_so(alloc, b"", &SHORT_HEADER_PARTS)
+        && ends_so(alloc, HEADER.as_bytes(), &DAY_PARTS)
+        && ends_so(alloc, HEADER.as_bytes(), &CENTS_PARTS)
 }
 
 fn with_header(alloc: Global, records: &str) -> Result<String, AllocError> {
@@ -206,7 +319,7 @@ fn with_header(alloc: Global, records: &str) -> Result<String, AllocError> {
 fn adds(alloc: Global, records: &str, known: &str, new: usize, repeats: usize) -> bool {
     match with_header(alloc, records) {
         Ok(file) => matches!(
-            added(alloc, file.as_str(), known),
+            added(alloc, file.as_bytes(), known),
             Ok((found, again)) if found == new && again == repeats
         ),
         Err(_) => false,
@@ -216,7 +329,7 @@ fn adds(alloc: Global, records: &str, known: &str, new: usize, repeats: usize) -
 fn conflicts(alloc: Global, records: &str, known: &str, line: usize) -> bool {
     match with_header(alloc, records) {
         Ok(file) => matches!(
-            added(alloc, file.as_str(), known),
+            added(alloc, file.as_bytes(), known),
             Err(BankFault::RefConflict { line: found }) if found == line
         ),
         Err(_) => false,
@@ -247,25 +360,28 @@ fn long_file(alloc: Global, first: usize) -> Result<String, AllocError> {
 fn half_added(alloc: Global) -> Result<(usize, usize), BankFault> {
     let known = long_file(alloc, 0)?;
     let file = long_file(alloc, 5_000)?;
-    added(alloc, file.as_str(), known.as_str())
+    added(alloc, file.as_bytes(), known.as_str())
 }
 
-// A file with a bad record, and one record more than there may be.
-fn too_long_file(alloc: Global) -> Result<String, AllocError> {
+// A file of as many records as there may be, the first of them bad.
+fn full_file(alloc: Global) -> Result<String, AllocError> {
     let mut file = String::from_str(alloc, HEADER)?;
     file.push_str("B1,2024-02-30,,1,C,\n")?;
-    for _ in 0..LIMIT {
+    for _ in 1..LIMIT {
         file.push_str("B2,2024-02-25,,1,C,\n")?;
     }
     Ok(file)
 }
 
+const LAST_PARTS: [Part; 1] = [(b"B", "too long", 0, 0)];
+
+// Whether a file is too long as soon as a further record has begun.
 fn is_too_long(alloc: Global) -> bool {
-    match too_long_file(alloc) {
-        Ok(file) => matches!(
-            read_file(alloc, file.as_bytes(), LIMIT),
-            Err(BankFault::OverLimit)
-        ),
+    match full_file(alloc) {
+        Ok(file) => {
+            let front = file.as_bytes();
+            is_told(alloc, front, "bad", 2, 2) && ends_so(alloc, front, &LAST_PARTS)
+        }
         Err(_) => false,
     }
 }
@@ -284,6 +400,7 @@ fn files_are_judged_or_refused(rt: HostRuntime) {
     assert!(rt;
         BAD_RECORDS.iter().all(|(records, line, field)| is_bad(alloc, records, *line, *field))
     );
+    assert!(rt; refused_files_end_anywhere(alloc));
     assert!(rt; matches!(half_added(alloc), Ok((5_000, 5_000))));
     assert!(rt; is_too_long(alloc));
 }

@@ -234,6 +234,97 @@ fn reads_sample(alloc: Global) -> bool {
     }
 }
 
+// A part of the sample, and the fault of the file where it ends within that part or with it.
+type Part = (&'static str, RateFault);
+
+// What stands in front of the last number of the first row, and of the second.
+const FIRST_PARTS: [Part; 13] = [
+    ("[[rate]", Text),
+    ("]\n", Field(1)),
+    ("from = \"2024-01", Text),
+    ("\"\n", Field(1)),
+    ("contribution = ", Text),
+    ("2000\n", Field(1)),
+    ("report_day = ", Text),
+    ("15\n", Field(1)),
+    ("due_day = ", Text),
+    ("20\n", Field(1)),
+    ("interest = ", Text),
+    ("100\n", Field(1)),
+    ("entitlement = ", Text),
+];
+
+const SECOND_PARTS: [Part; 13] = [
+    ("[[rate]", Text),
+    ("]\n", Field(2)),
+    ("from = \"2025-01", Text),
+    ("\"\n", Field(2)),
+    ("contribution = ", Text),
+    ("1900\n", Field(2)),
+    ("report_day = ", Text),
+    ("15\n", Field(2)),
+    ("due_day = ", Text),
+    ("20\n", Field(2)),
+    ("interest = ", Text),
+    ("90\n", Field(2)),
+    ("entitlement = ", Text),
+];
+
+// The bytes of a row's last number and of its line end, and the entitlement rate up to each.
+const LAST_BYTES: [(u8, u16); 5] = [
+    (b'1', 1),
+    (b'4', 14),
+    (b'2', 142),
+    (b'5', 1_425),
+    (b'\n', 1_425),
+];
+
+// Whether a file goes on by these parts, and is refused at each of its ends.
+fn refuses_ends(alloc: Global, file: &mut Vec<u8>, parts: &[Part]) -> bool {
+    for (part, fault) in parts {
+        for byte in part.as_bytes() {
+            if file.push(*byte).is_err() {
+                return false;
+            }
+            if !is_refused(alloc, file.as_slice(), *fault) {
+                return false;
+            }
+        }
+    }
+    true
+}
+
+// Whether a file goes on by the last number of a row, and has so many rows at each of its ends.
+fn reads_ends(alloc: Global, file: &mut Vec<u8>, rows: usize) -> bool {
+    for (byte, rate) in &LAST_BYTES {
+        if file.push(*byte).is_err() {
+            return false;
+        }
+        if !has_last_rate(alloc, file.as_slice(), rows, *rate) {
+            return false;
+        }
+    }
+    true
+}
+
+fn has_last_rate(alloc: Global, text: &[u8], rows: usize, rate: u16) -> bool {
+    let Ok(table) = read_rates(alloc, text) else {
+        return false;
+    };
+    match table.as_slice().last() {
+        Some(row) => row.entitlement_rate() == rate && table.as_slice().len() == rows,
+        None => false,
+    }
+}
+
+fn ends_anywhere(alloc: Global) -> bool {
+    let mut file = Vec::new(alloc);
+    refuses_ends(alloc, &mut file, &FIRST_PARTS)
+        && reads_ends(alloc, &mut file, 1)
+        && refuses_ends(alloc, &mut file, &SECOND_PARTS)
+        && reads_ends(alloc, &mut file, 2)
+}
+
 #[test]
 fn a_file_is_read_or_its_first_fault_told(rt: HostRuntime) {
     let alloc = rt.alloc();
@@ -245,6 +336,7 @@ fn a_file_is_read_or_its_first_fault_told(rt: HostRuntime) {
             .all(|(text, fault)| is_refused(alloc, text.as_bytes(), *fault))
     );
     assert!(rt; is_refused(alloc, &[0xFF], Text));
+    assert!(rt; ends_anywhere(alloc));
     assert!(rt; are_refused(alloc, &[SECOND, FIRST], Order(2)));
     assert!(rt; BAD_ROWS.iter().all(|(old, new, fault)| is_edit_refused(alloc, old, new, *fault)));
 }

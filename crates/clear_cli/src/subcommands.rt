@@ -42,27 +42,17 @@ fn subcommand_named(name: &str) -> Option<Subcommand>
 fn read_init<'a>(words: &ArgMatches<'a>) -> Option<Words<'a>>
     ensures { ReadsWords (rows_of (found_of words.now)) Subcommand.Init result }
 {
-    let Some(store) = word(words, "STORE") else {
-        return None;
-    };
-    let Some(rates) = word(words, "RATES") else {
-        return None;
-    };
+    let store = word(words, "STORE")?;
+    let rates = word(words, "RATES")?;
     Some(Words::Init { store, rates })
 }
 
 fn read_stream<'a>(words: &ArgMatches<'a>) -> Option<Words<'a>>
     ensures { ReadsWords (rows_of (found_of words.now)) Subcommand.Stream result }
 {
-    let Some(rates) = word(words, "RATES") else {
-        return None;
-    };
-    let Some(callers) = word(words, "CALLERS") else {
-        return None;
-    };
-    let Some(day) = day(words) else {
-        return None;
-    };
+    let rates = word(words, "RATES")?;
+    let callers = word(words, "CALLERS")?;
+    let day = day(words)?;
     Some(Words::Stream {
         rates,
         callers,
@@ -73,21 +63,11 @@ fn read_stream<'a>(words: &ArgMatches<'a>) -> Option<Words<'a>>
 fn read_serve<'a>(words: &ArgMatches<'a>) -> Option<Words<'a>>
     ensures { ReadsWords (rows_of (found_of words.now)) Subcommand.Serve result }
 {
-    let Some(store) = word(words, "STORE") else {
-        return None;
-    };
-    let Some(callers) = word(words, "CALLERS") else {
-        return None;
-    };
-    let Some(day) = day(words) else {
-        return None;
-    };
-    let Some(port) = port(words) else {
-        return None;
-    };
-    let Some(count) = count(words) else {
-        return None;
-    };
+    let store = word(words, "STORE")?;
+    let callers = word(words, "CALLERS")?;
+    let day = day(words)?;
+    let port = port(words)?;
+    let count = count(words)?;
     Some(Words::Serve {
         store,
         callers,
@@ -100,18 +80,10 @@ fn read_serve<'a>(words: &ArgMatches<'a>) -> Option<Words<'a>>
 fn read_import<'a>(words: &ArgMatches<'a>) -> Option<Words<'a>>
     ensures { ReadsWords (rows_of (found_of words.now)) Subcommand.Import result }
 {
-    let Some(store) = word(words, "STORE") else {
-        return None;
-    };
-    let Some(day) = day(words) else {
-        return None;
-    };
-    let Some(number) = request(words) else {
-        return None;
-    };
-    let Some(file) = word(words, "FILE") else {
-        return None;
-    };
+    let store = word(words, "STORE")?;
+    let day = day(words)?;
+    let number = request(words)?;
+    let file = word(words, "FILE")?;
     Some(Words::Import {
         store,
         day,
@@ -123,15 +95,9 @@ fn read_import<'a>(words: &ArgMatches<'a>) -> Option<Words<'a>>
 fn read_statement<'a>(words: &ArgMatches<'a>) -> Option<Words<'a>>
     ensures { ReadsWords (rows_of (found_of words.now)) Subcommand.Statement result }
 {
-    let Some(store) = word(words, "STORE") else {
-        return None;
-    };
-    let Some(day) = day(words) else {
-        return None;
-    };
-    let Some(employer) = employer(words) else {
-        return None;
-    };
+    let store = word(words, "STORE")?;
+    let day = day(words)?;
+    let employer = employer(words)?;
     Some(Words::Statement {
         store,
         day,
@@ -142,42 +108,30 @@ fn read_statement<'a>(words: &ArgMatches<'a>) -> Option<Words<'a>>
 fn read_migrate<'a>(words: &ArgMatches<'a>) -> Option<Words<'a>>
     ensures { ReadsWords (rows_of (found_of words.now)) Subcommand.Migrate result }
 {
-    let Some(store) = word(words, "STORE") else {
-        return None;
-    };
+    let store = word(words, "STORE")?;
     Some(Words::Migrate { store })
 }
 
 fn read_look<'a>(words: &ArgMatches<'a>) -> Option<Words<'a>>
     ensures { ReadsWords (rows_of (found_of words.now)) Subcommand.Look result }
 {
-    let Some(store) = word(words, "STORE") else {
-        return None;
-    };
+    let store = word(words, "STORE")?;
     Some(Words::Look { store })
 }
 
 fn read_check<'a>(words: &ArgMatches<'a>) -> Option<Words<'a>>
     ensures { ReadsWords (rows_of (found_of words.now)) Subcommand.Check result }
 {
-    let Some(kind) = kind(words) else {
-        return None;
-    };
-    let Some(file) = word(words, "FILE") else {
-        return None;
-    };
+    let kind = kind(words)?;
+    let file = word(words, "FILE")?;
     Some(Words::Check { kind, file })
 }
 
 fn read_backup<'a>(words: &ArgMatches<'a>) -> Option<Words<'a>>
     ensures { ReadsWords (rows_of (found_of words.now)) Subcommand.Backup result }
 {
-    let Some(store) = word(words, "STORE") else {
-        return None;
-    };
-    let Some(file) = word(words, "FILE") else {
-        return None;
-    };
+    let store = word(words, "STORE")?;
+    let file = word(words, "FILE")?;
     Some(Words::Backup { store, file })
 }
 

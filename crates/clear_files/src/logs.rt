@@ -46,7 +46,16 @@ fn has_something(rt: &HostRuntime, path: &str) -> bool {
 pub(crate) fn log_beside(rt: &HostRuntime, store: &str) -> Result<Option<String>, AllocError> {
     match fs::canonicalize(rt, store) {
         Ok(file) => Ok(Some(log_path(rt.alloc(), file.as_str())?)),
-        Err(_) => Ok(None),
+        Err(error) => none_but_memory(&error),
+    }
+}
+
+// What can't be told is `None`, but for want of memory.
+pub(crate) fn none_but_memory<T>(error: &io::Error) -> Result<Option<T>, AllocError> {
+    if error.kind() == io::ErrorKind::OutOfMemory {
+        Err(AllocError)
+    } else {
+        Ok(None)
     }
 }
 

@@ -1,7 +1,7 @@
 //! Whether the files of a store still stand where they stood. No contract knows what a path names.
 ghost use Rattle.std.specs.Prelude.{◌≡◌, IfSome};
 
-use crate::logs::log_beside;
+use crate::logs::{log_beside, none_but_memory};
 use std::alloc::AllocError;
 use std::fs::Metadata;
 use std::os::unix::fs::MetadataExt;
@@ -85,7 +85,7 @@ impl<'a> NamedStore<'a> {
                 log,
                 log_id,
             })),
-            Err(_) => Ok(None),
+            Err(error) => none_but_memory(&error),
         }
     }
 

@@ -1,13 +1,13 @@
 //! Offices over stores that are just made, whatever keeps them.
-ghost use Rattle.std.specs.Prelude.{◌≡◌, ◌≢◌, false, ℕ, IfErr, IfOk, OnOk};
+ghost use Rattle.std.specs.Prelude.{◌≡◌, ◌≢◌, false, ℕ, IfErr, IfOk, IsTrue, OnOk};
 ghost use Rattle.sqlite.specs.Held.{state};
-ghost use Rattle.sqlite.specs.State.{HasCleanDisk};
+ghost use Rattle.sqlite.specs.State.{HasCleanDisk, Survives};
 ghost use Rattle.clear_book.specs.Book.{first_book};
 ghost use Rattle.clear_schema.specs.First.{first_tables};
-ghost use Rattle.clear_schema.specs.Held.{TellsSchema};
+ghost use Rattle.clear_schema.specs.Held.{HasMeta, StandsFor, TellsSchema};
 ghost use Rattle.clear_schema.specs.Schema.{no_schema};
 ghost use Rattle.clear_schema.specs.declared.fault.OpenFault.TheVariants.{WrongVersion};
-ghost use Rattle.clear_schema.specs.Still.{Holds};
+ghost use Rattle.clear_schema.specs.Still.{Holds, IsStill};
 ghost use Rattle.clear_office.specs.Office.{IsHonest, Keeps};
 
 use crate::office::Office;
@@ -18,7 +18,8 @@ use std::alloc::Global;
 
 /// Makes a store without requests, with these opening rates, in an empty database, and an office
 /// over it. A database that has a table, an index or a view is refused: where it tells the number of a
-/// schema, by `WrongVersion` with that one. A refusal hands the connection back.
+/// schema, by `WrongVersion` with that one. A refusal hands the connection back, and leaves an empty
+/// database, and one where a `meta` stands first, as it was.
 pub fn make_office<S: Alter>(
     alloc: Global,
     connection: Connection<S>,
@@ -43,6 +44,24 @@ pub fn make_office<S: Alter>(
     ensures empty { IfErr result (λ left. HasCleanDisk (state S.Store left.connection)
         → (state S.Store connection).now.schema ≡ no_schema
         → (told : ℕ) → left.fault ≢ WrongVersion told) }
+    // A refusal takes back what was begun in an empty database, and a crash leaves what it could leave
+    // before, or the tables of an office without requests.
+    ensures undone { IfErr result (λ left. HasCleanDisk (state S.Store left.connection)
+        → (state S.Store connection).now.schema ≡ no_schema
+        → IsTrue (state S.Store left.connection).is_open
+        → ((state S.Store left.connection).now ≡ (state S.Store connection).committed)
+        × ((state S.Store left.connection).committed ≡ (state S.Store connection).committed)) }
+    ensures crash_left { (state S.Store connection).now.schema ≡ no_schema
+        → IfErr result (λ left. Survives (state S.Store connection)
+        (state S.Store left.connection) (StandsFor (first_tables rates.now))) }
+    // Nothing changes where a `meta` stands first, whatever it tells.
+    ensures rests { IfErr result (λ left. HasCleanDisk (state S.Store left.connection)
+        → HasMeta (state S.Store connection).now.schema
+        → IsTrue (state S.Store left.connection).is_open
+        → IsStill (state S.Store connection) (state S.Store left.connection)) }
+    ensures rests_after { HasMeta (state S.Store connection).now.schema
+        → IfErr result (λ left. Survives (state S.Store connection)
+        (state S.Store left.connection) (λ _. ⊥)) }
 {
     let store = Store::create(connection, rates)?;
     Ok(Office::open(alloc, store))

@@ -1,11 +1,14 @@
 -- The paths of the table have the parameters that their requests need, and these read no other.
-use Rattle.std.proofs.Common.{◌≡◌, ◌∙◌, ℕ, zero, suc, List, [], ◌∷◌, All, Contains, Some, Bool, true, false, ◌&&◌, ◌||◌, refl, sym, ap, subst, inl, inr, arith}
+use Rattle.std.proofs.Common.{◌≡◌, ◌∙◌, ℕ, zero, suc, List, [], ◌∷◌, map, All, Contains, Some, Bool, true, false, ◌&&◌, ◌||◌, refl, sym, ap, subst, inl, inr, arith}
 use Rattle.std.proofs.lemmas.Bool.{and_parts}
 use Rattle.std.proofs.lemmas.List.Elements.{All-nil, All-cons, All-head, All-tail}
 use Rattle.clear_book.specs.declared.calls.Caller.{Caller}
 use Rattle.clear_routes.specs.Called.{called_by}
-use Rattle.clear_routes.specs.Kinds.{kinds_in, with_value}
-use Rattle.clear_routes.specs.Laws.{ParametersAreThere, NoOthersAreRead}
+use Rattle.std.specs.Cmp.Lexicographic.{bytes_decides}
+use Rattle.std.specs.Str.{bytes_eq}
+use Rattle.clear_routes.specs.Kinds.{in_braces, kinds_in, with_value}
+use Rattle.clear_routes.specs.Laws.{NamesAreKinds, ParametersAreThere, NoOthersAreRead}
+use Rattle.clear_routes.specs.Written.{filled, pattern}
 use Rattle.clear_routes.specs.Methods.{action_for}
 use Rattle.clear_routes.specs.Needs.{needs, value_at, AgreeOn}
 use Rattle.clear_routes.specs.Paths.{Path, IsListed, paths}
@@ -133,3 +136,25 @@ module _ (p q : Parameters) (caller : Caller) (day : ℕ) (heading : Heading) (b
 pub no_others_are_read : NoOthersAreRead
 no_others_are_read action at other caller day heading body agree =
     ap (λ (p : Parameters). called_by action p caller day heading body) (same_mixed (needs action) at other agree) ∙ call_mixed at other caller day heading body action
+
+-- ---- the names in braces
+
+abbrev named : Path → Bool
+named path = bytes_eq path.0 (filled (pattern path.0) (map in_braces (kinds_in path.1.kinds)))
+
+abbrev all_named : List Path → Bool
+all_named [] = true
+all_named (path ∷ rest) = named path && all_named rest
+
+paths_named : all_named paths ≡ true
+unfolding paths
+paths_named = refl
+
+named_in : (ps : List Path) (path : Path) → all_named ps ≡ true → IsListed ps path → named path ≡ true
+named_in [] path e h = absurd h
+named_in (p ∷ ps) path e (inl h) = subst (λ (q : Path). named q ≡ true) h (and_parts (named p) (all_named ps) e).0
+named_in (p ∷ ps) path e (inr h) = named_in ps path (and_parts (named p) (all_named ps) e).1 h
+
+pub names_are_kinds : NamesAreKinds
+names_are_kinds path listed =
+    (bytes_decides path.0 (filled (pattern path.0) (map in_braces (kinds_in path.1.kinds)))).0 (named_in paths path paths_named listed)

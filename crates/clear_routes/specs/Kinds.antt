@@ -1,5 +1,5 @@
 -- The kinds of parameters: the values of each, how they are written, and where they go.
-use Rattle.std.specs.Prelude.{ℕ, List, [], ◌∷◌, ⊤}
+use Rattle.std.specs.Prelude.{ℕ, List, [], ◌∷◌, codes, ⊤}
 use Rattle.std.specs.Fmt.{decimal}
 use Rattle.clear_money.specs.Calendar.{IsMonth}
 use Rattle.clear_money.specs.Numbers.{IsEmployerNo, IsWorkerNo}
@@ -64,3 +64,12 @@ spellings kinds ns = []
 abbrev pub parameters : List Kind → List ℕ → Parameters
 parameters (kind ∷ kinds) (n ∷ ns) = with_value kind n (parameters kinds ns)
 parameters kinds ns = least
+
+-- the name of a parameter of a kind, in braces, as the text of a path has it
+abbrev pub in_braces : Kind → List ℕ
+in_braces kind.Employer = codes "{employer}"
+in_braces kind.Month = codes "{month}"
+in_braces kind.Claim = codes "{claim}"
+in_braces kind.Worker = codes "{worker}"
+in_braces kind.List = codes "{list}"
+in_braces kind.Run = codes "{run}"

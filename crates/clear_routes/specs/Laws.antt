@@ -1,18 +1,19 @@
 -- What is said of any two paths and routes, of the parameters that a request needs, and of the
 -- readings of any request.
-use Rattle.std.specs.Prelude.{◌≡◌, ◌⊎◌, ℕ, List, All, Contains, Some, Result, Ok, Err}
+use Rattle.std.specs.Prelude.{◌≡◌, ◌⊎◌, ℕ, List, All, Contains, Some, Result, Ok, Err, map}
 use Rattle.clear_book.specs.declared.calls.Call.{Call}
 use Rattle.clear_book.specs.declared.calls.Caller.{Caller}
 use Rattle.clear_book.specs.declared.rules.Rule.TheVariants.{Memory}
 use Rattle.clear_callers.specs.Callers.{KeyOf}
 use Rattle.clear_routes.specs.Called.{called_by}
-use Rattle.clear_routes.specs.Kinds.{kinds_in}
+use Rattle.clear_routes.specs.Kinds.{in_braces, kinds_in}
 use Rattle.clear_routes.specs.Methods.{action_for}
 use Rattle.clear_routes.specs.Needs.{needs, AgreeOn}
 use Rattle.clear_routes.specs.Paths.{Path, IsListed, paths}
 use Rattle.clear_routes.specs.Reading.{Reads}
 use Rattle.clear_routes.specs.Refusals.{by_rule}
 use Rattle.clear_routes.specs.Routes.{IsAt, IsRoute}
+use Rattle.clear_routes.specs.Written.{filled, pattern}
 use Rattle.clear_routes.specs.declared.methods.Action.{Action}
 use Rattle.clear_routes.specs.declared.parameters.Parameters.{Parameters}
 use Rattle.clear_routes.specs.declared.refused.Refused.{Refused}
@@ -31,6 +32,12 @@ abbrev pub OneRoute : Type 0
 OneRoute =
     (m : Method) (target : List ℕ) (r s : Route) → IsRoute m target r → IsRoute m target s
     → r ≡ s
+
+-- in braces a path's text has the names of the kinds of its parameters, in their order
+abbrev pub NamesAreKinds : Type 0
+NamesAreKinds =
+    (path : Path) → IsListed paths path
+    → path.0 ≡ filled (pattern path.0) (map in_braces (kinds_in path.1.kinds))
 
 -- each kind of parameter that a request of the table needs is a kind of its path
 abbrev pub ParametersAreThere : Type 0

@@ -143,9 +143,7 @@ impl FromMember for WageLines {
 fn worker_at(value: &Value, name: &str) -> Option<WorkerNo>
     ensures { result ≡ worker_at name.now (view value.now) }
 {
-    let Some(number) = number_at(value, name) else {
-        return None;
-    };
+    let number = number_at(value, name)?;
     WorkerNo::new(number)
 }
 
@@ -165,15 +163,9 @@ fn lines_in(alloc: Global, values: &[Value]) -> Result<Option<WageLines>, AllocE
 fn line_in(value: &Value) -> Option<WageLine>
     ensures { result ≡ line_in (view value.now) }
 {
-    let Some(members) = value.as_object() else {
-        return None;
-    };
-    let Some(gross) = number_at(value, "gross") else {
-        return None;
-    };
-    let Some(worker) = worker_at(value, "worker") else {
-        return None;
-    };
+    let members = value.as_object()?;
+    let gross = number_at(value, "gross")?;
+    let worker = worker_at(value, "worker")?;
     match least_further(members, &["gross", "worker"]) {
         Some(_name) => None,
         None => Some(WageLine { worker, gross }),
@@ -202,9 +194,7 @@ fn reference_in(alloc: Global, text: &str) -> Result<Option<Reference>, AllocErr
 fn number_at(value: &Value, name: &str) -> Option<u64>
     ensures { result ≡ number_at name.now (view value.now) }
 {
-    let Some(member) = value.get(name) else {
-        return None;
-    };
+    let member = value.get(name)?;
     member.as_u64()
 }
 
@@ -212,9 +202,7 @@ fn number_at(value: &Value, name: &str) -> Option<u64>
 fn text_at<'a>(value: &'a Value, name: &str) -> Option<&'a str>
     ensures { option_map (λ text. text.now) result ≡ text_at name.now (view value.now) }
 {
-    let Some(member) = value.get(name) else {
-        return None;
-    };
+    let member = value.get(name)?;
     member.as_str()
 }
 
@@ -223,9 +211,7 @@ fn array_at<'a>(value: &'a Value, name: &str) -> Option<&'a [Value]>
     ensures { option_map (λ values. items_view values.now) result
         ≡ array_at name.now (view value.now) }
 {
-    let Some(member) = value.get(name) else {
-        return None;
-    };
+    let member = value.get(name)?;
     match member.as_array() {
         Some(values) => Some(values.as_slice()),
         None => None,

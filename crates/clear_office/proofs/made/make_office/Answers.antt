@@ -28,3 +28,23 @@ pub returns-in_err-store-clause-empty : goal.returns-in_err-store-clause-empty
 returns-in_err-store-clause-empty g c =
     let p = err_from_is_err_and c.from_residual.result c.from_residual.ensures.1 in
     rw (p.1, p.2) (c.in_err-store.ensures.empty)
+
+pub returns-in_err-store-clause-undone : goal.returns-in_err-store-clause-undone
+returns-in_err-store-clause-undone g c =
+    let p = err_from_is_err_and c.from_residual.result c.from_residual.ensures.1 in
+    rw (p.1, p.2) (c.in_err-store.ensures.undone)
+
+pub returns-in_err-store-clause-crash_left : goal.returns-in_err-store-clause-crash_left
+returns-in_err-store-clause-crash_left g c =
+    let p = err_from_is_err_and c.from_residual.result c.from_residual.ensures.1 in
+    rw (p.1, p.2) (c.in_err-store.ensures.crash_left)
+
+pub returns-in_err-store-clause-rests : goal.returns-in_err-store-clause-rests
+returns-in_err-store-clause-rests g c =
+    let p = err_from_is_err_and c.from_residual.result c.from_residual.ensures.1 in
+    rw (p.1, p.2) (c.in_err-store.ensures.rests)
+
+pub returns-in_err-store-clause-rests_after : goal.returns-in_err-store-clause-rests_after
+returns-in_err-store-clause-rests_after g c =
+    let p = err_from_is_err_and c.from_residual.result c.from_residual.ensures.1 in
+    rw (p.1, p.2) (c.in_err-store.ensures.rests_after)

@@ -9,9 +9,10 @@ use Rattle.clear_laws.proofs.WeighedLemmas.{stands_weighed}
 use Rattle.clear_schema.specs.declared.fault.Fault.TheVariants as fault
 use Rattle.sqlite.specs.Held.{state}
 use Rattle.clear_book.specs.Tables.{Tables}
-use Rattle.clear_schema.specs.Held.{HasTables}
-use Rattle.clear_office.specs.Bodies.{IsAdmitted, IsUnused}
-use Rattle.clear_office.specs.Office.{HasSame, HasSameIf, LeavesNoMore, MayLeave, Steps, StepsBut}
+use Rattle.clear_book.specs.Book.{entry}
+use Rattle.clear_schema.specs.Held.{HasTables, StandsFor}
+use Rattle.clear_office.specs.Bodies.{IsAdmitted, IsUnused, Notes}
+use Rattle.clear_office.specs.Office.{HasSame, HasSameIf, LeavesNoMore, LeavesTablesIf, MayLeave, Steps, StepsBut}
 use Rattle.clear_office.proofs.PiecesLemmas.{keeps_plain}
 use Rattle.clear_office.proofs.StepLemmas.{accepted, accepted_leaves, accepted_tables, each_reached, ended, ended_leaves, ended_rests, ended_same, from_working, open_at, rolled_back_stays, still_working}
 use Rattle.clear_office.proofs.office.Office.submit.Goals as goal
@@ -50,6 +51,20 @@ returns-in-Ok-clause-kept g c stays =
     let working : inside.failed ≡ false = search rules in
     still_working inside.store.conn inside.failed c.args.self.now c.self.view_is working c.within.new.conn (λ a b. HasSameIf g.S.Store a b (λ t. ¬ IsUnused c.args.caller c.args.number t))
     (λ clean t has used. let got = c.in-Ok.ensures.done clean t has in subst (λ (u : Tables). HasTables u (state g.S.Store c.within.new.conn).now) (got.1.1 used) got.2)
+
+pub returns-in-Ok-clause-left : goal.returns-in-Ok-clause-left
+returns-in-Ok-clause-left g c =
+    let inside = c.self.inside in
+    let working : inside.failed ≡ false = search rules in
+    still_working inside.store.conn inside.failed c.args.self.now c.self.view_is working c.within.new.conn (λ a b. LeavesTablesIf g.S.Store a b (λ t. ¬ IsUnused c.args.caller c.args.number t))
+    (λ clean t has used trees may. let got = c.in-Ok.ensures.done clean t has in inr (subst (λ (u : Tables). StandsFor u trees) (got.1.1 used) (got.4 trees may)))
+
+pub returns-in-Ok-clause-noted : goal.returns-in-Ok-clause-noted
+returns-in-Ok-clause-noted g c =
+    let inside = c.self.inside in
+    let working : inside.failed ≡ false = search rules in
+    still_working inside.store.conn inside.failed c.args.self.now c.self.view_is working c.within.new.conn (λ a b. Notes g.S.Store a (entry c.args.caller c.args.number c.args.day c.args.command.now c.in-Ok.reply) b)
+    (λ clean t has unused. let got = c.in-Ok.ensures.done clean t has in (got.0, got.1.2 unused, record { now = got.2; committed = got.3; left = got.4 }))
 
 pub returns-in-Err-clause-step : goal.returns-in-Err-clause-step
 returns-in-Err-clause-step g c =
@@ -145,3 +160,16 @@ returns-in-Err-clause-kept g c stays =
     from_working inside.store.conn inside.failed c.args.self.now c.self.view_is working (λ a. HasSameIf g.S.Store a c.end.new.self (λ t. ¬ IsUnused c.args.caller c.args.number t))
     (λ clean t has used. ended_same g.S.Store call inside.store.conn c.within.new.conn c.in-Err.stop c.end.new.self c.end.result c.end.ensures.clean
     (λ clean t has on. rolled_back_stays g.S.Store inside.store.conn c.within.new.conn t (c.in-Err.ensures.stays clean t has) (c.in-Err.ensures.was_open clean t has) (c.is_autocommit-outside.ensures.settled (search rules)) has on) c.end.ensures.still stays clean t has)
+
+pub returns-in-Err-clause-left : goal.returns-in-Err-clause-left
+returns-in-Err-clause-left g c =
+    let inside = c.self.inside in
+    let working : inside.failed ≡ false = search rules in
+    from_working inside.store.conn inside.failed c.args.self.now c.self.view_is working (λ a. LeavesTablesIf g.S.Store a c.end.new.self (λ t. ¬ IsUnused c.args.caller c.args.number t))
+    (λ clean t has used trees may. elim (c.end.ensures.survives.crash clean trees may) [
+      | inl then ↦ elim ((c.within.ensures.crash t has).crash (c.end.ensures.clean clean) trees then) [
+        | inl before ↦ inl before
+        | inr it ↦ inr (it.0, subst (λ (u : Tables). HasTables u it.0) (it.1.2.1 used) it.1.3, it.2)
+      ]
+      | inr none ↦ absurd none
+    ])
