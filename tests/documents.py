@@ -229,7 +229,45 @@ class Plans(unittest.TestCase):
 
 
 class Promises(unittest.TestCase):
-    """Each test that docs/promises.md names is there."""
+    """Each clause and each test that docs/promises.md names is there."""
+
+    NAMES = r"`[\w:]+`(?: \([^)]*\))?"
+    CLAUSES = re.compile(rf"((?:{NAMES}, )*{NAMES}) of ((?:{NAMES}, )*{NAMES})")
+
+    def test_what_is_proved_names_its_clauses(self):
+        text = (ROOT / "docs/promises.md").read_text()
+        rows = text[text.index("| Crate | Promise |"):text.index("## What is only tested")].splitlines()[2:]
+        functions = {path.name: self.clauses(path) for path in (ROOT / "crates").iterdir()}
+        crate, count = None, 0
+        for row in filter(lambda it: it.startswith("|"), rows):
+            _, of, _, by, _ = row.split("|")
+            crate = next(iter(re.findall(r"`(\w+)`", of)), crate)
+            for clauses, names in self.CLAUSES.findall(by):
+                for name in self.outside(names):
+                    # A few are of another crate than that of the row.
+                    there = functions[crate].get(name) or {it for at in functions.values() for it in at.get(name, ())}
+                    self.assertLessEqual(set(self.outside(clauses)), there, f"{crate}: {name}")
+                    count += 1
+        self.assertGreater(count, 200)
+
+    def clauses(self, crate):
+        """The clauses of each function of a crate, and of each of its modules; and of each type those of its crate's
+        functions, with their names."""
+        found, names = {}, set()
+        for path in (crate / "src").rglob("*.rt"):
+            for function in re.split(r"\bfn (?=\w)", path.read_text())[1:]:
+                name = re.match(r"\w+", function)[0]
+                clauses = re.findall(r"ensures\*? (\w+) \{", function)
+                found.setdefault(name, {name}).update(clauses)
+                found.setdefault(path.stem, set()).update(clauses)
+                names |= {name, *clauses}
+            for type_name in re.findall(r"\b(?:struct|enum|trait) (\w+)", path.read_text()):
+                found[type_name] = names
+        return found
+
+    def outside(self, names):
+        """The last parts of these names, but for those in brackets."""
+        return [it.split(":")[-1] for it in re.findall(r"`([\w:]+)`", re.sub(r"\([^)]*\)", "", names))]
 
     def test_what_is_only_tested_names_its_tests(self):
         text = (ROOT / "docs/promises.md").read_text()
@@ -243,6 +281,31 @@ class Promises(unittest.TestCase):
                 content = (ROOT / path).read_text()
                 for name in filter(None, test.split(".")):
                     self.assertRegex(content, rf"(?:class|def|fn) {name}\b", what)
+
+
+class House(unittest.TestCase):
+    """What the tables of docs/architecture.md say of crates and of wrong programs."""
+
+    def names(self, head, *columns):
+        """The names in some columns of each row of the table with this head."""
+        text = (ROOT / "docs/architecture.md").read_text()
+        rows = text[text.index(head):].partition("\n\n")[0].splitlines()[2:]
+        return [[re.findall(r"`(\w+)`", row.split("|")[it]) for it in columns] for row in rows]
+
+    def test_each_crate_stands_below_those_that_it_uses(self):
+        rows = self.names("| Crate | What it is |", 1)
+        places = {name: place for place, (names,) in enumerate(rows) for name in names}
+        uses = dict(re.findall(r"^(\w+):(.*)$", (ROOT / "crates.txt").read_text(), re.M))
+        self.assertEqual(places.keys(), uses.keys())
+        for crate, used in uses.items():
+            for other in used.split():
+                self.assertLess(places.get(other, -1), places[crate], f"{crate} uses {other}")
+
+    def test_each_wrong_program_is_there(self):
+        rows = self.names("| Wrong program | Crate |", 1, 2)
+        told = {(crate, name) for names, crates in rows for name in names for crate in crates}
+        there = {(path.parts[-3], path.stem) for path in ROOT.glob("crates/*/must-fail/*.edit")}
+        self.assertEqual(told, there)
 
 
 class ReadingList(unittest.TestCase):
