@@ -1,5 +1,4 @@
 //! Lists of calls that an office takes at once.
-use crate::cases::{Case, holds};
 use clear_book::calls::{Call, Caller, Command, Query, Registration, WageReport};
 use clear_book::files::BankFile;
 use clear_book::numbers::RequestNo;
@@ -32,7 +31,8 @@ fn command(number: u64, command: Command) -> Option<Call> {
     })
 }
 
-fn register(alloc: Global) -> Option<Call> {
+/// The registration of the first firm, the clerk's first request.
+pub(crate) fn register(alloc: Global) -> Option<Call> {
     let name = String::from_str(alloc, "Bau Nord").ok()?;
     let registration = Registration {
         employer: employer()?,
@@ -92,7 +92,7 @@ fn is_owed(outcome: &Outcome) -> bool {
     }
 }
 
-fn is_done(outcome: &Outcome) -> bool {
+pub(crate) fn is_done(outcome: &Outcome) -> bool {
     matches!(outcome, Outcome::Replied(Reply::Done))
 }
 
@@ -139,9 +139,4 @@ fn is_first_account(outcomes: &[Outcome]) -> bool {
         }
         _ => false,
     }
-}
-
-#[test]
-fn an_office_takes_calls_one_after_another(rt: HostRuntime) {
-    assert!(rt; holds(rt.alloc(), Case::Calls));
 }

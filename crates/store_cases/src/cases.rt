@@ -1,7 +1,7 @@
 //! What is done with an office without requests over a store in memory, which is named here alone:
 //! all else goes over any store.
 use crate::calls::takes_calls;
-use crate::streams::{stops_at_read, stops_at_write, uses_up_the_reads};
+use crate::streams::{WRITTEN, stops_at_read, stops_at_write, uses_up_the_reads};
 use clear_callers::directory::Directory;
 use clear_money::days::Day;
 use clear_office::office::Office;
@@ -11,7 +11,7 @@ use sqlite::Alter;
 use std::alloc::Global;
 
 #[derive(Clone, Copy)]
-pub(crate) enum Case {
+enum Case {
     /// Calls are given at once.
     Calls,
     /// A stream's reads fail after so many.
@@ -22,8 +22,8 @@ pub(crate) enum Case {
     AllReads,
 }
 
-/// Whether all is as it should be.
-pub(crate) fn holds(alloc: Global, case: Case) -> bool {
+// Whether all is as it should be.
+fn holds(alloc: Global, case: Case) -> bool {
     let Ok(rates) = sample_rates(alloc) else {
         return false;
     };
@@ -61,4 +61,17 @@ fn holds_over<S: Alter + Drop>(
         ),
         Case::AllReads => uses_up_the_reads(alloc, &mut office, callers, day),
     }
+}
+
+#[test]
+fn an_office_takes_calls_and_streams(rt: HostRuntime) {
+    let alloc = rt.alloc();
+    assert!(rt; holds(alloc, Case::Calls));
+    for reads in 0..7 {
+        assert!(rt; holds(alloc, Case::Reads(reads)));
+    }
+    for (writes, count) in WRITTEN.iter().enumerate() {
+        assert!(rt; holds(alloc, Case::Writes(writes, *count)));
+    }
+    assert!(rt; holds(alloc, Case::AllReads));
 }

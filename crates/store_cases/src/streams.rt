@@ -1,5 +1,4 @@
 //! Streams to an office, whose readers and writers fail.
-use crate::cases::{Case, holds};
 use clear_callers::directory::Directory;
 use clear_http::desk::serve;
 use clear_http::serve::{Fault, ServeFault, Served};
@@ -85,15 +84,15 @@ impl Write for FailingWriter<'_> {
 // A stream: its bytes, how many of them a read gives at most, and after how many calls its reads
 // and its writes fail.
 #[derive(Clone, Copy)]
-struct Stream<'a> {
-    bytes: &'a [u8],
-    step: usize,
-    reads: usize,
-    writes: usize,
+pub(crate) struct Stream<'a> {
+    pub bytes: &'a [u8],
+    pub step: usize,
+    pub reads: usize,
+    pub writes: usize,
 }
 
 // Serves a stream, and what is written is appended to what was taken.
-fn served<S: Alter>(
+pub(crate) fn served<S: Alter>(
     alloc: Global,
     office: &mut Office<S>,
     directory: &Directory,
@@ -186,9 +185,9 @@ pub(crate) fn stops_at_read<S: Alter>(
     }
 }
 
-// After so many writes, how many answers are written whole: they have 84, 100 and 131 bytes, 3, 3
-// and 4 writes.
-const WRITTEN: [u64; 10] = [0, 0, 0, 1, 1, 1, 2, 2, 2, 2];
+/// After so many writes, how many answers are written whole: they have 84, 100 and 131 bytes, 3, 3
+/// and 4 writes.
+pub(crate) const WRITTEN: [u64; 10] = [0, 0, 0, 1, 1, 1, 2, 2, 2, 2];
 
 // A front of all answers is written, so many of them whole. Sent again to the office, all requests
 // have the answers that they would have had.
@@ -250,16 +249,4 @@ pub(crate) fn uses_up_the_reads<S: Alter>(
         Ok(_) => false,
         Err(stopped) => matches!(stopped.fault, Fault::Reads) && stopped.answered == 1,
     }
-}
-
-#[test]
-fn a_stream_tells_where_it_stopped(rt: HostRuntime) {
-    let alloc = rt.alloc();
-    for reads in 0..7 {
-        assert!(rt; holds(alloc, Case::Reads(reads)));
-    }
-    for (writes, count) in WRITTEN.iter().enumerate() {
-        assert!(rt; holds(alloc, Case::Writes(writes, *count)));
-    }
-    assert!(rt; holds(alloc, Case::AllReads));
 }
