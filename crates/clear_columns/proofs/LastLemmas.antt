@@ -1,12 +1,16 @@
 -- A query for one row in the falling order of the keys gives the last of the rows that pass.
-use Rattle.clear_columns.proofs.Words.{◌≡◌, ◌==◌, ℕ, ℤ, List, [], ◌∷◌, Bool, true, false, arith, cond, nat_cmp, nat_tests, None, Equal, Less, map, filter, slice_get, refl, ◌∙◌, IsPermutation-filter, Database, Row, output, output_cmp, Ghosts, Term, Key, Tables, first_program, meets, plain_query, content, AnswersJust, HasTables, by_key, answers_just, store_schema, keyed_row}
+use Rattle.clear_columns.proofs.Words.{◌≡◌, ◌==◌, ℕ, ℤ, List, [], ◌∷◌, Bool, true, false, arith, cond, nat_cmp, nat_tests, None, Equal, Less, map, filter, slice_get, refl, ◌∙◌, IsPermutation-filter, Database, Row, output, output_cmp, Ghosts, Term, Key, Tables, first_program, meets, plain_query, content, AnswersJust, HasTables, by_key, answers_just, store_schema, keyed_row, numbered_row, Binary, Int, col, ap, sym, map-id, ordering_then}
 use Rattle.std.proofs.Common.{◌++◌, append-nil, subst, take, IsPermutation}
 use Rattle.std.proofs.lemmas.List.{take-map}
 use Rattle.std.proofs.lemmas.List.Sorted.{IsPermutation-middle, IsPermutation-refl, IsPermutation-sym, IsPermutation-trans}
 use Rattle.std.specs.List.{AllByRecursion, last_or}
+use Rattle.sqlite.specs.Query.{Output}
 use Rattle.sqlite.specs.Tree.{IsAscending}
+use Rattle.sqlite_keyed.proofs.KeyedLemmas.{Less-from_lt}
+use Rattle.sqlite_value.proofs.OrderLemmas.{value_cmp-Int}
 use Rattle.clear_rows.proofs.Queries.{first_in_order}
 use Rattle.clear_columns.proofs.KeyedTable.{KeyedTable}
+use Rattle.clear_columns.proofs.NumberedTable.{NumberedTable}
 use Rattle.clear_columns.proofs.Says.{SaysQuery, is_query, plain_query_text, unlisted_query}
 
 -- ---- rows from the last to the first
@@ -97,3 +101,25 @@ module _ {X S : Type 0} (it : KeyedTable X) (g : Ghosts S) (t : Tables) (db : Da
       let down = falls (λ a b. output_cmp (plain_query it.table.tree conditions columns order) (sorted b, shown b) (sorted a, shown a) ≡ Less) rows (rises_passing p (λ a b. by_key it.key a b ≡ Less) _ orders (it.rows t) kept.rises) in
       answers_just g says.names sql params store_schema (is_query says) (plain_query_text says) (unlisted_query says) db has.schema _
       (λ found answer. first_in_order it.table.tree conditions columns order params (keyed_row it.given) content p tests (λ x. (sorted x, shown x)) shows db.schema db.trees kept.numbered kept.stored.is found answer (from_last rows) same down ∙ take-map shown 1 (from_last rows))
+
+-- ---- rows of a table that stand under a number
+
+-- the greatest number first
+abbrev pub by_falling : List (Term × Key)
+by_falling = (col 1 0, record { collation = Binary; descending = true }) ∷ []
+
+-- what a query tells of a row, and its number, by which it is put in order
+abbrev out : {X : Type 0} → NumberedTable X → (X → Row) → X → Output
+out it shown x = (Int (it.as_int (it.number x)) ∷ [], shown x)
+
+module _ {X S : Type 0} (it : NumberedTable X) (g : Ghosts S) (t : Tables) (db : Database) (has : HasTables t db) {sql : List ℕ} {conditions columns : List Term} (params : Row) (shown : X → Row) (p : X → Bool) (tests : (x : X) → meets conditions params (numbered_row it.given x) ≡ p x) where
+  -- of the rows that pass, the one with the greatest number
+  pub finds_greatest : SaysQuery sql (first_program it.table.tree conditions columns by_falling) → ((x : X) → output (plain_query it.table.tree conditions columns by_falling) (params ∷ numbered_row it.given x ∷ []) ≡ out it shown x) → AnswersJust g sql params db (map shown (take 1 (from_last (filter p (it.rows t)))))
+  finds_greatest says shows =
+      let kept = it.has t db has in
+      let rows = filter p (it.rows t) in
+      let same : IsPermutation (filter p (map (λ x. x) (it.rows t))) (from_last rows) = subst (λ l. IsPermutation (filter p l) (from_last rows)) (sym (map-id (it.rows t))) (same_rows rows) in
+      let down = falls (λ a b. output_cmp (plain_query it.table.tree conditions columns by_falling) (out it shown b) (out it shown a) ≡ Less) rows
+      (rises_passing p _ _ (λ a b first second less. ap (λ o. ordering_then o Equal) (value_cmp-Int (it.as_int (it.number a)) (it.as_int (it.number b)) ∙ Less-from_lt (it.as_int (it.number a)) (it.as_int (it.number b)) less)) (it.rows t) kept.keyed) in
+      answers_just g says.names sql params store_schema (is_query says) (plain_query_text says) (unlisted_query says) db has.schema _
+      (λ found answer. first_in_order it.table.tree conditions columns by_falling params (numbered_row it.given) (λ x. x) p tests (out it shown) shows db.schema db.trees (it.rows t) kept.is found answer (from_last rows) same down ∙ take-map shown 1 (from_last rows))

@@ -14,7 +14,7 @@ use Rattle.std.specs.Float.Ieee
 use Rattle.sqlite_schema.specs.Rules.{is_of}
 use Rattle.sqlite_sql.specs.declared.ops.BinaryOp.TheVariants.{And, Compare, Is, Or}
 use Rattle.sqlite_sql.specs.declared.ops.CompareOp.{CompareOp}
-use Rattle.sqlite_sql.specs.declared.ops.CompareOp.TheVariants.{Eq, Ge, Gt, Ne}
+use Rattle.sqlite_sql.specs.declared.ops.CompareOp.TheVariants.{Eq, Ge, Gt, Le, Ne}
 use Rattle.sqlite_value.proofs.OrderLemmas.{value_cmp-Int, value_cmp-Text}
 use Rattle.clear_values.specs.Lines.{same_purpose}
 use Rattle.clear_values.specs.declared.lines.Purpose.{Purpose}
@@ -83,6 +83,9 @@ greater m n = grind (arith, nat_tests)
 at_least : (m n : ℕ) → test Ge (nat_cmp m n) ≡ nat_le n m
 at_least m n = grind (arith, nat_tests)
 
+at_most : (m n : ℕ) → test Le (nat_cmp m n) ≡ nat_le m n
+at_most m n = grind (arith, nat_tests)
+
 pub is_above : (m n : ℕ) → is_true (binary (Compare Gt Binary) (number m) (number n)) ≡ nat_lt n m
 is_above m n = ap is_true (tested Gt m n) ∙ told _ ∙ greater m n
 
@@ -148,6 +151,10 @@ equal_months m n = equal_ints (month_number m) (month_number n) ∙ same_months 
 pub months_from : (m n : ℕ) → is_true (binary (Compare Ge Binary) (month m) (month n)) ≡ nat_le n m
 unfolding binary
 months_from m n = told _ ∙ ap (test Ge) (value_cmp-Int (month_number m) (month_number n) ∙ month_order m n) ∙ at_least m n
+
+pub months_to : (m n : ℕ) → is_true (binary (Compare Le Binary) (month m) (month n)) ≡ nat_le m n
+unfolding binary
+months_to m n = told _ ∙ ap (test Le) (value_cmp-Int (month_number m) (month_number n) ∙ month_order m n) ∙ at_most m n
 
 pub months_compare : (m n : ℕ) → value_cmp (month m) (month n) ≡ nat_cmp m n
 months_compare m n = value_cmp-Int (month_number m) (month_number n) ∙ month_order m n

@@ -21,7 +21,7 @@ pub use Rattle.clear_values.specs.declared.rows.WageRow.{WageRow}
 pub use Rattle.clear_columns.proofs.KeyLemmas.{by_key_total, first_found, is_key_is, key_is, turned, turned_nat}
 pub use Rattle.clear_columns.proofs.ListLemmas.{all_pass, each_fails, none_replaced, one_passes}
 pub use Rattle.clear_columns.proofs.ReadingLemmas.{answers_just}
-pub use Rattle.clear_columns.proofs.StoredLemmas.{cast_maybe, comes_from, equal_maybe, equal_numbers, equal_purposes, equal_ranks, is_above, maybe_from, maybe_none, maybe_typed, numbers_compare, others_differ, purposes_compare, same_numbers, two_met, cast_maybe_month, equal_months, maybe_month_typed, months_compare, months_from, months_keep, numbers_keep}
+pub use Rattle.clear_columns.proofs.StoredLemmas.{cast_maybe, comes_from, equal_maybe, equal_numbers, equal_purposes, equal_ranks, is_above, maybe_from, maybe_none, maybe_typed, numbers_compare, others_differ, purposes_compare, same_numbers, two_met, cast_maybe_month, equal_months, maybe_month_typed, months_compare, months_from, months_keep, months_to, numbers_keep}
 pub use Rattle.clear_rows.proofs.Edits.{no_rows, updated_is}
 pub use Rattle.clear_rows.proofs.Held.{content}
 pub use Rattle.clear_rows.proofs.KeepsKeys.{update_harmless, update_violates}
@@ -71,7 +71,7 @@ pub use Rattle.sqlite_schema.specs.declared.schema.Constraint.TheVariants.{Datat
 pub use Rattle.sqlite_schema.specs.declared.schema.Index.{Index}
 pub use Rattle.sqlite_schema.specs.declared.schema.Keys.TheVariants.{Enforced}
 pub use Rattle.sqlite_sql.specs.declared.ops.BinaryOp.TheVariants.{And, Compare, Is, Or}
-pub use Rattle.sqlite_sql.specs.declared.ops.CompareOp.TheVariants.{Eq, Ge, Gt, Ne}
+pub use Rattle.sqlite_sql.specs.declared.ops.CompareOp.TheVariants.{Eq, Ge, Gt, Le, Ne}
 pub use Rattle.sqlite_value.proofs.OrderLemmas.{value_cmp-Text}
 pub use Rattle.sqlite_value.specs.declared.keys.Key.{Key}
 pub use Rattle.std.proofs.Common.{Bool, Equal, Less, List, None, Option, Some, [], ap, arith, codes, drop, false, filter, inl, inr, int_cmp, is_eq, is_none, map, nat_lt, pos, refl, slice_get, subst, sym, true, ℕ, ℤ, ◌&&◌, ◌==◌, ◌||◌, ◌∙◌, ◌∷◌, ◌≡◌, ◌≢◌, IsPermutation, cond, length, map-id, not, true≢false, ◌/◌, ◌≤◌}

@@ -30,3 +30,9 @@ pub last_in_range : {X : Type 0} (P : X → Type 0) (test : X → Bool) (rows : 
     → (fault ≡ Store OutOfRange → (x : X) × (last_or None (filter test rows) ≡ Some x) × ¬ P x) → AllByRecursion P rows → IsOfDisk fault
 last_in_range P test rows fault free range all =
     (free, λ told. let (x, at, bad) = range told in bad (subst (λ found. IfSome found P) at (last_holds P None (filter test rows) tt (all-filter P test rows all))))
+
+-- of a look at that row
+pub last_look_in_range : {X A : Type 0} (P : X → Type 0) (test : X → Bool) (rows : List X) (result : Result A Fault) → IfErr result (λ fault. fault ≢ Store Constraint)
+    → IfErr result (λ fault. fault ≡ Store OutOfRange → (x : X) × (last_or None (filter test rows) ≡ Some x) × ¬ P x) → AllByRecursion P rows → IfErr result IsOfDisk
+last_look_in_range P test rows (Ok found) free range all = tt
+last_look_in_range P test rows (Err fault) free range all = last_in_range P test rows fault free range all

@@ -1,10 +1,12 @@
 -- The reports: under their firms and months.
-use Rattle.clear_columns.proofs.Words.{◌≡◌, ◌==◌, ℤ, pos, ℕ, Bool, true, List, [], ◌∷◌, Less, map, filter, refl, inl, is_eq, codes, cast_row, Binary, Insert, Update, Database, Row, Values, Ghosts, Term, lit, col, op2, Null, automatic, agree, Compare, Eq, Key, is_key, Tables, ReportRow, report_key, meets, output_cmp, plain_program, plain_query, content, HasTables, by_key, reports_table, month, month_number, number, cast_int, cast_null, equal_months, equal_numbers, key_is, months_compare, numbers_compare, AnswersJust, and-true, keyed_row}
+use Rattle.clear_columns.proofs.Words.{◌≡◌, ◌==◌, ℤ, pos, ℕ, Bool, true, List, [], ◌∷◌, Less, map, filter, refl, inl, is_eq, codes, cast_row, Binary, Insert, Update, Database, Row, Values, Ghosts, Term, lit, col, op2, Null, automatic, agree, Compare, Eq, Key, is_key, Tables, ReportRow, report_key, meets, output_cmp, first_program, ordering_then, Equal, plain_program, plain_query, content, HasTables, by_key, reports_table, month, month_number, number, cast_int, cast_null, equal_months, equal_numbers, key_is, months_compare, numbers_compare, AnswersJust, and-true, keyed_row}
 use Rattle.sqlite_tied.specs.Compute.{everything}
 use Rattle.sqlite_value.specs.Keys.{ascending, first_key, plain}
 use Rattle.clear_values.proofs.KeyedLemmas.{is_key-true}
 use Rattle.clear_schema.proofs.Changes.{reports_changed}
 use Rattle.clear_columns.proofs.KeyedTable.{KeyedTable, lists, lists_all, or_false}
+use Rattle.clear_columns.proofs.LastLemmas.{as_one, finds_last, from_last}
+use Rattle.std.proofs.Common.{Ordering, Greater, take}
 use Rattle.clear_columns.proofs.Says.{Says, SaysQuery}
 use Rattle.clear_values.specs.Keyed.{is_held}
 use Rattle.clear_schema.specs.Values.{report_shown}
@@ -73,6 +75,17 @@ list_says : SaysQuery list (plain_program 3 by_firm columns order)
 unfolding everything
 list_says = record { names = _; said = (refl, refl, refl) }
 
+-- the latest month first
+abbrev falling : List (Term × Key)
+falling = (col 1 2, record { collation = Binary; descending = true }) ∷ []
+
+abbrev pub last_by : List ℕ
+last_by = codes "SELECT employer, month, version FROM reports WHERE employer = ?1 ORDER BY month DESC LIMIT 1"
+
+last_by_says : SaysQuery last_by (first_program 3 by_firm columns falling)
+unfolding everything
+last_by_says = record { names = _; said = (refl, refl, refl) }
+
 abbrev pub all : List ℕ
 all = codes "SELECT employer, month, version FROM reports ORDER BY employer, month"
 
@@ -115,9 +128,21 @@ sorted row = number row.employer ∷ month row.month ∷ []
 rises : (a b : ReportRow) → by_key report_key a b ≡ Less → output_cmp (plain_query 3 by_firm columns order) (sorted a, report_shown a) (sorted b, report_shown b) ≡ Less
 rises a b less = rw (numbers_compare a.employer b.employer, months_compare a.month b.month) less
 
+by_months : (firms months : Ordering) → firms ≡ Equal → ordering_then firms (ordering_then months Equal) ≡ Less → ordering_then months Equal ≡ Less
+by_months Equal months same less = less
+by_months Less months same less = absurd cc
+by_months Greater months same less = absurd cc
+
+-- of one firm's reports the later is that of the later month
+falls : (e : ℕ) (a b : ReportRow) → is_by e a ≡ true → is_by e b ≡ true → by_key report_key a b ≡ Less → output_cmp (plain_query 3 by_firm columns falling) (month b.month ∷ [], report_shown b) (month a.month ∷ [], report_shown a) ≡ Less
+falls e a b first second less = rw (months_compare a.month b.month) (by_months _ _ (as_one a.employer b.employer e first second) less)
+
 module _ {S : Type 0} (g : Ghosts S) (t : Tables) (db : Database) (has : HasTables t db) where
   pub answers_of : (e : ℕ) → AnswersJust g list (number e ∷ []) db (map report_shown (filter (is_by e) t.reports))
   answers_of e = lists reports g t db has (number e ∷ []) report_shown (is_by e) (of_firm e) list_says sorted (λ _. refl) rises
+
+  pub answers_last : (e : ℕ) → AnswersJust g last_by (number e ∷ []) db (map report_shown (take 1 (from_last (filter (is_by e) t.reports))))
+  answers_last e = finds_last reports g t db has (number e ∷ []) report_shown (is_by e) (of_firm e) last_by_says (λ row. month row.month ∷ []) (λ _. refl) (falls e)
 
   pub answers_all : AnswersJust g all [] db (map report_shown t.reports)
   answers_all = lists_all reports g t db has [] report_shown (λ _. refl) all_says sorted (λ _. refl) rises

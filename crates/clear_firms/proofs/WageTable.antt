@@ -109,13 +109,6 @@ columns = col 1 1 ∷ col 1 2 ∷ col 1 3 ∷ col 1 4 ∷ []
 abbrev order : List (Term × Key)
 order = (col 1 1, ascending Binary) ∷ (col 1 2, ascending Binary) ∷ (col 1 3, ascending Binary) ∷ []
 
-abbrev pub list : List ℕ
-list = codes "SELECT employer, month, worker, gross FROM wages WHERE employer = ?1 AND month = ?2 ORDER BY employer, month, worker"
-
-list_says : SaysQuery list (plain_program 5 by_month columns order)
-unfolding everything
-list_says = record { names = _; said = (refl, refl, refl) }
-
 -- ---- what they do
 
 -- the row is of a firm's month
@@ -130,12 +123,6 @@ of_month e m y =
 -- what ORDER BY goes by
 abbrev sorted : WageRow → Row
 sorted row = number row.employer ∷ month row.month ∷ number row.worker ∷ []
-
-rises : (a b : WageRow) → by_key wage_key a b ≡ Less → output_cmp (plain_query 5 by_month columns order) (sorted a, wage_shown a) (sorted b, wage_shown b) ≡ Less
-rises a b less = rw (numbers_compare a.employer b.employer, months_compare a.month b.month, numbers_compare a.worker b.worker) less
-
-pub answers : {S : Type 0} (g : Ghosts S) (t : Tables) (db : Database) (e m : ℕ) → HasTables t db → AnswersJust g list (month_given e m) db (map wage_shown (filter (is_of e m) t.wages))
-answers g t db e m has = lists wages g t db has (month_given e m) wage_shown (is_of e m) (of_month e m) list_says sorted (λ _. refl) rises
 
 -- ---- those of a worker
 

@@ -1,19 +1,21 @@
 //! The table of rates.
-ghost use Rattle.std.specs.Prelude.{◌≡◌, ◌≢◌, IfErr, IfOk};
+ghost use Rattle.std.specs.List.{last_or};
+ghost use Rattle.std.specs.Prelude.{◌≡◌, ◌≢◌, None, filter, nat_le, IfErr, IfOk};
 ghost use Rattle.clear_money.specs.Rates.{IsRate};
 ghost use Rattle.clear_values.specs.Keyed.{is_held, with_row};
 ghost use Rattle.clear_values.specs.Ranges.{AreRates};
-ghost use Rattle.clear_schema.specs.Frame.{Lists, LooksUp, Writes};
+ghost use Rattle.clear_schema.specs.Frame.{Finds, Lists, LooksUp, Writes};
 ghost use Rattle.clear_schema.specs.Values.{rate_shown};
 ghost use Rattle.clear_firms.specs.Shown.{rate_key};
 
 use clear_columns::columns::{month_at, month_day_at, rate_at};
-use clear_columns::queries::list;
+use clear_columns::queries::{find, list};
 use clear_columns::rows::StoredTable;
+use clear_money::months::Month;
 use clear_money::rates::{PushFault, RateRow, RateTable};
 use clear_schema::fault::Fault;
 use clear_schema::statement::put;
-use clear_schema::values::rate_values;
+use clear_schema::values::{month, rate_values};
 use clear_values::causes::StoreCause;
 use sqlite::{Alter, Row, Transaction};
 use std::alloc::Global;
@@ -30,6 +32,21 @@ pub fn insert_rate<S: Alter>(tx: &mut Transaction<'_, S>, row: &RateRow) -> Resu
         "INSERT INTO rates (first, contribution, report_day, due_day, interest, entitlement) \
          VALUES (?1, ?2, ?3, ?4, ?5, ?6)",
         &rate_values(row),
+    )
+}
+
+/// The row with the greatest first month that isn't after a month, if there is one: the row that is in
+/// force for it. It is found by a search.
+pub fn find_rate<S: Alter>(tx: &mut Transaction<'_, S>, at: Month) -> Result<Option<RateRow>, Fault>
+    ensures same_reference { tx.new.conn.ghost_name ≡ tx.old.conn.ghost_name }
+    ensures looks { Finds S.Store tx.old.conn.now tx.new.conn.now result IsRate
+        (λ t. last_or None (filter (λ rate. nat_le rate.first at) t.rates)) }
+{
+    find::<S, Rates>(
+        tx,
+        "SELECT first, contribution, report_day, due_day, interest, entitlement FROM rates \
+         WHERE first <= ?1 ORDER BY first DESC LIMIT 1",
+        &[month(at)],
     )
 }
 

@@ -1,6 +1,7 @@
 //! The table of reports: the version of each month's latest report.
 ghost use Rattle.std.specs.Borrow.{sem, RestsIfErr};
-ghost use Rattle.std.specs.Prelude.{◌≡◌, ◌≤◌, ◌==◌, [], ◌∷◌, false, filter, IfOk};
+ghost use Rattle.std.specs.List.{last_or};
+ghost use Rattle.std.specs.Prelude.{◌≡◌, ◌≤◌, ◌==◌, [], ◌∷◌, None, false, filter, IfOk};
 ghost use Rattle.sqlite.specs.Values.{bound};
 ghost use Rattle.sqlite.specs.contracts.connection.Connection.{the_row};
 ghost use Rattle.clear_values.specs.Keyed.{find_row, is_held, replaced, with_row};
@@ -93,6 +94,23 @@ pub fn reports_of<S: Alter>(
     list::<S, Reports>(
         tx,
         "SELECT employer, month, version FROM reports WHERE employer = ?1 ORDER BY employer, month",
+        &[employer(no)],
+    )
+}
+
+/// The report of a firm's last month that has one: the greatest of these months, by the key.
+pub fn find_last<S: Alter>(
+    tx: &mut Transaction<'_, S>,
+    no: EmployerNo,
+) -> Result<Option<ReportRow>, Fault>
+    ensures same_reference { tx.new.conn.ghost_name ≡ tx.old.conn.ghost_name }
+    ensures looks { Finds S.Store tx.old.conn.now tx.new.conn.now result IsReportRow
+        (λ t. last_or None (filter (λ row. row.employer == no) t.reports)) }
+{
+    find::<S, Reports>(
+        tx,
+        "SELECT employer, month, version FROM reports WHERE employer = ?1 \
+         ORDER BY month DESC LIMIT 1",
         &[employer(no)],
     )
 }

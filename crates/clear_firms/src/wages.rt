@@ -91,24 +91,6 @@ pub fn delete_wages<S: Alter>(
     )
 }
 
-/// The lines of a firm's month, the workers' numbers rising.
-pub fn wages_of<S: Alter>(
-    tx: &mut Transaction<'_, S>,
-    no: EmployerNo,
-    at: Month,
-) -> Result<Vec<WageRow>, Fault>
-    ensures same_reference { tx.new.conn.ghost_name ≡ tx.old.conn.ghost_name }
-    ensures looks { Lists S.Store tx.old.conn.now tx.new.conn.now result IsWageRow
-        (λ t. filter (λ row. is_wage_key_of no at (wage_key row)) t.wages) }
-{
-    list::<S, Wages>(
-        tx,
-        "SELECT employer, month, worker, gross FROM wages WHERE employer = ?1 AND month = ?2 \
-         ORDER BY employer, month, worker",
-        &month_values(no, at),
-    )
-}
-
 /// The lines of a worker in the latest reports, by firm and month.
 pub fn worker_wages<S: Alter>(
     tx: &mut Transaction<'_, S>,

@@ -1,5 +1,4 @@
 pub mod ClaimLemmas
-pub mod EndLemmas
 pub mod FirmLemmas
 pub mod ImportLemmas
 pub mod ReleaseLemmas

@@ -1,7 +1,5 @@
 //! What the end of a membership is judged by.
-ghost use Rattle.std.specs.Prelude.{◌≡◌, ◌∷◌, [], None, IfErr, IfOk};
-ghost use Rattle.std.specs.List.{last_or};
-ghost use Rattle.std.specs.Option.{option_map};
+ghost use Rattle.std.specs.Prelude.{◌≡◌, ◌∷◌, [], IfErr, IfOk};
 ghost use Rattle.sqlite.specs.Held.{state};
 ghost use Rattle.sqlite.specs.State.{HasCleanDisk};
 ghost use Rattle.clear_book.specs.Keyed.{find_row};
@@ -14,8 +12,7 @@ ghost use Rattle.clear_views.specs.Ends.{last_report};
 
 use crate::member::find_member;
 use clear_book::calls::MembershipEnd;
-use clear_book::rows::ReportRow;
-use clear_firms::reports::reports_of;
+use clear_firms::reports::find_last;
 use clear_money::months::Month;
 use clear_money::numbers::EmployerNo;
 use clear_rules::decide::end::EndView;
@@ -23,9 +20,8 @@ use clear_schema::fault::Fault;
 use sqlite::{Alter, Transaction};
 
 /// What the end of a firm's membership is judged by: the firm, if it is registered, and the
-/// greatest month of which it has a report, if there is one. It takes one search for the firm, and
-/// reads its latest reports, of which there are at most 2,400. Where the rows lie in their ranges,
-/// no fault is one of a key or of a row.
+/// greatest month of which it has a report, if there is one: a search by a key each. Where the rows
+/// lie in their ranges, no fault is one of a key or of a row.
 pub fn end_view<S: Alter>(
     tx: &mut Transaction<'_, S>,
     end: &MembershipEnd,
@@ -44,12 +40,12 @@ pub fn end_view<S: Alter>(
     ensures leaves { Leaves S.Store tx.old.conn.now tx.new.conn.now result }
 {
     let member = find_member(tx, end.employer)?;
-    let reported = last_report(tx, end.employer)?;
+    let reported = last_month(tx, end.employer)?;
     Ok(EndView { member, reported })
 }
 
 // The greatest month of which a firm has a report, if there is one.
-fn last_report<S: Alter>(
+fn last_month<S: Alter>(
     tx: &mut Transaction<'_, S>,
     employer: EmployerNo,
 ) -> Result<Option<Month>, Fault>
@@ -62,16 +58,8 @@ fn last_report<S: Alter>(
         → AreInRange t → IfErr result IsOfDisk }
     ensures leaves { Leaves S.Store tx.old.conn.now tx.new.conn.now result }
 {
-    let rows = reports_of(tx, employer)?;
-    Ok(last_month(rows.as_slice()))
-}
-
-// The month of the last of these rows, if there is one.
-fn last_month(rows: &[ReportRow]) -> Option<Month>
-    ensures { result ≡ option_map (λ row. row.month) (last_or None rows.now) }
-{
-    match rows.last() {
-        Some(row) => Some(row.month),
-        None => None,
+    match find_last(tx, employer)? {
+        Some(row) => Ok(Some(row.month)),
+        None => Ok(None),
     }
 }

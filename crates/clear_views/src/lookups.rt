@@ -9,7 +9,7 @@ ghost use Rattle.clear_schema.specs.Frame.{Leaves};
 ghost use Rattle.clear_schema.specs.Faults.{IsOfDisk};
 ghost use Rattle.clear_schema.specs.Held.{HasTables};
 
-use clear_firms::rates::rate_table;
+use clear_firms::rates::find_rate;
 use clear_firms::reports::find_report;
 use clear_money::months::Month;
 use clear_money::numbers::EmployerNo;
@@ -52,6 +52,5 @@ pub(crate) fn rate_for<S: Alter>(
         → AreInRange t → IfErr result IsOfDisk }
     ensures leaves { Leaves S.Store tx.old.conn.now tx.new.conn.now result }
 {
-    let rates = rate_table(tx)?;
-    Ok(rates.in_force(month).copied())
+    find_rate(tx, month)
 }

@@ -1,0 +1,13 @@
+use Rattle.std.proofs.Common.{filter, take}
+use Rattle.clear_money.specs.Rates.{IsRate}
+use Rattle.clear_columns.proofs.LastLemmas.{from_last, last_of}
+use Rattle.clear_firms.proofs.RateTable.{answers_latest, has_begun}
+use Rattle.clear_schema.specs.Values.{rate_shown}
+use Rattle.clear_schema.proofs.FrameLemmas.{finds}
+use Rattle.clear_firms.proofs.rates.find_rate.Goals as goal
+
+pub returns-clause-looks : goal.returns-clause-looks
+returns-clause-looks g c =
+    let m = c.args.at in
+    finds g.S.Store c.args.tx.now.conn.now c.find.new.tx.conn.now rate_shown IsRate _ _ c.find.result (λ t. take 1 (from_last (filter (has_begun m) t.rates))) _ (λ t. last_of (filter (has_begun m) t.rates))
+    (λ t has. answers_latest g.S.Store t _ m has) (rw c.month.ensures at c.find.ensures.looks)
