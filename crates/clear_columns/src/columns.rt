@@ -45,6 +45,7 @@ fn in_range<T: Copy>(value: T, is_right: bool) -> Result<T, Fault>
 pub fn number_at(row: &Row, at: usize) -> Result<u64, Fault>
     ensures read { IfOk result (λ n. column row.now at ≡ stored.number n) }
     ensures cause { IfErr result (λ fault. fault ≢ Fault.Store StoreCause.Constraint) }
+    ensures other { IfErr result (λ fault. fault ≢ Fault.Store StoreCause.Other) }
     ensures range { IfErr result (λ fault. fault ≡ Fault.Store StoreCause.Row → at < length row.now
         → (n : ℕ) → column row.now at ≢ stored.number n) }
 {
@@ -87,6 +88,7 @@ pub fn amount_at(row: &Row, at: usize) -> Result<Amount, Fault>
 pub fn purpose_at(row: &Row, at: usize) -> Result<Purpose, Fault>
     ensures read { IfOk result (λ p. column row.now at ≡ stored.purpose p) }
     ensures cause { IfErr result (λ fault. fault ≢ Fault.Store StoreCause.Constraint) }
+    ensures other { IfErr result (λ fault. fault ≢ Fault.Store StoreCause.Other) }
     ensures range { IfErr result (λ fault. fault ≡ Fault.Store StoreCause.Row → at < length row.now
         → (p : Purpose) → column row.now at ≢ stored.purpose p) }
 {
@@ -315,6 +317,7 @@ fn month_from(number: u64) -> Option<Month>
 pub fn bytes_at(row: &Row, at: usize) -> Result<Vec<u8>, Fault>
     ensures read { IfOk result (λ bytes. column row.now at ≡ Blob bytes.items) }
     ensures cause { IfErr result (λ fault. fault ≢ Fault.Store StoreCause.Constraint) }
+    ensures other { IfErr result (λ fault. fault ≢ Fault.Store StoreCause.Other) }
     ensures range { IfErr result (λ fault. fault ≡ Fault.Store StoreCause.Row → at < length row.now
         → (bytes : List ℕ) → column row.now at ≢ Blob bytes) }
 {

@@ -1,5 +1,5 @@
 -- The claims: under their numbers.
-use Rattle.clear_columns.proofs.Words.{◌≡◌, ◌==◌, pos, ℕ, Bool, true, false, List, [], ◌∷◌, map, filter, refl, sym, subst, codes, cast_row, Binary, Insert, Update, Database, Row, Values, Ghosts, Term, lit, col, op2, Trees, Null, passes, Datatype, Compare, Eq, Ge, Tables, ClaimRow, ClaimState, Open, Withdrawn, Released, meets, plain_program, HasTables, claims_table, store_schema, number, cast_int, cast_null, cast_maybe, equal_maybe, equal_numbers, maybe_from, maybe_typed, numbers_keep, AnswersJust, and-true, numbered_row}
+use Rattle.clear_columns.proofs.Words.{◌≡◌, ◌==◌, pos, ℕ, Bool, true, false, List, [], ◌∷◌, map, filter, refl, codes, cast_row, Binary, Insert, Update, Database, Values, Ghosts, Term, lit, col, op2, Trees, Null, passes, Datatype, Compare, Eq, Ge, Tables, ClaimRow, ClaimState, Open, Withdrawn, Released, meets, plain_program, HasTables, claims_table, store_schema, number, cast_int, cast_null, cast_maybe, equal_maybe, equal_numbers, maybe_from, maybe_typed, numbers_keep, AnswersJust, and-true, numbered_row}
 use Rattle.std.proofs.Common.{◌∙◌, nat_le}
 use Rattle.std.specs.Option.{option_map_or}
 use Rattle.sqlite_tied.specs.Compute.{everything}
@@ -7,18 +7,7 @@ use Rattle.clear_schema.proofs.Changes.{claims_changed}
 use Rattle.clear_columns.proofs.NumberedTable.{NumberedTable, by_no, by_number, lists, lists_all}
 use Rattle.clear_columns.proofs.Says.{Says, SaysQuery}
 use Rattle.clear_values.specs.Payouts.{is_on, is_released_since}
-use Rattle.clear_schema.specs.Held.{HasNumbered}
-use Rattle.clear_schema.specs.Values.{claim_shown as claim_stored}
-use Rattle.clear_ledger.specs.Shown.{claim_shown, columns_of, shown_with}
-
--- as a claim stands in the table, these columns tell its state
-pub values_are : (x : ClaimRow) → claim_stored x ≡ claim_shown x
-values_are x = of x.state
-  where
-    of : (s : ClaimState) → claim_stored (record x { state = s }) ≡ shown_with x (columns_of s)
-    of Open = refl
-    of Withdrawn = refl
-    of (Released r) = refl
+use Rattle.clear_schema.specs.Values.{claim_shown, columns_of}
 
 pub stored : (x : ClaimRow) → cast_row claims_table (numbered_row claim_shown x) ≡ numbered_row claim_shown x
 stored x =
@@ -60,8 +49,8 @@ claims = record {
   typed = typed;
   present = λ _ _. refl;
   checked = λ _ _. refl;
-  has = λ t db has. subst (λ (v : ClaimRow → Row). HasNumbered (λ x. x.claim) v t.claims (db.trees 12)) (λ i x. values_are x i) has.claims;
-  changed = λ t old new has schema sound xs fits same it. claims_changed t old new has schema sound xs same (subst (λ (v : ClaimRow → Row). HasNumbered (λ x. x.claim) v xs (new.trees 12)) (λ i x. sym (values_are x) i) it);
+  has = λ t db has. has.claims;
+  changed = λ t old new has schema sound xs fits. claims_changed t old new has schema sound xs;
 }
 
 -- ---- the texts

@@ -6,7 +6,6 @@ pub mod ListTable
 pub mod LookLemmas
 pub mod PieceTable
 pub mod ReminderTable
-pub mod ReplyLemmas
 pub mod RequestTable
 pub mod RunTable
 pub mod StateLemmas

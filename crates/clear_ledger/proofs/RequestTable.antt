@@ -1,5 +1,5 @@
 -- The kept requests: under their callers and numbers.
-use Rattle.clear_columns.proofs.Words.{◌≡◌, ◌==◌, ℤ, pos, ℕ, true, List, [], ◌∷◌, Equal, Less, map, filter, refl, subst, sym, ap, inl, is_eq, ordering_then, Key, first_program, numbers_compare, output_cmp, codes, cast_row, Binary, Insert, Database, Row, Values, Ghosts, Term, lit, col, op2, Null, Blob, automatic, agree, Compare, Eq, is_key, RequestRow, Tables, meets, plain_program, plain_query, content, HasTables, by_key, request_key, requests_table, caller_number, number, cast_int, cast_null, AnswersJust, key_is, equal_numbers, and-true, keyed_row}
+use Rattle.clear_columns.proofs.Words.{◌≡◌, ◌==◌, ℤ, pos, ℕ, true, List, [], ◌∷◌, Equal, Less, map, filter, refl, subst, sym, ap, inl, is_eq, ordering_then, Key, first_program, numbers_compare, output_cmp, codes, cast_row, Binary, Insert, Database, Row, Values, Ghosts, Term, lit, col, op2, Null, automatic, agree, Compare, Eq, is_key, RequestRow, Tables, meets, plain_program, plain_query, content, HasTables, by_key, request_key, requests_table, caller_number, number, cast_int, cast_null, AnswersJust, key_is, equal_numbers, and-true, keyed_row}
 use Rattle.std.proofs.Common.{Greater, Option, Ordering, slice_get, take}
 use Rattle.std.specs.Option.{option_map, option_to_list}
 use Rattle.clear_values.specs.Keyed.{is_held}
@@ -9,17 +9,11 @@ use Rattle.clear_columns.proofs.LastLemmas.{as_one, finds_last, from_last, last_
 use Rattle.clear_values.specs.declared.callers.Caller.{Caller}
 use Rattle.std.proofs.lemmas.Simd.{map-map}
 use Rattle.clear_ledger.specs.Kept.{greatest_number, kept_of, requests_of}
-use Rattle.clear_schema.specs.Held.{HasKeyed}
-use Rattle.clear_schema.specs.Values.{request_shown as request_stored}
-use Rattle.clear_ledger.specs.Shown.{kept_shown, number_shown, numbers_of, request_shown}
+use Rattle.clear_schema.specs.Values.{numbers_of, request_shown}
+use Rattle.clear_ledger.specs.Shown.{kept_shown, number_shown}
 use Rattle.clear_columns.proofs.KeyedTable.{KeyedTable, few, finds, or_false}
-use Rattle.clear_ledger.proofs.ReplyLemmas.{columns_are}
 use Rattle.clear_columns.proofs.Says.{Says, SaysQuery}
 use Rattle.clear_schema.proofs.Changes.{requests_changed}
-
--- as a request stands in the table, the numbers of its reply are columns
-pub values_are : (x : RequestRow) → request_stored x ≡ request_shown x
-values_are x = ap (λ (l : Row). number (caller_number x.caller) ∷ number x.number ∷ number x.day ∷ Blob x.command ∷ l) (columns_are x.reply)
 
 pub keys_agree : (a b : ℤ × RequestRow) → agree plain (1 ∷ 2 ∷ []) (keyed_row request_shown a) (1 ∷ 2 ∷ []) (keyed_row request_shown b) ≡ is_eq (by_key request_key (content b) (content a))
 unfolding first_key
@@ -60,8 +54,8 @@ requests = record {
   typed = λ _ _. refl;
   present = λ _ _. refl;
   checked = λ _ _. refl;
-  has = λ t db has. subst (λ (v : RequestRow → Row). HasKeyed request_key v t.requests (db.trees 17)) (λ i x. values_are x i) has.requests;
-  changed = λ t old new has schema sound xs same it. requests_changed t old new has schema sound xs same (subst (λ (v : RequestRow → Row). HasKeyed request_key v xs (new.trees 17)) (λ i x. sym (values_are x) i) it);
+  has = λ t db has. has.requests;
+  changed = λ t old new has schema sound. requests_changed t old new has schema sound;
 }
 
 -- ---- the texts

@@ -4,8 +4,8 @@ use Rattle.clear_values.specs.RowRanges.{IsClaimRow, IsClaimState}
 use Rattle.clear_values.specs.declared.rows.ClaimRow.{ClaimRow}
 use Rattle.clear_values.specs.declared.rows.ClaimState.{ClaimState}
 use Rattle.clear_values.specs.declared.rows.ClaimState.TheVariants.{Open, Withdrawn, Released}
-use Rattle.clear_ledger.specs.Shown.{columns_of}
-use Rattle.clear_ledger.specs.declared.states.StateColumns.{StateColumns}
+use Rattle.clear_schema.specs.Values.{columns_of}
+use Rattle.clear_schema.specs.declared.columns.StateColumns.{StateColumns}
 
 -- 63 bits hold the amounts that columns tell of a claim
 pub parts_small : (x : ClaimRow) (columns : StateColumns) → columns ≡ columns_of x.state → IsClaimRow x → (columns.settlement.to_contributions < 2 ^ 63) × (columns.settlement.to_interest < 2 ^ 63) × (columns.settlement.paid < 2 ^ 63)

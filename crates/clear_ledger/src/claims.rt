@@ -9,10 +9,10 @@ ghost use Rattle.clear_values.specs.Tables.{claim_key};
 ghost use Rattle.clear_values.specs.declared.rows.ClaimRow.{ClaimRow as Claim};
 ghost use Rattle.clear_columns.specs.Reading.{IsLeftOn, ReadsOn};
 ghost use Rattle.clear_values.specs.Payouts.{is_on, is_released_since};
-ghost use Rattle.clear_ledger.specs.Shown.{claim_shown, columns_of};
 ghost use Rattle.clear_schema.specs.Frame.{Finds, Lists, Writes};
+ghost use Rattle.clear_schema.specs.Values.{claim_shown, columns_of};
 
-use crate::states::{StateColumns, is_claim_row, state_columns, state_of};
+use crate::states::{is_claim_row, state_columns, state_of};
 use clear_columns::columns::{
     amount_at, claim_at, day_at, employer_at, maybe_day_at, maybe_list_at, number_at, worker_at,
 };
@@ -23,6 +23,7 @@ use clear_columns::queries::{find, list};
 use clear_columns::rows::{StoredTable, begin_rows};
 use clear_money::days::Day;
 use clear_money::numbers::{Amount, WorkerNo};
+use clear_schema::columns::StateColumns;
 use clear_schema::fault::Fault;
 use clear_schema::statement::put;
 use clear_schema::values::number;

@@ -2,28 +2,20 @@
 ghost use Rattle.std.specs.Prelude.{◌≡◌, ◌↔◌, Some, IfSome, IsTrue};
 ghost use Rattle.clear_values.specs.declared.replies.Reply.{Reply};
 ghost use Rattle.clear_values.specs.RowRanges.{IsReply};
-ghost use Rattle.clear_ledger.specs.Shown.{AreSmall, numbers_of};
+ghost use Rattle.clear_schema.specs.Values.{numbers_of};
+ghost use Rattle.clear_ledger.specs.Shown.{AreSmall};
 
 use crate::lists::is_listed;
 use crate::runs::is_reminded;
 use crate::states::settled_cents;
 use clear_columns::ranges::{is_contribution, is_version};
 use clear_money::numbers::Amount;
+use clear_schema::columns::ReplyNumbers;
 use clear_values::limits::MAX_RECORDS;
 use clear_values::numbers::{ClaimNo, ListNo, RunNo};
 use clear_values::replies::{Reply, Settlement};
 
-/// The kind of a reply, and its own numbers: 0 stands for those that it has not.
-#[derive(Clone, Copy, PartialEq, Eq)]
-pub struct ReplyNumbers {
-    pub kind: u64,
-    pub first: u64,
-    pub second: u64,
-    pub third: u64,
-}
-
-/// The numbers of a reply. Kind 1 is done, 2 is reported, 3 is imported, 4 is claimed, 5 is released,
-/// 6 is listed, and 7 is reminded.
+/// The numbers of a reply.
 pub fn reply_numbers(reply: &Reply) -> ReplyNumbers
     ensures value { result ≡ numbers_of reply.now }
     ensures small { IsReply reply.now → AreSmall result }

@@ -13,14 +13,15 @@ ghost use Rattle.clear_values.specs.RowRanges.{IsReply};
 ghost use Rattle.clear_values.specs.Tables.{request_key, request_number};
 ghost use Rattle.clear_schema.specs.Values as stored;
 ghost use Rattle.clear_ledger.specs.Kept.{IsKept, Kept, greatest_number, kept_of, row_of};
-ghost use Rattle.clear_ledger.specs.Shown.{kept_shown, number_shown, numbers_of, request_shown};
+ghost use Rattle.clear_ledger.specs.Shown.{kept_shown, number_shown};
 
-use crate::replies::{ReplyNumbers, is_reply, reply_numbers, reply_of};
+use crate::replies::{is_reply, reply_numbers, reply_of};
 use clear_columns::columns::{bytes_at, day_at, number_at};
 use clear_columns::parameters::{bytes, caller as calling, day, request_no};
 use clear_columns::queries::find;
 use clear_columns::rows::{StoredTable, begin_rows};
 use clear_money::days::Day;
+use clear_schema::columns::ReplyNumbers;
 use clear_schema::fault::Fault;
 use clear_schema::statement::put;
 use clear_schema::values::number as count;
@@ -206,7 +207,7 @@ fn read_reply(row: &Row) -> Result<Reply, Fault>
 // The numbers of the reply that a row shows.
 fn read_numbers(row: &Row) -> Result<ReplyNumbers, Fault>
     ensures read { IfOk result (λ numbers. (x : Kept) → row.now ≡ kept_shown x
-        → numbers ≡ numbers_of x.reply) }
+        → numbers ≡ stored.numbers_of x.reply) }
     ensures cause { IfErr result (λ fault. fault ≢ Fault.Store StoreCause.Constraint) }
     ensures range { IfErr result (λ fault. fault ≡ Fault.Store StoreCause.Row
         → (x : Kept) → row.now ≢ kept_shown x) }
@@ -222,7 +223,7 @@ fn read_numbers(row: &Row) -> Result<ReplyNumbers, Fault>
 // The parameters of the statement that writes a request.
 fn request_values(caller: Caller, number: RequestNo, request: &KeptRequest) -> [ValueRef<'_>; 8]
     requires { IsReply request.now.reply }
-    ensures { bound result ≡ request_shown (row_of caller number request.now) }
+    ensures { bound result ≡ stored.request_shown (row_of caller number request.now) }
 {
     let reply = reply_numbers(&request.reply);
     [

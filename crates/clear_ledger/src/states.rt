@@ -3,26 +3,13 @@ ghost use Rattle.std.specs.Prelude.{◌≡◌, ◌≤◌, ◌↔◌, ◌^◌, No
 ghost use Rattle.clear_values.specs.Numbers.{IsListNo};
 ghost use Rattle.clear_values.specs.RowRanges.{IsClaimRow, IsClaimState, settled};
 ghost use Rattle.clear_values.specs.declared.rows.ClaimState.{ClaimState};
-ghost use Rattle.clear_ledger.specs.Shown.{columns_of, unsettled};
+ghost use Rattle.clear_schema.specs.Values.{columns_of, unsettled};
 
-use clear_money::days::Day;
 use clear_money::numbers::Amount;
+use clear_schema::columns::StateColumns;
 use clear_values::numbers::ListNo;
 use clear_values::replies::Settlement;
 use clear_values::rows::{ClaimRow, ClaimState, ReleasedClaim};
-
-/// The columns of a claim that tell how it stands.
-#[derive(Clone, Copy)]
-pub struct StateColumns {
-    /// 0 is open, 1 is withdrawn, and 2 is released.
-    pub code: u64,
-    /// The day of the release.
-    pub released: Option<Day>,
-    /// Three times 0 without a release.
-    pub settlement: Settlement,
-    /// The payout list of a release, if it is on one.
-    pub list: Option<ListNo>,
-}
 
 /// The columns that tell of a state.
 pub fn state_columns(state: ClaimState) -> StateColumns

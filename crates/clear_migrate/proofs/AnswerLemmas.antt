@@ -1,6 +1,9 @@
 -- What follows from the number that a database tells.
 use Rattle.std.proofs.Common.{◌≡◌, inl, inr, ℕ, Bool, true, false, Some, Result, Ok, Err, OnOk, IsTrue, refl, ap}
-use Rattle.clear_schema.specs.Faults.{IsWrong}
+use Rattle.clear_values.specs.declared.causes.StoreCause.TheVariants.{Row}
+use Rattle.clear_schema.specs.Faults.{IsOfRowOrDisk, IsWrong}
+use Rattle.clear_schema.specs.declared.fault.Fault.{Fault}
+use Rattle.clear_schema.specs.declared.fault.Fault.TheVariants.{Store}
 use Rattle.clear_schema.specs.declared.fault.OpenFault.{OpenFault}
 use Rattle.clear_schema.specs.declared.fault.OpenFault.TheVariants.{Failed, WrongVersion}
 use Rattle.clear_migrate.specs.Answered.{AnswersOrFails}
@@ -29,6 +32,11 @@ pub fails_untold : {A : Type 0} (number : A) (this found : ℕ) (fault : OpenFau
 fails_untold number this found (WrongVersion told) (inl same) = absurd cc
 fails_untold number this found (WrongVersion told) (inr (why, disk, same)) = absurd cc
 fails_untold number this found (Failed why) answers = tt
+
+-- a value out of its range is to blame, or memory, or the disk
+pub row_or_disk : {A : Type 0} (fault : Fault) → IsOfRowOrDisk fault → AnswersOrFails {A = A} (Err (Failed (Store Row))) (Err (Failed fault))
+row_or_disk fault (inl row) = inl (ap (λ f. Err (Failed f)) row)
+row_or_disk fault (inr disk) = inr (fault, disk, refl)
 
 -- what holds where there is an answer, and what follows from that
 pub on_ok_so : {A E : Type 0} (r : Result A E) (X Y : Type 0) → (X → Y) → OnOk r X → OnOk r Y

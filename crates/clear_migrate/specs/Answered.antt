@@ -9,7 +9,3 @@ use Rattle.clear_schema.specs.declared.fault.OpenFault.TheVariants.{Failed}
 abbrev pub AnswersOrFails : {A : Type 0} → Result A OpenFault → Result A OpenFault → Type 0
 AnswersOrFails right result =
     (result ≡ right) ⊎ ((fault : Fault) × IsOfDisk fault × (result ≡ Err (Failed fault)))
-
--- the answer is a fault that tells no number
-abbrev pub Fails : {A : Type 0} → Result A OpenFault → Type 0
-Fails result = (fault : Fault) × (result ≡ Err (Failed fault))

@@ -7,7 +7,7 @@ ghost use Rattle.clear_schema.specs.Held.{HasOtherLayout, TellsSchema, this_sche
 ghost use Rattle.clear_schema.specs.Opening.{HasMetaOrNothing, IsBelowZero};
 ghost use Rattle.clear_schema.specs.Schema.{no_schema, store_schema};
 ghost use Rattle.clear_schema.specs.Still.{IsStill};
-ghost use Rattle.clear_migrate.specs.Answered.{AnswersOrFails, Fails};
+ghost use Rattle.clear_migrate.specs.Answered.{AnswersOrFails};
 
 use clear_schema::fault::{Fault, OpenFault};
 use clear_schema::layout::has_this_layout;
@@ -35,7 +35,8 @@ pub fn version<S: Alter>(conn: &mut Connection<S>) -> Result<u64, OpenFault>
         → (state S.Store conn.old).now.schema ≡ no_schema
         → AnswersOrFails (Err (OpenFault.WrongVersion 0)) result }
     ensures below_zero { HasCleanDisk (state S.Store conn.new)
-        → IsBelowZero (state S.Store conn.old).now → Fails result }
+        → IsBelowZero (state S.Store conn.old).now
+        → AnswersOrFails (Err (OpenFault.Failed (Fault.Store StoreCause.Row))) result }
     ensures open { HasCleanDisk (state S.Store conn.new)
         → HasMetaOrNothing (state S.Store conn.old).now.schema
         → OnOk result (IsTrue (state S.Store conn.new).is_open) }
@@ -79,7 +80,8 @@ pub fn to_current<S: Alter>(conn: &mut Connection<S>) -> Result<Migration, OpenF
         → (state S.Store conn.old).now.schema ≡ no_schema
         → AnswersOrFails (Err (OpenFault.WrongVersion 0)) result }
     ensures below_zero { HasCleanDisk (state S.Store conn.new)
-        → IsBelowZero (state S.Store conn.old).now → Fails result }
+        → IsBelowZero (state S.Store conn.old).now
+        → AnswersOrFails (Err (OpenFault.Failed (Fault.Store StoreCause.Row))) result }
     // A store is current only where its number, its tables and its indexes are just those of ours.
     ensures only_this { HasCleanDisk (state S.Store conn.new)
         → (number : ℕ) → TellsSchema number (state S.Store conn.old).now

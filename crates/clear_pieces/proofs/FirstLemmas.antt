@@ -1,16 +1,18 @@
 -- Which credit is the first of a firm's new ones.
-use Rattle.std.proofs.Common.{◌≡◌, ℕ, ◌+◌, ◌<◌, List, [], ◌∷◌, ◌++◌, length, take, get_or, Option, Some, None, Bool, true, false, cond, filter, refl, sym, ap, ◌∙◌, subst, arith}
+use Rattle.std.proofs.Common.{◌≡◌, ℕ, ◌+◌, ◌<◌, List, [], ◌∷◌, ◌++◌, length, take, get_or, Option, Some, None, Bool, true, false, cond, ◌&&◌, ◌==◌, filter, refl, sym, ap, ◌∙◌, subst, arith}
+use Rattle.std.proofs.Math.Bool.{and-false}
 use Rattle.std.proofs.lemmas.Bool.Decides.{nat_tests}
 use Rattle.std.proofs.lemmas.List.{append-nil, length-append, take_more}
 use Rattle.std.proofs.lemmas.List.Elements.{Contains-append_left, Contains-append_right, filter-append}
 use Rattle.sqlite_trees.proofs.ListLemmas.{all-append, all_weaker}
 use Rattle.clear_account.specs.Account.{comes_before}
 use Rattle.clear_account.specs.declared.entries.Credit.{Credit}
+use Rattle.clear_values.specs.Lines.{same_purpose}
 use Rattle.clear_values.specs.declared.lines.Purpose.TheVariants.{Contribution}
 use Rattle.clear_values.specs.declared.rows.CreditRow.{CreditRow}
 use Rattle.clear_book.specs.Accounts.{row_credit}
 use Rattle.clear_book.specs.Lines.{is_credit_of}
-use Rattle.clear_pieces.specs.Keeping.{AreFirst, AreTogether, IsFirst, IsFirstOf, alone, credit_for, earlier}
+use Rattle.clear_pieces.specs.Keeping.{AreFirst, AreForInterest, AreTogether, IsFirst, IsFirstOf, alone, credit_for, earlier}
 use Rattle.clear_pieces.specs.declared.behind.NewCredits.{NewCredits}
 
 -- ---- one credit
@@ -29,6 +31,20 @@ row_first row e = told (is_credit_of e Contribution row)
       omega arith,
     )
     told false = refl
+
+-- where none is for contributions, no firm has one
+pub none_first : (firsts : ℕ → Option NewCredits) (news : List CreditRow) → AreFirst firsts news → AreForInterest news → (e : ℕ) → firsts e ≡ None
+none_first firsts news are interest e = told (firsts e) (subst (λ (xs : List CreditRow). IsFirstOf xs (firsts e)) (none_left news interest) (are e))
+  where
+    none_left : (rows : List CreditRow) → AreForInterest rows → filter (is_credit_of e Contribution) rows ≡ []
+    none_left [] all = refl
+    none_left (row ∷ rows) all =
+        let other : is_credit_of e Contribution row ≡ false = ap (λ p. (row.employer == e) && same_purpose p Contribution) all.0 ∙ and-false (row.employer == e) in
+        ap (λ b. cond b (row ∷ filter (is_credit_of e Contribution) rows) (filter (is_credit_of e Contribution) rows)) other ∙ none_left rows all.1
+
+    told : (first : Option NewCredits) → IsFirstOf [] first → first ≡ None
+    told None is = refl
+    told (Some new) is = absurd (omega (arith, is.0.there.1))
 
 -- ---- the first of more credits
 

@@ -1,14 +1,17 @@
 -- The pieces, and what is open of the contributions, follow a change that was put into the tables.
-use Rattle.std.specs.Prelude.{◌≡◌, ◌≢◌, ◌≤◌, ◌+◌, ℕ, List, [], Bool, true, false, Option, Some, None}
-use Rattle.std.specs.Prelude.{Result, filter, if◌then◌else◌, length}
+use Rattle.std.specs.Prelude.{◌≡◌, ◌≢◌, ◌≤◌, ◌+◌, ℕ, List, [], ◌∷◌, Bool, true, false, IsTrue}
+use Rattle.std.specs.Prelude.{Option, Some, None, Result, filter, if◌then◌else◌, length}
 use Rattle.std.specs.List.{AllByRecursion, Contains}
 use Rattle.sqlite.specs.Held.{Held}
 use Rattle.sqlite.specs.Store.{Ghosts}
 use Rattle.clear_account.specs.Account.{IsAccount, comes_before}
 use Rattle.clear_account.specs.declared.entries.Credit.{Credit}
-use Rattle.clear_values.specs.declared.lines.Purpose.TheVariants.{Contribution}
+use Rattle.clear_values.specs.Credits.{credits_of_lines, set_offs_of}
+use Rattle.clear_values.specs.declared.lines.Purpose.TheVariants.{Contribution, Interest}
 use Rattle.clear_values.specs.declared.rows.Change.{Change}
-use Rattle.clear_values.specs.declared.rows.Change.TheVariants.{ReplaceReport}
+use Rattle.clear_values.specs.declared.rows.Change.TheVariants.{AddReport, ReplaceReport}
+use Rattle.clear_values.specs.declared.rows.Change.TheVariants.{AddBankLines, AssignLine}
+use Rattle.clear_values.specs.declared.rows.Change.TheVariants.{ReleaseClaim}
 use Rattle.clear_values.specs.declared.rows.CreditRow.{CreditRow}
 use Rattle.clear_values.specs.declared.rows.KeptCharge.{KeptCharge}
 use Rattle.clear_values.specs.declared.rows.PieceRow.{PieceRow}
@@ -53,6 +56,20 @@ pub record IsPut (change : Change) (t v : Tables) : Type 0 where
   pub charges : v.charges ≡ (changed change t).charges
   pub credits : v.credits ≡ (changed change t).credits
   pub pieces : v.pieces ≡ t.pieces
+
+-- none of the credits is for contributions
+abbrev pub AreForInterest : List CreditRow → Type 0
+AreForInterest credits = AllByRecursion (λ row. row.purpose ≡ Interest) credits
+
+-- the change concerns no account: it puts no contribution but one that stood, and no credit for
+-- contributions
+abbrev pub ConcernsNone : Change → Bool → Type 0
+ConcernsNone (AddReport row lines charge) stood = ⊥
+ConcernsNone (ReplaceReport row lines charge) stood = IsTrue stood
+ConcernsNone (AddBankLines rows) stood = AreForInterest (credits_of_lines rows)
+ConcernsNone (AssignLine row) stood = AreForInterest (credits_of_lines (row ∷ []))
+ConcernsNone (ReleaseClaim claim serial) stood = AreForInterest (set_offs_of claim serial)
+ConcernsNone change stood = Unit {0}
 
 -- ---- credits that were put
 

@@ -1,6 +1,6 @@
 //! The pieces of all firms whose account a change changes, and what is open of their
 //! contributions, kept right.
-ghost use Rattle.std.specs.Prelude.{◌≡◌, ℕ, IfErr, IfOk, IsTrue, List, OnOk, Some};
+ghost use Rattle.std.specs.Prelude.{◌≡◌, ℕ, IfErr, IfOk, IsTrue, List, None, OnOk, Some};
 ghost use Rattle.std.specs.BTreeMap.{get};
 ghost use Rattle.std.specs.Ordering.{nat_cmp};
 ghost use Rattle.sqlite.specs.Held.{state};
@@ -17,7 +17,8 @@ ghost use Rattle.clear_schema.specs.Faults.{IsOfDisk};
 ghost use Rattle.clear_schema.specs.Frame.{GoesOn};
 ghost use Rattle.clear_schema.specs.Held.{HasTables};
 ghost use Rattle.clear_pieces.specs.Keeping.{AreCreditsPut, AreFirst, AreFollowing, IsPut, Keeps};
-ghost use Rattle.clear_pieces.specs.Keeping.{AreTogether, TellsStood, alone, credit_for};
+ghost use Rattle.clear_pieces.specs.Keeping.{AreForInterest, AreTogether, ConcernsNone, TellsStood};
+ghost use Rattle.clear_pieces.specs.Keeping.{alone, credit_for};
 ghost use Rattle.clear_pieces.specs.Keeping.{earlier as earlier_credit};
 
 use crate::allocate::{allocate_from_charge, allocate_from_credits};
@@ -70,8 +71,9 @@ pub fn charge_stood<S: Alter>(tx: &mut Transaction<'_, S>, change: &Change) -> R
 /// Puts the pieces of each firm whose account a change has changed, which was put before, from
 /// the first changed place on; the other pieces stay, whatever they hold. What is open of the
 /// firm's contributions, and their weights so far, are written from there on, too. Where the
-/// contribution of a correction stood already, nothing is read or written. The credits of the
-/// change are made as rows once more, each with a text of its reference, which is not read here.
+/// contribution of a correction stood already, or a change puts none and no credit for contributions,
+/// nothing is read or written. The credits of the change are made as rows once more, each with a text
+/// of its reference, which is not read here.
 ///
 /// What no book holds is refused with `Fault::Store(StoreCause::Row)`. A fault may leave a part
 /// written, which a rollback of the transaction takes back: what is committed stays as it was.
@@ -103,6 +105,8 @@ pub fn keep_pieces<S: Alter>(
         → OnOk result (IsTrue tx.new.conn.now.in_transaction) }
     ensures survives { Survives (state S.Store tx.old.conn.now) (state S.Store tx.new.conn.now)
         (λ _. ⊥) }
+    // Nothing is read or written where the change concerns no account, whatever the tables hold.
+    ensures rests { ConcernsNone change.now stood → tx.new.conn.now ≡ tx.old.conn.now }
 {
     match change {
         Change::AddRate(_) => Ok(()),
@@ -136,6 +140,8 @@ fn keep_lines<S: Alter>(
     ensures same_reference { tx.new.conn.ghost_name ≡ tx.old.conn.ghost_name }
     ensures keeps { Keeps S.Store tx.old.conn.now tx.new.conn.now result
         (AreCreditsPut (credits_of_lines rows.now)) }
+    ensures rests { AreForInterest (credits_of_lines rows.now)
+        → tx.new.conn.now ≡ tx.old.conn.now }
 {
     let news = credits_of_rows(alloc, rows)?;
     keep_credits(alloc, tx, news.as_slice())
@@ -151,6 +157,8 @@ fn keep_release<S: Alter>(
     ensures same_reference { tx.new.conn.ghost_name ≡ tx.old.conn.ghost_name }
     ensures keeps { Keeps S.Store tx.old.conn.now tx.new.conn.now result
         (AreCreditsPut (set_offs_of claim.now serial)) }
+    ensures rests { AreForInterest (set_offs_of claim.now serial)
+        → tx.new.conn.now ≡ tx.old.conn.now }
 {
     let news = set_offs(alloc, claim, serial)?;
     keep_credits(alloc, tx, news.as_slice())
@@ -165,6 +173,7 @@ fn keep_credits<S: Alter>(
     ensures same_reference { tx.new.conn.ghost_name ≡ tx.old.conn.ghost_name }
     ensures keeps { Keeps S.Store tx.old.conn.now tx.new.conn.now result
         (AreCreditsPut news.now) }
+    ensures rests { AreForInterest news.now → tx.new.conn.now ≡ tx.old.conn.now }
 {
     let firms = new_credits(alloc, news)?;
     keep_firms(alloc, tx, &firms)
@@ -179,6 +188,8 @@ fn keep_firms<S: Alter>(
     ensures same_reference { tx.new.conn.ghost_name ≡ tx.old.conn.ghost_name }
     ensures keeps { (news : List CreditRow) → AreFirst (get nat_cmp firms.now) news
         → Keeps S.Store tx.old.conn.now tx.new.conn.now result (AreCreditsPut news) }
+    ensures rests { ((e : ℕ) → get nat_cmp firms.now e ≡ None)
+        → tx.new.conn.now ≡ tx.old.conn.now }
 {
     for (employer, credits) in firms {
         allocate_from_credits(alloc, tx, *employer, credits)?;

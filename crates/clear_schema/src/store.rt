@@ -4,7 +4,7 @@ ghost use Rattle.sqlite.specs.Held.{state};
 ghost use Rattle.sqlite.specs.State.{HasCleanDisk, Survives};
 ghost use Rattle.sqlite.specs.Tree.{Trees};
 ghost use Rattle.clear_values.specs.Tables.{Tables};
-ghost use Rattle.clear_schema.specs.Faults.{IsOfDisk, IsWrong, other_layout};
+ghost use Rattle.clear_schema.specs.Faults.{IsOfDisk, IsWrong, TellsOutOfRange, other_layout};
 ghost use Rattle.clear_schema.specs.First.{first_tables};
 ghost use Rattle.clear_schema.specs.Held.{HasMeta, HasTables, StandsFor, StandsOtherwise, TellsAs};
 ghost use Rattle.clear_schema.specs.Held.{TellsSchema, this_schema};
@@ -49,6 +49,8 @@ impl<S: Alter> Store<S> {
             × HasTables (first_tables rates.now) (state S.Store store.conn).committed
             × ((trees : Trees) → (state S.Store store.conn).may_leave trees
             → StandsFor (first_tables rates.now) trees)) }
+        ensures open { IfOk result (λ store. HasCleanDisk (state S.Store store.conn)
+            → IsTrue (state S.Store store.conn).is_open) }
         ensures crash { (state S.Store connection).now.schema ≡ no_schema
             → IfOk result (λ store. Survives (state S.Store connection)
             (state S.Store store.conn) (StandsFor (first_tables rates.now))) }
@@ -67,15 +69,9 @@ impl<S: Alter> Store<S> {
             → (number : ℕ) → TellsSchema number (state S.Store connection).now
             → (told : ℕ) → left.fault ≡ OpenFault.WrongVersion told → told ≡ number) }
         ensures only_empty { OnOk result ((state S.Store connection).now.schema ≡ no_schema) }
-        // Nothing changes in a database that tells a number already.
-        ensures kept { IfErr result (λ left. HasCleanDisk (state S.Store left.connection)
-            → (number : ℕ) → TellsSchema number (state S.Store connection).now
-            → IsTrue (state S.Store left.connection).is_open
-            → IsStill (state S.Store connection) (state S.Store left.connection)) }
-        ensures survives { (number : ℕ)
-            → TellsSchema number (state S.Store connection).now → IfErr result (λ left.
-            Survives (state S.Store connection) (state S.Store left.connection) (λ _. ⊥)) }
-        // Nor does anything where `meta` stands first and tells none, or one below 0.
+        ensures below_zero { IfErr result (λ left. HasCleanDisk (state S.Store left.connection)
+            → IsBelowZero (state S.Store connection).now → TellsOutOfRange left.fault) }
+        // Nothing changes where `meta` stands first, whatever it tells.
         ensures rests { IfErr result (λ left. HasCleanDisk (state S.Store left.connection)
             → HasMeta (state S.Store connection).now.schema
             → IsTrue (state S.Store left.connection).is_open
@@ -130,13 +126,11 @@ impl<S: Alter> Store<S> {
             → (state S.Store connection).now.schema ≡ no_schema
             → (told : ℕ) → left.fault ≡ OpenFault.WrongVersion told → told ≡ 0) }
         ensures below_zero { IfErr result (λ left. HasCleanDisk (state S.Store left.connection)
-            → IsBelowZero (state S.Store connection).now
-            → (told : ℕ) → left.fault ≢ OpenFault.WrongVersion told) }
+            → IsBelowZero (state S.Store connection).now → TellsOutOfRange left.fault) }
         ensures not_below_zero { IfOk result (λ store. HasCleanDisk (state S.Store store.conn)
             → ¬ IsBelowZero (state S.Store connection).now) }
         ensures open { IfOk result (λ store. HasCleanDisk (state S.Store store.conn)
-            → (t : Tables) → StandsFor t (state S.Store connection).committed.trees
-            → IsTrue (state S.Store connection).is_open → IsTrue (state S.Store store.conn).is_open) }
+            → IsTrue (state S.Store store.conn).is_open) }
         ensures cause { IfErr result (λ left. HasCleanDisk (state S.Store left.connection)
             → TellsOrIsEmpty (state S.Store connection).now
             → (why : Fault) → left.fault ≡ OpenFault.Failed why → IsOfDisk why) }

@@ -1,5 +1,5 @@
 //! Putting the change of a decision into the tables.
-ghost use Rattle.std.specs.Prelude.{◌≡◌, None, IfSome};
+ghost use Rattle.std.specs.Prelude.{◌≡◌, None, Err, IfSome};
 ghost use Rattle.clear_values.specs.Tables.{changed, dated};
 ghost use Rattle.clear_schema.specs.Values.{counts_of, with_counts};
 ghost use Rattle.clear_store.specs.Changes.{HasRoom, IsFree, IsInRange, IsPuttable, IsThere, Puts};
@@ -28,8 +28,9 @@ use std::alloc::Global;
 /// It is done only where each key that it adds is free, each number of a row is in its range, and at
 /// most 50,000,000 entries, claims, lists and runs, and 500,000,000,000 serials, are then counted.
 /// `Fault::Store(StoreCause::Constraint)` comes only where a key is not free, and
-/// `Fault::Store(StoreCause::Row)` only where a number or a count is out of its range. After an error
-/// a part of the change may be done: the transaction is to be rolled back.
+/// `Fault::Store(StoreCause::Row)` only where a number or a count is out of its range, and always for a
+/// count: then nothing is done. After another error a part of the change may be done: the transaction
+/// is to be rolled back.
 pub fn put_change<S: Alter>(
     alloc: Global,
     tx: &mut Transaction<'_, S>,
@@ -41,6 +42,9 @@ pub fn put_change<S: Alter>(
     ensures puts { Puts S.Store tx.old.conn.now tx.new.conn.now result
         (λ t. (counts.now ≡ counts_of t) × IsThere change.now t) (IsFree change.now)
         (IsPuttable counts.now change.now) (λ t. dated day (changed change.now t)) }
+    // Where a count would be out of its range, nothing is done.
+    ensures full { ¬ HasRoom counts.now (taken_by change.now)
+        → (result ≡ Err (Fault.Store StoreCause.Row)) × (tx.new.conn.now ≡ tx.old.conn.now) }
 {
     let taken = taken_by(change);
     note(tx, counts, day, &taken)?;
@@ -135,6 +139,8 @@ fn note<S: Alter>(
     ensures puts { Puts S.Store tx.old.conn.now tx.new.conn.now result (λ _. Unit {0})
         (λ _. Unit {0}) (HasRoom counts.now taken.now)
         (with_counts (counts_after day taken.now counts.now)) }
+    ensures full { ¬ HasRoom counts.now taken.now
+        → (result ≡ Err (Fault.Store StoreCause.Row)) × (tx.new.conn.now ≡ tx.old.conn.now) }
 {
     match next_counts(counts, day, taken) {
         Some(next) => put_counts(tx, &next),

@@ -5,7 +5,6 @@ ghost use Rattle.std.specs.Prelude.{◌≡◌, ◌≢◌, ◌≤◌, ◌++◌, I
 ghost use Rattle.std.specs.List.{AllByRecursion};
 ghost use Rattle.clear_values.specs.Credits.{credits_of_lines, set_off, set_offs_at, set_offs_of};
 ghost use Rattle.clear_values.specs.RowRanges.{IsClaimRow, IsCreditRow, IsReleased};
-ghost use Rattle.clear_schema.specs.Faults.{IsOfDisk};
 
 use clear_money::days::Day;
 use clear_money::numbers::Amount;
@@ -39,14 +38,16 @@ pub fn credits_of_rows(alloc: Global, rows: &[BankRow]) -> Result<Vec<CreditRow>
 /// The set-offs of a claim as it stands, where its release has this serial: to contributions and
 /// to interest, each where it is above 0. A claim that is not released has none.
 ///
-/// More than 100,000,000,000 cents are refused with `Fault::Store(StoreCause::Row)`.
+/// More than 100,000,000,000 cents are refused with `Fault::Store(StoreCause::Row)`. Any other error is
+/// want of memory.
 pub fn set_offs(alloc: Global, claim: &ClaimRow, serial: u64) -> Result<Vec<CreditRow>, Fault>
     ensures value { IfOk result (λ credits. credits.items ≡ set_offs_of claim.now serial) }
     ensures cause { IfErr result (λ fault. fault ≢ Fault.Store StoreCause.Constraint) }
+    ensures other { IfErr result (λ fault. fault ≢ Fault.Store StoreCause.Other) }
     ensures range { IfErr result (λ fault. fault ≡ Fault.Store StoreCause.Row
         → ¬ IsClaimRow claim.now) }
     ensures fault { AllByRecursion IsCreditRow (set_offs_of claim.now serial)
-        → IfErr result IsOfDisk }
+        → IfErr result (λ fault. fault ≡ Fault.Memory) }
 {
     match claim.state {
         ClaimState::Open => Ok(Vec::new(alloc)),
@@ -65,10 +66,11 @@ fn release_set_offs(
     ensures value { IfOk result (λ credits.
         credits.items ≡ set_offs_at claim.now serial release.now) }
     ensures cause { IfErr result (λ fault. fault ≢ Fault.Store StoreCause.Constraint) }
+    ensures other { IfErr result (λ fault. fault ≢ Fault.Store StoreCause.Other) }
     ensures range { IfErr result (λ fault. fault ≡ Fault.Store StoreCause.Row
         → ¬ (IsClaimRow claim.now × IsReleased claim.now.cents release.now)) }
     ensures fault { AllByRecursion IsCreditRow (set_offs_at claim.now serial release.now)
-        → IfErr result IsOfDisk }
+        → IfErr result (λ fault. fault ≡ Fault.Memory) }
 {
     let mut credits = Vec::new(alloc);
     let owed = release.settlement.to_contributions;
@@ -104,10 +106,11 @@ fn add_set_off(
     ensures value { OnOk result (credits.new.items
         ≡ credits.old.items ++ set_off claim.now day serial purpose cents) }
     ensures cause { IfErr result (λ fault. fault ≢ Fault.Store StoreCause.Constraint) }
+    ensures other { IfErr result (λ fault. fault ≢ Fault.Store StoreCause.Other) }
     ensures range { IfErr result (λ fault. fault ≡ Fault.Store StoreCause.Row
         → ¬ (IsClaimRow claim.now × (cents ≤ claim.now.cents))) }
     ensures fault { AllByRecursion IsCreditRow (set_off claim.now day serial purpose cents)
-        → IfErr result IsOfDisk }
+        → IfErr result (λ fault. fault ≡ Fault.Memory) }
 {
     if cents == 0 {
         return Ok(());

@@ -1,5 +1,5 @@
 //! The pieces of a firm from a month and a credit on, put in the place of those that stood.
-ghost use Rattle.std.specs.Prelude.{◌≡◌};
+ghost use Rattle.std.specs.Prelude.{◌≡◌, Err};
 ghost use Rattle.std.specs.List.{AllByRecursion};
 ghost use Rattle.clear_values.specs.Keyed.{with_rows, without_rows};
 ghost use Rattle.clear_values.specs.RowRanges.{IsPieceRow, IsSerial};
@@ -9,6 +9,7 @@ ghost use Rattle.clear_store.specs.Changes.{AreFree, Puts};
 pub use clear_ledger::pieces::PieceFrom;
 use clear_ledger::pieces::{delete_pieces, insert_piece};
 use clear_schema::fault::Fault;
+use clear_values::causes::StoreCause;
 use clear_values::rows::PieceRow;
 use sqlite::{Alter, Transaction};
 
@@ -35,6 +36,9 @@ pub fn replace_pieces<S: Alter>(
           pieces = with_pieces from.now.employer from.now.month from.now.day
               from.now.serial rows.now t.pieces;
         }) }
+    // From a serial that no credit can have, nothing is done.
+    ensures refused { ¬ IsSerial from.now.serial
+        → (result ≡ Err (Fault.Store StoreCause.Row)) × (tx.new.conn.now ≡ tx.old.conn.now) }
 {
     delete_pieces(tx, from)?;
     insert_pieces(tx, rows)

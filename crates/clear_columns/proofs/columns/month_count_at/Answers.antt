@@ -6,4 +6,4 @@ use Rattle.clear_columns.proofs.columns.month_count_at.Goals as goal
 pub returns-in_err-count : goal.returns-in_err-count
 returns-in_err-count c =
     let p = err_from_is_err_and c.from_residual.result c.from_residual.ensures.1 in
-    rw (p.1, p.2) (record { reads = record { read = tt; good = tt; cause = c.in_err-count.ensures.cause; range = λ told within n is few. let small = few_months n few in search rules } })
+    rw (p.1, p.2) (record { reads = record { read = tt; good = tt; cause = c.in_err-count.ensures.cause; other = c.in_err-count.ensures.other; range = λ told within n is few. let small = few_months n few in search rules } })

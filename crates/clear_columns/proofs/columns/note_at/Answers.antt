@@ -7,4 +7,4 @@ use Rattle.clear_columns.proofs.columns.note_at.Goals as goal
 pub returns-in_err-text : goal.returns-in_err-text
 returns-in_err-text c =
     let p = err_from_is_err_and c.from_residual.result c.from_residual.ensures.1 in
-    rw (p.1, p.2) (record { reads = record { read = tt; good = tt; cause = c.in_err-text.ensures.cause; range = λ told within. readable (λ t. IsTrue (is_note t)) _ note_utf8 (c.in_err-text.ensures.range told within) } })
+    rw (p.1, p.2) (record { reads = record { read = tt; good = tt; cause = c.in_err-text.ensures.cause; other = c.in_err-text.ensures.other; range = λ told within. readable (λ t. IsTrue (is_note t)) _ note_utf8 (c.in_err-text.ensures.range told within) } })

@@ -1,6 +1,6 @@
 use Rattle.clear_values.specs.RowRanges.{IsClaimRow}
 use Rattle.clear_ledger.proofs.ClaimTable.{answers_since}
-use Rattle.clear_ledger.specs.Shown.{claim_shown}
+use Rattle.clear_schema.specs.Values.{claim_shown}
 use Rattle.clear_schema.proofs.FrameLemmas.{lists}
 use Rattle.clear_ledger.proofs.claims.claims_released_since.Goals as goal
 

@@ -1,7 +1,7 @@
 use Rattle.std.proofs.Common.{refl}
 use Rattle.clear_columns.proofs.ReadingLemmas.{begins_on}
 use Rattle.clear_ledger.proofs.ClaimTable.{answers_all}
-use Rattle.clear_ledger.specs.Shown.{claim_shown}
+use Rattle.clear_schema.specs.Values.{claim_shown}
 use Rattle.clear_ledger.proofs.claims.read_claims.Goals as goal
 
 pub returns : goal.returns

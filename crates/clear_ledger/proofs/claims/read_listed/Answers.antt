@@ -2,7 +2,7 @@ use Rattle.std.proofs.Common.{filter, refl}
 use Rattle.clear_columns.proofs.ReadingLemmas.{begins_on}
 use Rattle.clear_ledger.proofs.ClaimTable.{answers_on}
 use Rattle.clear_values.specs.Payouts.{is_on}
-use Rattle.clear_ledger.specs.Shown.{claim_shown}
+use Rattle.clear_schema.specs.Values.{claim_shown}
 use Rattle.clear_ledger.proofs.claims.read_listed.Goals as goal
 
 pub returns : goal.returns

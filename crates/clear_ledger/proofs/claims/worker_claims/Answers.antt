@@ -1,6 +1,6 @@
 use Rattle.clear_values.specs.RowRanges.{IsClaimRow}
 use Rattle.clear_ledger.proofs.ClaimTable.{answers_for}
-use Rattle.clear_ledger.specs.Shown.{claim_shown}
+use Rattle.clear_schema.specs.Values.{claim_shown}
 use Rattle.clear_schema.proofs.FrameLemmas.{lists}
 use Rattle.clear_ledger.proofs.claims.worker_claims.Goals as goal
 

@@ -2,7 +2,9 @@ use Rattle.std.proofs.Common.{◌∙◌, Err, IfErr, ap, inl, subst, sym}
 use Rattle.std.proofs.lemmas.Result.{err_from_is_err_and}
 use Rattle.clear_schema.specs.Faults.{IsWrong}
 use Rattle.clear_schema.specs.Held.{this_schema}
-use Rattle.clear_schema.specs.declared.fault.OpenFault.TheVariants.{WrongVersion}
+use Rattle.clear_values.specs.declared.causes.StoreCause.TheVariants.{Row}
+use Rattle.clear_schema.specs.declared.fault.Fault.TheVariants.{Store}
+use Rattle.clear_schema.specs.declared.fault.OpenFault.TheVariants.{Failed, WrongVersion}
 use Rattle.clear_migrate.proofs.AnswerLemmas.{fails_so, fails_untold, not_true, other_error, on_ok_so, told_is}
 use Rattle.clear_migrate.proofs.schemas.to_current.Goals as goal
 
@@ -53,3 +55,8 @@ pub returns-in_err-number-clause-empty : goal.returns-in_err-number-clause-empty
 returns-in_err-number-clause-empty g c clean none =
     let p = err_from_is_err_and c.from_residual.result c.from_residual.ensures.1 in
     rw (p.1, p.2) (other_error (WrongVersion 0) c.in_err-number.field-0.0 (c.in_err-number.ensures.empty clean none))
+
+pub returns-in_err-number-clause-below_zero : goal.returns-in_err-number-clause-below_zero
+returns-in_err-number-clause-below_zero g c clean below =
+    let p = err_from_is_err_and c.from_residual.result c.from_residual.ensures.1 in
+    rw (p.1, p.2) (other_error (Failed (Store Row)) c.in_err-number.field-0.0 (c.in_err-number.ensures.below_zero clean below))

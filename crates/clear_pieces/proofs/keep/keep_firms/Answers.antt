@@ -23,6 +23,7 @@ loop-employer-init g c =
       done = λ news are.
           none_done g.S.Store c.args.tx.now.conn.now news (get nat_cmp c.args.firms.now) are (keys_of c.into_iter-employer-iterator.result)
           (subst (λ (es : List (ℕ × NewCredits)). (e : ℕ) → is_among (keys_of es) e ≡ false → get nat_cmp c.args.firms.now e ≡ None) (sym gives.0) (λ e is. not_found c.args.firms.now.entries e is));
+      rests = λ none. refl;
     }
 
 pub loop-employer-preserved : goal.loop-employer-preserved
@@ -41,6 +42,7 @@ loop-employer-preserved g c =
       done = λ news are.
           let before : Progress g.S.Store c.args.tx.now.conn.now news c.loop-employer.tx.conn.now (Ok tt) (e ∷ keys_of rest) = subst (λ (es : List (ℕ × NewCredits)). Progress g.S.Store c.args.tx.now.conn.now news c.loop-employer.tx.conn.now (Ok tt) (keys_of es)) steps (so_far.done news are) in
           one_done g.S.Store c.args.tx.now.conn.now news (get nat_cmp c.args.firms.now) are c.loop-employer.tx.conn.now c.allocate_from_credits.new.tx.conn.now e credits (keys_of rest) (All-head (λ (entry : ℕ × NewCredits). get nat_cmp c.args.firms.now entry.0 ≡ Some entry.1) (e, credits) rest found) (stands_once e (keys_of rest) sorted) before (Ok tt) c.in_ok-allocate_from_credits.ensures.allocates;
+      rests = λ none. absurd (let one = All-head (λ (entry : ℕ × NewCredits). get nat_cmp c.args.firms.now entry.0 ≡ Some entry.1) (e, credits) rest found in let no = none e in cc);
     }
 
 pub returns-in_err-allocate_from_credits-clause-keeps : goal.returns-in_err-allocate_from_credits-clause-keeps
@@ -61,3 +63,11 @@ pub returns-clause-keeps : goal.returns-clause-keeps
 returns-clause-keeps g c = λ news are.
     all_done g.S.Store c.args.tx.now.conn.now news c.loop-employer.tx.conn.now (Ok tt)
     (subst (λ (es : List (ℕ × NewCredits)). Progress g.S.Store c.args.tx.now.conn.now news c.loop-employer.tx.conn.now (Ok tt) (keys_of es)) c.in-None.ensures.steps.0 (c.loop-employer.invariant.done news are))
+
+pub returns-in_err-allocate_from_credits-clause-rests : goal.returns-in_err-allocate_from_credits-clause-rests
+returns-in_err-allocate_from_credits-clause-rests g c none =
+    let e = c.in-Some.employer.now in
+    let credits = c.in-Some.credits.now in
+    let rest = c.next.new.self in
+    let found : All (λ (entry : ℕ × NewCredits). get nat_cmp c.args.firms.now entry.0 ≡ Some entry.1) ((e, credits) ∷ rest) = subst (All (λ (entry : ℕ × NewCredits). get nat_cmp c.args.firms.now entry.0 ≡ Some entry.1)) c.in-Some.ensures.steps c.loop-employer.invariant.found in
+    absurd (let one = All-head (λ (entry : ℕ × NewCredits). get nat_cmp c.args.firms.now entry.0 ≡ Some entry.1) (e, credits) rest found in let no = none e in cc)

@@ -1,4 +1,4 @@
-use Rattle.std.proofs.Common.{◌≡◌, List, Ok, Some}
+use Rattle.std.proofs.Common.{◌≡◌, ℕ, List, None, Ok, Some}
 use Rattle.std.specs.BTreeMap.{get}
 use Rattle.std.specs.List.{All}
 use Rattle.std.specs.List.Sorted.{IsStrictlySortedBy}
@@ -15,4 +15,5 @@ invariant-loop-employer g l = record {
   sorted : IsStrictlySortedBy nat_cmp (keys_of l.employer-iterator);
   found : All (λ entry. get nat_cmp l.firms entry.0 ≡ Some entry.1) l.employer-iterator;
   done : (news : List CreditRow) → AreFirst (get nat_cmp l.firms) news → Progress g.S.Store l.fn.tx.conn.now news l.tx.conn.now (Ok tt) (keys_of l.employer-iterator);
+  rests : ((e : ℕ) → get nat_cmp l.firms e ≡ None) → l.tx.conn.now ≡ l.fn.tx.conn.now;
 }

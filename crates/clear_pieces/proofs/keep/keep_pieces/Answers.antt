@@ -65,3 +65,18 @@ returns-in-AddBankLines-clause-keeps g c =
     (λ clean v has.
     on_ok_weaker c.keep_lines.result (λ kept. (kept.0.0, kept.0.1, kept.1, λ t put told. kept.2 t (lines_put c.in-AddBankLines.rows t v put)))
     (call.put clean v has))
+
+pub returns-in-AddReport-clause-rests : goal.returns-in-AddReport-clause-rests
+returns-in-AddReport-clause-rests g c = rw c.in-AddReport.is (λ concerns. absurd concerns)
+
+pub returns-else-stood-clause-rests : goal.returns-else-stood-clause-rests
+returns-else-stood-clause-rests g c = rw (c.in-ReplaceReport.is, c.if-stood.false) (λ stood. absurd cc)
+
+pub returns-in-AssignLine-clause-rests : goal.returns-in-AssignLine-clause-rests
+returns-in-AssignLine-clause-rests g c = rw c.in-AssignLine.is (rw c.from_ref.ensures.value at c.keep_lines-in-AssignLine.ensures.rests)
+
+pub returns-in-ReleaseClaim-clause-rests : goal.returns-in-ReleaseClaim-clause-rests
+returns-in-ReleaseClaim-clause-rests g c = rw c.in-ReleaseClaim.is c.keep_release.ensures.rests
+
+pub returns-in-AddBankLines-clause-rests : goal.returns-in-AddBankLines-clause-rests
+returns-in-AddBankLines-clause-rests g c = rw c.in-AddBankLines.is (rw c.as_slice.ensures at c.keep_lines.ensures.rests)

@@ -1,7 +1,7 @@
 use Rattle.std.proofs.Common.{rules}
 use Rattle.sqlite_keyed.proofs.ListLemmas.{all-filter}
 use Rattle.clear_values.specs.RowRanges.{IsClaimRow}
-use Rattle.clear_ledger.specs.Shown.{claim_shown}
+use Rattle.clear_schema.specs.Values.{claim_shown}
 use Rattle.clear_reading.proofs.TellingLemmas.{tells_tables}
 use Rattle.clear_reading.proofs.lists.tell_list.Goals as goal
 

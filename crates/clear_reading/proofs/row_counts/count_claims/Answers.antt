@@ -1,6 +1,6 @@
 use Rattle.std.proofs.Common.{rules}
 use Rattle.clear_values.specs.RowRanges.{IsClaimRow}
-use Rattle.clear_ledger.specs.Shown.{claim_shown}
+use Rattle.clear_schema.specs.Values.{claim_shown}
 use Rattle.clear_reading.proofs.TellingLemmas.{nothing_added, tells_tables}
 use Rattle.clear_reading.proofs.row_counts.count_claims.Goals as goal
 

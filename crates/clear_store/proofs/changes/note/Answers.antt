@@ -16,3 +16,7 @@ returns-in-Some-clause-puts g c =
 
 pub returns-in-None-clause-puts : goal.returns-in-None-clause-puts
 returns-in-None-clause-puts g c = not_put (λ told. cc) (λ told. c.in-None.ensures.none refl)
+
+pub returns-in-Some-clause-full : goal.returns-in-Some-clause-full
+returns-in-Some-clause-full g c full =
+    c.put_counts.ensures.writes.refused (λ fits. full ((has_room c.in-Some.next c.args.counts.now c.args.day c.args.taken.now c.in-Some.ensures.next).1 fits))

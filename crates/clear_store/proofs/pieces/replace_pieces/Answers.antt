@@ -13,3 +13,11 @@ pub returns-in_err-delete_pieces-clause-puts : goal.returns-in_err-delete_pieces
 returns-in_err-delete_pieces-clause-puts g c =
     let p = err_from_is_err_and c.from_residual.result c.from_residual.ensures.1 in
     rw (p.1, p.2) (first_failed (put_by c.in_err-delete_pieces.ensures.writes (λ t. no_key)) (λ t free. tt) (λ good. good.0))
+
+pub returns-clause-refused : goal.returns-clause-refused
+returns-clause-refused g c out = absurd (out c.in_ok-delete_pieces.ensures.writes.in_range)
+
+pub returns-in_err-delete_pieces-clause-refused : goal.returns-in_err-delete_pieces-clause-refused
+returns-in_err-delete_pieces-clause-refused g c =
+    let p = err_from_is_err_and c.from_residual.result c.from_residual.ensures.1 in
+    rw (p.1, p.2) c.in_err-delete_pieces.ensures.writes.refused
