@@ -1,4 +1,5 @@
 //! Lists of calls that an office takes at once.
+use crate::runs::{Act, Desk, is_right};
 use clear_book::calls::{Call, Caller, Command, Query, Registration, WageReport};
 use clear_book::files::BankFile;
 use clear_book::numbers::RequestNo;
@@ -33,21 +34,28 @@ fn command(number: u64, command: Command) -> Option<Call> {
 
 /// The registration of the first firm, the clerk's first request.
 pub(crate) fn register(alloc: Global) -> Option<Call> {
-    let name = String::from_str(alloc, "Bau Nord").ok()?;
-    let registration = Registration {
-        employer: employer()?,
-        name: Name::new(name)?,
-        start: Month::read(b"2024-01")?,
-    };
-    command(1, Command::Register(registration))
+    let employer = employer()?;
+    let start = Month::read(b"2024-01")?;
+    let text = String::from_str(alloc, "Bau Nord").ok()?;
+    let name = Name::new(text)?;
+    command(
+        1,
+        Command::Register(Registration {
+            employer,
+            name,
+            start,
+        }),
+    )
 }
 
 fn report(alloc: Global, number: u64, month: &[u8], gross: u64) -> Option<Call> {
+    let employer = employer()?;
+    let month = Month::read(month)?;
     let worker = WorkerNo::new(7)?;
     let lines = vec![in alloc; WageLine { worker, gross }].ok()?;
     let report = WageReport {
-        employer: employer()?,
-        month: Month::read(month)?,
+        employer,
+        month,
         lines: WageLines::new(lines),
     };
     command(number, Command::Report(report))
@@ -67,14 +75,22 @@ fn ask() -> Option<Call> {
     })
 }
 
-fn first_account(alloc: Global) -> Option<[Call; 5]> {
-    Some([
-        register(alloc)?,
-        report(alloc, 2, b"2024-01", 1_000_000)?,
-        report(alloc, 3, b"2024-02", 500_050)?,
-        import(alloc)?,
-        ask()?,
-    ])
+// A first account, one call after another.
+fn first_account(alloc: Global) -> Option<Vec<Call>> {
+    let mut calls = Vec::new(alloc);
+    let is_full = add(&mut calls, register(alloc))
+        && add(&mut calls, report(alloc, 2, b"2024-01", 1_000_000))
+        && add(&mut calls, report(alloc, 3, b"2024-02", 500_050))
+        && add(&mut calls, import(alloc))
+        && add(&mut calls, ask());
+    if is_full { Some(calls) } else { None }
+}
+
+fn add(calls: &mut Vec<Call>, call: Option<Call>) -> bool {
+    match call {
+        Some(call) => calls.push(call).is_ok(),
+        None => false,
+    }
 }
 
 // Whether this is what a firm owes that has charges of 300,010 cents and paid 350,000.
@@ -110,24 +126,6 @@ fn is_imported(outcome: &Outcome) -> bool {
     )
 }
 
-// No calls, and then those of a first account, one after another.
-pub(crate) fn takes_calls<S: Alter>(alloc: Global, office: &mut Office<S>) -> bool {
-    match office.run(alloc, &[]) {
-        Ok(outcomes) => outcomes.is_empty() && takes_first_account(alloc, office),
-        Err(_) => false,
-    }
-}
-
-fn takes_first_account<S: Alter>(alloc: Global, office: &mut Office<S>) -> bool {
-    let Some(calls) = first_account(alloc) else {
-        return false;
-    };
-    match office.run(alloc, &calls) {
-        Ok(outcomes) => is_first_account(outcomes.as_slice()),
-        Err(_) => false,
-    }
-}
-
 fn is_first_account(outcomes: &[Outcome]) -> bool {
     match outcomes {
         [registered, january, february, imported, owed] => {
@@ -138,5 +136,33 @@ fn is_first_account(outcomes: &[Outcome]) -> bool {
                 && is_owed(owed)
         }
         _ => false,
+    }
+}
+
+// Calls that are given at once.
+#[derive(Drop)]
+struct AtOnce {
+    calls: Vec<Call>,
+}
+
+impl Act for AtOnce {
+    // No calls, and then these, one after another.
+    fn is_right<S: Alter>(&mut self, desk: &Desk, office: &mut Office<S>) -> bool {
+        let is_empty = match office.run(desk.alloc, &[]) {
+            Ok(outcomes) => outcomes.is_empty(),
+            Err(_) => false,
+        };
+        match office.run(desk.alloc, self.calls.as_slice()) {
+            Ok(outcomes) => is_empty && is_first_account(outcomes.as_slice()),
+            Err(_) => false,
+        }
+    }
+}
+
+/// An office takes calls that are given at once.
+pub(crate) fn all_hold(desk: &Desk) -> bool {
+    match first_account(desk.alloc) {
+        Some(calls) => is_right(desk, &mut AtOnce { calls }),
+        None => false,
     }
 }

@@ -1,4 +1,4 @@
-//! A disk for tests, of which one call fails.
+//! A disk for tests, of which calls fail.
 ghost use Rattle.std.specs.Prelude.{◌≡◌, ◌+◌, ◌&&◌, false, not};
 ghost use Rattle.sqlite_disk.specs.Disk.{CountsFault};
 ghost use Rattle.sqlite_disk.specs.Refusal.{finds_no_room};
@@ -6,46 +6,43 @@ ghost use Rattle.sqlite_disk.specs.Refusal.{finds_no_room};
 use sqlite_disk::{Crash, Disk, Tally};
 use std::io;
 
-/// A disk that passes all calls on but the one behind so many, which fails and does nothing.
+/// A disk that passes so many calls on. The next one fails and does nothing; behind it so many are passed
+/// on again: none where the machine has stopped, as many as come where it alone fails.
 #[derive(Drop)]
-pub(crate) struct FailsOnce<D: Disk> {
+pub(crate) struct Failing<D: Disk> {
     inner: D,
-    /// How many calls come before the one that fails; none where it has failed.
-    before: Option<u64>,
+    before: u64,
+    behind: u64,
     refused: u64,
     sync_refused: bool,
 }
 
-impl<D: Disk> FailsOnce<D> {
-    pub(crate) fn new(inner: D, before: u64) -> FailsOnce<D> {
-        FailsOnce {
+impl<D: Disk> Failing<D> {
+    pub(crate) fn new(inner: D, before: u64, behind: u64) -> Failing<D> {
+        Failing {
             inner,
-            before: Some(before),
+            before,
+            behind,
             refused: 0,
             sync_refused: false,
         }
     }
 }
 
-fn pass(before: &mut Option<u64>, refused: &mut u64) -> io::Result<()>
+fn pass(before: &mut u64, behind: u64, refused: &mut u64) -> io::Result<()>
     ensures faults { CountsFault result refused.old refused.new }
     ensures kind { finds_no_room result ≡ false }
 {
-    match *before {
-        Some(0) => {
-            *before = None;
-            *refused = refused.saturating_add(1);
-            Err(io::Error::other("this call fails"))
-        }
-        Some(count) => {
-            *before = Some(count - 1);
-            Ok(())
-        }
-        None => Ok(()),
+    if *before == 0 {
+        *before = behind;
+        *refused = refused.saturating_add(1);
+        return Err(io::Error::other("this call fails"));
     }
+    *before -= 1;
+    Ok(())
 }
 
-impl<D: Disk> Disk for FailsOnce<D> {
+impl<D: Disk> Disk for Failing<D> {
     ghost seen = { λ f. D.Disk.seen f.inner };
 
     ghost may_leave = { λ f. D.Disk.may_leave f.inner };
@@ -87,32 +84,42 @@ impl<D: Disk> Disk for FailsOnce<D> {
     }
 
     fn len(&mut self) -> io::Result<usize> {
-        pass(&mut self.before, &mut self.refused)?;
-        self.inner.len()
+        match pass(&mut self.before, self.behind, &mut self.refused) {
+            Ok(()) => self.inner.len(),
+            Err(error) => Err(error),
+        }
     }
 
     fn read_at(&mut self, at: usize, buf: &mut [u8]) -> io::Result<()> {
-        pass(&mut self.before, &mut self.refused)?;
-        self.inner.read_at(at, buf)
+        match pass(&mut self.before, self.behind, &mut self.refused) {
+            Ok(()) => self.inner.read_at(at, buf),
+            Err(error) => Err(error),
+        }
     }
 
     fn read_checked(&mut self, key: u64, want: u64, at: usize, buf: &mut [u8]) -> io::Result<()> {
-        pass(&mut self.before, &mut self.refused)?;
-        self.inner.read_checked(key, want, at, buf)
+        match pass(&mut self.before, self.behind, &mut self.refused) {
+            Ok(()) => self.inner.read_checked(key, want, at, buf),
+            Err(error) => Err(error),
+        }
     }
 
     fn write_at(&mut self, at: usize, bytes: &[u8]) -> io::Result<()> {
-        pass(&mut self.before, &mut self.refused)?;
-        self.inner.write_at(at, bytes)
+        match pass(&mut self.before, self.behind, &mut self.refused) {
+            Ok(()) => self.inner.write_at(at, bytes),
+            Err(error) => Err(error),
+        }
     }
 
     fn set_len(&mut self, len: usize) -> io::Result<()> {
-        pass(&mut self.before, &mut self.refused)?;
-        self.inner.set_len(len)
+        match pass(&mut self.before, self.behind, &mut self.refused) {
+            Ok(()) => self.inner.set_len(len),
+            Err(error) => Err(error),
+        }
     }
 
     fn sync(&mut self) -> io::Result<()> {
-        if let Err(error) = pass(&mut self.before, &mut self.refused) {
+        if let Err(error) = pass(&mut self.before, self.behind, &mut self.refused) {
             self.sync_refused = true;
             return Err(error);
         }
@@ -121,10 +128,10 @@ impl<D: Disk> Disk for FailsOnce<D> {
 }
 
 /// The machine comes back, and no call fails any more.
-impl<D: Crash> Crash for FailsOnce<D> {
+impl<D: Crash> Crash for Failing<D> {
     fn crash(&mut self) {
         self.inner.crash();
-        self.before = None;
+        self.before = u64::MAX;
         self.sync_refused = false;
     }
 }

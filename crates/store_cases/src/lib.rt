@@ -10,6 +10,8 @@ mod cases;
 #[cfg(test)]
 mod disks;
 #[cfg(test)]
+mod runs;
+#[cfg(test)]
 mod script;
 #[cfg(test)]
 mod stops;

@@ -1,128 +1,121 @@
 //! A store whose files stop at each of their calls, or of which one call fails: what is found then is what
 //! stood before the request in flight or after it, and the same request sent again acts once.
-use crate::calls::{is_done, register};
-use crate::disks::FailsOnce;
-use crate::script::{COUNT, Came, Desk, send, told};
-use clear_callers::directory::Directory;
-use clear_money::days::Day;
+use crate::calls::is_done;
+use crate::runs::{Act, Case, Desk, Found, Next, Passed, Run, is_right, run_in_files, sample_desk};
+use crate::script::{COUNT, Came, send, told};
 use clear_office::made::make_office;
 use clear_office::office::Office;
-use clear_resumed::resumed::{Sent, crash_and_send};
-use clear_sample::memory::office_in_memory;
-use clear_sample::samples::sample_rates;
-use clear_schema::database::open_connection;
 use clear_schema::fault::OpenFault;
-use clear_schema::files::{FilesRefusal, crash_and_open as crash_and_open_store, store_options};
 use clear_schema::store::{Refusal, Store};
-use sqlite::{Alter, Connection, FileStore, Files};
-use sqlite_disk::{Crash, Disk, Fuse, Memory};
+use sqlite::{Alter, Connection};
 use std::alloc::Global;
 
-/// Which file of a store.
-#[derive(Clone, Copy)]
-enum File {
-    Log,
-    Database,
+// What an office of which nothing fails tells before the first request, and after each.
+#[derive(Drop)]
+struct Notes {
+    told: Vec<Vec<u8>>,
 }
 
-/// What a file does after so many calls.
-#[derive(Clone, Copy)]
-enum How {
-    /// Each further call fails, as where the machine has stopped.
-    Stops,
-    /// One call fails, and each further one goes on.
-    FailsOnce,
+impl Notes {
+    fn note<S: Alter>(&mut self, desk: &Desk, office: &mut Office<S>) -> bool {
+        match told(desk, office) {
+            Some(now) => self.told.push(now).is_ok(),
+            None => false,
+        }
+    }
 }
 
-// How a run went.
-#[derive(Clone, Copy)]
-enum Run {
-    /// A request met a fault, or there was no office yet.
-    Met,
-    /// None did.
-    Whole,
-    /// Something was not as it should be.
-    Wrong,
+impl Act for Notes {
+    fn is_right<S: Alter>(&mut self, desk: &Desk, office: &mut Office<S>) -> bool {
+        if !self.note(desk, office) {
+            return false;
+        }
+        for place in 0..COUNT {
+            if !matches!(send(desk, office, place), Came::Reply) || !self.note(desk, office) {
+                return false;
+            }
+        }
+        true
+    }
 }
 
-// What is told before the first request, and after each, of an office of which nothing fails.
-#[derive(Clone, Copy)]
-struct Known<'a, 'b> {
-    desk: &'b Desk<'a>,
-    told: &'b [Vec<u8>],
+// The requests over files of which calls fail: what is told before them and after each, and the place of
+// the one in flight as the machine stops, where there is an office.
+#[derive(Drop)]
+struct Script<'a> {
+    told: &'a [Vec<u8>],
+    place: Option<usize>,
 }
 
-impl Known<'_, '_> {
+impl Script<'_> {
     // Whether the office tells now what it told after so many requests.
-    fn is_after<S: Alter>(&self, office: &mut Office<S>, count: usize) -> bool {
-        match (told(self.desk, office), self.told.get(count)) {
-            (Some(now), Some(then)) => now.as_slice() == then.as_slice(),
-            _ => false,
+    fn is_after<S: Alter>(&self, desk: &Desk, office: &mut Office<S>, count: usize) -> bool {
+        let Some(then) = self.told.get(count) else {
+            return false;
+        };
+        match told(desk, office) {
+            Some(now) => now.as_slice() == then.as_slice(),
+            None => false,
         }
     }
 
     // Whether the request of a place has its reply, and the office then tells what it told after it.
-    fn takes<S: Alter>(&self, office: &mut Office<S>, place: usize) -> bool {
-        send(self.desk, office, place) == Came::Reply
-            && self.is_after(office, place.saturating_add(1))
+    fn takes<S: Alter>(&self, desk: &Desk, office: &mut Office<S>, place: usize) -> bool {
+        matches!(send(desk, office, place), Came::Reply)
+            && self.is_after(desk, office, place.saturating_add(1))
     }
 
-    // Whether this request and those behind it are taken; this one again, too, and changes nothing.
-    fn goes_on<S: Alter>(&self, office: &mut Office<S>, place: usize) -> bool {
+    // Whether this request and those behind it are taken; this one twice, and then changes nothing.
+    fn goes_on<S: Alter>(&self, desk: &Desk, office: &mut Office<S>, place: usize) -> bool {
+        if place < COUNT && !self.takes(desk, office, place) {
+            return false;
+        }
         for next in place..COUNT {
-            if !self.takes(office, next) {
-                return false;
-            }
-            if next == place && !self.takes(office, next) {
+            if !self.takes(desk, office, next) {
                 return false;
             }
         }
         true
     }
 
-    // Whether the machine stops now, with this request in flight, the first request is sent again, and
-    // all goes on from there.
-    fn resumes<D: Crash + Drop>(&self, office: Office<FileStore<D>>, place: usize) -> bool {
-        let alloc = self.desk.alloc;
-        let Some(first) = register(alloc) else {
-            return false;
+    // Whether an office is found as it was before the request in flight or after it, and goes on.
+    fn resumes<S: Alter>(&self, desk: &Desk, office: &mut Office<S>) -> Run {
+        let Some(place) = self.place else {
+            return Run::Wrong;
         };
-        match crash_and_send(alloc, office, store_options(7), &first) {
-            Ok(Sent { office, outcome }) => {
-                let mut office = office;
-                is_done(&outcome)
-                    && (self.is_after(&mut office, place)
-                        || self.is_after(&mut office, place.saturating_add(1)))
-                    && self.goes_on(&mut office, place)
-            }
-            Err(_) => false,
+        let is_found = self.is_after(desk, office, place)
+            || self.is_after(desk, office, place.saturating_add(1));
+        if !is_found || !self.goes_on(desk, office, place) {
+            Run::Wrong
+        } else if place == COUNT {
+            Run::Whole
+        } else {
+            Run::Met
         }
     }
-}
 
-// What is told before the first request and after each.
-fn told_of_each<S: Alter>(desk: &Desk<'_>, office: &mut Office<S>) -> Option<Vec<Vec<u8>>> {
-    let mut all = Vec::new(desk.alloc);
-    let before = told(desk, office)?;
-    all.push(before).ok()?;
-    for place in 0..COUNT {
-        if send(desk, office, place) != Came::Reply {
-            return None;
+    // Whether a store that could not be made is found without requests, and goes on.
+    fn begins<S: Alter + Drop>(&self, desk: &Desk, store: Store<S>) -> Run {
+        if !store.conn.is_autocommit() {
+            return Run::Wrong;
         }
-        let after = told(desk, office)?;
-        all.push(after).ok()?;
+        let mut office = Office::open(desk.alloc, store);
+        if self.is_after(desk, &mut office, 0) && self.goes_on(desk, &mut office, 0) {
+            Run::Met
+        } else {
+            Run::Wrong
+        }
     }
-    Some(all)
 }
 
 // The place of the request that meets a fault, and the number of requests where none does. Behind a fault
 // the office has failed.
-fn place_of_fault<S: Alter>(known: &Known<'_, '_>, office: &mut Office<S>) -> Option<usize> {
+fn place_of_fault<S: Alter>(desk: &Desk, office: &mut Office<S>) -> Option<usize> {
     for place in 0..COUNT {
-        match send(known.desk, office, place) {
+        match send(desk, office, place) {
             Came::Reply => {}
             Came::Fault => {
-                return if send(known.desk, office, place) == Came::Failed {
+                return if matches!(send(desk, office, place), Came::Failed) {
                     Some(place)
                 } else {
                     None
@@ -134,130 +127,93 @@ fn place_of_fault<S: Alter>(known: &Known<'_, '_>, office: &mut Office<S>) -> Op
     Some(COUNT)
 }
 
-fn run_office<D: Crash + Drop>(known: &Known<'_, '_>, office: Office<FileStore<D>>) -> Run {
-    let mut office = office;
-    match place_of_fault(known, &mut office) {
-        Some(place) => {
-            if !known.resumes(office, place) {
-                Run::Wrong
-            } else if place == COUNT {
-                Run::Whole
-            } else {
-                Run::Met
+impl Case for Script<'_> {
+    fn begin<S: Alter + Drop>(&mut self, desk: &Desk, conn: Connection<S>) -> Next<S> {
+        match make_office(desk.alloc, conn, &desk.rates) {
+            Ok(office) => {
+                let mut office = office;
+                self.place = place_of_fault(desk, &mut office);
+                if self.place.is_some() {
+                    Next::Resend(office)
+                } else {
+                    Next::Done(Run::Wrong)
+                }
+            }
+            Err(Refusal { connection, .. }) => {
+                self.place = None;
+                Next::Reopen(connection)
             }
         }
-        None => Run::Wrong,
     }
-}
 
-// What is found where a store could not be made: none, or the one without requests.
-fn find_unmade<D: Crash + Drop>(known: &Known<'_, '_>, conn: Connection<FileStore<D>>) -> Run {
-    match crash_and_open_store(known.desk.alloc, conn, store_options(7)) {
-        Ok(store) => {
-            let mut office = Office::open(known.desk.alloc, store);
-            if known.is_after(&mut office, 0) && known.goes_on(&mut office, 0) {
-                Run::Met
-            } else {
-                Run::Wrong
+    // Where a store could not be made, none is found, or the one without requests.
+    fn after<S: Alter + Drop>(&mut self, desk: &Desk, found: Found<S>) -> Run {
+        match found {
+            Found::Sent(office, outcome) => {
+                let mut office = office;
+                if is_done(&outcome) {
+                    self.resumes(desk, &mut office)
+                } else {
+                    Run::Wrong
+                }
+            }
+            Found::Store(store) => self.begins(desk, store),
+            Found::NoStore(Refusal { fault, .. }) => {
+                if matches!(fault, OpenFault::WrongVersion(0)) && self.place.is_none() {
+                    Run::Met
+                } else {
+                    Run::Wrong
+                }
             }
         }
-        Err(FilesRefusal::NotTaken(Refusal { fault, .. })) => match fault {
-            OpenFault::WrongVersion(0) => Run::Met,
-            _ => Run::Wrong,
-        },
-        Err(FilesRefusal::Unopened(_)) => Run::Wrong,
     }
 }
 
-// Makes a store in two new files, and takes the requests.
-fn run_files<D: Crash + Drop>(known: &Known<'_, '_>, files: Files<D>) -> Run {
-    if !files.may_be_used() {
-        return Run::Wrong;
-    }
-    let Ok(conn) = open_connection(known.desk.alloc, files, store_options(7)) else {
-        return Run::Met;
+// So many calls of one file are passed on before one fails, and so many behind it. Those of the other all
+// are.
+fn passed_of(is_log: bool, before: u64, behind: u64) -> Passed {
+    let (log, db) = if is_log {
+        (before, u64::MAX)
+    } else {
+        (u64::MAX, before)
     };
-    let Ok(rates) = sample_rates(known.desk.alloc) else {
-        return Run::Wrong;
-    };
-    match make_office(known.desk.alloc, conn, &rates) {
-        Ok(office) => run_office(known, office),
-        Err(Refusal { connection, .. }) => find_unmade(known, connection),
-    }
-}
-
-// A log and a database file, of which one does something after so many calls, and the other never.
-fn run_with(known: &Known<'_, '_>, how: How, file: File, calls: u64) -> Run {
-    let (log, db) = match file {
-        File::Log => (calls, u64::MAX),
-        File::Database => (u64::MAX, calls),
-    };
-    let alloc = known.desk.alloc;
-    match how {
-        How::Stops => run_files(
-            known,
-            Files {
-                log: Fuse::new(Memory::new(alloc), log),
-                db: Fuse::new(Memory::new(alloc), db),
-            },
-        ),
-        How::FailsOnce => run_files(
-            known,
-            Files {
-                log: FailsOnce::new(Memory::new(alloc), log),
-                db: FailsOnce::new(Memory::new(alloc), db),
-            },
-        ),
-    }
+    Passed { log, db, behind }
 }
 
 // Whether all is well where a file stops after 0 calls, 1, 2, .. until a run ends with no stop, and where
 // each of these calls fails alone. So many calls are there at least.
-fn holds_at_each(known: &Known<'_, '_>, file: File, least: u64) -> bool {
-    for calls in 0..100_000 {
-        if let Run::Wrong = run_with(known, How::FailsOnce, file, calls) {
+fn holds_at_each(desk: &Desk, script: &mut Script<'_>, is_log: bool, least: u64) -> bool {
+    for before in 0..100_000 {
+        let alone = passed_of(is_log, before, u64::MAX);
+        if let Run::Wrong = run_in_files(desk, script, alone) {
             return false;
         }
-        match run_with(known, How::Stops, file, calls) {
+        match run_in_files(desk, script, passed_of(is_log, before, 0)) {
             Run::Met => {}
-            Run::Whole => return calls >= least,
+            Run::Whole => return before >= least,
             Run::Wrong => return false,
         }
     }
     false
 }
 
-fn holds_over<S: Alter>(desk: &Desk<'_>, office: &mut Office<S>) -> bool {
-    match told_of_each(desk, office) {
-        Some(told) => {
-            let known = Known {
-                desk,
-                told: told.as_slice(),
-            };
-            holds_at_each(&known, File::Log, 50) && holds_at_each(&known, File::Database, 10)
-        }
-        None => false,
+fn holds_over(desk: &Desk) -> bool {
+    let mut notes = Notes {
+        told: Vec::new(desk.alloc),
+    };
+    if !is_right(desk, &mut notes) {
+        return false;
     }
+    let mut script = Script {
+        told: notes.told.as_slice(),
+        place: None,
+    };
+    holds_at_each(desk, &mut script, true, 50) && holds_at_each(desk, &mut script, false, 10)
 }
 
 fn holds(alloc: Global) -> bool {
-    let (Ok(rates), Ok(callers), Some(day)) = (
-        sample_rates(alloc),
-        Directory::sample(alloc),
-        Day::read(b"2024-04-30"),
-    ) else {
-        return false;
-    };
-    let desk = Desk {
-        alloc,
-        callers: &callers,
-        day,
-    };
-    match office_in_memory(alloc, &rates) {
-        Some(office) => {
-            let mut office = office;
-            holds_over(&desk, &mut office)
-        }
+    match sample_desk(alloc) {
+        Some(desk) => holds_over(&desk),
         None => false,
     }
 }

@@ -1,140 +1,75 @@
-//! A store in memory: made once, opened again after a stop, and its rows read one at a time.
-use clear_bank::lines::{BankLine, Purpose};
-use clear_bank::texts::{Note, Reference};
+//! A store: made once, opened again after a stop, and its rows read one at a time.
+ghost use Rattle.std.specs.Prelude.{◌≡◌, false, IfErr, IfOk};
+
+use crate::runs::{Case, Desk, Found, Next, Run, is_whole, sample_desk};
+use crate::script::{Came, send};
+use crate::streams::answers;
+use clear_bank::lines::Purpose;
+use clear_bank::texts::Reference;
 use clear_book::calls::Caller;
 use clear_book::numbers::RequestNo;
-use clear_book::rows::{BankRow, CreditRow};
 use clear_book::rules::StoreCause;
-use clear_book::texts::CreditReference;
 use clear_columns::rows::next_row;
-use clear_ledger::bank::{Bank, find_line, insert_line, lines};
-use clear_ledger::credits::{Credits, insert_credit, read_credits};
+use clear_ledger::bank::{Bank, find_line, lines};
+use clear_ledger::credits::{Credits, read_credits};
 use clear_ledger::requests::find_request;
-use clear_money::days::Day;
-use clear_money::months::Month;
-use clear_money::numbers::{Amount, EmployerNo};
-use clear_money::rates::{RateRow, RateTable};
+use clear_money::numbers::EmployerNo;
+use clear_money::rates::RateTable;
+use clear_office::office::Office;
 use clear_schema::fault::{Fault, OpenFault};
-use clear_schema::files::crash_and_open;
 use clear_schema::store::{Refusal, Store};
-use sqlite::{Alter, Connection, Error, FileStore, Files, Leftover, Options, Rows, Transaction};
-use sqlite_disk::{Crash, Memory};
+use sqlite::{Alter, Connection, Rows, Transaction};
 use std::alloc::Global;
 
-// 20 percent from 2024-01 on.
-fn rates(alloc: Global) -> Option<RateTable> {
-    let first = Month::new(2024, 1)?;
-    let row = RateRow::new(first, 2_000, 15, 20, 100, 1_425)?;
-    RateTable::first(alloc, row).ok()
-}
-
-#[derive(Clone, Copy)]
-enum Try {
-    Make,
-    Open,
-}
-
-// The connection on a store that is made or opened, or on a database that is refused as one of this
-// schema, as is wanted.
-fn tried<S: Alter + Drop>(
-    alloc: Global,
-    conn: Connection<S>,
-    how: Try,
-    refused: Option<u64>,
-) -> Option<Connection<S>> {
-    if !conn.is_autocommit() {
-        return None;
-    }
-    let tried = match how {
-        Try::Make => Store::create(conn, &rates(alloc)?),
-        Try::Open => Store::open(conn),
-    };
+// The number of another schema that a database tells, where it is not taken as a store for that, and the
+// connection on it.
+fn wrong_version<S: Alter>(tried: Result<Store<S>, Refusal<S>>) -> (Option<u64>, Connection<S>)
+    requires made { IfOk tried (λ store. store.conn.in_transaction ≡ false) }
+    requires left { IfErr tried (λ left. left.connection.in_transaction ≡ false) }
+    ensures { result.1.in_transaction ≡ false }
+{
     match tried {
-        Ok(store) => match refused {
-            None => Some(store.into_connection()),
-            Some(_) => None,
-        },
+        Ok(store) => (None, store.into_connection()),
         Err(Refusal { fault, connection }) => match fault {
-            OpenFault::WrongVersion(found) => {
-                if refused == Some(found) {
-                    Some(connection)
-                } else {
-                    None
-                }
-            }
-            _ => None,
+            OpenFault::WrongVersion(number) => (Some(number), connection),
+            OpenFault::Failed(_) => (Some(u64::MAX), connection),
         },
     }
 }
 
-// A store that is made in an empty database, which is no store, and not made again.
-fn made_once<S: Alter + Drop>(alloc: Global, conn: Connection<S>) -> Option<Connection<S>> {
-    let conn = tried(alloc, conn, Try::Open, Some(0))?;
-    let conn = tried(alloc, conn, Try::Make, None)?;
-    let conn = tried(alloc, conn, Try::Make, Some(1))?;
-    tried(alloc, conn, Try::Open, None)
-}
-
-// The contribution rate in the store.
-fn rate_kept<S: Alter>(conn: &mut Connection<S>) -> Result<i64, Error> {
-    conn.query_row("SELECT contribution FROM rates", &[])?
-        .get(0)
-}
-
-// A line of a reference, in suspense.
-fn suspense(alloc: Global, reference: &str, serial: u64) -> Option<BankRow> {
-    let reference = Reference::of_text(String::from_str(alloc, reference).ok()?)?;
-    let note = Note::of_text(String::from_str(alloc, "January rest").ok()?)?;
-    Some(BankRow {
-        line: BankLine {
-            reference,
-            value: Day::new(19_800)?,
-            employer: None,
-            cents: Amount::new(150_000)?,
-            purpose: Purpose::Interest,
-            note,
-        },
-        serial,
-        employer: None,
-    })
-}
-
-// A credit of firm 1001 for contributions.
-fn credit(alloc: Global, reference: &str, day: u64, serial: u64) -> Option<CreditRow> {
-    let reference = CreditReference::new(String::from_str(alloc, reference).ok()?)?;
-    Some(CreditRow {
-        employer: EmployerNo::new(1001)?,
-        purpose: Purpose::Contribution,
-        day: Day::new(day)?,
-        serial,
-        cents: Amount::new(7)?,
-        reference,
-    })
-}
-
-// The later ones come first.
-fn keep_all<S: Alter>(alloc: Global, conn: &mut Connection<S>) -> bool {
-    let (Some(second), Some(first)) = (suspense(alloc, "B2", 1), suspense(alloc, "B1", 2)) else {
-        return false;
+// Whether a store is made in an empty database, which is no store, and not made again, and the connection
+// on it.
+fn made_once<S: Alter>(rates: &RateTable, conn: Connection<S>) -> (bool, Connection<S>)
+    requires { conn.in_transaction ≡ false }
+{
+    let (none, conn) = wrong_version(Store::open(conn));
+    let (made, conn) = wrong_version(Store::create(conn, rates));
+    let (again, conn) = wrong_version(Store::create(conn, rates));
+    let (found, conn) = wrong_version(Store::open(conn));
+    let is_right = match (none, made, again, found) {
+        (Some(0), None, Some(1), None) => true,
+        _ => false,
     };
-    let (Some(late), Some(early)) = (
-        credit(alloc, "B2", 19_900, 2),
-        credit(alloc, "B3", 19_800, 3),
-    ) else {
-        return false;
-    };
-    if !conn.is_autocommit() {
+    (is_right, conn)
+}
+
+// A firm pays twice, and the later payment comes first.
+const IMPORT: &str = "POST /bank HTTP/1.1\r\nHost: office\r\nOffice-Key: desk\r\n\
+    Request-Number: 2\r\nContent-Length: 107\r\n\r\n\
+    reference,value_date,employer,cents,purpose,note\n\
+    B2,2024-04-21,1001,200000,C,\nB1,2024-02-25,1001,150000,C,\n";
+
+const IMPORTED: &str = "HTTP/1.1 200 OK\r\nContent-Type: application/json\r\n\
+    Content-Length: 21\r\n\r\n{\"new\":2,\"repeats\":0}";
+
+// Whether an office registers the firm and adds its lines and credits.
+fn adds_rows<S: Alter>(desk: &Desk, office: &mut Office<S>) -> bool {
+    if !matches!(send(desk, office, 0), Came::Reply) {
         return false;
     }
-    let mut tx = conn.transaction();
-    if insert_line(&mut tx, &second).is_ok()
-        && insert_credit(&mut tx, &late).is_ok()
-        && insert_line(&mut tx, &first).is_ok()
-        && insert_credit(&mut tx, &early).is_ok()
-    {
-        tx.commit().is_ok()
-    } else {
-        false
+    match answers(desk, office, IMPORT) {
+        Some(taken) => taken.as_slice() == IMPORTED.as_bytes(),
+        None => false,
     }
 }
 
@@ -163,8 +98,8 @@ fn reads_credits<S: Alter>(conn: &mut Connection<S>) -> bool {
     };
     match read_credits(conn, employer, Purpose::Contribution) {
         Ok(mut rows) => {
-            next_credit(&mut rows) == Some(3)
-                && next_credit(&mut rows) == Some(2)
+            next_credit(&mut rows) == Some(2)
+                && next_credit(&mut rows) == Some(1)
                 && next_credit(&mut rows) == Some(0)
         }
         Err(_) => false,
@@ -206,50 +141,68 @@ fn tells_bad_request<S: Alter>(tx: &mut Transaction<'_, S>, number: RequestNo) -
 
 // Both are put in a transaction that isn't committed.
 fn tells_bad_rows<S: Alter>(alloc: Global, conn: &mut Connection<S>) -> bool {
-    let (Some(row), Some(number)) = (suspense(alloc, "B1", 1), RequestNo::new(7)) else {
+    let Some(number) = RequestNo::new(7) else {
+        return false;
+    };
+    let Ok(text) = String::from_str(alloc, "B1") else {
+        return false;
+    };
+    let Some(reference) = Reference::of_text(text) else {
         return false;
     };
     if !conn.is_autocommit() {
         return false;
     }
     let mut tx = conn.transaction();
-    tells_bad_line(&mut tx, &row.line.reference) && tells_bad_request(&mut tx, number)
+    tells_bad_line(&mut tx, &reference) && tells_bad_request(&mut tx, number)
 }
 
-// A store that is opened again after a stop has its rates, tells bad rows and reads good ones.
-fn is_whole<S: Alter + Drop>(alloc: Global, store: Store<S>) -> bool {
+// A store tells bad rows, and reads those that an office adds.
+fn is_sound<S: Alter + Drop>(desk: &Desk, store: Store<S>) -> bool {
     let mut conn = store.into_connection();
-    matches!(rate_kept(&mut conn), Ok(2_000))
-        && tells_bad_rows(alloc, &mut conn)
-        && keep_all(alloc, &mut conn)
-        && reads_credits(&mut conn)
-        && reads_lines(&mut conn)
+    if !tells_bad_rows(desk.alloc, &mut conn) || !conn.is_autocommit() {
+        return false;
+    }
+    let mut office = Office::open(desk.alloc, Store { conn });
+    if !adds_rows(desk, &mut office) {
+        return false;
+    }
+    let mut conn = office.into_store().into_connection();
+    reads_credits(&mut conn) && reads_lines(&mut conn)
 }
 
-// A store in two files, made once and opened once more after the machine has stopped.
-fn is_made_and_found<D: Crash + Drop>(
-    alloc: Global,
-    opened: Result<Connection<FileStore<D>>, (Error, Leftover<D>)>,
-) -> bool {
-    let Ok(conn) = opened else {
-        return false;
-    };
-    let Some(conn) = made_once(alloc, conn) else {
-        return false;
-    };
-    match crash_and_open(alloc, conn, Options::new(7)) {
-        Ok(store) => is_whole(alloc, store),
-        Err(_) => false,
+// A store that is made once, and opened once more after the machine has stopped.
+#[derive(Drop)]
+struct MadeOnce;
+
+impl Case for MadeOnce {
+    fn begin<S: Alter + Drop>(&mut self, desk: &Desk, conn: Connection<S>) -> Next<S> {
+        match made_once(&desk.rates, conn) {
+            (true, conn) => Next::Reopen(conn),
+            (false, _) => Next::Done(Run::Wrong),
+        }
+    }
+
+    fn after<S: Alter + Drop>(&mut self, desk: &Desk, found: Found<S>) -> Run {
+        match found {
+            Found::Store(store) => {
+                if is_sound(desk, store) {
+                    Run::Whole
+                } else {
+                    Run::Wrong
+                }
+            }
+            Found::NoStore(_) => Run::Wrong,
+            Found::Sent(_, _) => Run::Wrong,
+        }
     }
 }
 
-// Two files in memory, of which no function else knows.
 fn holds(alloc: Global) -> bool {
-    let files = Files {
-        log: Memory::new(alloc),
-        db: Memory::new(alloc),
-    };
-    is_made_and_found(alloc, Connection::open_files(alloc, files, Options::new(7)))
+    match sample_desk(alloc) {
+        Some(desk) => is_whole(&desk, &mut MadeOnce),
+        None => false,
+    }
 }
 
 #[test]
