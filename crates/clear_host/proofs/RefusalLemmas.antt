@@ -1,19 +1,23 @@
 -- What a refusal tells, and refusals that are passed on.
-use Rattle.std.proofs.Common.{◌≡◌, inl, inr, ℕ, None, IfSome, Result, Ok, Err, IfErr, refl, sym, subst}
+use Rattle.std.proofs.Common.{◌≡◌, inl, inr, ℕ, Option, Some, None, IfSome, Result, Ok, Err, IfErr, IsTrue, refl, sym, subst}
 use Rattle.std.proofs.lemmas.Option.{IfSome_then}
 use Rattle.sqlite.specs.Store as store
+use Rattle.sqlite.specs.Files.{HoldsDatabase}
 use Rattle.sqlite.specs.Held.{state}
-use Rattle.sqlite.specs.State.{HasCleanDisk}
+use Rattle.sqlite.specs.Tree.{Trees}
+use Rattle.clear_book.specs.Tables.{Tables}
+use Rattle.clear_schema.specs.Schema.{this_layout}
+use Rattle.sqlite.specs.State.{HasCleanDisk, State}
 use Rattle.sqlite_wal.specs.Recovery.{Image}
 use Rattle.clear_schema.specs.Faults.{IsWrong, other_layout}
-use Rattle.clear_schema.specs.Held.{this_schema}
+use Rattle.clear_schema.specs.Held.{HasTables, TellsAs, this_schema}
 use Rattle.clear_schema.specs.declared.fault.Fault.TheVariants.{Memory, Store}
 use Rattle.clear_book.specs.declared.rules.StoreCause.TheVariants.{Constraint, Row, Other}
 use Rattle.clear_migrate.specs.Answered.{AnswersOrFails}
 use Rattle.clear_schema.specs.declared.fault.OpenFault.{OpenFault}
 use Rattle.clear_schema.specs.declared.fault.OpenFault.TheVariants.{WrongVersion, Failed}
-use Rattle.clear_host.specs.Contents.{HoldsOtherLayout, IfRefused, TellsNone, TellsOnly, TellsOther}
-use Rattle.clear_host.specs.Offices.{TellsOf}
+use Rattle.clear_host.specs.Contents.{HasJust, HoldsOtherLayout, HoldsStore, IfOpen, IfRefused, KeepsTables, TellsNone, TellsOnly, TellsOther}
+use Rattle.clear_host.specs.Offices.{Leaves, TellsOf}
 use Rattle.clear_host.specs.declared.offices.NotOpened.{NotOpened}
 
 pub tells_only : (number : ℕ) (fault : OpenFault) → ((told : ℕ) → fault ≡ WrongVersion told → told ≡ number) → TellsOnly number fault
@@ -36,7 +40,33 @@ none_wrong this found (Failed fault) none = tt
 pub unconnected : {S : Type 0} (g : store.Ghosts S) (P : OpenFault → Type 0) (refused : NotOpened S) → refused.connection ≡ None → IfRefused g P refused
 unconnected g P refused none = subst (λ at. IfSome at (λ conn. HasCleanDisk (state g conn) → P refused.fault)) (sym none) tt
 
+pub never_open : {S : Type 0} (g : store.Ghosts S) (P : State → Type 0) (refused : NotOpened S) → refused.connection ≡ None → IfOpen g P refused
+never_open g P refused none =
+    subst (λ at. IfSome at (λ conn. HasCleanDisk (state g conn) → IsTrue (state g conn).is_open → P (state g conn))) (sym none) tt
+
+if_both : {A : Type 0} (o : Option A) (P Q R : A → Type 0) → IfSome o P → IfSome o Q → ((a : A) → P a → Q a → R a) → IfSome o R
+if_both None P Q R p q both = tt
+if_both (Some a) P Q R p q both = both a p q
+
 module _ {S : Type 0} (g : store.Ghosts S) (image : Image) where
+  -- files that weren't opened
+  pub unopened_leaves : (refused : NotOpened S) → refused.connection ≡ None → Leaves g image refused
+  unopened_leaves refused none = record {
+    tables = λ t _. never_open g (λ s. HasTables t s.now × HasTables t s.committed) refused none;
+    others = λ number trees _ _ _. never_open g (HasJust trees) refused none;
+  }
+
+  -- a refusal behind an open that found a store of this program
+  pub refused_leaves : {A Sound : Type 0} (r : Result A (NotOpened S)) (mid : State)
+      → ((number : ℕ) (trees : Trees) → HoldsDatabase image trees → TellsAs number trees → Sound → number ≡ this_schema)
+      → ((t : Tables) → HoldsStore this_layout t image → Sound → HasTables t mid.now × HasTables t mid.committed)
+      → IfErr r (IfRefused g (λ fault. Sound)) → IfErr r (IfOpen g (KeepsTables mid)) → IfErr r (Leaves g image)
+  refused_leaves (Ok it) mid ours has sound rests = tt
+  refused_leaves (Err refused) mid ours has sound rests = record {
+    tables = λ t holds. if_both refused.connection _ _ _ sound rests (λ conn so keeps clean live. let there = has t holds (so clean) in keeps clean live t there.0 there.1);
+    others = λ number trees holds tells other. IfSome_then refused.connection sound (λ conn so clean live. absurd (other (ours number trees holds tells (so clean))));
+  }
+
   -- files that weren't opened
   pub unopened_tells : (refused : NotOpened S) → refused.connection ≡ None → TellsOf g image refused
   unopened_tells refused none = record {

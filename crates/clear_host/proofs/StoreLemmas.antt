@@ -1,13 +1,17 @@
 -- What a connection on files sees, by what the files hold.
-use Rattle.std.proofs.Common.{◌≢◌, ℕ, sym, subst}
+use Rattle.std.proofs.Common.{◌≢◌, ◌∙◌, ℕ, ap, sym, subst}
 use Rattle.sqlite_wal.specs.Recovery.{Image}
+use Rattle.sqlite.specs.Effect.{Database}
+use Rattle.sqlite.specs.Files.{HoldsDatabase}
 use Rattle.sqlite.specs.State.{State}
+use Rattle.sqlite.specs.Tree.{Trees}
 use Rattle.clear_book.specs.Tables.{Tables}
 use Rattle.clear_schema.specs.Held.{HasObjects, HasOtherLayout, HasTables, StandsFor, StandsOtherwise, TellsAs, TellsSchema}
 use Rattle.clear_schema.specs.Schema.{no_schema, this_layout}
 use Rattle.clear_schema.specs.Seen.{SeesIn}
+use Rattle.clear_schema.specs.Still.{IsStill}
 use Rattle.clear_schema.proofs.OpenLemmas.{is_seen, other_seen, tells_seen}
-use Rattle.clear_host.specs.Contents.{HaveObjects, HoldsObjects, HoldsOtherLayout, HoldsSchema, HoldsStore}
+use Rattle.clear_host.specs.Contents.{HasJust, HaveObjects, HoldsObjects, HoldsOtherLayout, HoldsSchema, HoldsStore}
 
 module _ (image : Image) (s : State) (seen : SeesIn image s) where
   -- the store that the files hold
@@ -34,3 +38,14 @@ module _ (image : Image) (s : State) (seen : SeesIn image s) where
 
   pub other_layout_seen : HoldsOtherLayout image → HasOtherLayout s.now
   other_layout_seen holds = other_seen s seen.opened.0.clean seen.opened.1 seen.opened.0.is_open (other_is_seen holds)
+
+  -- a state that is still that one has what the files hold
+  pub just_seen : (trees : Trees) → HoldsDatabase image trees → (new : State) → IsStill s new → HasJust trees new
+  just_seen trees holds new still =
+      (ap (λ (d : Database). d.trees) (still.now_is ∙ seen.opened.0.clean) ∙ seen.holds trees holds, ap (λ (d : Database). d.trees) still.committed_is ∙ seen.holds trees holds)
+
+  -- or its tables
+  pub still_seen : (t : Tables) → HoldsStore this_layout t image → (new : State) → IsStill s new → HasTables t new.now × HasTables t new.committed
+  still_seen t holds new still =
+      let here = subst (HasTables t) (sym still.now_is) (tables_seen t holds) in
+      (here, subst (HasTables t) still.settled here)

@@ -1,19 +1,19 @@
 -- What the two files of a store hold, its log and its database file. No contract knows that, so clauses
 -- speak of each content.
-use Rattle.std.specs.Prelude.{◌≡◌, ◌≢◌, ⊤, ℕ, IfSome, MatchOption, None}
+use Rattle.std.specs.Prelude.{◌≡◌, ◌≢◌, ⊤, ℕ, IfSome, IsTrue, MatchOption, None}
 use Rattle.sqlite_wal.specs.Recovery.{Image}
 use Rattle.sqlite.specs.declared.error.Error.{Error}
 use Rattle.sqlite.specs.Effect.{Database}
 use Rattle.sqlite.specs.Files.{HoldsDatabase}
 use Rattle.sqlite.specs.Held.{state}
-use Rattle.sqlite.specs.State.{HasCleanDisk}
+use Rattle.sqlite.specs.State.{HasCleanDisk, State}
 use Rattle.sqlite.specs.Store.{Ghosts}
 use Rattle.sqlite.specs.Tree.{Trees}
 use Rattle.clear_book.specs.Allocated.{Represents}
 use Rattle.clear_book.specs.Book.{Book}
 use Rattle.clear_book.specs.Tables.{Tables}
 use Rattle.clear_schema.specs.Faults.{fault_of, other_layout}
-use Rattle.clear_schema.specs.Held.{HasObjects, StandsAs, StandsOtherwise, TellsAs}
+use Rattle.clear_schema.specs.Held.{HasObjects, HasTables, StandsAs, StandsOtherwise, TellsAs}
 use Rattle.clear_schema.specs.Schema.{Layout, this_layout}
 use Rattle.clear_schema.specs.declared.fault.Fault.TheVariants.{Memory}
 use Rattle.clear_schema.specs.declared.fault.OpenFault.{OpenFault}
@@ -66,6 +66,26 @@ TellsOther fault = fault ≢ Failed Memory → fault ≡ other_layout
 abbrev pub IfRefused : {S : Type 0} (g : Ghosts S) → (OpenFault → Type 0) → NotOpened S → Type 0
 IfRefused g P refused =
     IfSome refused.connection (λ conn. HasCleanDisk (state g conn) → P refused.fault)
+
+-- where the files were opened, the disk has so far returned what was written, and no fault has closed
+-- the database, it is so
+abbrev pub IfOpen : {S : Type 0} (g : Ghosts S) → (State → Type 0) → NotOpened S → Type 0
+IfOpen g P refused = IfSome refused.connection (λ conn.
+    HasCleanDisk (state g conn) → IsTrue (state g conn).is_open → P (state g conn))
+
+-- it shows just these trees, and they are what was committed last
+abbrev pub HasJust : Trees → State → Type 0
+HasJust trees s = (s.now.trees ≡ trees) × (s.committed.trees ≡ trees)
+
+-- what are the tables of both, also those committed last, stays so
+abbrev pub KeepsTables : State → State → Type 0
+KeepsTables old new = (t : Tables) → HasTables t old.now → HasTables t old.committed
+    → HasTables t new.now × HasTables t new.committed
+
+-- a database that they hold, and that tells the number of a schema, is left as it was
+abbrev pub LeavesSchema : {S : Type 0} (g : Ghosts S) → Image → NotOpened S → Type 0
+LeavesSchema g image refused = (number : ℕ) (trees : Trees) → HoldsDatabase image trees
+    → TellsAs number trees → IfOpen g (HasJust trees) refused
 
 -- the refusal tells the fault of some error of the database, and what that error says of the file
 abbrev pub IsByError : {S : Type 0} → NotOpened S → Type 0

@@ -1,19 +1,20 @@
 -- Why an office over a store in files is opened, and why it is not, by what the two files hold.
-use Rattle.std.specs.Prelude.{◌≡◌, ℕ, List}
-use Rattle.sqlite.specs.Files.{IsNothing}
+use Rattle.std.specs.Prelude.{◌≡◌, ◌≢◌, ℕ, List}
+use Rattle.sqlite.specs.Files.{HoldsDatabase, IsNothing}
 use Rattle.sqlite.specs.Store.{Ghosts}
+use Rattle.sqlite.specs.Tree.{Trees}
 use Rattle.sqlite_wal.specs.Recovery.{Image}
 use Rattle.clear_money.specs.Rates.{Rate}
 use Rattle.clear_book.specs.Book.{Book, first_book, ledger_day}
 use Rattle.clear_book.specs.Tables.{Tables}
 use Rattle.clear_schema.specs.Faults.{IsWrong}
 use Rattle.clear_schema.specs.First.{first_tables}
-use Rattle.clear_schema.specs.Held.{this_schema}
+use Rattle.clear_schema.specs.Held.{HasTables, TellsAs, this_schema}
 use Rattle.clear_schema.specs.Schema.{this_layout}
 use Rattle.clear_schema.specs.Still.{Holds}
 use Rattle.clear_office.specs.Office.{Keeps}
 use Rattle.clear_host.specs.Contents.{HoldsBook, HoldsOtherLayout, HoldsSchema, HoldsStore}
-use Rattle.clear_host.specs.Contents.{IfRefused, TellsOnly, TellsOther}
+use Rattle.clear_host.specs.Contents.{HasJust, IfOpen, IfRefused, TellsOnly, TellsOther}
 use Rattle.clear_host.specs.declared.offices.NotOpened.{NotOpened}
 use Rattle.clear_host.specs.declared.offices.Opened.{Opened}
 
@@ -42,3 +43,11 @@ pub record TellsOf {S : Type 0} (g : Ghosts S) (image : Image) (refused : NotOpe
       → IfRefused g (IsWrong this_schema number) refused
   pub other : HoldsOtherLayout image → IfRefused g TellsOther refused
   pub empty : IsNothing image → IfRefused g (TellsOnly 0) refused
+
+-- the refusal leaves what they hold: the tables of a store of this program, and a database of another
+-- schema as it was
+pub record Leaves {S : Type 0} (g : Ghosts S) (image : Image) (refused : NotOpened S) : Type 0 where
+  pub tables : (t : Tables) → HoldsStore this_layout t image
+      → IfOpen g (λ s. HasTables t s.now × HasTables t s.committed) refused
+  pub others : (number : ℕ) (trees : Trees) → HoldsDatabase image trees → TellsAs number trees
+      → number ≢ this_schema → IfOpen g (HasJust trees) refused

@@ -1,5 +1,5 @@
 //! The ledger day of a store: the day of its last accepted request.
-ghost use Rattle.std.specs.Prelude.{◌≡◌, false, IfOk, OnOk};
+ghost use Rattle.std.specs.Prelude.{◌≡◌, false, IfOk, IsTrue, OnErr, OnOk};
 ghost use Rattle.sqlite.specs.Held.{state};
 ghost use Rattle.sqlite.specs.State.{HasCleanDisk};
 ghost use Rattle.clear_book.specs.Tables.{Tables};
@@ -27,6 +27,13 @@ pub(crate) fn ledger_day<S: Alter>(store: &mut Store<S>) -> Result<Option<Day>, 
     ensures kept { HasCleanDisk (state S.Store store.new.conn)
         → (t : Tables) → HasTables t (state S.Store store.old.conn).now
         → OnOk result (Holds S.Store store.new.conn t) }
+    ensures rests { HasCleanDisk (state S.Store store.new.conn)
+        → (t : Tables) → HasTables t (state S.Store store.old.conn).now
+        → IsTrue (state S.Store store.new.conn).is_open
+        → OnErr result (((state S.Store store.new.conn).now
+        ≡ (state S.Store store.old.conn).committed)
+        × ((state S.Store store.new.conn).committed
+        ≡ (state S.Store store.old.conn).committed)) }
 {
     match within(&mut store.conn, LedgerDay) {
         Ok(day) => Ok(day),

@@ -1,15 +1,16 @@
 //! Stores in files, brought to this program's schema.
-ghost use Rattle.std.specs.Prelude.{◌≡◌, false, IfErr, IfOk};
-ghost use Rattle.sqlite.specs.Files.{over_files};
+ghost use Rattle.std.specs.Prelude.{◌≡◌, ℕ, false, IfErr, IfOk};
+ghost use Rattle.sqlite.specs.Files.{over_files, HoldsDatabase};
 ghost use Rattle.sqlite.specs.Held.{state};
 ghost use Rattle.sqlite.specs.State.{HasCleanDisk};
+ghost use Rattle.sqlite.specs.Tree.{Trees};
 ghost use Rattle.sqlite_wal.specs.Files.{image_at};
 ghost use Rattle.sqlite_wal.specs.Recovery.{Image};
 ghost use Rattle.clear_book.specs.Tables.{Tables};
-ghost use Rattle.clear_schema.specs.Held.{HasTables};
+ghost use Rattle.clear_schema.specs.Held.{HasTables, TellsAs};
 ghost use Rattle.clear_schema.specs.Schema.{this_layout};
 ghost use Rattle.clear_schema.specs.Seen.{Sees};
-ghost use Rattle.clear_host.specs.Contents.{HoldsStore, IsWhyUnopened};
+ghost use Rattle.clear_host.specs.Contents.{HasJust, HoldsStore, IsWhyUnopened, LeavesSchema};
 ghost use Rattle.clear_host.specs.Offices.{IsOurs, TellsOf};
 
 use crate::offices::NotOpened;
@@ -46,6 +47,10 @@ pub fn bring_to_current<S: Start>(
         → IsOurs (image_at S.Start)) }
     ensures tells { IfErr result (TellsOf over_files (image_at S.Start)) }
     ensures unopened { IfErr result IsWhyUnopened }
+    ensures rests { IfErr result (LeavesSchema over_files (image_at S.Start)) }
+    ensures still { IfOk result (λ brought. HasCleanDisk (state over_files brought.connection)
+        → (number : ℕ) (trees : Trees) → HoldsDatabase (image_at S.Start) trees
+        → TellsAs number trees → HasJust trees (state over_files brought.connection)) }
 {
     let connection = open_database(rt, path, start)?;
     bring(connection)
@@ -66,6 +71,12 @@ fn bring<S: Alter>(connection: Connection<S>) -> Result<Brought<S>, NotOpened<S>
     ensures tells { (image : Image) → Sees S.Store image connection
         → IfErr result (TellsOf S.Store image) }
     ensures unopened { IfErr result IsWhyUnopened }
+    ensures rests { (image : Image) → Sees S.Store image connection
+        → IfErr result (LeavesSchema S.Store image) }
+    ensures still { (image : Image) → Sees S.Store image connection
+        → IfOk result (λ brought. HasCleanDisk (state S.Store brought.connection)
+        → (number : ℕ) (trees : Trees) → HoldsDatabase image trees
+        → TellsAs number trees → HasJust trees (state S.Store brought.connection)) }
 {
     let mut connection = connection;
     match to_current(&mut connection) {

@@ -16,8 +16,9 @@ ghost use Rattle.clear_schema.specs.Seen.{Sees};
 ghost use Rattle.clear_schema.specs.Still.{Holds};
 ghost use Rattle.clear_office.specs.Office.{IsHonest, Keeps};
 ghost use Rattle.clear_host.specs.Contents.{HoldsObjects, HoldsSchema, HoldsStore, IfRefused};
-ghost use Rattle.clear_host.specs.Contents.{IsWhyUnopened, TellsNone, TellsOnly};
-ghost use Rattle.clear_host.specs.Offices.{IsNewOffice, IsOfficeOver, IsOurs, TellsOf};
+ghost use Rattle.clear_host.specs.Contents.{IfOpen, IsWhyUnopened, KeepsTables, LeavesSchema};
+ghost use Rattle.clear_host.specs.Contents.{TellsNone, TellsOnly};
+ghost use Rattle.clear_host.specs.Offices.{IsNewOffice, IsOfficeOver, IsOurs, Leaves, TellsOf};
 
 use crate::hindrance::Hindrance;
 use crate::ledger::ledger_day;
@@ -78,6 +79,8 @@ pub(crate) fn new_office<S: Alter>(
     ensures empty { (image : Image) → Sees S.Store image connection → IsNothing image
         → IfErr result (IfRefused S.Store TellsNone) }
     ensures unopened { IfErr result IsWhyUnopened }
+    ensures rests { (image : Image) → Sees S.Store image connection
+        → IfErr result (LeavesSchema S.Store image) }
 {
     match make_office(alloc, connection, rates) {
         Ok(office) => Ok(Opened {
@@ -109,6 +112,8 @@ pub(crate) fn find_office<S: Alter>(
     ensures tells { (image : Image) → Sees S.Store image connection
         → IfErr result (TellsOf S.Store image) }
     ensures unopened { IfErr result IsWhyUnopened }
+    ensures leaves { (image : Image) → Sees S.Store image connection
+        → IfErr result (Leaves S.Store image) }
 {
     let store = find_store(connection)?;
     office_over(alloc, store)
@@ -126,6 +131,8 @@ fn find_store<S: Alter>(connection: Connection<S>) -> Result<Store<S>, NotOpened
     ensures tells { (image : Image) → Sees S.Store image connection
         → IfErr result (TellsOf S.Store image) }
     ensures unopened { IfErr result IsWhyUnopened }
+    ensures leaves { (image : Image) → Sees S.Store image connection
+        → IfErr result (Leaves S.Store image) }
 {
     match Store::open(connection) {
         Ok(store) => confirm(store),
@@ -150,6 +157,7 @@ fn confirm<S: Alter>(store: Store<S>) -> Result<Store<S>, NotOpened<S>>
     ensures unopened { IfErr result IsWhyUnopened }
     ensures clean_left { IfErr result (IfRefused S.Store (λ fault.
         HasCleanDisk (state S.Store store.conn))) }
+    ensures rests { IfErr result (IfOpen S.Store (KeepsTables (state S.Store store.conn))) }
 {
     let mut store = store;
     match body::confirm(&mut store.conn) {
@@ -181,6 +189,7 @@ fn office_over<S: Alter>(alloc: Global, store: Store<S>) -> Result<Opened<S>, No
     ensures unopened { IfErr result IsWhyUnopened }
     ensures clean_left { IfErr result (IfRefused S.Store (λ fault.
         HasCleanDisk (state S.Store store.conn))) }
+    ensures rests { IfErr result (IfOpen S.Store (KeepsTables (state S.Store store.conn))) }
 {
     let mut store = store;
     match ledger_day(&mut store) {

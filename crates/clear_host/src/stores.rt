@@ -10,8 +10,8 @@ ghost use Rattle.clear_book.specs.Book.{first_book};
 ghost use Rattle.clear_book.specs.Machine.{IsLawful};
 ghost use Rattle.clear_office.specs.Office.{IsHonest};
 ghost use Rattle.clear_host.specs.Contents.{HoldsObjects, HoldsSchema, IfRefused, IsWhyUnopened};
-ghost use Rattle.clear_host.specs.Contents.{TellsNone, TellsOnly};
-ghost use Rattle.clear_host.specs.Offices.{IsNewOffice, IsOfficeOver, TellsOf};
+ghost use Rattle.clear_host.specs.Contents.{LeavesSchema, TellsNone, TellsOnly};
+ghost use Rattle.clear_host.specs.Offices.{IsNewOffice, IsOfficeOver, Leaves, TellsOf};
 
 use crate::offices::{NotOpened, Opened, find_office, new_office};
 use crate::opening::{is_no_file, open_database};
@@ -29,7 +29,7 @@ const OWNER_ALONE: u32 = 0o600;
 /// Makes a store without requests, with these opening rates, and an office over it, at a path where
 /// no file is, or an empty one, or one that an earlier call left half made. A database that has a
 /// table, an index or a view is refused: where it tells the number of a schema, by `WrongVersion` with
-/// that one.
+/// that one, and it is left as it was.
 ///
 /// A file that is made can be read and written by its owner alone, and its log too.
 pub fn create_office<S: Start>(
@@ -50,6 +50,7 @@ pub fn create_office<S: Start>(
     ensures empty { IsNothing (image_at S.Start)
         → IfErr result (IfRefused over_files TellsNone) }
     ensures unopened { IfErr result IsWhyUnopened }
+    ensures rests { IfErr result (LeavesSchema over_files (image_at S.Start)) }
 {
     // No effect at run time: the proof reads from this call that the rates are lawful.
     rates_in_range(rates);
@@ -62,7 +63,8 @@ pub fn create_office<S: Start>(
 /// The store is confirmed to stand, so that a crash leaves the tables that it has and no others.
 /// Where no file is, none is made. Where the file holds no store of this program, `WrongVersion`
 /// with the number of its schema, 0 without one; where that is our number, but its tables or indexes
-/// are others than ours, `Failed(Fault::Store(StoreCause::Other))`.
+/// are others than ours, `Failed(Fault::Store(StoreCause::Other))`. A refusal leaves a store its tables,
+/// and a database of another schema as it was.
 pub fn open_office<S: Start>(
     rt: &HostRuntime,
     path: &str,
@@ -73,6 +75,7 @@ pub fn open_office<S: Start>(
         → IsOfficeOver over_files (image_at S.Start) opened) }
     ensures tells { IfErr result (TellsOf over_files (image_at S.Start)) }
     ensures unopened { IfErr result IsWhyUnopened }
+    ensures leaves { IfErr result (Leaves over_files (image_at S.Start)) }
 {
     let connection = open_database(rt, path, start)?;
     find_office(rt.alloc(), connection)

@@ -1,3 +1,4 @@
 pub mod StatusLemmas
 pub mod WriteLemmas
 pub mod StreamLemmas
+pub mod EndLemmas

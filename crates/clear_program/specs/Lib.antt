@@ -4,3 +4,5 @@ pub mod Asked
 pub mod Streams
 pub mod Works
 pub mod Looks
+pub mod Opening
+pub mod Ends

@@ -8,6 +8,8 @@ use Rattle.clear_schema.specs.Held.{HasTables, this_schema}
 use Rattle.clear_office.specs.Office.{AtOffice}
 use Rattle.clear_reading.specs.Look.{look_of}
 use Rattle.clear_texts.specs.Look.{look_text}
+use Rattle.clear_texts.specs.declared.look.Look.{Look}
+use Rattle.clear_server.specs.Told.{Written}
 use Rattle.clear_program.specs.Stops.{IsOfStoreFault}
 use Rattle.clear_program.specs.Works.{IsSaid, Works}
 use Rattle.clear_program.specs.declared.jobs.Job.{Job}
@@ -27,10 +29,15 @@ module _ {A S : Type 0} (bytes : A → List ℕ) (g : Ghosts S) (result : Result
     pub survives : HasCleanDisk (state g new) → (t : Tables) → HasTables t (state g old).now
         → Survives (state g old) (state g new) (λ _. ⊥)
     pub why : IfErr result IsOfStoreFault
+    -- whatever the disk returned, it is what some tables hold
+    pub text : IfOk result (λ text. (look : Look) × (bytes text ≡ look_text this_schema look))
 
-  -- what a job does with an office of this ledger day, whose connection it leaves, and what is said
-  abbrev pub DoesJob : Option ℕ → AtOffice S → Held S → Job → Type 0
-  DoesJob ledger_day office left job.Nothing = IsSaid bytes (Ok []) result × (left ≡ office.conn)
-  DoesJob ledger_day office left job.Look = Looks office.conn left
-  DoesJob ledger_day office left (job.Work file work) =
-      (then : AtOffice S) × Works bytes g office then result ledger_day work × (left ≡ then.conn)
+  -- what a job does with an office of this ledger day, whose connection it leaves, what is said of it,
+  -- and what is told meanwhile
+  abbrev pub DoesJob : Option ℕ → AtOffice S → Held S → Written → Written → Job → Type 0
+  DoesJob ledger_day office left told told' job.Nothing =
+      IsSaid bytes (Ok []) result × (left ≡ office.conn) × (told' ≡ told)
+  DoesJob ledger_day office left told told' job.Look = Looks office.conn left × (told' ≡ told)
+  DoesJob ledger_day office left told told' (job.Work file work) =
+      (then : AtOffice S) × Works bytes g office then result ledger_day told told' work
+      × (left ≡ then.conn)

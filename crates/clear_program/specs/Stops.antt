@@ -1,8 +1,6 @@
 -- Why the program ends before its work is done: its status, and the line that it tells.
-use Rattle.std.specs.Prelude.{◌≡◌, ◌⊎◌, ℕ, nat_lt, Bool, false, List, [], ◌∷◌, ◌++◌, codes}
-use Rattle.std.specs.Prelude.{if◌then◌else◌, Option}
+use Rattle.std.specs.Prelude.{◌≡◌, ◌⊎◌, ℕ, nat_lt, List, [], ◌∷◌, ◌++◌, codes, if◌then◌else◌}
 use Rattle.std.specs.Fmt.{decimal}
-use Rattle.std.specs.Io.KnownBytes.{Appends}
 use Rattle.clear_book.specs.declared.rules.Rule.{Rule}
 use Rattle.clear_book.specs.declared.rules.Rule.TheVariants as rules
 use Rattle.clear_book.specs.Rules.{number_of, name_of, carried_by}
@@ -15,6 +13,7 @@ use Rattle.clear_http.specs.declared.serve.Fault.{Fault}
 use Rattle.clear_http.specs.declared.serve.Fault.TheVariants.{Memory}
 use Rattle.clear_files.specs.declared.fault.FileFault.{FileFault}
 use Rattle.clear_files.specs.declared.fault.FileFault.TheVariants as file
+use Rattle.clear_server.specs.Told.{Writes, Written}
 use Rattle.clear_program.specs.declared.stop.Stop.{Stop}
 use Rattle.clear_program.specs.declared.stop.Stop.TheVariants as stop
 
@@ -82,14 +81,12 @@ line_of stop.File = codes "fault file\n"
 line_of stop.Net = codes "fault net\n"
 line_of stop.Stream = codes "fault stream\n"
 
--- known bytes grow by this text, or, where a write has failed, by a front of it
-abbrev pub AppendsFront : Bool → Option (List ℕ) → Option (List ℕ) → List ℕ → Type 0
-AppendsFront failed old new text =
-    (part : List ℕ) × (rest : List ℕ) × (text ≡ part ++ rest) × Appends old new part
-    × (failed ≡ false → rest ≡ [])
+-- what is told of a reason: that, or, of a rule, that there was no memory for its line
+abbrev pub IsTold : Stop → Stop → Type 0
+IsTold why told =
+    (told ≡ why) ⊎ ((told ≡ no_memory) × ((rule : Rule) × (why ≡ stop.Rule rule)))
 
--- what is told, and with which status: why the program ended, or that there was no memory for it
-abbrev pub Tells : Bool → Option (List ℕ) → Option (List ℕ) → Stop → ℕ → Type 0
-Tells failed old new why status =
-    (told : Stop) × ((told ≡ why) ⊎ (told ≡ no_memory))
-    × (status ≡ status_of told) × AppendsFront failed old new (line_of told)
+-- what is told, and with which status: its line is written, or a front of it where a write has failed
+abbrev pub Tells : Written → Written → Stop → ℕ → Type 0
+Tells old new why status =
+    (told : Stop) × IsTold why told × (status ≡ status_of told) × Writes (line_of told) old new

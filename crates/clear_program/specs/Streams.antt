@@ -17,12 +17,16 @@ use Rattle.clear_program.specs.Stops.{no_memory}
 use Rattle.clear_program.specs.declared.stop.Stop.{Stop}
 use Rattle.clear_program.specs.declared.stop.Stop.TheVariants as stop
 
--- why a stream isn't served to its end: for want of memory, since its reader or its writer failed, or
--- since it took all reads that it may make
+-- why a stream isn't served to its end: for want of memory, where neither its reader nor its writer
+-- failed; else since one of them failed, and then not the other, or since it took all reads that it may
+-- make
 abbrev pub IsCutShort : Bool → Bool → ℕ → ℕ → Stop → Type 0
 IsCutShort reader_failed writer_failed reads_before reads_now why =
-    (why ≡ no_memory) ⊎ ((why ≡ stop.Stream) × ((reader_failed ≡ true)
-    ⊎ ((writer_failed ≡ true) ⊎ (reads_now ≡ reads_before + read_limit))))
+    ((why ≡ no_memory) × (reader_failed ≡ false) × (writer_failed ≡ false))
+    ⊎ ((why ≡ stop.Stream) × (((reader_failed ≡ true) × (writer_failed ≡ false))
+    ⊎ (((reader_failed ≡ false) × (writer_failed ≡ true))
+    ⊎ ((reader_failed ≡ false) × (writer_failed ≡ false)
+    × (reads_now ≡ reads_before + read_limit)))))
 
 module _ (reads : Heading → List ℕ → Result Call Refused → Type 0) (rates : List Rate) where
   -- the machine takes each request in the bytes of a stream, one after another from the book without

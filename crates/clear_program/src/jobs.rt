@@ -1,6 +1,7 @@
 //! What is done with the store of an office that was just opened, whatever keeps it.
 ghost use Rattle.std.specs.Prelude.{◌≡◌, string_bytes};
 ghost use Rattle.clear_office.specs.Office.{AtOffice};
+ghost use Rattle.clear_server.specs.Told.{written_by};
 ghost use Rattle.clear_program.specs.Looks.{DoesJob, Looks};
 ghost use Rattle.clear_program.specs.Works.{Works};
 
@@ -10,6 +11,7 @@ use crate::tasks::Work;
 use crate::work::do_work;
 use clear_files::named::StoreFile;
 use clear_host::offices::Opened;
+use clear_wire::counted::Counted;
 use sqlite::{Alter, Connection};
 use std::alloc::Global;
 use std::io::Write;
@@ -38,10 +40,11 @@ pub(crate) fn do_job<S: Alter + Drop, E: Write>(
     rt: &HostRuntime,
     opened: Opened<S>,
     job: Job<'_>,
-    errors: &mut E,
+    errors: &mut Counted<E>,
 ) -> Done<S>
     ensures { DoesJob string_bytes S.Store result.said opened.ledger_day opened.office
-        result.connection job.entry }
+        result.connection
+        (written_by E.contents errors.old) (written_by E.contents errors.new) job.entry }
 {
     match job {
         Job::Nothing => Done {
@@ -66,10 +69,12 @@ fn work_on<S: Alter + Drop, E: Write>(
     opened: Opened<S>,
     file: &StoreFile<'_>,
     work: Work<'_>,
-    errors: &mut E,
+    errors: &mut Counted<E>,
 ) -> Done<S>
     ensures { (then : AtOffice _) × Works string_bytes S.Store opened.office then result.said
-        opened.ledger_day work.entry × (result.connection ≡ then.conn) }
+        opened.ledger_day
+        (written_by E.contents errors.old) (written_by E.contents errors.new) work.entry
+        × (result.connection ≡ then.conn) }
 {
     let mut opened = opened;
     let said = do_work(rt, &mut opened, file, work, errors);

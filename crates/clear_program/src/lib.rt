@@ -2,9 +2,10 @@
 //! they ask for is done, and why it ends before that is told in one line, with a status.
 //!
 //! Contracts say which task the words ask for, what work does to an office that was opened, what is said
-//! of it, and the status and the line of each reason to stop. What a path names, that what is said is
-//! printed, and all of sockets is compared by tests. The work is done on offices whatever keeps their
-//! records; the two kinds of store, in files and in memory, are named in few calls.
+//! of it, the status and the line of each reason to stop, and what stands on any output at the end. What
+//! a path names, that the outputs are printed, and all of sockets is compared by tests. The work is done
+//! on offices whatever keeps their records; the two kinds of store, in files and in memory, are named in
+//! few calls.
 #![tactic(auto)]
 
 mod jobs;

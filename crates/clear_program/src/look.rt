@@ -1,54 +1,67 @@
 //! A look at a store, and why there is none to look at.
-ghost use Rattle.std.specs.Prelude.{◌≤◌, IfOk, string_bytes};
+ghost use Rattle.std.specs.Prelude.{◌≤◌, ◌⊎◌, string_bytes, IfOk};
+ghost use Rattle.clear_server.specs.Told.{written_by};
+ghost use Rattle.clear_program.specs.Ends.{SaysAll, TellsNoStore, TellsWhy};
 ghost use Rattle.clear_program.specs.Looks.{Looks};
+ghost use Rattle.clear_program.specs.declared.tasks.Task.TheVariants.{Look};
 
 use crate::jobs::Job;
-use crate::opening::{do_and_close, open_whole};
+use crate::opening::{Unopened, do_and_close, open_whole};
 use crate::reasons::reason;
-use crate::stop::{Stop, tell, write_front};
-use crate::work::say;
+use crate::stop::{Stop, tell};
+use crate::work::end_by;
 use clear_book::rules::{Rule, StoreCause};
 use clear_files::paths::{PathKind, path_kind};
-use clear_host::hindrance::Hindrance;
 use clear_reading::look::look;
 use clear_schema::fault::OpenFault;
 use clear_schema::store::SCHEMA;
+use clear_server::told::write_front;
 use clear_texts::look::look_text;
 use clear_wire::counted::Counted;
 use sqlite::{Alter, Connection};
-use sqlite_disk::Start;
+use sqlite_disk::Unknown;
 use std::alloc::Global;
+use std::io::Write;
 
 /// Says what stands in the store at a path, and changes nothing. Where there is none, or it can't be
 /// opened, the line that each command tells is followed by one that says which, in words. It gives
 /// the status with which the program ends.
-pub(crate) fn look_at<S: Start>(
+pub(crate) fn look_at<O: Write, E: Write>(
     rt: &HostRuntime,
     store: &str,
-    start: S,
-    again: S,
+    output: &mut Counted<O>,
+    errors: &mut Counted<E>,
 ) -> Result<u8, Stop>
-    ensures { IfOk result (λ status. status ≤ 3) }
+    ensures says { SaysAll
+        (written_by O.contents output.old) (written_by O.contents output.new)
+        (written_by E.contents errors.old) (written_by E.contents errors.new)
+        (Look store.entry) result
+        ⊎ TellsNoStore
+        (written_by O.contents output.old) (written_by O.contents output.new)
+        (written_by E.contents errors.old) (written_by E.contents errors.new) result }
+    ensures small { IfOk result (λ status. status ≤ 3) }
 {
     let kind = path_kind(rt, store);
-    match open_whole(rt, store, start, again) {
-        Ok(whole) => {
-            let said = do_and_close(rt, whole.opened, Job::Look)?;
-            say(&mut rt.stdout(), said.as_str())?;
-            Ok(0)
-        }
-        Err(refused) => Ok(tell_why(rt, kind, refused.hindrance, refused.fault)),
+    match open_whole(rt, store, Unknown, Unknown) {
+        Ok(whole) => end_by(output, do_and_close(rt, whole.opened, Job::Look, errors), 0),
+        Err(refused) => Ok(tell_why(rt.alloc(), kind, &refused, errors)),
     }
 }
 
 // Tells the fault, and on a line of its own what it means.
-fn tell_why(rt: &HostRuntime, kind: PathKind, hindrance: Option<Hindrance>, fault: OpenFault) -> u8
-    ensures { result ≤ 3 }
+fn tell_why<E: Write>(
+    alloc: Global,
+    kind: PathKind,
+    refused: &Unopened,
+    errors: &mut Counted<E>,
+) -> u8
+    ensures told { TellsWhy kind refused.now.hindrance refused.now.fault
+        (written_by E.contents errors.old) (written_by E.contents errors.new) result }
+    ensures small { result ≤ 3 }
 {
-    let mut errors = Counted::new(rt.stderr());
-    let status = tell(rt.alloc(), &mut errors, &Stop::from(fault));
-    if let Ok(text) = reason(rt.alloc(), kind, hindrance, &fault) {
-        write_front(&mut errors, text.as_bytes());
+    let status = tell(alloc, errors, &Stop::from(refused.fault));
+    if let Ok(text) = reason(alloc, kind, refused.hindrance, &refused.fault) {
+        write_front(errors, text.as_bytes());
     }
     status
 }

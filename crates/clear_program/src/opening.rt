@@ -3,11 +3,18 @@
 //! To call a function over any store on one in files costs its proof some 20 seconds, and so does a
 //! connection on one that is dropped: so there is one such call, of `do_job`, and one such drop, in
 //! `why_unopened`.
-ghost use Rattle.std.specs.Prelude.{◌≡◌};
+ghost use Rattle.std.specs.Prelude.{◌≡◌, IfOk, string_bytes};
+ghost use Rattle.sqlite.specs.Files.{over_files};
+ghost use Rattle.sqlite.specs.Held.{Held};
+ghost use Rattle.sqlite_wal.specs.Files.{image_at};
+ghost use Rattle.clear_server.specs.Told.{written_by};
+ghost use Rattle.clear_program.specs.Looks.{DoesJob};
+ghost use Rattle.clear_program.specs.Opening.{Opens, OpensWhole, WorksOn};
 
 use crate::jobs::{Job, do_job};
 use crate::reasons::refused_path;
 use crate::stop::Stop;
+use crate::tasks::Work;
 use clear_book::rules::StoreCause;
 use clear_files::logs::is_brought_over;
 use clear_files::named::StoreFile;
@@ -16,9 +23,11 @@ use clear_host::hindrance::Hindrance;
 use clear_host::offices::{NotOpened, Opened};
 use clear_host::stores::open_office;
 use clear_schema::fault::{Fault, OpenFault};
+use clear_wire::counted::Counted;
 use sqlite::{Alter, Connection, FileStore};
 use sqlite_disk::Start;
 use sqlite_std_file::FileFrom;
+use std::io::Write;
 
 /// An office that was opened over the whole of its store, and which file that is.
 #[derive(Drop)]
@@ -49,7 +58,10 @@ pub(crate) fn open_whole<'a, S: Start>(
     store: &'a str,
     start: S,
     again: S,
-) -> Result<Whole<'a, FileStore<FileFrom<S>>>, Unopened> {
+) -> Result<Whole<'a, FileStore<FileFrom<S>>>, Unopened>
+    ensures opens { OpensWhole over_files (image_at S.Start) result }
+    ensures path { IfOk result (λ whole. whole.file.path.now ≡ store.now) }
+{
     if let Some(fault) = refused_path(path_kind(rt, store)) {
         return Err(Unopened {
             fault,
@@ -73,7 +85,9 @@ fn open_brought_over<S: Start>(
     store: &str,
     start: S,
     again: S,
-) -> Result<Opened<FileStore<FileFrom<S>>>, Unopened> {
+) -> Result<Opened<FileStore<FileFrom<S>>>, Unopened>
+    ensures { Opens over_files (image_at S.Start) result }
+{
     let opened = open_once(rt, store, start)?;
     if is_brought_over(rt, store) {
         return Ok(opened);
@@ -86,7 +100,9 @@ fn open_once<S: Start>(
     rt: &HostRuntime,
     store: &str,
     start: S,
-) -> Result<Opened<FileStore<FileFrom<S>>>, Unopened> {
+) -> Result<Opened<FileStore<FileFrom<S>>>, Unopened>
+    ensures { Opens over_files (image_at S.Start) result }
+{
     match open_office(rt, store, start) {
         Ok(opened) => Ok(opened),
         Err(refused) => Err(why_unopened(refused)),
@@ -104,20 +120,41 @@ pub(crate) fn why_unopened<S: Start>(refused: NotOpened<FileStore<FileFrom<S>>>)
     }
 }
 
+/// Works on a store that was opened, and closes it; or says why it wasn't opened.
+pub(crate) fn work_on<S: Start, E: Write>(
+    rt: &HostRuntime,
+    whole: Result<Whole<'_, FileStore<FileFrom<S>>>, Unopened>,
+    work: Work<'_>,
+    errors: &mut Counted<E>,
+) -> Result<String, Stop>
+    ensures { WorksOn over_files string_bytes whole.entry result
+        (written_by E.contents errors.old) (written_by E.contents errors.new) work.entry }
+{
+    match whole {
+        Ok(whole) => do_and_close(rt, whole.opened, Job::Work(whole.file, work), errors),
+        Err(refused) => Err(Stop::from(refused.fault)),
+    }
+}
+
 /// Does a job on the store of an opened office, and closes it. It gives what is to be said of it.
-pub(crate) fn do_and_close<S: Start>(
+pub(crate) fn do_and_close<S: Start, E: Write>(
     rt: &HostRuntime,
     opened: Opened<FileStore<FileFrom<S>>>,
     job: Job<'_>,
-) -> Result<String, Stop> {
-    let done = do_job(rt, opened, job, &mut rt.stderr());
+    errors: &mut Counted<E>,
+) -> Result<String, Stop>
+    ensures { (left : Held _) × DoesJob string_bytes over_files result opened.ledger_day
+        opened.office left
+        (written_by E.contents errors.old) (written_by E.contents errors.new) job.entry }
+{
+    let done = do_job(rt, opened, job, errors);
     close_store(done.connection);
     done.said
 }
 
 /// Closes the store of an office.
 pub(crate) fn close_office<S: Start>(rt: &HostRuntime, opened: Opened<FileStore<FileFrom<S>>>) {
-    let _ = do_and_close(rt, opened, Job::Nothing);
+    let _ = do_and_close(rt, opened, Job::Nothing, &mut Counted::new(rt.stderr()));
 }
 
 /// Closes a store. What was accepted stands in the log too, so a fault of the close, which copies the

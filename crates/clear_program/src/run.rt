@@ -1,96 +1,133 @@
 //! The program as a whole.
-ghost use Rattle.std.specs.Prelude.{◌≡◌, ◌≤◌, ◌⊎◌, IfErr, IfOk, string_bytes};
-ghost use Rattle.clear_cli.specs.Ready.{schema_line};
-ghost use Rattle.clear_schema.specs.Held.{this_schema};
-ghost use Rattle.clear_program.specs.Stops.{IsOfFile, IsOfStore};
+ghost use Rattle.std.specs.Prelude.{◌≡◌, ◌≤◌, false, IfOk, map, string_bytes};
+ghost use Rattle.clear_wire.specs.Counted.{has_failed, inner, noted_of};
+ghost use Rattle.clear_server.specs.Told.{written_by};
+ghost use Rattle.clear_program.specs.Ends.{Does, DoesWords, Ends, MaySay, TellsMeanwhile};
 
-use crate::jobs::Job;
 use crate::look::look_at;
 use crate::migrate::migrate_at;
-use crate::opening::{close_office, do_and_close, open_whole, why_unopened};
+use crate::opening::{close_office, open_whole, why_unopened, work_on};
 use crate::stop::{Stop, tell};
 use crate::stream::serve_in_memory;
 use crate::tasks::{Task, Work, read_task, words_of};
-use crate::work::say;
-use clear_callers::directory::Directory;
+use crate::work::end_by;
 use clear_cli::ready::schema_line;
 use clear_files::logs::is_left_log;
 use clear_host::stores::create_office;
-use clear_money::days::Day;
 use clear_money::rates::RateTable;
 use clear_schema::store::SCHEMA;
-use clear_wire::counted::Counted;
+use clear_wire::counted::{Counted, RequestRead};
 use sqlite_disk::{Start, Unknown};
+use std::io::Write;
 
 // The status of a file that was checked and has a fault.
 const BAD_FILE: u8 = 2;
 
-/// Does what the words of the command line ask for, and gives the status with which the program
-/// ends: 0 where all was done, 2 where a checked file has a fault, which is told on standard output.
-/// Why something was not done is told on standard error.
+/// Does what the words of the command line ask for, over the standard streams, and gives the status with
+/// which the program ends.
 pub fn run(rt: &HostRuntime) -> u8
     ensures { result ≤ 3 }
 {
-    match do_task(rt) {
-        Ok(status) => status,
-        Err(stop) => tell(rt.alloc(), &mut Counted::new(rt.stderr()), &stop),
+    let mut input = Counted::new(rt.stdin());
+    let mut output = Counted::new(rt.stdout());
+    let mut errors = Counted::new(rt.stderr());
+    match words_of(rt) {
+        Ok(words) => run_words(rt, words.as_slice(), &mut input, &mut output, &mut errors),
+        Err(stop) => tell(rt.alloc(), &mut errors, &stop),
     }
 }
 
-fn do_task(rt: &HostRuntime) -> Result<u8, Stop>
-    ensures { IfOk result (λ status. status ≤ 3) }
+/// Does what these words ask for, and gives the status with which the program ends: 0 where all was
+/// done, 2 where a checked file has a fault, which is told on the output. Why something was not done is
+/// told on `errors`, and its status is given.
+pub fn run_words<I: RequestRead, O: Write, E: Write>(
+    rt: &HostRuntime,
+    words: &[String],
+    input: &mut Counted<I>,
+    output: &mut Counted<O>,
+    errors: &mut Counted<E>,
+) -> u8
+    requires read { has_failed input.old ≡ false }
+    requires write { has_failed output.old ≡ false }
+    ensures ends { Ends (map string_bytes words.now)
+        (I.remaining (inner input.old)) (noted_of input.old) (noted_of input.new)
+        (written_by O.contents output.old) (written_by O.contents output.new)
+        (written_by E.contents errors.old) (written_by E.contents errors.new) result }
+    ensures small { result ≤ 3 }
 {
-    let words = words_of(rt)?;
-    match read_task(rt, words.as_slice())? {
-        Task::Say(text) => end_by(rt, text.as_str(), 0),
+    match do_words(rt, words, input, output, errors) {
+        Ok(status) => status,
+        Err(stop) => tell(rt.alloc(), errors, &stop),
+    }
+}
+
+fn do_words<I: RequestRead, O: Write, E: Write>(
+    rt: &HostRuntime,
+    words: &[String],
+    input: &mut Counted<I>,
+    output: &mut Counted<O>,
+    errors: &mut Counted<E>,
+) -> Result<u8, Stop>
+    requires read { has_failed input.old ≡ false }
+    requires write { has_failed output.old ≡ false }
+    ensures does { DoesWords
+        (written_by O.contents output.old) (written_by O.contents output.new)
+        (written_by E.contents errors.old) (written_by E.contents errors.new)
+        (I.remaining (inner input.old)) (noted_of input.old) (noted_of input.new)
+        (map string_bytes words.now) result }
+    ensures small { IfOk result (λ status. status ≤ 3) }
+{
+    match read_task(rt, words) {
+        Ok(task) => do_task(rt, task, input, output, errors),
+        Err(stop) => Err(stop),
+    }
+}
+
+// Does a task, and says what it has to say.
+fn do_task<I: RequestRead, O: Write, E: Write>(
+    rt: &HostRuntime,
+    task: Task<'_>,
+    input: &mut Counted<I>,
+    output: &mut Counted<O>,
+    errors: &mut Counted<E>,
+) -> Result<u8, Stop>
+    requires read { has_failed input.old ≡ false }
+    requires write { has_failed output.old ≡ false }
+    ensures does { Does
+        (written_by O.contents output.old) (written_by O.contents output.new)
+        (written_by E.contents errors.old) (written_by E.contents errors.new)
+        (I.remaining (inner input.old)) (noted_of input.old) (noted_of input.new)
+        task.entry result }
+    ensures small { IfOk result (λ status. status ≤ 3) }
+{
+    match task {
+        Task::Say(text) => end_by(output, Ok(text), 0),
         Task::Check(checked) => {
             let status = if checked.good { 0 } else { BAD_FILE };
-            end_by(rt, checked.text.as_str(), status)
+            end_by(output, Ok(checked.text), status)
         }
         Task::Stream {
             rates,
             directory,
             day,
-        } => match stream(rt, &rates, &directory, day) {
+        } => match serve_in_memory(rt.alloc(), &rates, &directory, day, input, output) {
             Ok(()) => Ok(0),
             Err(stop) => Err(stop),
         },
-        Task::Look { store } => look_at(rt, store, Unknown, Unknown),
+        Task::Look { store } => look_at(rt, store, output, errors),
         Task::Migrate { store } => {
-            let said = migrate_at(rt, store, Unknown)?;
-            end_by(rt, said.as_str(), 0)
+            let said = migrate_at(rt, store, Unknown);
+            end_by(output, said, 0)
         }
         Task::Init { store, rates } => {
-            let said = make_at(rt, store, &rates, Unknown)?;
-            end_by(rt, said.as_str(), 0)
+            let said = make_at(rt, store, &rates, Unknown);
+            end_by(output, said, 0)
         }
         Task::OnStore { store, work } => {
-            let said = work_at(rt, store, work, Unknown, Unknown)?;
-            end_by(rt, said.as_str(), 0)
+            let said = work_at(rt, store, work, errors);
+            end_by(output, said, 0)
         }
     }
-}
-
-// Says a text, and ends with a status.
-fn end_by(rt: &HostRuntime, text: &str, status: u8) -> Result<u8, Stop>
-    ensures { IfOk result (λ given. given ≡ status) }
-{
-    match say(&mut rt.stdout(), text) {
-        Ok(()) => Ok(status),
-        Err(stop) => Err(stop),
-    }
-}
-
-// Serves standard input over a new office in memory.
-fn stream(
-    rt: &HostRuntime,
-    rates: &RateTable,
-    directory: &Directory,
-    day: Day,
-) -> Result<(), Stop> {
-    let mut reader = Counted::new(rt.stdin());
-    let mut writer = Counted::new(rt.stdout());
-    serve_in_memory(rt.alloc(), rates, directory, day, &mut reader, &mut writer)
 }
 
 // Makes the store at a path, and closes it.
@@ -100,8 +137,7 @@ fn make_at<S: Start>(
     rates: &RateTable,
     start: S,
 ) -> Result<String, Stop>
-    ensures said { IfOk result (λ said. string_bytes said ≡ schema_line this_schema) }
-    ensures why { IfErr result (λ why. IsOfFile why ⊎ IsOfStore why) }
+    ensures { MaySay string_bytes (Task.Init store.entry rates.now) result }
 {
     if is_left_log(rt, store)? {
         return Err(Stop::File);
@@ -116,15 +152,16 @@ fn make_at<S: Start>(
 }
 
 // Opens the store at a path, works on it, and closes it.
-fn work_at<S: Start>(
+fn work_at<E: Write>(
     rt: &HostRuntime,
     store: &str,
     work: Work<'_>,
-    start: S,
-    again: S,
-) -> Result<String, Stop> {
-    match open_whole(rt, store, start, again) {
-        Ok(whole) => do_and_close(rt, whole.opened, Job::Work(whole.file, work)),
-        Err(refused) => Err(Stop::from(refused.fault)),
-    }
+    errors: &mut Counted<E>,
+) -> Result<String, Stop>
+    ensures said { MaySay string_bytes (Task.OnStore store.entry work.entry) result }
+    ensures told { TellsMeanwhile (Task.OnStore store.entry work.entry)
+        (written_by E.contents errors.old) (written_by E.contents errors.new) }
+{
+    let whole = open_whole(rt, store, Unknown, Unknown);
+    work_on(rt, whole, work, errors)
 }

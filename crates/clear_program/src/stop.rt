@@ -1,15 +1,15 @@
 //! Why the program ends before its work is done: the line that it tells, and its status.
 ghost use Rattle.std.specs.Prelude.{◌≡◌, ◌++◌, IfOk, string_bytes};
-ghost use Rattle.clear_wire.specs.Counted.{has_failed, inner};
-ghost use Rattle.clear_program.specs.Stops.{behind_space, by_store, by_stream, line_of};
-ghost use Rattle.clear_program.specs.Stops.{rule_line, status_by, status_of};
-ghost use Rattle.clear_program.specs.Stops.{AppendsFront, Tells};
+ghost use Rattle.clear_server.specs.Told.{written_by};
+ghost use Rattle.clear_program.specs.Stops.{behind_space, by_store, by_stream};
+ghost use Rattle.clear_program.specs.Stops.{rule_line, status_by, status_of, Tells};
 
 use clear_answers::answer::carried_text;
 use clear_book::rules::{Rule, StoreCause};
 use clear_files::fault::FileFault;
-use clear_http::serve::{Fault, write_all};
+use clear_http::serve::Fault;
 use clear_schema::fault::{Fault as StoreFault, OpenFault};
+use clear_server::told::write_front;
 use clear_wire::counted::Counted;
 use std::alloc::{AllocError, Global};
 use std::io::Write;
@@ -45,45 +45,38 @@ impl Stop {
             Stop::Net | Stop::Stream => 3,
         }
     }
-
-    // What is told on standard error.
-    fn line(&self, alloc: Global) -> Result<String, AllocError>
-        ensures { IfOk result (λ line. string_bytes line ≡ line_of self.now) }
-    {
-        match self {
-            Stop::Rule(rule) => rule_line(alloc, rule),
-            Stop::Line => String::from_str(alloc, "fault command line\n"),
-            Stop::File => String::from_str(alloc, "fault file\n"),
-            Stop::Net => String::from_str(alloc, "fault net\n"),
-            Stop::Stream => String::from_str(alloc, "fault stream\n"),
-        }
-    }
 }
 
 /// Tells why the program ends, and gives its status. What can't be written is lost. Where there is no
-/// memory for the line, it is that of want of memory.
+/// memory for the line of a rule, want of memory is told.
 pub fn tell<E: Write>(alloc: Global, errors: &mut Counted<E>, stop: &Stop) -> u8
-    ensures { Tells (has_failed errors.new) (E.contents (inner errors.old))
-        (E.contents (inner errors.new)) stop.now result }
+    ensures { Tells (written_by E.contents errors.old) (written_by E.contents errors.new)
+        stop.now result }
 {
-    match stop.line(alloc) {
+    match stop {
+        Stop::Rule(rule) => return tell_rule(alloc, errors, rule),
+        Stop::Line => write_front(errors, b"fault command line\n"),
+        Stop::File => write_front(errors, b"fault file\n"),
+        Stop::Net => write_front(errors, b"fault net\n"),
+        Stop::Stream => write_front(errors, b"fault stream\n"),
+    }
+    stop.status()
+}
+
+fn tell_rule<E: Write>(alloc: Global, errors: &mut Counted<E>, rule: &Rule) -> u8
+    ensures { Tells (written_by E.contents errors.old) (written_by E.contents errors.new)
+        (Stop.Rule rule.now) result }
+{
+    match rule_line(alloc, rule) {
         Ok(line) => {
             write_front(errors, line.as_bytes());
-            stop.status()
+            status_by(*rule)
         }
         Err(AllocError) => {
             write_front(errors, b"rule 40 Memory\n");
             NO_MEMORY.status()
         }
     }
-}
-
-/// Writes a text, or a front of it where a write fails.
-pub fn write_front<E: Write>(errors: &mut Counted<E>, text: &[u8])
-    ensures { AppendsFront (has_failed errors.new) (E.contents (inner errors.old))
-        (E.contents (inner errors.new)) text.now }
-{
-    let _ = write_all(errors, text);
 }
 
 impl From<Rule> for Stop {

@@ -1,12 +1,15 @@
 //! What is done with an office.
-ghost use Rattle.std.specs.Prelude.{◌≡◌, IfErr, IfOk, OnOk, string_bytes};
+ghost use Rattle.std.specs.Prelude.{◌≡◌, true, IfErr, IfOk, OnErr, OnOk, string_bytes};
 ghost use Rattle.std.specs.Io.KnownBytes.{Appends};
 ghost use Rattle.clear_book.specs.declared.calls.Call.TheVariants.{Ask, Do};
-ghost use Rattle.clear_cli.specs.Ready.{copied_line};
+ghost use Rattle.clear_cli.specs.Ready.{ready_text};
 ghost use Rattle.clear_office.specs.Office.{answered, replied};
+ghost use Rattle.clear_wire.specs.Counted.{has_failed, inner};
+ghost use Rattle.clear_server.specs.Told.{Writes, written_by};
+ghost use Rattle.clear_program.specs.Ends.{Puts};
 ghost use Rattle.clear_program.specs.Stops.{no_memory};
-ghost use Rattle.clear_program.specs.Works.{IsDone, IsSaid, IsServing, Works, outcome_said};
-ghost use Rattle.clear_program.specs.Works.{CannotCopy, serving_said};
+ghost use Rattle.clear_program.specs.Works.{IsCopied, IsDone, IsSaid, Works, import_said};
+ghost use Rattle.clear_program.specs.Works.{serving_said, statement_said};
 
 use crate::stop::{NO_MEMORY, Stop, stop_at_records};
 use crate::tasks::Work;
@@ -20,10 +23,13 @@ use clear_files::backup::copy_whole;
 use clear_files::logs::is_brought_over;
 use clear_files::named::{NamedStore, StoreFile};
 use clear_host::offices::Opened;
+use clear_http::serve::write_all;
 use clear_money::days::Day;
 use clear_money::numbers::EmployerNo;
 use clear_office::office::Office;
 use clear_server::connections::{Ended, serve_connections};
+use clear_server::told::write_front;
+use clear_wire::counted::Counted;
 use sqlite::Alter;
 use std::alloc::{AllocError, Global};
 use std::io::Write;
@@ -46,10 +52,11 @@ pub(crate) fn do_work<S: Alter, E: Write>(
     opened: &mut Opened<S>,
     file: &StoreFile<'_>,
     work: Work<'_>,
-    errors: &mut E,
+    errors: &mut Counted<E>,
 ) -> Result<String, Stop>
     ensures works { Works string_bytes S.Store opened.old.office opened.new.office result
-        opened.old.ledger_day work.entry }
+        opened.old.ledger_day
+        (written_by E.contents errors.old) (written_by E.contents errors.new) work.entry }
     ensures day { opened.new.ledger_day ≡ opened.old.ledger_day }
 {
     let alloc = rt.alloc();
@@ -87,10 +94,12 @@ fn serve_at<S: Alter, E: Write>(
     day: Day,
     place: &Place<'_>,
     count: u32,
-    errors: &mut E,
+    errors: &mut Counted<E>,
 ) -> Result<String, Stop>
-    ensures serves { IsServing string_bytes S.Store opened.old.office opened.new.office result
-        directory.now day count }
+    ensures serves { Works string_bytes S.Store opened.old.office opened.new.office result
+        opened.old.ledger_day
+        (written_by E.contents errors.old) (written_by E.contents errors.new)
+        (Work.Serve directory.now day place.now.port count) }
     ensures day { opened.new.ledger_day ≡ opened.old.ledger_day }
 {
     let Some(files) = NamedStore::with_log(rt, place.file)? else {
@@ -101,9 +110,8 @@ fn serve_at<S: Alter, E: Write>(
     };
     tell_ready(rt.alloc(), place.port, day, &opened.ledger_day, errors)?;
     let office = &mut opened.office;
-    let serving = serve_connections(rt, &listener, count, office, directory, day, &files, errors);
-    // What could not be told of a connection is lost.
-    say_served(rt.alloc(), count, serving.ended)
+    let ended = serve_connections(rt, &listener, count, office, directory, day, &files, errors);
+    say_served(rt.alloc(), count, ended)
 }
 
 // What is said of how serving so many connections ended.
@@ -117,17 +125,22 @@ fn say_served(alloc: Global, count: u32, ended: Ended) -> Result<String, Stop>
     }
 }
 
-// Tells that connections are taken, and what the day means for new requests.
+// Tells that connections are taken, and what the day means for new requests. What can't be written is
+// lost.
 fn tell_ready<E: Write>(
     alloc: Global,
     port: u16,
     day: Day,
     ledger_day: &Option<Day>,
-    errors: &mut E,
-) -> Result<(), AllocError> {
+    errors: &mut Counted<E>,
+) -> Result<(), AllocError>
+    ensures told { OnOk result (Writes (ready_text port day ledger_day.now)
+        (written_by E.contents errors.old) (written_by E.contents errors.new)) }
+    ensures nothing { OnErr result
+        (written_by E.contents errors.new ≡ written_by E.contents errors.old) }
+{
     let text = ready_text(alloc, port, day, ledger_day)?;
-    // What can't be written is lost.
-    let _ = errors.write_all(text.as_bytes());
+    write_front(errors, text.as_bytes());
     Ok(())
 }
 
@@ -139,7 +152,7 @@ fn import<S: Alter>(
     command: &Command,
 ) -> Result<String, Stop>
     ensures { IsDone string_bytes S.Store office.old office.new result
-        (Do Caller.Clerk number day command.now) }
+        (Do Caller.Clerk number day command.now) import_said }
 {
     let reply = office.submit(Caller::Clerk, number, day, command);
     say_imported(alloc, reply)
@@ -147,7 +160,7 @@ fn import<S: Alter>(
 
 // What is said of the reply to an import.
 fn say_imported(alloc: Global, reply: Result<Reply, Rule>) -> Result<String, Stop>
-    ensures { IsSaid string_bytes (outcome_said (replied reply)) result }
+    ensures { IsSaid string_bytes (import_said (replied reply)) result }
 {
     match reply {
         Ok(Reply::Imported { new, repeats }) => in_memory(imported_line(alloc, new, repeats)),
@@ -181,7 +194,7 @@ fn statement<S: Alter>(
     employer: EmployerNo,
 ) -> Result<String, Stop>
     ensures { IsDone string_bytes S.Store office.old office.new result
-        (Ask Caller.Clerk day (Query.Statement employer)) }
+        (Ask Caller.Clerk day (Query.Statement employer)) statement_said }
 {
     let answer = office.ask(Caller::Clerk, day, &Query::Statement { employer });
     say_statement(alloc, answer)
@@ -189,7 +202,7 @@ fn statement<S: Alter>(
 
 // What is said of the answer to a question for a statement.
 fn say_statement(alloc: Global, answer: Result<Answer, Rule>) -> Result<String, Stop>
-    ensures { IsSaid string_bytes (outcome_said (answered answer)) result }
+    ensures { IsSaid string_bytes (statement_said (answered answer)) result }
 {
     match answer {
         Ok(Answer::Text(document)) => in_memory(String::from_str(alloc, document.as_str())),
@@ -206,8 +219,7 @@ fn backup(
     copy: &str,
     ledger_day: &Option<Day>,
 ) -> Result<String, Stop>
-    ensures line { IfOk result (λ line. string_bytes line ≡ copied_line ledger_day.now) }
-    ensures why { IfErr result CannotCopy }
+    ensures { IsCopied string_bytes ledger_day.now result }
 {
     if !is_brought_over(rt, file.path) {
         return Err(LOG_LEFT);
@@ -216,13 +228,39 @@ fn backup(
     Ok(copied_line(rt.alloc(), ledger_day)?)
 }
 
-/// Writes a text on standard output. An error tells that standard output failed.
-pub fn say<O: Write>(output: &mut O, text: &str) -> Result<(), Stop>
-    ensures said { OnOk result (Appends (O.contents output.old) (O.contents output.new) text.now) }
-    ensures why { IfErr result (λ why. why ≡ Stop.Stream) }
+/// Writes a text on an output. An error tells that it failed, and a front of the text is there then.
+pub fn say<O: Write>(output: &mut Counted<O>, text: &str) -> Result<(), Stop>
+    ensures said { OnOk result (Appends (O.contents (inner output.old))
+        (O.contents (inner output.new)) text.now) }
+    ensures well { OnOk result (has_failed output.new ≡ has_failed output.old) }
+    ensures front { OnErr result (Writes text.now
+        (written_by O.contents output.old) (written_by O.contents output.new)) }
+    ensures why { IfErr result (λ why. (why ≡ Stop.Stream) × (has_failed output.new ≡ true)) }
 {
-    if output.write_all(text.as_bytes()).is_err() || output.flush().is_err() {
-        return Err(Stop::Stream);
+    match write_all(output, text.as_bytes()) {
+        Ok(()) => match output.flush() {
+            Ok(()) => Ok(()),
+            Err(_) => Err(Stop::Stream),
+        },
+        Err(_) => Err(Stop::Stream),
     }
-    Ok(())
+}
+
+/// Says what there is to say on an output, and ends with a status; or ends for why there is nothing.
+pub(crate) fn end_by<O: Write>(
+    output: &mut Counted<O>,
+    said: Result<String, Stop>,
+    status: u8,
+) -> Result<u8, Stop>
+    ensures puts { Puts string_bytes said status
+        (written_by O.contents output.old) (written_by O.contents output.new) result }
+    ensures status { IfOk result (λ given. given ≡ status) }
+{
+    match said {
+        Ok(text) => match say(output, text.as_str()) {
+            Ok(()) => Ok(status),
+            Err(stop) => Err(stop),
+        },
+        Err(stop) => Err(stop),
+    }
 }

@@ -1,17 +1,53 @@
 -- The lines that are told, those of one connection more after others.
-use Rattle.std.proofs.Common.{◌≡◌, ◌∙◌, ◌+◌, ◌≤◌, ℕ, Bool, true, false, List, [], ◌∷◌, ◌++◌, length, Option, Result, Ok, Err, OnOk, refl, sym, ap, subst, arith}
-use Rattle.std.proofs.lemmas.List.{length-append, append_assoc}
+use Rattle.std.proofs.Common.{◌≡◌, ◌∙◌, ◌+◌, ◌≤◌, ◌<◌, ℕ, Bool, true, false, List, [], ◌∷◌, ◌++◌, length, Result, Ok, Err, refl, sym, ap, ap₂, subst, arith}
+use Rattle.std.proofs.lemmas.Bool.{false≢true}
+use Rattle.std.proofs.lemmas.List.{append-nil, length-append, map-append}
 use Rattle.std.proofs.lemmas.List.Elements.{filter-append}
-use Rattle.std.specs.List.{filter}
+use Rattle.std.proofs.lemmas.List.Folds.{concat-append}
+use Rattle.std.specs.List.{concat, filter}
 use Rattle.std.specs.Io.KnownBytes.{Appends}
-use Rattle.std.specs.Result.{result_and}
+use Rattle.std.specs.Prelude.{IfErr, OnErr, OnOk}
 use Rattle.clear_wire.proofs.KnownLemmas.{Appends-nil, Appends-then}
 use Rattle.clear_http.specs.declared.serve.Fault.{Fault}
-use Rattle.clear_server.specs.Told.{AreTold, Line, line_text, text_of, is_end, is_failing, end_lines, failing_lines}
+use Rattle.clear_http.specs.declared.serve.Fault.TheVariants.{Write}
+use Rattle.clear_server.specs.Told.{AreFronts, AreTold, Line, Writes, WritesLines, Written, line_text, is_end, is_failing, end_lines, failing_lines}
 
-pub text-append : (xs ys : List Line) → text_of (xs ++ ys) ≡ text_of xs ++ text_of ys
-text-append [] ys = refl
-text-append (x ∷ xs) ys = ap (λ t. line_text x ++ t) (text-append xs ys) ∙ sym (append_assoc (line_text x) (text_of xs) (text_of ys))
+-- a text that is written up to the first failure
+pub front_written : {A : Type 0} (text : List ℕ) (old new : Written) (result : Result A Fault)
+    → (part : List ℕ) × (rest : List ℕ) × (text ≡ part ++ rest) × Appends old.bytes new.bytes part × OnOk result (rest ≡ []) × OnErr result (0 < length rest)
+    → IfErr result (λ fault. (fault ≡ Write) × (new.failed ≡ true)) → OnOk result (new.failed ≡ old.failed) → Writes text old new
+front_written text old new (Ok done) (part, rest, is, now, none, some) bad well = (part, rest, is, now, λ fine. (none, sym well ∙ fine))
+front_written text old new (Err fault) (part, rest, is, now, none, some) bad well = (part, rest, is, now, λ fine. absurd (false≢true (sym fine ∙ bad.1)))
+
+fronts_append : (xs ys : List Line) (ps qs : List (List ℕ)) → AreFronts xs ps → AreFronts ys qs → AreFronts (xs ++ ys) (ps ++ qs)
+fronts_append [] ys [] qs these those = those
+fronts_append [] ys (p ∷ ps) qs these those = absurd these
+fronts_append (x ∷ xs) ys [] qs these those = absurd these
+fronts_append (x ∷ xs) ys (p ∷ ps) qs these those = (these.0, fronts_append xs ys ps qs these.1 those)
+
+pub no_lines : (w : Written) → WritesLines [] w w
+no_lines w = ([], tt, Appends-nil w.bytes, λ well. (refl, well))
+
+pub one_line : (line : Line) (text : List ℕ) (old new : Written) → text ≡ line_text line → Writes text old new → WritesLines (line ∷ []) old new
+one_line line text old new is (part, rest, split, now, well) = (
+  part ∷ [],
+  ((rest, sym is ∙ split), tt),
+  subst (Appends old.bytes new.bytes) (sym (append-nil part)) now,
+  λ fine.
+      let (none, fine_before) = well fine in
+      (ap (λ p. p ∷ []) (sym (append-nil part) ∙ ap (λ r. part ++ r) (sym none) ∙ sym split ∙ is), fine_before),
+)
+
+pub lines_then : (xs ys : List Line) (old mid new : Written) → WritesLines xs old mid → WritesLines ys mid new → WritesLines (xs ++ ys) old new
+lines_then xs ys old mid new (ps, fronts, now, well) (qs, more, then, fine) = (
+  ps ++ qs,
+  fronts_append xs ys ps qs fronts more,
+  subst (Appends old.bytes new.bytes) (sym (concat-append ps qs)) (Appends-then old.bytes mid.bytes new.bytes (concat ps) (concat qs) now then),
+  λ fine_now.
+      let (last, fine_mid) = fine fine_now in
+      let (first, fine_old) = well fine_mid in
+      (ap₂ (λ x y. x ++ y) first last ∙ sym (map-append line_text xs ys), fine_old),
+)
 
 -- the lines of one connection
 abbrev one_lines : {A : Type 0} → Result A Fault → Bool → Bool → List Line
@@ -48,33 +84,18 @@ fails_once true false last before after = absurd (cc (before refl))
 fails_once true true false before after = absurd (cc (after refl))
 fails_once true true true before after = refl
 
-pub none_told : (failed : Bool) (known : Option (List ℕ)) → AreTold 0 failed failed known known
-none_told false known = ([], omega arith, refl, Appends-nil known)
-none_told true known = ([], omega arith, refl, Appends-nil known)
+pub none_told : (failed : Bool) (w : Written) → AreTold 0 failed failed w w
+none_told false w = ([], omega arith, refl, no_lines w)
+none_told true w = ([], omega arith, refl, no_lines w)
 
-one_told : {A : Type 0} (n : ℕ) (first then last : Bool) (old mid new : Option (List ℕ)) (end : Result A Fault) → (first ≡ true → then ≡ true) → (then ≡ true → last ≡ true)
-    → AreTold n first then old mid → Appends mid new (text_of (one_lines end then last)) → AreTold (n + 1) first last old new
-one_told n first then last old mid new end before after (lines, ends, fails, told) line =
-    let more = one_lines end then last in (
+-- one connection more, behind which its lines are told
+pub then_told : {A : Type 0} (n : ℕ) (first then last : Bool) (old mid new : Written) (end : Result A Fault) → (first ≡ true → then ≡ true) → (then ≡ true → last ≡ true)
+    → (was is : Bool) → was ≡ then → is ≡ last → AreTold n first then old mid → WritesLines (end_lines end ++ failing_lines was is) mid new → AreTold (n + 1) first last old new
+then_told n first then last old mid new end before after was is was_then is_last (lines, ends, fails, told) now =
+    let more = one_lines end then last in
+    let line = subst (λ (s : Bool). WritesLines (one_lines end s last) mid new) was_then (subst (λ (s : Bool). WritesLines (one_lines end was s) mid new) is_last now) in (
       lines ++ more,
       omega (arith, ends, one_ends end then last, ap length (filter-append is_end lines more), length-append (filter is_end lines) (filter is_end more)),
       filter-append is_failing lines more ∙ ap (λ ls. ls ++ filter is_failing more) fails ∙ ap (λ ls. failing_lines first then ++ ls) (one_fails end then last) ∙ fails_once first then last before after,
-      subst (Appends old new) (sym (text-append lines more)) (Appends-then old mid new (text_of lines) (text_of more) told line),
+      lines_then lines more old mid new told line,
     )
-
-module _ {A B E : Type 0} (n : ℕ) (first then last : Bool) (old mid new : Option (List ℕ)) (end : Result A Fault)
-    (before : first ≡ true → then ≡ true) (after : then ≡ true → last ≡ true) where
-  told_and : (told line : Result B E) → OnOk told (AreTold n first then old mid) → OnOk line (Appends mid new (text_of (one_lines end then last)))
-      → OnOk (result_and told line) (AreTold (n + 1) first last old new)
-  told_and (Ok a) (Ok b) so_far now = one_told n first then last old mid new end before after so_far now
-  told_and (Ok a) (Err e) so_far now = tt
-  told_and (Err e) line so_far now = tt
-
-  -- one connection more, behind which its lines are told
-  pub then_told : (told line both : Result B E) (was is : Bool) → both ≡ result_and told line → was ≡ then → is ≡ last
-      → OnOk told (AreTold n first then old mid) → OnOk line (Appends mid new (text_of (end_lines end ++ failing_lines was is)))
-      → OnOk both (AreTold (n + 1) first last old new)
-  then_told told line both was is same was_then is_last so_far now =
-      let Lines : Bool → Bool → Type 0 = λ x y. OnOk line (Appends mid new (text_of (end_lines end ++ failing_lines x y))) in
-      subst (λ r. OnOk r (AreTold (n + 1) first last old new)) (sym same)
-      (told_and told line so_far (subst (λ x. Lines x last) was_then (subst (Lines was) is_last now)))

@@ -1,6 +1,6 @@
 -- What is said on connections, one after another. `reads` says which call a request is, or what
 -- refuses it before the office sees it.
-use Rattle.std.specs.Prelude.{◌≡◌, ℕ, ◌<◌, ◌⊎◌, Bool, false, List, [], ◌∷◌, length, Result}
+use Rattle.std.specs.Prelude.{◌≡◌, ℕ, ◌<◌, ◌≤◌, ◌⊎◌, Bool, false, List, [], ◌∷◌, length, Result}
 use Rattle.sqlite.specs.Store.{Ghosts}
 use Rattle.clear_book.specs.declared.calls.Call.{Call}
 use Rattle.clear_book.specs.Book.{Book}
@@ -21,12 +21,16 @@ pub record Talk : Type 0 where
   pub items : List NextItem
   pub saids : List Said
 
+-- how often in turn the system may refuse a connection
+abbrev pub most_failures : ℕ
+most_failures = 100
+
 -- how many of so many connections were served: all of them, unless the store was gone before, or the
--- system gave no more
+-- system gave no more, and had refused that many
 abbrev pub IsCount : Ended → ℕ → ℕ → Type 0
 IsCount Served count talks = talks ≡ count
 IsCount StoreGone count talks = talks < count
-IsCount NoConnections count talks = talks < count
+IsCount NoConnections count talks = (most_failures ≤ talks) × (talks < count)
 
 module _ {H : Type 0} (responds : H → Heading → List ℕ → Said → H → Type 0) where
   -- the items of each connection are answered, one connection after another

@@ -8,17 +8,16 @@
 //! connection, or when an idle one is ended for another: that what was taken and written is the
 //! items of a stream and their answers is said where the bytes are known, of the serve loop. Here
 //! they stand in a list of talks, one for each connection, which is empty where none was accepted.
-//! Nor does one say what stands on the error writer once a write to it has failed, which connection
-//! a line tells of, or what a path names.
-ghost use Rattle.std.specs.Prelude.{◌≡◌, ◌<◌, ◌++◌, true, OnOk};
-ghost use Rattle.std.specs.Io.KnownBytes.{Appends};
+//! Nor does one say which connection a line tells of, or what a path names.
+ghost use Rattle.std.specs.Prelude.{◌≡◌, ◌<◌, ◌≤◌, ◌+◌, true};
 ghost use Rattle.clear_office.specs.Office.{IsHonest};
 ghost use Rattle.clear_routes.specs.Reading.{Reads};
 ghost use Rattle.clear_http.specs.Desk.{MayServe};
 ghost use Rattle.clear_server.specs.Talks.{AreServed};
-ghost use Rattle.clear_server.specs.Told.{AreTold, end_lines, failing_lines, text_of};
+ghost use Rattle.clear_server.specs.Told.{AreTold, written_by};
 
 use crate::peer::{Peer, Taker, close_after_answer};
+use crate::told::tell;
 use clear_callers::directory::Directory;
 use clear_files::named::NamedStore;
 use clear_http::desk::serve;
@@ -49,13 +48,6 @@ const FAILURES: u32 = 100;
 // How many milliseconds pass after each of these times.
 const PAUSE: u64 = 100;
 
-/// How serving ended, and the error writer's first fault.
-#[derive(Drop)]
-pub struct Serving {
-    pub ended: Ended,
-    pub told: io::Result<()>,
-}
-
 // Why a connection ended early, if it did, and the one for which it was ended.
 #[derive(Drop)]
 struct Talked {
@@ -83,8 +75,8 @@ struct Talked {
 /// connection may stay open for 30 seconds, or until another one waits; a new one is left a second
 /// for its first byte, and the last one isn't ended for others.
 ///
-/// The connections are served whether or not the error writer takes its lines. Where it had no
-/// fault, nothing else was written to it.
+/// The connections are served whether or not the error writer takes its lines. Nothing else is
+/// written to it, and of a line whose write fails a front.
 pub fn serve_connections<S: Alter, E: Write>(
     rt: &HostRuntime,
     listener: &TcpListener,
@@ -93,43 +85,33 @@ pub fn serve_connections<S: Alter, E: Write>(
     directory: &Directory,
     day: Day,
     store: &NamedStore<'_>,
-    errors: &mut E,
-) -> Serving
-    ensures served { AreServed S.Store (Reads directory.now day) result.ended count
+    errors: &mut Counted<E>,
+) -> Ended
+    ensures served { AreServed S.Store (Reads directory.now day) result count
         office.old office.new }
     ensures failed { office.old.failed ≡ true → office.new ≡ office.old }
     ensures clean { IsHonest S.Store office.new → IsHonest S.Store office.old }
-    ensures told { OnOk result.told (AreTold count office.old.failed office.new.failed
-        (E.contents errors.old) (E.contents errors.new)) }
+    ensures told { AreTold count office.old.failed office.new.failed
+        (written_by E.contents errors.old) (written_by E.contents errors.new) }
 {
-    let mut told = Ok(());
     let mut next = None;
     let mut failures = 0;
     for served in 0..count {
         let accepted = accept(rt, listener, next);
         if !store.stands() {
-            return Serving {
-                ended: Ended::StoreGone,
-                told,
-            };
+            return Ended::StoreGone;
         }
         failures = failures_with(&accepted, failures);
         if failures > FAILURES {
-            return Serving {
-                ended: Ended::NoConnections,
-                told,
-            };
+            return Ended::NoConnections;
         }
         let had_failed = office.failed();
         let others = others_of(listener, served, count);
         let talked = serve_next(rt, accepted, others, office, directory, day);
-        told = told.and(tell(errors, &talked.end, had_failed, office.failed()));
+        tell(errors, &talked.end, had_failed, office.failed());
         next = talked.next;
     }
-    Serving {
-        ended: Ended::Served,
-        told,
-    }
+    Ended::Served
 }
 
 // The connection that was taken already, or else the next one that comes. Where the system refuses it at
@@ -152,7 +134,9 @@ fn accept(
 }
 
 // How many connections the system has refused in turn, with this one.
-fn failures_with(accepted: &io::Result<TcpStream>, before: u32) -> u32 {
+fn failures_with(accepted: &io::Result<TcpStream>, before: u32) -> u32
+    ensures { result ≤ before + 1 }
+{
     match accepted {
         Ok(_) => 0,
         Err(_) => before.saturating_add(1),
@@ -229,40 +213,4 @@ fn talk<S: Alter>(
             next,
         },
     }
-}
-
-// The line that tells why a connection ended, if it wasn't served to its end.
-fn end_line(end: &Result<(), Fault>) -> &'static [u8]
-    ensures { result.now ≡ text_of (end_lines end.now) }
-{
-    match end {
-        Ok(()) => b"",
-        Err(Fault::Memory) => b"rule 40 Memory\n",
-        Err(Fault::Read | Fault::Write | Fault::Reads) => b"fault net\n",
-    }
-}
-
-// The line that tells that an office has failed which hadn't before.
-fn failing_line(before: bool, after: bool) -> &'static [u8]
-    ensures { result.now ≡ text_of (failing_lines before after) }
-{
-    if after && !before {
-        b"rule 41 Store\n"
-    } else {
-        b""
-    }
-}
-
-// Tells how a connection ended, and whether the office failed in it.
-fn tell<E: Write>(
-    errors: &mut E,
-    end: &Result<(), Fault>,
-    before: bool,
-    after: bool,
-) -> io::Result<()>
-    ensures { OnOk result (Appends (E.contents errors.old) (E.contents errors.new)
-        (text_of (end_lines end.now ++ failing_lines before after))) }
-{
-    errors.write_all(end_line(end))?;
-    errors.write_all(failing_line(before, after))
 }

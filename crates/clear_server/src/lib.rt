@@ -6,3 +6,4 @@
 
 pub mod connections;
 mod peer;
+pub mod told;

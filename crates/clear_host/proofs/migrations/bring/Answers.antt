@@ -5,7 +5,7 @@ use Rattle.clear_schema.specs.Schema.{this_layout}
 use Rattle.clear_schema.proofs.OpenLemmas.{store_tells}
 use Rattle.clear_schema.proofs.SeenLemmas.{nothing_seen}
 use Rattle.clear_host.proofs.RefusalLemmas.{never_so, only_so, other_so}
-use Rattle.clear_host.proofs.StoreLemmas.{other_layout_seen, tables_seen, told_seen}
+use Rattle.clear_host.proofs.StoreLemmas.{just_seen, other_layout_seen, tables_seen, told_seen}
 use Rattle.clear_host.proofs.migrations.bring.Goals as goal
 
 pub returns-in-Ok-clause-found : goal.returns-in-Ok-clause-found
@@ -35,3 +35,17 @@ returns-in-Err-clause-tells g c image sees =
       other = λ holds clean. other_so c.in-Err.fault (c.in-Err.ensures.other clean (other_layout_seen image old (sees (c.in-Err.ensures.clean clean)) holds));
       empty = λ nothing clean. only_so 0 c.in-Err.fault (c.in-Err.ensures.empty clean (nothing_seen image old (sees (c.in-Err.ensures.clean clean)) nothing));
     }
+
+pub returns-in-Err-clause-rests : goal.returns-in-Err-clause-rests
+returns-in-Err-clause-rests g c image sees number trees holds tells clean live =
+    let old = state g.S.Store c.args.connection in
+    let seen = sees (c.in-Err.ensures.clean clean) in
+    just_seen image old seen trees holds (state g.S.Store c.to_current.new.conn)
+    (c.in-Err.ensures.still clean (inl (told_seen image old seen number (trees, holds, tells)).1.meta) live)
+
+pub returns-in-Ok-clause-still : goal.returns-in-Ok-clause-still
+returns-in-Ok-clause-still g c image sees clean number trees holds tells =
+    let old = state g.S.Store c.args.connection in
+    let seen = sees (c.in-Ok.ensures.clean clean) in
+    let known = inl (told_seen image old seen number (trees, holds, tells)).1.meta in
+    just_seen image old seen trees holds (state g.S.Store c.to_current.new.conn) (c.in-Ok.ensures.still clean known (c.in-Ok.ensures.open clean known))

@@ -1,8 +1,9 @@
 use Rattle.std.proofs.Common.{◌∙◌}
 use Rattle.std.proofs.lemmas.Result.{err_from_is_err_and}
+use Rattle.sqlite.specs.Held.{state}
 use Rattle.clear_schema.proofs.SeenLemmas.{if_ok_both}
 use Rattle.clear_host.proofs.OfficeLemmas.{if_ok_pair}
-use Rattle.clear_host.proofs.RefusalLemmas.{untold_tells}
+use Rattle.clear_host.proofs.RefusalLemmas.{refused_leaves, untold_tells}
 use Rattle.clear_host.proofs.offices.find_office.Goals as goal
 
 pub returns-clause-opened : goal.returns-clause-opened
@@ -28,3 +29,16 @@ pub returns-in_err-store-clause-tells : goal.returns-in_err-store-clause-tells
 returns-in_err-store-clause-tells g c image sees =
     let p = err_from_is_err_and c.from_residual.result c.from_residual.ensures.1 in
     rw (p.1, p.2) (c.in_err-store.ensures.tells image sees)
+
+pub returns-clause-leaves : goal.returns-clause-leaves
+returns-clause-leaves g c image sees =
+    let store = c.in_ok-store.ensures in
+    refused_leaves g.S.Store image c.office_over.result (state g.S.Store c.in_ok-store.store.conn)
+    (λ number trees holds tells sound. (store.ours image sees sound).only_this number (trees, holds, tells))
+    (λ t holds sound. let it = store.found image sees sound t holds in (it.now, it.committed))
+    c.office_over.ensures.clean_left c.office_over.ensures.rests
+
+pub returns-in_err-store-clause-leaves : goal.returns-in_err-store-clause-leaves
+returns-in_err-store-clause-leaves g c image sees =
+    let p = err_from_is_err_and c.from_residual.result c.from_residual.ensures.1 in
+    rw (p.1, p.2) (c.in_err-store.ensures.leaves image sees)

@@ -1,10 +1,13 @@
+use Rattle.std.proofs.Common.{inl}
 use Rattle.std.proofs.lemmas.Result.{IfOk-weaker}
 use Rattle.sqlite.specs.Held.{state}
 use Rattle.sqlite.specs.State.{HasCleanDisk}
 use Rattle.clear_schema.specs.Seen.{SeesIn}
+use Rattle.clear_schema.proofs.OpenLemmas.{store_tells}
+use Rattle.clear_schema.specs.Schema.{this_layout}
 use Rattle.clear_schema.proofs.SeenLemmas.{if_ok_both, nothing_seen}
-use Rattle.clear_host.proofs.RefusalLemmas.{tells_only, untold_tells}
-use Rattle.clear_host.proofs.StoreLemmas.{other_is_seen, store_seen, told_seen}
+use Rattle.clear_host.proofs.RefusalLemmas.{refused_leaves, tells_only, untold_tells}
+use Rattle.clear_host.proofs.StoreLemmas.{just_seen, other_is_seen, still_seen, store_seen, tables_seen, told_seen}
 use Rattle.clear_host.proofs.offices.find_store.Goals as goal
 
 pub returns-in-Ok-clause-found : goal.returns-in-Ok-clause-found
@@ -45,3 +48,29 @@ returns-in-Err-clause-tells g c image sees =
       other = λ holds clean. c.in-Err.ensures.other clean (other_is_seen image old (seen clean) holds) (seen clean).opened.0.is_open;
       empty = λ nothing clean. tells_only 0 c.in-Err.refusal.fault (c.in-Err.ensures.empty clean (nothing_seen image old (seen clean) nothing));
     }
+
+pub returns-in-Err-clause-leaves : goal.returns-in-Err-clause-leaves
+returns-in-Err-clause-leaves g c image sees =
+    let old = state g.S.Store c.args.connection in
+    let new = state g.S.Store c.in-Err.refusal.connection in
+    record {
+      tables = λ t holds clean live.
+          let seen = sees (c.in-Err.ensures.clean_left clean) in
+          let meta = (store_tells this_layout t old.now (tables_seen image old seen t holds)).meta in
+          still_seen image old seen t holds new (c.in-Err.ensures.rests clean (inl meta) live);
+      others = λ number trees holds tells other clean live.
+          let seen = sees (c.in-Err.ensures.clean_left clean) in
+          just_seen image old seen trees holds new (c.in-Err.ensures.rests clean (inl (told_seen image old seen number (trees, holds, tells)).1.meta) live);
+    }
+
+pub returns-in-Ok-clause-leaves : goal.returns-in-Ok-clause-leaves
+returns-in-Ok-clause-leaves g c image sees =
+    let old = state g.S.Store c.args.connection in
+    refused_leaves g.S.Store image c.confirm.result (state g.S.Store c.in-Ok.store.conn)
+    (λ number trees holds tells sound.
+    let seen = sees (c.in-Ok.ensures.clean sound) in
+    c.in-Ok.ensures.right sound number (told_seen image old seen number (trees, holds, tells)).0 seen.opened.0.is_open)
+    (λ t holds sound.
+    let seen = sees (c.in-Ok.ensures.clean sound) in
+    c.in-Ok.ensures.found sound t (store_seen image old seen t holds) seen.opened.0.is_open)
+    c.confirm.ensures.clean_left c.confirm.ensures.rests

@@ -1,7 +1,7 @@
 use Rattle.sqlite.specs.Held.{state}
 use Rattle.clear_schema.proofs.SeenLemmas.{nothing_seen}
 use Rattle.clear_host.proofs.RefusalLemmas.{tells_none, tells_only}
-use Rattle.clear_host.proofs.StoreLemmas.{objects_seen, told_seen}
+use Rattle.clear_host.proofs.StoreLemmas.{just_seen, objects_seen, told_seen}
 use Rattle.clear_host.proofs.offices.new_office.Goals as goal
 
 pub returns-in-Ok-clause-made : goal.returns-in-Ok-clause-made
@@ -22,3 +22,10 @@ pub returns-in-Err-clause-empty : goal.returns-in-Err-clause-empty
 returns-in-Err-clause-empty g c image sees nothing clean =
     let seen = sees (c.in-Err.ensures.clean_left clean) in
     tells_none c.in-Err.refusal.fault (c.in-Err.ensures.empty clean (nothing_seen image (state g.S.Store c.args.connection) seen nothing))
+
+pub returns-in-Err-clause-rests : goal.returns-in-Err-clause-rests
+returns-in-Err-clause-rests g c image sees number trees holds tells clean live =
+    let old = state g.S.Store c.args.connection in
+    let seen = sees (c.in-Err.ensures.clean_left clean) in
+    just_seen image old seen trees holds (state g.S.Store c.in-Err.refusal.connection)
+    (c.in-Err.ensures.rests clean (told_seen image old seen number (trees, holds, tells)).1.meta live)

@@ -1,3 +1,5 @@
+use Rattle.std.proofs.Common.{subst, sym}
+use Rattle.clear_schema.specs.Held.{HasTables}
 use Rattle.clear_office.proofs.OpenedLemmas.{holds_still, honest_store, keeps_book}
 use Rattle.clear_host.proofs.offices.office_over.Goals as goal
 
@@ -18,3 +20,8 @@ returns-in-Ok-clause-keeps g c honest b t represents has =
 pub returns-in-Ok-clause-day : goal.returns-in-Ok-clause-day
 returns-in-Ok-clause-day g c honest t has =
     c.in-Ok.ensures.day (honest_store g.S.Store c.open.result c.ledger_day.new.store.conn c.open.ensures.value honest) t has
+
+pub returns-in-Err-clause-rests : goal.returns-in-Err-clause-rests
+returns-in-Err-clause-rests g c = rw c.into_connection.ensures λ clean live t now committed.
+    let stays = c.in-Err.ensures.rests clean t now live in
+    (subst (HasTables t) (sym stays.0) committed, subst (HasTables t) (sym stays.1) committed)

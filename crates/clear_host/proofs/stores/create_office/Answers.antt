@@ -1,8 +1,8 @@
 use Rattle.std.proofs.lemmas.Result.{err_from_is_err_and}
 use Rattle.sqlite.specs.Files.{over_files}
 use Rattle.sqlite_wal.specs.Files.{image_at}
-use Rattle.clear_host.specs.Contents.{TellsNone, TellsOnly}
-use Rattle.clear_host.proofs.RefusalLemmas.{unconnected}
+use Rattle.clear_host.specs.Contents.{HasJust, TellsNone, TellsOnly}
+use Rattle.clear_host.proofs.RefusalLemmas.{never_open, unconnected}
 use Rattle.clear_host.proofs.stores.create_office.Goals as goal
 
 pub returns-clause-made : goal.returns-clause-made
@@ -32,3 +32,11 @@ pub returns-in_err-connection-clause-empty : goal.returns-in_err-connection-clau
 returns-in_err-connection-clause-empty g c nothing =
     let p = err_from_is_err_and c.from_residual.result c.from_residual.ensures.1 in
     rw (p.1, p.2) (unconnected over_files TellsNone c.in_err-connection.field-0.0 c.in_err-connection.ensures.none)
+
+pub returns-clause-rests : goal.returns-clause-rests
+returns-clause-rests g c = c.new_office.ensures.rests (image_at g.S.Start) c.in_ok-connection.ensures.sees
+
+pub returns-in_err-connection-clause-rests : goal.returns-in_err-connection-clause-rests
+returns-in_err-connection-clause-rests g c =
+    let p = err_from_is_err_and c.from_residual.result c.from_residual.ensures.1 in
+    rw (p.1, p.2) λ number trees holds tells. never_open over_files (HasJust trees) c.in_err-connection.field-0.0 c.in_err-connection.ensures.none

@@ -16,4 +16,5 @@ returns-then-not-is_autocommit g c = record {
     crash = λ clean db may. inl may;
   };
   why = (Store Other, refl);
+  text = tt;
 }

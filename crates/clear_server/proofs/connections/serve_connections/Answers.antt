@@ -8,6 +8,7 @@ pub loop-served-init : goal.loop-served-init
 loop-served-init g c = record {
   talked = none_talked g.S.Store _ _ _;
   failed = λ was. refl;
+  few = omega arith;
   told = none_told _ _;
 }
 
@@ -19,8 +20,8 @@ loop-served-preserved g c =
     record {
       talked = one_more_talked g.S.Store _ _ _ _ _ _ so_far.talked c.serve_next-talked.ensures.said;
       failed = λ was. c.serve_next-talked.ensures.failed (before was) ∙ so_far.failed was;
-      told = then_told c.loop-served.served _ _ _ (g.E.Write.contents c.args.errors.now) _ _ c.serve_next-talked.result.end before after c.loop-served.told c.tell.result _ _ _
-          c.and-told.ensures c.failed-had_failed.ensures c.failed.ensures so_far.told c.tell.ensures;
+      few = omega (arith, so_far.few, c.failures_with-failures.ensures);
+      told = then_told c.loop-served.served _ _ _ _ _ _ c.serve_next-talked.result.end before after _ _ c.failed-had_failed.ensures c.failed.ensures so_far.told c.tell.ensures;
     }
 
 pub returns-then-not-stands-clause-served : goal.returns-then-not-stands-clause-served
@@ -32,7 +33,7 @@ returns-then-not-stands-clause-clean g c = clean g.S.Store _ _ _ _ _ c.loop-serv
 
 pub returns-then-failures-gt-FAILURES-clause-served : goal.returns-then-failures-gt-FAILURES-clause-served
 returns-then-failures-gt-FAILURES-clause-served g c =
-    served g.S.Store _ _ NoConnections c.loop-served.served c.args.count _ _ c.loop-served-test.true c.loop-served.invariant.talked
+    served g.S.Store _ _ NoConnections c.loop-served.served c.args.count _ _ (omega (arith, c.loop-served.invariant.few, c.failures_with-failures.ensures, c.if-failures-gt-FAILURES.true), c.loop-served-test.true) c.loop-served.invariant.talked
 
 pub returns-then-failures-gt-FAILURES-clause-clean : goal.returns-then-failures-gt-FAILURES-clause-clean
 returns-then-failures-gt-FAILURES-clause-clean g c = clean g.S.Store _ _ _ _ _ c.loop-served.invariant.talked

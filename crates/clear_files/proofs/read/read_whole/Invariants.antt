@@ -1,0 +1,12 @@
+use Rattle.std.proofs.Common.{◌-◌, length}
+use Rattle.std.specs.Io.KnownBytes.{Consumes}
+use Rattle.clear_wire.specs.Counted.{inner}
+use Rattle.clear_files.proofs.read.read_whole.Given as goal
+
+abbrev pub invariant-reads : goal.invariant-reads
+invariant-reads g l = record {
+  taken : Consumes (g.R.Read.remaining (inner l.fn.reader)) (g.R.Read.remaining (inner l.reader)) l.bytes.items;
+}
+
+abbrev pub decreases-reads : goal.decreases-reads
+decreases-reads g l = 4194305 - length l.bytes.items
