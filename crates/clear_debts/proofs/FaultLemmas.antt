@@ -26,10 +26,14 @@ last_holds : {X : Type 0} (P : X → Type 0) (before : Option X) (rows : List X)
 last_holds P before [] held all = held
 last_holds P before (row ∷ rows) held all = last_holds P (Some row) rows all.0 all.1
 
+pub last_row_in_range : {X : Type 0} (P : X → Type 0) (rows : List X) (fault : Fault) → fault ≢ Store Constraint
+    → (fault ≡ Store OutOfRange → (x : X) × (last_or None rows ≡ Some x) × ¬ P x) → AllByRecursion P rows → IsOfDisk fault
+last_row_in_range P rows fault free range all = (free, λ told. let (x, at, bad) = range told in bad (subst (λ found. IfSome found P) at (last_holds P None rows tt all)))
+
+-- of the last of those that pass a test
 pub last_in_range : {X : Type 0} (P : X → Type 0) (test : X → Bool) (rows : List X) (fault : Fault) → fault ≢ Store Constraint
     → (fault ≡ Store OutOfRange → (x : X) × (last_or None (filter test rows) ≡ Some x) × ¬ P x) → AllByRecursion P rows → IsOfDisk fault
-last_in_range P test rows fault free range all =
-    (free, λ told. let (x, at, bad) = range told in bad (subst (λ found. IfSome found P) at (last_holds P None (filter test rows) tt (all-filter P test rows all))))
+last_in_range P test rows fault free range all = last_row_in_range P (filter test rows) fault free range (all-filter P test rows all)
 
 -- of a look at that row
 pub last_look_in_range : {X A : Type 0} (P : X → Type 0) (test : X → Bool) (rows : List X) (result : Result A Fault) → IfErr result (λ fault. fault ≢ Store Constraint)

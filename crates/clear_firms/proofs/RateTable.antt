@@ -4,7 +4,7 @@ use Rattle.std.proofs.lemmas.Bool.Decides.{nat_tests}
 use Rattle.std.specs.List.{AllByRecursion, last_or}
 use Rattle.std.specs.Option.{option_or}
 use Rattle.sqlite.specs.Tree.{IsAscending}
-use Rattle.clear_columns.proofs.Words.{◌≡◌, arith, pos, ℕ, List, [], ◌∷◌, map, refl, sym, subst, codes, cast_row, Insert, Database, Values, Ghosts, Term, lit, col, op2, Binary, Compare, Le, Less, Null, Tables, and-true, by_key, first_program, meets, month, months_to, plain_program, HasTables, rates_table, month_number, cast_int, cast_null, months_keep, AnswersJust, numbered_row}
+use Rattle.clear_columns.proofs.Words.{◌≡◌, arith, pos, ℕ, List, [], ◌∷◌, map, refl, sym, subst, codes, cast_row, Insert, Database, Values, Ghosts, Term, lit, col, op2, Binary, Compare, Le, Less, Null, Tables, all_pass, and-true, by_key, first_program, meets, month, months_to, plain_program, HasTables, rates_table, month_number, cast_int, cast_null, months_keep, AnswersJust, numbered_row}
 use Rattle.sqlite_tied.specs.Compute.{everything}
 use Rattle.clear_money.proofs.RateFacts.{rate_after}
 use Rattle.clear_money.specs.Rates.{AllAfter, Rate, IsRising, last_first, later_row, rate_in_force}
@@ -82,6 +82,16 @@ by_month m r = rw (months_to r.first m) (and-true (has_begun m r))
 
 pub answers_latest : {S : Type 0} (g : Ghosts S) (t : Tables) (db : Database) (m : ℕ) → HasTables t db → AnswersJust g latest (month m ∷ []) db (map rate_shown (take 1 (from_last (filter (has_begun m) t.rates))))
 answers_latest g t db m has = finds_greatest rates g t db has (month m ∷ []) rate_shown (has_begun m) (by_month m) latest_says (λ _. refl)
+
+abbrev pub last : List ℕ
+last = codes "SELECT first, contribution, report_day, due_day, interest, entitlement FROM rates ORDER BY first DESC LIMIT 1"
+
+last_says : SaysQuery last (first_program 1 [] columns by_falling)
+unfolding everything
+last_says = record { names = _; said = (refl, refl, refl) }
+
+pub answers_last : {S : Type 0} (g : Ghosts S) (t : Tables) (db : Database) → HasTables t db → AnswersJust g last [] db (map rate_shown (take 1 (from_last t.rates)))
+answers_last g t db has = subst (λ rs. AnswersJust g last [] db (map rate_shown (take 1 (from_last rs)))) (all_pass t.rates) (finds_greatest rates g t db has [] rate_shown (λ _. true) (λ _. refl) last_says (λ _. refl))
 
 before : (a b : Rate) → by_key (key rates) a b ≡ Less → a.first < b.first
 before a b less = grind (arith, nat_tests)

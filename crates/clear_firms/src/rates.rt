@@ -50,6 +50,20 @@ pub fn find_rate<S: Alter>(tx: &mut Transaction<'_, S>, at: Month) -> Result<Opt
     )
 }
 
+/// The last row, if there is one: that with the greatest first month. It is found by a search.
+pub fn find_last_rate<S: Alter>(tx: &mut Transaction<'_, S>) -> Result<Option<RateRow>, Fault>
+    ensures same_reference { tx.new.conn.ghost_name ≡ tx.old.conn.ghost_name }
+    ensures looks { Finds S.Store tx.old.conn.now tx.new.conn.now result IsRate
+        (λ t. last_or None t.rates) }
+{
+    find::<S, Rates>(
+        tx,
+        "SELECT first, contribution, report_day, due_day, interest, entitlement FROM rates \
+         ORDER BY first DESC LIMIT 1",
+        &[],
+    )
+}
+
 /// All rates, the first months rising.
 pub fn all_rates<S: Alter>(tx: &mut Transaction<'_, S>) -> Result<Vec<RateRow>, Fault>
     ensures same_reference { tx.new.conn.ghost_name ≡ tx.old.conn.ghost_name }

@@ -1,5 +1,6 @@
 -- An office that was just opened over a store.
 use Rattle.std.proofs.Common.{◌≡◌, List, sym, subst, false}
+use Rattle.std.specs.Prelude.{IsTrue}
 use Rattle.sqlite.specs.Held.{Held, state}
 use Rattle.sqlite.specs.State.{HasCleanDisk}
 use Rattle.sqlite.specs.Store as store
@@ -21,6 +22,10 @@ module _ {S : Type 0} (g : store.Ghosts S) (office : AtOffice S) (conn : Held S)
   -- its disk is that of the store
   pub honest_store : IsHonest g office → HasCleanDisk (state g conn)
   honest_store = subst (λ o. IsHonest g o → HasCleanDisk (state g conn)) (sym is) (λ honest. honest)
+
+  -- its database is open where that of the store is
+  pub opens_still : IsTrue (state g conn).is_open → IsTrue (state g office.conn).is_open
+  opens_still was = subst (λ (o : AtOffice S). IsTrue (state g o.conn).is_open) (sym is) was
 
   -- it has the tables that the store has
   pub holds_still : (t : Tables) → Holds g conn t → Holds g office.conn t

@@ -3,10 +3,13 @@ ghost use Rattle.std.specs.Prelude.{◌≡◌, ◌≢◌, false, ℕ, IfErr, IfO
 ghost use Rattle.sqlite.specs.Held.{state};
 ghost use Rattle.sqlite.specs.State.{HasCleanDisk, Survives};
 ghost use Rattle.clear_book.specs.Book.{first_book};
+ghost use Rattle.clear_schema.specs.Faults.{IsOfDisk, TellsOutOfRange};
 ghost use Rattle.clear_schema.specs.First.{first_tables};
 ghost use Rattle.clear_schema.specs.Held.{HasMeta, StandsFor, TellsSchema};
+ghost use Rattle.clear_schema.specs.Opening.{IsBelowZero, TellsOrIsEmpty};
 ghost use Rattle.clear_schema.specs.Schema.{no_schema};
-ghost use Rattle.clear_schema.specs.declared.fault.OpenFault.TheVariants.{WrongVersion};
+ghost use Rattle.clear_schema.specs.declared.fault.Fault.{Fault};
+ghost use Rattle.clear_schema.specs.declared.fault.OpenFault.TheVariants.{Failed, WrongVersion};
 ghost use Rattle.clear_schema.specs.Still.{Holds, IsStill};
 ghost use Rattle.clear_office.specs.Office.{IsHonest, Keeps};
 
@@ -37,6 +40,8 @@ pub fn make_office<S: Alter>(
     ensures keeps { IfOk result (λ office. IsHonest S.Store office
         → (state S.Store connection).now.schema ≡ no_schema
         → Keeps S.Store office (first_book rates.now)) }
+    ensures open { IfOk result (λ office. IsHonest S.Store office
+        → IsTrue (state S.Store office.conn).is_open) }
     ensures only_empty { OnOk result ((state S.Store connection).now.schema ≡ no_schema) }
     ensures there { IfErr result (λ left. HasCleanDisk (state S.Store left.connection)
         → (number : ℕ) → TellsSchema number (state S.Store connection).now
@@ -44,6 +49,13 @@ pub fn make_office<S: Alter>(
     ensures empty { IfErr result (λ left. HasCleanDisk (state S.Store left.connection)
         → (state S.Store connection).now.schema ≡ no_schema
         → (told : ℕ) → left.fault ≢ WrongVersion told) }
+    // A number below 0 is a value out of its range; no other database that tells its number is refused
+    // by a fault of a key or of a row, nor is an empty one.
+    ensures below_zero { IfErr result (λ left. HasCleanDisk (state S.Store left.connection)
+        → IsBelowZero (state S.Store connection).now → TellsOutOfRange left.fault) }
+    ensures cause { IfErr result (λ left. HasCleanDisk (state S.Store left.connection)
+        → TellsOrIsEmpty (state S.Store connection).now
+        → (why : Fault) → left.fault ≡ Failed why → IsOfDisk why) }
     // A refusal takes back what was begun in an empty database, and a crash leaves what it could leave
     // before, or the tables of an office without requests.
     ensures undone { IfErr result (λ left. HasCleanDisk (state S.Store left.connection)

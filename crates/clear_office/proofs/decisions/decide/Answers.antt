@@ -1,4 +1,5 @@
-use Rattle.std.proofs.Common.{refl, ◌∙◌}
+use Rattle.std.proofs.Common.{ap, refl, ◌∙◌}
+use Rattle.clear_money.specs.Rates.{last_first}
 use Rattle.clear_book.specs.Book.{Book}
 use Rattle.clear_book.specs.Tables.{Stands, member_in}
 use Rattle.clear_book.specs.Workers.{new_claim}
@@ -15,12 +16,12 @@ use Rattle.clear_office.proofs.decisions.decide.Goals as goal
 pub returns-in_ok-add_rate_view-in-AddRate-clause-decided : goal.returns-in_ok-add_rate_view-in-AddRate-clause-decided
 returns-in_ok-add_rate_view-in-AddRate-clause-decided g c clean t has counts back =
     let row = c.in-AddRate.row in
-    let decided = c.decide_add_rate-in-AddRate.ensures in
-    let same = c.in_ok-add_rate_view-in-AddRate.ensures.rates clean t has in
+    let decided = c.decide_add_rate.ensures in
+    let last = c.in_ok-add_rate_view-in-AddRate.ensures.last clean t has in
     rw (c.in-AddRate.is, c.or_stop.ensures)
-    (decides c.args.day (AddRate row) t c.decide_add_rate-in-AddRate.result
-    (rate_there t c.args.day row c.decide_add_rate-in-AddRate.result c.in_ok-add_rate_view-in-AddRate.field-0 same decided.rule decided.made)
-    (λ b lawful stands. decided.judged b (same ∙ stands.rates))
+    (decides c.args.day (AddRate row) t c.decide_add_rate.result
+    (rate_there t c.args.day row c.decide_add_rate.result (decided.rule t.rates last) decided.made)
+    (λ b lawful stands. decided.judged b (last ∙ ap last_first stands.rates))
     (λ b lawful stands. decided.change b))
 
 pub returns-in_err-add_rate_view-in-AddRate-clause-decided : goal.returns-in_err-add_rate_view-in-AddRate-clause-decided
