@@ -475,6 +475,18 @@ class References(BankFiles):
         self.write("made.csv", HEADER + "B,2024-04-30,,800,C,\n")
         self.makes(document(parted), ["T1,2024-04-30,,400,C,", "T2,2024-04-30,,500,C,"], "--earlier", "made.csv")
 
+    def test_one_entry_whose_transactions_have_no_reference_of_their_own(self):
+        parted = entry("3.00", transaction("1.00"), transaction("2.00"), reference="B")
+        words = "--firms", "firms.csv", "--earlier", "made.csv"
+        self.write("made.csv", HEADER + "B,2024-04-30,,300,C,\n")
+        self.refuses(one("0", "3.00", parted), f"{FIRST} stands in an earlier file as one line, B, and now comes in its "
+                     "transactions, so it would count twice; give the statement that it was made of", words=words)
+        # Beside one of the same amount; and what was made of them is known.
+        content = one("0", "6.00", entry("3.00", reference="B"), parted)
+        output, _ = self.made(content)
+        self.write("made.csv", HEADER + output)
+        self.assertEqual(self.made(content, "--earlier", "made.csv")[0], output)
+
     def test_one_entry_whose_transactions_make_it_no_more(self):
         """They stand in an earlier file; without it, or on another day, nothing tells that they are the same."""
         more = one("0", "9.00", entry("9.00", transaction("4.00", reference="T1"), transaction("6.00", reference="T2"),

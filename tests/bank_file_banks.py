@@ -117,6 +117,22 @@ class Twice(BankFiles):
         for known in (other, within):
             self.assertNotIn("twice", self.made(known)[1])
 
+    def test_payments_of_which_one_statement_alone_has_the_reference(self):
+        without, with_one = payment("1.00", "Mai", "Bau"), payment("1.00", "Mai", "Bau", reference="R")
+        more = payment("1.00", "Mai", "Bau", reference="R2")
+        made, of_bank = (self.made(one("0", "1.00", it))[0] for it in (without, with_one))
+        # With an earlier file, and in one zip, whichever comes first.
+        for earlier, now, is_told in ((made, with_one, True), (of_bank, without, True), (of_bank, more, False)):
+            self.write("made.csv", HEADER + earlier)
+            output, said = self.made(one("0", "1.00", now, identifier="S2"), "--earlier", "made.csv")
+            self.assertEqual(f"  may count twice: {output.partition(',')[0]}: " in said, is_told, said)
+        both = document(statement("0", "1.00", with_one), statement("1.00", "2.00", without, identifier="S2"))
+        output, said = self.made(both)
+        twice = ", ".join(line.partition(",")[0] for line in output.splitlines())
+        self.assertIn(f"  may count twice: {twice}: ", said)
+        within = one("0", "2.00", with_one, without)
+        self.assertNotIn("twice", self.made(within)[1])
+
     def test_statements_that_do_not_follow_each_other(self):
         def told(*ends, **options):
             found = [statement(*pair, payment(f"{float(pair[1]) - float(pair[0]):.2f}", reference=f"R{at}"),

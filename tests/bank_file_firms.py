@@ -14,7 +14,7 @@ import sys
 sys.dont_write_bytecode = True
 import bank_file  # noqa: E402
 from bank_file import HEADER, BankFiles  # noqa: E402
-from bank_statements import ACCOUNT, FIRMS, LATIN, NORD, STRANGE, WEST, one, payment  # noqa: E402
+from bank_statements import ACCOUNT, FIRMS, LATIN, NORD, STRANGE, WEST, entry, one, payment, transaction  # noqa: E402
 from program_under_test import run_tests  # noqa: E402
 
 setUpModule = bank_file.setUpModule
@@ -258,8 +258,12 @@ class Firms(BankFiles):
         self.finds("", "betriebsnrbeitragmai" * 240 + "x 1001")
 
     def test_the_form_of_a_company(self):
-        none = ("Bau AG 1224", "Bau AG 1001 / 24", "Bau AG Nr. 1001", "betr. Nr. 1001")
-        self.finds_each((1224, 1001), none, ("AG-Nr. 1001", "Betr.-Nr. 1001"))
+        none = ("Bau AG 1224", "Bau AG 1001 / 24", "Bau AG Nr. 1001", "AG - Nr. 1001", "Bau AG, Nr. 1001",
+                "Bau AG; Nummer 1001", "Bau AG/Nr. 1001", "Bau AG: Nr. 1001", "Bau AG.Nr. 1001", ["Bau AG", "Nr. 1001"],
+                ["an AG", "Nummer 1001"], "betr. Nr. 1001", "Betr.: Nr. 1001", "betr., Nr. 1001",
+                ["Rechnung betr", "Nr. 1001"])
+        known = "AG-Nr. 1001", "Betr.-Nr. 1001", "Betr-Nr. 1001", "Betr.Nr. 1001", ["Betr", "ieb 1001"]
+        self.finds_each((1224, 1001), none, known)
         self.finds("1224", "AG-Nr. 1224", table="iban,employer\n,1224\n")
 
     def test_small_numbers(self):
@@ -277,6 +281,23 @@ class Firms(BankFiles):
                 ("1500.00", "1001, 1500", "")):
             output, _ = self.made(one("0", amount, payment(amount, text, "", STRANGE, "F")))
             self.assertEqual(output.split(",")[2], firm, (amount, text))
+        # Before the bank took its charges off; and of a batch in one line, of which no part is told.
+        before = '<AmtDtls><InstdAmt><Amt Ccy="EUR">1500.00</Amt></InstdAmt></AmtDtls>'
+        for text, firm in (("Beitrag 1500", ""), ("Betrieb 1500", "1500")):
+            charged = entry("1495.00", transaction("1495.00", text, "", STRANGE, "F", more=before))
+            without = entry("3000.00", *[transaction("", text, "", STRANGE)] * 2, reference="F")
+            less = entry("2990.00", *[transaction("1500.00", text, "", STRANGE)] * 2, reference="F")
+            for amount, content in (("1495.00", charged), ("3000.00", without), ("2990.00", less)):
+                self.assertEqual(self.made(one("0", amount, content))[0].split(",")[2], firm, (amount, text))
+
+    def test_numbers_that_are_named_together(self):
+        """The other one may be of a firm that isn't in the table yet."""
+        none = ("Betrieb 1001 und 1010", "Betrieb 1001 u. 1010", "Firma 1001 / 1010", "Betrieb 1001 + 1010",
+                "Betrieb 1001 bis 1010", "Mitglied 1001, 1003 sowie 1010")
+        known = ("Betrieb 1001, 28195 Bremen", "Betrieb 1001 und 12 Arbeiter", "Betrieb 1001 und 2024",
+                 "Betrieb 1001 und Rechnung 1010", "Betrieb 1001 und 122024", "Betrieb 1001 4711")
+        self.finds_each((1001,), none, known)
+        self.finds_each((1001,), none[:1], known[:3], "--number-word", "Betrieb")
 
     def test_dates_without_points_and_quarters(self):
         dates = (1224, 52024, 122024, 202405, 150524, 15052024, 20240515, 2405, 240515)

@@ -7,7 +7,7 @@ from __future__ import annotations
 
 import re
 from collections.abc import Iterable, Iterator
-from dataclasses import dataclass
+from dataclasses import dataclass, field
 from datetime import date
 from decimal import Decimal
 from xml.etree.ElementTree import Element
@@ -95,6 +95,8 @@ class Transaction:
     other_name: str
     iban: str
     texts: tuple[str, ...]
+    # All that are told of it, with fees or without. (Another statement may tell fewer of the same.)
+    amounts: frozenset[Money] = field(compare=False)
 
     @property
     def payer(self) -> str:
@@ -117,8 +119,6 @@ class Entry:
     transactions: tuple[Transaction, ...]
     # Whether all transactions stand here that the entry is said to have.
     is_detailed: bool
-    # All that are told of the transactions of a debit, which has fees in it where it takes a payment back.
-    amounts: frozenset[Money]
     # The claims of payout lists in it; where none is told, the lists, as PAYOUT-1-2024-02-10.
     payouts: tuple[str, ...]
 
@@ -262,8 +262,6 @@ def read_entry(node: Node, account: str) -> Entry:
         value=read_day(node, "ValDt"),
         transactions=transactions,
         is_detailed=all(map(has_all_transactions, details)) and not (is_credit and is_part(transactions, money)),
-        amounts=frozenset() if is_credit else frozenset(
-            money for part in details for it in part.parts("TxDtls") for money in read_amounts(it)),
         payouts=read_payouts(details, transactions),
     )
 
@@ -272,11 +270,6 @@ def read_payouts(details: list[Node], transactions: tuple[Transaction, ...]) -> 
     claims = [it.payout for it in transactions if it.payout]
     told = (node.own_text() for part in details for path in LIST_REFERENCES for node in part.parts(path))
     return tuple(dict.fromkeys(claims or filter(OF_A_LIST.fullmatch, told)))
-
-
-def read_amounts(transaction: Node) -> Iterator[Money]:
-    """What is told of the amount of a transaction, with fees or without."""
-    return (read_money(transaction, path) for path in AMOUNTS if transaction.has(path))
 
 
 def has_all_transactions(details: Node) -> bool:
@@ -323,6 +316,7 @@ def read_transaction(node: Node, credited_account: str | None) -> Transaction:
         other_name=other_name if is_of_another else "",
         iban=iban,
         texts=tuple(filter(None, texts)),
+        amounts=frozenset(read_money(node, path) for path in AMOUNTS if node.has(path)),
     )
 
 

@@ -3,7 +3,7 @@
 from __future__ import annotations
 
 import re
-from collections.abc import Iterable
+from collections.abc import Callable, Iterable
 from dataclasses import dataclass, field
 from decimal import Decimal
 from enum import Enum
@@ -34,8 +34,9 @@ class Firms:
     # As casefold() leaves them; where there are any, a number counts only behind one of them.
     number_words: frozenset[str] = field(default=frozenset())
 
-    def firm_of(self, iban: str, texts: Iterable[str], amount: Decimal) -> tuple[str, Found]:
-        """The firm that paid this from this account with these parts of a text; empty where none is found."""
+    def firm_of(self, iban: str, texts: Iterable[str], may_be_paid: Callable[[Decimal], bool]) -> tuple[str, Found]:
+        """The firm that paid from this account with these parts of a text, and of which sums in euros it may have been
+        any; empty where none is found."""
         firm = self.by_iban.get(without_spaces(iban))
         if firm:
             return firm, Found.BY_IBAN
@@ -43,22 +44,23 @@ class Firms:
         if len(parts) > MOST_PARTS or sum(map(len, parts)) > MOST_SIGNS:
             return "", Found.NOT_FOUND
         # The firm has to stand there by each reading, and no other one by any; for sure by that which has whole words.
-        named = [self.named_in(reading, amount) for reading in readings(without_ibans(parts))]
+        named = [self.named_in(reading, may_be_paid) for reading in readings(without_ibans(parts))]
         told = set().union(*(possible for _, possible in named))
         sure, _ = named[PUT_TOGETHER]
         is_one = len(told) == 1 and told == sure and all(told == possible for _, possible in named)
         return (*told, Found.BY_NUMBER) if is_one else ("", Found.NOT_FOUND)
 
-    def named_in(self, reading: str, amount: Decimal) -> tuple[set[str], set[str]]:
+    def named_in(self, reading: str, may_be_paid: Callable[[Decimal], bool]) -> tuple[set[str], set[str]]:
         """The firms that a reading names for sure, and those that it may name."""
         possible = [it for it in numbers_in(reading) if it.digits in self.numbers and self.may_be_named(it)]
-        return {it.digits for it in possible if self.is_sure(it, amount)}, {it.digits for it in possible}
+        return {it.digits for it in possible if self.is_sure(it, may_be_paid)}, {it.digits for it in possible}
 
     def may_be_named(self, number: Number) -> bool:
         return bool(number.words & self.number_words) if self.number_words else not number.may_be_a_year
 
-    def is_sure(self, number: Number, amount: Decimal) -> bool:
-        return not (number.is_joined if self.number_words else number.is_in_doubt(amount))
+    def is_sure(self, number: Number, may_be_paid: Callable[[Decimal], bool]) -> bool:
+        is_in_doubt = number.is_joined if self.number_words else number.is_in_doubt(may_be_paid)
+        return not (is_in_doubt or number.is_one_of_several)
 
 
 def read_firms(path: str, number_words: Iterable[str] = ()) -> Firms:

@@ -15,6 +15,7 @@ from dataclasses import dataclass, field, replace
 from datetime import date
 from decimal import Decimal
 from enum import Enum
+from functools import partial
 
 from .camt import Entry, Money, Transaction, credited_by
 from .earlier import HEADER, EarlierLine
@@ -171,16 +172,17 @@ class BankFile:
         for place, entry in statement.entries():
             if reason := reason_to_leave_out(entry):
                 called = f"entry {place} of {statement.called}"
-                amounts = entry.amounts | {entry.money}
+                amounts = frozenset({entry.money}).union(*(it.amounts for it in entry.transactions))
                 self.left_out.append(LeftOut(reason, called, entry.value or entry.booked, entry.money, amounts,
                                              entry.payouts))
                 continue
             payments = [*payments_of(statement, place, entry)]
-            self.check_parts(statement, f"entry {place} of {statement.called}", entry, payments)
+            self.check_parts(statement, f"entry {place} of {statement.called}", entry, payments, used)
             for payment in payments:
                 self.add_payment(payment, used)
 
-    def check_parts(self, statement: Statement, called: str, entry: Entry, payments: list[Payment]) -> None:
+    def check_parts(self, statement: Statement, called: str, entry: Entry, payments: list[Payment],
+                    used: Counter[str]) -> None:
         """Refuses an entry that came before in other parts, in a statement or an earlier file."""
         if not entry.reference:
             return
@@ -193,16 +195,24 @@ class BankFile:
         elif own not in parts:
             raise Refusal(f"{called} stands in {first.called} with other references of its transactions, "
                           "so it would count twice; give one of the two statements")
-        whole = str(entry.value or entry.booked), f"{entry.money.amount * 100:.0f}"
-        is_known = all(fit_reference(it, 1) in self.earlier for it in own)
-        if not is_known and any((it.value, it.cents) == whole for it in self.earlier_lines(entry.reference)):
+        # The file that was made of this very statement has the same parts.
+        is_known = self.are_earlier(payments, used)
+        day, cents = str(entry.value or entry.booked), cents_told(entry.money)
+        if not is_known and any((it.value, it.cents) == (day, cents) for it in self.earlier_lines(entry.reference)):
             raise Refusal(f"{called} stands in an earlier file as one line, {shown(entry.reference)}, and now comes "
                           "in its transactions, so it would count twice; give the statement that it was made of")
         parts = (it.reference for it in entry.transactions if it.reference and it.reference not in own)
-        part = next((it for it in parts if not is_known and self.is_earlier(it, whole[0])), None)
+        part = next((it for it in parts if not is_known and self.is_earlier(it, day)), None)
         if part:
             raise Refusal(f"{called} stands in an earlier file in its transactions, as {shown(part)}, and now comes as "
                           "one line, so it would count twice; give the statement that it was made of")
+
+    def are_earlier(self, payments: list[Payment], used: Counter[str]) -> bool:
+        """Whether an earlier file has each of these payments under its reference, with its amount; of each of the
+        bank's references it was counted how often the statement used it before them."""
+        counted = Counter(used)
+        lines = ((self.earlier.get(reference_of(it, counted)), it) for it in payments if is_line(it))
+        return all(line is not None and line.cents == cents_told(it.money) for line, it in lines)
 
     def is_earlier(self, reference: str, value: str) -> bool:
         """Whether an earlier file has a line of that day under a reference of the bank."""
@@ -244,18 +254,25 @@ class BankFile:
         self.left_out.append(LeftOut(reason, payment.called, payment.value, money, frozenset({money}), payouts))
 
     def likely_repeats(self) -> list[str]:
-        """The references made here for want of the bank's whose lines another statement, or an earlier file, has, too,
-        by their day, amount and note."""
-        statements: dict[tuple, set[str]] = {}
-        by_place = [it for it in self.lines if it.reference.startswith(BY_PLACE)]
-        for line in by_place:
+        """The references whose lines another statement, or an earlier file, has, too, by their day, amount and note,
+        where one of the two was made here for want of the bank's."""
+        earlier: dict[tuple, set[bool]] = {}
+        for reference, line in self.earlier.items():
+            if reference not in self.payments:
+                earlier.setdefault(alike(line), set()).add(is_by_place(reference))
+        # Which statements of an account have such a line, and whether under a reference made here.
+        statements: dict[tuple, set[tuple[str, bool]]] = {}
+        for line in self.lines:
             account, identifier, *_ = self.payments[line.reference].place
-            statements.setdefault((account, *alike(line)), set()).add(identifier)
-        earlier = {alike(it) for reference, it in self.earlier.items()
-                   if reference.startswith(BY_PLACE) and reference not in self.payments}
-        several = {key[1:] for key, identifiers in statements.items() if len(identifiers) > 1}
-        return [it.reference for it in by_place
-                if it.found is not Found.EARLIER and alike(it) in earlier | several]
+            statements.setdefault((account, *alike(line)), set()).add((identifier, is_by_place(line.reference)))
+
+        def may_repeat(line: Line) -> bool:
+            account, own, *_ = self.payments[line.reference].place
+            others = {made for identifier, made in statements[account, *alike(line)] if identifier != own}
+            others |= earlier.get(alike(line), set())
+            return True in others or bool(others) and is_by_place(line.reference)
+
+        return [it.reference for it in self.lines if it.found is not Found.EARLIER and may_repeat(it)]
 
     def line_of(self, payment: Payment, reference: str) -> Line:
         if payment.value is None:
@@ -271,7 +288,7 @@ class BankFile:
         """The firm of all transactions of a payment; none where they have several, or aren't all known."""
         # An account tells whose payment it is, where it isn't for another one.
         ibans = ("" if it.other_name else it.iban for it in payment.transactions)
-        found = {self.firms.firm_of(iban, it.texts, payment.money.amount)
+        found = {self.firms.firm_of(iban, it.texts, partial(may_be_paid, payment, it))
                  for iban, it in zip(ibans, payment.transactions)}
         is_sure = payment.is_detailed and not any(it.is_return for it in payment.transactions)
         if not is_sure or len({firm for firm, _ in found}) != 1:
@@ -281,6 +298,24 @@ class BankFile:
     def is_interest(self, payment: Payment) -> bool:
         words = [words_in(it.texts) for it in payment.transactions]
         return payment.is_detailed and bool(words) and all(self.interest_words & it for it in words)
+
+
+def may_be_paid(payment: Payment, transaction: Transaction, euros: Decimal) -> bool:
+    """Whether a transaction of a payment may be of so many euros, with fees or without; one that tells no amount, of
+    several in one line, may be of as many as there are at most."""
+    told = {it.amount for it in transaction.amounts}
+    is_part = not told and len(payment.transactions) > 1
+    return euros in told | {payment.money.amount} or is_part and euros < payment.money.amount
+
+
+def is_line(payment: Payment) -> bool:
+    """Whether a payment may become a line: one of nothing, or one that came back, is left out."""
+    return bool(payment.money.amount) and not payment.is_return
+
+
+def is_by_place(reference: str) -> bool:
+    """Whether it was made here for want of the bank's."""
+    return reference.startswith(BY_PLACE)
 
 
 def alike(line: Line | EarlierLine) -> tuple[str, str, str]:
@@ -319,6 +354,10 @@ def is_same(payment: Payment, other: Payment) -> bool:
         account = it.place[0]
         return account, it.entry_reference, it.booked, it.value, it.money, it.transactions
     return told(payment) == told(other)
+
+
+def cents_told(money: Money) -> str:
+    return f"{money.amount * 100:.0f}"
 
 
 def cents_of(payment: Payment) -> int:

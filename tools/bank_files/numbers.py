@@ -3,7 +3,8 @@
 from __future__ import annotations
 
 import re
-from dataclasses import dataclass
+from collections.abc import Callable
+from dataclasses import dataclass, replace
 from decimal import Decimal
 
 # ---- parts of the patterns below, for a text as casefold() leaves it, in which each dash is "-"
@@ -92,11 +93,14 @@ SHORT_DATE = re.compile("|".join((
 )))
 # What joins a number to that before it: 1001, 1003 and 1001 und 1003; not 1001 (1003)
 JOINED = re.compile(r"[^\w#(]{1,3}(?:(?:und|u|sowie|bis)\W{1,2})?")
+# What names two numbers together: 1001 und 1010, 1001 / 1010; not 1001, 28195 Bremen
+NAMED_TOGETHER = re.compile(r"\W{0,2}(?:und|u|sowie|bis|[&+/])\W{0,2}")
 # What makes of a number that of a year, behind it: 1001 / 24, 1001 / 2024
 OF_A_YEAR = re.compile(rf" ?/ ?(?:{YEAR}|[0-9]{{2}})(?!\w|[.,:/-][0-9]| ?[./-] ?[0-9]+\b)")
-# The word right before a number: Betrieb 1001, Betrieb-Nr. 1001; of `Bau AG Nr. 1001` and `betr. Nr. 1001` it is `nr`
+# The word right before a number: Betrieb 1001, Betrieb-Nr. 1001, AG-Nr. 1001, Betr.-Nr. 1001; of `Bau AG, Nr. 1001` and
+# `Betr.: Nr. 1001` it is `nr`
 WORD_BEFORE = re.compile(
-    r"(?<!\w)(\w+)(?:(?!(?:(?<=\bag)|(?<=\bbetr))\.? )\W{1,3}(nr|nummer|no))?\W{1,3}\Z")
+    r"(?<!\w)(\w+)(?:(?!(?<=\bag)(?!-)|(?<=\bbetr)(?!\.?-|\.n))\W{1,3}(nr|nummer|no))?\W{1,3}\Z")
 LONGEST_WORD = 60
 # A word for a firm's number, which is no date and of no year: Betrieb 1224, Mitglieds-Nr. 1001 / 24; also at the end of a
 # longer word, as where the bank has put two together
@@ -138,23 +142,25 @@ class Number:
     is_plain: bool
     # Whether it and the next one are of a year, or it and that before.
     is_of_a_year: bool
+    # Whether it is named together with another one that may be a firm's, be that in the table or not.
+    is_one_of_several: bool = False
 
     @property
     def may_be_a_year(self) -> bool:
         return re.fullmatch(YEAR, self.digits) is not None
 
-    def is_in_doubt(self, amount: Decimal) -> bool:
-        """Whether it may be something else than a firm's number by what stands around it, or by its digits."""
+    @property
+    def is_like_a_count_or_a_date(self) -> bool:
+        return len(self.digits) < LEAST_SURE_DIGITS or SHORT_DATE.fullmatch(self.digits) is not None
+
+    def is_in_doubt(self, may_be_paid: Callable[[Decimal], bool]) -> bool:
+        """Whether it may be something else than a firm's number by what stands around it, or by its digits, as a sum
+        that may be paid, in euros."""
         words = frozenset() if self.is_joined else self.words
         if any(map(FIRM_WORD.fullmatch, words)):
             return False
-        is_like_another = words.isdisjoint(("nr", "nummer")) and self.is_like_another(amount)
-        return not self.is_plain or self.is_of_a_year or is_like_another
-
-    def is_like_another(self, amount: Decimal) -> bool:
-        """Whether it is like a count, a date, or what is paid, in whole euros."""
-        is_paid = self.digits == f"{amount.normalize():f}"
-        return is_paid or len(self.digits) < LEAST_SURE_DIGITS or SHORT_DATE.fullmatch(self.digits) is not None
+        is_like_another = self.is_like_a_count_or_a_date or may_be_paid(Decimal(self.digits))
+        return not self.is_plain or self.is_of_a_year or words.isdisjoint(("nr", "nummer")) and is_like_another
 
 
 def numbers_in(text: str) -> list[Number]:
@@ -166,11 +172,21 @@ def numbers_in(text: str) -> list[Number]:
     end, goes_on = 0, False
     for found in NUMBER_WORD.finditer(left):
         is_joined = bool(numbers and JOINED.fullmatch(left, end, found.start()))
+        is_named_too = bool(numbers and NAMED_TOGETHER.fullmatch(left, end, found.start()))
         words = numbers[-1].words if is_joined else words_before(left, found.start())
         end, was_of_a_year = found.end(), goes_on
         goes_on = OF_A_YEAR.match(left, end) is not None
-        numbers.append(Number(found[0], words, is_joined, is_plain and told <= {found[0]}, was_of_a_year or goes_on))
+        number = Number(found[0], words, is_joined, is_plain and told <= {found[0]}, was_of_a_year or goes_on)
+        if is_named_too and not (number.is_like_a_count_or_a_date or number.may_be_a_year):
+            numbers = with_another(numbers)
+        numbers.append(number)
     return numbers
+
+
+def with_another(numbers: list[Number]) -> list[Number]:
+    """The numbers, of which the last one, and those that it is joined to, are named together with another one."""
+    first = max(place for place, it in enumerate(numbers) if not it.is_joined)
+    return numbers[:first] + [replace(it, is_one_of_several=True) for it in numbers[first:]]
 
 
 def words_before(text: str, end: int) -> frozenset[str]:

@@ -29,8 +29,8 @@ SEAM = re.compile("|".join((
     r"(?<=[^\W_]-)\n(?=[^\W_])", r"(?<=\+)\n(?=[0-9])",
     # 10|01
     r"(?<=[0-9])\n(?=[0-9])",
-    # Zin|sen
-    r"(?<=[^\W\d_])\n(?=[^\W\d_])",
+    # Zin|sen; not Bau AG|Nr. 1001, nor betr|Nr. 1001
+    r"(?<=[^\W\d_])\n(?!(?i:(?:(?<=\bag\n)|(?<=\bbetr\n))(?:nr|nummer)))(?=[^\W\d_])",
     # RE2024A|1001, where the part before is a whole one; not Betrieb|1001
     *(rf"(?<=^.{{{signs - 1}}}[^\W\d_])(?<![^\W\d_]{{4}})\n(?=[0-9])" for signs in WHOLE_PARTS),
 )), re.MULTILINE)
