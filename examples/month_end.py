@@ -59,6 +59,7 @@ def save(folder, answer):
     title = answer.done().title
     if title is None:
         raise Fault(printable(f"no document of an office: {answer.text[:60]}"), 3)
+    folder.mkdir(parents=True, exist_ok=True)
     write_whole(file_of(folder, title), answer.text.encode())
     return title
 
@@ -87,6 +88,18 @@ def save_statements(office, folder, firms):
         raise Fault("no number is a firm's, so no run and no list is made", 2)
 
 
+def stands_already(folder, document, number):
+    """Whether the file of a run or a list stands in the folder. It never changes: a Fault where another book made the
+    one there, which perhaps was transferred."""
+    file = document.title and file_of(folder, document.title)
+    if not file or file.is_symlink() or not file.exists():
+        return False
+    if file.read_bytes() != document.text.encode():
+        raise Fault(f"{file} stands with another content, and is left as it is: the office has another "
+                    f"{document.title} now, which number {number} made", 2)
+    return True
+
+
 def make_and_save(office, folder, kind, number, day):
     """Has a run or a list made under this number by an office of this day, and saves it."""
     answer = office.ask("POST", kind.path, number)
@@ -97,7 +110,7 @@ def make_and_save(office, folder, kind, number, day):
         raise Fault(f"{kind.path[1:]} under number {number}: {answer.refusal}", 1)
     made = answer.members[kind.member]
     document = office.ask("GET", f"{kind.path}/{made}").done()
-    stood = document.title is not None and file_of(folder, document.title).exists()
+    stood = stands_already(folder, document, number)
     title = save_and_tell(folder, document)
     if title.split()[-1] != day:
         print(f"number {number} made it on an earlier day; a new one needs a new number")
@@ -115,7 +128,6 @@ def main():
     )
     firms = read_firms(words.firms)
     check_numbers(words.number, 2)
-    words.folder.mkdir(parents=True, exist_ok=True)
     office = Office(words.address, words.key)
     # What only asks comes first: a run and a list can't be taken back.
     save_statements(office, words.folder, itertools.chain(*firms))

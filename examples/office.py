@@ -10,6 +10,7 @@ import http.client
 import json
 import os
 import re
+import signal
 import sys
 import tempfile
 from pathlib import Path
@@ -17,6 +18,8 @@ from typing import NamedTuple
 
 # In seconds. The office serves one connection after another, so others may come first.
 TIMEOUT = 60
+# Of an answer: some three times what 100,000 lines in suspense take.
+MOST_BYTES = 67_108_864
 LAST_NUMBER = 999_999_999_999_999_999
 # The key goes unenciphered, so to this machine alone, or into a tunnel that begins here.
 ADDRESS = re.compile(r"(127\.0\.0\.1|localhost):([0-9]{1,5})")
@@ -64,7 +67,7 @@ class Answer(NamedTuple):
         """The members of a body in JSON, which is any but that of a document."""
         try:
             members = json.loads(self.text)
-        except ValueError:
+        except (RecursionError, ValueError):
             members = None
         if not isinstance(members, dict):
             raise self.no_answer_of_an_office()
@@ -133,6 +136,9 @@ class Office:
         # A connection that is closed is made by the next request.
         self.connection.request(method, path, body.encode() or None, fields)
         answer = self.connection.getresponse()
+        # An answer of the office always has its length.
+        if answer.length is None or answer.length > MOST_BYTES:
+            raise http.client.HTTPException(f"no length of at most {MOST_BYTES} bytes")
         return Answer(answer.status, answer.reason, answer.read().decode(errors="replace"))
 
 
@@ -250,8 +256,17 @@ def flush():
     return 0
 
 
+def take_stops():
+    """Has SIGTERM and SIGHUP break the script off as Ctrl-C does; one that is ignored, as by `nohup`, stays so."""
+    # (Not every system has SIGHUP.)
+    for number in (signal.SIGTERM, getattr(signal, "SIGHUP", signal.SIGTERM)):
+        if signal.getsignal(number) is signal.SIG_DFL:
+            signal.signal(number, signal.default_int_handler)
+
+
 def run(script):
     """Runs a script, which returns its status; tells its fault. Its files are its user's alone."""
+    take_stops()
     os.umask(0o077)
     # A letter that standard output can't have is told as `?`; standard error has an escape for it.
     if sys.stdout is not None:

@@ -343,10 +343,10 @@ SELECT CAST(substr(said, 10) AS INTEGER), day
 FROM (SELECT day, CAST(command AS TEXT) AS said FROM requests WHERE kind = 1) WHERE said LIKE 'employer %';
 
 -- A line that names a firm has it by its file where the firm was registered before, and where it was registered on a
--- later day, by an assignment alone.
+-- later day, or never, by an assignment alone.
 SELECT 'firm', reference, 'kept', bank.employer, 'named', named
-FROM bank JOIN came USING (reference) JOIN registered ON registered.employer = named
-WHERE since < day AND bank.employer IS NOT named OR since > day AND bank.employer = named
+FROM bank JOIN came USING (reference) LEFT JOIN registered ON registered.employer = named
+WHERE since < day AND bank.employer IS NOT named OR since <= day IS NOT TRUE AND bank.employer = named
   AND 'assign ' || reference || ' ' || named NOT IN (SELECT CAST(command AS TEXT) FROM requests WHERE kind = 1);
 
 SELECT 'run', no, 'kept', firms, 'recomputed', count(run)

@@ -80,6 +80,8 @@ def send(office, number, reports, version):
         try:
             answer = office.ask("PUT" if version else "POST", path, number + sent, json.dumps(body))
             accepted = answer.rule == 0
+            if accepted and "charge" not in answer.members:
+                raise answer.no_answer_of_an_office()
         except Fault as fault:
             raise Fault(f"{fault}\n{len(reports) - sent} reports have no answer", fault.status) from fault
         if accepted:

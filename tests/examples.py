@@ -13,6 +13,7 @@ import os
 import re
 import resource
 import shutil
+import signal
 import socket
 import sqlite3
 import stat
@@ -350,12 +351,23 @@ class MonthEnd(Scripts):
         self.assertIn(f"reminders 1 2024-04-30: firms 1\n{made_before(2)}", said)
         self.assertIn("unless the store went back to a backup", said)
 
+    def test_a_run_of_another_book(self):
+        """As of a store that went back to a backup, and then came to other reminders: what stands there is left."""
+        self.script("month_end", "april", 2, "1001")
+        reminders = self.folder / "april/reminders-1-2024-04-30.txt"
+        another = reminders.read_text().replace("1001", "1002")
+        reminders.write_text(another)
+        self.script("month_end", "april", 2, "1001", status=2,
+                    errors="april/reminders-1-2024-04-30.txt stands with another content, and is left as it is: the "
+                           "office has another reminders 1 2024-04-30 now, which number 2 made\n")
+        self.assertEqual(reminders.read_text(), another)
+
     def test_no_firm(self):
         """Nothing is made that can't be taken back."""
         said = self.script("month_end", "april", 2, "1002-1003", status=2,
                            errors="no number is a firm's, so no run and no list is made\n")
         self.assertEqual(said, "statements: 0\nnumbers without a firm: 2 (1002 1003)\n")
-        self.assertEqual(list((self.folder / "april").iterdir()), [])
+        self.assertFalse((self.folder / "april").exists())
         self.write("none.txt", " \n")
         self.refuses_to_start("none.txt: no firm is named\n", "month_end", "april", 2, "none.txt")
 
@@ -550,6 +562,44 @@ class Client(Scripts):
             threading.Thread(target=answer, daemon=True).start()
             with self.assertRaisesRegex(office.Fault, "^no answer of an office: 404 Not Found$"):
                 client.ask("GET", "/suspense").done()
+
+    def test_answers_that_are_too_much(self):
+        """A body of many brackets, one of a length that no office has, one without a length, and another reply."""
+        self.write("wages.csv", JANUARY)
+        refused = "no answer of an office: 200 OK\n"
+        too_long = f"no length of at most {office.MOST_BYTES} bytes\n"
+        for head, body, errors in ((b"Content-Length: 200000", b"[" * 200_000, refused),
+                                   (b"Content-Length: 99999999999999999999999", b"", too_long),
+                                   (b"Connection: close", b"{}", too_long),
+                                   (b"Content-Length: 13", b'{"done":true}', refused)):
+            with socket.create_server(("127.0.0.1", 0)) as listener:
+                port = listener.getsockname()[1]
+                self.address = f"127.0.0.1:{port}"
+                # Where there is no answer, it is asked for once more.
+                where, times = (f"no answer from 127.0.0.1:{port}: ", 2) if errors is too_long else ("", 1)
+
+                def answer():
+                    for _ in range(times):
+                        with listener.accept()[0] as peer, contextlib.suppress(OSError):
+                            read_answer(peer)
+                            peer.sendall(b"HTTP/1.1 200 OK\r\n" + head + b"\r\n\r\n" + body)
+
+                threading.Thread(target=answer, daemon=True).start()
+                told = f"{where}{errors}1 reports have no answer\n{AGAIN}"
+                self.script("reports_from_csv", 1, "wages.csv", key="firm.key", status=3, errors=told)
+
+    def test_stops(self):
+        """Each breaks a script off as Ctrl-C does."""
+        for stop in (signal.SIGINT, signal.SIGTERM, signal.SIGHUP):
+            with socket.create_server(("127.0.0.1", 0)) as listener:
+                self.address = f"127.0.0.1:{listener.getsockname()[1]}"
+                script = subprocess.Popen(self.command("month_end", "april", 2, "1001"), cwd=self.folder,
+                                          stdout=subprocess.PIPE, stderr=subprocess.PIPE)
+                with listener.accept()[0] as peer:
+                    peer.recv(65536)
+                    script.send_signal(stop)
+                    self.assertEqual(script.communicate(timeout=60), (b"", BROKEN_OFF.encode()))
+                self.assertEqual(script.returncode, 130, stop)
 
     def test_command_lines(self):
         self.address = "127.0.0.1:8080"

@@ -378,6 +378,19 @@ class Faults(Launcher):
             self.assertFalse(Path(f"/proc/{stub}").exists())
         held.unlink()
 
+    def test_a_start_that_waits_and_is_broken_off(self):
+        """Nothing of it stays, which would hold its standard error open."""
+        held = self.holds("clear_http")
+        first = self.start()
+        self.wait_for(lambda: (self.state / "process").exists())
+        for number, status in ((signal.SIGHUP, 129), (signal.SIGINT, 130), (signal.SIGTERM, 143)):
+            second = self.start()
+            self.assertIn("waits for it", second.stderr.readline())
+            second.send_signal(number)
+            self.assertEqual(self.ended(second), (status, "", ""))
+        held.unlink()
+        self.assertEqual(self.ended(first)[0], 3)
+
     def test_a_proof_that_fails(self):
         self.write("state/refused", "clear_http")
         lines = self.fails("clearing: proved clear_money, 1 of 4\n", "fn clear_http::f: not proved\nclearing: ")
@@ -502,7 +515,7 @@ class Try(Launcher):
 
     def test_words_that_are_no_files(self):
         """Also where a file has their name."""
-        for it in ("check", "stream", "bank", "sample", "april.csv"):
+        for it in ("check", "stream", "bank", "sample", "2024-04-30", "april.csv"):
             self.write(f"state/{it}", "")
         bank, sample = f"{self.state}/bank", f"{self.state}/sample"
         for words, passed_on in (

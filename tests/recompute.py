@@ -337,12 +337,15 @@ class Recompute(OfficeUnderTest):
         }, "balance")
 
     def test_what_is_told_of_the_firm_of_a_line(self):
-        """Lines that came before their firm was registered, and behind it: what is told where the accounts follow."""
-        early, late = "B1,2024-04-01,1002,100,I,", "B2,2024-04-01,1002,100,I,"
-        self.worked(("2024-04-01", [bank(early)]), ("2024-04-02", [register(1002)]), ("2024-04-03", [bank(late)]))
+        """Lines that came before their firm was registered, and behind it, and of one that never was: what is told where
+        the accounts follow."""
+        early, late, never = "B1,2024-04-01,1002,100,I,", "B2,2024-04-01,1002,100,I,", "B3,2024-04-01,9999,100,I,"
+        self.worked(("2024-04-01", [bank(early)]), ("2024-04-02", [register(1002)]),
+                    ("2024-04-03", [bank(late), bank(never)]))
         self.told_of({
             "UPDATE bank SET employer = 1002 WHERE reference = 'B1'": {("firm", "B1", "kept", 1002, "named", 1002)},
             "UPDATE bank SET employer = NULL WHERE reference = 'B2'": {("firm", "B2", "kept", None, "named", 1002)},
+            "UPDATE bank SET employer = 9999 WHERE reference = 'B3'": {("firm", "B3", "kept", 9999, "named", 9999)},
         }, "firm")
 
     def test_what_is_told_of_reports(self):
