@@ -52,6 +52,20 @@ class Lost(DeskUnderTest):
         self.assertEqual(self.logged()[2], (3, "repeated", "claim 1001 7 1000"))
         self.does({"claim": 2}, self.command("claim", employer="1001", worker="7", amount="10,00"))
 
+    def test_an_answer_that_is_cut_off_inside_its_head(self):
+        """It is an office's as far as anybody knows, so the same bytes are sent again, and a question asked again."""
+        whole = {b"POST": answer_bytes(200, DONE), b"GET ": answer_bytes(200, EMPTY_SUSPENSE, "text/plain")}
+        cut = 0
+        office = FakeOffice(self, lambda request: whole[request[:4]][:cut if len(office.requests) == 1 else None])
+        self.open_desk(office.port)
+        # Behind the status, within the fields and their numbers, and before the end of the head.
+        for cut in (5, 12, 15, 17, 30, 50, 66, 67, 69, 70):
+            office.requests.clear()
+            self.does(DONE, self.register(), "repeated")
+            self.assertEqual(office.requests, 2 * office.requests[:1], cut)
+            office.requests.clear()
+            self.assertEqual(self.get("/api/suspense/0")[0], 200, cut)
+
     def test_answers_that_are_lost_again_and_again(self):
         self.open_desk(self.between((2, 3, 4)))
         self.does(DONE, self.register())
@@ -244,7 +258,7 @@ class Offices(DeskUnderTest):
     def test_what_is_no_office(self):
         for answer in (answer_bytes(404, b"<h1>none</h1>", "text/html"), answer_bytes(200, {"hello": "you"}),
                        answer_bytes(409, {"rule": "9"}), answer_bytes(200, {"claim": 1}),
-                       answer_bytes(200, b"\xff", "text/plain")):
+                       answer_bytes(200, b"\xff", "text/plain"), b"HTTP/1.0 200 OK\r\n\r\n<h1>hello</h1>"):
             office = FakeOffice(self, lambda request, answer=answer: answer)
             self.open_desk(office.port)
             self.assertEqual(self.faults(502, "no-answer", self.get("/api/suspense/0"))["reason"], "foreign")

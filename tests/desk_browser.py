@@ -106,7 +106,7 @@ class InBrowser(DeskUnderTest):
 
     def answers(self, *told, focus="answer"):
         """Waits for the answer of a command, in which all of this stands. Its place, or what was made, has the
-        focus then, so that a screen reader reads it."""
+        focus then, so that a screen reader reads it, or the field in which the clerk has gone on to type."""
         self.browser.wait(lambda: self.browser.is_shown("#answer"), "an answer")
         for text in told:
             self.assertIn(text, self.browser.text("#answer"))

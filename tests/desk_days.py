@@ -14,10 +14,14 @@ import time
 # No __pycache__ is left beside the sources.
 sys.dont_write_bytecode = True
 import desk_hurry  # noqa: E402
-from desk_browser import setUpModule  # noqa: E402, F401
+from browser import what_is_missing  # noqa: E402
+from desk_browser import CLOCK, setUpModule  # noqa: E402, F401
 from desk_mishaps import MadeAnswers  # noqa: E402
 from desk_under_test import BANK_HEADER, FakeOffice, answer_bytes  # noqa: E402
 from program_under_test import run_tests  # noqa: E402
+
+if not what_is_missing():
+    from selenium.webdriver.common.keys import Keys
 
 SUSPENSE = b"suspense 2024-04-30\nlines 0 total 0.00\n"
 STATEMENT = (b"statement 1001 2024-04-30\nname Bau Nord\nmember 2024-01 -\nprepaid           0.00\narrears           0.00\n"
@@ -106,6 +110,64 @@ class OtherDays(desk_hurry.Hurry):
         self.assertEqual([it for it in self.logged() if "1003" in it[2]], [])
 
 
+class Midnight(desk_hurry.Hurry):
+    """A page that told the office's day as today's, and stands open when it isn't any more: the first click says so."""
+
+    def pass_midnight(self):
+        self.browser.run(CLOCK.replace("DAY", "2024-05-01"))
+
+    def is_told_first(self, button):
+        """Nothing is sent by a click, which tells the day. Whoever has read that may go on by another one."""
+        self.browser.click(button)
+        self.answers("The office works on 30 Apr 2024, and that isn't today (01 May 2024).", "Nothing was sent.")
+        self.browser.driver.execute_async_script("setTimeout(arguments[0], 700)")
+        self.browser.click(button)
+
+    def test_the_registration(self):
+        """Its view tells no day, and that of the morning was told as today's."""
+        self.go("new")
+        self.pass_midnight()
+        self.type_in("register", employer="1003", name="Bau Ost", start="2024-04")
+        self.is_told_first("#register-send")
+        self.confirm("1003", "Bau Ost")
+        self.browser.wait_for_text("#answer", "done · Registration: 1003 Bau Ost")
+
+    def test_the_log(self):
+        self.open_firm("1001")
+        self.close_office()
+        self.claim("7", "10.00")
+        self.answers("no answer")
+        self.come_back()
+        self.go("log")
+        self.pass_midnight()
+        self.is_told_first("#pending-send-again")
+        self.browser.wait_for_text("#answer", "The claim has the number 1.")
+
+    def test_a_firm(self):
+        """Its view warns from the first click on, also where the minute hasn't come yet."""
+        self.open_firm("1001")
+        self.pass_midnight()
+        self.assertFalse(self.browser.is_shown("#firm-other-day"))
+        self.type_in("claim", worker="7", amount="10.00")
+        self.is_told_first("#claim-send")
+        self.browser.wait_for_text("#answer", "The claim has the number 1.")
+        self.assertIn("that isn't today (01 May 2024)", self.browser.text("#firm-other-day"))
+
+    def test_a_warning_that_nobody_asked_for(self):
+        """It may have come over night, with nobody there, or just as the machine has woken up."""
+        told = {"source": "globalThis.setInterval = (act) => { globalThis.nextMinute = act; };"}
+        script = self.browser.driver.execute_cdp_cmd("Page.addScriptToEvaluateOnNewDocument", told)
+        self.browser.driver.get("about:blank")
+        self.browser.open(self.address + "?lang=en")
+        self.browser.driver.execute_cdp_cmd("Page.removeScriptToEvaluateOnNewDocument", script)
+        self.pass_midnight()
+        self.browser.run("nextMinute()")
+        self.assertTrue(self.browser.is_shown("#morning-other-day"))
+        self.is_told_first("#reminders-make")
+        self.confirm("A run can't be taken back")
+        self.browser.wait_for_text("#answer", "Run 1. Firms reminded: 1.")
+
+
 class SlowToSay(FakeOffice):
     """An office that takes so many seconds for its day and for a command, each beside the others."""
 
@@ -188,6 +250,124 @@ class SlowDays(MadeAnswers):
 
 class Keyboard(desk_hurry.Hurry):
     """Who has gone on to type elsewhere keeps the keyboard."""
+
+    def claim_late(self, amount):
+        """A claim whose answer is held back, while the next one is begun: 12 of 1250 is typed."""
+        self.open_firm("1001")
+        self.hold("/api/commands/claim")
+        self.claim("7", amount)
+        self.browser.wait(lambda: self.browser.run("return globalThis.isHeld ?? false"), "the answer that is held")
+        self.type_in("claim", worker="8", amount="12")
+
+    def is_whole(self):
+        self.browser.press("50")
+        self.assertEqual((self.value("claim-worker"), self.value("claim-amount")), ("8", "1250"))
+
+    def test_the_next_claim(self):
+        """Its amount isn't cut off by the answer of the one before, nor by the firm that is shown anew."""
+        self.claim_late("10.00")
+        self.browser.run("""globalThis.wasHidden = false;
+            new MutationObserver(() => { wasHidden ||= document.getElementById("firm-shown").hidden; })
+              .observe(document.getElementById("firm-shown"), { attributes: true });""")
+        self.let_go()
+        self.browser.wait_for_text("#firm-claims-table", "€10.00")
+        self.is_whole()
+        self.assertFalse(self.browser.run("return wasHidden"))
+        self.answers("done", "worker 7: €10.00", "The claim has the number 1.", focus="claim-amount")
+
+    def test_a_refusal_is_seen(self):
+        """The forms stand at the end of a long page."""
+        self.claim_late("9,999.00")
+        self.let_go()
+        self.answers("refused", "rule 25, OverBalance", "The balance is €1,425.00.", focus="claim-amount")
+        self.is_whole()
+        seen = self.browser.run("""const it = document.getElementById("answer").getBoundingClientRect();
+            return [scrollY > 0, it.top >= 0, it.bottom <= innerHeight]""")
+        self.assertEqual(seen, [True, True, True])
+
+    def test_the_field_is_seen_too(self):
+        """It stands where the answer comes."""
+        self.claim_late("9,999.00")
+        self.browser.type("#report-month", "2024-0")
+        self.browser.run("scrollBy(0, document.getElementById('report-month').getBoundingClientRect().top - 60)")
+        self.let_go()
+        self.answers("refused", "rule 25, OverBalance", focus="report-month")
+        found = self.browser.run("""const it = document.getElementById("report-month").getBoundingClientRect();
+            return document.elementFromPoint(it.x + 5, it.y + 5)?.id""")
+        self.assertEqual(found, "report-month")
+
+    def test_who_has_not_gone_on(self):
+        """The answer has the focus, also where Enter has sent the form, and a second click was given."""
+        self.open_firm("1001")
+        self.type_in("claim", worker="7", amount="10.00")
+        self.browser.press(Keys.ENTER)
+        self.answers("done", "The claim has the number 1.")
+        self.type_in("withdraw", claim="1")
+        self.browser.press(Keys.ENTER)
+        self.confirm("A withdrawn claim stays withdrawn")
+        self.browser.wait_for_text("#answer", "Withdrawal")
+        self.answers("done", "Withdrawal: 1001, claim 1")
+
+    def test_a_firm_that_cannot_be_shown_anew(self):
+        """What stands there isn't how it is, so it goes."""
+        self.claim_late("10.00")
+        self.close_office()
+        self.let_go()
+        self.browser.wait_for_text("#fault", "The office isn't there")
+        self.assertFalse(self.browser.is_shown("#firm-shown"))
+        self.assertIn("The claim has the number 1.", self.browser.text("#answer"))
+        # What was typed is there again with the firm.
+        self.come_back()
+        self.opens_it_now()
+        self.assertEqual((self.value("claim-worker"), self.value("claim-amount")), ("8", "12"))
+
+    def test_a_firm_that_is_opened_again(self):
+        """What was shown before isn't shown for what it is now."""
+        self.open_firm("1001")
+        self.go("morning")
+        self.hold("/api/firms/1001")
+        self.browser.click("#find-firm-open")
+        self.browser.wait(lambda: self.browser.run("return globalThis.isHeld ?? false"), "the answer that is held")
+        self.assertFalse(self.browser.is_shown("#firm-shown"))
+        self.let_go()
+        self.browser.wait(lambda: self.browser.is_shown("#firm-shown"), "the firm")
+
+    def test_a_run_that_is_made_meanwhile(self):
+        self.browser.click("#reminders-make")
+        self.browser.wait(lambda: self.browser.is_shown("#confirm"), "the second click")
+        self.hold("/api/commands/reminders")
+        self.browser.click("#confirm-yes")
+        self.browser.type("#release-claim", "1")
+        self.let_go()
+        self.browser.wait(lambda: self.browser.is_shown("#reminders-table"), "the run")
+        self.browser.press("2")
+        self.assertEqual(self.value("release-claim"), "12")
+
+    def test_the_next_worker(self):
+        """The number isn't typed over by that of the worker who is shown anew."""
+        self.does({"claim": 1}, self.command("claim", employer="1001", worker="7", amount="10"))
+        self.browser.open(self.address + "?lang=en#/worker/7", "worker/7")
+        self.browser.click("#worker-claims-table .withdraw[data-claim='1']")
+        self.browser.wait(lambda: self.browser.is_shown("#confirm"), "the second click")
+        self.hold("/api/commands/withdraw")
+        self.browser.click("#confirm-yes")
+        self.browser.type("#find-worker-number", "12")
+        self.let_go()
+        self.browser.wait_for_text("#worker-claims", "There is no claim for the worker.")
+        self.browser.press("3")
+        self.assertEqual(self.value("find-worker-number"), "123")
+
+    def test_a_field_that_is_found_wrong_late(self):
+        """A busy office is waited for first."""
+        self.open_firm("1001")
+        self.hold("/api/workers/999999999")
+        self.claim("7", "1,0")
+        self.browser.wait(lambda: self.browser.run("return globalThis.isHeld ?? false"), "the office's day")
+        self.type_in("withdraw", claim="1")
+        self.let_go()
+        self.browser.wait_for_text("#form-claim .field-fault", "An amount is written")
+        self.browser.press("2")
+        self.assertEqual((self.value("withdraw-claim"), self.value("claim-amount")), ("12", "1,0"))
 
     def test_a_page_that_comes_late(self):
         lines = "".join(f"P{it},2024-02-10,,1000,C,\n" for it in range(1, 202))

@@ -130,6 +130,25 @@ class Files(DeskUnderTest):
         self.open_desk(self.office.port)
         return len(json.dumps(line)) + 1
 
+    def test_a_line_that_is_taken_out(self):
+        """The desk names one that isn't its own. Its number stands in the other file, so that it isn't taken again."""
+        listed = [answer_bytes(200, {"items": 1, "list": number, "total": 5}) for number in (1, 2, 3)]
+        self.open_with_fake_office(*listed)
+        words = ["--office", str(self.office.port), "--key-file", "desk.key", "--port", "0"]
+        for number, name in enumerate(("log.jsonl", "numbers.jsonl"), 1):
+            self.assertEqual(self.command("payouts")[1]["entry"]["number"], number)
+            self.kill_desk()
+            path = self.log_folder / name
+            before = path.read_text().splitlines(keepends=True)[:-1]
+            path.write_text("".join(before) + "\0" * 40 + "\n")
+            told = f"{path}: line {len(before) + 1} is none of the desk's\n"
+            self.assertEqual(self.run_desk(*words), (2, "", told))
+            path.write_text("".join(before))
+            self.open_desk(self.office.port)
+        self.assertEqual(self.command("payouts")[1]["entry"]["number"], 3)
+        # The list whose line the log lost is made, and isn't known here.
+        self.assertEqual([it[0] for it in self.logged()], [2, 3])
+
     def test_a_folder_that_takes_nothing_any_more(self):
         """Neither can the answer be written nor the request's file be removed."""
         journal = Journal(self.log_folder, 1, 2)

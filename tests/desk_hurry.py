@@ -355,7 +355,7 @@ class Late(Hurry):
         self.open_firm("1001")
         self.type_in("claim", worker="7", amount="12.50")
         self.let_go()
-        self.answers("done", "Registration: 1003 Bau Ost")
+        self.answers("done", "Registration: 1003 Bau Ost", focus="claim-amount")
         self.assertEqual(self.browser.text("#firm-title"), "1001 · Bau Nord")
         self.assertEqual((self.value("claim-worker"), self.value("claim-amount")), ("7", "12.50"))
 
@@ -363,7 +363,7 @@ class Late(Hurry):
         self.register_late()
         self.type_in("register", employer="1004", name="Bau West", start="2024-04")
         self.let_go()
-        self.answers("done", "Registration: 1003 Bau Ost")
+        self.answers("done", "Registration: 1003 Bau Ost", focus="register-start")
         self.assertTrue(self.browser.is_shown("#form-register"))
         self.assertEqual(self.value("register-name"), "Bau West")
 

@@ -66,7 +66,8 @@ class MadeAnswers(InBrowser):
     def open_page(self, answer):
         """Another desk, in front of what answers so."""
         self.kill_desk()
-        self.open_desk(FakeOffice(self, answer).port, "--log", "made-log")
+        self.office = FakeOffice(self, answer)
+        self.open_desk(self.office.port, "--log", "made-log")
         self.address = f"http://127.0.0.1:{self.port}/"
         self.browser.requested()
         self.browser.open(self.address + "?lang=en")
@@ -266,6 +267,24 @@ class Files(Mishaps):
         drop = "const drop = new Event('drop', { bubbles: true, cancelable: true });"
         self.assertTrue(self.browser.run(f"{drop} document.body.dispatchEvent(drop); return drop.defaultPrevented"))
 
+    def test_a_bank_file_in_whose_place_another_one_is_put(self):
+        """It has the time of the one that was checked, as `cp -p` leaves it, so that the browser takes it for that."""
+        path = self.choose("bank-file", "bank.csv", BANK_HEADER + "B1,2024-02-25,1001,150000,C,\n")
+        self.browser.wait_for_text("#bank-check", "the file can be read")
+        before = path.stat()
+        path.write_text(BANK_HEADER + "B1,2024-02-25,1001,990000,C,\n")
+        os.utime(path, ns=(before.st_atime_ns, before.st_mtime_ns))
+        self.browser.click("#bank-import")
+        self.confirm("can't be taken out", "1500.00 in all")
+        self.answers("The file has changed since it was chosen", "Nothing was sent", "choose it again")
+        self.assertFalse(self.browser.is_shown("#bank-name"))
+        self.assertNotIn("bank", [it["kind"] for it in self.lines("log.jsonl")])
+        self.browser.one("#bank-file").send_keys(str(path))
+        self.browser.wait_for_text("#bank-check", "9900.00 in all")
+        self.browser.click("#bank-import")
+        self.confirm("can't be taken out", "9900.00 in all")
+        self.browser.wait_for_text("#answer", "New: 1, repeats: 0.")
+
     def test_a_bank_file_that_changes_after_its_check(self):
         path = self.choose("bank-file", "bank.csv", BANK_HEADER + "B1,2024-02-25,1001,150000,C,\n")
         self.browser.wait_for_text("#bank-check", "the file can be read")
@@ -381,6 +400,118 @@ class Stopped(MadeAnswers):
         self.assertTrue(self.browser.is_shown("#stopped"))
 
 
+    def test_an_office_that_is_off_by_then(self):
+        """That is told beside what stops the forms: *Ask the office again* alone doesn't help."""
+        self.heals = False
+        self.open_page(self.answer)
+        self.browser.wait(lambda: self.browser.is_shown("#stopped"), "what stops the forms")
+        self.assertFalse(self.browser.is_shown("#fault"))
+        self.office.end()
+        self.browser.click("#stopped-again")
+        self.browser.wait_for_text("#fault", "The office isn't there: nobody answers on 127.0.0.1")
+        self.assertTrue(self.browser.is_shown("#stopped"))
+        self.heals = True
+        FakeOffice(self, self.answer, self.office.port)
+        self.browser.click("#stopped-again")
+        self.browser.wait(lambda: not self.browser.is_shown("#stopped"), "the office")
+        self.browser.wait(lambda: not self.browser.is_shown("#fault"), "the office")
+
+
+class OwnWords(MadeAnswers):
+    """Refusals by which a clerk goes on in another way at the page than by commands."""
+
+    def refuses_all(self, status, rule, name):
+        self.open_page(lambda request: answer_bytes(status, {"rule": rule, "name": name, "detail": ""}))
+
+    def register_firm_for_an_answer(self):
+        self.go("new")
+        self.type_in("register", employer="1003", name="Bau Ost", start="2024-04")
+        self.browser.click("#register-send")
+        self.confirm("Bau Ost")
+
+    def test_want_of_memory(self):
+        """A question has no number to be sent again under, and of a command nothing is decided yet."""
+        self.refuses_all(503, 40, "Memory")
+        self.browser.wait(lambda: self.browser.is_shown("#fault"), "a fault")
+        self.assertIn("Not answered by the office: rule 40, Memory", self.browser.text("#fault"))
+        self.assertIn("close other programs, then ask again", self.browser.text("#fault"))
+        self.assertNotIn("number", self.browser.text("#fault"))
+        self.register_firm_for_an_answer()
+        self.answers("not decided", "Not decided by the office: rule 40, Memory", "send it again from above")
+        self.assertNotIn("efused", self.browser.text("main"))
+        self.assertTrue(self.browser.is_shown("#pending"))
+
+    def test_a_number_that_was_taken(self):
+        """The desk chooses it, and not the clerk."""
+        self.refuses_all(409, 9, "NumberReused")
+        self.register_firm_for_an_answer()
+        self.answers("refused", "rule 9, NumberReused", "Then do this again: the desk takes the next number by itself")
+        self.assertNotIn("take the next number", self.browser.text("#answer"))
+        first = self.lines("../made-log/numbers.jsonl")[-1]["number"]
+        self.browser.click("#register-send")
+        self.confirm("Bau Ost")
+        self.browser.wait_for_text("#answer", f"Request number {first + 1}")
+
+
+class Over(Mishaps):
+    """A fault that is over isn't told any more."""
+
+    def is_over(self, shown):
+        self.browser.wait(lambda: self.browser.is_shown(shown), shown)
+        self.browser.wait(lambda: not self.browser.is_shown("#fault"), "no fault")
+
+    def test_a_worker_who_is_asked_for_again(self):
+        self.browser.open(self.address + "?lang=en#/worker/7", "worker/7")
+        self.close_office()
+        self.browser.click("#find-worker-show")
+        self.browser.wait_for_text("#fault", "The office isn't there")
+        self.come_back()
+        self.browser.click("#find-worker-show")
+        self.is_over("#worker-balance")
+
+    def test_a_view_is_asked_again_by_its_link(self):
+        """The browser goes nowhere by it."""
+        self.go("log")
+        self.close_office()
+        self.go("morning")
+        self.browser.wait_for_text("#fault", "The office isn't there")
+        self.come_back()
+        self.browser.click("#nav-morning")
+        self.is_over("#suspense")
+        self.assertEqual(self.browser.text("#morning-day"), "The office works on 30 Apr 2024.")
+
+    def test_what_is_done_in_the_view(self):
+        """The view is shown behind it."""
+        self.go("log")
+        self.close_office()
+        self.go("morning")
+        self.browser.wait_for_text("#fault", "The office isn't there")
+        self.come_back()
+        self.import_bank_file(BANK_HEADER + "B1,2024-02-25,1001,150000,C,\n",
+                              "1 line, 0 repeats within the file, 0 without a firm, 1500.00 in all", "New: 1")
+        self.is_over("#suspense")
+
+    def test_one_refusal_at_a_time(self):
+        """That of a list from before isn't taken for one of the claim."""
+        self.browser.type("#find-payouts-number", "99")
+        self.browser.click("#find-payouts-show")
+        self.browser.wait_for_text("#fault", "rule 33, UnknownDocument")
+        self.type_in("release", claim="1")
+        self.browser.click("#release-send")
+        self.confirm("A release is for good")
+        self.answers("refused", "rule 26, UnknownClaim")
+        self.is_over("#suspense")
+
+    def test_a_firm_that_is_shown_anew(self):
+        self.open_firm("1001")
+        self.close_office()
+        self.browser.click("#find-firm-open")
+        self.browser.wait_for_text("#fault", "The office isn't there")
+        self.come_back()
+        self.opens_it_now()
+        self.is_over("#firm-shown")
+
+
 class Late(Mishaps):
     """Answers that come when the page shows other lines, or another firm, than those they are about."""
 
@@ -446,7 +577,7 @@ class Late(Mishaps):
         self.browser.click("#report-send")
         self.browser.type("#report-csv", "worker,gross\n7,900000")
         self.let_go()
-        self.answers("refused", "rule 15, ReportExists")
+        self.answers("refused", "rule 15, ReportExists", focus="report-csv")
         self.assertFalse(self.can_send())
 
     def test_lines_that_are_typed_while_others_are_sent(self):
@@ -455,7 +586,7 @@ class Late(Mishaps):
         self.browser.click("#report-send")
         self.type_report("2024-03", "7,900000")
         self.let_go()
-        self.answers("done", "Report: 1001, Feb 2024", "Contribution €200.00")
+        self.answers("done", "Report: 1001, Feb 2024", "Contribution €200.00", focus="report-csv")
         lines = self.browser.one("#report-csv").get_attribute("value")
         self.assertEqual((lines, self.can_send()), ("worker,gross\n7,900000", False))
 

@@ -6,6 +6,7 @@ readers.
 The program isn't asked here.
 """
 
+import csv
 import datetime
 import json
 import re
@@ -227,6 +228,16 @@ class Readers(unittest.TestCase):
         for text in ('"worker","gross"\n"7","100"\n', '"worker";"gross"\r\n"7";"100"\r\n'):
             report = reports.read_report(text)
             self.assertEqual((report.wages, report.faults), ({7: 100}, []))
+
+    def test_a_report_that_cannot_be_read(self):
+        """Each fault has its own words."""
+        for lines, line, reason in (('"7,100\n8,200\n', 3, "csv"), ('"7" ,100\n', 2, "quote"),
+                                    ("7,100\r8,200\n", 2, "return"), (f"7,{'1' * 140_000}\n", 2, "long")):
+            faults = reports.read_report("worker,gross\n" + lines).faults
+            self.assertEqual(faults, [{"line": line, "reason": reason, "word": ""}])
+        self.assertEqual(reports.csv_reason(csv.Error("something new")), "unread")
+        reasons = [f"csv.{it}" for it in ("unread", *reports.CSV_REASONS.values())]
+        self.assertEqual(len({WORDS["en"][it] for it in reasons}), 5)
 
     def test_rates_and_months(self):
         for language, text, hundredths in (

@@ -4,6 +4,7 @@
 import { askSettled, sendForm } from "./api.js";
 import { byId, make, pairs } from "./elements.js";
 import { day, euros, firmName, month, percent } from "./formats.js";
+import { endTyping, isTyping } from "./typing.js";
 import { hasWords, say } from "./words.js";
 
 const MARKS = { done: "✓", repeated: "✓", refused: "✕", "given-up": "–" };
@@ -84,26 +85,34 @@ export function replyText(entry) {
 /** Whether a rule says that the office's records have failed. */
 const isFailure = (rule) => rule === 41 || rule === 42;
 
-/** What the clerk does about a refusal. Where the manual says to look further, that is what stands here. */
-function actText(rule, detail) {
+/** What the clerk does about a refusal of a `command` or a `question`. Where the manual says to look further, that is
+ * what stands here, and where this page goes on in another way than it says, its own words. */
+function actText({ rule, detail }, asked) {
   if (rule === 18 && hasWords(`limit.${detail}.do`)) {
     return say(`limit.${detail}.do`);
   }
-  return isFailure(rule) ? say("stopped.text") : say(`refusal.${rule}.do`);
+  const own = `refusal.${rule}.${asked}`;
+  return isFailure(rule) ? say("stopped.text") : say(hasWords(own) ? own : `refusal.${rule}.do`);
 }
 
-/** Number and name of a refusal. Where the records failed, a command may have been done all the same. */
-const ruleText = (refusal) => say(isFailure(refusal.rule) ? "answer.failure" : "answer.rule", refusal);
+/** Number and name of a refusal. Where the records failed, a command may have been done all the same, and for want of
+ * memory (rule 40) the office hasn't judged it. */
+function ruleText(refusal, asked) {
+  if (refusal.rule === 40) {
+    return say(asked === "question" ? "answer.unanswered" : "answer.undecided", refusal);
+  }
+  return say(isFailure(refusal.rule) ? "answer.failure" : "answer.rule", refusal);
+}
 
 /** The lines that tell a refusal: number and name, what it means, what it carries, what to do. */
-function refusalLines(refusal) {
+function refusalLines(refusal, asked) {
   const { rule, detail } = refusal;
   const carried = detailText(rule, detail);
   return [
-    make("h2", {}, ruleText(refusal)),
+    make("h2", {}, ruleText(refusal, asked)),
     make("p", { class: "means" }, say(`refusal.${rule}.means`)),
     carried ? make("p", { class: "detail strong" }, carried) : null,
-    make("p", { class: "do" }, make("strong", {}, say("answer.do")), " ", actText(rule, detail)),
+    make("p", { class: "do" }, make("strong", {}, say("answer.do")), " ", actText(refusal, asked)),
   ];
 }
 
@@ -112,15 +121,18 @@ function faultText(told) {
   return say(`fault.${code}`, told.carried ?? {});
 }
 
-/** What is told where nothing was done: the office's refusal, or the desk's own fault. */
+/** What is told where nothing was done: the office's refusal of a question, or the desk's own fault. */
 export function toldLines(told) {
-  const lines = told.refusal ? refusalLines(told.refusal) : [make("p", { class: "strong" }, faultText(told))];
+  const lines = told.refusal
+    ? refusalLines(told.refusal, "question")
+    : [make("p", { class: "strong" }, faultText(told))];
   return lines.filter(Boolean);
 }
 
-/** Tells why a view can't be shown, if it is still the one that is open. What stops the forms is told on top. */
+/** Tells why a view can't be shown, if it is still the one that is open. What stops the forms is told on top, and that
+ * the office isn't there any more is told beside it. */
 export function tellFault(told, view) {
-  if (told.state?.failure || byId(`view-${view}`).hidden) {
+  if (isFailure(told.refusal?.rule) || byId(`view-${view}`).hidden) {
     return;
   }
   byId("fault").replaceChildren(...toldLines(told));
@@ -136,20 +148,34 @@ export function clearFault() {
   byId("fault").hidden = true;
 }
 
+/** Takes away what was told of a view that has its answer by now, if it is still the one that is open. */
+export function clearFaultOf(view) {
+  if (!byId(`view-${view}`).hidden) {
+    clearFault();
+  }
+}
+
 export function clearAnswer() {
   byId("answer").hidden = true;
 }
 
 function showAnswer(kind, lines) {
   const answer = byId("answer");
-  answer.className = `banner ${kind}`;
+  const isAside = isTyping();
+  answer.className = `banner ${kind}${isAside ? " aside" : ""}`;
   answer.replaceChildren(...lines.filter(Boolean));
   answer.hidden = false;
-  answer.focus();
-  answer.scrollIntoView({ block: "nearest" });
+  if (isAside) {
+    // The answer lies above what is there, and not above the field.
+    document.activeElement.scrollIntoView({ block: "nearest" });
+  } else {
+    answer.focus();
+    answer.scrollIntoView({ block: "nearest" });
+  }
 }
 
-/** Tells what became of a command, and takes the focus there. Whether it was done. */
+/** Tells what became of a command, and takes the focus there, unless the clerk is typing the next one: it is read out
+ * and seen in any case. Whether it was done. */
 export function tellAnswer(told, further = []) {
   if (!told.entry) {
     showAnswer("bad", toldLines(told));
@@ -158,7 +184,7 @@ export function tellAnswer(told, further = []) {
   const { entry } = told;
   const text = replyText(entry);
   const said = entry.reply.rule
-    ? refusalLines(entry.reply)
+    ? refusalLines(entry.reply, "command")
     : [text ? make("p", { class: "reply strong" }, text) : null];
   const lines = [
     make("p", { class: "what" }, make("strong", {}, outcomeText(entry)), ` · ${subject(entry)}`),
@@ -220,7 +246,10 @@ function askForIt(kind, facts) {
     };
     byId("confirm-no").onclick = () => dialog.close();
     // Also by Escape, or by going to another view.
-    dialog.onclose = () => resolve(isGiven);
+    dialog.onclose = () => {
+      endTyping();
+      resolve(isGiven);
+    };
     dialog.showModal();
     byId("confirm-no").focus();
     // In a low window the focus has gone past what is to be read first.

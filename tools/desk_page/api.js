@@ -150,18 +150,12 @@ export function fieldsOf(form) {
   return fields;
 }
 
-/** Sends a file as it is. A browser doesn't read one that has changed since it was chosen. */
-export async function sendFile(path, form, file) {
+/** Sends the bytes of a file of this name; the fault of one that couldn't be read where there are none. */
+export async function sendFile(path, form, name, bytes) {
   const headers = {
     "Content-Type": "application/octet-stream",
     "Desk-Confirmed": "yes",
-    "Desk-File": encodeURIComponent(file.name),
+    "Desk-File": encodeURIComponent(name),
   };
-  let body;
-  try {
-    body = await file.arrayBuffer();
-  } catch {
-    return { fault: "file-unread", carried: {} };
-  }
-  return post(path, form, body, headers);
+  return bytes === null ? { fault: "file-unread", carried: {} } : post(path, form, bytes, headers);
 }

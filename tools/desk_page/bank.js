@@ -12,6 +12,8 @@ const CHECK_MARKS = { good: "✓", faulty: "✕" };
 let chosen = null;
 // What was told of the file that is chosen; null as long as it is checked.
 let checked = null;
+// Of which bytes that was told.
+let checkedBytes = null;
 
 function showCheck(told) {
   const result = byId("bank-check");
@@ -46,6 +48,17 @@ export function showBank() {
   }
 }
 
+/** The bytes of a file; null where the browser can't read it. */
+const bytesOf = (file) => file.arrayBuffer().then((it) => new Uint8Array(it), () => null);
+
+/** These bytes, if the file has them still; else null. The browser itself sees a change by the time of the file alone,
+ * which that of another copy may be. */
+async function unchanged(file, bytes) {
+  const now = await bytesOf(file);
+  const isSame = now?.length === bytes.length && now.every((it, place) => it === bytes[place]);
+  return isSame ? bytes : null;
+}
+
 async function choose(file) {
   chosen = file;
   checked = file.size > MOST_BYTES ? { fault: "file-too-large", carried: {} } : null;
@@ -56,9 +69,11 @@ async function choose(file) {
   if (checked) {
     return;
   }
-  const told = await sendFile("/api/check/bank", "check-bank", file);
+  const bytes = await bytesOf(file);
+  const told = await sendFile("/api/check/bank", "check-bank", file.name, bytes);
   if (chosen === file) {
     checked = told;
+    checkedBytes = bytes;
     showBank();
     byId("bank-import").disabled = !told.check || told.check.state === "faulty";
   }
@@ -67,6 +82,7 @@ async function choose(file) {
 /** Empties the form, where its file is imported. */
 export function clearBank() {
   chosen = null;
+  checkedBytes = null;
   byId("form-bank").reset();
   byId("bank-hint").hidden = false;
   byId("bank-name").hidden = true;
@@ -76,6 +92,7 @@ export function clearBank() {
 
 async function importFile(done) {
   const file = chosen;
+  const bytes = checkedBytes;
   clearAnswer();
   const check = byId("bank-check-text")?.textContent.trim() ?? say("dash");
   const facts = [["label.file", file.name], ["label.check", check]];
@@ -83,7 +100,8 @@ async function importFile(done) {
     return;
   }
   byId("bank-import").disabled = true;
-  const told = await sendFile("/api/commands/bank", "bank", file);
+  // What was checked is sent, and nothing where it isn't what the file has.
+  const told = await sendFile("/api/commands/bank", "bank", file.name, await unchanged(file, bytes));
   const after = told.entry ? await get("/api/suspense/0") : {};
   const further = after.suspense
     ? [say("bank.after", { count: after.suspense.count, total: euros(after.suspense.total) })]

@@ -10,11 +10,18 @@ const MINUTE = 60_000;
 const READING = 500;
 // The day that each view was told last; null where the office didn't tell it.
 const days = new Map();
-// The day of which the clerk was told last, by whichever view.
+// The day of which the clerk was told last, by whichever view, and the day that was today then: whoever was told of it
+// as today's doesn't know after midnight that it isn't any more.
 let lastTold = null;
+let toldOn = null;
 // When such a day was told in the place of sending something.
 let toldAt = -Infinity;
 let showAnew = () => {};
+
+function keepTold(officeDay) {
+  lastTold = officeDay;
+  toldOn = today();
+}
 
 function warn(view) {
   const warning = byId(`${view}-other-day`);
@@ -27,7 +34,9 @@ function warn(view) {
 export function tellDay(view, officeDay, word) {
   days.set(view, officeDay);
   // Of a view that was left meanwhile nobody reads it.
-  lastTold = (byId(`view-${view}`).hidden ? null : officeDay) ?? lastTold;
+  if (officeDay !== null && !byId(`view-${view}`).hidden) {
+    keepTold(officeDay);
+  }
   byId(`${view}-day`).textContent = officeDay === null ? "" : say(word, { day: day(officeDay) });
   warn(view);
 }
@@ -37,16 +46,16 @@ export function onOtherDay(listener) {
   showAnew = listener;
 }
 
-/** The fault of an office that works on another day than today, if the clerk wasn't told of that day before this was
- * asked for, at a time of the page's: who is told now may go on. Null where there is none. */
+/** The fault of an office that works on another day than today, if the clerk wasn't told of that day today and before
+ * this was asked for, at a time of the page's: who is told now may go on. Null where there is none. */
 export function unexpected(officeDay, askedAt) {
-  const isTold = officeDay === lastTold;
+  const isTold = officeDay === lastTold && toldOn === today();
   if (officeDay === today() || (isTold && askedAt - toldAt > READING)) {
     // Another day, that was told before this one, is told anew.
     lastTold = isTold ? officeDay : null;
     return null;
   }
-  lastTold = officeDay;
+  keepTold(officeDay);
   toldAt = performance.now();
   if (!isTold) {
     showAnew();
@@ -54,7 +63,8 @@ export function unexpected(officeDay, askedAt) {
   return { fault: "other-day", carried: { day: day(officeDay), today: day(today()) } };
 }
 
-/** The page may stand open over night. */
+/** The page may stand open over night. What is warned of then is told once more before something is sent: nobody may
+ * have been there to read it. */
 export function beginDays() {
   setInterval(() => [...days.keys()].forEach(warn), MINUTE);
 }

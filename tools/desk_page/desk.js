@@ -10,6 +10,7 @@ import { beginFinder, beginForm, clearFields, wasSentAs } from "./forms.js";
 import { askLog, showLog } from "./log.js";
 import { askMorning, beginMorning, isMaker, keepMade, openMorning } from "./morning.js";
 import { clearReport, showChecked, showSend } from "./report.js";
+import { beginTyping } from "./typing.js";
 import { askWorker, beginWorker, showWorker } from "./worker.js";
 import { beginWords, say, sayWords } from "./words.js";
 
@@ -55,6 +56,7 @@ function askView() {
 /** Shows the view that the address names. */
 async function show({ view, number, asked } = askView()) {
   const turn = ++turns;
+  const isOpen = !byId(`view-${view}`).hidden;
   clearFault();
   for (const it of Object.keys(VIEWS)) {
     byId(`view-${it}`).hidden = it !== view;
@@ -66,7 +68,7 @@ async function show({ view, number, asked } = askView()) {
   }
   byId("loading").hidden = false;
   if (await hasSession(view)) {
-    await VIEWS[view].open(number, asked);
+    await VIEWS[view].open(number, asked, isOpen);
   }
   if (turn !== turns) {
     return;
@@ -198,6 +200,13 @@ function beginLinks() {
       save(link);
     }
   });
+  byId("nav").addEventListener("click", (event) => {
+    // The browser goes nowhere where the view is open already: it is asked for anew.
+    if (event.target.closest("a")?.hash === location.hash) {
+      clearAnswer();
+      show();
+    }
+  });
   byId("skip").addEventListener("click", (event) => {
     event.preventDefault();
     byId("main").focus();
@@ -208,6 +217,7 @@ function begin() {
   onState(takeState);
   takeState(state);
   onOtherDay(() => show());
+  beginTyping();
   beginForms();
   beginLinks();
   addEventListener("hashchange", () => {

@@ -1,6 +1,6 @@
 // A firm: what it owes, its statement month by month with bars, the office's text beside it, and its forms.
 
-import { tellFault } from "./answers.js";
+import { clearFaultOf, tellFault } from "./answers.js";
 import { get, lastOnly, theSession } from "./api.js";
 import { tellDay } from "./days.js";
 import { button, byId, make, makeSvg, pairs, row, table } from "./elements.js";
@@ -183,12 +183,15 @@ function showStatement(told) {
 /** Asks for the firm of this number. */
 export const askFirm = (number) => (number ? get(`/api/firms/${number}`) : null);
 
-/** Shows the firm of this number; without one, those that were opened last. */
-export async function showFirm(number, asked = askFirm(number)) {
+/** Shows the firm of this number; without one, those that were opened last. One that is asked for anew where it is open
+ * stays there meanwhile, with what is being typed in its forms. */
+export async function showFirm(number, asked = askFirm(number), isOpen = true) {
   const answer = last(asked);
+  if (!isOpen || number !== shown) {
+    byId("firm-shown").hidden = true;
+  }
   shown = number;
   byId("firm-choose").hidden = Boolean(number);
-  byId("firm-shown").hidden = true;
   byId("firm-title").textContent = number ? `${say("firm.title")} ${number}` : say("firm.title");
   if (!number) {
     return;
@@ -198,9 +201,11 @@ export async function showFirm(number, asked = askFirm(number)) {
     return;
   }
   if (told.text === undefined) {
+    byId("firm-shown").hidden = true;
     tellFault(told, "firm");
     return;
   }
+  clearFaultOf("firm");
   theSession().recent = told.recent;
   showStatement(told);
   showClaims(told.claims);

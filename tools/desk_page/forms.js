@@ -4,6 +4,7 @@ import { clearAnswer, confirmed, noteAnswer, outcomeText, subject, tellAnswer, t
 import { fieldsOf, get, sendForm } from "./api.js";
 import { button, byId, make } from "./elements.js";
 import { firmName, time } from "./formats.js";
+import { isTyping } from "./typing.js";
 import { currentLanguage, say } from "./words.js";
 
 // The most digits of a number that is asked for; nine of any other.
@@ -25,7 +26,8 @@ export function clearFields(form) {
   }
 }
 
-/** Tells what is wrong beside the field that is wrong, and goes there. Whether there is such a field. */
+/** Tells what is wrong beside the field that is wrong, and goes there, unless the clerk is typing elsewhere by now.
+ * Whether there is such a field. */
 export function tellField(form, told) {
   const field = told.fault === "field" ? form.elements.namedItem(told.carried.field) : null;
   if (!field || field.type === "hidden") {
@@ -36,7 +38,9 @@ export function tellField(form, told) {
   field.setAttribute("aria-errormessage", id);
   const text = `✕ ${say(`field.${told.carried.reason}`)}`;
   field.parentElement.append(make("span", { id, class: "field-fault", role: "alert" }, text));
-  field.focus();
+  if (!isTyping()) {
+    field.focus();
+  }
   return true;
 }
 

@@ -1,13 +1,14 @@
 // The morning's work: lines in suspense, the bank's file, reminder runs and payout lists. The view asks the
 // office one question.
 
-import { clearFault, isDone, noteAnswer, tellAnswer, tellFault, whatStops } from "./answers.js";
+import { clearFault, clearFaultOf, isDone, noteAnswer, tellAnswer, tellFault, whatStops } from "./answers.js";
 import { get, lastOnly } from "./api.js";
 import { beginBank } from "./bank.js";
 import { beginDays, tellDay } from "./days.js";
 import { button, byId, goAlong, make, pairs, row, table } from "./elements.js";
 import { beginFinder, beginForm, clearFields } from "./forms.js";
 import { day, euros, isUnseen, month } from "./formats.js";
+import { isTyping } from "./typing.js";
 import { say } from "./words.js";
 
 const PAGE = 200;
@@ -170,7 +171,9 @@ async function showDocument(kind, number) {
         byId(`find-${kind}-number`).focus();
       }, { id: "document-close" })));
   place.hidden = false;
-  place.focus();
+  if (!isTyping()) {
+    place.focus();
+  }
   return (told.payout ?? told.reminders)?.day ?? null;
 }
 
@@ -197,6 +200,7 @@ async function showMorning(asked = ask(first)) {
     tellFault(told, "morning");
     return;
   }
+  clearFaultOf("morning");
   if (isBehind(told)) {
     await turnTo(Math.max(0, told.suspense.first - PAGE));
     return;

@@ -1,12 +1,13 @@
 // A worker: what was earned with each firm, the claims, the balance; open claims are released or withdrawn
 // from here.
 
-import { tellFault } from "./answers.js";
+import { clearFaultOf, tellFault } from "./answers.js";
 import { get, lastOnly } from "./api.js";
 import { tellDay } from "./days.js";
 import { byId, make, pairs, row, table } from "./elements.js";
 import { beginFinder, claimActions } from "./forms.js";
 import { euros, month } from "./formats.js";
+import { isTyping } from "./typing.js";
 import { say } from "./words.js";
 
 // What stands empty where the desk doesn't understand the document.
@@ -53,7 +54,9 @@ export async function showWorker(number, asked = askWorker(number)) {
   if (!number) {
     return;
   }
-  byId("find-worker-number").value = number;
+  if (!isTyping()) {
+    byId("find-worker-number").value = number;
+  }
   const told = await answer;
   if (!told) {
     return;
@@ -62,6 +65,7 @@ export async function showWorker(number, asked = askWorker(number)) {
     tellFault(told, "worker");
     return;
   }
+  clearFaultOf("worker");
   const { worker } = told;
   byId("worker-text").textContent = told.text;
   byId("worker-download").href = `/documents/worker-${number}.txt`;

@@ -142,7 +142,10 @@ class Office:
 def read_body(response: http.client.HTTPResponse) -> bytes:
     """The whole body, whose length an office tells."""
     length = response.length
-    if length is None or length > MOST_ANSWER:
+    if length is None:
+        # A head that was cut off is read as one with the fields that came, and nothing stands behind them.
+        raise NoAnswer("foreign" if response.read(1) else "broken")
+    if length > MOST_ANSWER:
         raise NoAnswer("foreign")
     content = response.read()
     if len(content) != length:

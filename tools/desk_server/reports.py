@@ -13,6 +13,8 @@ MOST_GROSS = 10_000_000
 # So many of the faults are told.
 MOST_TOLD = 20
 DIGITS = re.compile(r"[0-9]{1,18}")
+# What stands in the messages of the csv module, by which alone it tells its faults apart, and their reasons.
+CSV_REASONS = {"unexpected end": "csv", "expected after": "quote", "new-line": "return", "field limit": "long"}
 
 
 @dataclass
@@ -48,6 +50,10 @@ class Report:
         return None
 
 
+def csv_reason(why: csv.Error) -> str:
+    return next((reason for words, reason in CSV_REASONS.items() if words in str(why)), "unread")
+
+
 def read_report(text: str) -> Report:
     """A spreadsheet may put a byte order mark in front, and semicolons in the place of the commas."""
     report = Report()
@@ -64,6 +70,6 @@ def read_report(text: str) -> Report:
             wrong = report.add(fields)
             if wrong and len(report.faults) < MOST_TOLD:
                 report.faults.append({"line": rows.line_num, "reason": wrong[0], "word": wrong[1]})
-    except csv.Error:
-        report.faults.append({"line": rows.line_num, "reason": "csv", "word": ""})
+    except csv.Error as why:
+        report.faults.append({"line": rows.line_num, "reason": csv_reason(why), "word": ""})
     return report
