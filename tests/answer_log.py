@@ -152,14 +152,16 @@ class AnswerLog(Scripts):
     def test_a_log_in_which_pages_stand_for_answers(self):
         """As an earlier build wrote it: what stands behind them was never sent."""
         self.open_office()
-        requests = [REGISTRATION_LINE, "GET /employers/1001/owed -\n", "GET /suspense -\n"]
-        pages = ("400 Bad Request", "<html>"), ("200 OK", "{}"), ("200 OK", "suspense 2024-04-30\nlines 0\n")
+        requests = [REGISTRATION_LINE, "GET /employers/1001/owed -\n", "GET /rates -\n", "GET /suspense -\n"]
+        pages = (("400 Bad Request", "<html>"), ("200 OK", "{}"), ("200 OK", 10_000 * "["),
+                 ("200 OK", "suspense 2024-04-30\nlines 0\n"))
         self.write("batch", "".join(requests))
         self.write("log", "".join(
             f'{json.dumps({"time": "", "request": request.strip(), "status": status, "answer": page})}\n'
             for request, (status, page) in zip(requests, pages)))
-        self.assertEqual(self.script("answer_log", "batch", "log"), "sent: 2, skipped: 1, refused: 0\n")
-        self.assertEqual([it["answer"][:15] for it in self.entries()[3:]], ['{"done":true}', '{"arrears":0,"c'])
+        self.assertEqual(self.script("answer_log", "batch", "log", status=1), "GET /rates -: rule 5 BadMethod\n"
+                         "sent: 3, skipped: 1, refused: 1\n")
+        self.assertEqual([it["answer"][:13] for it in self.entries()[4:]], ['{"done":true}', '{"arrears":0,', '{"detail":"",'])
 
     def test_two_batches_at_once(self):
         self.open_office()
@@ -195,7 +197,7 @@ class AnswerLog(Scripts):
             self.refuses_to_start("batch: line 3 is no request\n", "answer_log", "batch", "log")
         self.write("batch", "GET /suspense -\n")
         entry = '{"request": "GET /suspense -", "status": "200 OK"}\n'
-        answers = [entry.replace("}", f', "answer": {it}}}') for it in ("5", "null", "{}", "[]", f'"{10_000 * "["}"')]
+        answers = [entry.replace("}", f', "answer": {it}}}') for it in ("5", "null", "{}", "[]")]
         for text in ("a line of something else\n", "a line without an end", "[1]\n", entry + "GET /suspense -",
                      '{"request": "GET /suspense -"}\n', 10_000 * "[" + "\n", *answers):
             path = self.write("log", text)
