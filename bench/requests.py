@@ -34,7 +34,7 @@ sys.dont_write_bytecode = True
 from programs import Program, least  # noqa: E402
 from server import MEMORY  # noqa: E402
 
-PROGRAM = Program("requests", "clear_office clear_schema clear_book clear_money sqlite sqlite_std_file")
+PROGRAM = Program("requests", "clear_office clear_database clear_book clear_money sqlite sqlite_std_file")
 SIZES = (1_000, 100_000)
 # The kinds of requests in the program's order, and how many it takes of each.
 REQUESTS = 1_000

@@ -26,7 +26,7 @@ from programs import Program, least  # noqa: E402
 PROGRAM = Program("rows", "clear_store clear_book clear_bank clear_money sqlite sqlite_std_file")
 SIZES = (1_000, 100_000)
 CALLS = 1_000
-LOOKS = ("find_employer", "find_report", "reports_of", "find_last", "find_rate", "find_last_rate",
+LOOKS = ("find_employer", "find_report", "reports_of", "find_last_report", "find_rate", "find_last_rate",
          "find_line", "credits_of", "find_request", "find_counts")
 WRITES = ("insert_employer", "insert_report", "replace_report", "insert_wage", "delete_wages",
           "insert_line", "insert_credit", "insert_request", "put_counts")

@@ -25,7 +25,7 @@ pub enum DirectoryFault {
     Memory,
 }
 
-// The greatest length of a key.
+// The greatest length of a key, in bytes.
 const MAX_KEY: usize = 64;
 
 // The keys of a document and their callers.

@@ -77,7 +77,7 @@ pub fn day_at(row: &Row, at: usize) -> Result<Day, Fault>
     Day::new(number_at(row, at)?).ok_or(Fault::Store(StoreCause::Row))
 }
 
-/// The amount in a column.
+/// The amount in a column, 1 to 100,000,000,000 cents.
 pub fn amount_at(row: &Row, at: usize) -> Result<Amount, Fault>
     ensures reads { ReadsColumn row.now at result stored.number IsAmount }
 {
@@ -240,7 +240,7 @@ pub fn rate_at(row: &Row, at: usize, most: u16) -> Result<u16, Fault>
     Ok(in_range(number, number <= u64::from(most))? as u16)
 }
 
-/// The day of each month in a column.
+/// The day of each month in a column, 1 to 28.
 pub fn month_day_at(row: &Row, at: usize) -> Result<u8, Fault>
     ensures reads { ReadsColumn row.now at result stored.number IsDayOfEachMonth }
 {

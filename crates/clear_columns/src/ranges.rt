@@ -1,16 +1,19 @@
 //! Whether plain numbers of a row lie in their ranges.
-ghost use Rattle.std.specs.Prelude.{◌≡◌, ◌≤◌, ◌↔◌, length, true};
+ghost use Rattle.std.specs.Prelude.{◌≡◌, ◌≤◌, ◌↔◌, ◌^◌, None, length, true, IfSome, IsTrue};
 ghost use Rattle.clear_money.specs.Calendar.{months};
 ghost use Rattle.clear_values.specs.Limits.{most_base, most_charged, most_claimed, most_employers};
 ghost use Rattle.clear_values.specs.Limits.{most_entries, most_gross, most_interest};
 ghost use Rattle.clear_values.specs.Limits.{most_versions, most_weight};
-ghost use Rattle.clear_values.specs.RowRanges.{IsSerial};
+ghost use Rattle.clear_values.specs.RowRanges.{IsReply, IsSerial, settled};
+ghost use Rattle.clear_values.specs.declared.replies.Reply.{Reply};
 
 use clear_money::months::Month;
 use clear_values::limits::{
     MAX_BASE, MAX_CHARGED, MAX_CLAIMED, MAX_EMPLOYERS, MAX_ENTRIES, MAX_GROSS, MAX_INTEREST,
     MAX_SERIALS, MAX_VERSIONS, MAX_WEIGHT,
 };
+use clear_values::numbers::{ListNo, RunNo};
+use clear_values::replies::{Reply, Settlement};
 
 /// Whether a report can have this version, 1 to 10,000.
 pub fn is_version(number: u32) -> bool
@@ -87,4 +90,34 @@ pub fn is_claimed(cents: u64) -> bool
     ensures { (result ≡ true) ↔ (cents ≤ most_claimed) }
 {
     cents <= MAX_CLAIMED
+}
+
+/// Whether a payout list can have so many claims and so many cents: 1 to 50,000,000 claims, and at most
+/// 5,000,000,000,000,000,000 cents.
+pub fn is_listed(list: ListNo, items: u64, total: u64) -> bool
+    ensures { IsTrue result ↔ IsReply (Reply.Listed list items total) }
+{
+    // A proof reads the range of the number from its type.
+    let _list = list.number();
+    items >= 1 && is_entry_count(items) && is_claimed(total)
+}
+
+/// Whether a reminder run can have so many firms: 1 to 10,000.
+pub fn is_reminded(run: RunNo, firms: u64) -> bool
+    ensures { IsTrue result ↔ IsReply (Reply.Reminded run firms) }
+{
+    // A proof reads the range of the number from its type.
+    let _run = run.number();
+    firms >= 1 && is_firm_count(firms)
+}
+
+/// The sum of the three amounts of a settlement. None where 64 bits don't hold it.
+pub fn settled_cents(settlement: Settlement) -> Option<u64>
+    ensures some { IfSome result (λ cents. cents ≡ settled settlement) }
+    ensures none { result ≡ None → 2 ^ 64 ≤ settled settlement }
+{
+    let set_off = settlement
+        .to_contributions
+        .checked_add(settlement.to_interest)?;
+    set_off.checked_add(settlement.paid)
 }

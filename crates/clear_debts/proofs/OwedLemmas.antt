@@ -1,5 +1,5 @@
 -- What is kept of a firm's contributions is the account of the book, and tells what the firm owes.
-use Rattle.std.proofs.Common.{◌≡◌, ℕ, ◌-◌, ◌≤◌, List, length, map, Option, Some, None, Bool, true, false, cond, is_some, nat_lt, refl, sym, ap, ◌∙◌, subst, arith}
+use Rattle.std.proofs.Common.{◌≡◌, ℕ, ◌-◌, ◌≤◌, List, length, map, Option, Some, None, Bool, true, false, cond, nat_lt, refl, sym, ap, ◌∙◌, subst, arith}
 use Rattle.std.specs.List.{All, AllByRecursion, AllPairs, filter}
 use Rattle.std.proofs.lemmas.Bool.{ltb-true}
 use Rattle.std.proofs.lemmas.Bool.Decides.{nat_tests}
@@ -37,7 +37,6 @@ use Rattle.clear_laws.proofs.KeptChargesLemmas.{kept_charges-charges_of}
 use Rattle.clear_laws.proofs.LawsLemmas.{lawful_small}
 use Rattle.clear_laws.proofs.RowRangeLemmas.{rows_in_range}
 use Rattle.clear_laws.proofs.TableAccountLemmas.{account_of_tables}
-use Rattle.clear_laws.proofs.VersionLemmas.{no_some}
 use Rattle.clear_laws.proofs.ListLemmas.{each}
 use Rattle.clear_debts.specs.Owing.{HasKept, credited_by}
 
@@ -123,15 +122,3 @@ module _ (b : Book) (t : Tables) (lawful : IsLawful b) (weighed : StandsWeighed 
       let ks = credits_of b e in
       let charges : charged_in rows ≡ _ = ap charged_in are ∙ charged_from_rows cs ks in
       (λ i. Owed ((all_is ∙ charges) i) (paid_are i) ((due_is ∙ ap (λ (ws : List WeighedCharge). arrears_in ws day) are ∙ arrears_from_rows cs ks day book_dues) i) ((over_is ∙ (λ j. paid_are j - charges j)) i))
-
--- ---- the test of the day
-
--- where it doesn't refuse the day, the judge doesn't
-pub day_free : (given ledger : Option ℕ) (day : ℕ) (back : Bool) → given ≡ ledger → back ≡ is_some (day_back given day) → back ≡ false → day_back ledger day ≡ None
-day_free given ledger day back same is free =
-    no_some (day_back ledger day) (ap (λ (o : Option ℕ). is_some (day_back o day)) (sym same) ∙ sym is ∙ free)
-
-pub day_refused : (given ledger : Option ℕ) (day : ℕ) (back : Bool) → given ≡ ledger → back ≡ is_some (day_back given day) → back ≡ true → day_back ledger day ≡ None → ⊥
-day_refused given ledger day back same is refused none =
-    let no : false ≡ true = sym (ap is_some none) ∙ ap (λ (o : Option ℕ). is_some (day_back o day)) (sym same) ∙ sym is ∙ refused in
-    absurd (cc no)

@@ -1,6 +1,5 @@
-//! What a firm has overdue on a day, by what is kept of it, and whether a day comes before the
-//! ledger day.
-ghost use Rattle.std.specs.Prelude.{◌≡◌, ◌≤◌, IfErr, IfOk, None, is_some, length};
+//! What a firm has overdue on a day, by what is kept of it.
+ghost use Rattle.std.specs.Prelude.{◌≡◌, ◌≤◌, IfErr, IfOk, None, length};
 ghost use Rattle.sqlite.specs.Held.{state};
 ghost use Rattle.sqlite.specs.State.{HasCleanDisk};
 ghost use Rattle.clear_book.specs.Allocated.{StandsWeighed};
@@ -23,7 +22,6 @@ use clear_ledger::credits::credits_of;
 use clear_money::days::Day;
 use clear_money::months::Month;
 use clear_money::rates::RateTable;
-use clear_schema::counts::Counts;
 use clear_schema::fault::Fault;
 use clear_texts::arrears::interest_arrears;
 use clear_texts::missing::missing_months;
@@ -105,14 +103,4 @@ fn month_count(months: &[Month]) -> u32
     ensures { length months.now ≤ most_months → result ≡ length months.now }
 {
     months.len().min(Month::COUNT as usize) as u32
-}
-
-/// Whether a day comes before the ledger day of these counts.
-pub fn is_day_back(counts: &Counts, day: Day) -> bool
-    ensures { result ≡ is_some (day_back counts.now.day day) }
-{
-    match counts.day {
-        Some(ledger) => day < ledger,
-        None => false,
-    }
 }

@@ -104,9 +104,5 @@ finds_counts g old new r first = told r (finds_first g old new counts_shown AreC
 pub counts_in_range : (t : Tables) → AreInRange t → AreCounts (counts_of t)
 counts_in_range t within = record {
   day = within.day;
-  entries = within.entries;
-  serial = within.serial;
-  claims = within.last_claim;
-  lists = within.last_list;
-  runs = within.last_run;
+  numbers = (within.entries, within.serial, within.last_claim, within.last_list, within.last_run);
 }

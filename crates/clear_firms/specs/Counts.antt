@@ -13,8 +13,4 @@ AreCountable c =
 -- counts whose day and numbers lie in their ranges
 pub record AreCounts (c : Counts) : Type 0 where
   pub day : IfSome c.day IsDay
-  pub entries : c.entries ≤ most_entries
-  pub serial : c.serial ≤ most_serials
-  pub claims : c.claims ≤ most_entries
-  pub lists : c.lists ≤ most_entries
-  pub runs : c.runs ≤ most_entries
+  pub numbers : AreCountable c

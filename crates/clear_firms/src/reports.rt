@@ -99,7 +99,7 @@ pub fn reports_of<S: Alter>(
 }
 
 /// The report of a firm's last month that has one: the greatest of these months, by the key.
-pub fn find_last<S: Alter>(
+pub fn find_last_report<S: Alter>(
     tx: &mut Transaction<'_, S>,
     no: EmployerNo,
 ) -> Result<Option<ReportRow>, Fault>
@@ -115,7 +115,8 @@ pub fn find_last<S: Alter>(
     )
 }
 
-/// All latest reports, by firm and month: `next_row` reads one at a time.
+/// All latest reports, by firm and month: `next_row` reads one at a time. This is one pass by the
+/// key, with a search for the row of each.
 pub fn read_reports<S: Alter>(conn: &mut Connection<S>) -> Result<Rows<'_, S>, Error>
     ensures* refused { sem 𝓛 (RestsIfErr (the_row S.row S.Store) conn.entry
         (λ rows. rows.conn.ghost_name) result (IsLeftOn S.Store conn.old result)) }

@@ -5,13 +5,13 @@ use Rattle.sqlite.specs.Store.{Ghosts}
 use Rattle.sqlite.specs.Tree.{Trees}
 use Rattle.sqlite_wal.specs.Recovery.{Image}
 use Rattle.clear_money.specs.Rates.{Rate}
-use Rattle.clear_book.specs.Book.{Book, first_book, ledger_day}
+use Rattle.clear_book.specs.Book.{Book, first_book}
 use Rattle.clear_book.specs.Tables.{Tables}
 use Rattle.clear_schema.specs.Faults.{IsWrong}
-use Rattle.clear_schema.specs.First.{first_tables}
+use Rattle.clear_database.specs.First.{first_tables}
 use Rattle.clear_schema.specs.Held.{HasTables, TellsAs, this_schema}
 use Rattle.clear_schema.specs.Schema.{this_layout}
-use Rattle.clear_schema.specs.Still.{Holds}
+use Rattle.clear_database.specs.Still.{Holds}
 use Rattle.clear_office.specs.Office.{Keeps}
 use Rattle.clear_host.specs.Contents.{HoldsBook, HoldsOtherLayout, HoldsSchema, HoldsStore}
 use Rattle.clear_host.specs.Contents.{HasJust, IfOpen, IfRefused, TellsOnly, TellsOther}
@@ -24,11 +24,12 @@ pub record IsOurs (image : Image) : Type 0 where
   pub not_other : ¬ HoldsOtherLayout image
   pub only_stores : ¬ IsNothing image
 
--- the office keeps the book that they hold, and has the tables that they hold, whatever these are
+-- the office keeps the book that they hold, and has the tables that they hold and their ledger day,
+-- whatever these are
 pub record IsOfficeOver {S : Type 0} (g : Ghosts S) (image : Image) (opened : Opened S) : Type 0 where
   pub found : (t : Tables) → HoldsStore this_layout t image → Holds g opened.office.conn t
   pub keeps : (b : Book) → HoldsBook b image → Keeps g opened.office b
-  pub day : (b : Book) → HoldsBook b image → opened.ledger_day ≡ ledger_day b.entries
+  pub day : (t : Tables) → HoldsStore this_layout t image → opened.ledger_day ≡ t.day
   pub ours : IsOurs image
 
 -- the office keeps the book without requests, with these opening rates, and has its tables

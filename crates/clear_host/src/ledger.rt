@@ -4,13 +4,13 @@ ghost use Rattle.sqlite.specs.Held.{state};
 ghost use Rattle.sqlite.specs.State.{HasCleanDisk};
 ghost use Rattle.clear_book.specs.Tables.{Tables};
 ghost use Rattle.clear_schema.specs.Held.{HasTables};
-ghost use Rattle.clear_schema.specs.Still.{Holds};
+ghost use Rattle.clear_database.specs.Still.{Holds};
 
+use clear_database::body::{Body, Stop, within};
+use clear_database::store::Store;
 use clear_firms::counts::find_counts;
 use clear_money::days::Day;
-use clear_schema::body::{Body, Stop, within};
 use clear_schema::fault::Fault;
-use clear_schema::store::Store;
 use sqlite::{Alter, Transaction};
 use std::convert::Infallible;
 

@@ -12,8 +12,8 @@ ghost use Rattle.clear_book.specs.Book.{Book};
 ghost use Rattle.clear_book.specs.Tables.{Tables};
 ghost use Rattle.clear_schema.specs.Held.{HasTables};
 ghost use Rattle.clear_schema.specs.Schema.{this_layout};
-ghost use Rattle.clear_schema.specs.Seen.{Sees};
-ghost use Rattle.clear_schema.specs.Still.{Holds};
+ghost use Rattle.clear_database.specs.Seen.{Sees};
+ghost use Rattle.clear_database.specs.Still.{Holds};
 ghost use Rattle.clear_office.specs.Office.{IsHonest, Keeps};
 ghost use Rattle.clear_host.specs.Contents.{HoldsObjects, HoldsSchema, HoldsStore, IfRefused};
 ghost use Rattle.clear_host.specs.Contents.{IfOpen, IsWhyUnopened, KeepsTables, LeavesSchema};
@@ -22,13 +22,13 @@ ghost use Rattle.clear_host.specs.Offices.{IsNewOffice, IsOfficeOver, IsOurs, Le
 
 use crate::hindrance::Hindrance;
 use crate::ledger::ledger_day;
+use clear_database::body;
+use clear_database::store::Store;
 use clear_money::days::Day;
 use clear_money::rates::RateTable;
 use clear_office::made::make_office;
 use clear_office::office::Office;
-use clear_schema::body;
 use clear_schema::fault::OpenFault;
-use clear_schema::store::Store;
 use sqlite::{Alter, Connection};
 use std::alloc::Global;
 

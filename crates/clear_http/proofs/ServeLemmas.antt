@@ -116,7 +116,7 @@ module _ {H : Type 0} (responds : H → Heading → List ℕ → Said → H → 
       left_more item said after true is follows = inr (follows, (x.saids, said, refl, so_far.1, is))
 
       pub progress_more : (bytes' written' : Option (List ℕ)) (behind : Behind) (next : H) → AnswersOne responds left now mid bytes' wmid written' behind next
-          → Progress responds h bytes bytes' written written' behind.after next (record { requests = served.requests + 1; unread = behind.unread })
+          → Progress responds h bytes bytes' written written' behind.after next (record { requests = served.requests + 1; by_rule = behind.by_rule })
       progress_more bytes' written' behind next one = record {
         items = x.items ++ one.0 ∷ [];
         saids = x.saids ++ one.1 ∷ [];
@@ -164,7 +164,7 @@ module _ {H : Type 0} (responds : H → Heading → List ℕ → Said → H → 
           left_same qs a q = subst (λ n. IfSome a (λ m. (r : List ℕ) × Cuts n m qs r)) left_is q
 
   abbrev none_yet : Served
-  none_yet = record { requests = 0; unread = false }
+  none_yet = record { requests = 0; by_rule = false }
 
   -- before the first request
   pub progress_none : (h : H) (bytes written : Option (List ℕ)) → Progress responds h bytes bytes written written request_limit h none_yet

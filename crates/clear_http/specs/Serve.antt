@@ -101,7 +101,7 @@ failed_answer = answer_of (refused_by Failed) true false
 -- this answer is written, and counted; or a write failed, after a front of it that isn't all of it
 abbrev pub TellsFailed : Option (List ℕ) → Option (List ℕ) → Result Served ServeFault → Type 0
 TellsFailed written written' (Ok served) =
-    (served.requests ≡ 1) × (served.unread ≡ true) × Appends written written' failed_answer
+    (served.requests ≡ 1) × (served.by_rule ≡ true) × Appends written written' failed_answer
 TellsFailed written written' (Err fault) =
     (fault.fault ≡ Write) × (fault.answered ≡ 0) × (part : List ℕ) × (rest : List ℕ)
     × (failed_answer ≡ part ++ rest) × (0 < length rest) × Appends written written' part
@@ -129,7 +129,7 @@ module _ {H : Type 0} (responds : H → Heading → List ℕ → Said → H → 
       (item : NextItem) × (said : Said) × IsAnswered item
       × Leads (λ b r. Next b item r) bytes bytes'
       × (behind.after ≡ left_then left item said) × Says h item said h'
-      × Appends written written' (item_answer left item said) × (behind.unread ≡ is_bad item)
+      × Appends written written' (item_answer left item said) × (behind.by_rule ≡ is_bad item)
 
   -- at most one item more was taken, and a front of its answer is written
   abbrev pub BreaksOff : ℕ → H → Option (List ℕ) → Option (List ℕ) → Option (List ℕ) → H → Type 0
@@ -151,7 +151,7 @@ module _ {H : Type 0} (responds : H → Heading → List ℕ → Said → H → 
         ⊎ ((left ≡ 0) × LastEnds saids)
     pub wrote : Appends written written' (answer_text request_limit items saids)
     pub count : served.requests ≡ length items
-    pub rule : served.unread ≡ ends_by_rule items
+    pub rule : served.by_rule ≡ ends_by_rule items
 
   -- all of the stream was answered: the answers to its items were written, and nothing else
   pub record Serves
@@ -163,7 +163,7 @@ module _ {H : Type 0} (responds : H → Heading → List ℕ → Said → H → 
     pub runs : Responds h items saids h'
     pub wrote : Appends written written' (answer_text request_limit items saids)
     pub count : served.requests ≡ length items
-    pub rule : served.unread ≡ ends_by_rule items
+    pub rule : served.by_rule ≡ ends_by_rule items
 
   -- so many items were answered whole; at most one more was taken, and a front of its answer is
   -- written, which isn't all of it

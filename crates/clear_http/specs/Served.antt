@@ -107,7 +107,7 @@ module _ {S : Type 0} (g : Ghosts S) (reads : Heading → List ℕ → Result Ca
     pub takes : ItemsTake reads old.failed new.failed b items saids last
     pub wrote : Appends written written' (answer_text request_limit items saids)
     pub count : served.requests ≡ length items
-    pub rule : served.unread ≡ ends_by_rule items
+    pub rule : served.by_rule ≡ ends_by_rule items
     pub lawful : IsLawful last
     pub keeps : Keeps g new last
     pub left : LeavesOnly g (IsFailedRequest reads items saids) new last

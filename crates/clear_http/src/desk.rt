@@ -65,7 +65,8 @@ fn said_of(outcome: Outcome) -> Said
 /// Serves the requests in the bytes of a reader: their answers are written, one after another, up
 /// to the end of the stream or the first fault of the store, which ends it.
 ///
-/// Of an office that has failed before nothing is read, and the one answer says so.
+/// Of an office that has failed before nothing is read, and the one answer says so. Neither the reader
+/// nor the writer may have failed before, so that it can be told which of them did.
 ///
 /// Whatever lawful book the office keeps, the answers are those of the clearing machine over that
 /// book, and the office then keeps the book that it leaves, so far as its disk returned what was

@@ -60,12 +60,13 @@ pub enum Fault {
     Memory,
 }
 
-/// How many answers were written, and whether what came behind them isn't read.
+/// How many answers were written, and whether a rule ended the stream.
 #[derive(Clone, Copy)]
 pub struct Served {
     pub requests: u64,
     /// A rule of the stream ended it, or the office had failed before: what came behind isn't read.
-    pub unread: bool,
+    /// Nor is it behind an answer that closes the connection, which this doesn't tell of.
+    pub by_rule: bool,
 }
 
 /// Why a stream was not served to its end, and how far it was.
@@ -76,13 +77,13 @@ pub struct ServeFault {
     pub answered: u64,
 }
 
-// How an item is answered, and what follows it: whether its answer has no body, and so many requests
-// may come, or, where a rule of the stream ended it, unread bytes.
+// How an item is answered, and what follows it: whether its answer has no body, how many requests may
+// come, and whether a rule of the stream ended it.
 #[derive(Clone, Copy)]
 struct Behind {
     bare: bool,
     after: u32,
-    unread: bool,
+    by_rule: bool,
 }
 
 fn fault_of(fault: ReadFault) -> Fault
@@ -128,7 +129,7 @@ pub(crate) fn tell_failed<W: Write>(writer: &mut Counted<W>) -> Result<Served, S
     match write_all(writer, failed_text()) {
         Ok(()) => Ok(Served {
             requests: 1,
-            unread: true,
+            by_rule: true,
         }),
         Err(fault) => Err(ServeFault { fault, answered: 0 }),
     }
@@ -157,7 +158,7 @@ fn what_follows(item: &Item, said: &Said, left: u32) -> Behind
     requires { 0 < left }
     ensures bare { result.bare ≡ is_bare (next_item item.now) }
     ensures after { result.after ≡ left_then left (next_item item.now) said.now }
-    ensures unread { result.unread ≡ is_bad (next_item item.now) }
+    ensures by_rule { result.by_rule ≡ is_bad (next_item item.now) }
     ensures falls { result.after < left }
 {
     match item {
@@ -168,17 +169,17 @@ fn what_follows(item: &Item, said: &Said, left: u32) -> Behind
             } else {
                 left - 1
             },
-            unread: false,
+            by_rule: false,
         },
         Item::Bad { bare, .. } => Behind {
             bare: *bare,
             after: 0,
-            unread: true,
+            by_rule: true,
         },
         Item::End => Behind {
             bare: false,
             after: 0,
-            unread: false,
+            by_rule: false,
         },
     }
 }
@@ -290,15 +291,15 @@ fn serve_input<T, H: Responder<T>, R: NotedRead, W: Write>(
     let mut buffer = Vec::new(alloc);
     let mut left = MAX_REQUESTS;
     let mut requests: u64 = 0;
-    let mut unread = false;
+    let mut by_rule = false;
     'turns: while left > 0 {
         match turn(responder, state, input, &mut buffer, writer, left) {
             Ok(Some(behind)) => {
                 left = behind.after;
-                unread = behind.unread;
+                by_rule = behind.by_rule;
                 requests += 1;
             }
-            Ok(None) => return Ok(Served { requests, unread }),
+            Ok(None) => return Ok(Served { requests, by_rule }),
             Err(fault) => {
                 return Err(ServeFault {
                     fault,
@@ -307,7 +308,7 @@ fn serve_input<T, H: Responder<T>, R: NotedRead, W: Write>(
             }
         }
     }
-    Ok(Served { requests, unread })
+    Ok(Served { requests, by_rule })
 }
 
 /// Answers the requests in the bytes of a reader, one after another, up to the end of the stream.

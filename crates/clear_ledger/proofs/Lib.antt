@@ -1,11 +1,8 @@
 pub mod BankTable
-pub mod ClaimTable
 pub mod CreditTable
 pub mod GreatestLemmas
-pub mod ListTable
 pub mod LookLemmas
 pub mod PieceTable
 pub mod ReminderTable
 pub mod RequestTable
 pub mod RunTable
-pub mod StateLemmas

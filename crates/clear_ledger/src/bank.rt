@@ -94,8 +94,9 @@ pub fn suspense_count<S: Alter>(tx: &mut Transaction<'_, S>) -> Result<u64, Faul
     count(tx, "SELECT 1 FROM bank WHERE employer IS NULL", &[])
 }
 
-/// All lines in the order of their references: `next_row` reads one at a time.
-pub fn lines<S: Alter>(conn: &mut Connection<S>) -> Result<Rows<'_, S>, Error>
+/// All lines in the order of their references: `next_row` reads one at a time. This is one pass by
+/// the key, with a search for the row of each.
+pub fn read_lines<S: Alter>(conn: &mut Connection<S>) -> Result<Rows<'_, S>, Error>
     ensures* refused { sem 𝓛 (RestsIfErr (the_row S.row S.Store) conn.entry
         (λ rows. rows.conn.ghost_name) result (IsLeftOn S.Store conn.old result)) }
     ensures same_reference { IfOk result (λ rows. rows.conn.ghost_name ≡ conn.entry.ghost_name) }

@@ -70,7 +70,8 @@ pub fn credits_of<S: Alter>(
 }
 
 /// The credits of a firm for a purpose from a place on: those of a day and a serial, or of a later
-/// one, in the order of `credits_of`. None of that day before the serial is read.
+/// one, in the order of `credits_of`. None of that day before the serial is read. The serial is one that
+/// a column can hold.
 pub fn credits_from<S: Alter>(
     tx: &mut Transaction<'_, S>,
     employer: EmployerNo,

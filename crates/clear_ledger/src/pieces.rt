@@ -36,7 +36,7 @@ pub struct PieceFrom {
     pub month: Month,
     /// The day of the first credit.
     pub day: Day,
-    /// The serial of the first credit.
+    /// The serial of the first credit, 1 to 500,000,000,000.
     pub serial: u64,
 }
 

@@ -5,10 +5,7 @@ ghost use Rattle.clear_values.specs.RowRanges.{IsReply};
 ghost use Rattle.clear_schema.specs.Values.{numbers_of};
 ghost use Rattle.clear_ledger.specs.Shown.{AreSmall};
 
-use crate::lists::is_listed;
-use crate::runs::is_reminded;
-use crate::states::settled_cents;
-use clear_columns::ranges::{is_contribution, is_version};
+use clear_columns::ranges::{is_contribution, is_listed, is_reminded, is_version, settled_cents};
 use clear_money::numbers::Amount;
 use clear_schema::columns::ReplyNumbers;
 use clear_values::limits::MAX_RECORDS;

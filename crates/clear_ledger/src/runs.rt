@@ -1,11 +1,11 @@
 //! The reminder runs, by their numbers.
 ghost use Rattle.std.specs.Borrow.{sem, RestsIfErr};
 ghost use Rattle.std.specs.Option.{option_to_list};
-ghost use Rattle.std.specs.Prelude.{◌≡◌, ◌↔◌, [], ◌∷◌, true, IsTrue, IfOk};
+ghost use Rattle.std.specs.Prelude.{◌≡◌, ◌↔◌, [], ◌∷◌, true, IfOk};
 ghost use Rattle.sqlite.specs.Values.{bound};
 ghost use Rattle.sqlite.specs.contracts.connection.Connection.{the_row};
 ghost use Rattle.clear_values.specs.Keyed.{find_row, is_held, with_row};
-ghost use Rattle.clear_values.specs.RowRanges.{IsReply, IsRunRow};
+ghost use Rattle.clear_values.specs.RowRanges.{IsRunRow};
 ghost use Rattle.clear_values.specs.Tables.{run_key};
 ghost use Rattle.clear_columns.specs.Reading.{IsLeftOn, ReadsOn};
 ghost use Rattle.clear_schema.specs.Values.{run_shown};
@@ -14,14 +14,13 @@ ghost use Rattle.clear_schema.specs.Frame.{Finds, Writes};
 use clear_columns::columns::{day_at, number_at, run_at};
 use clear_columns::parameters::{day, run_no};
 use clear_columns::queries::find;
-use clear_columns::ranges::is_firm_count;
+use clear_columns::ranges::is_reminded;
 use clear_columns::rows::{StoredTable, begin_rows};
 use clear_schema::fault::Fault;
 use clear_schema::statement::put;
 use clear_schema::values::number;
 use clear_values::causes::StoreCause;
 use clear_values::numbers::RunNo;
-use clear_values::replies::Reply;
 use clear_values::rows::RunRow;
 use sqlite::{Alter, Connection, Error, Row, Rows, Transaction};
 use sqlite_value::value::ValueRef;
@@ -98,15 +97,6 @@ fn is_run_row(row: &RunRow) -> bool
     // A proof reads the range of the day from its type.
     let _day = row.day.number();
     is_reminded(row.run, row.firms)
-}
-
-/// Whether a reminder run can have so many firms: 1 to 10,000.
-pub fn is_reminded(run: RunNo, firms: u64) -> bool
-    ensures { IsTrue result ↔ IsReply (Reply.Reminded run firms) }
-{
-    // A proof reads the range of the number from its type.
-    let _run = run.number();
-    firms >= 1 && is_firm_count(firms)
 }
 
 // The parameters of a statement that writes a row.

@@ -4,15 +4,15 @@ ghost use Rattle.sqlite.specs.Held.{state};
 ghost use Rattle.sqlite.specs.State.{HasCleanDisk, Survives};
 ghost use Rattle.clear_schema.specs.Faults.{IsWrong, other_layout};
 ghost use Rattle.clear_schema.specs.Held.{HasOtherLayout, TellsSchema, this_schema};
-ghost use Rattle.clear_schema.specs.Opening.{HasMetaOrNothing, IsBelowZero};
-ghost use Rattle.clear_schema.specs.Schema.{no_schema, store_schema};
-ghost use Rattle.clear_schema.specs.Still.{IsStill};
+ghost use Rattle.clear_database.specs.Opening.{HasMetaOrNothing, IsBelowZero, TellsNoNumber};
+ghost use Rattle.clear_schema.specs.Schema.{store_schema};
+ghost use Rattle.clear_database.specs.Still.{IsStill};
 ghost use Rattle.clear_migrate.specs.Answered.{AnswersOrFails};
 
+use clear_database::open::found_schema;
+use clear_database::store::SCHEMA;
 use clear_schema::fault::{Fault, OpenFault};
 use clear_schema::layout::has_this_layout;
-use clear_schema::open::found_schema;
-use clear_schema::store::SCHEMA;
 use clear_values::causes::StoreCause;
 use sqlite::{Alter, Connection};
 
@@ -32,7 +32,7 @@ pub fn version<S: Alter>(conn: &mut Connection<S>) -> Result<u64, OpenFault>
         → (number : ℕ) → TellsSchema number (state S.Store conn.old).now
         → AnswersOrFails (Ok number) result }
     ensures empty { HasCleanDisk (state S.Store conn.new)
-        → (state S.Store conn.old).now.schema ≡ no_schema
+        → TellsNoNumber (state S.Store conn.old).now
         → AnswersOrFails (Err (OpenFault.WrongVersion 0)) result }
     ensures below_zero { HasCleanDisk (state S.Store conn.new)
         → IsBelowZero (state S.Store conn.old).now
@@ -77,7 +77,7 @@ pub fn to_current<S: Alter>(conn: &mut Connection<S>) -> Result<Migration, OpenF
         → (number : ℕ) → TellsSchema number (state S.Store conn.old).now
         → IfErr result (IsWrong this_schema number) }
     ensures empty { HasCleanDisk (state S.Store conn.new)
-        → (state S.Store conn.old).now.schema ≡ no_schema
+        → TellsNoNumber (state S.Store conn.old).now
         → AnswersOrFails (Err (OpenFault.WrongVersion 0)) result }
     ensures below_zero { HasCleanDisk (state S.Store conn.new)
         → IsBelowZero (state S.Store conn.old).now

@@ -10,8 +10,8 @@ use Rattle.clear_book.specs.Allocated.{Represents}
 use Rattle.clear_book.specs.Tables.{Tables}
 use Rattle.clear_laws.proofs.FirstLemmas.{first_stands}
 use Rattle.clear_laws.proofs.TablePiecesLemmas.{first_allocated}
-use Rattle.clear_schema.specs.First.{first_tables}
-use Rattle.clear_schema.specs.Still.{Holds}
+use Rattle.clear_database.specs.First.{first_tables}
+use Rattle.clear_database.specs.Still.{Holds}
 use Rattle.clear_office.specs.Office.{AtOffice, IsHonest, Keeps}
 
 -- the first tables represent the first book

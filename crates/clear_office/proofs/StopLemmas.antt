@@ -2,8 +2,8 @@
 use Rattle.std.proofs.Common.{◌≡◌, ◌∙◌, Result, Ok, Err, refl, sym, ap, subst}
 use Rattle.std.specs.Prelude.{IsErrAnd, MatchResult}
 use Rattle.clear_book.specs.declared.rules.Rule.{Rule}
-use Rattle.clear_schema.specs.declared.body.Stop.{Stop}
-use Rattle.clear_schema.specs.declared.body.Stop.TheVariants.{Refused}
+use Rattle.clear_database.specs.declared.body.Stop.{Stop}
+use Rattle.clear_database.specs.declared.body.Stop.TheVariants.{Refused}
 
 -- where nothing stopped, nothing was refused
 pub was_ok : {T : Type 0} (judged : Result T Rule) (stopped : Result T (Stop Rule)) (x : T) → stopped ≡ Ok x → MatchResult judged (λ y. stopped ≡ Ok y) (λ e. IsErrAnd stopped (λ why. why ≡ Refused e)) → judged ≡ Ok x

@@ -11,7 +11,7 @@ ghost use Rattle.clear_book.specs.Machine.{IsLawful};
 ghost use Rattle.clear_values.specs.RowRanges.{IsReply};
 ghost use Rattle.clear_values.specs.Tables.{Tables, changed, request_key};
 ghost use Rattle.clear_book.specs.Tables.{Stands, noted};
-ghost use Rattle.clear_schema.specs.First.{first_tables};
+ghost use Rattle.clear_database.specs.First.{first_tables};
 ghost use Rattle.clear_schema.specs.Values.{counts_of};
 ghost use Rattle.clear_schema.specs.declared.counts.Counts.{Counts};
 ghost use Rattle.clear_store.specs.Changes.{IsFree, IsPuttable, IsThere};

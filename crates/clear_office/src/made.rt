@@ -4,25 +4,25 @@ ghost use Rattle.sqlite.specs.Held.{state};
 ghost use Rattle.sqlite.specs.State.{HasCleanDisk, Survives};
 ghost use Rattle.clear_book.specs.Book.{first_book};
 ghost use Rattle.clear_schema.specs.Faults.{IsOfDisk, TellsOutOfRange};
-ghost use Rattle.clear_schema.specs.First.{first_tables};
+ghost use Rattle.clear_database.specs.First.{first_tables};
 ghost use Rattle.clear_schema.specs.Held.{HasMeta, StandsFor, TellsSchema};
-ghost use Rattle.clear_schema.specs.Opening.{IsBelowZero, TellsOrIsEmpty};
+ghost use Rattle.clear_database.specs.Opening.{IsBelowZero, TellsNumberOrNone};
 ghost use Rattle.clear_schema.specs.Schema.{no_schema};
 ghost use Rattle.clear_schema.specs.declared.fault.Fault.{Fault};
 ghost use Rattle.clear_schema.specs.declared.fault.OpenFault.TheVariants.{Failed, WrongVersion};
-ghost use Rattle.clear_schema.specs.Still.{Holds, IsStill};
+ghost use Rattle.clear_database.specs.Still.{Holds, IsStill};
 ghost use Rattle.clear_office.specs.Office.{IsHonest, Keeps};
 
 use crate::office::Office;
+use clear_database::store::{Refusal, Store};
 use clear_money::rates::RateTable;
-use clear_schema::store::{Refusal, Store};
 use sqlite::{Alter, Connection};
 use std::alloc::Global;
 
 /// Makes a store without requests, with these opening rates, in an empty database, and an office
-/// over it. A database that has a table, an index or a view is refused: where it tells the number of a
-/// schema, by `WrongVersion` with that one. A refusal hands the connection back, and leaves an empty
-/// database, and one where a `meta` stands first, as it was.
+/// over it. The connection stands in no transaction. A database that has a table, an index or a view is
+/// refused: where it tells the number of a schema, by `WrongVersion` with that one. A refusal hands the
+/// connection back, and leaves an empty database, and one where a `meta` stands first, as it was.
 pub fn make_office<S: Alter>(
     alloc: Global,
     connection: Connection<S>,
@@ -54,7 +54,7 @@ pub fn make_office<S: Alter>(
     ensures below_zero { IfErr result (λ left. HasCleanDisk (state S.Store left.connection)
         → IsBelowZero (state S.Store connection).now → TellsOutOfRange left.fault) }
     ensures cause { IfErr result (λ left. HasCleanDisk (state S.Store left.connection)
-        → TellsOrIsEmpty (state S.Store connection).now
+        → TellsNumberOrNone (state S.Store connection).now
         → (why : Fault) → left.fault ≡ Failed why → IsOfDisk why) }
     // A refusal takes back what was begun in an empty database, and a crash leaves what it could leave
     // before, or the tables of an office without requests.

@@ -40,8 +40,9 @@ const MAX_STORED: u64 = i64::MAX as u64;
 /// what is open of its contributions from that month on. The tables hold the contribution
 /// already.
 ///
-/// Where no credit reaches beyond the contributions of earlier months, no piece is put. A key
-/// that is not free is refused with `Fault::Store(StoreCause::Constraint)`, and rows that make up
+/// It reads the firm's whole account: each contribution that is kept, and each credit for
+/// contributions. Where no credit reaches beyond the contributions of earlier months, no piece is put.
+/// A key that is not free is refused with `Fault::Store(StoreCause::Constraint)`, and rows that make up
 /// no account with `Fault::Store(StoreCause::Row)`. After an error a part may be done: the
 /// transaction is to be rolled back.
 pub fn allocate_from_charge<S: Alter>(

@@ -72,8 +72,9 @@ pub fn charge_stood<S: Alter>(tx: &mut Transaction<'_, S>, change: &Change) -> R
 /// the first changed place on; the other pieces stay, whatever they hold. What is open of the
 /// firm's contributions, and their weights so far, are written from there on, too. Where the
 /// contribution of a correction stood already, or a change puts none and no credit for contributions,
-/// nothing is read or written. The credits of the change are made as rows once more, each with a text
-/// of its reference, which is not read here.
+/// nothing is read or written; else the firm's whole account is read, or where all new credits come
+/// behind its others only what is open of it. The credits of the change are made as rows once more,
+/// each with a text of its reference, which is not read here.
 ///
 /// What no book holds is refused with `Fault::Store(StoreCause::Row)`. A fault may leave a part
 /// written, which a rollback of the transaction takes back: what is committed stays as it was.

@@ -17,10 +17,11 @@ use Rattle.clear_files.specs.declared.paths.PathKind.{PathKind}
 use Rattle.clear_host.specs.declared.hindrance.Hindrance.{Hindrance}
 use Rattle.clear_server.specs.Told.{AreTold, Writes, Written}
 use Rattle.clear_program.specs.Asked.{IsAsked, IsNotDone}
-use Rattle.clear_program.specs.Reasons.{reason}
+use Rattle.clear_program.specs.Reasons.{IsWhyRefused, reason}
 use Rattle.clear_program.specs.Stops.{IsOfFile, IsOfStore, IsOfStoreFault, Tells, by_store}
 use Rattle.clear_program.specs.Streams.{AnswersAll, AnswersFront, IsCutShort}
 use Rattle.clear_program.specs.Works.{CannotCopy, CannotServe}
+use Rattle.clear_program.specs.declared.opening.Unopened.{Unopened}
 use Rattle.clear_program.specs.declared.stop.Stop.{Stop}
 use Rattle.clear_program.specs.declared.stop.Stop.TheVariants as stop
 use Rattle.clear_program.specs.declared.tasks.Task.{Task}
@@ -115,8 +116,9 @@ module _ (out out' told told' : Written) where
   -- there is no store to look at, and why is told
   abbrev pub TellsNoStore : Result ℕ Stop → Type 0
   TellsNoStore result =
-      (kind : PathKind) × (stood : Option Hindrance) × (fault : OpenFault) × (status : ℕ)
-      × TellsWhy kind stood fault told told' status × (result ≡ Ok status) × (out' ≡ out)
+      (why : Unopened) × (status : ℕ) × IsWhyRefused why.kind why.hindrance why.fault
+      × TellsWhy why.kind why.hindrance why.fault told told' status × (result ≡ Ok status)
+      × (out' ≡ out)
 
   -- a task is done; nothing is read for one but a stream, whose requests in these bytes are answered,
   -- or those up to a fault

@@ -6,7 +6,7 @@ use Rattle.clear_book.specs.declared.rules.StoreCause.TheVariants.{Other}
 use Rattle.clear_schema.specs.declared.fault.Fault.TheVariants as fault
 use Rattle.clear_schema.specs.declared.fault.OpenFault.TheVariants.{Failed}
 use Rattle.clear_office.specs.Office.{AtOffice, IsHonest}
-use Rattle.clear_files.specs.declared.paths.PathKind.{PathKind}
+use Rattle.clear_files.specs.declared.paths.PathKind.TheVariants.{Filled}
 use Rattle.clear_host.specs.Contents.{IsWhyUnopened}
 use Rattle.clear_host.specs.Offices.{IsOfficeOver, TellsOf}
 use Rattle.clear_host.specs.declared.hindrance.Hindrance.TheVariants.{NotReachable}
@@ -23,7 +23,7 @@ use Rattle.clear_program.specs.declared.tasks.Work.{Work}
 
 -- the store doesn't stand at its path any more
 abbrev pub gone : Unopened
-gone = record { fault = Failed (fault.Store Other); hindrance = Some NotReachable }
+gone = record { kind = Filled; fault = Failed (fault.Store Other); hindrance = Some NotReachable }
 
 module _ {S : Type 0} (g : Ghosts S) where
   module _ (image : Image) where
@@ -37,12 +37,12 @@ module _ {S : Type 0} (g : Ghosts S) where
     abbrev pub RefusesFiles : Unopened → Type 0
     RefusesFiles why =
         (refused : NotOpened S) × TellsOf g image refused × IsWhyUnopened refused
-        × (why.fault ≡ refused.fault) × (why.hindrance ≡ refused.hindrance)
+        × (why ≡ record { kind = Filled; fault = refused.fault; hindrance = refused.hindrance })
 
     -- no store can be at such a path, none is there any more, or an open refuses the files
     abbrev pub IsRefused : Unopened → Type 0
     IsRefused why =
-        ((kind : PathKind) × (refused_path kind ≡ Some why.fault) × (why.hindrance ≡ None))
+        ((refused_path why.kind ≡ Some why.fault) × (why.hindrance ≡ None))
         ⊎ ((why ≡ gone) ⊎ RefusesFiles why)
 
     -- the office is one over these files, or they are refused

@@ -1,5 +1,5 @@
 -- Why a path holds no store that can be looked at, in words.
-use Rattle.std.specs.Prelude.{ℕ, zero, suc, List, ◌++◌, codes, Option, Some, None}
+use Rattle.std.specs.Prelude.{◌≡◌, ◌⊎◌, ℕ, zero, suc, List, ◌++◌, codes, Option, Some, None, MatchOption}
 use Rattle.std.specs.Fmt.{decimal}
 use Rattle.clear_book.specs.declared.rules.StoreCause.TheVariants.{Other}
 use Rattle.clear_schema.specs.Held.{this_schema}
@@ -17,6 +17,13 @@ refused_path path.Missing = Some (Failed (fault.Store Other))
 refused_path path.Folder = Some (Failed (fault.Store Other))
 refused_path path.Empty = Some (WrongVersion 0)
 refused_path path.Filled = None
+
+-- a path that can hold no store is refused for that alone; at another, what stood in the way of a
+-- connection, if anything did, is a fault of the store
+abbrev pub IsWhyRefused : PathKind → Option Hindrance → OpenFault → Type 0
+IsWhyRefused kind stood told =
+    MatchOption (refused_path kind) ((stood ≡ None) ⊎ (told ≡ Failed (fault.Store Other)))
+    (λ known. (told ≡ known) × (stood ≡ None))
 
 -- the number of another schema
 unfoldable pub schema_reason : ℕ → List ℕ

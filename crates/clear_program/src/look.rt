@@ -11,10 +11,9 @@ use crate::reasons::reason;
 use crate::stop::{Stop, tell};
 use crate::work::end_by;
 use clear_book::rules::{Rule, StoreCause};
-use clear_files::paths::{PathKind, path_kind};
+use clear_database::store::SCHEMA;
 use clear_reading::look::look;
 use clear_schema::fault::OpenFault;
-use clear_schema::store::SCHEMA;
 use clear_server::told::write_front;
 use clear_texts::look::look_text;
 use clear_wire::counted::Counted;
@@ -41,26 +40,20 @@ pub(crate) fn look_at<O: Write, E: Write>(
         (written_by E.contents errors.old) (written_by E.contents errors.new) result }
     ensures small { IfOk result (λ status. status ≤ 3) }
 {
-    let kind = path_kind(rt, store);
     match open_whole(rt, store, Unknown, Unknown) {
         Ok(whole) => end_by(output, do_and_close(rt, whole.opened, Job::Look, errors), 0),
-        Err(refused) => Ok(tell_why(rt.alloc(), kind, &refused, errors)),
+        Err(refused) => Ok(tell_why(rt.alloc(), &refused, errors)),
     }
 }
 
 // Tells the fault, and on a line of its own what it means.
-fn tell_why<E: Write>(
-    alloc: Global,
-    kind: PathKind,
-    refused: &Unopened,
-    errors: &mut Counted<E>,
-) -> u8
-    ensures told { TellsWhy kind refused.now.hindrance refused.now.fault
+fn tell_why<E: Write>(alloc: Global, refused: &Unopened, errors: &mut Counted<E>) -> u8
+    ensures told { TellsWhy refused.now.kind refused.now.hindrance refused.now.fault
         (written_by E.contents errors.old) (written_by E.contents errors.new) result }
     ensures small { result ≤ 3 }
 {
     let status = tell(alloc, errors, &Stop::from(refused.fault));
-    if let Ok(text) = reason(alloc, kind, refused.hindrance, &refused.fault) {
+    if let Ok(text) = reason(alloc, refused.kind, refused.hindrance, &refused.fault) {
         write_front(errors, text.as_bytes());
     }
     status

@@ -8,10 +8,10 @@ use crate::opening::{close_store, why_unopened};
 use crate::reasons::refused_path;
 use crate::stop::Stop;
 use clear_cli::ready::schema_line;
+use clear_database::store::SCHEMA;
 use clear_files::paths::path_kind;
 use clear_host::migrations::bring_to_current;
 use clear_migrate::schemas::Migration;
-use clear_schema::store::SCHEMA;
 use sqlite_disk::Start;
 
 /// Says which schema the store at a path has, and closes it; a store of another one is refused. A path

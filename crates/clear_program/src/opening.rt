@@ -18,7 +18,7 @@ use crate::tasks::Work;
 use clear_book::rules::StoreCause;
 use clear_files::logs::is_brought_over;
 use clear_files::named::StoreFile;
-use clear_files::paths::path_kind;
+use clear_files::paths::{PathKind, path_kind};
 use clear_host::hindrance::Hindrance;
 use clear_host::offices::{NotOpened, Opened};
 use clear_host::stores::open_office;
@@ -36,15 +36,18 @@ pub(crate) struct Whole<'a, S: Alter> {
     pub file: StoreFile<'a>,
 }
 
-/// Why a store isn't opened, and what stood in the way of a connection, where that says more.
+/// Why a store isn't opened, what was seen at its path before, and what stood in the way of a
+/// connection, where these say more.
 #[derive(Clone, Copy)]
 pub(crate) struct Unopened {
+    pub kind: PathKind,
     pub fault: OpenFault,
     pub hindrance: Option<Hindrance>,
 }
 
 // The file of a store doesn't stand at its path any more.
 const GONE: Unopened = Unopened {
+    kind: PathKind::Filled,
     fault: OpenFault::Failed(Fault::Store(StoreCause::Other)),
     hindrance: Some(Hindrance::NotReachable),
 };
@@ -62,8 +65,10 @@ pub(crate) fn open_whole<'a, S: Start>(
     ensures opens { OpensWhole over_files (image_at S.Start) result }
     ensures path { IfOk result (λ whole. whole.file.path.now ≡ store.now) }
 {
-    if let Some(fault) = refused_path(path_kind(rt, store)) {
+    let kind = path_kind(rt, store);
+    if let Some(fault) = refused_path(kind) {
         return Err(Unopened {
+            kind,
             fault,
             hindrance: None,
         });
@@ -109,12 +114,14 @@ fn open_once<S: Start>(
     }
 }
 
-/// Why a store isn't opened. The connection is dropped, if there is one.
+/// Why a store isn't opened, at whose path a file was seen. The connection is dropped, if there is one.
 pub(crate) fn why_unopened<S: Start>(refused: NotOpened<FileStore<FileFrom<S>>>) -> Unopened
+    ensures kind { result.kind ≡ PathKind.Filled }
     ensures fault { result.fault ≡ refused.fault }
     ensures hindrance { result.hindrance ≡ refused.hindrance }
 {
     Unopened {
+        kind: PathKind::Filled,
         fault: refused.fault,
         hindrance: refused.hindrance,
     }

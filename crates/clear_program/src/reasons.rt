@@ -4,10 +4,10 @@ ghost use Rattle.clear_program.specs.Reasons.{fault_reason, hindrance_reason, re
 ghost use Rattle.clear_program.specs.Reasons.{schema_reason};
 
 use clear_book::rules::StoreCause;
+use clear_database::store::SCHEMA;
 use clear_files::paths::PathKind;
 use clear_host::hindrance::Hindrance;
 use clear_schema::fault::{Fault, OpenFault};
-use clear_schema::store::SCHEMA;
 use std::alloc::{AllocError, Global};
 
 /// Why a path of this kind holds no store, where that is known before it is opened: a missing path

@@ -12,10 +12,10 @@ use crate::stream::serve_in_memory;
 use crate::tasks::{Task, Work, read_task, words_of};
 use crate::work::end_by;
 use clear_cli::ready::schema_line;
+use clear_database::store::SCHEMA;
 use clear_files::logs::is_left_log;
 use clear_host::stores::create_office;
 use clear_money::rates::RateTable;
-use clear_schema::store::SCHEMA;
 use clear_wire::counted::{Counted, RequestRead};
 use sqlite_disk::{Start, Unknown};
 use std::io::Write;
@@ -39,7 +39,8 @@ pub fn run(rt: &HostRuntime) -> u8
 
 /// Does what these words ask for, and gives the status with which the program ends: 0 where all was
 /// done, 2 where a checked file has a fault, which is told on the output. Why something was not done is
-/// told on `errors`, and its status is given.
+/// told on `errors`, and its status is given. Neither the input nor the output may have failed before,
+/// so that it can be told which of them did.
 pub fn run_words<I: RequestRead, O: Write, E: Write>(
     rt: &HostRuntime,
     words: &[String],

@@ -7,11 +7,10 @@ ghost use Rattle.clear_office.specs.Office.{answered, replied};
 ghost use Rattle.clear_wire.specs.Counted.{has_failed, inner};
 ghost use Rattle.clear_server.specs.Told.{Writes, written_by};
 ghost use Rattle.clear_program.specs.Ends.{Puts};
-ghost use Rattle.clear_program.specs.Stops.{no_memory};
 ghost use Rattle.clear_program.specs.Works.{IsCopied, IsDone, IsSaid, Works, import_said};
 ghost use Rattle.clear_program.specs.Works.{serving_said, statement_said};
 
-use crate::stop::{NO_MEMORY, Stop, stop_at_records};
+use crate::stop::{Stop, stop_at_records};
 use crate::tasks::Work;
 use clear_book::calls::{Caller, Command, Query};
 use clear_book::numbers::RequestNo;
@@ -119,7 +118,7 @@ fn say_served(alloc: Global, count: u32, ended: Ended) -> Result<String, Stop>
     ensures { IsSaid string_bytes (serving_said count ended) result }
 {
     match ended {
-        Ended::Served => in_memory(served_line(alloc, count)),
+        Ended::Served => Ok(served_line(alloc, count)?),
         Ended::StoreGone => Err(STORE_GONE),
         Ended::NoConnections => Err(Stop::Net),
     }
@@ -163,7 +162,7 @@ fn say_imported(alloc: Global, reply: Result<Reply, Rule>) -> Result<String, Sto
     ensures { IsSaid string_bytes (import_said (replied reply)) result }
 {
     match reply {
-        Ok(Reply::Imported { new, repeats }) => in_memory(imported_line(alloc, new, repeats)),
+        Ok(Reply::Imported { new, repeats }) => Ok(imported_line(alloc, new, repeats)?),
         Ok(
             Reply::Done
             | Reply::Reported { .. }
@@ -173,17 +172,6 @@ fn say_imported(alloc: Global, reply: Result<Reply, Rule>) -> Result<String, Sto
             | Reply::Reminded { .. },
         ) => Err(stop_at_records()),
         Err(rule) => Err(Stop::Rule(rule)),
-    }
-}
-
-// A text, or that there was no memory for it.
-fn in_memory(text: Result<String, AllocError>) -> Result<String, Stop>
-    ensures text { IfOk result (λ made. text ≡ Ok made) }
-    ensures none { IfErr result (λ why. why ≡ no_memory) }
-{
-    match text {
-        Ok(made) => Ok(made),
-        Err(AllocError) => Err(NO_MEMORY),
     }
 }
 
@@ -205,7 +193,7 @@ fn say_statement(alloc: Global, answer: Result<Answer, Rule>) -> Result<String, 
     ensures { IsSaid string_bytes (statement_said (answered answer)) result }
 {
     match answer {
-        Ok(Answer::Text(document)) => in_memory(String::from_str(alloc, document.as_str())),
+        Ok(Answer::Text(document)) => Ok(String::from_str(alloc, document.as_str())?),
         Ok(Answer::Owed { .. }) => Err(stop_at_records()),
         Err(rule) => Err(Stop::Rule(rule)),
     }

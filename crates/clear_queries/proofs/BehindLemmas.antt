@@ -10,9 +10,9 @@ use Rattle.clear_book.specs.declared.outcomes.Answer.{Answer}
 use Rattle.clear_book.specs.declared.rules.Rule.{Rule}
 use Rattle.clear_book.specs.Tables.{Tables}
 use Rattle.clear_rows.specs.Stands.{Stands}
-use Rattle.clear_schema.specs.declared.body.Stop.{Stop}
+use Rattle.clear_database.specs.declared.body.Stop.{Stop}
 use Rattle.clear_schema.specs.Held.{HasTables, StandsFor}
-use Rattle.clear_schema.specs.Still.{Holds, IsStill}
+use Rattle.clear_database.specs.Still.{Holds, IsStill}
 
 -- a crash leaves what it could leave before, or the tables, which the transaction left as they were
 pub leaves_tables : {S A : Type 0} (g : Ghosts S) (old mid : Held S) (t : Tables) (does : Tables → A → Type 0)

@@ -6,8 +6,8 @@ use Rattle.clear_book.specs.RowRanges.{AreInRange}
 use Rattle.clear_book.specs.Tables.{Tables}
 use Rattle.clear_firms.proofs.CountsTable.{counts_in_range}
 use Rattle.clear_firms.specs.Counts.{AreCounts}
-use Rattle.clear_schema.specs.declared.body.Stop.{Stop}
-use Rattle.clear_schema.specs.declared.body.Stop.TheVariants as stop
+use Rattle.clear_database.specs.declared.body.Stop.{Stop}
+use Rattle.clear_database.specs.declared.body.Stop.TheVariants as stop
 use Rattle.clear_schema.specs.declared.fault.Fault.{Fault}
 use Rattle.clear_schema.specs.declared.fault.Fault.TheVariants.{Store}
 use Rattle.clear_schema.specs.Faults.{IsOfDisk}

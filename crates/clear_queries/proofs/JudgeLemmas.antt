@@ -10,8 +10,8 @@ use Rattle.clear_book.specs.Calls.{may_query}
 use Rattle.clear_book.specs.Book.{Book, ledger_day}
 use Rattle.clear_book.specs.Judge.{a_refusal, answer_to, day_back, judge, judged_ask, own_query}
 use Rattle.clear_book.specs.Tables.{Tables, Stands}
-use Rattle.clear_schema.specs.declared.body.Stop.{Stop}
-use Rattle.clear_schema.specs.declared.body.Stop.TheVariants as stop
+use Rattle.clear_database.specs.declared.body.Stop.{Stop}
+use Rattle.clear_database.specs.declared.body.Stop.TheVariants as stop
 use Rattle.clear_schema.specs.declared.fault.Fault.{Fault}
 use Rattle.clear_schema.specs.Held.{HasTables}
 use Rattle.clear_queries.specs.declared.inquiry.Finding.{Finding}

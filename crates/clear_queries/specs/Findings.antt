@@ -14,8 +14,8 @@ use Rattle.clear_reading.specs.Documents.{list_over, run_over, suspense_over}
 use Rattle.clear_reading.specs.Look.{AreFewSuspended}
 use Rattle.clear_reading.specs.Paid.{ArePiecesFor, pieces_for}
 use Rattle.clear_texts.specs.Paid.{statement_paid}
-use Rattle.clear_schema.specs.declared.body.Stop.{Stop}
-use Rattle.clear_schema.specs.declared.body.Stop.TheVariants as stop
+use Rattle.clear_database.specs.declared.body.Stop.{Stop}
+use Rattle.clear_database.specs.declared.body.Stop.TheVariants as stop
 use Rattle.clear_queries.specs.declared.inquiry.Finding.{Finding}
 use Rattle.clear_queries.specs.declared.inquiry.Finding.TheVariants as finding
 use Rattle.clear_queries.specs.declared.inquiry.RowDocument.{RowDocument}

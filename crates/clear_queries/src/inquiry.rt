@@ -13,7 +13,7 @@ ghost use Rattle.clear_book.specs.Tables.{Tables};
 ghost use Rattle.clear_schema.specs.Faults.{IsOfDisk};
 ghost use Rattle.clear_schema.specs.Frame.{Leaves};
 ghost use Rattle.clear_schema.specs.Held.{HasTables, StandsFor};
-ghost use Rattle.clear_schema.specs.Still.{Holds, IsStill};
+ghost use Rattle.clear_database.specs.Still.{Holds, IsStill};
 ghost use Rattle.clear_debts.specs.Reads.{LeavesOpen};
 ghost use Rattle.clear_reading.specs.Reader.{TellsDocument};
 ghost use Rattle.clear_queries.specs.Findings.{IsTellable, IsTold, Replies};
@@ -26,12 +26,13 @@ use clear_book::numbers::{ListNo, RunNo};
 use clear_book::outcomes::Answer;
 use clear_book::rows::{ListRow, RunRow};
 use clear_book::rules::Rule;
+use clear_database::body::{Body, Stop, within};
 use clear_debts::owed::owed;
 use clear_firms::counts::find_counts;
-use clear_ledger::lists::find_list;
 use clear_ledger::runs::find_run;
 use clear_money::days::Day;
 use clear_money::numbers::{EmployerNo, WorkerNo};
+use clear_payouts::lists::find_list;
 use clear_reading::firm_head::firm_head;
 use clear_reading::lists::tell_list;
 use clear_reading::reminders::tell_reminders;
@@ -40,7 +41,6 @@ use clear_reading::stored::fault_told;
 use clear_reading::suspense::tell_suspense;
 use clear_reading::worker::worker_records;
 use clear_rules::gate::check_day;
-use clear_schema::body::{Body, Stop, within};
 use clear_schema::fault::Fault;
 use clear_texts::documents::worker_document;
 use clear_texts::records::StatementHead;
@@ -83,9 +83,9 @@ pub(crate) enum RowDocument {
 /// one at a time.
 ///
 /// Where the tables are those of a lawful book, the answer is the judge's. `Stop::Refused` then tells the
-/// judge's rule, a day before the ledger day first, then the query's own rules, or want of memory.
-/// `Stop::Fault` tells what failed of the store or of memory: no key and no row of such tables. After an
-/// error the tables are as they were, as far as the connection is still open to show them.
+/// judge's rule, a day before the ledger day first, then the query's own rules. `Stop::Fault` tells what
+/// failed of the store or of memory: no key and no row of such tables. After an error the tables are as
+/// they were, as far as the connection is still open to show them.
 pub fn inquire<S: Alter>(
     alloc: Global,
     conn: &mut Connection<S>,

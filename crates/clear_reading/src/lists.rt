@@ -5,7 +5,7 @@ ghost use Rattle.clear_reading.specs.Reader.{TellsDocument};
 
 use crate::telling::{DocumentHead, tell_rows};
 use clear_book::documents::Document;
-use clear_ledger::claims::{Claims, read_listed};
+use clear_payouts::claims::{Claims, read_listed};
 use clear_schema::fault::Fault;
 use clear_texts::payout::payout_text;
 use clear_texts::rows::{RowFault, RowSource};

@@ -16,9 +16,9 @@ ghost use Rattle.clear_schema.specs.Held.{HasTables};
 ghost use Rattle.clear_schema.specs.Values.{counts_of};
 ghost use Rattle.clear_reading.specs.Payout.{AreAmong, AreSince, IsViewOf, day_of_list};
 
-use clear_ledger::claims::claims_released_since;
-use clear_ledger::lists::find_list;
 use clear_money::days::Day;
+use clear_payouts::claims::claims_released_since;
+use clear_payouts::lists::find_list;
 use clear_rules::decide::payout::PayoutView;
 use clear_schema::counts::Counts;
 use clear_schema::fault::Fault;

@@ -21,7 +21,7 @@ ghost use Rattle.clear_debts.specs.Overdue.{IsFirm};
 use clear_book::numbers::RunNo;
 use clear_book::rows::{EmployerRow, ReminderRow};
 use clear_book::rules::StoreCause;
-use clear_debts::overdue::{is_day_back, read_overdue};
+use clear_debts::overdue::read_overdue;
 use clear_firms::employers::all_employers;
 use clear_firms::rates::rate_table;
 use clear_ledger::reminders::last_reminder;
@@ -35,16 +35,15 @@ use clear_schema::fault::Fault;
 use sqlite::{Alter, Transaction};
 use std::alloc::Global;
 
-/// What a reminder run on a day is judged by, where these counts stand: each firm with what it has
-/// overdue on the day and with its last reminder, by the firms' numbers, and the number that the
-/// run is to have.
+/// What a reminder run is judged by on a day that isn't before the ledger day, where these counts
+/// stand: each firm with what it has overdue on the day and with its last reminder, by the firms'
+/// numbers, and the number that the run is to have.
 ///
 /// It reads the rates and all firms once, and then each contribution that is kept of a firm and
 /// each of its credits for interest once, its last reminder and the run of that, by a search each;
 /// of each firm it takes one step for each member month before that of the day. What no book holds
 /// is refused with `Fault::Store(StoreCause::Row)`: a value out of its range, more contributions or
-/// credits than an account has, and more runs than can be numbered; so is a day before the ledger
-/// day.
+/// credits than an account has, and more runs than can be numbered.
 pub fn remind_view<S: Alter>(
     alloc: Global,
     tx: &mut Transaction<'_, S>,
@@ -54,18 +53,14 @@ pub fn remind_view<S: Alter>(
     ensures same_reference { tx.new.conn.ghost_name ≡ tx.old.conn.ghost_name }
     ensures view { HasCleanDisk (state S.Store tx.new.conn.now)
         → (t : Tables) → HasTables t (state S.Store tx.old.conn.now).now
-        → counts.now ≡ counts_of t → (b : Book) → IsLawful b → StandsWeighed b t
-        → IfOk result (IsRemindView b day) }
-    // On a day that isn't before the ledger day, as it is judged to be before.
+        → counts.now ≡ counts_of t → day_back t.day day ≡ None
+        → (b : Book) → IsLawful b → StandsWeighed b t → IfOk result (IsRemindView b day) }
     ensures fault { HasCleanDisk (state S.Store tx.new.conn.now)
         → (t : Tables) → HasTables t (state S.Store tx.old.conn.now).now
-        → counts.now ≡ counts_of t → day_back t.day day ≡ None
+        → counts.now ≡ counts_of t
         → (b : Book) → IsLawful b → StandsWeighed b t → IfErr result IsOfDisk }
     ensures leaves { Leaves S.Store tx.old.conn.now tx.new.conn.now result }
 {
-    if is_day_back(counts, day) {
-        return Err(Fault::Store(StoreCause::Row));
-    }
     let Some(next) = RunNo::new(u64::from(counts.runs) + 1) else {
         return Err(Fault::Store(StoreCause::Row));
     };

@@ -8,8 +8,8 @@ ghost use Rattle.clear_reading.specs.Reader.{TellsTables};
 use crate::counting::{AllRows, Tally, count_rows};
 use clear_firms::employers::{Employers, read_employers};
 use clear_firms::reports::{Reports, read_reports};
-use clear_ledger::bank::{Bank, lines};
-use clear_ledger::claims::{Claims, read_claims};
+use clear_ledger::bank::{Bank, read_lines};
+use clear_payouts::claims::{Claims, read_claims};
 use clear_schema::fault::Fault;
 use clear_values::rows::{BankRow, ClaimRow};
 use sqlite::{Alter, Connection};
@@ -87,7 +87,7 @@ fn count_lines<S: Alter>(conn: &mut Connection<S>) -> Result<LineCount, Fault>
     ensures tells { TellsTables S.Store conn.old conn.new (λ t. lines_counted t.bank)
         AreFewSuspended result }
 {
-    let mut rows = lines(conn)?;
+    let mut rows = read_lines(conn)?;
     count_rows::<AllLines, S>(&mut rows)
 }
 

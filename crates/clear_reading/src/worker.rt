@@ -12,8 +12,8 @@ ghost use Rattle.clear_texts.specs.Records.{AreWorkerRecords};
 
 use clear_firms::rates::rate_table;
 use clear_firms::wages::worker_wages;
-use clear_ledger::claims::worker_claims;
 use clear_money::numbers::WorkerNo;
+use clear_payouts::claims::worker_claims;
 use clear_schema::fault::Fault;
 use clear_texts::records::WorkerRecords;
 use sqlite::{Alter, Transaction};

@@ -9,11 +9,11 @@ ghost use Rattle.clear_office.specs.Office.{IsHonest, Keeps};
 
 use crate::memory_file::MemoryFile;
 use clear_book::ranges::rates_in_range;
+use clear_database::database::open_connection;
+use clear_database::files::store_options;
 use clear_money::rates::RateTable;
 use clear_office::made::make_office;
 use clear_office::office::Office;
-use clear_schema::database::open_connection;
-use clear_schema::files::store_options;
 use sqlite::{Alter, Connection, FileStore, Files};
 use std::alloc::Global;
 

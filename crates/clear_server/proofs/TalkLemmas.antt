@@ -16,7 +16,7 @@ use Rattle.clear_http.specs.Desk.{MaySay, MayServe}
 use Rattle.clear_http.specs.Guarded.{Admits}
 use Rattle.clear_http.specs.Served.{IsFailedRequest, RequestSteps}
 use Rattle.clear_server.specs.declared.connections.Ended.{Ended}
-use Rattle.clear_server.specs.Talks.{Talk, Talks, IsCount, IsFailedTalk, TalksTake, RunsTalks, AreServed}
+use Rattle.clear_server.specs.Talks.{Talk, Talks, EndsAfter, IsFailedTalk, TalksTake, RunsTalks, AreServed}
 
 module _ {H : Type 0} (responds : H → Heading → List ℕ → Said → H → Type 0) where
   talks_then : (a : H) (xs ys : List Talk) (b c : H) → Talks responds a xs b → Talks responds b ys c → Talks responds a (xs ++ ys) c
@@ -103,10 +103,10 @@ module _ {S : Type 0} (g : Ghosts S) (keys : List KeyOf) (day : ℕ) where
   pub clean : (n : ℕ) (old new : AtOffice S) → Talked n old new → IsHonest g new → IsHonest g old
   clean n old new said = talks_honest old said.0 new said.2
 
-  pub served : (ended : Ended) (n count : ℕ) (old new : AtOffice S) → IsCount ended count n → Talked n old new → AreServed g (Reads keys day) ended count old new
+  pub served : (ended : Ended) (n count : ℕ) (old new : AtOffice S) → EndsAfter ended count n → Talked n old new → AreServed g (Reads keys day) ended count old new
   served ended n count old new each said = record {
     talks = said.0;
-    each = subst (IsCount ended count) (sym said.1) each;
+    each = subst (EndsAfter ended count) (sym said.1) each;
     runs = talks_run old said.0 new said.2;
     access = talks_admit old said.0 new said.2;
   }

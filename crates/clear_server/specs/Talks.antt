@@ -27,10 +27,10 @@ most_failures = 100
 
 -- how many of so many connections were served: all of them, unless the store was gone before, or the
 -- system gave no more, and had refused that many
-abbrev pub IsCount : Ended → ℕ → ℕ → Type 0
-IsCount Served count talks = talks ≡ count
-IsCount StoreGone count talks = talks < count
-IsCount NoConnections count talks = (most_failures ≤ talks) × (talks < count)
+abbrev pub EndsAfter : Ended → ℕ → ℕ → Type 0
+EndsAfter Served count talks = talks ≡ count
+EndsAfter StoreGone count talks = talks < count
+EndsAfter NoConnections count talks = (most_failures ≤ talks) × (talks < count)
 
 module _ {H : Type 0} (responds : H → Heading → List ℕ → Said → H → Type 0) where
   -- the items of each connection are answered, one connection after another
@@ -68,7 +68,7 @@ module _ {S : Type 0} (g : Ghosts S) (reads : Heading → List ℕ → Result Ca
   -- of so many connections those were served, one after another, that came before serving ended so
   pub record AreServed (ended : Ended) (count : ℕ) (old new : AtOffice S) : Type 0 where
     pub talks : List Talk
-    pub each : IsCount ended count (length talks)
+    pub each : EndsAfter ended count (length talks)
     pub runs : RunsTalks old talks new
     -- this holds whatever the records are, also those of no lawful book
     pub access : Talks (Admits reads) old talks new

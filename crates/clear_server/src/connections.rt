@@ -68,8 +68,8 @@ struct Talked {
 ///
 /// Each connection that is taken counts. Before it is served, the store has to stand at its path, with
 /// its log beside it: where one has gone, nothing more is served. One that the system refuses, as for
-/// want of descriptors, counts, too, and takes a tenth of a second; after a hundred in turn nothing more
-/// is served.
+/// want of descriptors, counts, too, and takes a tenth of a second; after more than a hundred in turn
+/// nothing more is served.
 ///
 /// A peer has 30 seconds for a request, and 10 for each read and each write. Without a request its
 /// connection may stay open for 30 seconds, or until another one waits; a new one is left a second
@@ -204,7 +204,7 @@ fn talk<S: Alter>(
     match served {
         Ok(served) => {
             if next.is_none() {
-                let _ = close_after_answer(rt, stream, served.unread);
+                let _ = close_after_answer(rt, stream, served.by_rule);
             }
             Talked { end: Ok(()), next }
         }

@@ -8,7 +8,7 @@ ghost use Rattle.clear_store.specs.Changes.{IsClaimThere, IsFree, IsInRange, Put
 
 use crate::bank_file::insert_credits;
 use crate::new_credits::set_offs;
-use clear_ledger::claims::{insert_claim, replace_claim};
+use clear_payouts::claims::{insert_claim, replace_claim};
 use clear_schema::fault::Fault;
 use clear_values::rows::{Change, ClaimRow};
 use sqlite::{Alter, Transaction};

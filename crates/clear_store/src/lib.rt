@@ -20,6 +20,7 @@ pub mod pieces;
 mod runs;
 mod suspense;
 
+pub use clear_database::store;
 pub use clear_firms::{counts, employers, rates, reports, wages};
 pub use clear_ledger::{bank, credits, requests};
-pub use clear_schema::{fault, store};
+pub use clear_schema::fault;

@@ -6,8 +6,8 @@ ghost use Rattle.clear_values.specs.RowRanges.{IsClaimRow};
 ghost use Rattle.clear_values.specs.Tables.{claim_key, list_key};
 ghost use Rattle.clear_store.specs.Changes.{AreClaimsThere, IsFree, IsInRange, Puts};
 
-use clear_ledger::claims::replace_claim;
-use clear_ledger::lists::insert_list;
+use clear_payouts::claims::replace_claim;
+use clear_payouts::lists::insert_list;
 use clear_schema::fault::Fault;
 use clear_values::rows::{Change, ClaimRow, ListRow};
 use sqlite::{Alter, Transaction};

@@ -1,5 +1,5 @@
 //! What new rates are judged by.
-ghost use Rattle.std.specs.Prelude.{◌≡◌, IfErr, IfOk};
+ghost use Rattle.std.specs.Prelude.{◌≡◌, ◌≢◌, [], IfErr, IfOk, OnOk};
 ghost use Rattle.sqlite.specs.Held.{state};
 ghost use Rattle.sqlite.specs.State.{HasCleanDisk};
 ghost use Rattle.clear_money.specs.Rates.{last_first};
@@ -23,6 +23,9 @@ pub fn add_rate_view<S: Alter>(tx: &mut Transaction<'_, S>) -> Result<Month, Fau
     ensures last { HasCleanDisk (state S.Store tx.new.conn.now)
         → (t : Tables) → HasTables t (state S.Store tx.old.conn.now).now
         → IfOk result (λ month. month ≡ last_first t.rates) }
+    ensures none { HasCleanDisk (state S.Store tx.new.conn.now)
+        → (t : Tables) → HasTables t (state S.Store tx.old.conn.now).now
+        → OnOk result (t.rates ≢ []) }
     ensures fault { HasCleanDisk (state S.Store tx.new.conn.now)
         → (t : Tables) → HasTables t (state S.Store tx.old.conn.now).now
         → AreInRange t → IfErr result IsOfDisk }

@@ -12,7 +12,7 @@ ghost use Rattle.clear_views.specs.Ends.{last_report};
 
 use crate::member::find_member;
 use clear_book::calls::MembershipEnd;
-use clear_firms::reports::find_last;
+use clear_firms::reports::find_last_report;
 use clear_money::months::Month;
 use clear_money::numbers::EmployerNo;
 use clear_rules::decide::end::EndView;
@@ -58,7 +58,7 @@ fn last_month<S: Alter>(
         → AreInRange t → IfErr result IsOfDisk }
     ensures leaves { Leaves S.Store tx.old.conn.now tx.new.conn.now result }
 {
-    match find_last(tx, employer)? {
+    match find_last_report(tx, employer)? {
         Some(row) => Ok(Some(row.month)),
         None => Ok(None),
     }

@@ -2,8 +2,9 @@
 //! command but those that make a payout list or a reminder run.
 //!
 //! Each is read by keys, by the front of a key or, of a worker, by an index, so a request reads what
-//! it touches, whatever the book holds. The rates are read whole; firms and bank lines are counted only
-//! where no number that is known serves in the place of their count. Where the tables stand for a
+//! it touches, whatever the book holds. The rates are read whole for a claim and a release, and else the
+//! one row that is asked for; firms and bank lines are counted only where no number that is known serves in
+//! the place of their count. Where the tables stand for a
 //! lawful book, a view is what that book says, and no fault is one of a key or of a row.
 #![tactic(auto)]
 

@@ -27,30 +27,30 @@ use clear_bank::lines::Purpose;
 use clear_book::limits::MAX_CREDITS;
 use clear_book::numbers::{ClaimNo, SerialCount};
 use clear_book::rules::StoreCause;
-use clear_debts::overdue::{Overdue, is_day_back, read_overdue};
+use clear_debts::overdue::{Overdue, read_overdue};
 use clear_firms::employers::find_employer;
 use clear_firms::rates::rate_table;
-use clear_ledger::claims::find_claim;
 use clear_ledger::credits::credit_count;
 use clear_money::days::Day;
 use clear_money::numbers::EmployerNo;
+use clear_payouts::claims::find_claim;
 use clear_rules::decide::release::{FirmDebts, OwingClaim, ReleaseView};
 use clear_schema::counts::Counts;
 use clear_schema::fault::Fault;
 use sqlite::{Alter, Transaction};
 use std::alloc::Global;
 
-/// What a release on a day is judged by, where these counts stand: the claim of the number, if
-/// there is one, with what its firm owes on the day and how many credits it has, however the claim
-/// stands; and how many serials were given.
+/// What a release is judged by on a day that isn't before the ledger day, where these counts stand:
+/// the claim of the number, if there is one, with what its firm owes on the day and how many credits
+/// it has, however the claim stands; and how many serials were given.
 ///
 /// It takes one search for the claim and one for its firm, reads the rates, each contribution that
-/// is kept of the firm and each of its credits for interest once, and takes one step for each month
-/// that there is. The firm's credits for contributions are read only once 100,000 serials were
-/// given: while there are fewer, their number serves for that of the credits. What no book holds is
-/// refused with `Fault::Store(StoreCause::Row)`: a value out of its range, more contributions or
-/// credits than an account has, and a claim of a firm that isn't registered; so is a day before the
-/// ledger day.
+/// is kept of the firm and each of its credits for interest once, and takes one step, with a search
+/// among the rates, for each member month before that of the day. The firm's credits for
+/// contributions are read only once 100,000 serials were given: while there are fewer, their number
+/// serves for that of the credits. What no book holds is refused with
+/// `Fault::Store(StoreCause::Row)`: a value out of its range, more contributions or credits than an
+/// account has, and a claim of a firm that isn't registered.
 pub fn release_view<S: Alter>(
     alloc: Global,
     tx: &mut Transaction<'_, S>,
@@ -65,18 +65,14 @@ pub fn release_view<S: Alter>(
         ≡ find_row claim_key t.claims (claim ∷ [])) }
     ensures view { HasCleanDisk (state S.Store tx.new.conn.now)
         → (t : Tables) → HasTables t (state S.Store tx.old.conn.now).now
-        → counts.now ≡ counts_of t → (b : Book) → IsLawful b → StandsWeighed b t
+        → counts.now ≡ counts_of t → day_back t.day day ≡ None
+        → (b : Book) → IsLawful b → StandsWeighed b t
         → IfOk result (IsReleaseView b day claim) }
-    // On a day that isn't before the ledger day, as it is judged to be before.
     ensures fault { HasCleanDisk (state S.Store tx.new.conn.now)
         → (t : Tables) → HasTables t (state S.Store tx.old.conn.now).now
-        → counts.now ≡ counts_of t → day_back t.day day ≡ None
         → (b : Book) → IsLawful b → StandsWeighed b t → IfErr result IsOfDisk }
     ensures leaves { Leaves S.Store tx.old.conn.now tx.new.conn.now result }
 {
-    if is_day_back(counts, day) {
-        return Err(Fault::Store(StoreCause::Row));
-    }
     let serials = counts.serial;
     let found = find_owing(alloc, tx, serials, day, claim)?;
     Ok(ReleaseView { found, serials })

@@ -13,7 +13,7 @@ ghost use Rattle.clear_schema.specs.Held.{HasTables};
 
 use crate::member::find_member;
 use clear_book::calls::Withdrawal;
-use clear_ledger::claims::find_claim;
+use clear_payouts::claims::find_claim;
 use clear_rules::decide::withdraw::WithdrawView;
 use clear_schema::fault::Fault;
 use sqlite::{Alter, Transaction};

@@ -3,10 +3,10 @@
 use crate::calls::is_done;
 use crate::runs::{Act, Case, Desk, Found, Next, Passed, Run, is_right, run_in_files, sample_desk};
 use crate::script::{COUNT, Came, send, told};
+use clear_database::store::{Refusal, Store};
 use clear_office::made::make_office;
 use clear_office::office::Office;
 use clear_schema::fault::OpenFault;
-use clear_schema::store::{Refusal, Store};
 use sqlite::{Alter, Connection};
 use std::alloc::Global;
 

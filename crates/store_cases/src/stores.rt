@@ -10,14 +10,14 @@ use clear_book::calls::Caller;
 use clear_book::numbers::RequestNo;
 use clear_book::rules::StoreCause;
 use clear_columns::rows::next_row;
-use clear_ledger::bank::{Bank, find_line, lines};
+use clear_database::store::{Refusal, Store};
+use clear_ledger::bank::{Bank, find_line, read_lines};
 use clear_ledger::credits::{Credits, read_credits};
 use clear_ledger::requests::find_request;
 use clear_money::numbers::EmployerNo;
 use clear_money::rates::RateTable;
 use clear_office::office::Office;
 use clear_schema::fault::{Fault, OpenFault};
-use clear_schema::store::{Refusal, Store};
 use sqlite::{Alter, Connection, Rows, Transaction};
 use std::alloc::Global;
 
@@ -108,7 +108,7 @@ fn reads_credits<S: Alter>(conn: &mut Connection<S>) -> bool {
 
 // Whether the lines come by their references, one at a time.
 fn reads_lines<S: Alter>(conn: &mut Connection<S>) -> bool {
-    match lines(conn) {
+    match read_lines(conn) {
         Ok(mut rows) => {
             next_line(&mut rows) == Some(2)
                 && next_line(&mut rows) == Some(1)

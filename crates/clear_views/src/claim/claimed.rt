@@ -9,8 +9,8 @@ ghost use Rattle.clear_schema.specs.Faults.{IsOfDisk};
 ghost use Rattle.clear_schema.specs.Held.{HasTables};
 
 use clear_book::rules::StoreCause;
-use clear_ledger::claims::worker_claims;
 use clear_money::numbers::WorkerNo;
+use clear_payouts::claims::worker_claims;
 use clear_schema::fault::Fault;
 use clear_texts::balance::claimed_cents;
 use sqlite::{Alter, Transaction};

@@ -2,8 +2,8 @@ use Rattle.std.proofs.Common.{inl, subst, sym}
 use Rattle.sqlite.specs.Held.{state}
 use Rattle.clear_schema.specs.Held.{HasTables}
 use Rattle.clear_schema.specs.Schema.{this_layout}
-use Rattle.clear_schema.proofs.OpenLemmas.{store_tells}
-use Rattle.clear_schema.proofs.SeenLemmas.{nothing_seen}
+use Rattle.clear_database.proofs.OpenLemmas.{store_tells}
+use Rattle.clear_database.proofs.SeenLemmas.{nothing_seen}
 use Rattle.clear_host.proofs.RefusalLemmas.{never_so, only_so, other_so}
 use Rattle.clear_host.proofs.StoreLemmas.{just_seen, other_layout_seen, tables_seen, told_seen}
 use Rattle.clear_host.proofs.migrations.bring.Goals as goal
@@ -24,7 +24,7 @@ returns-in-Ok-clause-ours g c image sees clean =
     record {
       only_this = λ number holds. c.in-Ok.ensures.only_this clean number (told_seen image old seen number holds).1;
       not_other = λ holds. never_so _ c.in-Ok.migration (c.in-Ok.ensures.other clean (other_layout_seen image old seen holds));
-      only_stores = λ nothing. never_so _ c.in-Ok.migration (c.in-Ok.ensures.empty clean (nothing_seen image old seen nothing));
+      only_stores = λ nothing. never_so _ c.in-Ok.migration (c.in-Ok.ensures.empty clean (inl (nothing_seen image old seen nothing)));
     }
 
 pub returns-in-Err-clause-tells : goal.returns-in-Err-clause-tells
@@ -33,7 +33,7 @@ returns-in-Err-clause-tells g c image sees =
     record {
       version = λ number holds clean. c.in-Err.ensures.version clean number (told_seen image old (sees (c.in-Err.ensures.clean clean)) number holds).1;
       other = λ holds clean. other_so c.in-Err.fault (c.in-Err.ensures.other clean (other_layout_seen image old (sees (c.in-Err.ensures.clean clean)) holds));
-      empty = λ nothing clean. only_so 0 c.in-Err.fault (c.in-Err.ensures.empty clean (nothing_seen image old (sees (c.in-Err.ensures.clean clean)) nothing));
+      empty = λ nothing clean. only_so 0 c.in-Err.fault (c.in-Err.ensures.empty clean (inl (nothing_seen image old (sees (c.in-Err.ensures.clean clean)) nothing)));
     }
 
 pub returns-in-Err-clause-rests : goal.returns-in-Err-clause-rests

@@ -1,7 +1,6 @@
-use Rattle.std.proofs.Common.{◌∙◌}
 use Rattle.std.proofs.lemmas.Result.{err_from_is_err_and}
 use Rattle.sqlite.specs.Held.{state}
-use Rattle.clear_schema.proofs.SeenLemmas.{if_ok_both}
+use Rattle.clear_database.proofs.SeenLemmas.{if_ok_both}
 use Rattle.clear_host.proofs.OfficeLemmas.{if_ok_pair}
 use Rattle.clear_host.proofs.RefusalLemmas.{refused_leaves, untold_tells}
 use Rattle.clear_host.proofs.offices.find_office.Goals as goal
@@ -15,7 +14,7 @@ returns-clause-opened g c image sees =
     record {
       found = λ t holds. it.0 honest t (store.found image sees sound t holds).now;
       keeps = λ b held. it.1.0 honest b held.0 held.1 (store.found image sees sound held.0 held.2).now;
-      day = λ b held. it.1.1 honest held.0 (store.found image sees sound held.0 held.2).now ∙ held.1.stands.day;
+      day = λ t holds. it.1.1 honest t (store.found image sees sound t holds).now;
       ours = store.ours image sees sound;
     })
     all c.office_over.ensures.clean

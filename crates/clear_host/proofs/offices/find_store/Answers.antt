@@ -2,10 +2,10 @@ use Rattle.std.proofs.Common.{inl}
 use Rattle.std.proofs.lemmas.Result.{IfOk-weaker}
 use Rattle.sqlite.specs.Held.{state}
 use Rattle.sqlite.specs.State.{HasCleanDisk}
-use Rattle.clear_schema.specs.Seen.{SeesIn}
-use Rattle.clear_schema.proofs.OpenLemmas.{store_tells}
+use Rattle.clear_database.specs.Seen.{SeesIn}
+use Rattle.clear_database.proofs.OpenLemmas.{store_tells}
 use Rattle.clear_schema.specs.Schema.{this_layout}
-use Rattle.clear_schema.proofs.SeenLemmas.{if_ok_both, nothing_seen}
+use Rattle.clear_database.proofs.SeenLemmas.{if_ok_both, nothing_seen}
 use Rattle.clear_host.proofs.RefusalLemmas.{refused_leaves, tells_only, untold_tells}
 use Rattle.clear_host.proofs.StoreLemmas.{just_seen, other_is_seen, still_seen, store_seen, tables_seen, told_seen}
 use Rattle.clear_host.proofs.offices.find_store.Goals as goal
@@ -28,7 +28,7 @@ returns-in-Ok-clause-ours g c image sees =
     record {
       only_this = λ number holds. c.in-Ok.ensures.right sound number (told_seen image old seen number holds).0 seen.opened.0.is_open;
       not_other = λ holds. c.in-Ok.ensures.not_other sound seen.opened.0.is_open (other_is_seen image old seen holds);
-      only_stores = λ nothing. c.in-Ok.ensures.not_empty sound (nothing_seen image old seen nothing);
+      only_stores = λ nothing. c.in-Ok.ensures.not_empty sound (inl (nothing_seen image old seen nothing));
     })
     c.confirm.ensures.clean
 
@@ -46,7 +46,7 @@ returns-in-Err-clause-tells g c image sees =
     record {
       version = λ number holds clean. c.in-Err.ensures.version clean number (told_seen image old (seen clean) number holds).0 (seen clean).opened.0.is_open;
       other = λ holds clean. c.in-Err.ensures.other clean (other_is_seen image old (seen clean) holds) (seen clean).opened.0.is_open;
-      empty = λ nothing clean. tells_only 0 c.in-Err.refusal.fault (c.in-Err.ensures.empty clean (nothing_seen image old (seen clean) nothing));
+      empty = λ nothing clean. tells_only 0 c.in-Err.refusal.fault (c.in-Err.ensures.empty clean (inl (nothing_seen image old (seen clean) nothing)));
     }
 
 pub returns-in-Err-clause-leaves : goal.returns-in-Err-clause-leaves

@@ -6,7 +6,7 @@ use Rattle.clear_http.proofs.serve.serve_input.Given as goal
 
 abbrev pub invariant-turns : goal.invariant-turns
 invariant-turns g l = record {
-  progress : Progress (g.H.Responder.responds l.fn.responder) l.fn.state (stream g.R.Read.remaining l.fn.input) (stream g.R.Read.remaining l.input) (g.W.Write.contents (inner l.fn.writer)) (g.W.Write.contents (inner l.writer)) l.left l.state (record { requests = l.requests; unread = l.unread });
+  progress : Progress (g.H.Responder.responds l.fn.responder) l.fn.state (stream g.R.Read.remaining l.fn.input) (stream g.R.Read.remaining l.input) (g.W.Write.contents (inner l.fn.writer)) (g.W.Write.contents (inner l.writer)) l.left l.state (record { requests = l.requests; by_rule = l.by_rule });
   borrow : (g.R.NotedRead.noted (reader_of l.input)).borrow ≡ (g.R.NotedRead.noted (reader_of l.fn.input)).borrow;
   counts : CountsReads g.R.NotedRead.noted l.fn.input l.input;
   reader : failed_of g.R.NotedRead.noted l.input ≡ failed_of g.R.NotedRead.noted l.fn.input;

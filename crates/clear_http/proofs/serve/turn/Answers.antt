@@ -33,7 +33,7 @@ returns-in-Ok-write_answer-clause-answered g c =
       told,
       subst (Appends (g.W.Write.contents (inner c.args.writer.now)) (g.W.Write.contents (inner c.write_answer.new.writer)))
           (sym (append-nil w.1) ∙ ap (λ t. w.1 ++ t) (sym w.6) ∙ sym w.4 ∙ same) w.5,
-      f.unread,
+      f.by_rule,
     )
 
 pub returns-clause-fault : goal.returns-clause-fault

@@ -146,13 +146,13 @@ returns-in_ok-view-in-Release-clause-decided g c clean t has counts back =
     rw (c.in-Release.is, c.or_stop-in-Release.ensures)
     (decides_weighed c.args.day (Release claim) t c.decide_release.result
     (release_there t c.decide_release.result c.args.day claim c.in_ok-view-in-Release.view (c.in_ok-view-in-Release.ensures.claim clean t has) decided.made)
-    (λ b lawful weighed. decided.judged b claim (c.in_ok-view-in-Release.ensures.view clean t has counts b lawful weighed))
-    (λ b lawful weighed. decided.change b claim (c.in_ok-view-in-Release.ensures.view clean t has counts b lawful weighed)))
+    (λ b lawful weighed. decided.judged b claim (c.in_ok-view-in-Release.ensures.view clean t has counts back b lawful weighed))
+    (λ b lawful weighed. decided.change b claim (c.in_ok-view-in-Release.ensures.view clean t has counts back b lawful weighed)))
 
 pub returns-in_err-view-in-Release-clause-decided : goal.returns-in_err-view-in-Release-clause-decided
 returns-in_err-view-in-Release-clause-decided g c clean t has counts back =
     let p = err_from_is_err_and c.from_residual-in_err-view-in-Release.result c.from_residual-in_err-view-in-Release.ensures.1 in
-    rw (p.1, p.2) (λ b lawful weighed. c.in_err-view-in-Release.ensures.fault clean t has counts back b lawful weighed)
+    rw (p.1, p.2) (λ b lawful weighed. c.in_err-view-in-Release.ensures.fault clean t has b lawful weighed)
 
 pub returns-in_ok-payout_view-in-PayoutList-clause-decided : goal.returns-in_ok-payout_view-in-PayoutList-clause-decided
 returns-in_ok-payout_view-in-PayoutList-clause-decided g c clean t has counts back =
@@ -174,10 +174,10 @@ returns-in_ok-view-in-RemindRun-clause-decided g c clean t has counts back =
     rw (c.in-RemindRun.is, c.or_stop-in-RemindRun.ensures)
     (decides_weighed c.args.day RemindRun t c.decide_remind.result
     (run_there t c.decide_remind.result _ _ decided.made)
-    (λ b lawful weighed. decided.judged b (c.in_ok-view-in-RemindRun.ensures.view clean t has counts b lawful weighed))
-    (λ b lawful weighed. decided.change b (c.in_ok-view-in-RemindRun.ensures.view clean t has counts b lawful weighed)))
+    (λ b lawful weighed. decided.judged b (c.in_ok-view-in-RemindRun.ensures.view clean t has counts back b lawful weighed))
+    (λ b lawful weighed. decided.change b (c.in_ok-view-in-RemindRun.ensures.view clean t has counts back b lawful weighed)))
 
 pub returns-in_err-view-in-RemindRun-clause-decided : goal.returns-in_err-view-in-RemindRun-clause-decided
 returns-in_err-view-in-RemindRun-clause-decided g c clean t has counts back =
     let p = err_from_is_err_and c.from_residual-in_err-view-in-RemindRun.result c.from_residual-in_err-view-in-RemindRun.ensures.1 in
-    rw (p.1, p.2) (λ b lawful weighed. c.in_err-view-in-RemindRun.ensures.fault clean t has counts back b lawful weighed)
+    rw (p.1, p.2) (λ b lawful weighed. c.in_err-view-in-RemindRun.ensures.fault clean t has counts b lawful weighed)

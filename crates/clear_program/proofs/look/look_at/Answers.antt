@@ -1,4 +1,6 @@
 use Rattle.std.proofs.Common.{inl, inr, refl}
+use Rattle.sqlite.specs.Files.{over_files}
+use Rattle.clear_program.proofs.ReasonLemmas.{why_refused}
 use Rattle.clear_program.proofs.look.look_at.Goals as goal
 
 pub returns-in-Ok-clause-says : goal.returns-in-Ok-clause-says
@@ -8,4 +10,4 @@ returns-in-Ok-clause-says g c =
 
 pub returns-in-Err-clause-says : goal.returns-in-Err-clause-says
 returns-in-Err-clause-says g c =
-    inr (c.path_kind-kind.result, c.in-Err.refused.hindrance, c.in-Err.refused.fault, c.tell_why.result, c.tell_why.ensures.told, refl, refl)
+    inr (c.in-Err.refused, c.tell_why.result, why_refused over_files _ c.in-Err.refused c.in-Err.ensures.opens.1, c.tell_why.ensures.told, refl, refl)

@@ -1,0 +1,73 @@
+-- What a connection on files that were just opened sees: an empty database, where they hold none yet.
+use Rattle.std.proofs.Common.{◌≡◌, ◌∙◌, ◌≤◌, ◌<◌, ℕ, true, false, List, [], length, take, slice_index, Option, Some, unwrap_or, Result, Ok, Err, IfOk, sym, ap, inl, inr, arith, get_or-take}
+use Rattle.std.proofs.Math.Logic.{∥∥₁_elim}
+use Rattle.std.proofs.lemmas.List.{length-take}
+use Rattle.sqlite_wal.specs.Recovery.{Image}
+use Rattle.sqlite_wal.proofs.AppendLemmas.{some_value}
+use Rattle.sqlite_wal.proofs.CreateLemmas.{begun_is_not_blank}
+use Rattle.sqlite_pages.specs.PageMap.{PageMap}
+use Rattle.sqlite_pool.specs.File.{header_in, IsSoundFile}
+use Rattle.sqlite_pool.specs.Header.{first_page}
+use Rattle.sqlite_pool.specs.Stored.{Adopts, sealed, stored_size, used_size}
+use Rattle.sqlite_pool.specs.StoredLaws.{trimmed_some}
+use Rattle.sqlite_pool.proofs.ProbeLemmas.{first_byte}
+use Rattle.sqlite_trees.specs.Objects.{catalog_tree}
+use Rattle.sqlite_trees.specs.Tree.{Trees}
+use Rattle.sqlite_pool.specs.Opening.{IsBlankFile}
+use Rattle.sqlite_pool.specs.Stored.{reserved}
+use Rattle.sqlite_pool.proofs.ProbeLemmas.{not_blank}
+use Rattle.sqlite_catalog.proofs.ReadLemmas.{lists_once}
+use Rattle.sqlite.specs.Files.{AreFoundIn, HoldsDatabase, IsNothing}
+use Rattle.sqlite.specs.State.{State}
+use Rattle.sqlite.proofs.ListingLemmas.{empty_is_sound}
+use Rattle.clear_schema.specs.Schema.{no_schema}
+use Rattle.clear_database.specs.Seen.{SeesIn}
+
+-- what follows from both, holds of the value
+pub if_ok_both : {A E : Type 0} (r : Result A E) (P Q R : A → Type 0) → ((x : A) → P x → Q x → R x) → IfOk r P → IfOk r Q → IfOk r R
+if_ok_both (Ok x) P Q R then p q = then x p q
+if_ok_both (Err e) P Q R then p q = tt
+
+-- the first page of a sound file begins with the letter S, and is longer than one byte
+module _ (size : ℕ) (image : Image) (pages : PageMap) (found : Adopts size image pages) (sound : IsSoundFile size pages) (page : List ℕ) (stands : found.stored 1 ≡ Some page) where
+  head : header_in pages ≡ take 100 (take size page)
+  head =
+      let used : pages 1 ≡ Some (take size page) = ap (λ (p : PageMap). p 1) (sym found.shows) ∙ trimmed_some size found.stored 1 page stands in
+      ap (λ (o : Option (List ℕ)). take 100 (unwrap_or o [])) used
+
+  long : (16 ≤ size) × (16 ≤ length page)
+  long =
+      let whole = ap length (ap (take 16) (sym head) ∙ sound.header.0.magic) in
+      omega (arith, whole, length-take 16 (take 100 (take size page)), length-take 100 (take size page), length-take size page)
+
+  begins : slice_index page 0 ≡ 83
+  begins =
+      sym (get_or-take size page 0 0 (omega (arith, long))) ∙ sym (get_or-take 100 (take size page) 0 0 (omega arith)) ∙ ap (λ (b : List ℕ). slice_index b 0) (sym head)
+      ∙ sym (get_or-take 16 (header_in pages) 0 0 (omega arith)) ∙ ap (λ (b : List ℕ). slice_index b 0) sound.header.0.magic
+
+  -- so what an open on its way leaves is no sound file
+  pub is_something : ¬ IsNothing image
+  is_something nothing =
+      let never = λ (other : ℕ) (some : 0 < other). let first = first_byte other some in
+      begun_is_not_blank (sealed (first_page other)) page (stored_size size) image found.stored found.found stands (found.whole.sized 1 page stands) (omega (arith, long)) (begins ∙ sym first) (λ none. omega (arith, first, none)) in
+      elim nothing [ inl plain ↦ never (used_size 4096 false) (omega arith) plain | inr summed ↦ never (used_size 4096 true) (omega arith) summed ]
+
+-- files that hold no database yet have no tables
+pub none_found : (image : Image) (trees : Trees) → IsNothing image → AreFoundIn image trees → trees catalog_tree ≡ []
+none_found image trees nothing (inl (size, pages, wanted, found, ours, is)) =
+    let (page, stands) = some_value (found.stored 1) found.whole.first in
+    absurd (∥∥₁_elim ours (λ a b. absurd a) (λ it. is_something size image pages found it.file.sound page stands nothing))
+none_found image trees nothing (inr (blank, empty)) = empty.1
+
+-- files that hold a database are none that have still to be made one of, whatever its pages
+pub none_held : (other : ℕ) → 0 < other → (image : Image) (trees : Trees) → HoldsDatabase image trees → ¬ IsBlankFile other image
+none_held other some image trees held =
+    let large : 504 ≤ held.0 = (let few : reserved held.0 ≤ 8 = grind arith in omega (arith, held.1.0)) in
+    not_blank held.0 image held.2.pages held.2.found large held.2.ours.file.sound other some
+
+-- so a connection on files that hold no database yet sees no table
+pub nothing_seen : (image : Image) (s : State) → SeesIn image s → IsNothing image → s.now.schema ≡ no_schema
+nothing_seen image s seen nothing =
+    let bare = seen.bare nothing in
+    let here = lists_once (s.committed.trees catalog_tree) s.committed.schema no_schema (seen.opened.1 seen.opened.0.is_open).1.lists (empty_is_sound s.committed.trees bare).lists in
+    ap (λ d. d.schema) seen.opened.0.clean ∙ here

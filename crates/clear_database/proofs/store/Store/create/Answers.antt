@@ -1,0 +1,4 @@
+use Rattle.clear_database.proofs.store.Store.create.Goals as goal
+
+pub returns-in-Err-clause-there : goal.returns-in-Err-clause-there
+returns-in-Err-clause-there g c clean number is = (c.in-Err.ensures.there clean number is).1

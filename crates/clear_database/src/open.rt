@@ -1,0 +1,153 @@
+//! Finding the store in a database that it was made in.
+ghost use Rattle.std.specs.Prelude.{◌≡◌, ◌≢◌, false, ℕ, negsuc, [], ◌∷◌, Some, None};
+ghost use Rattle.std.specs.Prelude.{IsTrue, OnOk, IfOk, IfErr};
+ghost use Rattle.sqlite.specs.declared.types.Value.TheVariants.{Int};
+ghost use Rattle.sqlite.specs.Held.{state};
+ghost use Rattle.sqlite.specs.State.{HasCleanDisk, Survives, IsUnchanged};
+ghost use Rattle.clear_values.specs.Tables.{Tables};
+ghost use Rattle.clear_schema.specs.Faults.{IsOfDisk, IsOfRowOrDisk, IsWrong, TellsOutOfRange};
+ghost use Rattle.clear_schema.specs.Faults.{other_layout};
+ghost use Rattle.clear_schema.specs.Held.{HasTables, StandsFor, StandsOtherwise, TellsAs};
+ghost use Rattle.clear_schema.specs.Held.{TellsSchema, this_schema};
+ghost use Rattle.clear_database.specs.Opening.{HasMetaOrNothing, IsBelowZero};
+ghost use Rattle.clear_database.specs.Opening.{TellsNoNumber, TellsNumberOrNone};
+ghost use Rattle.clear_schema.specs.Schema.{store_schema};
+ghost use Rattle.clear_database.specs.Still.{IsStill};
+ghost use Rattle.clear_schema.specs.Values.{number as stored_number};
+
+use crate::store::SCHEMA;
+use clear_schema::fault::{Fault, OpenFault, fault_of, read_fault};
+use clear_schema::layout::has_this_layout;
+use clear_values::causes::StoreCause;
+use sqlite::{Alter, Connection, Error, Row};
+
+/// Tells whether the database is a store of this program, and which number it has otherwise. Where it
+/// tells our number, but has other tables or indexes than ours,
+/// `Failed(Fault::Store(StoreCause::Other))`.
+pub fn open_tables<S: Alter>(conn: &mut Connection<S>) -> Result<(), OpenFault>
+    requires { conn.old.in_transaction ≡ false }
+    ensures mode { conn.new.in_transaction ≡ false }
+    ensures found { HasCleanDisk (state S.Store conn.new)
+        → (t : Tables) → StandsFor t (state S.Store conn.old).committed.trees
+        → IsTrue (state S.Store conn.old).is_open
+        → OnOk result (HasTables t (state S.Store conn.new).now
+        × HasTables t (state S.Store conn.new).committed) }
+    ensures version { HasCleanDisk (state S.Store conn.new)
+        → (number : ℕ) → TellsAs number (state S.Store conn.old).committed.trees
+        → IsTrue (state S.Store conn.old).is_open
+        → OnOk result (number ≡ this_schema) × IfErr result (IsWrong this_schema number) }
+    ensures only_ours { OnOk result ((state S.Store conn.old).now.schema ≡ store_schema) }
+    ensures other { HasCleanDisk (state S.Store conn.new)
+        → StandsOtherwise (state S.Store conn.old).committed.trees
+        → IsTrue (state S.Store conn.old).is_open → OnOk result ⊥
+        × IfErr result (λ fault. fault ≢ OpenFault.Failed Fault.Memory → fault ≡ other_layout) }
+    ensures empty { HasCleanDisk (state S.Store conn.new)
+        → TellsNoNumber (state S.Store conn.old).now
+        → OnOk result ⊥
+        × IfErr result (λ fault. (told : ℕ) → fault ≡ OpenFault.WrongVersion told → told ≡ 0) }
+    ensures below_zero { HasCleanDisk (state S.Store conn.new)
+        → IsBelowZero (state S.Store conn.old).now
+        → OnOk result ⊥ × IfErr result TellsOutOfRange }
+    ensures open { HasCleanDisk (state S.Store conn.new)
+        → OnOk result (IsTrue (state S.Store conn.new).is_open) }
+    ensures cause { HasCleanDisk (state S.Store conn.new)
+        → TellsNumberOrNone (state S.Store conn.old).now
+        → IfErr result (λ fault. (why : Fault) → fault ≡ OpenFault.Failed why → IsOfDisk why) }
+    ensures clean { HasCleanDisk (state S.Store conn.new) → HasCleanDisk (state S.Store conn.old) }
+    // Nothing changes in a database that tells a number, ours or another one.
+    ensures still { HasCleanDisk (state S.Store conn.new)
+        → (number : ℕ) → TellsAs number (state S.Store conn.old).committed.trees
+        → IsTrue (state S.Store conn.old).is_open → IsTrue (state S.Store conn.new).is_open
+        → IsStill (state S.Store conn.old) (state S.Store conn.new) }
+    ensures survives { (number : ℕ) → TellsAs number (state S.Store conn.old).committed.trees
+        → IsTrue (state S.Store conn.old).is_open
+        → Survives (state S.Store conn.old) (state S.Store conn.new) (λ _. ⊥) }
+    // Nor does anything where `meta` stands first, whatever it tells, or in an empty database.
+    ensures rests { HasCleanDisk (state S.Store conn.new)
+        → HasMetaOrNothing (state S.Store conn.old).now.schema
+        → IsTrue (state S.Store conn.new).is_open
+        → IsStill (state S.Store conn.old) (state S.Store conn.new) }
+    ensures rests_after { HasMetaOrNothing (state S.Store conn.old).now.schema
+        → Survives (state S.Store conn.old) (state S.Store conn.new) (λ _. ⊥) }
+{
+    let schema = conn.schema();
+    let ours = has_this_layout(schema);
+    // For what it says of a connection outside of a transaction.
+    let _outside = conn.is_autocommit();
+    let found = match found_schema(conn) {
+        Ok(found) => found,
+        Err(fault) => return Err(OpenFault::Failed(fault)),
+    };
+    match found {
+        Some(number) => {
+            if number == SCHEMA {
+                taken_if(ours)
+            } else {
+                Err(OpenFault::WrongVersion(number))
+            }
+        }
+        None => Err(OpenFault::WrongVersion(0)),
+    }
+}
+
+// A database of our number is a store where its layout is ours.
+fn taken_if(ours: bool) -> Result<(), OpenFault>
+    ensures ok { OnOk result (IsTrue ours) }
+    ensures err { IfErr result (λ fault. (fault ≡ other_layout) × (ours ≡ false)) }
+{
+    if ours {
+        Ok(())
+    } else {
+        Err(OpenFault::Failed(Fault::Store(StoreCause::Other)))
+    }
+}
+
+/// The number of its schema that the database tells, or none where it has no table for it or no
+/// row there.
+pub fn found_schema<S: Alter>(conn: &mut Connection<S>) -> Result<Option<u64>, Fault>
+    ensures empty { HasCleanDisk (state S.Store conn.new)
+        → TellsNoNumber (state S.Store conn.old).now
+        → IfOk result (λ found. found ≡ None) }
+    ensures found { HasCleanDisk (state S.Store conn.new)
+        → (number : ℕ) → TellsSchema number (state S.Store conn.old).now
+        → IfOk result (λ found. found ≡ Some number) }
+    ensures below_zero { HasCleanDisk (state S.Store conn.new)
+        → IsBelowZero (state S.Store conn.old).now
+        → OnOk result ⊥ × IfErr result IsOfRowOrDisk }
+    ensures same { HasCleanDisk (state S.Store conn.new)
+        → HasMetaOrNothing (state S.Store conn.old).now.schema
+        → OnOk result (IsUnchanged (state S.Store conn.old) (state S.Store conn.new)) }
+    ensures mode { conn.old.in_transaction ≡ false → conn.new.in_transaction ≡ false }
+    ensures still { HasCleanDisk (state S.Store conn.new)
+        → conn.old.in_transaction ≡ false → HasMetaOrNothing (state S.Store conn.old).now.schema
+        → IsTrue (state S.Store conn.new).is_open
+        → IsStill (state S.Store conn.old) (state S.Store conn.new) }
+    ensures cause { HasCleanDisk (state S.Store conn.new)
+        → TellsNumberOrNone (state S.Store conn.old).now → IfErr result IsOfDisk }
+    ensures clean { HasCleanDisk (state S.Store conn.new) → HasCleanDisk (state S.Store conn.old) }
+    ensures survives { HasMetaOrNothing (state S.Store conn.old).now.schema
+        → Survives (state S.Store conn.old) (state S.Store conn.new) (λ _. ⊥) }
+{
+    // For what it says of a connection outside of a transaction.
+    let _outside = conn.is_autocommit();
+    match conn.query_row("SELECT schema FROM meta WHERE one = 1", &[]) {
+        Ok(row) => number_in(&row),
+        Err(Error::SqlInputError(_)) => Ok(None),
+        Err(Error::QueryReturnedNoRows) => Ok(None),
+        Err(error) => Err(fault_of(error)),
+    }
+}
+
+// The number in the row's one column. A number below 0 is out of its range.
+fn number_in(row: &Row) -> Result<Option<u64>, Fault>
+    ensures told { IfOk result (λ found. (n : ℕ) → row.now ≡ stored_number n ∷ []
+        → found ≡ Some n) }
+    ensures below_zero { (n : ℕ) → row.now ≡ Int (negsuc n) ∷ [] → OnOk result ⊥ }
+    ensures cause { (n : ℕ) → row.now ≡ stored_number n ∷ [] → IfErr result IsOfDisk }
+    ensures fault { IfErr result IsOfRowOrDisk }
+{
+    match row.get(0) {
+        Ok(number) => Ok(Some(number)),
+        Err(error) => Err(read_fault(error)),
+    }
+}

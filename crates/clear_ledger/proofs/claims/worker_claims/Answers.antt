@@ -1,9 +1,0 @@
-use Rattle.clear_values.specs.RowRanges.{IsClaimRow}
-use Rattle.clear_ledger.proofs.ClaimTable.{answers_for}
-use Rattle.clear_schema.specs.Values.{claim_shown}
-use Rattle.clear_schema.proofs.FrameLemmas.{lists}
-use Rattle.clear_ledger.proofs.claims.worker_claims.Goals as goal
-
-pub returns-clause-looks : goal.returns-clause-looks
-returns-clause-looks g c =
-    lists g.S.Store c.args.tx.now.conn.now c.list.new.tx.conn.now claim_shown IsClaimRow _ _ c.list.result _ (λ t has. answers_for g.S.Store t _ has c.args.worker) (rw c.worker.ensures at c.list.ensures.looks)

@@ -1,0 +1,3 @@
+pub mod ClaimTable
+pub mod ListTable
+pub mod StateLemmas
