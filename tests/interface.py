@@ -154,6 +154,30 @@ class Client(Streams):
         self.assertEqual(done, ['{"done":true}'] * 2 + ['{"new":1,"repeats":0}'] * 2)
         self.assertEqual(reused, '{"detail":"","name":"NumberReused","rule":9}')
 
+    def test_the_order_of_the_framing(self):
+        """A length that is too large is judged last of what a head says of its body."""
+        large = "Content-Length: 1048577\r\n"
+        for fields, answer in {
+            large: "413", large * 2: "400", large + "Expect: 100-continue\r\n": "417",
+            large + "Transfer-Encoding: chunked\r\n": "501", "Transfer-Encoding: chunked\r\n" + "A: b\r\n" * 64: "413",
+            "Expect: x\r\nTransfer-Encoding: chunked\r\n": "501", "Expect: x\r\n": "417", "": "411",
+        }.items():
+            request = f"POST /bank HTTP/1.1\r\nHost: office\r\n{fields}\r\n".encode()
+            status, output, errors = self.run_program("stream", "rates.toml", "callers.toml", DAY, stdin=request)
+            self.assertEqual((status, errors, output[:13]), (0, "", f"HTTP/1.1 {answer} "), fields)
+
+    def test_fields_of_a_query(self):
+        """A request number that comes with one isn't looked at; `close` may be in capitals."""
+        query = "\r\n\nGET /suspense HTTP/1.1\nHost: office\r\nOffice-Key: desk\r\n{}\r\n\r\n"
+        for field, closes in {
+            "Request-Number: 0x": False, "Request-Number: 7\r\nRequest-Number: 7": False, "Connection: CLOSE": True,
+            "Connection: close": True, "Connection: keep-alive, close": False,
+        }.items():
+            requests = query.format(field).encode() * 2
+            status, output, errors = self.run_program("stream", "rates.toml", "callers.toml", DAY, stdin=requests)
+            self.assertEqual((status, errors, output.count("HTTP/1.1 200 OK")), (0, "", 1 if closes else 2), field)
+            self.assertEqual("Connection: close" in output, closes, field)
+
     def test_which_refusals_of_head_have_a_body(self):
         head, cut = b"HEAD /suspense HTTP/1.1\r\n", b"HEAD /suspense HTTP/1.1\r\nHost: office\r\n"
         for request, rule, has_body in (
@@ -173,8 +197,8 @@ class Client(Streams):
             return json.loads(self.stream(post("/employers", 1, f'{{"employer":{employer}}}'))[0])["detail"]
 
         for employer, named in {
-            "1e3": "employer", "1.0": "employer", "-0": "employer", "1e308": "employer", "1.8e308": "body",
-            "1" + "0" * 308: "employer", "1" + "0" * 309: "body",
+            "1e3": "employer", "1.0": "employer", "-0": "employer", "1e308": "employer", "-1.8e308": "body",
+            "1.7976931348623158e308": "employer", "1.7976931348623159e308": "body", "1" + "0" * 308: "employer", "1" + "0" * 309: "body",
             "[" * 126 + "]" * 126: "employer", "[" * 127 + "]" * 127: "body",
             r'"\ud83d\ude00"': "employer", r'"\ud83d"': "body", r'"\ude00"': "body",
         }.items():
@@ -184,7 +208,10 @@ class Client(Streams):
             self.assertEqual(refused, '{"detail":"body","name":"BadBody","rule":8}')
         marked = self.stream(post("/employers", 1, '\ufeff{"employer":1001}'))[0]
         self.assertEqual(json.loads(marked)["detail"], "body")
-        for part in ("byte order mark", "half of a surrogate pair", "1.8e308 or more", "127 deep"):
+        other = REGISTRATION.replace(b"Bau Nord", b"Bau Nor\xff")
+        status, output, errors = self.run_program("stream", "rates.toml", "callers.toml", DAY, stdin=other)
+        self.assertIn('{"detail":"body","name":"BadBody","rule":8}', output)
+        for part in ("isn't UTF-8", "byte order mark", "half of a surrogate pair", "1.7977e308", "127 deep"):
             self.assertIn(part, PAGE[PAGE.index("Numbers are written as whole numbers"):PAGE.index("is no JSON object.")])
 
     def test_a_bank_file_of_another_program(self):
@@ -194,6 +221,15 @@ class Client(Streams):
             new, told = self.stream(post("/bank", 1, end.join(lines)), document("/suspense"))
             self.assertEqual(new, '{"new":2,"repeats":0}')
             self.assertIn(' C -           0.05 say "no", thanks\nline B2 ', told)
+
+    def test_quotes_and_spaces_of_a_bank_file(self):
+        lines = [HEADER[:-1], 'a"b,2024-02-25,,5,, "abc"', 'B2,2024-02-25,,7,,"a"b', 'B3,2024-02-25,,9,I,"abc']
+        new, told = self.stream(post("/bank", 1, "\n".join(lines)), document("/suspense"))
+        self.assertEqual(new, '{"new":3,"repeats":0}')
+        for part in ('line a"b ', ' 0.05  "abc"\n', " 0.07 ab\n", " 0.09 abc\n"):
+            self.assertIn(part, told)
+        spaced = self.stream(post("/bank", 1, "\n".join([*lines[:2], "B4, 2024-02-25,,7,,"])))[0]
+        self.assertEqual(spaced, '{"detail":"3:2","name":"BadCsv","rule":20}')
 
     def test_how_many_records_a_bank_file_has(self):
         """Too many are told before what is wrong with any, but behind a first byte that is wrong."""
