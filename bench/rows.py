@@ -23,7 +23,7 @@ import tempfile
 sys.dont_write_bytecode = True
 from programs import Program, least  # noqa: E402
 
-PROGRAM = Program("rows", "clear_store clear_book clear_bank clear_money sqlite sqlite_std_file")
+PROGRAM = Program("rows", "clear_store clear_schema clear_book clear_bank clear_money sqlite sqlite_std_file")
 SIZES = (1_000, 100_000)
 CALLS = 1_000
 LOOKS = ("find_employer", "find_report", "reports_of", "find_last_report", "find_rate", "find_last_rate",
