@@ -23,7 +23,7 @@ pub const MAX_CREDITS: usize = 100_000;
 /// Keeps an account, which a contract sees as its charges in month order and its credits, the
 /// payments, in order of day and serial.
 ///
-/// Amounts are in cents. Only what grows a list takes memory, and whatever is refused leaves the
+/// Amounts are in cents. A change and `pieces` may take memory, and whatever is refused leaves the
 /// account as it was.
 pub trait Keeper {
     ghost charges: { Self → List AnyCharge };

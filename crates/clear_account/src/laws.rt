@@ -34,7 +34,7 @@ pub fn law_few_pieces()
     ensures { FewPieces }
 {}
 
-/// The shares of all charges, as a settled account tells them, are as many as the pieces.
+/// The shares of all charges are as many as the pieces.
 pub fn law_share_a_piece()
     ensures { ShareAPiece }
 {}

@@ -5,8 +5,8 @@
 //! cent of the charges at the same place. A keeper is seen as its two lists; its pieces, open
 //! parts, weights and sums are the definitions of `specs/` over these lists, whatever it keeps
 //! besides. `Walk` tells what is paid of each charge in one walk along both lists, from any charge
-//! on. Only what grows a list takes memory, and a refusal leaves the keeper as it was. That a call
-//! with memory at hand succeeds is shown by tests.
+//! on. A change and `pieces` may take memory, and a refusal leaves the keeper as it was. That a call with
+//! memory at hand succeeds is shown by tests.
 //!
 //! `Kept` meets all that `Plain` meets, and keeps its pieces: a change makes anew only those that
 //! reach beyond the place in cents at which the account changes, and `turns` bounds its work by the

@@ -1,5 +1,5 @@
 -- What is said of the values of a file's lines, and of conflicts over all earlier lines.
-use Rattle.std.specs.Prelude.{◌≡◌, ℕ, Bool, not, ◌&&◌, List, [], map, codes, Some, None, IfOk}
+use Rattle.std.specs.Prelude.{◌≡◌, ℕ, Bool, not, ◌&&◌, List, [], ◌∷◌, map, codes, Some, None, IfOk}
 use Rattle.std.specs.List.{find, enumerate_from, list_any, AllByRecursion, IsDistinct}
 use Rattle.std.specs.Str.{bytes_eq}
 use Rattle.clear_bank.specs.Files.{file_lines}
@@ -41,6 +41,10 @@ ConflictsAreWithAny =
 -- the header of a bank file, with the end of its line
 abbrev pub header_text : List ℕ
 header_text = codes "reference,value_date,employer,cents,purpose,note\n"
+
+-- the mark that some programs put before a text
+abbrev pub byte_order_mark : List ℕ
+byte_order_mark = 239 ∷ 187 ∷ 191 ∷ []
 
 -- one cent that came on 2024-02-25 from nobody known, as it is written, and the line that this is
 abbrev pub cent_text : List ℕ

@@ -65,7 +65,7 @@ IsWeighed t e = weighed_rows t e ≡ weighed_charges (kept_charges t e) (table_c
 -- ---- all firms
 
 -- the kept pieces of each firm are what its credits pay, but for the cents that g gives to some, and
--- its kept contributions have what is open of them
+-- its kept contributions have what is open of them, and their weights so far
 pub record AreAllocated (g : PieceRow → PieceRow) (t : Tables) : Type 0 where
   pub pieces : (e : ℕ) → IsAllocated g t e
   pub in_order : AreInOrder piece_key t.pieces
@@ -137,8 +137,8 @@ LeavesPlaces g b call =
     (e : ℕ) → LeavesChange g e (charges_of b e) (charges_of (step b call) e) (credits_of b e)
     (credits_of (step b call) e)
 
--- the pieces, and what is open of the contributions, follow a change of the tables: whatever g may give
--- other cents to, it gives them to the same pieces after it
+-- the pieces, what is open of the contributions, and their weights follow a change of the tables:
+-- whatever g may give other cents to, it gives them to the same pieces after it
 abbrev pub Follows : Tables → Tables → Type 0
 Follows t u =
     (g : PieceRow → PieceRow) → KeepsKeys g → ((e : ℕ) → LeavesChanged g t u e)
@@ -147,17 +147,18 @@ Follows t u =
 -- ---- the tables of a book
 
 -- the tables are those of the book, and so are the pieces, but for the cents that g gives to some, and
--- what is open of the contributions
+-- what is open of the contributions, with their weights
 pub record RepresentsBut (g : PieceRow → PieceRow) (b : Book) (t : Tables) : Type 0 where
   pub stands : Stands b t
   pub pieces : AreAllocated g t
 
--- the tables are those of the book, its pieces and what is open of its contributions with them
+-- the tables are those of the book, with its pieces, what is open of its contributions, and their
+-- weights
 abbrev pub Represents : Book → Tables → Type 0
 Represents b t = RepresentsBut (λ row. row) b t
 
--- the tables are those of the book, with what is open of its contributions, whatever cents the pieces
--- hold
+-- the tables are those of the book, with what is open of its contributions and their weights, whatever
+-- cents the pieces hold
 pub record StandsWeighed (b : Book) (t : Tables) : Type 0 where
   pub stands : Stands b t
   pub weighed : (e : ℕ) → IsWeighed t e

@@ -9,6 +9,8 @@ use Rattle.clear_values.specs.declared.rows.ClaimRow.{ClaimRow}
 use Rattle.clear_values.specs.declared.rows.ClaimState.{ClaimState}
 use Rattle.clear_values.specs.declared.rows.ClaimState.TheVariants.{Open, Released}
 use Rattle.clear_values.specs.declared.rows.ReminderRow.{ReminderRow}
+use Rattle.clear_values.specs.declared.texts.WageLine.{WageLine}
+use Rattle.clear_values.specs.Members.{Member}
 use Rattle.clear_book.specs.Reminders.{LastReminder, Overdue, reminder}
 
 -- January 2024, as a number
@@ -50,6 +52,14 @@ line firm serial cents =
 -- two lines, one of firm 1001 and one in suspense
 abbrev pub two_lines : List BankRow
 two_lines = line (Some 1001) 1 250000 ∷ line None 2 50000 ∷ []
+
+-- the line of a worker in a report
+abbrev pub wage : ℕ → ℕ → WageLine
+wage worker gross = record { worker = worker; gross = gross }
+
+-- a firm that is a member from a month on, up to a last one or with no end
+abbrev pub member : ℕ → Option ℕ → Member
+member start last = record { name = codes "Bau Nord"; start = start; last = last }
 
 -- a claim of firm 1001 for worker 7, with a number and its cents; its day is left open
 abbrev pub claim : ℕ → ℕ → ClaimState → ClaimRow

@@ -33,6 +33,7 @@ pub record Known : Type 0 where
   pub name : List ℕ
   pub carried : Carried
 
+-- these three of a rule
 abbrev entry : ℕ → List ℕ → Carried → Known
 entry number name carried = record { number = number; name = name; carried = carried }
 

@@ -98,7 +98,7 @@ pub enum Rule {
     NotInSuspense,
     /// No latest report of the firm has the worker.
     NotEmployed,
-    /// The cents are above the worker's balance, which stands here.
+    /// The cents are above the worker's balance, which stands here in cents.
     OverBalance(u64),
     /// There is no claim of that number; of a withdrawal, none of that firm.
     UnknownClaim,
@@ -118,7 +118,7 @@ pub enum Rule {
     UnknownDocument,
     /// There was no memory. Nothing was changed, and the office goes on.
     Memory,
-    /// The records could not be read or written. The office answers nothing further.
+    /// The records could not be read or written. To every further request the office answers `Failed`.
     Store(StoreCause),
     /// The office has failed before.
     Failed,

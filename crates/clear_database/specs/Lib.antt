@@ -1,6 +1,5 @@
 pub mod Later
 pub mod Making
 pub mod Opening
-pub mod Seen
 pub mod Still
 pub use Rattle.clear_values.specs.First

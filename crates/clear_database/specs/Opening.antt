@@ -1,18 +1,12 @@
--- Which databases an open is asked about, and what is left where it refuses them.
-use Rattle.std.specs.Prelude.{◌≡◌, ◌⊎◌, ⊤, ℕ, negsuc, [], ◌∷◌}
+-- Which databases an open is asked about.
+use Rattle.std.specs.Prelude.{◌≡◌, ◌⊎◌, ℕ, negsuc, [], ◌∷◌}
 use Rattle.sqlite.specs.declared.types.Value.TheVariants.{Null, Int}
 use Rattle.sqlite.specs.Effect.{Database}
 use Rattle.sqlite.specs.Order.{Row}
 use Rattle.sqlite.specs.Schema.{Schema}
-use Rattle.sqlite_disk.specs.declared.Disk.{Ghosts}
-use Rattle.sqlite_store.specs.declared.store.FileStore.{FileStore}
 use Rattle.clear_schema.specs.Held.{HasMeta, TellsSchema}
 use Rattle.clear_schema.specs.Schema.{no_schema}
 use Rattle.clear_schema.specs.Values.{number}
-use Rattle.clear_schema.specs.declared.fault.Fault.{Fault}
-use Rattle.clear_database.specs.declared.files.FilesRefusal.{FilesRefusal}
-use Rattle.clear_database.specs.declared.files.FilesRefusal.TheVariants.{Unopened, NotTaken}
-use Rattle.clear_database.specs.declared.store.Refusal.{Refusal}
 
 -- the first table is `meta`, or there is none
 abbrev pub HasMetaOrNothing : Schema → Type 0
@@ -31,14 +25,3 @@ abbrev pub IsBelowZero : Database → Type 0
 IsBelowZero db =
     HasMeta db.schema
     × (n : ℕ) × (rest : Row) × (db.trees 0 ≡ (number 1 ∷ Null ∷ Int (negsuc n) ∷ rest) ∷ [])
-
-module _ {D : Type 0} {g : Ghosts D} where
-  -- where the files were not opened, the fault has this property
-  abbrev pub IfUnopened : (Fault → Type 0) → FilesRefusal D g → Type 0
-  IfUnopened P (Unopened fault) = P fault
-  IfUnopened P (NotTaken refusal) = ⊤
-
-  -- where the files were opened, and their database was not taken, the refusal has this property
-  abbrev pub IfNotTaken : (Refusal (FileStore D g) → Type 0) → FilesRefusal D g → Type 0
-  IfNotTaken P (Unopened fault) = ⊤
-  IfNotTaken P (NotTaken refusal) = P refusal

@@ -8,8 +8,6 @@
 
 pub mod body;
 pub mod create;
-pub mod database;
-pub mod files;
 pub mod laws;
 pub mod make;
 pub mod open;

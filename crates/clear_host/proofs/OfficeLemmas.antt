@@ -6,7 +6,7 @@ use Rattle.sqlite.specs.Tree.{Trees}
 use Rattle.clear_book.specs.Tables.{Tables}
 use Rattle.clear_schema.specs.Held.{HasTables, StandsFor}
 use Rattle.clear_database.specs.Still.{Holds}
-use Rattle.clear_database.proofs.SeenLemmas.{if_ok_both}
+use Rattle.clear_disk.proofs.SeenLemmas.{if_ok_both}
 
 -- both hold of the value
 pub if_ok_pair : {A E : Type 0} (r : Result A E) (P Q : A → Type 0) → IfOk r P → IfOk r Q → IfOk r (λ x. P x × Q x)

@@ -8,7 +8,7 @@ use Rattle.sqlite.specs.Tree.{Trees}
 use Rattle.clear_book.specs.Tables.{Tables}
 use Rattle.clear_schema.specs.Held.{HasObjects, HasOtherLayout, HasTables, StandsFor, StandsOtherwise, TellsAs, TellsSchema}
 use Rattle.clear_schema.specs.Schema.{no_schema, this_layout}
-use Rattle.clear_database.specs.Seen.{SeesIn}
+use Rattle.clear_disk.specs.Seen.{SeesIn}
 use Rattle.clear_database.specs.Still.{IsStill}
 use Rattle.clear_database.proofs.OpenLemmas.{is_seen, other_seen, tells_seen}
 use Rattle.clear_host.specs.Contents.{HasJust, HaveObjects, HoldsObjects, HoldsOtherLayout, HoldsSchema, HoldsStore}

@@ -9,7 +9,7 @@ ghost use Rattle.sqlite_wal.specs.Recovery.{Image};
 ghost use Rattle.clear_book.specs.Tables.{Tables};
 ghost use Rattle.clear_schema.specs.Held.{HasTables, TellsAs};
 ghost use Rattle.clear_schema.specs.Schema.{this_layout};
-ghost use Rattle.clear_database.specs.Seen.{Sees};
+ghost use Rattle.clear_disk.specs.Seen.{Sees};
 ghost use Rattle.clear_host.specs.Contents.{HasJust, HoldsStore, IsWhyUnopened, LeavesSchema};
 ghost use Rattle.clear_host.specs.Offices.{IsOurs, TellsOf};
 

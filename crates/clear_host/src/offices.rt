@@ -12,7 +12,7 @@ ghost use Rattle.clear_book.specs.Book.{Book};
 ghost use Rattle.clear_book.specs.Tables.{Tables};
 ghost use Rattle.clear_schema.specs.Held.{HasTables};
 ghost use Rattle.clear_schema.specs.Schema.{this_layout};
-ghost use Rattle.clear_database.specs.Seen.{Sees};
+ghost use Rattle.clear_disk.specs.Seen.{Sees};
 ghost use Rattle.clear_database.specs.Still.{Holds};
 ghost use Rattle.clear_office.specs.Office.{IsHonest, Keeps};
 ghost use Rattle.clear_host.specs.Contents.{HoldsObjects, HoldsSchema, HoldsStore, IfRefused};

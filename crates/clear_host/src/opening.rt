@@ -3,13 +3,13 @@ ghost use Rattle.std.specs.Prelude.{◌≡◌, false, true, None, IfErr, IfOk, I
 ghost use Rattle.sqlite.specs.Files.{over_files};
 ghost use Rattle.sqlite_std_file.specs.File.{file_is_usable, IsFresh};
 ghost use Rattle.sqlite_wal.specs.Files.{image_at};
-ghost use Rattle.clear_database.specs.Seen.{Sees};
+ghost use Rattle.clear_disk.specs.Seen.{Sees};
 ghost use Rattle.clear_host.specs.Contents.{IsByError};
 
 use crate::hindrance::hindrance_of;
 use crate::offices::NotOpened;
-use clear_database::database::open_connection;
-use clear_database::files::store_options;
+use clear_disk::database::open_connection;
+use clear_disk::files::store_options;
 use clear_schema::fault::{OpenFault, fault_of};
 use sqlite::{Alter, Connection, Error, ErrorCode, FileStore, Files};
 use sqlite_disk::Start;

@@ -1,6 +1,6 @@
 -- The one order of the checks of a command, and that of a query: what is said where one applies, and
 -- none before it.
-use Rattle.std.proofs.Common.{◌≡◌, ◌≢◌, ℕ, ◌≤◌, ◌<◌, length, nat_le, nat_lt, Option, Some, None, IfSome, Bool, true, false, cond, refl, ap, ◌∙◌, arith}
+use Rattle.std.proofs.Common.{◌≡◌, ◌≢◌, ℕ, ◌≤◌, ◌<◌, length, nat_le, nat_lt, Option, Some, None, IfSome, Bool, true, false, cond, refl, ap, subst, ◌∙◌, arith}
 use Rattle.std.proofs.lemmas.Bool.Decides.{nat_tests}
 use Rattle.clear_values.specs.declared.callers.Caller.{Caller}
 use Rattle.clear_values.specs.Limits.{most_entries}
@@ -13,8 +13,8 @@ use Rattle.clear_book.specs.declared.rules.Rule.TheVariants.{DayBack, NotYours, 
 use Rattle.clear_book.specs.Book.{Book, Entry, entry_under, ledger_day}
 use Rattle.clear_book.specs.Calls.{may_do, may_query, same_command}
 use Rattle.clear_book.specs.Checks.{when}
-use Rattle.clear_book.specs.Judge.{Verdict, a_refusal, answer_to, day_back, is_full, judge, judged_ask, judged_do, kept_reply, own_query, own_rule, reply_to, said_before}
-use Rattle.clear_laws.proofs.KeptLemmas.{same_command-true}
+use Rattle.clear_book.specs.Judge.{Verdict, a_refusal, answer_to, day_back, is_full, judge, judged_ask, judged_do, kept_reply, new_reply, own_query, own_rule, reply_to, said_before}
+use Rattle.clear_laws.proofs.KeptLemmas.{same_command-refl, same_command-true}
 
 -- different commands are not the same
 differs : (c d : Command) → c ≢ d → same_command c d ≡ false
@@ -23,6 +23,10 @@ differs c d other = told (same_command c d) refl
     told : (b : Bool) → same_command c d ≡ b → b ≡ false
     told true is = absurd (other (same_command-true c d is))
     told false is = refl
+
+-- and equal ones are
+same_of : (c d : Command) → c ≡ d → same_command c d ≡ true
+same_of c d is = subst (λ e. same_command c e ≡ true) is (same_command-refl c)
 
 pub before : (a b : ℕ) → a < b → nat_lt a b ≡ true
 before a b lt = grind (arith, nat_tests)
@@ -65,6 +69,13 @@ module _ (b : Book) (caller : Caller) (number day : ℕ) (command : Command) whe
         ∙ ap (λ (same : Bool). Some (cond same (kept_reply x.reply) (a_refusal NumberReused))) (differs x.command command other) in
         (λ i. said (may i) (stood i) (day_back (ledger_day b.entries) day) (is_full (length b.entries)) (own_rule b day command))
 
+    pub kept_next : (x : Entry) → entry_under b.entries caller number ≡ Some x → x.command ≡ command → judge b (Do caller number day command) ≡ kept_reply x.reply
+    kept_next x found is =
+        let stood : said_before (entry_under b.entries caller number) command ≡ Some (kept_reply x.reply) =
+        ap (λ (o : Option Entry). said_before o command) found
+        ∙ ap (λ (same : Bool). Some (cond same (kept_reply x.reply) (a_refusal NumberReused))) (same_of x.command command is) in
+        (λ i. said (may i) (stood i) (day_back (ledger_day b.entries) day) (is_full (length b.entries)) (own_rule b day command))
+
     module _ (free : entry_under b.entries caller number ≡ None) where
       pub day_next : (last : ℕ) → ledger_day b.entries ≡ Some last → day < last → judge b (Do caller number day command) ≡ a_refusal (DayBack last)
       day_next last there lt =
@@ -83,6 +94,12 @@ module _ (b : Book) (caller : Caller) (number day : ℕ) (command : Command) whe
             let back = in_order (ledger_day b.entries) day come in
             let room = not_reached most_entries (length b.entries) few in
             (λ i. said (may i) (said_before (free i) command) (back i) (room i) (own i))
+
+        pub none_last : length b.entries < most_entries → own_rule b day command ≡ None → judge b (Do caller number day command) ≡ new_reply (reply_to b day command)
+        none_last few none =
+            let back = in_order (ledger_day b.entries) day come in
+            let room = not_reached most_entries (length b.entries) few in
+            (λ i. said (may i) (said_before (free i) command) (back i) (room i) (none i))
 
 -- ---- a query
 

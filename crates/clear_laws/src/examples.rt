@@ -241,7 +241,7 @@ pub fn law_statement_text()
         last = None;
         prepaid = 49990;
         arrears = 0;
-        interest = 4875;
+        interest = 2875;
       };
       charges = record {
         state = record {
@@ -276,7 +276,7 @@ pub fn law_statement_text()
         ++ codes " version 2           0.00           0.00           0.00\n")
         ++ (codes "interest-paid " ++ day_text second ++ codes "           1.25 set-off 1\n")
         ++ codes "missing 2024-03\nprepaid         499.90\n"
-        ++ codes "arrears           0.00\ninterest          48.75\n" }
+        ++ codes "arrears           0.00\ninterest          28.75\n" }
 {}
 
 /// A reference that stands twice in a file is a repeat where its content is the same, and else a

@@ -41,7 +41,7 @@ ghost use Rattle.clear_book.specs.Conserved.{firm_cents, interest_cents, pieces_
 ghost use Rattle.clear_book.specs.Conserved.{prepaid_cents, set_off_cents, standing_cents};
 ghost use Rattle.clear_book.specs.Conserved.{suspense_cents};
 ghost use Rattle.clear_book.specs.Judge.{a_refusal, judge, kept_reply, new_reply, own_rule};
-ghost use Rattle.clear_book.specs.Judge.{own_query, run_text};
+ghost use Rattle.clear_book.specs.Judge.{own_query, reply_to, run_text};
 ghost use Rattle.clear_book.specs.Calls.{command_bytes, may_do, may_query, same_command};
 ghost use Rattle.clear_book.specs.Laws.{AreCounted, AreEmployers, AreNumbered, AreSorted, IsBy};
 ghost use Rattle.clear_book.specs.Laws.{IsSmall};
@@ -136,9 +136,10 @@ pub fn law_judged()
 {}
 
 /// The checks of a command come in one order, whatever else applies. One that access does not allow
-/// is refused for that. Then, where another command stands under its number, the number is used.
-/// Where nothing does, a day before that of the last request is refused with that day; then a full
-/// book refuses; and then the first of the command's own rules that applies.
+/// is refused for that. Then, where another command stands under its number, the number is used, and
+/// where the same one does, its reply is given again, whatever the day. Where nothing does, a day before
+/// that of the last request is refused with that day; then a full book refuses; and then the first of
+/// the command's own rules that applies. Where none does, it has its reply.
 pub fn law_order_for_commands()
     ensures access { (b : Book) (caller : Caller) (number day : ℕ) (command : Command)
         → may_do caller command ≡ false
@@ -147,6 +148,10 @@ pub fn law_order_for_commands()
         → may_do caller command ≡ true → entry_under b.entries caller number ≡ Some x
         → x.command ≢ command
         → judge b (Do caller number day command) ≡ a_refusal NumberReused }
+    ensures kept { (b : Book) (caller : Caller) (number day : ℕ) (command : Command) (x : Entry)
+        → may_do caller command ≡ true → entry_under b.entries caller number ≡ Some x
+        → x.command ≡ command
+        → judge b (Do caller number day command) ≡ kept_reply x.reply }
     ensures back { (b : Book) (caller : Caller) (number day last : ℕ) (command : Command)
         → may_do caller command ≡ true → entry_under b.entries caller number ≡ None
         → ledger_day b.entries ≡ Some last → day < last
@@ -160,6 +165,11 @@ pub fn law_order_for_commands()
         → IfSome (ledger_day b.entries) (λ last. last ≤ day) → length b.entries < most_entries
         → own_rule b day command ≡ Some rule
         → judge b (Do caller number day command) ≡ a_refusal rule }
+    ensures none { (b : Book) (caller : Caller) (number day : ℕ) (command : Command)
+        → may_do caller command ≡ true → entry_under b.entries caller number ≡ None
+        → IfSome (ledger_day b.entries) (λ last. last ≤ day) → length b.entries < most_entries
+        → own_rule b day command ≡ None
+        → judge b (Do caller number day command) ≡ new_reply (reply_to b day command) }
 {}
 
 /// The checks of a query come in one order, too: access, the day, the query's own rules.
@@ -194,7 +204,7 @@ pub fn law_small()
 {}
 
 /// Each lawful book has tables that represent it: they stand for it, with the pieces of each firm's
-/// account and what is open of its contributions.
+/// account, what is open of its contributions, and their weights.
 pub fn law_has_tables()
     ensures { (b : Book) → IsLawful b → (t : Tables) × Represents b t }
 {}

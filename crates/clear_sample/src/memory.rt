@@ -9,8 +9,8 @@ ghost use Rattle.clear_office.specs.Office.{IsHonest, Keeps};
 
 use crate::memory_file::MemoryFile;
 use clear_book::ranges::rates_in_range;
-use clear_database::database::open_connection;
-use clear_database::files::store_options;
+use clear_disk::database::open_connection;
+use clear_disk::files::store_options;
 use clear_money::rates::RateTable;
 use clear_office::made::make_office;
 use clear_office::office::Office;

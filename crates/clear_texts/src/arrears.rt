@@ -1,8 +1,8 @@
 //! What a firm owes of interest on a day.
-ghost use Rattle.std.specs.Prelude.{◌≡◌, ◌≤◌, IfSome, IsSome, length, map};
+ghost use Rattle.std.specs.Prelude.{◌≡◌, ◌≤◌, ◌<◌, None, IfSome, IsSome, length, map};
 ghost use Rattle.clear_account.specs.Account.{credited};
 ghost use Rattle.clear_book.specs.Accounts.{row_credit};
-ghost use Rattle.clear_book.specs.Limits.{most_credits};
+ghost use Rattle.clear_book.specs.Limits.{most_credited, most_credits};
 ghost use Rattle.clear_texts.specs.Told.{interest_owed};
 
 use clear_book::limits::MAX_CREDITED;
@@ -13,8 +13,8 @@ use clear_money::rates::RateTable;
 
 /// The interest of all charges up to a day that no payment comes after, less all credits for
 /// interest, at least 0, in cents. None where the credits before one already come to more than
-/// `MAX_CREDITED`, as those of an account never do. It takes a search among the rates for each
-/// charge, and one step for each credit.
+/// `MAX_CREDITED`, as those of an account never do, and nowhere else. It takes a search among the rates
+/// for each charge, and one step for each credit.
 pub fn interest_arrears(
     rates: &RateTable,
     charges: &WeighedCharges,
@@ -22,6 +22,7 @@ pub fn interest_arrears(
     day: Day,
 ) -> Option<u64>
     ensures some { length interest_credits.now ≤ most_credits → IsSome result }
+    ensures none { result ≡ None → most_credited < credited (map row_credit interest_credits.now) }
     ensures value { IfSome result (λ cents. cents
         ≡ interest_owed rates.now charges.now interest_credits.now day) }
 {
@@ -32,9 +33,10 @@ pub fn interest_arrears(
 }
 
 /// The sum of credits, in cents. None where the credits before one already come to more than
-/// `MAX_CREDITED`, as those of an account never do.
+/// `MAX_CREDITED`, as those of an account never do, and nowhere else.
 pub fn add_credits(credits: &[CreditRow]) -> Option<u64>
     ensures some { length credits.now ≤ most_credits → IsSome result }
+    ensures none { result ≡ None → most_credited < credited (map row_credit credits.now) }
     ensures value { IfSome result (λ sum. sum ≡ credited (map row_credit credits.now)) }
 {
     let mut sum = 0;

@@ -22,8 +22,9 @@ use clear_money::numbers::WorkerNo;
 use std::alloc::Global;
 
 /// What the statement of a firm tells on a day, by its records, but for the pieces that pay its
-/// charges. Records that no book has are refused with `StoreCause::Row`: credits for interest of
-/// which those before one already come to more than those of an account do.
+/// charges. Records that no book has are refused with `StoreCause::Row` where they have credits for
+/// interest of which those before one already come to more than those of an account do; else no
+/// contract says what is told of such records.
 pub fn statement_head(
     alloc: Global,
     records: &StatementRecords,
@@ -53,8 +54,9 @@ pub fn statement_head(
 
 /// What the records of a worker say of it on a day: what it has earned, by firm, then month, the
 /// claims for it that aren't withdrawn, and its balance. Records that no book has are refused with
-/// `StoreCause::Row`: amounts whose sum is 2^64 cents or more, and a line whose gross amount times
-/// its entitlement rate, in hundredths of a percent, is as much.
+/// `StoreCause::Row` where they have amounts whose sum is 2^64 cents or more, or a line whose gross
+/// amount times its entitlement rate, in hundredths of a percent, is as much; else no contract says
+/// what is told of such records.
 pub fn worker_document(
     alloc: Global,
     worker: WorkerNo,

@@ -34,24 +34,29 @@ use Rattle.clear_values.specs.Texts.{IsName, IsCreditReference}
 abbrev pub IsSerial : ℕ → Type 0
 IsSerial n = (1 ≤ n) × (n ≤ most_serials)
 
+-- a firm, and the months of its membership
 pub record IsEmployerRow (row : EmployerRow) : Type 0 where
   pub employer : IsEmployerNo row.employer
   pub name : IsName row.name
   pub start : IsMonth row.start
   pub last : IfSome row.last IsMonth
 
+-- a month's report, whose first version is 1
 pub record IsReportRow (row : ReportRow) : Type 0 where
   pub employer : IsEmployerNo row.employer
   pub month : IsMonth row.month
   pub some : 1 ≤ row.version
   pub few : row.version ≤ most_versions
 
+-- a worker's line in a report
 pub record IsWageRow (row : WageRow) : Type 0 where
   pub employer : IsEmployerNo row.employer
   pub month : IsMonth row.month
   pub worker : IsWorkerNo row.worker
   pub gross : row.gross ≤ most_gross
 
+-- the contribution of a month, with what is open of it and its weight: how the three go together is
+-- said of the tables of a book alone
 pub record IsKeptCharge (row : KeptCharge) : Type 0 where
   pub employer : IsEmployerNo row.employer
   pub month : IsMonth row.month
@@ -60,11 +65,13 @@ pub record IsKeptCharge (row : KeptCharge) : Type 0 where
   pub left : row.left ≤ most_base
   pub weight : row.weight ≤ most_weight
 
+-- a bank line, with the firm that it counts for
 pub record IsBankRow (row : BankRow) : Type 0 where
   pub line : IsBankLine row.line
   pub serial : IsSerial row.serial
   pub employer : IfSome row.employer IsEmployerNo
 
+-- a payment or a set-off
 pub record IsCreditRow (row : CreditRow) : Type 0 where
   pub employer : IsEmployerNo row.employer
   pub day : IsDay row.day
@@ -72,6 +79,7 @@ pub record IsCreditRow (row : CreditRow) : Type 0 where
   pub cents : IsAmount row.cents
   pub reference : IsCreditReference row.reference
 
+-- what a credit pays of a contribution
 pub record IsPieceRow (row : PieceRow) : Type 0 where
   pub employer : IsEmployerNo row.employer
   pub month : IsMonth row.month
@@ -96,6 +104,7 @@ IsClaimState cents Open = Unit {0}
 IsClaimState cents Withdrawn = Unit {0}
 IsClaimState cents (Released release) = IsReleased cents release
 
+-- a claim for holiday pay that a firm has advanced
 pub record IsClaimRow (row : ClaimRow) : Type 0 where
   pub claim : IsClaimNo row.claim
   pub employer : IsEmployerNo row.employer
@@ -104,6 +113,7 @@ pub record IsClaimRow (row : ClaimRow) : Type 0 where
   pub made : IsDay row.made
   pub state : IsClaimState row.cents row.state
 
+-- a payout list, which has a claim at least
 pub record IsListRow (row : ListRow) : Type 0 where
   pub list : IsListNo row.list
   pub day : IsDay row.day
@@ -111,12 +121,14 @@ pub record IsListRow (row : ListRow) : Type 0 where
   pub items : row.items ≤ most_entries
   pub total : row.total ≤ most_claimed
 
+-- a reminder run, which reminds a firm at least
 pub record IsRunRow (row : RunRow) : Type 0 where
   pub run : IsRunNo row.run
   pub day : IsDay row.day
   pub some : 1 ≤ row.firms
   pub firms : row.firms ≤ most_employers
 
+-- a firm's reminder, with what it misses and owes
 pub record IsReminderRow (row : ReminderRow) : Type 0 where
   pub run : IsRunNo row.run
   pub employer : IsEmployerNo row.employer
@@ -139,6 +151,7 @@ IsReply (Listed list items total) =
     IsListNo list × (1 ≤ items) × (items ≤ most_entries) × (total ≤ most_claimed)
 IsReply (Reminded run firms) = IsRunNo run × (1 ≤ firms) × (firms ≤ most_employers)
 
+-- an accepted request, with its reply
 pub record IsRequestRow (row : RequestRow) : Type 0 where
   pub caller : IsCaller row.caller
   pub number : IsRequestNo row.number

@@ -163,7 +163,7 @@ abbrev pub keeps_contribution : KeptCharge → KeptCharge → Bool
 keeps_contribution charge row = (row.due == charge.due) && (row.cents == charge.cents)
 
 -- the kept contributions after a correction: that of its month gives way to the new one, unless it is
--- the same; then it stays with what is paid of it
+-- the same; then it stays with what is paid of it. Where none is kept of the month, none is added
 abbrev pub corrected : KeptCharge → List KeptCharge → List KeptCharge
 corrected charge rows =
     if option_map_or (keeps_contribution charge) (find_row charge_key rows (charge_key charge)) true

@@ -95,8 +95,8 @@ pub struct CreditRow {
     pub reference: CreditReference,
 }
 
-/// What a credit pays of the contribution of a month: 1 cent or more in a lawful book, which the range
-/// of a row doesn't ask for.
+/// What a credit pays of the contribution of a month: in a lawful book 1 cent or more, and at most the
+/// contribution, which the range of a row doesn't ask for.
 #[derive(Drop)]
 pub struct PieceRow {
     pub employer: EmployerNo,
@@ -105,7 +105,7 @@ pub struct PieceRow {
     pub day: Day,
     /// The serial of the credit.
     pub serial: u64,
-    /// Cents, at most those of the contribution.
+    /// Cents, at most 5,000,000,000.
     pub cents: u64,
     /// The reference of the credit.
     pub reference: CreditReference,

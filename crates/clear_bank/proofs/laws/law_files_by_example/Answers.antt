@@ -37,3 +37,27 @@ returns-clause-short_record c = ap (λ r. all_lines (r ∷ Err (BadCsv 3 FieldCo
 pub returns-clause-over_limit : goal.returns-clause-over_limit
 unfolding csv_on_literals
 returns-clause-over_limit c = refl
+
+pub returns-clause-over_and_bad : goal.returns-clause-over_and_bad
+unfolding csv_on_literals
+returns-clause-over_and_bad c = refl
+
+pub returns-clause-marked : goal.returns-clause-marked
+unfolding csv_on_literals
+returns-clause-marked c = refl
+
+pub returns-clause-marked_twice : goal.returns-clause-marked_twice
+unfolding csv_on_literals
+returns-clause-marked_twice c = refl
+
+pub returns-clause-blank_first : goal.returns-clause-blank_first
+unfolding csv_on_literals
+returns-clause-blank_first c = refl
+
+pub returns-clause-quoted : goal.returns-clause-quoted
+unfolding csv_on_literals
+returns-clause-quoted c = refl
+
+pub returns-clause-misnamed : goal.returns-clause-misnamed
+unfolding csv_on_literals
+returns-clause-misnamed c = refl

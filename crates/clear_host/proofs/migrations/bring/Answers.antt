@@ -3,7 +3,7 @@ use Rattle.sqlite.specs.Held.{state}
 use Rattle.clear_schema.specs.Held.{HasTables}
 use Rattle.clear_schema.specs.Schema.{this_layout}
 use Rattle.clear_database.proofs.OpenLemmas.{store_tells}
-use Rattle.clear_database.proofs.SeenLemmas.{nothing_seen}
+use Rattle.clear_disk.proofs.SeenLemmas.{nothing_seen}
 use Rattle.clear_host.proofs.RefusalLemmas.{never_so, only_so, other_so}
 use Rattle.clear_host.proofs.StoreLemmas.{just_seen, other_layout_seen, tables_seen, told_seen}
 use Rattle.clear_host.proofs.migrations.bring.Goals as goal

@@ -1,6 +1,6 @@
 use Rattle.std.proofs.lemmas.Result.{err_from_is_err_and}
 use Rattle.sqlite.specs.Held.{state}
-use Rattle.clear_database.proofs.SeenLemmas.{if_ok_both}
+use Rattle.clear_disk.proofs.SeenLemmas.{if_ok_both}
 use Rattle.clear_host.proofs.OfficeLemmas.{if_ok_pair}
 use Rattle.clear_host.proofs.RefusalLemmas.{refused_leaves, untold_tells}
 use Rattle.clear_host.proofs.offices.find_office.Goals as goal

@@ -2,10 +2,10 @@ use Rattle.std.proofs.Common.{inl}
 use Rattle.std.proofs.lemmas.Result.{IfOk-weaker}
 use Rattle.sqlite.specs.Held.{state}
 use Rattle.sqlite.specs.State.{HasCleanDisk}
-use Rattle.clear_database.specs.Seen.{SeesIn}
+use Rattle.clear_disk.specs.Seen.{SeesIn}
 use Rattle.clear_database.proofs.OpenLemmas.{store_tells}
 use Rattle.clear_schema.specs.Schema.{this_layout}
-use Rattle.clear_database.proofs.SeenLemmas.{if_ok_both, nothing_seen}
+use Rattle.clear_disk.proofs.SeenLemmas.{if_ok_both, nothing_seen}
 use Rattle.clear_host.proofs.RefusalLemmas.{refused_leaves, tells_only, untold_tells}
 use Rattle.clear_host.proofs.StoreLemmas.{just_seen, other_is_seen, still_seen, store_seen, tables_seen, told_seen}
 use Rattle.clear_host.proofs.offices.find_store.Goals as goal

@@ -1,5 +1,5 @@
 use Rattle.sqlite.specs.Held.{state}
-use Rattle.clear_database.proofs.SeenLemmas.{nothing_seen}
+use Rattle.clear_disk.proofs.SeenLemmas.{nothing_seen}
 use Rattle.clear_host.proofs.RefusalLemmas.{tells_none, tells_only}
 use Rattle.clear_host.proofs.StoreLemmas.{just_seen, objects_seen, told_seen}
 use Rattle.clear_host.proofs.offices.new_office.Goals as goal

@@ -2,7 +2,7 @@ use Rattle.std.proofs.Common.{ℕ, Bool, List, cond, subst}
 use Rattle.sqlite.specs.Files.{file_state}
 use Rattle.sqlite_disk.specs.Events.{Event, replay}
 use Rattle.sqlite_wal.specs.Recovery.{Image}
-use Rattle.clear_database.specs.Seen.{SeesIn}
+use Rattle.clear_disk.specs.Seen.{SeesIn}
 use Rattle.clear_host.proofs.opening.open_database.Goals as goal
 
 -- files that were just settled show what they held

@@ -1,4 +1,4 @@
-use Rattle.clear_laws.proofs.CheckOrderLemmas.{access_first, day_next, full_next, number_next, own_last}
+use Rattle.clear_laws.proofs.CheckOrderLemmas.{access_first, day_next, full_next, kept_next, none_last, number_next, own_last}
 use Rattle.clear_laws.proofs.laws.law_order_for_commands.Goals as goal
 
 pub returns-clause-access : goal.returns-clause-access
@@ -15,3 +15,9 @@ returns-clause-full c = full_next
 
 pub returns-clause-own : goal.returns-clause-own
 returns-clause-own c = λ b caller number day command rule may free come few own. own_last b caller number day command may free come rule few own
+
+pub returns-clause-kept : goal.returns-clause-kept
+returns-clause-kept c = λ b caller number day command x may found same. kept_next b caller number day command may x found same
+
+pub returns-clause-none : goal.returns-clause-none
+returns-clause-none c = λ b caller number day command may free come few none. none_last b caller number day command may free come few none

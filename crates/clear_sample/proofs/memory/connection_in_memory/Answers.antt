@@ -1,6 +1,6 @@
 use Rattle.std.proofs.Common.{length, refl, ap, inl}
 use Rattle.sqlite.specs.Files.{file_state}
-use Rattle.clear_database.proofs.SeenLemmas.{nothing_seen}
+use Rattle.clear_disk.proofs.SeenLemmas.{nothing_seen}
 use Rattle.clear_sample.proofs.MemoryLemmas.{always_clean}
 use Rattle.clear_sample.proofs.memory.connection_in_memory.Goals as goal
 

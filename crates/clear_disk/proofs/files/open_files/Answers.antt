@@ -4,7 +4,7 @@ use Rattle.clear_schema.specs.Faults.{IsOfDisk}
 use Rattle.clear_schema.specs.Held.{StandsFor, StandsOtherwise, TellsAs}
 use Rattle.clear_schema.proofs.Causes.{open_fails}
 use Rattle.clear_database.proofs.OpenLemmas.{tells_seen}
-use Rattle.clear_database.proofs.files.open_files.Goals as goal
+use Rattle.clear_disk.proofs.files.open_files.Goals as goal
 
 pub returns-in-Ok-open-clause-found : goal.returns-in-Ok-open-clause-found
 returns-in-Ok-open-clause-found g c clean t trees holds stands =

@@ -21,7 +21,7 @@ use Rattle.sqlite.specs.Files.{AreFoundIn, HoldsDatabase, IsNothing}
 use Rattle.sqlite.specs.State.{State}
 use Rattle.sqlite.proofs.ListingLemmas.{empty_is_sound}
 use Rattle.clear_schema.specs.Schema.{no_schema}
-use Rattle.clear_database.specs.Seen.{SeesIn}
+use Rattle.clear_disk.specs.Seen.{SeesIn}
 
 -- what follows from both, holds of the value
 pub if_ok_both : {A E : Type 0} (r : Result A E) (P Q R : A → Type 0) → ((x : A) → P x → Q x → R x) → IfOk r P → IfOk r Q → IfOk r R

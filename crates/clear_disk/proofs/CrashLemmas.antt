@@ -16,9 +16,9 @@ use Rattle.sqlite.specs.Files.{HoldsDatabase, image_of}
 use Rattle.sqlite.proofs.Theorems.{opens_again}
 use Rattle.clear_schema.specs.Faults.{IsWrong}
 use Rattle.clear_schema.specs.Held.{this_schema}
-use Rattle.clear_database.specs.Opening.{IfNotTaken}
-use Rattle.clear_database.specs.declared.files.FilesRefusal.{FilesRefusal}
-use Rattle.clear_database.specs.declared.files.FilesRefusal.TheVariants.{Unopened, NotTaken}
+use Rattle.clear_disk.specs.Opening.{IfNotTaken}
+use Rattle.clear_disk.specs.declared.files.FilesRefusal.{FilesRefusal}
+use Rattle.clear_disk.specs.declared.files.FilesRefusal.TheVariants.{Unopened, NotTaken}
 use Rattle.clear_database.specs.declared.store.Refusal.{Refusal}
 use Rattle.clear_schema.specs.declared.fault.OpenFault.{OpenFault}
 use Rattle.clear_schema.specs.declared.fault.OpenFault.TheVariants.{WrongVersion}

@@ -4,7 +4,7 @@ use Rattle.sqlite_store.specs.Listed.{catalog_rows}
 use Rattle.sqlite_store.specs.Listing.{listed_from}
 use Rattle.sqlite_trees.proofs.Doubt.{clean_of}
 use Rattle.sqlite_wal.specs.Reads.{are_clean}
-use Rattle.clear_database.proofs.database.made_store.Goals as goal
+use Rattle.clear_disk.proofs.database.made_store.Goals as goal
 
 pub returns-in-Ok-create-clause-empty : goal.returns-in-Ok-create-clause-empty
 returns-in-Ok-create-clause-empty g c doubt =

@@ -1,6 +1,6 @@
 use Rattle.std.proofs.Common.{◌∙◌, ap, arith}
 use Rattle.sqlite_trees.specs.Objects.{catalog_tree}
-use Rattle.clear_database.proofs.database.made_database.Goals as goal
+use Rattle.clear_disk.proofs.database.made_database.Goals as goal
 
 pub returns-in-Ok-clause-empty : goal.returns-in-Ok-clause-empty
 returns-in-Ok-clause-empty g c clean =

@@ -8,11 +8,11 @@ ghost use Rattle.clear_values.specs.Tables.{Tables};
 ghost use Rattle.clear_schema.specs.Faults.{IsOfDisk, IsWrong, other_layout};
 ghost use Rattle.clear_schema.specs.Held.{HasTables, StandsFor, StandsOtherwise, TellsAs};
 ghost use Rattle.clear_schema.specs.Held.{this_schema};
-ghost use Rattle.clear_database.specs.Opening.{IfNotTaken, IfUnopened};
+ghost use Rattle.clear_disk.specs.Opening.{IfNotTaken, IfUnopened};
 ghost use Rattle.clear_database.specs.Still.{IsFound};
 ghost use Rattle.clear_schema.specs.declared.fault.OpenFault.TheVariants.{WrongVersion};
 
-use crate::store::{Refusal, Store};
+use clear_database::store::{Refusal, Store};
 use clear_schema::fault::{Fault, OpenFault, fault_of};
 use sqlite::{Connection, FileStore, Files, Options};
 use sqlite_disk::{Crash, Disk};

@@ -3,9 +3,9 @@ use Rattle.sqlite.specs.Files.{file_state}
 use Rattle.sqlite.proofs.FileLemmas.{same_image}
 use Rattle.sqlite_trees.specs.Objects.{catalog_tree}
 use Rattle.sqlite_wal.specs.Recovery.{Image}
-use Rattle.clear_database.specs.Seen.{SeesIn}
-use Rattle.clear_database.proofs.SeenLemmas.{if_ok_both, none_found, none_held}
-use Rattle.clear_database.proofs.database.open_connection.Goals as goal
+use Rattle.clear_disk.specs.Seen.{SeesIn}
+use Rattle.clear_disk.proofs.SeenLemmas.{if_ok_both, none_found, none_held}
+use Rattle.clear_disk.proofs.database.open_connection.Goals as goal
 
 pub returns-in-Ok-true-clause-sees : goal.returns-in-Ok-true-clause-sees
 returns-in-Ok-true-clause-sees g c =

@@ -10,9 +10,9 @@ use Rattle.clear_schema.specs.Held.{StandsFor, TellsAs, this_schema}
 use Rattle.clear_schema.specs.Schema.{this_layout}
 use Rattle.clear_schema.specs.declared.fault.Fault.{Fault}
 use Rattle.clear_schema.specs.declared.fault.OpenFault.TheVariants.{Failed, WrongVersion}
-use Rattle.clear_database.proofs.CrashLemmas.{finds, never, not_taken_then, not_wrong}
+use Rattle.clear_disk.proofs.CrashLemmas.{finds, never, not_taken_then, not_wrong}
 use Rattle.clear_database.proofs.OpenLemmas.{tells_as}
-use Rattle.clear_database.proofs.files.crash_and_open.Goals as goal
+use Rattle.clear_disk.proofs.files.crash_and_open.Goals as goal
 
 pub returns-in-Ok-clause-found : goal.returns-in-Ok-clause-found
 returns-in-Ok-clause-found g c clean t u crash =

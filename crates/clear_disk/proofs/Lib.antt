@@ -1,0 +1,2 @@
+pub mod CrashLemmas
+pub mod SeenLemmas

@@ -1,0 +1,2 @@
+pub mod Opening
+pub mod Seen
