@@ -89,6 +89,15 @@ class AnswerLog(Scripts):
         self.open_office()
         self.assertEqual(self.script("answer_log", "batch", "log"), "sent: 1, skipped: 0, refused: 0\n")
         self.assertEqual([it["status"] for it in self.entries()], ["409 Conflict", "200 OK"])
+        # A month that is ahead.
+        self.write("batch", 'POST /employers/1001/reports/2024-05 3 {"lines":[{"gross":100,"worker":8}]}\n')
+        refusal = "POST /employers/1001/reports/2024-05 3: rule 14 MonthAhead\n"
+        self.assertEqual(self.script("answer_log", "batch", "log", status=1),
+                         f"{refusal}sent: 1, skipped: 0, refused: 1\n")
+        self.close_office()
+        self.open_office("2024-05-01")
+        self.assertEqual(self.script("answer_log", "batch", "log"), "sent: 1, skipped: 0, refused: 0\n")
+        self.assertEqual(self.entries()[-1]["answer"], '{"charge":20,"version":1}')
 
     def test_what_the_key_refuses_is_sent_again(self):
         """As with the key of another number of the firm: the log skips nothing under the right one."""

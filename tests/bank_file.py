@@ -133,9 +133,10 @@ class Good(BankFiles):
     def test_days(self):
         entries = [payment("0.01", reference="D-1", value="<Dt>2000-01-01+01:00</Dt>"),
                    payment("0.01", reference="D-2", value="<DtTm>2200-12-31T23:59:59Z</DtTm>"),
-                   payment("0.01", reference="D-3", value="", booked="2024-02-29")]
-        lines = ["D-1,2000-01-01,,1,C,", "D-2,2200-12-31,,1,C,", "D-3,2024-02-29,,1,C,"]
-        told = self.makes(one("0", "0.03", *entries), lines)
+                   payment("0.01", reference="D-3", value="", booked="2024-02-29"),
+                   payment("0.01", reference="D-4", value="<Dt>2024-04-30Z</Dt>")]
+        lines = ["D-1,2000-01-01,,1,C,", "D-2,2200-12-31,,1,C,", "D-3,2024-02-29,,1,C,", "D-4,2024-04-30,,1,C,"]
+        told = self.makes(one("0", "0.04", *entries), lines)
         self.assertIn("  value dates 2000-01-01 to 2200-12-31\n", told)
 
     def test_days_that_are_refused(self):
@@ -170,13 +171,19 @@ class Batches(BankFiles):
         for details, line in (
                 ([nord, west], 'B,2024-04-30,,900,C,"Bau Nord, Bau West: Mai Zinsen"'),
                 ([nord, nord], "B,2024-04-30,1001,900,C,Bau Nord: Mai Mai"),
-                ([nord, transaction("", "1001")], "B,2024-04-30,1001,900,C,Bau Nord: Mai 1001"),
                 ([nord, transaction("", "", "Bau Nord", STRANGE)], "B,2024-04-30,,900,C,Bau Nord: Mai"),
                 ([interest, interest], "B,2024-04-30,1003,900,I,Zinsen 1003 Zinsen 1003"),
+                # In another currency it may be all of the entry.
+                ([transaction("5.00", "Mai", "Bau Nord", NORD).replace("EUR", "USD")],
+                 "B,2024-04-30,1001,900,C,Bau Nord: Mai"),
                 # One is in another currency, or was taken off.
                 ([transaction("5.00"), west.replace("EUR", "USD")], "B,2024-04-30,,900,C,Bau West: Zinsen"),
                 ([transaction("5.00"), west.replace("CRDT", "DBIT")], "B,2024-04-30,,900,C,Bau West: Zinsen")):
             self.makes(one("0", "9.00", entry("9.00", *details, reference="B")), [line])
+        # The firm is known as surely as by each of them.
+        told = self.makes(one("0", "9.00", entry("9.00", nord, transaction("", "1001"), reference="B")),
+                          ["B,2024-04-30,1001,900,C,Bau Nord: Mai 1001"])
+        self.assertIn("  by a number in the text: 1 line, 9.00 EUR\n", told)
 
     def test_not_all_its_transactions_are_there(self):
         nord = transaction("4.00", "Mai", "Bau Nord", NORD)
@@ -192,8 +199,11 @@ class Batches(BankFiles):
                                      (2, [transaction("4.00", "Zinsen")], "B,2024-04-30,,900,C,Zinsen")):
             batch = f"<Btch><NbOfTxs>{count}</NbOfTxs></Btch>"
             self.makes(one("0", "9.00", entry("9.00", *details, reference="B", batch=batch)), [line])
+        # Also where one part of its details has all of its own.
+        other = "</NtryDtls><NtryDtls><Btch><NbOfTxs>2</NbOfTxs></Btch>"
         for details, line in ((nord, "B,2024-04-30,,900,C,Bau Nord: Mai"),
-                              (transaction("4.00", more=RETURNED), "B,2024-04-30,,900,C,")):
+                              (transaction("4.00", more=RETURNED), "B,2024-04-30,,900,C,"),
+                              (transaction("", "Mai", "Bau Nord", NORD) + other, "B,2024-04-30,,900,C,Bau Nord: Mai")):
             self.makes(one("0", "9.00", entry("9.00", details, reference="B")), [line])
         # What the bank takes back may have its fee in it.
         taken = entry("9.00", transaction("4.00", more=RETURNED), direction="DBIT")
@@ -229,6 +239,9 @@ class Batches(BankFiles):
         self.assertIn(f"left out, returned transfer (a credit): transaction 2 of {FIRST}, 2024-04-30, 1.00 EUR\n",
                       told)
         self.assertIn("left out in all, amount of 0: 1, 0.00 EUR\n", told)
+        claim = transaction("1.00", reference="X", end_to_end="L3-C17")
+        told = self.makes(one("0", "3.00", entry("3.00", claim, parts[0], reference="B")), ["Y,2024-04-30,,200,C,"])
+        self.assertIn(f": transaction 1 of {FIRST}, 2024-04-30, 1.00 EUR, L3-C17\n", told)
         # Where it can't be parted from the others, the clerk has to look.
         whole = entry("3.00", transaction("", iban=NORD), back, reference="B")
         self.makes(one("0", "3.00", whole), ["B,2024-04-30,,300,C,"])
@@ -239,8 +252,10 @@ class LeftOut(BankFiles):
         returned = transaction("", "Auszahlung 3", more=RETURNED)
         reversal = "<RvslInd>true</RvslInd>"
         content = one(
-            "100.00", "176.00", payment("80.00", reference="L-1"), entry("1.10", direction="DBIT"),
-            entry("2.20", direction="DBIT"), entry("3.00", direction="DBIT", reversal=reversal),
+            "100.00", "176.00", payment("80.00", reference="L-1"),
+            entry("1.10", direction="DBIT", value="<Dt>2024-04-29</Dt>"),
+            entry("2.20", direction="DBIT", value="", booked="2024-04-28"),
+            entry("3.00", direction="DBIT", reversal=reversal),
             entry("0.30", returned), entry("2.00", reversal="<RvslInd>1</RvslInd>"),
             payment("9.00", status="PDNG"), payment("8.00", status="INFO"), payment("7.00", currency="USD"),
             payment("6.50", currency="USD"), payment("5", currency="JPY", value="", booked=""), payment("0.00"),
@@ -249,8 +264,8 @@ class LeftOut(BankFiles):
             entry("0.20", returned, returned), entry("0.20", returned, direction="DBIT"))
         told = self.makes(content, ["L-1,2024-04-30,,8000,C,"]).splitlines()
         self.assertEqual(told[:3], [
-            f"left out, debit: entry 2 of {S1}, 2024-04-30, 1.10 EUR",
-            f"left out, debit: entry 3 of {S1}, 2024-04-30, 2.20 EUR",
+            f"left out, debit: entry 2 of {S1}, 2024-04-29, 1.10 EUR",
+            f"left out, debit: entry 3 of {S1}, 2024-04-28, 2.20 EUR",
             f"left out, returned payment (a debit): entry 4 of {S1}, 2024-04-30, 3.00 EUR"])
         self.assertIn(f"left out, other currency: entry 11 of {S1}, no day, 5.00 JPY", told)
         self.assertEqual(told[15:], [
@@ -287,7 +302,8 @@ class LeftOut(BankFiles):
         self.assertIn("left out in all, returned payment (a debit): 1, 1.00 EUR\n",
                       self.makes(one("1.00", "0", taken_back), []))
         # Direct debits, cheques, and what only Germany's number says; then codes and numbers of others.
-        back = "UPDD", "RCDD", "PRDD", "UPCQ", "CQRV", "NDDT+181+00931", "NTRF+159", "N051+159+9310"
+        back = ("RPCR", "UPDD", "RCDD", "PRDD", "UPCQ", "CQRV", "NTRF+108", "NDDT+109+00931", "NTRF+159",
+                "N051+159+9310", "NDDT+181+00931", "NTRF+184")
         other = "ESDD", "NTRF+166+159", "159", "N159+166", "N0511+159"
         for code in (*back, *other):
             own = f"<Domn><Fmly><SubFmlyCd>{code}</SubFmlyCd></Fmly></Domn><Prtry><Cd>{code}</Cd></Prtry>"
@@ -320,6 +336,8 @@ class LeftOut(BankFiles):
                 (entry("7.00", batch=listed.format(""), **out), "7.00 EUR, PAYOUT-7-2024-04-30"),
                 (entry("7.00", batch=listed.format("<MsgId>PAYOUT-7-2024-04-30</MsgId>"), **out),
                  "7.00 EUR, PAYOUT-7-2024-04-30"),
+                *((entry("7.00", transaction("7.00").replace("<Refs>", f"<Refs><{name}>PAYOUT-7-2024-04-30</{name}>"),
+                         **out), "7.00 EUR, PAYOUT-7-2024-04-30") for name in ("PmtInfId", "MsgId")),
                 (entry("7.00", many[0], batch=listed.format(""), **out), "7.00 EUR, L7-C1"),
                 (entry("1.00", by_text[2], batch=listed.format("").replace("PAYOUT", "OTHER"), **out), "1.00 EUR")):
             amount = told.partition(" ")[0]
@@ -351,9 +369,10 @@ class LeftOut(BankFiles):
             paid, taken = payment("1.00", reference="A"), entry("4.00", details, direction="DBIT")
             told = self.makes(one("3.00", "0", paid, taken), ["A,2024-04-30,,100,C,"])
             self.assertEqual(told.partition("  of this amount: ")[2][:3], said, told)
-        seven = (payment("1.00", reference=f"A{at}") for at in range(7))
-        many = one("0", "6.00", *seven, entry("1.00", **reversal))
-        self.assertIn("  of this amount: A0, A1, A2, A3, A4 and 2 more; ", self.made(many)[1])
+        for count, more in ((5, ""), (7, " and 2 more")):
+            many = [payment("1.00", reference=f"A{at}") for at in range(count)]
+            told = self.made(one("0", f"{count - 1}.00", *many, entry("1.00", **reversal)))[1]
+            self.assertIn(f"  of this amount: A0, A1, A2, A3, A4{more}; ", told)
 
     def test_flags_that_say_nothing(self):
         for flag in ("True", "yes", "2"):
@@ -391,6 +410,8 @@ class Balances(BankFiles):
         for there, told in (([0], "1"), ([0, 2], "1, 3"), ([1, 2], "2, 3"), ([0, 1], "1, 2")):
             pages = [PAGES[it] for it in there]
             self.refuses(document(*pages), f"{S1}: a page is missing; there are {told}. {PACK}")
+        said_last = [PAGES[0].replace(">false<", ">true<"), *PAGES[1:]]
+        self.refuses(document(*said_last), f"{S1}: a page is missing; there are 1, 2, 3. {PACK}")
         self.refuses(document(*PAGES, PAGES[1]), f"{S1}: it stands twice in the file, or a page of it does")
 
     def test_balances_of_pages(self):
@@ -435,6 +456,8 @@ class Balances(BankFiles):
             self.refuses(packed(*files), f"a page of the bank's message is missing; there are {told}. {PACK}")
         self.makes(packed(("1.xml", message(1, "true", whole)), ("2.xml", message(1, "true", other))),
                    ["M-1,2024-04-30,,100,C,", "M-4,2024-04-30,,700,C,"])
+        # One that doesn't say whether more of it follows.
+        self.makes(as_02(document(whole, head="<MsgPgntn><PgNb>1</PgNb></MsgPgntn>")), lines[:1])
 
 
 class References(BankFiles):
@@ -443,18 +466,21 @@ class References(BankFiles):
 
     def test_one_payment_in_two_statements(self):
         text, second = "a" * 150, f"entry 1 of statement S2 of {ACCOUNT}"
+        same = payment("1.00", text, reference="R")
 
-        def both(later):
-            return document(statement("0", "1.00", payment("1.00", text, reference="R")),
-                            statement("0", "1.00", later, identifier="S2"))
+        def both(later, amount="1.00", **options):
+            return document(statement("0", "1.00", same), statement("0", amount, later, identifier="S2", **options))
 
-        told = self.makes(both(payment("1.00", text, reference="R")), [f"R,2024-04-30,,100,C,{text[:140]}"])
+        told = self.makes(both(same), [f"R,2024-04-30,,100,C,{text[:140]}"])
         self.assertIn(f"left out, stands in two statements: {second}, 2024-04-30, 1.00 EUR\n", told)
-        # Two others, though their lines would be equal.
+        # Two others, though the lines of the first three would be equal.
+        different = f"and {FIRST} are different payments, and the bank gives both the reference R; ask the bank"
         for other in (payment("1.00", text[1:], reference="R"), payment("1.00", text, "", STRANGE, "R"),
-                      payment("1.00", text, reference="R", booked="2024-05-01")):
-            self.refuses(both(other), f"{second} and {FIRST} are different payments, and the bank gives both the "
-                         "reference R; ask the bank")
+                      payment("1.00", text, reference="R", booked="2024-05-01"),
+                      payment("1.00", text, reference="R", value="<Dt>2024-04-29</Dt>")):
+            self.refuses(both(other), f"{second} {different}")
+        self.refuses(both(payment("2.00", text, reference="R"), "2.00"), f"{second} {different}")
+        self.refuses(both(same, account=NORD), f"entry 1 of statement S2 of {NORD} {different}")
 
     def test_one_entry_with_and_without_its_transactions(self):
         parts = transaction("4.00", reference="T1"), transaction("5.00", reference="T2")
@@ -467,6 +493,13 @@ class References(BankFiles):
         turned = statement("0", "9.00", entry("9.00", *parts[::-1], reference="B"))
         told = self.makes(document(parted, turned), ["T1,2024-04-30,,400,C,", "T2,2024-04-30,,500,C,"])
         self.assertIn("left out in all, stands in two statements: 2, 9.00 EUR\n", told)
+        # Of another account, amount or day it is another entry.
+        day = "Dt><Dt>2024-04-30"
+        for old, new in ((ACCOUNT, NORD), ("9.00", "8.00"), (f"Bookg{day}", "BookgDt><Dt>2024-05-02"),
+                         (f"Val{day}", "ValDt><Dt>2024-05-02")):
+            self.assertIn(old, whole)
+            both = document(whole.replace(old, new), parted)
+            self.assertEqual(self.references(both), ["B", "T1", "T2"], new)
         self.write("made.csv", HEADER + "B,2024-04-30,,900,C,\n")
         words = "--firms", "firms.csv", "--earlier", "made.csv"
         self.refuses(document(parted), f"entry 1 of {second} stands in an earlier file as one line, B, and now comes "
@@ -542,6 +575,9 @@ class References(BankFiles):
         # What may change of an entry is no part of it.
         same = payment("1.00", "x", "y", NORD, value="<Dt>2024-04-29</Dt>")
         self.assertEqual(self.references(one("0", "1", same)), [here])
+        # Nor is what stands for no reference of the payer.
+        for none in ("NONE", "000", "NON-REF"):
+            self.assertEqual(self.references(one("0", "1", payment("1.00", end_to_end=none))), [here], none)
 
 
 class Document(BankFiles):

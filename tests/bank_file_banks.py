@@ -79,6 +79,19 @@ class Payers(BankFiles):
             self.makes(both, ["B,2024-04-30,,200,C,"])
 
 
+class Texts(BankFiles):
+    def test_the_creditors_reference_and_what_is_added_to_it(self):
+        content = one("0", "1.00", payment("1.00", "TEXT", "", STRANGE, "R"))
+        structured = "<Strd><CdtrRefInf><Ref>RF18</Ref></CdtrRefInf><AddtlRmtInf>Betrieb 1001</AddtlRmtInf></Strd>"
+        for text in (content, as_02(content)):
+            self.makes(text.replace("<Ustrd>TEXT</Ustrd>", structured), ["R,2024-04-30,1001,100,C,RF18 Betrieb 1001"])
+
+    def test_values_that_stand_on_lines_of_their_own(self):
+        for text in ("\n {}\n ", "\t{} "):
+            found = payment("1.00", "Mai", "Bau", text.format(NORD), text.format("R"), value=f"<Dt>{text}</Dt>")
+            self.makes(one("0", "1.00", found.replace("{}", "2024-04-30")), ["R,2024-04-30,1001,100,C,Bau: Mai"])
+
+
 class Amounts(BankFiles):
     def test_decimal_numbers_of_xml(self):
         written = {".50": 50, "+1.5": 150, "2.": 200, "000000000000000000003.00": 300, "4.000000": 400,
@@ -144,8 +157,12 @@ class Twice(BankFiles):
         self.assertEqual(told(("0", "1"), ("1", "2"), ("3", "4")), f"begin where none ends: S0, S2; {rest}")
         # That of the month besides those of its days.
         self.assertEqual(told(("0", "1"), ("1", "2"), ("0", "2")), f"begin where none ends: S0, S2; {rest}")
-        two = document(statement("0", "0"), statement("5", "5", account=NORD))
-        self.assertNotIn("none ends", self.made(two)[1])
+        # Of two accounts, or of one in two currencies, none has to follow the other.
+        first, second = (statement(*ends, payment("1.00", reference=f"R{at}"), identifier=f"S{at}")
+                         for at, ends in enumerate((("0", "1.00"), ("5.00", "6.00"))))
+        for other, is_told in ((second, True), (second.replace(ACCOUNT, NORD), False),
+                               (second.replace("EUR", "USD"), False)):
+            self.assertEqual("none ends" in self.made(document(first, other))[1], is_told)
 
 
 class References(BankFiles):

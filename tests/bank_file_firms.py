@@ -46,7 +46,8 @@ class Firms(BankFiles):
         table = "iban,employer\n" + "".join(f",{firm}\n" for firm in (1, 5, 12, 24, 30, 234, 1001, 2024, 3704))
         for text in ("Beitrag März 2024", "Beitrag 2024", "1 001,12", "1'234", "5 %", "5,5%", "30. April", "1 Mai",
                      "Mai 24", "Feb. '24", "Euro 1001", "EUR: 1001", "EUR 1 234", "USD 1001", "1001 Euro", "1001,-",
-                     "IBAN DE02 3704 0044 0532 0130 00", "de12 1001 1001 1001 1001 00"):
+                     "IBAN DE02 3704 0044 0532 0130 00", "de12 1001 1001 1001 1001 00", "Betrieb 1001 Std.",
+                     "Betrieb 1001 Stunden", "Betrieb 1001 %"):
             self.finds("", text, table=table)
         for text in ("1001 März 2024", "Mai 1001", "EUR 5,00 Betrieb 1001", "Betrieb 1001, Mai 24, 12.04.2024",
                      "DE89370400440532013000 1001"):
@@ -103,7 +104,9 @@ class Firms(BankFiles):
                 "EUR_1001", "TEUR 1001", "PLN 1001", "RON 1001", "CZK 1001", "HUF 1001", "DM 1001", "SFr. 1001",
                 "1001 Cent", "1001 ¤", "¤ 1001 Mai", "EUR 500 / 1001", "EUR 500 + 1001", "1001 + 500 EUR",
                 "1001 / 500 EUR", "1001 und 500 EUR", "1001 bis 1500 EUR", "500 EUR + 1001", "1001,-- EUR",
-                "5469,- EUR 1 / 24")
+                "5469,- EUR 1 / 24", "Betrieb 1001, 24 EUR", "Betrieb 1001 EUR 500",
+                *(f"Betrieb 1001 {currency}" for currency in (
+                    "EUR", "USD", "CHF", "GBP", "PLN", "CZK", "HUF", "RON", "DM", "Cent", "€")))
         known = ("Betrieb 1001 / 500 EUR", "Euro-Bau, Betrieb 1001")
         self.finds_each((1, 24, 500, 1001), none, known)
 
@@ -129,7 +132,9 @@ class Firms(BankFiles):
 
     def test_references_of_the_payer(self):
         none = ("EREF+1001 SVWZ+Rechnung 77", "KREF+1001", "MREF+1001 SVWZ+Mai", "EREF+RE 1001 SVWZ+Mai",
-                ["EREF+1001 SVWZ", "+Mai"], "SVWZ+Mai EREF+RE 1001", "RREF+1001", "ABWA+1001 SVWZ+Mai")
+                ["EREF+1001 SVWZ", "+Mai"], "SVWZ+Mai EREF+RE 1001", "RREF+1001", "ABWA+1001 SVWZ+Mai",
+                *(f"{mark}+Betrieb 1001 SVWZ+Mai" for mark in (
+                    "EREF", "KREF", "MREF", "CRED", "DEBT", "COAM", "OAMT", "OCMT", "CHRG", "PURP", "MDAT", "ABWE")))
         known = ("EREF+NOTPROVIDED SVWZ+Beitrag 1001", "EREF+77 KREF+78 SVWZ+1001", "SVWZ+1001 EREF+77",
                  ["EREF+77 SVWZ", "+1001"])
         self.finds_each((7, 77, 1001), none, known)
@@ -326,7 +331,7 @@ class Firms(BankFiles):
         # Several, of which one may be none of the table.
         none = ("BETRIEB: 2024, 1001", "Betrieb 1001 und 2024", "Betrieb 1001, 2024", "Betrieb 1001 / 1003",
                 "Betrieb 1001 bis 1003", "Betrieb 1001 1003", "Betrieb 7 und 1001", "Betrieb 1001 u. 1003",
-                "Betrieb 1001/24")
+                "Betrieb 1001 sowie 2024", "Betrieb 1001/24")
         known = ("Betrieb Nr. 1001", "Betrieb-Nr.: 1001", "Betrieb Nummer 1001", "Betrieb 1001, Rechnung 1003",
                  "Betrieb 1001 Mai 2024", "Betrieb 1001, 05/2024", "1003 Betrieb 1001")
         self.finds_each((1001, 1003, 2024), none, known, "--number-word", "Betrieb")

@@ -6,20 +6,23 @@ PROGRAM is crates/clear_app/out/clear_app where it isn't given, as `rt ci` leave
 needs.
 """
 
+import contextlib
 import os
 import resource
 import signal
 import stat
 import subprocess
 import sys
+import time
+from functools import partial
 
 # No __pycache__ is left beside the sources.
 sys.dont_write_bytecode = True
 import bank_file  # noqa: E402
 from bank_file import AT_FIRST, HEADER, TOOL, BankFiles  # noqa: E402
 from bank_statements import (  # noqa: E402
-    ACCOUNT, DECLARED, LATIN, LATIN_LINES, NAMESPACE, one, packed, payment)
-from payment_file import STOPPED  # noqa: E402
+    ACCOUNT, DECLARED, LATIN, LATIN_LINES, NAMESPACE, entry, one, packed, payment)
+from payment_file import STOPPED, STOPPED_BEHIND  # noqa: E402
 from program_under_test import run_tests  # noqa: E402
 
 setUpModule = bank_file.setUpModule
@@ -116,16 +119,19 @@ class NotRead(BankFiles):
             self.refuses(LATIN.replace(old, new), said, status=2)
 
 
+def entries(count, name=""):
+    """So many entries, of a payer or without a transaction. With a text they would take twice the time."""
+    made = partial(payment, name=name) if name else entry
+    return one("0", f"{count}", *(made("1", reference=f"N{at:04}") for at in range(count)))
+
+
 class Limits(BankFiles):
     def test_the_lines_of_a_file(self):
         """What is more than the office takes in one file comes in several, of which each is as it takes it."""
-        def entries(count, text=""):
-            return one("0", f"{count}", *(payment("1", text, reference=f"N{at:04}") for at in range(count)))
-
         self.makes(entries(10_000), [f"N{at:04},2024-04-30,,100,C," for at in range(10_000)])
-        # 49 bytes of a header, and 165 of each line with a text.
-        for count, text, parts in ((10_001, "", (10_000, 1)), (6_355, "x" * 140, (6_354, 1))):
-            self.write("statement", entries(count, text))
+        # 49 bytes of a header, and 165 of each line with a name.
+        for count, name, parts in ((10_001, "", (10_000, 1)), (6_355, "x" * 140, (6_354, 1))):
+            self.write("statement", entries(count, name))
             status, output, told = self.tool("statement", "--firms", "firms.csv")
             self.assertEqual((status, output), (1, ""))
             self.assertIn("are more than the office takes in a file (10000 lines, 1048576 bytes); give fewer", told)
@@ -134,17 +140,17 @@ class Limits(BankFiles):
             self.assertEqual((status, output), (0, ""))
             self.assertIn(f"  in 2 files, each of which is to be imported: {', '.join(names)}\n", told)
             found = []
-            for name, part in zip(names, parts):
-                header, *lines = (self.folder / name).read_text().splitlines()
+            for path, part in zip(map(self.folder.joinpath, names), parts):
+                header, *lines = path.read_text().splitlines()
                 self.assertEqual((f"{header}\n", len(lines)), (HEADER, part))
-                self.write("bank.csv", (self.folder / name).read_text())
+                self.write("bank.csv", path.read_text())
                 self.assertEqual(self.run_program("check", "bank", "bank.csv")[0], 0)
                 found += lines
-            self.assertEqual(found, [f"N{at:04},2024-04-30,,100,C,{text}" for at in range(count)])
+            self.assertEqual(found, [f"N{at:04},2024-04-30,,100,C,{name}" for at in range(count)])
 
     def test_one_of_several_files_stands_there(self):
         self.write("many-2.csv", "")
-        self.write("statement", one("0", "10001", *(payment("1", reference=f"N{at}") for at in range(10_001))))
+        self.write("statement", entries(10_001))
         status, output, told = self.tool("statement", "--firms", "firms.csv", "--out", "many.csv")
         said = "many-2.csv: there is such a file already\nnothing is written\n"
         self.assertEqual((status, output, told), (2, "", said))
@@ -167,7 +173,8 @@ class Limits(BankFiles):
         self.assertEqual(self.tool("statement", "--firms", "firms.csv", **few)[0], 2)
         many = packed(*((f"{at}.xml", "") for at in range(1_001)))
         self.misread(many, ": the zip has more than 1000 files")
-
+        self.write("firms.csv", "iban,employer\n".ljust(4_194_305, "\n"))
+        self.refuses(LATIN, "firms.csv: larger than 4194304 bytes", status=2)
 
     def test_texts_of_many_parts(self):
         """Neither a word that may be cut at many places nor a row of amounts takes long, or much memory."""
@@ -247,16 +254,33 @@ class CommandLine(BankFiles):
             running = subprocess.Popen(
                 [TOOL, "slow", *self.words[1:]], cwd=self.folder, stdout=subprocess.PIPE, stderr=subprocess.PIPE,
                 text=True, preexec_fn=lambda: signal.signal(signal.SIGINT, signal.default_int_handler))
-            with running, open(self.folder / "slow", "wb"):
+            self.addCleanup(running.communicate)
+            self.addCleanup(running.kill)
+            with open(self.read_by(running, "slow"), "wb"):
+                # It waits for a byte by then: a signal just before that would be seen behind the byte.
+                time.sleep(0.5)
                 running.send_signal(number)
                 self.assertEqual(running.communicate(timeout=60), ("", "broken off\n"))
             self.assertEqual(running.returncode, 130)
 
+    def read_by(self, running, name):
+        """An end of the pipe of this name, whose other end the tool has by now."""
+        for _ in range(1_500):
+            # Without waiting: a tool that has ended would be waited for without an end.
+            with contextlib.suppress(OSError):
+                return os.open(self.folder / name, os.O_WRONLY | os.O_NONBLOCK)
+            self.assertIsNone(running.poll(), "the tool has ended")
+            time.sleep(0.02)
+        raise AssertionError("the tool reads nothing")
+
     def test_a_stop_while_a_file_is_written(self):
-        """Nothing of it is left, be it hidden."""
+        """Nothing of it is left, be it hidden, nor of several files one that has its name already."""
+        self.write("several", entries(10_001))
         before = sorted(os.listdir(self.folder))
-        for number in (signal.SIGTERM, signal.SIGHUP):
-            command = ["/usr/bin/python3", "-c", STOPPED, str(int(number)), TOOL, *self.words, "--out", "made.csv"]
+        for number, stopped, statement in ((signal.SIGTERM, STOPPED, "statement"), (signal.SIGHUP, STOPPED, "statement"),
+                                           (signal.SIGTERM, STOPPED_BEHIND, "several")):
+            words = [statement, *self.words[1:], "--out", "made.csv"]
+            command = ["/usr/bin/python3", "-c", stopped, str(int(number)), TOOL, *words]
             ran = subprocess.run(command, cwd=self.folder, env={"PYTHONPATH": os.path.dirname(TOOL)},
                                  capture_output=True, timeout=60, check=False)
             self.assertEqual((ran.returncode, ran.stderr.decode().splitlines()[-1]), (130, "broken off"))

@@ -180,7 +180,7 @@ ZIPPED_PAGES = packed(*((f"{name}.xml", document(it)) for name, it in zip("bca",
 
 LONG = "ABCDEFGHIJKLMNOPQRSTUVWXYZ0123456789ABCDEFGHIJKLMN"
 REFERENCES = one(
-    "0.00", "45.00",
+    "0.00", "53.00",
     payment("1.00", reference=LONG),
     payment("2.00", reference="Überweisung-1"),
     payment("3.00", reference="R 1"),
@@ -189,6 +189,7 @@ REFERENCES = one(
     payment("6.00", reference='a,"b"'),
     payment("7.00", reference="DOUBLE"),
     payment("7.00", reference="DOUBLE"),
+    payment("8.00", reference="bank~abc"),
     entry("10.00", transaction("9.00"), transaction("1.00"), reference="BATCH"),
 )
 REFERENCES_LINES = [
@@ -205,6 +206,8 @@ REFERENCES_LINES = [
     "DOUBLE,2024-04-30,,700,C,",
     # ["DOUBLE", "2"]
     "bank~5uuqmza2woikv4ymrxshzshkri,2024-04-30,,700,C,",
+    # ["bank~abc", "1"]
+    "bank~27dmuklkk5afvya2zdhi5om7aj,2024-04-30,,800,C,",
     "BATCH,2024-04-30,,900,C,",
     # ["BATCH", "2"]
     "bank~dsynpzbvymdt6enkwl6wwijxx7,2024-04-30,,100,C,",
@@ -222,13 +225,15 @@ NO_REFERENCES_LINES = [
 
 # "B: " and 135 letters are 138 bytes, so that the next sign of four bytes doesn't fit.
 NOTES = one(
-    "0.00", "6.00",
+    "0.00", "8.00",
     payment("1.00", "n" * 135 + "\U0001f477z", "B", reference="NT-1"),
     payment("1.00", "n" * 133 + "\U0001f477z", "B", reference="NT-2"),
     payment("1.00", 'a,b "c"\n\t d&#13;&#x85;&#x7f;&#x202e;e', reference="NT-3"),
     payment("1.00", "=1+1", "=+-@ Bau", reference="NT-4"),
     payment("1.00", "=1+1", reference="NT-5"),
     payment("1.00", "u&#x308; &lt;b&gt; &amp;", "Bau", reference="NT-6"),
+    payment("1.00", "a; b;= +1", "Bau;=1+1", reference="NT-7"),
+    payment("1.00", "\uff1d1+1", reference="NT-8"),
 )
 NOTES_LINES = [
     f"NT-1,2024-04-30,,100,C,B: {'n' * 135}",
@@ -237,6 +242,8 @@ NOTES_LINES = [
     "NT-4,2024-04-30,,100,C,Bau: =1+1",
     "NT-5,2024-04-30,,100,C,1+1",
     "NT-6,2024-04-30,,100,C,Bau: ü <b> &",
+    'NT-7,2024-04-30,,100,C,"Bau,=1+1: a; b,= +1"',
+    "NT-8,2024-04-30,,100,C,1+1",
 ]
 
 LATIN = one("0.00", "1.00", payment("1.00", "März", "Größe", NORD, "LT-1"))

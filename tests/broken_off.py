@@ -43,6 +43,7 @@ class BrokenOff(Scripts):
         for name, words, told in (("month_end", ["april", 2, 1001], ""), ("reports_from_csv", [1, "wages.csv"], ""),
                                   ("answer_log", ["batch", "log"], "sent: 0, skipped: 0, refused: 0, left: 2\n")):
             with socket.create_server(("127.0.0.1", 0)) as silent:
+                silent.settimeout(30)
                 self.address = f"127.0.0.1:{silent.getsockname()[1]}"
                 # Where this is run in the background, SIGINT is ignored, which the script would inherit.
                 running = subprocess.Popen(

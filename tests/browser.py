@@ -53,7 +53,8 @@ def start(profile):
     for flag in flags(profile):
         options.add_argument(flag)
     options.set_capability("goog:loggingPrefs", {"performance": "ALL", "browser": "ALL"})
-    environment = {**os.environ, "HOME": str(profile), "LC_ALL": "C.UTF-8"}
+    # A page whose clock a test sets has the same day wherever it runs.
+    environment = {**os.environ, "HOME": str(profile), "LC_ALL": "C.UTF-8", "TZ": "UTC"}
     service = Service(shutil.which("chromedriver"), env=environment)
     driver = webdriver.Chrome(service=service, options=options)
     driver.set_script_timeout(SECONDS)

@@ -7,12 +7,17 @@ worked out from docs/rules.md by hand, or stands in docs/clerk.md.
 """
 
 import sys
+import time
+from unittest import mock
 
 # No __pycache__ is left beside the sources.
 sys.dont_write_bytecode = True
 from desk_under_test import (  # noqa: E402
     BANK_HEADER, DONE, FIRST_BANK, DeskUnderTest, FakeOffice, answer_bytes, free_port)
-from program_under_test import DAY, run_tests  # noqa: E402
+from program_under_test import DAY, ROOT, run_tests  # noqa: E402
+
+sys.path.append(str(ROOT / "tools"))
+from desk_server import bank_check  # noqa: E402
 
 FAILED = {"rule": 42, "name": "Failed", "detail": ""}
 # What docs/clerk.md shows of the firm after the correction of January.
@@ -208,6 +213,10 @@ class Fields(DeskUnderTest):
 
     def test_fields_that_are_wrong(self):
         register = {"employer": "1001", "name": "Bau", "start": "2024-01"}
+        report = {"employer": "1001", "month": "2024-01", "csv": "worker,gross\n7,5\n"}
+        # The greatest of each.
+        rates = {"from": "2026-01", "contribution": "100", "entitlement": "100", "interest": "10", "report_day": "28",
+                 "due_day": "28"}
         for kind, fields, field, reason in (
                 ("register", {**register, "employer": "0"}, "employer", "employer"),
                 ("register", {**register, "employer": "100000000"}, "employer", "employer"),
@@ -227,18 +236,27 @@ class Fields(DeskUnderTest):
                 ("claim", {"employer": "1", "worker": "7", "amount": "1.23"}, "amount", "amount"),
                 ("claim", {"employer": "1", "worker": "7", "amount": "0,00"}, "amount", "amount-range"),
                 ("claim", {"employer": "1", "worker": "7", "amount": "1.000.000.000,01"}, "amount", "amount-range"),
-                ("rates", {"from": "2026-01", "contribution": "100,01"}, "contribution", "contribution")):
+                ("rates", {**rates, "contribution": "100,01"}, "contribution", "contribution"),
+                ("rates", {**rates, "entitlement": "100,01"}, "entitlement", "entitlement"),
+                ("rates", {**rates, "interest": "10,01"}, "interest", "interest"),
+                ("rates", {**rates, "report_day": "29"}, "report_day", "report_day"),
+                ("rates", {**rates, "due_day": "29"}, "due_day", "due_day"),
+                ("correct", {**report, "version": "4294967296"}, "version", "version")):
             carried = self.faults(400, "field", self.command(kind, **fields))
             self.assertEqual(carried, {"field": field, "reason": reason}, fields)
         # A name of 60 bytes, most in umlauts.
         self.does(DONE, self.register(name="ä" * 30))
-        self.assertEqual([it["number"] for it in self.lines("numbers.jsonl")], [1])
+        self.does(DONE, self.command("rates", **rates))
+        reply = {"charge": 1, "version": 7}
+        self.office.answer = lambda request: answer_bytes(200, reply)
+        self.does(reply, self.command("correct", **report, version="4294967295"))
+        self.assertEqual([it["number"] for it in self.lines("numbers.jsonl")], [1, 2, 3])
 
     def test_a_second_click(self):
         fields = {"employer": "1001", "name": "Bau", "start": "01/2024", "last": "2024-01", "reference": "B1",
                   "claim": "1", "from": "2024-01", "contribution": "1", "entitlement": "1", "interest": "1",
                   "report_day": "1", "due_day": "1"}
-        for kind in ("register", "end", "rates", "assign", "release", "payouts", "reminders"):
+        for kind in ("register", "end", "rates", "assign", "release", "withdraw", "payouts", "reminders"):
             self.faults(409, "unconfirmed", self.command(kind, confirmed=False, **fields))
         bank = self.post("/api/commands/bank", "bank", FIRST_BANK.encode(), confirmed=False)
         self.faults(409, "unconfirmed", bank)
@@ -303,6 +321,22 @@ class BankCheck(DeskUnderTest):
     def test_a_program_that_fails(self):
         self.open_desk(free_port(), "--clearing", "/bin/false")
         self.assertEqual(self.check(FIRST_BANK), {"state": "failed", "text": ""})
+
+    def script(self, *lines):
+        path = self.write("script", "\n".join(["#!/bin/sh", *lines, ""]))
+        path.chmod(0o755)
+        return path
+
+    def test_a_program_that_takes_too_long(self):
+        """It ends, and what it has started, which writes to the same pipes."""
+        program, begun = self.script("sleep 60 &", "wait"), time.monotonic()
+        with mock.patch.object(bank_check, "SECONDS", 0.5):
+            self.assertEqual(bank_check.check_bank(program, b""), {"state": "slow", "text": ""})
+        self.assertLess(time.monotonic() - begun, 30)
+
+    def test_a_file_is_told_without_its_folder(self):
+        program = self.script('echo "$3: bad"', "exit 2")
+        self.assertEqual(bank_check.check_bank(program, b""), {"state": "faulty", "text": "bank.csv: bad\n"})
 
 
 if __name__ == "__main__":

@@ -13,11 +13,18 @@ import threading
 # No __pycache__ is left beside the sources.
 sys.dont_write_bytecode = True
 from desk_under_test import DONE, DeskUnderTest, FakeOffice, answer_bytes, free_port, read_message  # noqa: E402
-from program_under_test import run_tests  # noqa: E402
+from program_under_test import ROOT, run_tests  # noqa: E402
+
+sys.path.append(str(ROOT / "tools"))
+from desk_server.commands import command  # noqa: E402
+from desk_server.desk import Desk  # noqa: E402
+from desk_server.journal import Journal  # noqa: E402
+from desk_server.office import Office  # noqa: E402
 
 EMPTY_SUSPENSE = b"suspense 2024-04-30\nlines 0\ntotal           0.00\n"
 STORE_FAILED = {"rule": 41, "name": "Store", "detail": "Other"}
 FAILED = {"rule": 42, "name": "Failed", "detail": ""}
+NO_MEMORY = {"rule": 40, "name": "Memory", "detail": ""}
 
 
 class Lost(DeskUnderTest):
@@ -226,6 +233,19 @@ class Offices(DeskUnderTest):
         self.assertEqual((status, told["entry"]["outcome"], told["entry"]["reply"]),
                          (502, "lost", {"reason": "absent", "port": port}))
 
+    def test_an_office_that_says_nothing(self):
+        """It is asked once: the next attempt would take as long."""
+        with socket.create_server(("127.0.0.1", 0)) as silent:
+            port = silent.getsockname()[1]
+            desk = Desk(Office(port, "desk", seconds=0.2), Journal(self.log_folder, 1, 1), None, None)
+            told = desk.perform(command("payouts", "/payouts", None, {}), True)
+            silent.settimeout(0)
+            silent.accept()[0].close()
+            self.assertRaises(BlockingIOError, silent.accept)
+        entry = told["entry"]
+        self.assertEqual((entry["outcome"], entry["reply"]), ("lost", {"reason": "silent", "port": port}))
+        self.assertEqual(told["state"]["pending"]["number"], 1)
+
     def test_a_key_that_is_wrong(self):
         self.write("wrong.key", "nobody\n")
         self.open_desk(None, key="wrong.key")
@@ -245,11 +265,10 @@ class Offices(DeskUnderTest):
     def test_a_key_that_the_office_has_no_memory_to_judge(self):
         """It may be a firm's, so no command goes with it before it is judged."""
         office = FakeOffice(self, lambda request: answer_bytes(200, DONE))
-        refusal, is_judged = {"rule": 40, "name": "Memory", "detail": ""}, office.key_answer
-        office.key_answer = answer_bytes(503, refusal)
+        is_judged, office.key_answer = office.key_answer, answer_bytes(503, NO_MEMORY)
         self.open_desk(office.port)
         told = self.register()[1]
-        self.assertEqual((told["entry"]["outcome"], told["entry"]["reply"]), ("undecided", refusal))
+        self.assertEqual((told["entry"]["outcome"], told["entry"]["reply"]), ("undecided", NO_MEMORY))
         self.assertEqual(office.requests, [])
         office.key_answer = is_judged
         self.does(DONE, self.post("/api/pending/send-again", "send-again", {"number": 1}), "repeated")
@@ -319,8 +338,16 @@ class Offices(DeskUnderTest):
         posts = [it for it in self.office.requests if it.startswith(b"POST")]
         self.assertEqual(posts[0], posts[1])
 
+    def test_want_of_memory_in_an_office_that_has_failed(self):
+        """It doesn't say that the records are there again."""
+        answers = [answer_bytes(500, FAILED), answer_bytes(503, NO_MEMORY)]
+        self.open_desk(FakeOffice(self, lambda request: answers.pop(0)).port)
+        for refusal in (FAILED, NO_MEMORY):
+            told = self.get("/api/suspense/0")[1]
+            self.assertEqual((told["refusal"], told["state"]["failure"]), (refusal, FAILED))
+
     def test_want_of_memory(self):
-        self.failing({"rule": 40, "name": "Memory", "detail": ""})
+        self.failing(NO_MEMORY)
         status, told = self.register()
         self.assertEqual((status, told["entry"]["outcome"], told["state"]["failure"]), (503, "undecided", None))
         self.assertEqual(told["state"]["pending"]["number"], 1)

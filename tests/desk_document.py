@@ -47,7 +47,8 @@ class FirstDay(documents.Manual):
         self.desk = None
 
     def with_port(self, text):
-        return super().with_port(text).replace(PAGE_PORT, str(self.page_port))
+        # (The office's may be 48090.)
+        return re.sub(rf"\b{PAGE_PORT}\b", str(self.page_port), super().with_port(text))
 
     def test_the_story(self):
         text = (ROOT / "docs/desk.md").read_text()

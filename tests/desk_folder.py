@@ -167,6 +167,49 @@ class Files(DeskUnderTest):
         self.assertFalse(journal.pending_path.exists())
         self.assertEqual([it[:2] for it in self.logged()], [(2, "repeated")])
 
+    def test_claims_that_are_not_open(self):
+        """What became of one that the office doesn't release isn't known, but of one that was released here."""
+        over = answer_bytes(409, {"rule": 27, "name": "ClaimNotOpen", "detail": ""})
+        released = answer_bytes(200, {"paid": 1, "to_contributions": 0, "to_interest": 0})
+        claims = [answer_bytes(200, {"claim": number}) for number in (1, 2)]
+        self.open_with_fake_office(*claims, released, over, over, answer_bytes(200, b"something\n", "text/plain"))
+        for _ in claims:
+            self.command("claim", employer="1001", worker="7", amount="1")
+        self.command("release", claim="1")
+        for claim in ("1", "2"):
+            self.refuses(27, "ClaimNotOpen", "", self.command("release", claim=claim))
+        self.start_anew()
+        told = self.get("/api/firms/1001")[1]["claims"]
+        self.assertEqual([it["state"] for it in told], ["released", "over"])
+
+    def test_how_much_is_told_of_the_log(self):
+        """The last 500 entries, and the last ten lists."""
+        self.open_with_fake_office(answer_bytes(200, b"something\n", "text/plain"))
+        self.kill_desk()
+        lines = [{"time": "", "number": number, "outcome": "done", "kind": "payouts", "words": "payouts", "values": {},
+                  "reply": {"items": 1, "list": number, "total": 5}} for number in range(1, 502)]
+        (self.log_folder / "log.jsonl").write_text("".join(f"{json.dumps(it)}\n" for it in lines))
+        self.open_desk(self.office.port)
+        self.assertEqual([it["number"] for it in self.get("/api/log")[1]["log"]], [*range(2, 502)])
+        self.assertEqual(self.get("/api/suspense/0")[1]["lists"], [*range(492, 502)])
+
+    def test_the_last_firms_are_known(self):
+        """Two hundred of them, the last one first."""
+        recent = Recent(self.folder)
+        for number in range(1, 202):
+            recent.add(number, "Bau")
+        self.assertEqual([it["employer"] for it in Recent(self.folder).told()],
+                         [str(number) for number in range(201, 1, -1)])
+
+    def test_a_file_of_firms_that_cannot_be_read(self):
+        """It is made anew."""
+        for text in ("{", "5", "[[1]]", '[["a","b"]]'):
+            self.write("firms.json", text)
+            recent = Recent(self.folder)
+            self.assertEqual(recent.told(), [], text)
+            recent.add(1001, "Bau")
+            self.assertEqual(Recent(self.folder).told(), [{"employer": "1001", "name": "Bau"}])
+
     def test_firms_that_are_opened_at_once(self):
         """In two windows: while the first firm is written down, the second one comes."""
         recent = Recent(self.folder)

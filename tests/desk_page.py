@@ -224,8 +224,9 @@ class Readers(unittest.TestCase):
             for text in texts:
                 self.assertIsNone(amounts.read_cents(text, language), (language, text))
 
-    def test_a_report_whose_words_are_quoted(self):
-        for text in ('"worker","gross"\n"7","100"\n', '"worker";"gross"\r\n"7";"100"\r\n'):
+    def test_a_report_as_a_spreadsheet_writes_it(self):
+        for text in ('"worker","gross"\n"7","100"\n', '"worker";"gross"\r\n"7";"100"\r\n',
+                     "\ufeffworker,gross\n7,100\n", "worker,gross\n 7 , 100 \n"):
             report = reports.read_report(text)
             self.assertEqual((report.wages, report.faults), ({7: 100}, []))
 
@@ -238,6 +239,11 @@ class Readers(unittest.TestCase):
         self.assertEqual(reports.csv_reason(csv.Error("something new")), "unread")
         reasons = [f"csv.{it}" for it in ("unread", *reports.CSV_REASONS.values())]
         self.assertEqual(len({WORDS["en"][it] for it in reasons}), 5)
+
+    def test_a_report_with_many_faults(self):
+        """The first twenty are told."""
+        faults = reports.read_report("worker,gross\n" + "x,1\n" * 21).faults
+        self.assertEqual([it["line"] for it in faults], [*range(2, 22)])
 
     def test_rates_and_months(self):
         for language, text, hundredths in (
@@ -313,8 +319,10 @@ class Readers(unittest.TestCase):
         self.assertEqual(documents.read_worker(text)["claims"],
                          [{"claim": 1, "employer": 1001, "state": "open", "cents": "1000"}])
         text = ("reminders 2 2024-05-14\nemployer 1001 level 2 missing 1 2024-03           0.00          50.00\n"
-                "employer 1004 level 1 missing 0 -         300.00           5.00\nfirms 2\n")
-        self.assertEqual([it["first"] for it in documents.read_reminders(text)["reminded"]], ["2024-03", None])
+                "employer 1004 level 1 missing 0 -         300.00           5.00\n"
+                "employer 1005 level 3 missing 0 -           0.01           0.00\nfirms 3\n")
+        self.assertEqual([(it["first"], it["level"]) for it in documents.read_reminders(text)["reminded"]],
+                         [("2024-03", 2), (None, 1), (None, 3)])
 
 
 if __name__ == "__main__":

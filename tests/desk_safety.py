@@ -171,11 +171,10 @@ class Safety(DeskUnderTest):
         self.assertEqual(len(set(tokens)), len(tokens))
 
     def test_bodies(self):
-        large = b" " * (1_048_576 + 65_537)
-        self.faults(413, "file-too-large", self.post_with(self.headers("bank"), "/api/commands/bank", large))
-        # A bank file of one byte too many.
-        large = b"r" * 1_048_577
-        self.faults(413, "file-too-large", self.post_with(self.headers("bank"), "/api/commands/bank", large))
+        # A bank file of one byte too many, a request of one, and what is still being sent when it is refused.
+        for size in (1_048_577, 1_048_576 + 65_537, 12 * 1_048_576):
+            told = self.post_with(self.headers("bank"), "/api/commands/bank", bytes(size))
+            self.faults(413, "file-too-large", told)
         for body in (b"", b"[]", b"1", b'{"language":"fr"}', b'{"language":1}', b"\xff", b"[" * 100_000,
                      b'{"language":"de","employer":1001}'):
             self.faults(400, "form", self.post_with(self.headers("claim"), "/api/commands/claim", body))
@@ -216,10 +215,13 @@ class Safety(DeskUnderTest):
             _, headers, body = self.ask("GET", path)
             policy = headers["Content-Security-Policy"]
             self.assertTrue(policy.startswith("default-src 'self';"), policy)
-            self.assertIn("frame-ancestors 'none'", policy)
+            for part in ("base-uri 'none'", "form-action 'self'", "frame-ancestors 'none'"):
+                self.assertIn(part, policy)
             self.assertNotIn("unsafe", policy)
             for name, value in (("X-Content-Type-Options", "nosniff"), ("Referrer-Policy", "no-referrer"),
-                                ("Cache-Control", "no-store"), ("Cross-Origin-Resource-Policy", "same-origin")):
+                                ("Cache-Control", "no-store"), ("X-Frame-Options", "DENY"),
+                                ("Cross-Origin-Opener-Policy", "same-origin"),
+                                ("Cross-Origin-Resource-Policy", "same-origin")):
                 self.assertEqual(headers[name], value)
             self.assertIsNone(headers["Access-Control-Allow-Origin"])
             self.assertNotIn(b"Office-Key", body)
@@ -538,9 +540,11 @@ class Numbers(DeskUnderTest):
                          (409, "refused-unwritten", 29, None))
 
     def test_a_files_name_that_a_terminal_would_obey(self):
+        """Nor is a long one logged as a whole."""
         self.open_desk(FakeOffice(self, lambda request: answer_bytes(200, {"new": 0, "repeats": 0})).port)
-        self.bank(BANK_HEADER, "april%C2%9B2J%1B%5D.csv")
-        self.assertEqual([it["values"]["file"] for it in self.lines("log.jsonl")], ["april 2J ].csv"])
+        for name in ("april%C2%9B2J%1B%5D.csv", "a" * 81):
+            self.bank(BANK_HEADER, name)
+        self.assertEqual([it["values"]["file"] for it in self.lines("log.jsonl")], ["april 2J ].csv", "a" * 80])
 
     def test_who_may_read_the_folder(self):
         self.open_desk(FakeOffice(self, lambda request: answer_bytes(200, DONE)).port)
@@ -548,17 +552,26 @@ class Numbers(DeskUnderTest):
         for path in (self.log_folder, *self.log_folder.iterdir()):
             self.assertEqual(path.stat().st_mode & 0o077, 0, path)
 
-    def test_a_folder_that_others_may_write(self):
-        self.log_folder.mkdir()
-        self.log_folder.chmod(0o770)
+    def folder_is_others(self):
         code, output, errors = self.run_desk(*WORDS)
         self.assertEqual((code, output), (2, ""))
         self.assertIn("desk-log: others may write this folder\n", errors)
 
+    def test_a_folder_that_others_may_write(self):
+        self.log_folder.mkdir()
+        self.log_folder.chmod(0o770)
+        self.folder_is_others()
+
+    @unittest.skipUnless(NOBODY, "only root can be another user")
+    def test_a_folder_of_another_user(self):
+        self.log_folder.mkdir(0o700)
+        os.chown(self.log_folder, NOBODY, -1)
+        self.folder_is_others()
+
     def test_files_that_are_not_the_desks(self):
         for name, content in (("numbers.jsonl", "{}\n"), ("numbers.jsonl", "1\n"), ("log.jsonl", "none\n"),
                               ("log.jsonl", '{"number": 1, "outcome": "done"}\n'), ("pending.json", "{}")):
-            self.log_folder.mkdir(exist_ok=True)
+            self.log_folder.mkdir(0o700, exist_ok=True)
             (self.log_folder / name).write_text(content)
             code, output, errors = self.run_desk(*WORDS)
             self.assertEqual((code, output), (2, ""), content)

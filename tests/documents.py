@@ -9,6 +9,7 @@ PROGRAM is crates/clear_app/out/clear_app where it isn't given, as `rt ci` leave
 import contextlib
 import os
 import re
+import select
 import shlex
 import shutil
 import signal
@@ -106,6 +107,9 @@ class Readme(Documents):
 class Manual(Documents):
     """The commands run in one shell, as in a clerk's window; `serve` runs beside it, as in the other one."""
 
+    # For each command.
+    SECONDS = 60
+
     def test_the_story(self):
         text = (ROOT / "docs/clerk.md").read_text()
         self.server = None
@@ -133,17 +137,15 @@ class Manual(Documents):
         self.assertEqual(said.rstrip("\n"), printed.rstrip("\n"), command)
 
     def run_command(self, command):
-        """What a command prints in the shell. It has a minute."""
+        """What a command prints in the shell, within its time."""
         self.shell.stdin.write(f"{command}\necho; echo '{MARK}'\n".encode())
         self.shell.stdin.flush()
-        watch = subprocess.Popen(["sleep", "60"])
-        said = b""
+        said, until = b"", time.monotonic() + self.SECONDS
         while not said.endswith(f"\n{MARK}\n".encode()):
-            part = os.read(self.shell.stdout.fileno(), 65536)
-            self.assertTrue(part and watch.poll() is None, (command, said))
+            is_there = select.select([self.shell.stdout], [], [], max(0, until - time.monotonic()))[0]
+            part = os.read(self.shell.stdout.fileno(), 65536) if is_there else b""
+            self.assertTrue(part, (command, said))
             said += part
-        watch.kill()
-        watch.wait()
         return said.decode()[:-len(MARK) - 2]
 
     def start_server(self, command, printed):
@@ -196,7 +198,7 @@ class Starters(unittest.TestCase):
         shell, flag, command = shlex.split(line.removeprefix("ExecStart=").replace("%%", "%").replace("$$", "$"))
         self.assertEqual((shell, flag, command.split()[0]), ("/bin/sh", "-c", "exec"))
         self.tells(command.replace("exec ", "echo ", 1),
-                   "/srv/vonyakes/clearing serve fund.db callers.toml {} 8080 1000000")
+                   "/srv/vonyakes/clearing serve fund.db callers.toml {} 808 1000000")
 
 
 class Plans(unittest.TestCase):

@@ -278,15 +278,16 @@ class Fund(Scripts):
 
     def compare_statements(self, firms, files):
         self.assertEqual(set(files), {f"statement-{firm.employer}-{YEAR_END}.txt" for firm in firms})
-        text = "".join(files.values())
-        self.assertEqual(len(re.findall("^missing ", text, re.M)), sum(len(firm.missing) for firm in firms))
-        charges = r"^charge .* version 1 +([0-9.]+) +[0-9.]+ +[0-9.]+$"
-        self.assertEqual(amounts_in_cents(charges, text), sum(sum(firm.charges.values()) for firm in firms))
-        for name, of_firm in (("arrears", Firm.arrears), ("interest", Firm.interest)):
-            self.assertEqual(amounts_in_cents(rf"^{name} +([0-9.]+)$", text),
-                             sum(of_firm(firm, self.day) for firm in firms), name)
-        paid = sum(cents for firm in firms for _, cents in firm.payments)
-        self.assertEqual(amounts_in_cents(r"^  paid [0-9-]+ +([0-9.]+) ", text), paid)
+        for firm in firms:
+            text = files[f"statement-{firm.employer}-{YEAR_END}.txt"]
+            self.assertEqual(len(re.findall("^missing ", text, re.M)), len(firm.missing), text)
+            charges = r"^charge .* version 1 +([0-9.]+) +[0-9.]+ +[0-9.]+$"
+            self.assertEqual(amounts_in_cents(charges, text), sum(firm.charges.values()), text)
+            for name in ("arrears", "interest"):
+                amount = getattr(firm, name)(self.day)
+                self.assertEqual(amounts_in_cents(rf"^{name} +([0-9.]+)$", text), amount, text)
+            paid = sum(cents for _, cents in firm.payments)
+            self.assertEqual(amounts_in_cents(r"^  paid [0-9-]+ +([0-9.]+) ", text), paid, text)
 
 
 def made_before(number):
@@ -396,6 +397,7 @@ class MonthEnd(Scripts):
 
     def test_numbers_that_do_not_serve_for_all(self):
         last = 999_999_999_999_999_999
+        self.assertIn("reminders 1 2024-04-30: ", self.script("month_end", "april", last - 1, 1001))
         fault = f"2 numbers from {last} on go past {last}\n"
         self.refuses_to_start(fault, "month_end", "april", last, 1001)
         self.write("wages.csv", JANUARY + "1001,2024-02,7,1000000\n")

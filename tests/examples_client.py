@@ -130,6 +130,7 @@ class Client(Scripts):
         """Each breaks a script off as Ctrl-C does."""
         for stop in (signal.SIGINT, signal.SIGTERM, signal.SIGHUP):
             with socket.create_server(("127.0.0.1", 0)) as listener:
+                listener.settimeout(30)
                 self.address = f"127.0.0.1:{listener.getsockname()[1]}"
                 script = subprocess.Popen(self.command("month_end", "april", 2, "1001"), cwd=self.folder,
                                           stdout=subprocess.PIPE, stderr=subprocess.PIPE)

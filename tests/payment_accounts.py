@@ -12,13 +12,17 @@ import xml.etree.ElementTree as ElementTree
 # No __pycache__ is left beside the sources.
 sys.dont_write_bytecode = True
 from payment_file import HEADER, MADE, NORD, OST, Tool, summary  # noqa: E402
-from payment_rules import NAMESPACE  # noqa: E402
+from payment_rules import NAMESPACE, remainder  # noqa: E402
 from program_under_test import run_tests  # noqa: E402
 
 
 def iban_of(account):
     """A German account's IBAN; its check digits come of the number with DE00 behind it, D being 13, E 14."""
     return f"DE{98 - int(f'{account:018}131400') % 97:02}{account:018}"
+
+
+def with_check_digits(country, account):
+    return f"{country}{98 - remainder(f'{country}00{account}'):02}{account}"
 
 
 class Ibans(Tool):
@@ -36,6 +40,9 @@ class Ibans(Tool):
         RO49AAAA1B31007593840000 RS35260005601001611379 SE4550000000058398257466 SI56191000000123438
         SK3112000000198742637541 SM86U0322509800000000270100 VA59001123000012345678
     """.split()
+
+    # Those of whose IBANs the registry says that they have digits alone behind the country.
+    DIGITS_ALONE = "AT BE CZ DE DK EE ES FI HR HU IS LT ME NO PL PT RS SE SI SK VA".split()
 
     def made_of(self, ibans):
         """The IBANs in the payments of firms from 1 on that have these in the table."""
@@ -86,6 +93,16 @@ class Ibans(Tool):
                 for line, (iban, fault) in enumerate(faults.items(), 4)]
         self.refuse(2, "".join(told), *self.words)
 
+    def test_a_letter_where_digits_alone_stand(self):
+        """Its check digits agree all the same."""
+        examples = [it for it in self.EXAMPLES if it[:2] in self.DIGITS_ALONE]
+        ibans = [with_check_digits(it[:2], f"{it[4:-1]}O") for it in examples]
+        self.assertEqual(len(ibans), 21)
+        self.write("accounts.csv", HEADER + "".join(f"{at},{iban},Bau\n" for at, iban in enumerate(ibans, 1)))
+        self.refuse(2, "".join(
+            f"accounts.csv: line {line}: {iban} has a letter behind {iban[:2]}, where digits alone stand\n"
+            for line, iban in enumerate(ibans, 2)), *self.words)
+
     def test_the_funds_own(self):
         words = self.words[:-1]
         self.assertIn(b"<IBAN>DE02120300000000202051<", self.make(*words, " de02 1203 0000 0000 2020 51"))
@@ -104,6 +121,7 @@ class Names(Tool):
             "Épée Ñandú Çelik Łódź Ångström": "Epee Nandu Celik Lodz Angstroem",
             "Ærø Þór Œuvre": "Aeroe Thor Oeuvre",
             "Ǽbro BRØNDǾ": "Aebro BROENDOE",
+            "Đorđević Ðað ıþ STRAẞE": "Dordevic Dad ith STRASSE",
             "<Nm>Bau</Nm> <!-- ]]> &amp;": ".Nm.Bau./Nm. ..-- )). +amp,",
             '""Bau „Nord“ ’s""': "'Bau 'Nord' 's'",
             "‹A› ‘B’ «C» ‚D‘ “E” ‟F‛": "'A' 'B' 'C' 'D' 'E' 'F'",
@@ -159,6 +177,10 @@ class Tables(Tool):
         self.write("accounts.csv", HEADER + NORD + OST + "77,at61 1904 3002 3457 3201,Bau West\n")
         told = "employer 1004 Bau Ost: its IBAN stands in the table as that of Bau West, too\n"
         self.refuse(1, told, *self.words)
+        others = enumerate(("Zoll", "Ernst", "Adam", "Mitte", "Nord"), 77)
+        rows = [f"{employer},AT611904300234573201,Bau {name}\n" for employer, name in others]
+        self.write("accounts.csv", HEADER + NORD + OST + "".join(rows))
+        self.refuse(1, told.replace("West", "Adam, Bau Ernst, Bau Mitte, Bau Nord, Bau Zoll"), *self.words)
         self.write("accounts.csv", HEADER + NORD + OST + "77,AT611904300234573201, Bau  Ost\n")
         self.make(*self.words)
 

@@ -51,6 +51,8 @@ os.fsync = lambda handle: os.kill(os.getpid(), number)
 del sys.argv[0]
 runpy.run_path(sys.argv[0], run_name="__main__")
 """
+# It gets the signal once the file has its name, while the folder is synced.
+STOPPED_BEHIND = STOPPED.replace("os.kill", "os.path.isdir(handle) and os.kill")
 # The tool takes 2024-05-02 for today.
 TODAY = """
 import datetime
@@ -183,11 +185,13 @@ class Files(Tool):
         self.assertLess(abs(age.total_seconds()), 60)
 
     def test_times(self):
-        for time in ("2024-05-02T09:00:00", "2024-05-02T23:59:59Z", "2024-12-31T00:00:00-11:30"):
+        for time in ("2024-05-02T09:00:00", "2024-05-02T23:59:59Z", "2024-12-31T00:00:00-11:30",
+                     "2024-05-02T09:00:00+14:00"):
             self.assertIn(f"<CreDtTm>{time}</CreDtTm>".encode(), self.make(*self.words, "--made", time))
         told = "argument --made: '{}' is no time, as 2024-05-02T09:00:00+02:00\n"
         for time in ("2024-05-02", "2024-05-02 09:00:00", "2024-05-02T09:00", "2024-05-02T09:00:00+02",
-                     "2024-05-02T09:00:00+15:00", "٢٠٢٤-05-02T09:00:00", "2024-05-02T09:00:00</CreDtTm>"):
+                     "2024-05-02T09:00:00+15:00", "2024-05-02T09:00:00+14:01",
+                     "٢٠٢٤-05-02T09:00:00", "2024-05-02T09:00:00</CreDtTm>"):
             self.refuse(2, told.format(time), *self.words, "--made", time)
         told = "argument --made: hour must be in 0..23\n"
         self.refuse(2, told, *self.words, "--made", "2024-05-02T24:00:00")
@@ -319,7 +323,10 @@ class Outputs(Tool):
         """As a USB stick, which has no hard links."""
         self.write("sitecustomize.py", "import os\ndef link(*names):\n    raise PermissionError\nos.link = link\n")
         environment = {**os.environ, "PYTHONPATH": str(self.folder)}
-        self.write("refused.xml", "of yesterday")
+        refused = self.write("refused.xml", "of yesterday")
+        self.refuse(2, "refused.xml: stands there already\n", *self.words, env=environment)
+        refused.unlink()
+        refused.symlink_to("elsewhere.xml")
         self.refuse(2, "refused.xml: stands there already\n", *self.words, env=environment)
         before = sorted(os.listdir(self.folder))
         self.assertEqual(self.run_tool(*self.words, "--out", "made.xml", env=environment).returncode, 0)
@@ -348,9 +355,9 @@ class Outputs(Tool):
         told = b"[Errno 2] No such file or directory: 'none/made.xml'\n"
         self.assertEqual((ran.returncode, ran.stdout, ran.stderr), (2, b"", told))
 
-    def stopped(self, number, **options):
+    def stopped(self, number, stopped=STOPPED, **options):
         """Status and standard error of the tool that gets a signal while it writes made.xml."""
-        command = ["/usr/bin/python3", "-c", STOPPED, number, TOOL, *self.words, "--out", "made.xml"]
+        command = ["/usr/bin/python3", "-c", stopped, number, TOOL, *self.words, "--out", "made.xml"]
         ran = subprocess.run([*map(str, command)], cwd=self.folder, env={"PYTHONPATH": str(TOOL.parent)},
                              capture_output=True, timeout=60, **options)
         return ran.returncode, ran.stderr.decode()
@@ -363,6 +370,8 @@ class Outputs(Tool):
             ended = self.stopped(int(number), preexec_fn=lambda: signal.signal(signal.SIGINT, signal.SIG_DFL))
             self.assertEqual(ended, (130, "broken off\n"))
             self.assertEqual(sorted(os.listdir(self.folder)), before)
+        self.assertEqual(self.stopped(int(signal.SIGTERM), STOPPED_BEHIND), (130, "broken off\n"))
+        self.assertEqual(sorted(os.listdir(self.folder)), before)
         # As `nohup` starts it.
         ended = self.stopped(int(signal.SIGHUP), preexec_fn=lambda: signal.signal(signal.SIGHUP, signal.SIG_IGN))
         self.assertEqual(ended, (0, SUMMARY))
@@ -422,6 +431,12 @@ class Words(Tool):
         self.refuse(2, "[Errno 2] No such file or directory: 'none'\n", *self.words[:3], "none", *DEBTOR)
         self.refuse(2, "[Errno 2] No such file or directory: 'none'\n", "--list", "none", *self.words[2:])
         self.refuse(2, "[Errno 21] Is a directory: '/'\n", "--list", "/", *self.words[2:])
+
+    def test_a_files_name_that_is_no_text(self):
+        """Its bytes that are none of UTF-8 are told by their numbers."""
+        name = os.fsdecode(b"list-\xff.txt")
+        self.write(name, "")
+        self.refuse(2, "list-\\udcff.txt: no payout list, or not a whole one\n", "--list", name, *self.words[2:])
 
 
 if __name__ == "__main__":

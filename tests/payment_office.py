@@ -22,7 +22,7 @@ from time import sleep
 # No __pycache__ is left beside the sources.
 sys.dont_write_bytecode = True
 from desk_safety import as_another  # noqa: E402
-from desk_under_test import OFFICE_USER  # noqa: E402
+from desk_under_test import OFFICE_USER, answer_bytes  # noqa: E402
 from documents import commands  # noqa: E402
 from payment_file import DEBTOR, HEADER, LIST, MADE, NORD, OVER, TOOL, Runs, Tool  # noqa: E402
 from payment_rules import leaves  # noqa: E402
@@ -30,26 +30,34 @@ from program import REGISTRATION, post  # noqa: E402
 from program_under_test import NOBODY, ROOT, ProgramUnderTest, run_tests  # noqa: E402
 
 DOCUMENT = ROOT / "docs/tools.md"
+# Of an office's port that isn't an office's.
+STRANGER = "another user's program takes it, or the kernel doesn't say whose; see --office-user"
 
 
 class Peers(Tool):
     """What answers in the place of an office."""
 
-    def answered(self, answer):
-        """The words for a peer that answers once with these bytes; what it was asked is `self.asked`."""
+    def answered(self, *answers):
+        """The words for a peer that answers so often with these bytes; what it was asked last is `self.asked`."""
         listener = socket.create_server(("127.0.0.1", 0))
+        listener.settimeout(30)
         self.addCleanup(listener.close)
         self.port = listener.getsockname()[1]
 
         def serve():
-            peer, _ = listener.accept()
-            with peer:
-                self.asked = peer.recv(65536).decode()
-                peer.sendall(answer)
+            for answer in answers:
+                with listener.accept()[0] as peer:
+                    self.asked = peer.recv(65536).decode()
+                    peer.sendall(answer)
 
-        threading.Thread(target=serve, daemon=True).start()
+        self.peer = threading.Thread(target=serve, daemon=True)
+        self.peer.start()
         address = f"127.0.0.1:{self.port}"
         return "--office", address, "--key-file", "desk.key", "--number", "7", *self.words[2:]
+
+    def with_documents(self, *texts):
+        """The words for a peer that answers with these documents."""
+        return self.answered(*(answer_bytes(200, text.encode(), "text/plain") for text in texts))
 
     def setUp(self):
         super().setUp()
@@ -57,14 +65,14 @@ class Peers(Tool):
 
     def test_what_is_asked(self):
         wanted = self.make(*self.words, *MADE)
-        head = f"HTTP/1.1 200 OK\r\nContent-Length: {len(LIST)}\r\n\r\n"
-        self.assertEqual(self.make(*self.answered((head + LIST).encode()), *MADE), wanted)
+        self.assertEqual(self.make(*self.with_documents(LIST), *MADE), wanted)
         request, *fields = self.asked.removesuffix("\r\n\r\n").split("\r\n")
         self.assertEqual(request, "GET /payouts/7 HTTP/1.1")
         self.assertIn("Office-Key: desk", fields)
 
     def test_stops(self):
         with socket.create_server(("127.0.0.1", 0)) as silent:
+            silent.settimeout(30)
             words = ["--office", f"127.0.0.1:{silent.getsockname()[1]}", "--key-file", "desk.key", "--number", "7"]
             for number in (signal.SIGINT, signal.SIGTERM, signal.SIGHUP):
                 # Where this is run in the background, SIGINT is ignored, which the tool would inherit.
@@ -96,15 +104,33 @@ class Peers(Tool):
         with as_another():
             stranger = socket.create_server(("127.0.0.1", 0))
         with stranger:
+            stranger.settimeout(30)
             address = f"127.0.0.1:{stranger.getsockname()[1]}"
             words = ["--office", address, "--key-file", "desk.key", "--number", "7", *self.words[2:]]
-            said = "another user's program takes it, or the kernel doesn't say whose; see --office-user"
-            self.refuse(3, f"no answer from {address}: {said}\n", *words)
+            self.refuse(3, f"no answer from {address}: {STRANGER}\n", *words)
             with stranger.accept()[0] as peer:
                 self.assertEqual(peer.recv(100), b"")
         with as_another():
-            words = self.answered(f"HTTP/1.1 200 OK\r\nContent-Length: {len(LIST)}\r\n\r\n{LIST}".encode())
+            words = self.with_documents(LIST)
         self.make(*words, *OFFICE_USER)
+
+    def test_another_user_who_listens_or_holds_the_other_end(self):
+        """Where but one of the two is another user, not a byte goes there."""
+        tools = f"{self.folder}:{TOOL.parent}"
+        environment = {**os.environ, "PYTHONPATH": tools, "PYTHONDONTWRITEBYTECODE": "1"}
+        for told in ("listener", "holder"):
+            self.write("sitecustomize.py", "from desk_server import owners\n"
+                       f"owners.{told} = lambda *_: {os.getuid() + 1}\n")
+            words = self.with_documents(LIST)
+            self.refuse(3, f"no answer from 127.0.0.1:{self.port}: {STRANGER}\n", *words, env=environment)
+            self.peer.join(30)
+            self.assertEqual(self.asked, "")
+
+    def test_a_firms_name_that_a_terminal_would_obey(self):
+        """The office tells it of a firm that isn't in the table."""
+        self.write("accounts.csv", HEADER + NORD)
+        words = self.with_documents(LIST, "statement 1004 2024-05-02\nname Bau\x9b2J\x1b[2J\n")
+        self.refuse(1, "employer 1004 Bau?2J?[2J: isn't in the table\n", *words)
 
     def test_other_answers(self):
         no_list = "the office's list 7: no payout list, or not a whole one\n"
@@ -119,7 +145,9 @@ class Peers(Tool):
                 (302, "{}", 3, "no answer of an office: HTTP status 302\n"),
                 (409, "[33]", 3, "no answer of an office: HTTP status 409\n"),
                 (409, 100_000 * "[", 3, "no answer of an office: HTTP status 409\n"),
-                (409, '{"detail":"\\u001b[2J\\u202e","name":"N","rule":33}', 3, "rule 33 N ?[2J?\n")):
+                (409, '{"detail":"\\u001b[2J\\u202e","name":"N","rule":33}', 3, "rule 33 N ?[2J?\n"),
+                # Two hundred signs of it.
+                (409, f'{{"detail":"{500 * "x"}","name":"N","rule":33}}', 3, f"rule 33 N {190 * 'x'}\n")):
             body = body if isinstance(body, bytes) else body.encode()
             head = f"HTTP/1.1 {status} Said\r\nLocation: /\r\nContent-Length: {len(body)}\r\n\r\n"
             self.refuse(wanted, fault, *self.answered(head.encode() + body))

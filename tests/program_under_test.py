@@ -132,7 +132,9 @@ def run_tests():
     """Runs the tests of the script that was started, on the program that its first word names, if it is a file."""
     if len(sys.argv) > 1 and Path(sys.argv[1]).is_file():
         ProgramUnderTest.program = Path(sys.argv.pop(1)).resolve()
-    if not ProgramUnderTest.program.is_file():
+    own = vars(sys.modules["__main__"]).values()
+    is_needed = any(isinstance(it, type) and issubclass(it, ProgramUnderTest) for it in own)
+    if is_needed and not ProgramUnderTest.program.is_file():
         sys.exit(f"{ProgramUnderTest.program} isn't there: `rt ci` builds it")
     tests = unittest.main(exit=False).result
     for _, why in tests.skipped:

@@ -210,6 +210,16 @@ class Proxy(program.Program):
         else:
             raise AssertionError("no further request is answered")
 
+    def test_one_address_has_so_many_requests_a_second(self):
+        """Five, with a key or without: so nobody uses up the connections that the office serves. The others wait."""
+        peer = self.firm()
+        self.ask(peer, REGISTRATION)
+        begun = time.monotonic()
+        for _ in range(6):
+            self.assertEqual(status(self.ask(peer, OWED)[0]), 200)
+            self.assertEqual(status(self.ask(peer, OWED.replace(b"k1001", b"nobody"))[0]), 401)
+        self.assertGreater(time.monotonic() - begun, 2)
+
     def test_connections_without_a_request_keep_nobody_out(self):
         endless = self.firm()
         endless.sendall(OWED[:9])

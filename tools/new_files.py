@@ -1,9 +1,27 @@
-"""Writes a new file whole or not at all, and in the place of no other."""
+"""Writes new files whole or not at all, and in the place of no other."""
 
 import contextlib
 import errno
 import os
 import tempfile
+
+from stops import stops_held
+
+
+def write_all_new(contents: dict[str, bytes]) -> None:
+    """Writes a new file at each of these paths, or none: a fault or a stop takes back what has its name already."""
+    written: list[str] = []
+    try:
+        for path, content in contents.items():
+            # A stop comes before a file has its name, or once that is noted.
+            with stops_held():
+                write_new(path, content)
+                written.append(path)
+    except BaseException:
+        with stops_held():
+            for path in written:
+                os.unlink(path)
+        raise
 
 
 def write_new(path: str, content: bytes) -> None:

@@ -9,8 +9,8 @@ import io
 import itertools
 import json
 import re
-from collections import Counter
-from collections.abc import Iterator
+from collections import ChainMap, Counter
+from collections.abc import Iterator, MutableMapping
 from dataclasses import dataclass, field, replace
 from datetime import date
 from decimal import Decimal
@@ -31,6 +31,10 @@ MOST_CENTS = 100_000_000_000
 DAYS = (date(2000, 1, 1), date(2200, 12, 31))
 MOST_LINES = 10_000
 MOST_BYTES = 1_048_576
+
+# By these signs a spreadsheet knows a formula, also the wide ones; and by some settings a semicolon parts its fields.
+FORMULA = "=+@＝＋－＠-"
+FIELD_OF_FORMULA = re.compile(rf";(?=\s*[{FORMULA}])")
 
 # References of this program's own making, which none of the bank's may look like.
 MADE = re.compile("(bank|place)~.*")
@@ -210,7 +214,8 @@ class BankFile:
     def are_earlier(self, payments: list[Payment], used: Counter[str]) -> bool:
         """Whether an earlier file has each of these payments under its reference, with its amount; of each of the
         bank's references it was counted how often the statement used it before them."""
-        counted = Counter(used)
+        # What is counted here stands in front of what was used: that may be as many as there are payments.
+        counted = ChainMap({}, used)
         lines = ((self.earlier.get(reference_of(it, counted)), it) for it in payments if is_line(it))
         return all(line is not None and line.cents == cents_told(it.money) for line, it in lines)
 
@@ -331,7 +336,7 @@ def as_earlier(line: Line, earlier: EarlierLine | None) -> Line:
     return replace(line, found=Found.EARLIER, employer=earlier.employer, purpose=earlier.purpose)
 
 
-def reference_of(payment: Payment, used: Counter[str]) -> str:
+def reference_of(payment: Payment, used: MutableMapping[str, int]) -> str:
     """The bank's reference as it is, where it fits and the statement has it for the first time; else one
     that is made of it, or of the place where there is none."""
     own = payment.reference
@@ -370,9 +375,10 @@ def cents_of(payment: Payment) -> int:
 
 
 def note_of(payment: Payment) -> str:
-    """Who paid, and the text; a sign by which a spreadsheet knows a formula doesn't stand first."""
+    """Who paid, and the text; a sign by which a spreadsheet knows a formula stands neither first nor behind a semicolon,
+    by which a spreadsheet may part the fields."""
     note = ": ".join(filter(None, (payment.name, payment.text)))
-    return cut(note.lstrip("=+-@ "), MOST_NOTE_BYTES)
+    return cut(FIELD_OF_FORMULA.sub(",", note.lstrip(f"{FORMULA} ")), MOST_NOTE_BYTES)
 
 
 def row_of(fields: tuple) -> bytes:

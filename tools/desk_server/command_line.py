@@ -4,11 +4,14 @@ import argparse
 import os
 import pwd
 import re
-import signal
 import sys
 from pathlib import Path
 
+from stops import take_stops
+from told import put_out
+
 from .assets import read_assets
+from .bank_check import end_checks
 from .desk import Desk
 from .faults import StartFault, Status
 from .journal import Journal
@@ -105,10 +108,6 @@ def make_server(words: argparse.Namespace) -> Server:
     return server
 
 
-def stop(_signal: int, _frame: object) -> None:
-    raise KeyboardInterrupt
-
-
 def main() -> int:
     words = parser().parse_args()
     # What the desk keeps is its user's alone.
@@ -121,10 +120,15 @@ def main() -> int:
     except OSError as why:
         print(why, file=sys.stderr)
         return Status.COMMAND_LINE
-    signal.signal(signal.SIGTERM, stop)
+    take_stops()
     try:
-        print(f"desk on http://{HOST}:{server.server_port}/, office on {HOST}:{words.office}", flush=True)
+        put_out(f"desk on http://{HOST}:{server.server_port}/, office on {HOST}:{words.office}\n".encode())
         server.serve_forever()
+    except OSError as why:
+        print(why, file=sys.stderr)
+        return Status.COMMAND_LINE
     except KeyboardInterrupt:
         pass
+    finally:
+        end_checks()
     return Status.DONE
