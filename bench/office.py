@@ -9,8 +9,8 @@ follow one another, and once all firms with the same 500, so that each line goes
 workers; and nine imports of 10,000 lines each, half of them for a firm and half for nobody. Each figure is the
 processor time of the program: the median of ten requests, but for the imports, which stand for themselves. The status
 is 1 where a report costs more than twice the 10th, or an import more than twice the first. Other work on the machine can
-double what it meets for seconds, so where something costs that much, all is measured again, five times at most, and the
-least of each figure counts.
+double what it meets for seconds, so where something costs that much, all is measured again, five times at most: it is
+enough that nothing does in one round.
 
 The files lie below FOLDER, /dev/shm where there is one, so that the figures are the program's and not the disk's.
 """
@@ -134,18 +134,14 @@ def worst(rows):
     return max(figure / row[0] for row in rows for figure in row)
 
 
-def least(rows, others):
-    return [[min(pair) for pair in zip(row, other)] for row, other in zip(rows, others)]
-
-
 def measure_by_rounds(kind, what, program, folder):
-    """The worst ratio, by the least of each figure."""
-    rows = measure(kind, what, program, f"{folder}-1")
+    """The worst ratio of the first round that is within bounds, or of the best one."""
+    best = worst(measure(kind, what, program, f"{folder}-1"))
     for again in range(2, ROUNDS + 1):
-        if worst(rows) > MOST:
-            print(f"{worst(rows):.2f} times; once more")
-            rows = least(rows, measure(kind, what, program, f"{folder}-{again}"))
-    return worst(rows)
+        if best > MOST:
+            print(f"{best:.2f} times; once more")
+            best = min(best, worst(measure(kind, what, program, f"{folder}-{again}")))
+    return best
 
 
 def main():

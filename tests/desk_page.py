@@ -29,6 +29,7 @@ SERVER = ROOT / "tools/desk_server"
 LANGUAGES = ("de", "en")
 WORDS = {it: json.loads((PAGE / f"words.{it}.json").read_text(encoding="utf-8")) for it in LANGUAGES}
 SCRIPTS = {path.name: path.read_text(encoding="utf-8") for path in PAGE.glob("*.js")}
+SCRIPT = "".join(SCRIPTS.values())
 MARKUP = (PAGE / "index.html").read_text(encoding="utf-8")
 CLERK = (ROOT / "docs/clerk.md").read_text(encoding="utf-8")
 SVG = "http://www.w3.org/2000/svg"
@@ -84,24 +85,46 @@ class Words(unittest.TestCase):
         paragraph = re.search(r"\*\*After `rule 41 Store`\*\*.*?\n\n", CLERK, re.S)[0]
         self.assertEqual(WORDS["en"]["stopped.text"], " ".join(re.sub(r"[*`]", "", paragraph).split()))
 
-    def used(self):
-        """The keys that markup and scripts name, and what the others begin with."""
+    def named(self):
+        """The keys that markup and scripts name as they are."""
         keys = set(re.findall(r'data-word(?:-label)?="([^"]+)"', MARKUP))
-        starts = set()
         for script in SCRIPTS.values():
             keys |= set(re.findall(r'"((?:[a-z-]+\.)+[a-zA-Z_-]+)"', script))
             keys |= set(re.findall(r'say\("([^"]+)"', script))
-            starts |= set(re.findall(r"`([a-z-]+\.(?:[a-z-]+\.)?)\$\{", script))
-            starts |= set(re.findall(r'say\(`\$\{kind\}(\.[a-z]+)`', script))
-        return {key for key in keys if not key.endswith((".js", ".csv", ".txt"))}, starts
+        return {key for key in keys if not key.endswith((".js", ".csv", ".txt"))}
+
+    def made(self):
+        """The keys that scripts make of a kind, a rule, a reason and so on; those too that need no words."""
+        source = "".join(path.read_text(encoding="utf-8") for path in SERVER.glob("*.py"))
+        kinds, actions, documents = (*FORMS, "bank"), ("release", "withdraw"), ("payouts", "reminders")
+        asked, rules = (*kinds, "give-up", "again"), range(1, 43)
+        limits = [name for names, _, _ in rows_behind("The limits:") for name in names.split(", ")]
+        csv_reasons = reports.CSV_REASONS.values()
+        reasons = re.findall(r'FieldFault\(\w+, "([a-z-]+)"\)', source) + re.findall(r'number\("([a-z]+)"', source)
+        places = {
+            "{}.button": actions, "{}.claim": actions, "{}.known": documents, "{}.title": documents,
+            "bank.{}": ["good", "faulty", *re.findall(r'"state": "([a-z]+)"', source), "failed"],
+            "confirm.{}": asked, "confirm.{}.title": asked, "confirm.{}.yes": asked,
+            "csv.{}": ["header", "fields", "worker", "gross", "twice", "lines", "unread", *csv_reasons],
+            "detail.{}": rules,
+            "fault.{}": re.findall(r'[ (]Fault\("([a-z-]+)"', source) + re.findall(r'fault: "([a-z-]+)"', SCRIPT),
+            "fault.no-answer.{}": re.findall(r'NoAnswer\("([a-z]+)"', source),
+            "field.{}": [*reasons, "report_day", "due_day", "contribution", "entitlement", "interest", "csv", "number"],
+            "kind.{}": kinds, "label.{}": ["version", "cents", "unknown"],
+            "limit.{}.do": limits, "limit.{}.most": limits, "look.{}": kinds,
+            "month.{}": [f"{month:02}" for month in range(1, 13)],
+            "outcome.{}": [*SETTLED, *(it + UNWRITTEN for it in SETTLED), "undecided", "lost"],
+            "purpose.{}": ["C", "I"],
+            "refusal.{}.command": rules, "refusal.{}.question": rules,
+            "refusal.{}.do": rules, "refusal.{}.means": rules,
+            "reply.{}": kinds, "state.{}": ["open", "released", "withdrawn", "over"], "subject.{}": kinds,
+        }
+        return {place.format(it) for place, them in places.items() for it in them}
 
     def test_every_word_that_is_used_is_there_and_every_other_is_used(self):
-        keys, starts = self.used()
-        self.assertEqual({key for key in keys if key not in WORDS["en"]}, set())
-        begun = tuple(it for it in starts if not it.startswith("."))
-        ended = tuple(it for it in starts if it.startswith("."))
-        unused = {key for key in WORDS["en"] if not key.startswith(begun) and not key.endswith(ended)} - keys
-        self.assertEqual(unused, set())
+        named = self.named()
+        self.assertEqual(named - set(WORDS["en"]), set())
+        self.assertEqual(set(WORDS["en"]) - named - self.made(), set())
 
     def test_every_fault_and_form_has_its_words(self):
         source = "".join(path.read_text(encoding="utf-8") for path in SERVER.glob("*.py"))

@@ -3,7 +3,7 @@ ghost use Rattle.std.specs.Prelude.{◌≡◌, ◌≢◌, ◌≤◌, ◌↔◌, 
 ghost use Rattle.std.specs.Prelude.{OnOk, length};
 ghost use Rattle.std.specs.List.{slice_get};
 ghost use Rattle.clear_money.specs.Calendar.{day_of_month};
-ghost use Rattle.clear_money.specs.Limits.{most_months};
+ghost use Rattle.clear_money.specs.Limits.{most_credits, most_months};
 ghost use Rattle.clear_account.specs.declared.entries.Charge.{Charge as AnyCharge};
 ghost use Rattle.clear_account.specs.declared.entries.Credit.{Credit as AnyCredit};
 ghost use Rattle.clear_account.specs.Account.{HoldsSerial, IsAccount, charged, credited, last_day};
@@ -47,7 +47,7 @@ pub trait Keeper {
         ensures ok { OnOk result (credits self.new ≡ with_credit credit (credits self.old)) }
         ensures err { OnErr result (credits self.new ≡ credits self.old) }
         ensures limit { (result ≡ Err AccountFault.OverLimit)
-            ↔ (MAX_CREDITS ≤ length (credits self.old)) }
+            ↔ (most_credits ≤ length (credits self.old)) }
         ensures charges { charges self.new ≡ charges self.old };
 
     /// Whether a payment has the serial.

@@ -65,6 +65,7 @@ impl Keeper for Kept {
     ghost use Rattle.std.specs.Prelude.{◌≡◌, ◌≢◌, ◌≤◌, ◌↔◌, Err, OnErr, OnOk, filter, length};
     ghost use Rattle.std.specs.Prelude.{nat_lt};
     ghost use Rattle.clear_money.specs.Calendar.{day_of_month};
+    ghost use Rattle.clear_money.specs.Limits.{most_credits};
     ghost use Rattle.clear_account.specs.Account.{HoldsSerial, charged, comes_before, credited};
     ghost use Rattle.clear_account.specs.Account.{with_charge, with_credit};
     ghost use Rattle.clear_account.specs.Kept.{CountsTurns};
@@ -111,7 +112,7 @@ impl Keeper for Kept {
         ensures ok { OnOk result (self.new.credits ≡ with_credit credit self.old.credits) }
         ensures err { OnErr result (self.new.credits ≡ self.old.credits) }
         ensures limit { (result ≡ Err AccountFault.OverLimit)
-            ↔ (MAX_CREDITS ≤ length self.old.credits) }
+            ↔ (most_credits ≤ length self.old.credits) }
         ensures charges { self.new.charges ≡ self.old.charges }
         ensures turns { OnOk result
             (CountsTurns (credited (filter (λ l. comes_before l credit) self.old.credits))

@@ -12,8 +12,9 @@ use std::alloc::{AllocError, Global};
 /// What each payment pays of each charge, in order of charge, then payment, where `charged` cents
 /// of charges and `credited` cents of payments lie before them in their account.
 ///
-/// Adds the turns that it takes, which are no fewer than the pieces and at most one more than the
-/// charges and payments; a refusal, which is for want of memory alone, may have added some.
+/// Adds the turns that it takes. Proved of their count is that it is no less than that of the pieces, and
+/// at most one more than that of the charges and payments. A refusal, which is for want of memory alone,
+/// may have added some.
 pub fn refill(
     alloc: Global,
     charged: u64,
@@ -32,6 +33,7 @@ pub fn refill(
         pieces.items ≡ pieces_behind charged credited charges.now credits.now) }
     ensures a_turn_a_piece { IfOk result (λ pieces.
         turns.old + length pieces.items ≤ turns.new) }
+    ensures adds { turns.old ≤ turns.new }
     ensures few_turns { turns.new ≤ turns.old + length charges.now + length credits.now + 1 }
     ensures few_pieces { IfOk result (λ pieces. 0 < length charges.now + length credits.now →
         length pieces.items < length charges.now + length credits.now) }
@@ -60,6 +62,7 @@ fn walk(
         pieces.items ≡ pieces_behind charged credited charges.now credits.now) }
     ensures a_turn_a_piece { IfOk result (λ pieces.
         turns.old + length pieces.items ≤ turns.new) }
+    ensures adds { turns.old ≤ turns.new }
     ensures few_turns { turns.new ≤ turns.old + length charges.now + length credits.now + 1 }
     ensures few_pieces { IfOk result (λ pieces. 0 < length charges.now + length credits.now →
         length pieces.items < length charges.now + length credits.now) }

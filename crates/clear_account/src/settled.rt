@@ -2,7 +2,7 @@
 ghost use Rattle.std.specs.Prelude.{◌≡◌, ◌++◌, ◌+◌, ◌^◌, ◌<◌, ◌≤◌, All, IfOk, OnOk, length, sum_by};
 ghost use Rattle.clear_money.specs.Calendar.{day_of_month};
 ghost use Rattle.clear_money.specs.Limits.{most_base, most_charged};
-ghost use Rattle.clear_account.specs.Account.{IsAccount, charged_up_to};
+ghost use Rattle.clear_account.specs.Account.{IsAccount, charged_up_to, credited_up_to};
 ghost use Rattle.clear_account.specs.Settled.{share_at};
 ghost use Rattle.clear_account.specs.Walk.{Stands, late_cents, shares_between};
 
@@ -42,8 +42,8 @@ pub struct Walk {
 }
 
 impl Walk {
-    ghost use Rattle.std.specs.Prelude.{◌≡◌, ◌+◌, ◌^◌, ◌<◌, IfOk, length};
-    ghost use Rattle.clear_account.specs.Account.{IsAccount, charged_up_to, credited};
+    ghost use Rattle.std.specs.Prelude.{◌≡◌, ◌+◌, ◌^◌, ◌<◌, ◌≤◌, IfOk, OnOk, length};
+    ghost use Rattle.clear_account.specs.Account.{IsAccount, charged_up_to, credited, credited_up_to};
     ghost use Rattle.clear_account.specs.Places.{Ends};
     ghost use Rattle.clear_account.specs.Walk.{Stands, paid_charge};
 
@@ -63,7 +63,8 @@ impl Walk {
     }
 
     /// What is paid of the charge at a place, to which the walk has come. It goes on behind that
-    /// charge. Takes one step for each payment up to where the charge ends.
+    /// charge, and to the payment that ends there or above, or behind all. Takes one step for each payment
+    /// up to where the charge ends.
     pub fn find_paid(
         &mut self,
         alloc: Global,
@@ -78,6 +79,8 @@ impl Walk {
         ensures paid { IfOk result (λ paid. paid ≡ paid_charge charges.now credits.now place) }
         ensures stands { Stands credits.now self.new }
         ensures charged { self.new.charged ≡ charged_up_to charges.now (place + 1) }
+        ensures reaches { OnOk result (self.new.place < length credits.now →
+            self.new.charged ≤ credited_up_to credits.now (self.new.place + 1)) }
     {
         let charge = &charges[place];
         let end = self.charged + charge.cents;
@@ -104,6 +107,8 @@ fn find_shares(
         ≡ shares_between walk.old.charged end credits.now) }
     ensures stands { Stands credits.now walk.new }
     ensures charged { walk.new.charged ≡ end }
+    ensures reaches { OnOk result (walk.new.place < length credits.now →
+        end ≤ credited_up_to credits.now (walk.new.place + 1)) }
 {
     let start = walk.charged;
     walk.charged = end;

@@ -1,10 +1,12 @@
 -- What is said of a caller file.
 use Rattle.std.specs.Prelude.{◌≡◌, ℕ, ◌-◌, ◌==◌, ℤ, pos, Bool, true, false, List, [], ◌∷◌, length, count_by, codes}
-use Rattle.std.specs.Prelude.{Option, Some, Result, Ok, Err}
+use Rattle.std.specs.Prelude.{Option, Some, None, Result, Ok, Err, is_some, if◌then◌else◌}
 use Rattle.std.specs.Fmt.{decimal}
 use Rattle.std.specs.List.{concat}
+use Rattle.toml.specs.Data.{Members, no_members, member}
 use Rattle.clear_book.specs.declared.calls.Caller.{Caller}
 use Rattle.clear_book.specs.declared.calls.Caller.TheVariants.{Firm, Clerk}
+use Rattle.clear_callers.specs.CallerFile.{caller_at}
 use Rattle.clear_callers.specs.Callers.{KeyOf}
 use Rattle.clear_callers.specs.declared.caller_file.DirectoryFault.{DirectoryFault}
 use Rattle.clear_callers.specs.declared.caller_file.DirectoryFault.TheVariants.{Text, Entry, Memory}
@@ -22,6 +24,11 @@ is_clerks key = is_clerk key.1
 abbrev pub is_zero : Option ℤ → Bool
 is_zero (Some (pos n)) = n == 0
 is_zero _ = false
+
+-- the first member of a document that is no key of a caller, by its name
+abbrev pub first_wrong : Members → Option (List ℕ)
+first_wrong no_members = None
+first_wrong (member key d ms) = if is_some (caller_at key d) then first_wrong ms else Some key
 
 -- so many keys, of which so many are of clerks
 unfoldable pub counts_text : ℕ → ℕ → List ℕ

@@ -1,5 +1,7 @@
 //! What a second look at a file found.
-ghost use Rattle.std.specs.Prelude.{◌≡◌};
+ghost use Rattle.std.specs.Prelude.{◌≡◌, IfOk, codes, map};
+ghost use Rattle.std.specs.List.{concat};
+ghost use Rattle.clear_check.specs.Shown.{shown_byte};
 
 use crate::texts::{in_line, joined};
 use std::alloc::{AllocError, Global};
@@ -28,14 +30,21 @@ impl Model for Seen {
 impl Seen {
     /// Two texts, each of these parts one after another. What would not stay in a line is shown
     /// otherwise.
-    pub fn new(alloc: Global, here: &[&str], other: &[&str]) -> Result<Seen, AllocError> {
+    pub fn new(alloc: Global, here: &[&str], other: &[&str]) -> Result<Seen, AllocError>
+        ensures here { IfOk result (λ seen. seen.here
+            ≡ map shown_byte (concat (map (λ part. part.now) here.now))) }
+        ensures other { IfOk result (λ seen. seen.other
+            ≡ map shown_byte (concat (map (λ part. part.now) other.now))) }
+    {
         let here = in_line(alloc, joined(alloc, here)?.as_bytes())?;
         let other = in_line(alloc, joined(alloc, other)?.as_bytes())?;
         Ok(Seen { here, other })
     }
 
     /// Nothing was found.
-    pub fn nothing(alloc: Global) -> Result<Seen, AllocError> {
+    pub fn nothing(alloc: Global) -> Result<Seen, AllocError>
+        ensures { IfOk result (λ seen. (seen.here ≡ codes "?") × (seen.other ≡ codes "?")) }
+    {
         Seen::new(alloc, &["?"], &["?"])
     }
 

@@ -11,7 +11,7 @@ ghost use Rattle.clear_schema.specs.Faults.{IsOfDisk, TellsOutOfRange};
 ghost use Rattle.clear_database.specs.First.{first_tables};
 ghost use Rattle.clear_schema.specs.Held.{HasMeta, HasTables, StandsFor, TellsSchema};
 ghost use Rattle.clear_database.specs.Making.{IsMade, rate_number};
-ghost use Rattle.clear_database.specs.Opening.{IsBelowZero, TellsNumberOrNone};
+ghost use Rattle.clear_database.specs.Opening.{IsBelowZero, TellsNoNumber, TellsNumberOrNone};
 ghost use Rattle.clear_schema.specs.Schema.{no_schema, store_schema};
 ghost use Rattle.clear_database.specs.Still.{IsStill};
 
@@ -27,8 +27,8 @@ use sqlite_schema::schema::Schema;
 
 /// Makes the tables of an office without requests in an empty database, with its opening rates, in
 /// one transaction. A database that has a table, an index or a view is refused: where it tells a number
-/// in `meta`, by `WrongVersion` with that one. Nothing changes where a `meta` stands first, whatever it
-/// tells.
+/// in `meta`, by `WrongVersion` with that one, and with 0 where `meta` has no row. Nothing changes where
+/// a `meta` stands first, whatever it tells.
 pub fn create_in<S: Alter>(conn: &mut Connection<S>, rates: &RateTable) -> Result<(), OpenFault>
     requires { conn.old.in_transaction ≡ false }
     ensures mode { conn.new.in_transaction ≡ false }
@@ -59,6 +59,10 @@ pub fn create_in<S: Alter>(conn: &mut Connection<S>, rates: &RateTable) -> Resul
         → OnOk result ⊥
         × IfErr result (λ fault. (told : ℕ) → fault ≡ OpenFault.WrongVersion told
         → told ≡ number) }
+    // Of a `meta` without a row no number is told but 0.
+    ensures no_number { HasCleanDisk (state S.Store conn.new)
+        → TellsNoNumber (state S.Store conn.old).now
+        → IfErr result (λ fault. (told : ℕ) → fault ≡ OpenFault.WrongVersion told → told ≡ 0) }
     ensures below_zero { HasCleanDisk (state S.Store conn.new)
         → IsBelowZero (state S.Store conn.old).now → IfErr result TellsOutOfRange }
     // Nothing changes where `meta` stands first, whatever it tells.

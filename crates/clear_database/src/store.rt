@@ -38,8 +38,8 @@ pub struct Refusal<S: Alter> {
 impl<S: Alter> Store<S> {
     /// Makes the tables of an office without requests in an empty database, with its opening rates,
     /// in one transaction. A database that has a table, an index or a view is refused: where it tells a
-    /// number in `meta`, by `WrongVersion` with that one. Nothing changes where a `meta` stands first,
-    /// whatever it tells. A refusal hands the connection back.
+    /// number in `meta`, by `WrongVersion` with that one, and with 0 where `meta` has no row. Nothing
+    /// changes where a `meta` stands first, whatever it tells. A refusal hands the connection back.
     pub fn create(connection: Connection<S>, rates: &RateTable) -> Result<Store<S>, Refusal<S>>
         requires { connection.in_transaction ≡ false }
         ensures mode { IfOk result (λ store. store.conn.in_transaction ≡ false) }
@@ -69,6 +69,10 @@ impl<S: Alter> Store<S> {
         ensures there { IfErr result (λ left. HasCleanDisk (state S.Store left.connection)
             → (number : ℕ) → TellsSchema number (state S.Store connection).now
             → (told : ℕ) → left.fault ≡ OpenFault.WrongVersion told → told ≡ number) }
+        // Of a `meta` without a row no number is told but 0.
+        ensures no_number { IfErr result (λ left. HasCleanDisk (state S.Store left.connection)
+            → TellsNoNumber (state S.Store connection).now
+            → (told : ℕ) → left.fault ≡ OpenFault.WrongVersion told → told ≡ 0) }
         ensures only_empty { OnOk result ((state S.Store connection).now.schema ≡ no_schema) }
         ensures below_zero { IfErr result (λ left. HasCleanDisk (state S.Store left.connection)
             → IsBelowZero (state S.Store connection).now → TellsOutOfRange left.fault) }

@@ -18,7 +18,7 @@ use Rattle.sqlite_pool.specs.Stored.{reserved}
 use Rattle.sqlite_pool.proofs.ProbeLemmas.{not_blank}
 use Rattle.sqlite_catalog.proofs.ReadLemmas.{lists_once}
 use Rattle.sqlite.specs.Files.{AreFoundIn, HoldsDatabase, IsNothing}
-use Rattle.sqlite.specs.State.{State}
+use Rattle.sqlite.specs.State.{IsLive, Opens, State}
 use Rattle.sqlite.proofs.ListingLemmas.{empty_is_sound}
 use Rattle.clear_schema.specs.Schema.{no_schema}
 use Rattle.clear_disk.specs.Seen.{SeesIn}
@@ -65,9 +65,12 @@ none_held other some image trees held =
     let large : 504 ≤ held.0 = (let few : reserved held.0 ≤ 8 = grind arith in omega (arith, held.1.0)) in
     not_blank held.0 image held.2.pages held.2.found large held.2.ours.file.sound other some
 
--- so a connection on files that hold no database yet sees no table
+-- a connection that finds an empty list of tables sees no table
+pub bare_seen : (s : State) → Opens s × IsLive s → s.committed.trees catalog_tree ≡ [] → s.now.schema ≡ no_schema
+bare_seen s opened bare =
+    let here = lists_once (s.committed.trees catalog_tree) s.committed.schema no_schema (opened.1 opened.0.is_open).1.lists (empty_is_sound s.committed.trees bare).lists in
+    ap (λ d. d.schema) opened.0.clean ∙ here
+
+-- so does one on files that hold no database yet
 pub nothing_seen : (image : Image) (s : State) → SeesIn image s → IsNothing image → s.now.schema ≡ no_schema
-nothing_seen image s seen nothing =
-    let bare = seen.bare nothing in
-    let here = lists_once (s.committed.trees catalog_tree) s.committed.schema no_schema (seen.opened.1 seen.opened.0.is_open).1.lists (empty_is_sound s.committed.trees bare).lists in
-    ap (λ d. d.schema) seen.opened.0.clean ∙ here
+nothing_seen image s seen nothing = bare_seen s seen.opened (seen.bare nothing)

@@ -1,4 +1,6 @@
 //! A copy of a store in one file. No contract knows what files hold.
+ghost use Rattle.std.specs.Prelude.{◌≡◌, OnOk, false};
+ghost use Rattle.clear_files.specs.Names.{is_of_another_use};
 
 use crate::fault::{FileFault, fault_of};
 use crate::logs::log_path;
@@ -22,14 +24,18 @@ const RIGHTS: u32 = 0o777;
 /// name of a file for the words that open a store, where under the name with `.part` a link, a folder or
 /// the store itself stands, or another copy is written, and where a file can't be read or written; nothing
 /// then stands at the new path but what stood there before.
-pub fn copy_whole(rt: &HostRuntime, store: &StoreFile<'_>, copy: &str) -> Result<(), FileFault> {
+pub fn copy_whole(rt: &HostRuntime, store: &StoreFile<'_>, copy: &str) -> Result<(), FileFault>
+    ensures of_its_own { OnOk result (is_of_another_use copy.now ≡ false) }
+{
     match copy_by_part(rt, store, copy) {
         Ok(()) => Ok(()),
         Err(error) => Err(fault_of(&error)),
     }
 }
 
-fn copy_by_part(rt: &HostRuntime, store: &StoreFile<'_>, copy: &str) -> io::Result<()> {
+fn copy_by_part(rt: &HostRuntime, store: &StoreFile<'_>, copy: &str) -> io::Result<()>
+    ensures of_its_own { OnOk result (is_of_another_use copy.now ≡ false) }
+{
     let part = format!(in rt.alloc(); "{copy}.part")?;
     if is_of_another_use(copy) || !is_new(rt, copy)? || !is_writable(rt, part.as_str(), store) {
         return Err(in_the_way());
@@ -50,11 +56,15 @@ fn copy_by_part(rt: &HostRuntime, store: &StoreFile<'_>, copy: &str) -> io::Resu
 
 // A store takes a file of such a name for the log, its index or the journal of the store that it is
 // named after, and a copy for its part; what begins so is no file for the words that open a store.
-fn is_of_another_use(copy: &str) -> bool {
-    ["-wal", "-shm", "-journal", ".part"]
-        .iter()
-        .any(|end| copy.ends_with(*end))
-        || copy.starts_with("file:")
+fn is_of_another_use(copy: &str) -> bool
+    ensures { result ≡ is_of_another_use copy.now }
+{
+    let name = copy.as_bytes();
+    name.ends_with(b"-wal")
+        || name.ends_with(b"-shm")
+        || name.ends_with(b"-journal")
+        || name.ends_with(b".part")
+        || name.starts_with(b"file:")
         || copy == ":memory:"
 }
 

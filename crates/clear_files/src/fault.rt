@@ -1,6 +1,9 @@
 //! Why a file gives nothing.
+ghost use Rattle.std.specs.Prelude.{◌≡◌, ◌≢◌};
+ghost use Rattle.std.specs.IoError.{error_kind};
 
 use std::io;
+use std::io::ErrorKind;
 
 /// Why a file gives nothing.
 #[derive(Clone, Copy)]
@@ -13,8 +16,11 @@ pub enum FileFault {
 }
 
 // Want of memory, or any other fault of a file.
-pub(crate) fn fault_of(error: &io::Error) -> FileFault {
-    if error.kind() == io::ErrorKind::OutOfMemory {
+pub(crate) fn fault_of(error: &io::Error) -> FileFault
+    ensures memory { error_kind error.now ≡ ErrorKind.OutOfMemory → result ≡ FileFault.Memory }
+    ensures other { error_kind error.now ≢ ErrorKind.OutOfMemory → result ≡ FileFault.Unusable }
+{
+    if error.kind() == ErrorKind::OutOfMemory {
         FileFault::Memory
     } else {
         FileFault::Unusable

@@ -1,7 +1,10 @@
 //! The log of a store, which stands beside its file. No contract knows what files hold.
+ghost use Rattle.std.specs.Prelude.{◌≡◌, ◌≢◌, ◌++◌, None, codes, IfOk, OnErr, string_bytes};
+ghost use Rattle.std.specs.IoError.{error_kind};
 
 use crate::paths::{PathKind, is_free, path_kind};
 use std::alloc::{AllocError, Global};
+use std::io::ErrorKind;
 use std::{fs, io};
 
 // The greatest length that a close leaves of a store's log, in bytes.
@@ -51,8 +54,12 @@ pub(crate) fn log_beside(rt: &HostRuntime, store: &str) -> Result<Option<String>
 }
 
 // What can't be told is `None`, but for want of memory.
-pub(crate) fn none_but_memory<T>(error: &io::Error) -> Result<Option<T>, AllocError> {
-    if error.kind() == io::ErrorKind::OutOfMemory {
+pub(crate) fn none_but_memory<T>(error: &io::Error) -> Result<Option<T>, AllocError>
+    ensures none { IfOk result (λ found. found ≡ None) }
+    ensures told { IfOk result (λ _. error_kind error.now ≢ ErrorKind.OutOfMemory) }
+    ensures memory { OnErr result (error_kind error.now ≡ ErrorKind.OutOfMemory) }
+{
+    if error.kind() == ErrorKind::OutOfMemory {
         Err(AllocError)
     } else {
         Ok(None)
@@ -60,6 +67,8 @@ pub(crate) fn none_but_memory<T>(error: &io::Error) -> Result<Option<T>, AllocEr
 }
 
 /// The path of the log of a store whose file is at a path.
-pub(crate) fn log_path(alloc: Global, file: &str) -> Result<String, AllocError> {
+pub(crate) fn log_path(alloc: Global, file: &str) -> Result<String, AllocError>
+    ensures { IfOk result (λ path. string_bytes path ≡ file.now ++ codes "-wal") }
+{
     format!(in alloc; "{file}-wal")
 }

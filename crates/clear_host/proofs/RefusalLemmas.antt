@@ -9,14 +9,15 @@ use Rattle.clear_book.specs.Tables.{Tables}
 use Rattle.clear_schema.specs.Schema.{this_layout}
 use Rattle.sqlite.specs.State.{HasCleanDisk, State}
 use Rattle.sqlite_wal.specs.Recovery.{Image}
-use Rattle.clear_schema.specs.Faults.{IsWrong, other_layout}
+use Rattle.clear_schema.specs.Faults.{IsOfDisk, IsWrong, other_layout}
 use Rattle.clear_schema.specs.Held.{HasTables, TellsAs, this_schema}
+use Rattle.clear_schema.specs.declared.fault.Fault.{Fault}
 use Rattle.clear_schema.specs.declared.fault.Fault.TheVariants.{Memory, Store}
 use Rattle.clear_book.specs.declared.rules.StoreCause.TheVariants.{Constraint, Row, Other}
 use Rattle.clear_migrate.specs.Answered.{AnswersOrFails}
 use Rattle.clear_schema.specs.declared.fault.OpenFault.{OpenFault}
 use Rattle.clear_schema.specs.declared.fault.OpenFault.TheVariants.{WrongVersion, Failed}
-use Rattle.clear_host.specs.Contents.{HasJust, HoldsOtherLayout, HoldsStore, IfOpen, IfRefused, KeepsTables, TellsNone, TellsOnly, TellsOther}
+use Rattle.clear_host.specs.Contents.{BlamesNone, HasJust, HoldsOtherLayout, HoldsStore, IfOpen, IfRefused, KeepsTables, TellsNone, TellsOnly, TellsOther}
 use Rattle.clear_host.specs.Offices.{Leaves, TellsOf}
 use Rattle.clear_host.specs.declared.offices.NotOpened.{NotOpened}
 
@@ -27,6 +28,10 @@ tells_only number (Failed fault) is = tt
 pub tells_none : (fault : OpenFault) → ((told : ℕ) → ¬ (fault ≡ WrongVersion told)) → TellsNone fault
 tells_none (WrongVersion told) never = never told refl
 tells_none (Failed fault) never = tt
+
+pub blames_none : (fault : OpenFault) → ((why : Fault) → fault ≡ Failed why → IsOfDisk why) → BlamesNone fault
+blames_none (WrongVersion told) disk = tt
+blames_none (Failed why) disk = disk why refl
 
 pub none_only : (number : ℕ) (fault : OpenFault) → TellsNone fault → TellsOnly number fault
 none_only number (WrongVersion told) none = absurd none

@@ -1,17 +1,18 @@
 -- What a connection on files sees, by what the files hold.
-use Rattle.std.proofs.Common.{◌≢◌, ◌∙◌, ℕ, ap, sym, subst}
+use Rattle.std.proofs.Common.{◌≡◌, ◌≢◌, ◌∙◌, ℕ, ap, inl, inr, sym, subst}
 use Rattle.sqlite_wal.specs.Recovery.{Image}
 use Rattle.sqlite.specs.Effect.{Database}
-use Rattle.sqlite.specs.Files.{HoldsDatabase}
+use Rattle.sqlite.specs.Files.{AreFoundIn, HoldsDatabase}
 use Rattle.sqlite.specs.State.{State}
 use Rattle.sqlite.specs.Tree.{Trees}
 use Rattle.clear_book.specs.Tables.{Tables}
 use Rattle.clear_schema.specs.Held.{HasObjects, HasOtherLayout, HasTables, StandsFor, StandsOtherwise, TellsAs, TellsSchema}
 use Rattle.clear_schema.specs.Schema.{no_schema, this_layout}
 use Rattle.clear_disk.specs.Seen.{SeesIn}
+use Rattle.clear_disk.proofs.SeenLemmas.{bare_seen}
 use Rattle.clear_database.specs.Still.{IsStill}
 use Rattle.clear_database.proofs.OpenLemmas.{is_seen, other_seen, tells_seen}
-use Rattle.clear_host.specs.Contents.{HasJust, HaveObjects, HoldsObjects, HoldsOtherLayout, HoldsSchema, HoldsStore}
+use Rattle.clear_host.specs.Contents.{HasJust, HaveObjects, HoldsNone, HoldsObjects, HoldsOtherLayout, HoldsSchema, HoldsStore}
 
 module _ (image : Image) (s : State) (seen : SeesIn image s) where
   -- the store that the files hold
@@ -31,6 +32,16 @@ module _ (image : Image) (s : State) (seen : SeesIn image s) where
   pub objects_seen : HoldsObjects image → s.now.schema ≢ no_schema
   objects_seen (trees, holds, stands) =
       (is_seen HasObjects (λ _ it. it.sound) s seen.opened.0.clean seen.opened.1 seen.opened.0.is_open (subst HaveObjects (sym (seen.holds trees holds)) stands)).some
+
+  -- or none, where it sees no table
+  pub none_seen : s.now.schema ≡ no_schema → HoldsNone image
+  none_seen none =
+      elim seen.found [ inl found ↦ inr (s.committed, found, ap (λ (d : Database). d.schema) (sym seen.opened.0.clean) ∙ none) | inr unmade ↦ inl unmade.0 ]
+
+  -- what they recover to, where it sees a table
+  pub found_seen : s.now.schema ≢ no_schema → (trees : Trees) × AreFoundIn image trees
+  found_seen some =
+      elim seen.found [ inl found ↦ (s.committed.trees, found) | inr unmade ↦ absurd (some (bare_seen s seen.opened unmade.1)) ]
 
   -- or a database of another layout
   pub other_is_seen : HoldsOtherLayout image → StandsOtherwise s.committed.trees

@@ -1,10 +1,10 @@
 -- What the two files of a store hold, its log and its database file. No contract knows that, so clauses
 -- speak of each content.
-use Rattle.std.specs.Prelude.{◌≡◌, ◌≢◌, ⊤, ℕ, IfSome, IsTrue, MatchOption, None}
+use Rattle.std.specs.Prelude.{◌≡◌, ◌≢◌, ◌⊎◌, ⊤, ℕ, IfSome, IsTrue, MatchOption, None}
 use Rattle.sqlite_wal.specs.Recovery.{Image}
 use Rattle.sqlite.specs.declared.error.Error.{Error}
 use Rattle.sqlite.specs.Effect.{Database}
-use Rattle.sqlite.specs.Files.{HoldsDatabase}
+use Rattle.sqlite.specs.Files.{AreFoundIn, HoldsDatabase}
 use Rattle.sqlite.specs.Held.{state}
 use Rattle.sqlite.specs.State.{HasCleanDisk, State}
 use Rattle.sqlite.specs.Store.{Ghosts}
@@ -12,12 +12,13 @@ use Rattle.sqlite.specs.Tree.{Trees}
 use Rattle.clear_book.specs.Allocated.{Represents}
 use Rattle.clear_book.specs.Book.{Book}
 use Rattle.clear_book.specs.Tables.{Tables}
-use Rattle.clear_schema.specs.Faults.{fault_of, other_layout}
+use Rattle.clear_schema.specs.Faults.{IsOfDisk, fault_of, other_layout}
 use Rattle.clear_schema.specs.Held.{HasObjects, HasTables, StandsAs, StandsOtherwise, TellsAs}
-use Rattle.clear_schema.specs.Schema.{Layout, this_layout}
+use Rattle.clear_schema.specs.Schema.{Layout, no_schema, this_layout}
 use Rattle.clear_schema.specs.declared.fault.Fault.TheVariants.{Memory}
 use Rattle.clear_schema.specs.declared.fault.OpenFault.{OpenFault}
 use Rattle.clear_schema.specs.declared.fault.OpenFault.TheVariants.{WrongVersion, Failed}
+use Rattle.clear_disk.specs.Seen.{IsUnmade}
 use Rattle.clear_host.specs.Hindrances.{hindrance_of}
 use Rattle.clear_host.specs.declared.offices.NotOpened.{NotOpened}
 
@@ -47,6 +48,11 @@ HoldsOtherLayout image = (trees : Trees) × HoldsDatabase image trees × StandsO
 abbrev pub HoldsBook : Book → Image → Type 0
 HoldsBook b image = (t : Tables) × Represents b t × HoldsStore this_layout t image
 
+-- no database has been made of them yet, or they recover to one that has no table, index or view
+abbrev pub HoldsNone : Image → Type 0
+HoldsNone image =
+    IsUnmade image ⊎ ((db : Database) × AreFoundIn image db.trees × (db.schema ≡ no_schema))
+
 -- where the fault tells a number, it is this one
 abbrev pub TellsOnly : ℕ → OpenFault → Type 0
 TellsOnly number (WrongVersion told) = told ≡ number
@@ -60,6 +66,11 @@ TellsNone (Failed fault) = ⊤
 -- want of memory aside, the fault is that of another layout
 abbrev pub TellsOther : OpenFault → Type 0
 TellsOther fault = fault ≢ Failed Memory → fault ≡ other_layout
+
+-- no key and no row is to blame for the fault
+abbrev pub BlamesNone : OpenFault → Type 0
+BlamesNone (WrongVersion told) = ⊤
+BlamesNone (Failed fault) = IsOfDisk fault
 
 -- where the files were opened and their database was not taken, and the disk has so far returned
 -- what was written, the fault is so
@@ -76,6 +87,10 @@ IfOpen g P refused = IfSome refused.connection (λ conn.
 -- it shows just these trees, and they are what was committed last
 abbrev pub HasJust : Trees → State → Type 0
 HasJust trees s = (s.now.trees ≡ trees) × (s.committed.trees ≡ trees)
+
+-- it has no table, index or view, and none was committed
+abbrev pub IsBare : State → Type 0
+IsBare s = (s.now.schema ≡ no_schema) × (s.committed.schema ≡ no_schema)
 
 -- what are the tables of both, also those committed last, stays so
 abbrev pub KeepsTables : State → State → Type 0

@@ -1,6 +1,6 @@
 -- Why an office over a store in files is opened, and why it is not, by what the two files hold.
 use Rattle.std.specs.Prelude.{◌≡◌, ◌≢◌, ℕ, List}
-use Rattle.sqlite.specs.Files.{HoldsDatabase, IsNothing}
+use Rattle.sqlite.specs.Files.{AreFoundIn, HoldsDatabase, IsNothing}
 use Rattle.sqlite.specs.Store.{Ghosts}
 use Rattle.sqlite.specs.Tree.{Trees}
 use Rattle.sqlite_wal.specs.Recovery.{Image}
@@ -18,8 +18,9 @@ use Rattle.clear_host.specs.Contents.{HasJust, IfOpen, IfRefused, TellsOnly, Tel
 use Rattle.clear_host.specs.declared.offices.NotOpened.{NotOpened}
 use Rattle.clear_host.specs.declared.offices.Opened.{Opened}
 
--- they hold something, and no database of another schema or with other tables or indexes
+-- they recover to a database, and to none of another schema or with other tables or indexes
 pub record IsOurs (image : Image) : Type 0 where
+  pub recovers : (trees : Trees) × AreFoundIn image trees
   pub only_this : (number : ℕ) → HoldsSchema number image → number ≡ this_schema
   pub not_other : ¬ HoldsOtherLayout image
   pub only_stores : ¬ IsNothing image

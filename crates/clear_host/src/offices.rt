@@ -15,8 +15,9 @@ ghost use Rattle.clear_schema.specs.Schema.{this_layout};
 ghost use Rattle.clear_disk.specs.Seen.{Sees};
 ghost use Rattle.clear_database.specs.Still.{Holds};
 ghost use Rattle.clear_office.specs.Office.{IsHonest, Keeps};
-ghost use Rattle.clear_host.specs.Contents.{HoldsObjects, HoldsSchema, HoldsStore, IfRefused};
-ghost use Rattle.clear_host.specs.Contents.{IfOpen, IsWhyUnopened, KeepsTables, LeavesSchema};
+ghost use Rattle.clear_host.specs.Contents.{BlamesNone, HoldsNone, HoldsObjects, HoldsSchema};
+ghost use Rattle.clear_host.specs.Contents.{HoldsStore};
+ghost use Rattle.clear_host.specs.Contents.{IfOpen, IfRefused, IsBare, IsWhyUnopened, KeepsTables, LeavesSchema};
 ghost use Rattle.clear_host.specs.Contents.{TellsNone, TellsOnly};
 ghost use Rattle.clear_host.specs.Offices.{IsNewOffice, IsOfficeOver, IsOurs, Leaves, TellsOf};
 
@@ -60,7 +61,7 @@ pub struct NotOpened<S: Alter> {
 
 /// Makes a store without requests, with these opening rates, in an empty database, and an office
 /// over it. A database that has a table, an index or a view is refused: where it tells the number of a
-/// schema, by `WrongVersion` with that one.
+/// schema, by `WrongVersion` with that one. A refusal leaves an empty one empty.
 pub(crate) fn new_office<S: Alter>(
     alloc: Global,
     connection: Connection<S>,
@@ -72,12 +73,18 @@ pub(crate) fn new_office<S: Alter>(
         → IsNewOffice S.Store rates.now opened) }
     ensures only_new { (image : Image) → Sees S.Store image connection
         → IfOk result (λ opened. IsHonest S.Store opened.office → ¬ HoldsObjects image) }
+    ensures over_none { (image : Image) → Sees S.Store image connection
+        → IfOk result (λ opened. IsHonest S.Store opened.office → HoldsNone image) }
     ensures day { IfOk result (λ opened. opened.ledger_day ≡ None) }
     ensures version { (image : Image) → Sees S.Store image connection
         → (number : ℕ) → HoldsSchema number image
         → IfErr result (IfRefused S.Store (TellsOnly number)) }
     ensures empty { (image : Image) → Sees S.Store image connection → IsNothing image
         → IfErr result (IfRefused S.Store TellsNone) }
+    ensures undone { (image : Image) → Sees S.Store image connection → IsNothing image
+        → IfErr result (IfOpen S.Store IsBare) }
+    ensures cause { (image : Image) → Sees S.Store image connection → IsNothing image
+        → IfErr result (IfRefused S.Store BlamesNone) }
     ensures unopened { IfErr result IsWhyUnopened }
     ensures rests { (image : Image) → Sees S.Store image connection
         → IfErr result (LeavesSchema S.Store image) }

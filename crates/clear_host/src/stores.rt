@@ -9,8 +9,9 @@ ghost use Rattle.sqlite_wal.specs.Files.{image_at};
 ghost use Rattle.clear_book.specs.Book.{first_book};
 ghost use Rattle.clear_book.specs.Machine.{IsLawful};
 ghost use Rattle.clear_office.specs.Office.{IsHonest};
-ghost use Rattle.clear_host.specs.Contents.{HoldsObjects, HoldsSchema, IfRefused, IsWhyUnopened};
-ghost use Rattle.clear_host.specs.Contents.{LeavesSchema, TellsNone, TellsOnly};
+ghost use Rattle.clear_host.specs.Contents.{BlamesNone, HoldsNone, HoldsObjects, HoldsSchema, IfOpen};
+ghost use Rattle.clear_host.specs.Contents.{IfRefused, IsBare, IsWhyUnopened, LeavesSchema, TellsNone};
+ghost use Rattle.clear_host.specs.Contents.{TellsOnly};
 ghost use Rattle.clear_host.specs.Offices.{IsNewOffice, IsOfficeOver, Leaves, TellsOf};
 
 use crate::offices::{NotOpened, Opened, find_office, new_office};
@@ -29,7 +30,7 @@ const OWNER_ALONE: u32 = 0o600;
 /// Makes a store without requests, with these opening rates, and an office over it, at a path where
 /// no file is, or an empty one, or one that an earlier call left half made. A database that has a
 /// table, an index or a view is refused: where it tells the number of a schema, by `WrongVersion` with
-/// that one, and it is left as it was.
+/// that one, and it is left as it was. A refusal leaves an empty file without tables.
 ///
 /// A file that is made can be read and written by its owner alone, and its log too.
 pub fn create_office<S: Start>(
@@ -44,11 +45,16 @@ pub fn create_office<S: Start>(
     ensures lawful { IsLawful (first_book rates.now) }
     ensures only_new { IfOk result (λ opened. IsHonest over_files opened.office
         → ¬ HoldsObjects (image_at S.Start)) }
+    // Files that hold anything else, a text for instance, never become a store.
+    ensures over_none { IfOk result (λ opened. IsHonest over_files opened.office
+        → HoldsNone (image_at S.Start)) }
     ensures day { IfOk result (λ opened. opened.ledger_day ≡ None) }
     ensures version { (number : ℕ) → HoldsSchema number (image_at S.Start)
         → IfErr result (IfRefused over_files (TellsOnly number)) }
     ensures empty { IsNothing (image_at S.Start)
         → IfErr result (IfRefused over_files TellsNone) }
+    ensures undone { IsNothing (image_at S.Start) → IfErr result (IfOpen over_files IsBare) }
+    ensures cause { IsNothing (image_at S.Start) → IfErr result (IfRefused over_files BlamesNone) }
     ensures unopened { IfErr result IsWhyUnopened }
     ensures rests { IfErr result (LeavesSchema over_files (image_at S.Start)) }
 {

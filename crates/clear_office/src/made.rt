@@ -6,7 +6,7 @@ ghost use Rattle.clear_book.specs.Book.{first_book};
 ghost use Rattle.clear_schema.specs.Faults.{IsOfDisk, TellsOutOfRange};
 ghost use Rattle.clear_database.specs.First.{first_tables};
 ghost use Rattle.clear_schema.specs.Held.{HasMeta, StandsFor, TellsSchema};
-ghost use Rattle.clear_database.specs.Opening.{IsBelowZero, TellsNumberOrNone};
+ghost use Rattle.clear_database.specs.Opening.{IsBelowZero, TellsNoNumber, TellsNumberOrNone};
 ghost use Rattle.clear_schema.specs.Schema.{no_schema};
 ghost use Rattle.clear_schema.specs.declared.fault.Fault.{Fault};
 ghost use Rattle.clear_schema.specs.declared.fault.OpenFault.TheVariants.{Failed, WrongVersion};
@@ -46,6 +46,10 @@ pub fn make_office<S: Alter>(
     ensures there { IfErr result (λ left. HasCleanDisk (state S.Store left.connection)
         → (number : ℕ) → TellsSchema number (state S.Store connection).now
         → (told : ℕ) → left.fault ≡ WrongVersion told → told ≡ number) }
+    // Of a `meta` without a row no number is told but 0.
+    ensures no_number { IfErr result (λ left. HasCleanDisk (state S.Store left.connection)
+        → TellsNoNumber (state S.Store connection).now
+        → (told : ℕ) → left.fault ≡ WrongVersion told → told ≡ 0) }
     ensures empty { IfErr result (λ left. HasCleanDisk (state S.Store left.connection)
         → (state S.Store connection).now.schema ≡ no_schema
         → (told : ℕ) → left.fault ≢ WrongVersion told) }

@@ -41,6 +41,11 @@ TellsStood (ReplaceReport row lines charge) t false =
     charge_at t.charges charge.employer charge.month ≢ Some (charge_in charge)
 TellsStood change t stood = Unit {0}
 
+-- only of a correction it is told that one stood
+abbrev pub IsOfCorrection : Change → Bool → Type 0
+IsOfCorrection (ReplaceReport row lines charge) stood = Unit {0}
+IsOfCorrection change stood = stood ≡ false
+
 -- a contribution is kept of the month of a correction
 abbrev pub HasCharge : Change → Tables → Type 0
 HasCharge (ReplaceReport row lines charge) t = is_held charge_key charge t.charges ≡ true

@@ -17,7 +17,8 @@ ghost use Rattle.clear_schema.specs.Faults.{IsOfDisk};
 ghost use Rattle.clear_schema.specs.Frame.{GoesOn};
 ghost use Rattle.clear_schema.specs.Held.{HasTables};
 ghost use Rattle.clear_pieces.specs.Keeping.{AreCreditsPut, AreFirst, AreFollowing, IsPut, Keeps};
-ghost use Rattle.clear_pieces.specs.Keeping.{AreForInterest, AreTogether, ConcernsNone, TellsStood};
+ghost use Rattle.clear_pieces.specs.Keeping.{AreForInterest, AreTogether, ConcernsNone};
+ghost use Rattle.clear_pieces.specs.Keeping.{IsOfCorrection, TellsStood};
 ghost use Rattle.clear_pieces.specs.Keeping.{alone, credit_for};
 ghost use Rattle.clear_pieces.specs.Keeping.{earlier as earlier_credit};
 
@@ -44,6 +45,7 @@ pub fn charge_stood<S: Alter>(tx: &mut Transaction<'_, S>, change: &Change) -> R
     ensures told { HasCleanDisk (state S.Store tx.new.conn.now)
         → (t : Tables) → HasTables t (state S.Store tx.old.conn.now).now
         → IfOk result (TellsStood change.now t) }
+    ensures corrections { IfOk result (IsOfCorrection change.now) }
     ensures fault { HasCleanDisk (state S.Store tx.new.conn.now)
         → (t : Tables) → HasTables t (state S.Store tx.old.conn.now).now
         → AreInRange t → IfErr result IsOfDisk }

@@ -1,6 +1,8 @@
 -- Talks, one more after others, and what follows from them.
-use Rattle.std.proofs.Common.{◌≡◌, ℕ, ◌+◌, inl, inr, Bool, true, false, List, [], ◌∷◌, ◌++◌, length, refl, sym, ap, ◌∙◌, subst}
-use Rattle.std.proofs.lemmas.List.{length-append}
+use Rattle.std.proofs.Common.{◌≡◌, ℕ, ◌+◌, inl, inr, Bool, true, false, List, [], ◌∷◌, ◌++◌, length, refl, sym, ap, ◌∙◌, subst, Result, Ok, Err, ◌≤◌, ◌<◌, arith}
+use Rattle.std.specs.Prelude.{OnErr, OnOk}
+use Rattle.std.proofs.lemmas.List.{append_assoc, append-nil, length-append}
+use Rattle.std.proofs.lemmas.List.Elements.{All-nil, All-push}
 use Rattle.sqlite.specs.Store.{Ghosts}
 use Rattle.clear_book.specs.declared.calls.Call.{Call}
 use Rattle.clear_book.specs.Book.{Book}
@@ -15,8 +17,10 @@ use Rattle.clear_http.proofs.ServedLemmas.{items_go, items_stay, responds_stay, 
 use Rattle.clear_http.specs.Desk.{MaySay, MayServe}
 use Rattle.clear_http.specs.Guarded.{Admits}
 use Rattle.clear_http.specs.Served.{IsFailedRequest, RequestSteps}
+use Rattle.clear_http.specs.Serve.{Responds}
 use Rattle.clear_server.specs.declared.connections.Ended.{Ended}
-use Rattle.clear_server.specs.Talks.{Talk, Talks, EndsAfter, IsFailedTalk, TalksTake, RunsTalks, AreServed}
+use Rattle.clear_server.specs.declared.connections.Ended.TheVariants.{NoConnections, Served, StoreGone}
+use Rattle.clear_server.specs.Talks.{Talk, Talks, EndsAfter, EndSilent, IsSilent, IsFailedTalk, TalksTake, RunsTalks, AreServed, most_failures}
 
 module _ {H : Type 0} (responds : H → Heading → List ℕ → Said → H → Type 0) where
   talks_then : (a : H) (xs ys : List Talk) (b c : H) → Talks responds a xs b → Talks responds b ys c → Talks responds a (xs ++ ys) c
@@ -24,19 +28,41 @@ module _ {H : Type 0} (responds : H → Heading → List ℕ → Said → H → 
   talks_then a (t ∷ xs) ys b c x y = (x.0, x.1, talks_then x.0 xs ys b c x.2 y)
 
 module _ {S : Type 0} (g : Ghosts S) (keys : List KeyOf) (day : ℕ) where
-  -- so many talks lead from one office to another
-  abbrev pub Talked : ℕ → AtOffice S → AtOffice S → Type 0
-  Talked n old new = (talks : List Talk) × (length talks ≡ n) × Talks (MaySay g keys day) old talks new
+  -- what is said on one connection
+  abbrev Says : AtOffice S → Talk → AtOffice S → Type 0
+  Says old talk new = Responds (MaySay g keys day) old talk.items talk.saids new
 
-  pub none_talked : (office : AtOffice S) → Talked 0 office office
-  none_talked office = ([], refl, refl)
+  -- so many talks lead from one office to another, and so many at their end are silent
+  abbrev pub Talked : ℕ → ℕ → AtOffice S → AtOffice S → Type 0
+  Talked n failures old new = (talks : List Talk) × (length talks ≡ n) × Talks (MaySay g keys day) old talks new × EndSilent failures talks
 
-  pub one_more_talked : (n : ℕ) (old mid new : AtOffice S) → Talked n old mid → MayServe g keys day mid new → Talked (n + 1) old new
-  one_more_talked n old mid new before one =
-      let talk : Talk = record { items = one.0; saids = one.1 } in (
-        before.0 ++ talk ∷ [],
-        length-append before.0 (talk ∷ []) ∙ ap (λ n. n + 1) before.1,
-        talks_then (MaySay g keys day) old before.0 (talk ∷ []) mid new before.2 (new, one.2, refl),
+  pub none_talked : (office : AtOffice S) → Talked 0 0 office office
+  none_talked office = ([], refl, refl, ([], [], refl, omega arith, All-nil IsSilent))
+
+  then_talk : (n failures after : ℕ) (old mid new : AtOffice S) (before : Talked n failures old mid) (talk : Talk) → Says mid talk new → EndSilent after (before.0 ++ talk ∷ [])
+      → Talked (n + 1) after old new
+  then_talk n failures after old mid new before talk one silent = (
+    before.0 ++ talk ∷ [],
+    length-append before.0 (talk ∷ []) ∙ ap (λ n. n + 1) before.1,
+    talks_then (MaySay g keys day) old before.0 (talk ∷ []) mid new before.2 (new, one, refl),
+    silent,
+  )
+
+  -- one connection more, which the system gave or refused
+  pub one_more_talked : {A E : Type 0} (accepted : Result A E) (n failures after : ℕ) (old mid new : AtOffice S) → Talked n failures old mid → MayServe g keys day mid new
+      → OnErr accepted (new ≡ mid) → OnOk accepted (after ≡ 0) → after ≤ failures + 1 → Talked (n + 1) after old new
+  one_more_talked (Ok stream) n failures after old mid new before one same anew few =
+      let talk : Talk = record { items = one.0; saids = one.1 } in
+      then_talk n failures after old mid new before talk one.2 (before.0 ++ talk ∷ [], [], sym (append-nil (before.0 ++ talk ∷ [])), omega (arith, anew), All-nil IsSilent)
+  one_more_talked (Err error) n failures after old mid new before one same anew few =
+      let talk : Talk = record { items = []; saids = [] } in
+      let (others, silent, is, count, all) = before.3 in
+      then_talk n failures after old mid new before talk same (
+        others,
+        silent ++ talk ∷ [],
+        ap (λ (ts : List Talk). ts ++ talk ∷ []) is ∙ append_assoc others silent (talk ∷ []),
+        omega (arith, few, count, length-append silent (talk ∷ [])),
+        All-push IsSilent silent talk all (refl, refl),
       )
 
   -- ---- what follows
@@ -100,13 +126,24 @@ module _ {S : Type 0} (g : Ghosts S) (keys : List KeyOf) (day : ℕ) where
     talks_admit said.0 talks new said.2,
   )
 
-  pub clean : (n : ℕ) (old new : AtOffice S) → Talked n old new → IsHonest g new → IsHonest g old
-  clean n old new said = talks_honest old said.0 new said.2
+  pub clean : (n failures : ℕ) (old new : AtOffice S) → Talked n failures old new → IsHonest g new → IsHonest g old
+  clean n failures old new said = talks_honest old said.0 new said.2
 
-  pub served : (ended : Ended) (n count : ℕ) (old new : AtOffice S) → EndsAfter ended count n → Talked n old new → AreServed g (Reads keys day) ended count old new
-  served ended n count old new each said = record {
+  -- serving ends so, where so many talks have led there, of which so many at the end are silent
+  abbrev pub MayEnd : Ended → ℕ → ℕ → ℕ → Type 0
+  MayEnd Served count n failures = n ≡ count
+  MayEnd StoreGone count n failures = n < count
+  MayEnd NoConnections count n failures = (most_failures ≤ failures) × (n < count)
+
+  ends : (ended : Ended) (n failures count : ℕ) (talks : List Talk) → MayEnd ended count n failures → length talks ≡ n → EndSilent failures talks → EndsAfter ended count talks
+  ends Served n failures count talks may is silent = is ∙ may
+  ends StoreGone n failures count talks may is silent = omega (arith, may, is)
+  ends NoConnections n failures count talks may is (others, silent, split, many, all) = ((others, silent, split, omega (arith, may.0, many), all), omega (arith, may.1, is))
+
+  pub served : (ended : Ended) (n failures count : ℕ) (old new : AtOffice S) → MayEnd ended count n failures → Talked n failures old new → AreServed g (Reads keys day) ended count old new
+  served ended n failures count old new may said = record {
     talks = said.0;
-    each = subst (EndsAfter ended count) (sym said.1) each;
+    each = ends ended n failures count said.0 may said.1 said.3;
     runs = talks_run old said.0 new said.2;
     access = talks_admit old said.0 new said.2;
   }

@@ -1,6 +1,7 @@
 -- What is said on connections, one after another. `reads` says which call a request is, or what
 -- refuses it before the office sees it.
-use Rattle.std.specs.Prelude.{◌≡◌, ℕ, ◌<◌, ◌≤◌, ◌⊎◌, Bool, false, List, [], ◌∷◌, length, Result}
+use Rattle.std.specs.Prelude.{◌≡◌, ℕ, ◌<◌, ◌≤◌, ◌⊎◌, ◌++◌, Bool, false, List, [], ◌∷◌, All, length}
+use Rattle.std.specs.Prelude.{Result}
 use Rattle.sqlite.specs.Store.{Ghosts}
 use Rattle.clear_book.specs.declared.calls.Call.{Call}
 use Rattle.clear_book.specs.Book.{Book}
@@ -25,12 +26,22 @@ pub record Talk : Type 0 where
 abbrev pub most_failures : ℕ
 most_failures = 100
 
--- how many of so many connections were served: all of them, unless the store was gone before, or the
--- system gave no more, and had refused that many
-abbrev pub EndsAfter : Ended → ℕ → ℕ → Type 0
-EndsAfter Served count talks = talks ≡ count
-EndsAfter StoreGone count talks = talks < count
-EndsAfter NoConnections count talks = (most_failures ≤ talks) × (talks < count)
+-- nothing was said on a connection: so it is with one that the system refuses
+abbrev pub IsSilent : Talk → Type 0
+IsSilent talk = (talk.items ≡ []) × (talk.saids ≡ [])
+
+-- so many of the talks at their end, or more, are silent
+abbrev pub EndSilent : ℕ → List Talk → Type 0
+EndSilent count talks =
+    (others : List Talk) × (silent : List Talk) × (talks ≡ others ++ silent) × (count ≤ length silent)
+    × All IsSilent silent
+
+-- which of so many connections were served: all of them, unless the store was gone before, or the
+-- system gave no more, and had refused that many in turn
+abbrev pub EndsAfter : Ended → ℕ → List Talk → Type 0
+EndsAfter Served count talks = length talks ≡ count
+EndsAfter StoreGone count talks = length talks < count
+EndsAfter NoConnections count talks = EndSilent most_failures talks × (length talks < count)
 
 module _ {H : Type 0} (responds : H → Heading → List ℕ → Said → H → Type 0) where
   -- the items of each connection are answered, one connection after another
@@ -68,7 +79,7 @@ module _ {S : Type 0} (g : Ghosts S) (reads : Heading → List ℕ → Result Ca
   -- of so many connections those were served, one after another, that came before serving ended so
   pub record AreServed (ended : Ended) (count : ℕ) (old new : AtOffice S) : Type 0 where
     pub talks : List Talk
-    pub each : EndsAfter ended count (length talks)
+    pub each : EndsAfter ended count talks
     pub runs : RunsTalks old talks new
     -- this holds whatever the records are, also those of no lawful book
     pub access : Talks (Admits reads) old talks new

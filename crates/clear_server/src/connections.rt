@@ -9,7 +9,7 @@
 //! items of a stream and their answers is said where the bytes are known, of the serve loop. Here
 //! they stand in a list of talks, one for each connection, which is empty where none was accepted.
 //! Nor does one say which connection a line tells of, or what a path names.
-ghost use Rattle.std.specs.Prelude.{◌≡◌, ◌<◌, ◌≤◌, ◌+◌, true};
+ghost use Rattle.std.specs.Prelude.{◌≡◌, ◌<◌, ◌≤◌, ◌+◌, true, OnErr, OnOk};
 ghost use Rattle.clear_office.specs.Office.{IsHonest};
 ghost use Rattle.clear_routes.specs.Reading.{Reads};
 ghost use Rattle.clear_http.specs.Desk.{MayServe};
@@ -135,7 +135,8 @@ fn accept(
 
 // How many connections the system has refused in turn, with this one.
 fn failures_with(accepted: &io::Result<TcpStream>, before: u32) -> u32
-    ensures { result ≤ before + 1 }
+    ensures one { result ≤ before + 1 }
+    ensures anew { OnOk accepted.now (result ≡ 0) }
 {
     match accepted {
         Ok(_) => 0,
@@ -164,6 +165,7 @@ fn serve_next<S: Alter>(
     day: Day,
 ) -> Talked
     ensures said { MayServe S.Store directory.now day office.old office.new }
+    ensures silent { OnErr accepted (office.new ≡ office.old) }
     ensures failed { office.old.failed ≡ true → office.new ≡ office.old }
 {
     match accepted {

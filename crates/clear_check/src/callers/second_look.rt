@@ -1,8 +1,15 @@
 //! A second look at a caller file that isn't taken: what stands at its first fault.
 //!
-//! It has no contract. Which fault is told is the reader's and proved; of what is found beside it
-//! only that it stays in one line is promised, which `Seen` keeps, and tests on real files compare
-//! its words.
+//! Which fault is told is the reader's and proved, and so is which key it is found at. Of what else is
+//! found only that it stays in one line is promised, which `Seen` keeps, and tests on real files
+//! compare its words.
+ghost use Rattle.std.specs.Prelude.{◌≡◌, ℕ, List, IfOk, Some, is_none, is_some, map};
+ghost use Rattle.toml.specs.Data.{Members};
+ghost use Rattle.toml.specs.View.{table_view, view};
+ghost use Rattle.clear_money.specs.RateFile.{document_of};
+ghost use Rattle.clear_callers.specs.CallerFile.{caller_at};
+ghost use Rattle.clear_check.specs.CallerChecks.{first_wrong};
+ghost use Rattle.clear_check.specs.Shown.{shown, shown_byte};
 
 use crate::document::no_document;
 use crate::seen::Seen;
@@ -10,15 +17,27 @@ use crate::texts::{joined, shown};
 use clear_callers::caller_file::is_key;
 use clear_money::numbers::EmployerNo;
 use std::alloc::{AllocError, Global};
-use toml::Value;
+use toml::{Table, Value};
 
 // What stands at the first fault.
-pub(crate) fn look_at(alloc: Global, bytes: &[u8]) -> Result<Seen, AllocError> {
-    let document = match toml::table_from_slice(alloc, bytes) {
-        Ok(document) => document,
-        Err(error) => return no_document(alloc, bytes, &error),
-    };
-    for (key, value) in &document {
+pub(crate) fn look_at(alloc: Global, bytes: &[u8]) -> Result<Seen, AllocError>
+    ensures { (document : Members) (key : List ℕ) → document_of bytes.now ≡ Some document
+        → first_wrong document ≡ Some key
+        → IfOk result (λ seen. seen.here ≡ map shown_byte (shown key)) }
+{
+    match toml::table_from_slice(alloc, bytes) {
+        Ok(document) => first_fault(alloc, &document),
+        Err(error) if error.is_memory() => Err(AllocError),
+        Err(error) => no_document(alloc, bytes, &error),
+    }
+}
+
+// What stands at the first member that is no key of a caller.
+fn first_fault(alloc: Global, document: &Table) -> Result<Seen, AllocError>
+    ensures { (key : List ℕ) → first_wrong (table_view document.now) ≡ Some key
+        → IfOk result (λ seen. seen.here ≡ map shown_byte (shown key)) }
+{
+    for (key, value) in document {
         let key = key.as_str().as_bytes();
         if let Some(fault) = entry_fault(alloc, key, value)? {
             let key = shown(alloc, key)?;
@@ -29,7 +48,10 @@ pub(crate) fn look_at(alloc: Global, bytes: &[u8]) -> Result<Seen, AllocError> {
 }
 
 // Why a member is no key of a caller.
-fn entry_fault(alloc: Global, key: &[u8], value: &Value) -> Result<Option<String>, AllocError> {
+fn entry_fault(alloc: Global, key: &[u8], value: &Value) -> Result<Option<String>, AllocError>
+    ensures { IfOk result (λ fault.
+        is_none fault ≡ is_some (caller_at key.now (view value.now))) }
+{
     if !is_key(key) {
         let fault = "a key is 1 to 64 visible ASCII characters";
         return Ok(Some(String::from_str(alloc, fault)?));

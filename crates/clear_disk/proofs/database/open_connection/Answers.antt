@@ -1,4 +1,4 @@
-use Rattle.std.proofs.Common.{◌∙◌, sym, ap, subst, arith, refl}
+use Rattle.std.proofs.Common.{◌∙◌, sym, ap, subst, arith, refl, inl, inr}
 use Rattle.sqlite.specs.Files.{file_state}
 use Rattle.sqlite.proofs.FileLemmas.{same_image}
 use Rattle.sqlite_trees.specs.Objects.{catalog_tree}
@@ -13,10 +13,12 @@ returns-in-Ok-true-clause-sees g c =
     if_ok_both c.made_database.result _ _ _ (λ connection empty honest clean.
     let (opened, bare) = empty clean in
     let blank = rw c.in-Ok-true.field-0-test at (c.in-Ok-true.ensures.ok (honest clean)) in
+    let none = sym (ap (λ d. d.trees catalog_tree) opened.0.clean) ∙ bare in
     record {
       opened = opened;
       holds = λ db held. absurd (none_held _ (omega (arith, c.unwrap-size.result.smallest)) _ db held (blank.0 refl));
-      bare = λ nothing. sym (ap (λ d. d.trees catalog_tree) opened.0.clean) ∙ bare;
+      bare = λ nothing. none;
+      found = inr ((_, blank.0 refl), none);
     }) made.empty made.honest
 
 pub returns-in-Ok-clause-sees : goal.returns-in-Ok-clause-sees
@@ -27,4 +29,5 @@ returns-in-Ok-clause-sees g c clean =
       opened = c.in-Ok.ensures.opened clean;
       holds = found.holds;
       bare = λ nothing. none_found _ _ nothing found.reads;
+      found = inl found.reads;
     })

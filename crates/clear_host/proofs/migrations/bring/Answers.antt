@@ -5,7 +5,7 @@ use Rattle.clear_schema.specs.Schema.{this_layout}
 use Rattle.clear_database.proofs.OpenLemmas.{store_tells}
 use Rattle.clear_disk.proofs.SeenLemmas.{nothing_seen}
 use Rattle.clear_host.proofs.RefusalLemmas.{never_so, only_so, other_so}
-use Rattle.clear_host.proofs.StoreLemmas.{just_seen, other_layout_seen, tables_seen, told_seen}
+use Rattle.clear_host.proofs.StoreLemmas.{found_seen, just_seen, other_layout_seen, tables_seen, told_seen}
 use Rattle.clear_host.proofs.migrations.bring.Goals as goal
 
 pub returns-in-Ok-clause-found : goal.returns-in-Ok-clause-found
@@ -22,6 +22,7 @@ returns-in-Ok-clause-ours g c image sees clean =
     let old = state g.S.Store c.args.connection in
     let seen = sees (c.in-Ok.ensures.clean clean) in
     record {
+      recovers = found_seen image old seen (λ none. never_so _ c.in-Ok.migration (c.in-Ok.ensures.empty clean (inl none)));
       only_this = λ number holds. c.in-Ok.ensures.only_this clean number (told_seen image old seen number holds).1;
       not_other = λ holds. never_so _ c.in-Ok.migration (c.in-Ok.ensures.other clean (other_layout_seen image old seen holds));
       only_stores = λ nothing. never_so _ c.in-Ok.migration (c.in-Ok.ensures.empty clean (inl (nothing_seen image old seen nothing)));

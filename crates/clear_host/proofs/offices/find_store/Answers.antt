@@ -7,7 +7,7 @@ use Rattle.clear_database.proofs.OpenLemmas.{store_tells}
 use Rattle.clear_schema.specs.Schema.{this_layout}
 use Rattle.clear_disk.proofs.SeenLemmas.{if_ok_both, nothing_seen}
 use Rattle.clear_host.proofs.RefusalLemmas.{refused_leaves, tells_only, untold_tells}
-use Rattle.clear_host.proofs.StoreLemmas.{just_seen, other_is_seen, still_seen, store_seen, tables_seen, told_seen}
+use Rattle.clear_host.proofs.StoreLemmas.{found_seen, just_seen, other_is_seen, still_seen, store_seen, tables_seen, told_seen}
 use Rattle.clear_host.proofs.offices.find_store.Goals as goal
 
 pub returns-in-Ok-clause-found : goal.returns-in-Ok-clause-found
@@ -26,6 +26,7 @@ returns-in-Ok-clause-ours g c image sees =
     let sound = honest clean in
     let seen = sees (c.in-Ok.ensures.clean sound) in
     record {
+      recovers = found_seen image old seen (λ none. c.in-Ok.ensures.not_empty sound (inl none));
       only_this = λ number holds. c.in-Ok.ensures.right sound number (told_seen image old seen number holds).0 seen.opened.0.is_open;
       not_other = λ holds. c.in-Ok.ensures.not_other sound seen.opened.0.is_open (other_is_seen image old seen holds);
       only_stores = λ nothing. c.in-Ok.ensures.not_empty sound (inl (nothing_seen image old seen nothing));

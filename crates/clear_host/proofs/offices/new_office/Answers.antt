@@ -1,7 +1,9 @@
+use Rattle.std.proofs.Common.{ap, inl, sym, ◌∙◌}
+use Rattle.sqlite.specs.Effect.{Database}
 use Rattle.sqlite.specs.Held.{state}
 use Rattle.clear_disk.proofs.SeenLemmas.{nothing_seen}
-use Rattle.clear_host.proofs.RefusalLemmas.{tells_none, tells_only}
-use Rattle.clear_host.proofs.StoreLemmas.{just_seen, objects_seen, told_seen}
+use Rattle.clear_host.proofs.RefusalLemmas.{blames_none, tells_none, tells_only}
+use Rattle.clear_host.proofs.StoreLemmas.{just_seen, none_seen, objects_seen, told_seen}
 use Rattle.clear_host.proofs.offices.new_office.Goals as goal
 
 pub returns-in-Ok-clause-made : goal.returns-in-Ok-clause-made
@@ -13,6 +15,11 @@ returns-in-Ok-clause-only_new g c image sees honest holds =
     let seen = sees (c.in-Ok.ensures.clean honest) in
     objects_seen image (state g.S.Store c.args.connection) seen holds c.in-Ok.ensures.only_empty
 
+pub returns-in-Ok-clause-over_none : goal.returns-in-Ok-clause-over_none
+returns-in-Ok-clause-over_none g c image sees honest =
+    let seen = sees (c.in-Ok.ensures.clean honest) in
+    none_seen image (state g.S.Store c.args.connection) seen c.in-Ok.ensures.only_empty
+
 pub returns-in-Err-clause-version : goal.returns-in-Err-clause-version
 returns-in-Err-clause-version g c image sees number holds clean =
     let seen = sees (c.in-Err.ensures.clean_left clean) in
@@ -22,6 +29,20 @@ pub returns-in-Err-clause-empty : goal.returns-in-Err-clause-empty
 returns-in-Err-clause-empty g c image sees nothing clean =
     let seen = sees (c.in-Err.ensures.clean_left clean) in
     tells_none c.in-Err.refusal.fault (c.in-Err.ensures.empty clean (nothing_seen image (state g.S.Store c.args.connection) seen nothing))
+
+pub returns-in-Err-clause-undone : goal.returns-in-Err-clause-undone
+returns-in-Err-clause-undone g c image sees nothing clean live =
+    let old = state g.S.Store c.args.connection in
+    let seen = sees (c.in-Err.ensures.clean_left clean) in
+    let none = nothing_seen image old seen nothing in
+    let bare = ap (λ (d : Database). d.schema) (sym seen.opened.0.clean) ∙ none in
+    let stays = c.in-Err.ensures.undone clean none live in
+    (ap (λ (d : Database). d.schema) stays.0 ∙ bare, ap (λ (d : Database). d.schema) stays.1 ∙ bare)
+
+pub returns-in-Err-clause-cause : goal.returns-in-Err-clause-cause
+returns-in-Err-clause-cause g c image sees nothing clean =
+    let seen = sees (c.in-Err.ensures.clean_left clean) in
+    blames_none c.in-Err.refusal.fault (c.in-Err.ensures.cause clean (inl (inl (nothing_seen image (state g.S.Store c.args.connection) seen nothing))))
 
 pub returns-in-Err-clause-rests : goal.returns-in-Err-clause-rests
 returns-in-Err-clause-rests g c image sees number trees holds tells clean live =

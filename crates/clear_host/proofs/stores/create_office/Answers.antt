@@ -1,7 +1,7 @@
 use Rattle.std.proofs.lemmas.Result.{err_from_is_err_and}
 use Rattle.sqlite.specs.Files.{over_files}
 use Rattle.sqlite_wal.specs.Files.{image_at}
-use Rattle.clear_host.specs.Contents.{HasJust, TellsNone, TellsOnly}
+use Rattle.clear_host.specs.Contents.{BlamesNone, HasJust, IsBare, TellsNone, TellsOnly}
 use Rattle.clear_host.proofs.RefusalLemmas.{never_open, unconnected}
 use Rattle.clear_host.proofs.stores.create_office.Goals as goal
 
@@ -11,11 +11,20 @@ returns-clause-made g c = c.new_office.ensures.made
 pub returns-clause-only_new : goal.returns-clause-only_new
 returns-clause-only_new g c = c.new_office.ensures.only_new (image_at g.S.Start) c.in_ok-connection.ensures.sees
 
+pub returns-clause-over_none : goal.returns-clause-over_none
+returns-clause-over_none g c = c.new_office.ensures.over_none (image_at g.S.Start) c.in_ok-connection.ensures.sees
+
 pub returns-clause-version : goal.returns-clause-version
 returns-clause-version g c = c.new_office.ensures.version (image_at g.S.Start) c.in_ok-connection.ensures.sees
 
 pub returns-clause-empty : goal.returns-clause-empty
 returns-clause-empty g c = c.new_office.ensures.empty (image_at g.S.Start) c.in_ok-connection.ensures.sees
+
+pub returns-clause-undone : goal.returns-clause-undone
+returns-clause-undone g c = c.new_office.ensures.undone (image_at g.S.Start) c.in_ok-connection.ensures.sees
+
+pub returns-clause-cause : goal.returns-clause-cause
+returns-clause-cause g c = c.new_office.ensures.cause (image_at g.S.Start) c.in_ok-connection.ensures.sees
 
 pub returns-clause-working : goal.returns-clause-working
 returns-clause-working g c = c.new_office.ensures.working
@@ -32,6 +41,16 @@ pub returns-in_err-connection-clause-empty : goal.returns-in_err-connection-clau
 returns-in_err-connection-clause-empty g c nothing =
     let p = err_from_is_err_and c.from_residual.result c.from_residual.ensures.1 in
     rw (p.1, p.2) (unconnected over_files TellsNone c.in_err-connection.field-0.0 c.in_err-connection.ensures.none)
+
+pub returns-in_err-connection-clause-undone : goal.returns-in_err-connection-clause-undone
+returns-in_err-connection-clause-undone g c nothing =
+    let p = err_from_is_err_and c.from_residual.result c.from_residual.ensures.1 in
+    rw (p.1, p.2) (never_open over_files IsBare c.in_err-connection.field-0.0 c.in_err-connection.ensures.none)
+
+pub returns-in_err-connection-clause-cause : goal.returns-in_err-connection-clause-cause
+returns-in_err-connection-clause-cause g c nothing =
+    let p = err_from_is_err_and c.from_residual.result c.from_residual.ensures.1 in
+    rw (p.1, p.2) (unconnected over_files BlamesNone c.in_err-connection.field-0.0 c.in_err-connection.ensures.none)
 
 pub returns-clause-rests : goal.returns-clause-rests
 returns-clause-rests g c = c.new_office.ensures.rests (image_at g.S.Start) c.in_ok-connection.ensures.sees

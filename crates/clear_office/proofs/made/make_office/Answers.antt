@@ -35,6 +35,7 @@ returns-in_err-store g c =
       «open» = tt;
       only_empty = tt;
       there = refused.there;
+      no_number = refused.no_number;
       empty = refused.empty;
       below_zero = refused.below_zero;
       cause = refused.cause;
