@@ -5,7 +5,8 @@ ghost use Rattle.std.specs.Fmt.{decimal};
 ghost use Rattle.std.specs.List.{AllByRecursion};
 ghost use Rattle.clear_money.specs.Texts.{month_text};
 ghost use Rattle.clear_book.specs.declared.calls.Command.TheVariants.{AddRate, Assign, Claim};
-ghost use Rattle.clear_book.specs.declared.calls.Command.TheVariants.{EndMembership, Withdraw};
+ghost use Rattle.clear_book.specs.declared.calls.Command.TheVariants.{Correct, EndMembership};
+ghost use Rattle.clear_book.specs.declared.calls.Command.TheVariants.{Register, Report, Withdraw};
 ghost use Rattle.clear_book.specs.Calls.{command_bytes as kept_bytes, line_text, lines_text};
 ghost use Rattle.clear_book.specs.Calls.{numbers_text};
 ghost use Rattle.clear_book.specs.Calls.{IsCommand, IsReport, IsWageLine, may_do, may_query};
@@ -182,42 +183,28 @@ pub fn command_bytes(alloc: Global, command: &Command) -> Result<Vec<u8>, AllocE
     ensures { IfOk result (λ bytes. bytes.items ≡ kept_bytes command.now) }
 {
     let mut out = Vec::new(alloc);
-    match command {
-        Command::AddRate(row) => append_rate(&mut out, row)?,
-        Command::Register(registration) => {
-            let employer = u64::from(registration.employer.number());
-            append_number(&mut out, b"employer ", employer)?;
-            append_month(&mut out, b" ", registration.start)?;
-            out.extend_from_slice(b" ")?;
-            out.extend_from_slice(registration.name.as_str().as_bytes())?;
-        }
-        Command::EndMembership(end) => append_end(&mut out, end)?,
-        Command::Report(report) => {
-            append_number(&mut out, b"report ", u64::from(report.employer.number()))?;
-            append_month(&mut out, b" ", report.month)?;
-            append_lines(&mut out, report.lines.as_slice())?;
-        }
-        Command::Correct(correction) => {
-            let employer = u64::from(correction.report.employer.number());
-            append_number(&mut out, b"correct ", employer)?;
-            append_month(&mut out, b" ", correction.report.month)?;
-            append_number(&mut out, b" ", u64::from(correction.version))?;
-            append_lines(&mut out, correction.report.lines.as_slice())?;
-        }
-        Command::ImportBank(file) => {
-            out.extend_from_slice(b"bank ")?;
-            out.extend_from_slice(file.as_slice())?;
-        }
-        Command::Assign(assignment) => append_assignment(&mut out, assignment)?,
-        Command::Claim(claim) => append_claim(&mut out, claim)?,
-        Command::Withdraw(withdrawal) => append_withdrawal(&mut out, withdrawal)?,
-        Command::Release(claim) => {
-            append_number(&mut out, b"release ", u64::from(claim.number()))?;
-        }
-        Command::PayoutList => out.extend_from_slice(b"payout")?,
-        Command::RemindRun => out.extend_from_slice(b"remind")?,
-    }
+    append_command(&mut out, command)?;
     Ok(out)
+}
+
+// Appends the word and the values of a command.
+fn append_command(out: &mut Vec<u8>, command: &Command) -> Result<(), AllocError>
+    ensures { IfOk result (λ _. out.new.items ≡ out.old.items ++ kept_bytes command.now) }
+{
+    match command {
+        Command::AddRate(row) => append_rate(out, row),
+        Command::Register(registration) => append_registration(out, registration),
+        Command::EndMembership(end) => append_end(out, end),
+        Command::Report(report) => append_report(out, report),
+        Command::Correct(correction) => append_correction(out, correction),
+        Command::ImportBank(file) => append_part(out, b"bank ", file.as_slice()),
+        Command::Assign(assignment) => append_assignment(out, assignment),
+        Command::Claim(claim) => append_claim(out, claim),
+        Command::Withdraw(withdrawal) => append_withdrawal(out, withdrawal),
+        Command::Release(claim) => append_number(out, b"release ", u64::from(claim.number())),
+        Command::PayoutList => out.extend_from_slice(b"payout"),
+        Command::RemindRun => out.extend_from_slice(b"remind"),
+    }
 }
 
 // Appends the word and the values of a row of rates.
@@ -245,6 +232,16 @@ fn append_numbers(out: &mut Vec<u8>, numbers: &[u64]) -> Result<(), AllocError>
     Ok(())
 }
 
+// Appends the word and the values of a registration.
+fn append_registration(out: &mut Vec<u8>, registration: &Registration) -> Result<(), AllocError>
+    ensures { IfOk result
+        (λ _. out.new.items ≡ out.old.items ++ kept_bytes (Register registration.now)) }
+{
+    append_number(out, b"employer ", u64::from(registration.employer.number()))?;
+    append_month(out, b" ", registration.start)?;
+    append_part(out, b" ", registration.name.as_str().as_bytes())
+}
+
 // Appends the word and the values of an end.
 fn append_end(out: &mut Vec<u8>, end: &MembershipEnd) -> Result<(), AllocError>
     ensures { IfOk result
@@ -252,6 +249,30 @@ fn append_end(out: &mut Vec<u8>, end: &MembershipEnd) -> Result<(), AllocError>
 {
     append_number(out, b"end ", u64::from(end.employer.number()))?;
     append_month(out, b" ", end.last)
+}
+
+// Appends the word and the values of a report.
+fn append_report(out: &mut Vec<u8>, report: &WageReport) -> Result<(), AllocError>
+    ensures { IfOk result (λ _. out.new.items ≡ out.old.items ++ kept_bytes (Report report.now)) }
+{
+    append_number(out, b"report ", u64::from(report.employer.number()))?;
+    append_month(out, b" ", report.month)?;
+    append_lines(out, report.lines.as_slice())
+}
+
+// Appends the word and the values of a correction.
+fn append_correction(out: &mut Vec<u8>, correction: &Correction) -> Result<(), AllocError>
+    ensures { IfOk result
+        (λ _. out.new.items ≡ out.old.items ++ kept_bytes (Correct correction.now)) }
+{
+    append_number(
+        out,
+        b"correct ",
+        u64::from(correction.report.employer.number()),
+    )?;
+    append_month(out, b" ", correction.report.month)?;
+    append_number(out, b" ", u64::from(correction.version))?;
+    append_lines(out, correction.report.lines.as_slice())
 }
 
 // Appends the word and the values of an assignment.

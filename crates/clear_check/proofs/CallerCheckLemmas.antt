@@ -1,5 +1,5 @@
--- How many keys of a document are of clerks.
-use Rattle.std.proofs.Common.{◌≡◌, ℕ, suc, ℤ, pos, negsuc, ◌+◌, ◌≤◌, ◌==◌, nat_le, Bool, true, false, if◌then◌else◌, List, [], ◌∷◌, length, count_by, Option, Some, None, option_and_then, Ok, ok_or, String, Global, string_bytes, refl, sym, ap, ◌∙◌, add_assoc, lit≤, arith}
+-- How many keys of a document are of clerks, and which one is at fault.
+use Rattle.std.proofs.Common.{◌≡◌, ◌≢◌, ℕ, suc, ℤ, pos, negsuc, ◌+◌, ◌≤◌, ◌==◌, nat_le, Bool, true, false, if◌then◌else◌, List, [], ◌∷◌, length, count_by, Option, Some, None, is_some, option_and_then, Result, Ok, Err, ok_or, String, Global, string_bytes, refl, sym, ap, ◌∙◌, add_assoc, lit≤, arith}
 use Rattle.std.proofs.lemmas.List.Sums.{sum_by-cons}
 use Rattle.std.proofs.lemmas.Option.{none-some, same_Some}
 use Rattle.toml.proofs.Views.{Entry}
@@ -9,10 +9,11 @@ use Rattle.toml.specs.declared.value.Value.{Value}
 use Rattle.clear_book.specs.declared.calls.Caller.{Caller}
 use Rattle.clear_book.specs.declared.calls.Caller.TheVariants.{Firm, Clerk}
 use Rattle.clear_money.specs.RateFile.{document_of}
-use Rattle.clear_callers.specs.CallerFile.{caller_at, caller_numbered, directory_in, directory_of, is_key, keys_in}
-use Rattle.clear_callers.specs.declared.caller_file.DirectoryFault.TheVariants.{Entry as EntryFault}
+use Rattle.clear_callers.specs.CallerFile.{caller_at, caller_numbered, directory_in, directory_of, is_key, keys_in, Fails}
+use Rattle.clear_callers.specs.declared.caller_file.DirectoryFault.{DirectoryFault}
+use Rattle.clear_callers.specs.declared.caller_file.DirectoryFault.TheVariants.{Entry as EntryFault, Memory as MemoryFault, Text as TextFault}
 use Rattle.clear_callers.specs.Callers.{KeyOf}
-use Rattle.clear_check.specs.CallerChecks.{is_clerk, is_clerks, is_zero}
+use Rattle.clear_check.specs.CallerChecks.{first_wrong, is_clerk, is_clerks, is_zero}
 
 -- how many members have that number
 abbrev pub clerks_in : Members → ℕ
@@ -89,3 +90,26 @@ directory_of-keys bytes document keys is e = given (keys_in document) (ap direct
     given : (found : Option (List KeyOf)) → ok_or found EntryFault ≡ Ok keys → found ≡ Some keys
     given (Some found) e = cc
     given None e = cc
+
+-- ---- a member that is no key
+
+keys_in-wrong : (ms : Members) (key : List ℕ) → first_wrong ms ≡ Some key → keys_in ms ≡ None
+keys_in-wrong no_members key e = absurd (none-some _ e)
+keys_in-wrong (member k d ms) key e = told (caller_at k d) (keys_in ms) (keys_in-wrong ms key) e
+  where
+    told : (caller : Option Caller) (more : Option (List KeyOf)) → (first_wrong ms ≡ Some key → more ≡ None)
+        → (if is_some caller then first_wrong ms else Some k) ≡ Some key
+        → option_and_then (λ (c : Caller). option_and_then (λ (ks : List KeyOf). Some ((k, c) ∷ ks)) more) caller ≡ None
+    told None more rest e = refl
+    told (Some c) more rest e = ap (option_and_then (λ (ks : List KeyOf). Some ((k, c) ∷ ks))) (rest e)
+
+-- its file is no caller file
+pub directory_of-wrong : (bytes : List ℕ) (document : Members) (key : List ℕ) → document_of bytes ≡ Some document → first_wrong document ≡ Some key → directory_of bytes ≡ Err EntryFault
+unfolding directory_of
+directory_of-wrong bytes document key is wrong = ap directory_in is ∙ ap (λ found. ok_or found EntryFault) (keys_in-wrong document key wrong)
+
+-- and the fault that is told is the key's
+pub told_wrong : (fault : DirectoryFault) (right : Result (List KeyOf) DirectoryFault) → right ≡ Err EntryFault → Fails fault right → fault ≢ MemoryFault → fault ≡ EntryFault
+told_wrong TextFault right is text known = absurd (cc (sym is ∙ text))
+told_wrong EntryFault right is entry known = refl
+told_wrong MemoryFault right is any known = absurd (known refl)

@@ -1,5 +1,5 @@
 -- What is said of a caller file.
-use Rattle.std.specs.Prelude.{◌≡◌, ℕ, ◌-◌, ◌==◌, ℤ, pos, Bool, true, false, List, [], ◌∷◌, length, count_by, codes}
+use Rattle.std.specs.Prelude.{◌≡◌, ℕ, ◌-◌, ◌==◌, ℤ, pos, Bool, true, false, List, [], ◌∷◌, length, count_by, codes, map}
 use Rattle.std.specs.Prelude.{Option, Some, None, Result, Ok, Err, is_some, if◌then◌else◌}
 use Rattle.std.specs.Fmt.{decimal}
 use Rattle.std.specs.List.{concat}
@@ -10,7 +10,7 @@ use Rattle.clear_callers.specs.CallerFile.{caller_at}
 use Rattle.clear_callers.specs.Callers.{KeyOf}
 use Rattle.clear_callers.specs.declared.caller_file.DirectoryFault.{DirectoryFault}
 use Rattle.clear_callers.specs.declared.caller_file.DirectoryFault.TheVariants.{Text, Entry, Memory}
-use Rattle.clear_check.specs.Shown.{Found, IsInLine, plural}
+use Rattle.clear_check.specs.Shown.{Found, IsInLine, plural, shown, shown_byte}
 
 abbrev pub is_clerk : Caller → Bool
 is_clerk Clerk = true
@@ -51,3 +51,8 @@ caller_line Memory found = []
 abbrev pub SaysKeys : Result (List KeyOf) DirectoryFault → List ℕ → Type 0
 SaysKeys (Ok keys) text = text ≡ keys_text keys
 SaysKeys (Err fault) text = (found : Found) × IsInLine found × (text ≡ caller_line fault found)
+
+-- the line on a key that is at fault names it, as it is shown
+abbrev pub NamesKey : List ℕ → List ℕ → Type 0
+NamesKey key text =
+    (found : Found) × (found.here ≡ map shown_byte (shown key)) × (text ≡ caller_line Entry found)

@@ -1,8 +1,8 @@
 //! What is said of a file before the office takes it: how much it holds, or its first fault and
 //! where that is.
 //!
-//! A file is read as the program reads it, and its first fault is the reader's: which row, record
-//! and field it is in, and of which kind it is, are proved. A second look at the bytes finds what
+//! A file is read as the program reads it, and its first fault is the reader's: which row, record,
+//! field or key it is in, and of which kind it is, are proved. A second look at the bytes finds what
 //! stands there; of what it finds the contracts say only that a line stays one line, and tests on
 //! real files compare the rest.
 #![tactic(auto)]

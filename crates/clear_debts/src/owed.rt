@@ -10,6 +10,7 @@ ghost use Rattle.clear_book.specs.Tables.{Tables};
 ghost use Rattle.clear_schema.specs.Frame.{Leaves};
 ghost use Rattle.clear_schema.specs.Faults.{IsOfDisk};
 ghost use Rattle.clear_schema.specs.Held.{HasTables};
+ghost use Rattle.clear_debts.specs.Owing.{owed_kept};
 
 use crate::owing::find_account;
 use clear_book::outcomes::Answer;
@@ -32,6 +33,10 @@ pub fn owed<S: Alter>(
         → (t : Tables) → HasTables t (state S.Store tx.old.conn.now).now
         → (b : Book) → IsLawful b → StandsWeighed b t
         → IfOk result (λ answer. answer ≡ owed_by b employer day) }
+    // Whatever the tables hold, it is told by what is kept.
+    ensures kept { HasCleanDisk (state S.Store tx.new.conn.now)
+        → (t : Tables) → HasTables t (state S.Store tx.old.conn.now).now
+        → IfOk result (λ answer. answer ≡ owed_kept t employer day) }
     ensures fault { HasCleanDisk (state S.Store tx.new.conn.now)
         → (t : Tables) → HasTables t (state S.Store tx.old.conn.now).now
         → (b : Book) → IsLawful b → StandsWeighed b t → IfErr result IsOfDisk }

@@ -58,6 +58,14 @@ pub fn find_account<S: Alter>(
         → (b : Book) → IsLawful b → StandsWeighed b t → IfOk result (λ found.
         (found.charges ≡ weighed_charges (charges_of b employer) (credits_of b employer))
         × (found.credited ≡ credited (credits_of b employer))) }
+    // Whatever the tables hold, it is what is kept: where a part is open, no payment is read.
+    ensures kept { HasCleanDisk (state S.Store tx.new.conn.now)
+        → (t : Tables) → HasTables t (state S.Store tx.old.conn.now).now
+        → IfOk result (λ found. found.charges ≡ weighed_rows t employer) }
+    ensures credited { HasCleanDisk (state S.Store tx.new.conn.now)
+        → (t : Tables) → HasTables t (state S.Store tx.old.conn.now).now
+        → IfOk result (λ found. found.credited
+        ≡ credited_by found.charges (table_credits t employer)) }
     ensures fault { HasCleanDisk (state S.Store tx.new.conn.now)
         → (t : Tables) → HasTables t (state S.Store tx.old.conn.now).now
         → (b : Book) → IsLawful b → StandsWeighed b t → IfErr result IsOfDisk }

@@ -86,6 +86,14 @@ pub fn open_files<D: Disk + Drop>(
         → (number : ℕ) (trees : Trees)
         → HoldsDatabase (image_of D.Disk files) trees → TellsAs number trees
         → (why : Fault) → refusal.fault ≡ OpenFault.Failed why → IsOfDisk why)) }
+    // A database that tells the number of a schema is left as it was.
+    ensures rests { IfErr result (IfNotTaken (λ refusal.
+        HasCleanDisk (file_state refusal.connection)
+        → (number : ℕ) (trees : Trees)
+        → HoldsDatabase (image_of D.Disk files) trees → TellsAs number trees
+        → IsTrue (file_state refusal.connection).is_open
+        → ((file_state refusal.connection).now.trees ≡ trees)
+        × ((file_state refusal.connection).committed.trees ≡ trees))) }
     ensures unopened { IfErr result (IfUnopened IsOfDisk) }
 {
     let conn = match Connection::open_files(alloc, files, options) {

@@ -117,9 +117,9 @@ impl StoredTable for Employers {
     fn read(row: &Row) -> Result<EmployerRow, Fault> {
         Ok(EmployerRow {
             employer: employer_at(row, 0)?,
-            name: name_at(row, 1)?,
             start: month_at(row, 2)?,
             last: maybe_month_at(row, 3)?,
+            name: name_at(row, 1)?,
         })
     }
 }

@@ -9,7 +9,7 @@ use Rattle.clear_book.specs.Tables.{Tables}
 use Rattle.clear_schema.specs.Schema.{this_layout}
 use Rattle.sqlite.specs.State.{HasCleanDisk, State}
 use Rattle.sqlite_wal.specs.Recovery.{Image}
-use Rattle.clear_schema.specs.Faults.{IsOfDisk, IsWrong, other_layout}
+use Rattle.clear_schema.specs.Faults.{IsOfDisk, IsWrong, TellsOutOfRange, other_layout}
 use Rattle.clear_schema.specs.Held.{HasTables, TellsAs, this_schema}
 use Rattle.clear_schema.specs.declared.fault.Fault.{Fault}
 use Rattle.clear_schema.specs.declared.fault.Fault.TheVariants.{Memory, Store}
@@ -17,8 +17,8 @@ use Rattle.clear_book.specs.declared.rules.StoreCause.TheVariants.{Constraint, R
 use Rattle.clear_migrate.specs.Answered.{AnswersOrFails}
 use Rattle.clear_schema.specs.declared.fault.OpenFault.{OpenFault}
 use Rattle.clear_schema.specs.declared.fault.OpenFault.TheVariants.{WrongVersion, Failed}
-use Rattle.clear_host.specs.Contents.{BlamesNone, HasJust, HoldsOtherLayout, HoldsStore, IfOpen, IfRefused, KeepsTables, TellsNone, TellsOnly, TellsOther}
-use Rattle.clear_host.specs.Offices.{Leaves, TellsOf}
+use Rattle.clear_host.specs.Contents.{AreBlameless, BlamesCounts, BlamesNone, HasJust, HoldsBelowZero, HoldsOtherLayout, HoldsStore, IfOpen, IfRefused, KeepsTables, TellsNone, TellsOnly, TellsOther}
+use Rattle.clear_host.specs.Offices.{IsOurs, Leaves, TellsOf}
 use Rattle.clear_host.specs.declared.offices.NotOpened.{NotOpened}
 
 pub tells_only : (number : ℕ) (fault : OpenFault) → ((told : ℕ) → fault ≡ WrongVersion told → told ≡ number) → TellsOnly number fault
@@ -40,6 +40,12 @@ none_only number (Failed fault) none = tt
 pub none_wrong : (this found : ℕ) (fault : OpenFault) → TellsNone fault → IsWrong this found fault
 none_wrong this found (WrongVersion told) none = absurd none
 none_wrong this found (Failed fault) none = tt
+
+-- of blameless files that hold a store of this program, its counts are in their ranges
+pub counts_blameless : (image : Image) (s : State) (fault : OpenFault) → IsOurs image → ((t : Tables) → HoldsStore this_layout t image → HasTables t s.now) → BlamesCounts s fault → AreBlameless image → BlamesNone fault
+counts_blameless image s fault ours has none (inl unnumbered) = absurd (ours.only_stores unnumbered)
+counts_blameless image s fault ours has none (inr (inl (number, holds, other))) = absurd (other (ours.only_this number holds))
+counts_blameless image s fault ours has none (inr (inr (t, holds, good))) = none t (has t holds) good
 
 -- where there is no connection, nothing is said of the fault
 pub unconnected : {S : Type 0} (g : store.Ghosts S) (P : OpenFault → Type 0) (refused : NotOpened S) → refused.connection ≡ None → IfRefused g P refused
@@ -78,15 +84,21 @@ module _ {S : Type 0} (g : store.Ghosts S) (image : Image) where
     version = λ number _. unconnected g (IsWrong this_schema number) refused none;
     other = λ _. unconnected g TellsOther refused none;
     empty = λ _. unconnected g (TellsOnly 0) refused none;
+    below_zero = λ _. unconnected g TellsOutOfRange refused none;
+    cause = λ _. unconnected g BlamesNone refused none;
   }
 
-  -- a refusal without a number, of files that hold no other layout
-  pub untold_tells : {A Sound : Type 0} (r : Result A (NotOpened S)) → (Sound → ¬ HoldsOtherLayout image) → IfErr r (IfRefused g TellsNone) → IfErr r (IfRefused g (λ fault. Sound)) → IfErr r (TellsOf g image)
-  untold_tells (Ok it) not_other untold sound = tt
-  untold_tells (Err refused) not_other untold sound = record {
+  -- a refusal without a number, of files that hold no other layout and no number below 0
+  pub untold_tells : {A Sound : Type 0} (r : Result A (NotOpened S)) (P : OpenFault → Type 0) → (Sound → ¬ HoldsOtherLayout image) → (Sound → ¬ HoldsBelowZero image)
+      → ((fault : OpenFault) → P fault → Sound → AreBlameless image → BlamesNone fault)
+      → IfErr r (IfRefused g TellsNone) → IfErr r (IfRefused g (λ fault. Sound)) → IfErr r (IfRefused g P) → IfErr r (TellsOf g image)
+  untold_tells (Ok it) P not_other not_below blames untold sound cause = tt
+  untold_tells (Err refused) P not_other not_below blames untold sound cause = record {
     version = λ number _. IfSome_then refused.connection untold (λ conn none clean. none_wrong this_schema number refused.fault (none clean));
     other = λ holds. IfSome_then refused.connection sound (λ conn so clean. absurd (not_other (so clean) holds));
     empty = λ _. IfSome_then refused.connection untold (λ conn none clean. none_only 0 refused.fault (none clean));
+    below_zero = λ below. IfSome_then refused.connection sound (λ conn so clean. absurd (not_below (so clean) below));
+    cause = λ blameless. if_both refused.connection _ _ _ sound cause (λ conn so p clean. blames refused.fault (p clean) (so clean) blameless);
   }
 
 -- ---- what is answered of a database that is brought to this program's schema
@@ -99,6 +111,10 @@ pub only_so : {A : Type 0} (number : ℕ) (fault : OpenFault) → AnswersOrFails
 only_so number (WrongVersion told) (inl same) = cc
 only_so number (WrongVersion told) (inr (why, disk, same)) = absurd cc
 only_so number (Failed fault) answers = tt
+
+pub range_so : {A : Type 0} (fault : OpenFault) → AnswersOrFails {A = A} (Err (Failed (Store Row))) (Err fault) → TellsOutOfRange fault
+range_so fault (inl same) = subst TellsOutOfRange (let is : Failed (Store Row) ≡ fault = cc in is) (inl refl)
+range_so fault (inr (why, disk, same)) = subst TellsOutOfRange (let is : Failed why ≡ fault = cc in is) (inr disk)
 
 pub other_so : {A : Type 0} (fault : OpenFault) → AnswersOrFails {A = A} (Err other_layout) (Err fault) → TellsOther fault
 other_so fault (inl same) some = cc

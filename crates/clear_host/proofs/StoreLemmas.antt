@@ -1,18 +1,33 @@
 -- What a connection on files sees, by what the files hold.
-use Rattle.std.proofs.Common.{◌≡◌, ◌≢◌, ◌∙◌, ℕ, ap, inl, inr, sym, subst}
+use Rattle.std.proofs.Common.{◌≡◌, ◌≢◌, ◌∙◌, ℕ, ap, inl, inr, refl, sym, subst}
 use Rattle.sqlite_wal.specs.Recovery.{Image}
-use Rattle.sqlite.specs.Effect.{Database}
+use Rattle.sqlite.specs.Effect.{Database, IsDatabase}
 use Rattle.sqlite.specs.Files.{AreFoundIn, HoldsDatabase}
 use Rattle.sqlite.specs.State.{State}
 use Rattle.sqlite.specs.Tree.{Trees}
 use Rattle.clear_book.specs.Tables.{Tables}
-use Rattle.clear_schema.specs.Held.{HasObjects, HasOtherLayout, HasTables, StandsFor, StandsOtherwise, TellsAs, TellsSchema}
+use Rattle.clear_schema.specs.Held.{HasObjects, HasOtherLayout, HasTables, StandsFor, StandsOtherwise, TellsAs, TellsSchema, this_schema}
 use Rattle.clear_schema.specs.Schema.{no_schema, this_layout}
 use Rattle.clear_disk.specs.Seen.{SeesIn}
-use Rattle.clear_disk.proofs.SeenLemmas.{bare_seen}
+use Rattle.clear_disk.proofs.SeenLemmas.{bare_seen, nothing_seen}
+use Rattle.clear_database.specs.Opening.{IsBelowZero, TellsNoNumber, TellsNumberOrNone}
 use Rattle.clear_database.specs.Still.{IsStill}
-use Rattle.clear_database.proofs.OpenLemmas.{is_seen, other_seen, tells_seen}
-use Rattle.clear_host.specs.Contents.{HasJust, HaveObjects, HoldsNone, HoldsObjects, HoldsOtherLayout, HoldsSchema, HoldsStore}
+use Rattle.clear_database.proofs.OpenLemmas.{is_seen, other_seen, tells_as, tells_seen}
+use Rattle.clear_host.specs.Contents.{AreBlameless, HasJust, HaveObjects, HoldsBelowZero, HoldsNoNumber, HoldsNone, HoldsNumberOrNone, HoldsObjects, HoldsOtherLayout, HoldsSchema, HoldsStore}
+
+-- a database with this property, that an open finds by its trees
+abbrev IsSound : (Database → Type 0) → Database → Type 0
+IsSound P db = P db × IsDatabase db
+
+-- the trees are those of such a database
+abbrev HaveSound : (Database → Type 0) → Trees → Type 0
+HaveSound P trees = (db : Database) × IsSound P db × (trees ≡ db.trees)
+
+-- blameless files tell a number or none
+pub blameless_numbered : (image : Image) → AreBlameless image → HoldsNumberOrNone image
+blameless_numbered image (inl none) = inl none
+blameless_numbered image (inr (inl (number, holds, other))) = inr (number, holds)
+blameless_numbered image (inr (inr (t, (trees, holds, stands), good))) = inr (this_schema, (trees, holds, tells_as this_layout t trees stands))
 
 module _ (image : Image) (s : State) (seen : SeesIn image s) where
   -- the store that the files hold
@@ -27,6 +42,22 @@ module _ (image : Image) (s : State) (seen : SeesIn image s) where
   told_seen number (trees, holds, tells) =
       let there : TellsAs number s.committed.trees = subst (TellsAs number) (sym (seen.holds trees holds)) tells in
       (there, tells_seen number s seen.opened.0.clean seen.opened.1 seen.opened.0.is_open there)
+
+  -- what else their database is
+  one_seen : (P : Database → Type 0) (db : Database) → HoldsDatabase image db.trees → P db → IsDatabase db → P s.now
+  one_seen P db holds is sound =
+      (is_seen (IsSound P) (λ _ it. it.1) s seen.opened.0.clean seen.opened.1 seen.opened.0.is_open (subst (HaveSound P) (sym (seen.holds db.trees holds)) (db, (is, sound), refl))).0
+
+  pub unnumbered_seen : HoldsNoNumber image → TellsNoNumber s.now
+  unnumbered_seen (inl nothing) = inl (nothing_seen image s seen nothing)
+  unnumbered_seen (inr (db, holds, is, sound)) = one_seen TellsNoNumber db holds is sound
+
+  pub below_seen : HoldsBelowZero image → IsBelowZero s.now
+  below_seen (db, holds, is, sound) = one_seen IsBelowZero db holds is sound
+
+  pub number_seen : HoldsNumberOrNone image → TellsNumberOrNone s.now
+  number_seen (inl none) = inl (unnumbered_seen none)
+  number_seen (inr (number, holds)) = inr (number, (told_seen number holds).1)
 
   -- or that it has a table, an index or a view
   pub objects_seen : HoldsObjects image → s.now.schema ≢ no_schema

@@ -3,8 +3,8 @@
 use Rattle.std.specs.Prelude.{◌≡◌, ◌≢◌, ◌⊎◌, ⊤, ℕ, IfSome, IsTrue, MatchOption, None}
 use Rattle.sqlite_wal.specs.Recovery.{Image}
 use Rattle.sqlite.specs.declared.error.Error.{Error}
-use Rattle.sqlite.specs.Effect.{Database}
-use Rattle.sqlite.specs.Files.{AreFoundIn, HoldsDatabase}
+use Rattle.sqlite.specs.Effect.{Database, IsDatabase}
+use Rattle.sqlite.specs.Files.{AreFoundIn, HoldsDatabase, IsNothing}
 use Rattle.sqlite.specs.Held.{state}
 use Rattle.sqlite.specs.State.{HasCleanDisk, State}
 use Rattle.sqlite.specs.Store.{Ghosts}
@@ -14,11 +14,14 @@ use Rattle.clear_book.specs.Book.{Book}
 use Rattle.clear_book.specs.Tables.{Tables}
 use Rattle.clear_schema.specs.Faults.{IsOfDisk, fault_of, other_layout}
 use Rattle.clear_schema.specs.Held.{HasObjects, HasTables, StandsAs, StandsOtherwise, TellsAs}
-use Rattle.clear_schema.specs.Schema.{Layout, no_schema, this_layout}
+use Rattle.clear_schema.specs.Schema.{Layout, no_schema, this_layout, this_schema}
+use Rattle.clear_schema.specs.Values.{counts_of}
 use Rattle.clear_schema.specs.declared.fault.Fault.TheVariants.{Memory}
 use Rattle.clear_schema.specs.declared.fault.OpenFault.{OpenFault}
 use Rattle.clear_schema.specs.declared.fault.OpenFault.TheVariants.{WrongVersion, Failed}
+use Rattle.clear_database.specs.Opening.{IsBelowZero, TellsNoNumber}
 use Rattle.clear_disk.specs.Seen.{IsUnmade}
+use Rattle.clear_firms.specs.Counts.{AreCounts}
 use Rattle.clear_host.specs.Hindrances.{hindrance_of}
 use Rattle.clear_host.specs.declared.offices.NotOpened.{NotOpened}
 
@@ -30,6 +33,20 @@ HoldsStore layout t image = (trees : Trees) × HoldsDatabase image trees × Stan
 abbrev pub HoldsSchema : ℕ → Image → Type 0
 HoldsSchema number image =
     (trees : Trees) × HoldsDatabase image trees × TellsAs number trees
+
+-- they hold nothing, or a database that is empty or has a `meta` without a row
+abbrev pub HoldsNoNumber : Image → Type 0
+HoldsNoNumber image = IsNothing image
+    ⊎ ((db : Database) × HoldsDatabase image db.trees × TellsNoNumber db × IsDatabase db)
+
+-- they hold a database with a `meta` whose number is below 0
+abbrev pub HoldsBelowZero : Image → Type 0
+HoldsBelowZero image =
+    (db : Database) × HoldsDatabase image db.trees × IsBelowZero db × IsDatabase db
+
+-- they hold a database that tells the number of its schema, or none
+abbrev pub HoldsNumberOrNone : Image → Type 0
+HoldsNumberOrNone image = HoldsNoNumber image ⊎ ((number : ℕ) × HoldsSchema number image)
 
 -- the trees are those of a database with a table, an index or a view
 abbrev pub HaveObjects : Trees → Type 0
@@ -47,6 +64,15 @@ HoldsOtherLayout image = (trees : Trees) × HoldsDatabase image trees × StandsO
 -- they hold a store of this program, with the tables of the book, its pieces with them
 abbrev pub HoldsBook : Book → Image → Type 0
 HoldsBook b image = (t : Tables) × Represents b t × HoldsStore this_layout t image
+
+-- they hold a store of this program, and its counts are in their ranges, as a lawful book's are
+abbrev pub HoldsCounted : Image → Type 0
+HoldsCounted image = (t : Tables) × HoldsStore this_layout t image × AreCounts (counts_of t)
+
+-- they hold such a store, or a database that tells the number of another schema, or none
+abbrev pub AreBlameless : Image → Type 0
+AreBlameless image = HoldsNoNumber image
+    ⊎ (((number : ℕ) × HoldsSchema number image × (number ≢ this_schema)) ⊎ HoldsCounted image)
 
 -- no database has been made of them yet, or they recover to one that has no table, index or view
 abbrev pub HoldsNone : Image → Type 0
@@ -71,6 +97,11 @@ TellsOther fault = fault ≢ Failed Memory → fault ≡ other_layout
 abbrev pub BlamesNone : OpenFault → Type 0
 BlamesNone (WrongVersion told) = ⊤
 BlamesNone (Failed fault) = IsOfDisk fault
+
+-- where it has tables with counts in their ranges, no key and no row is to blame for the fault
+abbrev pub BlamesCounts : State → OpenFault → Type 0
+BlamesCounts s fault =
+    (t : Tables) → HasTables t s.now → AreCounts (counts_of t) → BlamesNone fault
 
 -- where the files were opened and their database was not taken, and the disk has so far returned
 -- what was written, the fault is so

@@ -1,29 +1,32 @@
 -- Why an office over a store in files is opened, and why it is not, by what the two files hold.
 use Rattle.std.specs.Prelude.{◌≡◌, ◌≢◌, ℕ, List}
-use Rattle.sqlite.specs.Files.{AreFoundIn, HoldsDatabase, IsNothing}
+use Rattle.sqlite.specs.Files.{AreFoundIn, HoldsDatabase}
 use Rattle.sqlite.specs.Store.{Ghosts}
 use Rattle.sqlite.specs.Tree.{Trees}
 use Rattle.sqlite_wal.specs.Recovery.{Image}
 use Rattle.clear_money.specs.Rates.{Rate}
 use Rattle.clear_book.specs.Book.{Book, first_book}
 use Rattle.clear_book.specs.Tables.{Tables}
-use Rattle.clear_schema.specs.Faults.{IsWrong}
+use Rattle.clear_schema.specs.Faults.{IsWrong, TellsOutOfRange}
 use Rattle.clear_database.specs.First.{first_tables}
 use Rattle.clear_schema.specs.Held.{HasTables, TellsAs, this_schema}
 use Rattle.clear_schema.specs.Schema.{this_layout}
 use Rattle.clear_database.specs.Still.{Holds}
 use Rattle.clear_office.specs.Office.{Keeps}
-use Rattle.clear_host.specs.Contents.{HoldsBook, HoldsOtherLayout, HoldsSchema, HoldsStore}
-use Rattle.clear_host.specs.Contents.{HasJust, IfOpen, IfRefused, TellsOnly, TellsOther}
+use Rattle.clear_host.specs.Contents.{AreBlameless, BlamesNone, HasJust, HoldsBelowZero, HoldsBook}
+use Rattle.clear_host.specs.Contents.{HoldsNoNumber, HoldsOtherLayout, HoldsSchema, HoldsStore, IfOpen}
+use Rattle.clear_host.specs.Contents.{IfRefused, TellsOnly, TellsOther}
 use Rattle.clear_host.specs.declared.offices.NotOpened.{NotOpened}
 use Rattle.clear_host.specs.declared.offices.Opened.{Opened}
 
--- they recover to a database, and to none of another schema or with other tables or indexes
+-- they recover to a database, and to none of another schema, with other tables or indexes, or without
+-- a number from 0 on
 pub record IsOurs (image : Image) : Type 0 where
   pub recovers : (trees : Trees) × AreFoundIn image trees
   pub only_this : (number : ℕ) → HoldsSchema number image → number ≡ this_schema
   pub not_other : ¬ HoldsOtherLayout image
-  pub only_stores : ¬ IsNothing image
+  pub only_stores : ¬ HoldsNoNumber image
+  pub not_below_zero : ¬ HoldsBelowZero image
 
 -- the office keeps the book that they hold, and has the tables that they hold and their ledger day,
 -- whatever these are
@@ -39,12 +42,15 @@ pub record IsNewOffice {S : Type 0} (g : Ghosts S) (rates : List Rate) (opened :
     pub created : Holds g opened.office.conn (first_tables rates)
     pub keeps : Keeps g opened.office (first_book rates)
 
--- the refusal tells that they hold another schema, other tables or indexes, or nothing, where they do
+-- the refusal tells that they hold another schema, other tables or indexes, a number below 0, or none,
+-- where they do; and where they are blameless, no key and no row is to blame for it
 pub record TellsOf {S : Type 0} (g : Ghosts S) (image : Image) (refused : NotOpened S) : Type 0 where
   pub version : (number : ℕ) → HoldsSchema number image
       → IfRefused g (IsWrong this_schema number) refused
   pub other : HoldsOtherLayout image → IfRefused g TellsOther refused
-  pub empty : IsNothing image → IfRefused g (TellsOnly 0) refused
+  pub empty : HoldsNoNumber image → IfRefused g (TellsOnly 0) refused
+  pub below_zero : HoldsBelowZero image → IfRefused g TellsOutOfRange refused
+  pub cause : AreBlameless image → IfRefused g BlamesNone refused
 
 -- the refusal leaves what they hold: the tables of a store of this program, and a database of another
 -- schema as it was

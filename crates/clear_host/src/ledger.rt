@@ -1,10 +1,13 @@
 //! The ledger day of a store: the day of its last accepted request.
-ghost use Rattle.std.specs.Prelude.{◌≡◌, false, IfOk, IsTrue, OnErr, OnOk};
+ghost use Rattle.std.specs.Prelude.{◌≡◌, false, IfErr, IfOk, IsTrue, OnErr, OnOk};
 ghost use Rattle.sqlite.specs.Held.{state};
 ghost use Rattle.sqlite.specs.State.{HasCleanDisk};
 ghost use Rattle.clear_book.specs.Tables.{Tables};
+ghost use Rattle.clear_schema.specs.Faults.{IsOfDisk};
 ghost use Rattle.clear_schema.specs.Held.{HasTables};
+ghost use Rattle.clear_schema.specs.Values.{counts_of};
 ghost use Rattle.clear_database.specs.Still.{Holds};
+ghost use Rattle.clear_firms.specs.Counts.{AreCounts};
 
 use clear_database::body::{Body, Stop, within};
 use clear_database::store::Store;
@@ -27,6 +30,10 @@ pub(crate) fn ledger_day<S: Alter>(store: &mut Store<S>) -> Result<Option<Day>, 
     ensures kept { HasCleanDisk (state S.Store store.new.conn)
         → (t : Tables) → HasTables t (state S.Store store.old.conn).now
         → OnOk result (Holds S.Store store.new.conn t) }
+    // Where the counts are in their ranges, no key and no row is to blame for a fault.
+    ensures cause { HasCleanDisk (state S.Store store.new.conn)
+        → (t : Tables) → HasTables t (state S.Store store.old.conn).now
+        → AreCounts (counts_of t) → IfErr result IsOfDisk }
     ensures rests { HasCleanDisk (state S.Store store.new.conn)
         → (t : Tables) → HasTables t (state S.Store store.old.conn).now
         → IsTrue (state S.Store store.new.conn).is_open
@@ -48,6 +55,9 @@ struct LedgerDay;
 
 impl Body for LedgerDay {
     ghost use Rattle.std.specs.Prelude.{◌≡◌};
+    ghost use Rattle.clear_schema.specs.Faults.{IsOfDisk};
+    ghost use Rattle.clear_schema.specs.Values.{counts_of};
+    ghost use Rattle.clear_firms.specs.Counts.{AreCounts};
 
     type Out = Option<Day>;
 
@@ -57,7 +67,7 @@ impl Body for LedgerDay {
 
     ghost refuses = { λ self t why. ⊥ };
 
-    ghost fails = { λ self t fault. Unit {0} };
+    ghost fails = { λ self t fault. AreCounts (counts_of t) → IsOfDisk fault };
 
     fn run<S: Alter>(self, tx: &mut Transaction<'_, S>) -> Result<Option<Day>, Stop<Infallible>> {
         match find_counts(tx) {

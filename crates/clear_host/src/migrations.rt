@@ -10,7 +10,8 @@ ghost use Rattle.clear_book.specs.Tables.{Tables};
 ghost use Rattle.clear_schema.specs.Held.{HasTables, TellsAs};
 ghost use Rattle.clear_schema.specs.Schema.{this_layout};
 ghost use Rattle.clear_disk.specs.Seen.{Sees};
-ghost use Rattle.clear_host.specs.Contents.{HasJust, HoldsStore, IsWhyUnopened, LeavesSchema};
+ghost use Rattle.clear_host.specs.Contents.{BlamesNone, HasJust, HoldsNumberOrNone, HoldsStore};
+ghost use Rattle.clear_host.specs.Contents.{IfRefused, IsWhyUnopened, LeavesSchema};
 ghost use Rattle.clear_host.specs.Offices.{IsOurs, TellsOf};
 
 use crate::offices::NotOpened;
@@ -46,6 +47,9 @@ pub fn bring_to_current<S: Start>(
     ensures ours { IfOk result (λ brought. HasCleanDisk (state over_files brought.connection)
         → IsOurs (image_at S.Start)) }
     ensures tells { IfErr result (TellsOf over_files (image_at S.Start)) }
+    // No key and no row is to blame, whatever the counts.
+    ensures cause { HoldsNumberOrNone (image_at S.Start)
+        → IfErr result (IfRefused over_files BlamesNone) }
     ensures unopened { IfErr result IsWhyUnopened }
     ensures rests { IfErr result (LeavesSchema over_files (image_at S.Start)) }
     ensures still { IfOk result (λ brought. HasCleanDisk (state over_files brought.connection)
@@ -70,6 +74,8 @@ fn bring<S: Alter>(connection: Connection<S>) -> Result<Brought<S>, NotOpened<S>
         → IsOurs image) }
     ensures tells { (image : Image) → Sees S.Store image connection
         → IfErr result (TellsOf S.Store image) }
+    ensures cause { (image : Image) → Sees S.Store image connection → HoldsNumberOrNone image
+        → IfErr result (IfRefused S.Store BlamesNone) }
     ensures unopened { IfErr result IsWhyUnopened }
     ensures rests { (image : Image) → Sees S.Store image connection
         → IfErr result (LeavesSchema S.Store image) }

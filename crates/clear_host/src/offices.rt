@@ -10,15 +10,17 @@ ghost use Rattle.sqlite_wal.specs.Recovery.{Image};
 ghost use Rattle.clear_book.specs.Allocated.{Represents};
 ghost use Rattle.clear_book.specs.Book.{Book};
 ghost use Rattle.clear_book.specs.Tables.{Tables};
+ghost use Rattle.clear_schema.specs.Faults.{TellsOutOfRange};
 ghost use Rattle.clear_schema.specs.Held.{HasTables};
 ghost use Rattle.clear_schema.specs.Schema.{this_layout};
 ghost use Rattle.clear_disk.specs.Seen.{Sees};
 ghost use Rattle.clear_database.specs.Still.{Holds};
 ghost use Rattle.clear_office.specs.Office.{IsHonest, Keeps};
-ghost use Rattle.clear_host.specs.Contents.{BlamesNone, HoldsNone, HoldsObjects, HoldsSchema};
-ghost use Rattle.clear_host.specs.Contents.{HoldsStore};
-ghost use Rattle.clear_host.specs.Contents.{IfOpen, IfRefused, IsBare, IsWhyUnopened, KeepsTables, LeavesSchema};
-ghost use Rattle.clear_host.specs.Contents.{TellsNone, TellsOnly};
+ghost use Rattle.clear_host.specs.Contents.{BlamesCounts, BlamesNone, HoldsBelowZero};
+ghost use Rattle.clear_host.specs.Contents.{HoldsNoNumber, HoldsNone, HoldsNumberOrNone};
+ghost use Rattle.clear_host.specs.Contents.{HoldsObjects, HoldsSchema, HoldsStore, IfOpen};
+ghost use Rattle.clear_host.specs.Contents.{IfRefused, IsBare, IsWhyUnopened, KeepsTables};
+ghost use Rattle.clear_host.specs.Contents.{LeavesSchema, TellsNone, TellsOnly};
 ghost use Rattle.clear_host.specs.Offices.{IsNewOffice, IsOfficeOver, IsOurs, Leaves, TellsOf};
 
 use crate::hindrance::Hindrance;
@@ -83,7 +85,11 @@ pub(crate) fn new_office<S: Alter>(
         → IfErr result (IfRefused S.Store TellsNone) }
     ensures undone { (image : Image) → Sees S.Store image connection → IsNothing image
         → IfErr result (IfOpen S.Store IsBare) }
-    ensures cause { (image : Image) → Sees S.Store image connection → IsNothing image
+    ensures no_number { (image : Image) → Sees S.Store image connection → HoldsNoNumber image
+        → IfErr result (IfRefused S.Store (TellsOnly 0)) }
+    ensures below_zero { (image : Image) → Sees S.Store image connection → HoldsBelowZero image
+        → IfErr result (IfRefused S.Store TellsOutOfRange) }
+    ensures cause { (image : Image) → Sees S.Store image connection → HoldsNumberOrNone image
         → IfErr result (IfRefused S.Store BlamesNone) }
     ensures unopened { IfErr result IsWhyUnopened }
     ensures rests { (image : Image) → Sees S.Store image connection
@@ -161,6 +167,7 @@ fn confirm<S: Alter>(store: Store<S>) -> Result<Store<S>, NotOpened<S>>
     ensures clean { IfOk result (λ confirmed. HasCleanDisk (state S.Store confirmed.conn)
         → HasCleanDisk (state S.Store store.conn)) }
     ensures untold { IfErr result (IfRefused S.Store TellsNone) }
+    ensures cause { IfErr result (IfRefused S.Store BlamesNone) }
     ensures unopened { IfErr result IsWhyUnopened }
     ensures clean_left { IfErr result (IfRefused S.Store (λ fault.
         HasCleanDisk (state S.Store store.conn))) }
@@ -193,6 +200,7 @@ fn office_over<S: Alter>(alloc: Global, store: Store<S>) -> Result<Opened<S>, No
         → (t : Tables) → HasTables t (state S.Store store.conn).now
         → opened.ledger_day ≡ t.day) }
     ensures untold { IfErr result (IfRefused S.Store TellsNone) }
+    ensures cause { IfErr result (IfRefused S.Store (BlamesCounts (state S.Store store.conn))) }
     ensures unopened { IfErr result IsWhyUnopened }
     ensures clean_left { IfErr result (IfRefused S.Store (λ fault.
         HasCleanDisk (state S.Store store.conn))) }

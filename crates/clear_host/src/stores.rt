@@ -8,10 +8,12 @@ ghost use Rattle.sqlite.specs.Files.{over_files, IsNothing};
 ghost use Rattle.sqlite_wal.specs.Files.{image_at};
 ghost use Rattle.clear_book.specs.Book.{first_book};
 ghost use Rattle.clear_book.specs.Machine.{IsLawful};
+ghost use Rattle.clear_schema.specs.Faults.{TellsOutOfRange};
 ghost use Rattle.clear_office.specs.Office.{IsHonest};
-ghost use Rattle.clear_host.specs.Contents.{BlamesNone, HoldsNone, HoldsObjects, HoldsSchema, IfOpen};
-ghost use Rattle.clear_host.specs.Contents.{IfRefused, IsBare, IsWhyUnopened, LeavesSchema, TellsNone};
-ghost use Rattle.clear_host.specs.Contents.{TellsOnly};
+ghost use Rattle.clear_host.specs.Contents.{BlamesNone, HoldsBelowZero, HoldsNoNumber, HoldsNone};
+ghost use Rattle.clear_host.specs.Contents.{HoldsNumberOrNone, HoldsObjects, HoldsSchema, IfOpen};
+ghost use Rattle.clear_host.specs.Contents.{IfRefused, IsBare, IsWhyUnopened, LeavesSchema};
+ghost use Rattle.clear_host.specs.Contents.{TellsNone, TellsOnly};
 ghost use Rattle.clear_host.specs.Offices.{IsNewOffice, IsOfficeOver, Leaves, TellsOf};
 
 use crate::offices::{NotOpened, Opened, find_office, new_office};
@@ -30,7 +32,8 @@ const OWNER_ALONE: u32 = 0o600;
 /// Makes a store without requests, with these opening rates, and an office over it, at a path where
 /// no file is, or an empty one, or one that an earlier call left half made. A database that has a
 /// table, an index or a view is refused: where it tells the number of a schema, by `WrongVersion` with
-/// that one, and it is left as it was. A refusal leaves an empty file without tables.
+/// that one, and it is left as it was. A refusal leaves an empty file without tables. It blames no key
+/// and no row where the files hold nothing, or a database that tells a number or none.
 ///
 /// A file that is made can be read and written by its owner alone, and its log too.
 pub fn create_office<S: Start>(
@@ -54,7 +57,12 @@ pub fn create_office<S: Start>(
     ensures empty { IsNothing (image_at S.Start)
         → IfErr result (IfRefused over_files TellsNone) }
     ensures undone { IsNothing (image_at S.Start) → IfErr result (IfOpen over_files IsBare) }
-    ensures cause { IsNothing (image_at S.Start) → IfErr result (IfRefused over_files BlamesNone) }
+    ensures no_number { HoldsNoNumber (image_at S.Start)
+        → IfErr result (IfRefused over_files (TellsOnly 0)) }
+    ensures below_zero { HoldsBelowZero (image_at S.Start)
+        → IfErr result (IfRefused over_files TellsOutOfRange) }
+    ensures cause { HoldsNumberOrNone (image_at S.Start)
+        → IfErr result (IfRefused over_files BlamesNone) }
     ensures unopened { IfErr result IsWhyUnopened }
     ensures rests { IfErr result (LeavesSchema over_files (image_at S.Start)) }
 {
@@ -70,7 +78,8 @@ pub fn create_office<S: Start>(
 /// Where no file is, none is made. Where the file holds no store of this program, `WrongVersion`
 /// with the number of its schema, 0 without one; where that is our number, but its tables or indexes
 /// are others than ours, `Failed(Fault::Store(StoreCause::Other))`. A refusal leaves a store its tables,
-/// and a database of another schema as it was.
+/// and a database of another schema as it was. Of a store whose counts are in their ranges, and of a
+/// database of another schema or without a number, it blames no key and no row.
 pub fn open_office<S: Start>(
     rt: &HostRuntime,
     path: &str,

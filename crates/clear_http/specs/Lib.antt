@@ -1,3 +1,4 @@
+pub mod Ahead
 pub mod Desk
 pub mod Guarded
 pub mod Serve

@@ -14,7 +14,7 @@ use Rattle.clear_answers.specs.Said.{by_stream, refused_by}
 use Rattle.clear_wire.specs.Cut.{left_after, left_after_all, IsAnswered, Cuts, IsCut, BeginsCut}
 use Rattle.clear_wire.specs.Head.{Heading}
 use Rattle.clear_wire.specs.Known.{Leads}
-use Rattle.clear_wire.specs.Limits.{request_limit}
+use Rattle.clear_wire.specs.Limits.{chunk_size, request_limit}
 use Rattle.clear_wire.specs.Method.{is_head}
 use Rattle.clear_wire.specs.Stream.{NextItem, whole, bad, ended, Next}
 use Rattle.clear_http.specs.declared.serve.Fault.TheVariants.{Write}
@@ -105,6 +105,20 @@ TellsFailed written written' (Ok served) =
 TellsFailed written written' (Err fault) =
     (fault.fault ≡ Write) × (fault.answered ≡ 0) × (part : List ℕ) × (rest : List ℕ)
     × (failed_answer ≡ part ++ rest) × (0 < length rest) × Appends written written' part
+
+-- so many items of the bytes are answered, and these are left to be read: behind the items fewer were
+-- read than one read asks for, unless no further item is there
+abbrev pub IsReadTo : ℕ → List ℕ → List ℕ → Type 0
+IsReadTo count bytes left =
+    (items : List NextItem) × (rest : List ℕ) × Cuts request_limit bytes items rest
+    × (count ≡ length items)
+    × (((end : List ℕ) × Next rest ended end)
+    ⊎ ((ahead : List ℕ) × (rest ≡ ahead ++ left) × (length ahead < chunk_size)))
+
+-- where the bytes are known, before and now
+abbrev pub StandsBehind : ℕ → Option (List ℕ) → Option (List ℕ) → Type 0
+StandsBehind count bytes bytes' =
+    IfSome bytes (λ before. IfSome bytes' (λ left. IsReadTo count before left))
 
 module _ {H : Type 0} (responds : H → Heading → List ℕ → Said → H → Type 0) where
   -- a request is answered; a rule that ends the stream is told, or, in its place, want of memory

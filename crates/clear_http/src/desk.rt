@@ -10,7 +10,7 @@ ghost use Rattle.clear_routes.specs.Reading.{Reads};
 ghost use Rattle.clear_answers.specs.Said.{said_of};
 ghost use Rattle.clear_http.specs.Desk.{MaySay, MayServe};
 ghost use Rattle.clear_http.specs.Guarded.{Guards};
-ghost use Rattle.clear_http.specs.Serve.{Serves, ServesPart, TellsFailed};
+ghost use Rattle.clear_http.specs.Serve.{Serves, ServesPart, StandsBehind, TellsFailed};
 ghost use Rattle.clear_http.specs.Served.{IsServed, IsServedPart};
 
 use crate::serve::{Fault, Responder, ServeFault, Served, serve_stream, tell_failed};
@@ -78,9 +78,10 @@ fn said_of(outcome: Outcome) -> Said
 /// reads as a call for which access says no is answered by `NotYours`, or by `Memory`.
 ///
 /// After a fault, what was written is the answers to the first requests, so many as the fault says,
-/// and a front of the next one's that isn't all of it. `Read` and `Write` come only where a call of
-/// this reader or writer failed, `Reads` only after 1,000,000 reads of this reader, and the other
-/// faults only where no call failed. However it ends, it makes no more reads than these.
+/// and a front of the next one's that isn't all of it. `Read` comes just where a call of this reader
+/// failed, `Write` just where one of this writer did, and `Reads` only after 1,000,000 reads of this
+/// reader. However it ends, it makes no more reads than these. Behind the last request that was
+/// answered, fewer bytes are read than one read asks for, where a further one might come.
 pub fn serve<S: Alter, R: RequestRead, W: Write>(
     alloc: Global,
     office: &mut Office<S>,
@@ -130,6 +131,9 @@ pub fn serve<S: Alter, R: RequestRead, W: Write>(
         (R.remaining (inner reader.old))
         (W.contents (inner writer.old)) (W.contents (inner writer.new))
         office.new.failed fault.answered) }
+    ensures place { office.old.failed ≡ false
+        → IfOk result (λ served. StandsBehind served.requests
+        (R.remaining (inner reader.old)) (R.remaining (inner reader.new))) }
     ensures read_failed { IfErr result (λ fault. fault.fault ≡ Fault.Read
         → has_failed reader.new ≡ true) }
     ensures write_failed { IfErr result (λ fault. fault.fault ≡ Fault.Write
@@ -137,10 +141,10 @@ pub fn serve<S: Alter, R: RequestRead, W: Write>(
     ensures too_many_reads { IfErr result (λ fault. fault.fault ≡ Fault.Reads
         → reads_of reader.new ≡ reads_of reader.old + read_limit) }
     ensures few_reads { reads_of reader.new ≤ reads_of reader.old + read_limit }
-    ensures reader_well { IfErr result (λ fault. fault.fault ≢ Fault.Read
-        → has_failed reader.new ≡ false) }
-    ensures writer_well { IfErr result (λ fault. fault.fault ≢ Fault.Write
-        → has_failed writer.new ≡ false) }
+    ensures reader_well { IfErr result (λ fault. fault.fault ≢ Fault.Read)
+        → has_failed reader.new ≡ false }
+    ensures writer_well { IfErr result (λ fault. fault.fault ≢ Fault.Write)
+        → has_failed writer.new ≡ false }
 {
     if office.failed() {
         return tell_failed(writer);

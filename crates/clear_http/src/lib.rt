@@ -3,10 +3,10 @@
 //!
 //! What was written is the answers to the items of the stream, which its bytes alone decide. After
 //! a fault it is those to the first items, whole, and a front of the next one's that isn't all of
-//! it: an answer that went out whole is counted. `Read` and `Write` come only where a call of this
-//! reader or writer failed, `Reads` only after all reads that a stream may make, `Memory` only
-//! where none of these is. Where a rule ended the stream it is told so, since bytes behind it
-//! weren't read. The loop knows nothing of the trade: it goes by what a `Responder` may say.
+//! it: an answer that went out whole is counted. `Read` and `Write` come just where a call of this
+//! reader or writer failed, `Reads` only after all reads that a stream may make. Where a rule ended
+//! the stream it is told so, since bytes behind it weren't read. The loop knows nothing of the trade:
+//! it goes by what a `Responder` may say.
 //!
 //! `desk::serve` is that loop over an office, with the keys of its callers, on one day. Whatever
 //! lawful book the store stands for, what is said to the requests of a stream are the answers of

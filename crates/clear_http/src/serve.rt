@@ -4,7 +4,8 @@ ghost use Rattle.std.specs.Prelude.{length, IfOk, IfErr, IfSome, IfNone, OnOk, O
 ghost use Rattle.std.specs.Io.KnownBytes.{Appends};
 ghost use Rattle.clear_answers.specs.Answer.{answer_of};
 ghost use Rattle.clear_wire.specs.Counted.{inner, has_failed, reads_of};
-ghost use Rattle.clear_wire.specs.Input.{stream, reads_made, failed_of, CountsReads, KeepsBorrow};
+ghost use Rattle.clear_wire.specs.Input.{stream, reader_of, unused_of, reads_made, failed_of};
+ghost use Rattle.clear_wire.specs.Input.{CountsReads, KeepsBorrow};
 ghost use Rattle.clear_wire.specs.Known.{Leads};
 ghost use Rattle.clear_wire.specs.Limits.{read_limit};
 ghost use Rattle.clear_wire.specs.Request.{next_item};
@@ -12,7 +13,8 @@ ghost use Rattle.clear_wire.specs.Parsed.{heading};
 ghost use Rattle.clear_wire.specs.Stream.{ended, whole, Next};
 ghost use Rattle.clear_http.specs.Serve.{is_bad, is_bare, was_done, ends_stream, left_then};
 ghost use Rattle.clear_http.specs.Serve.{AnswersOne, BreaksOff, Serves, ServesPart};
-ghost use Rattle.clear_http.specs.Serve.{MaySend, TellsFailed};
+ghost use Rattle.clear_http.specs.Ahead.{HoldsFew};
+ghost use Rattle.clear_http.specs.Serve.{MaySend, StandsBehind, TellsFailed};
 
 use clear_answers::answer::{answer_bytes, failed_text, memory_text};
 use clear_answers::said::{Refused, Said};
@@ -125,6 +127,8 @@ pub(crate) fn tell_failed<W: Write>(writer: &mut Counted<W>) -> Result<Served, S
         result }
     ensures failed { IfErr result (λ fault.
         (fault.fault ≡ Fault.Write) × (has_failed writer.new ≡ true)) }
+    ensures well { IfErr result (λ fault. fault.fault ≢ Fault.Write)
+        → has_failed writer.new ≡ false }
 {
     match write_all(writer, failed_text()) {
         Ok(()) => Ok(Served {
@@ -234,6 +238,7 @@ fn turn<T, H: Responder<T>, R: NotedRead, W: Write>(
     ensures fault { OnErr result (BreaksOff (H.responds responder.now) left state.old
         (stream R.remaining input.old)
         (W.contents (inner writer.old)) (W.contents (inner writer.new)) state.new) }
+    ensures held { HoldsFew input.old → HoldsFew input.new }
     ensures borrow { KeepsBorrow R.noted input.old input.new }
     ensures counts { CountsReads R.noted input.old input.new }
     ensures read { result ≡ Err Fault.Read → failed_of R.noted input.new ≡ true }
@@ -275,18 +280,21 @@ fn serve_input<T, H: Responder<T>, R: NotedRead, W: Write>(
         (stream R.remaining input.old)
         (W.contents (inner writer.old)) (W.contents (inner writer.new))
         state.new fault.answered) }
+    ensures place { unused_of input.old ≡ [] → IfOk result (λ served.
+        StandsBehind served.requests
+        (stream R.remaining input.old) (R.remaining (reader_of input.new))) }
     ensures borrow { KeepsBorrow R.noted input.old input.new }
     ensures counts { CountsReads R.noted input.old input.new }
     ensures read { IfErr result (λ fault. fault.fault ≡ Fault.Read
         → failed_of R.noted input.new ≡ true) }
     ensures reads { IfErr result (λ fault. fault.fault ≡ Fault.Reads
         → reads_made input.new ≡ read_limit) }
-    ensures reader { IfErr result (λ fault. fault.fault ≢ Fault.Read
-        → failed_of R.noted input.new ≡ failed_of R.noted input.old) }
+    ensures reader { IfErr result (λ fault. fault.fault ≢ Fault.Read)
+        → failed_of R.noted input.new ≡ failed_of R.noted input.old }
     ensures write { IfErr result (λ fault. fault.fault ≡ Fault.Write
         → has_failed writer.new ≡ true) }
-    ensures writer { IfErr result (λ fault. fault.fault ≢ Fault.Write
-        → has_failed writer.new ≡ has_failed writer.old) }
+    ensures writer { IfErr result (λ fault. fault.fault ≢ Fault.Write)
+        → has_failed writer.new ≡ has_failed writer.old }
 {
     let mut buffer = Vec::new(alloc);
     let mut left = MAX_REQUESTS;
@@ -315,9 +323,10 @@ fn serve_input<T, H: Responder<T>, R: NotedRead, W: Write>(
 ///
 /// What was written is the answers to the items of the stream, whose bytes alone decide it. After a
 /// fault it is those of the first items, so many as the fault says, and a front of the next one's
-/// that isn't all of it. `Read` and `Write` come only where a call of this reader or writer failed,
-/// `Reads` only after 1,000,000 reads of this reader, and the other faults only where no call
-/// failed. However it ends, it makes no more reads than these.
+/// that isn't all of it. `Read` comes just where a call of this reader failed, `Write` just where one
+/// of this writer did, and `Reads` only after 1,000,000 reads of this reader. However it ends, it
+/// makes no more reads than these. Behind the last request fewer bytes are read than one read asks
+/// for, where a further one might come.
 pub fn serve_stream<T, H: Responder<T>, R: RequestRead, W: Write>(
     alloc: Global,
     responder: &H,
@@ -335,6 +344,8 @@ pub fn serve_stream<T, H: Responder<T>, R: RequestRead, W: Write>(
         (R.remaining (inner reader.old))
         (W.contents (inner writer.old)) (W.contents (inner writer.new))
         state.new fault.answered) }
+    ensures place { IfOk result (λ served. StandsBehind served.requests
+        (R.remaining (inner reader.old)) (R.remaining (inner reader.new))) }
     ensures read_failed { IfErr result (λ fault. fault.fault ≡ Fault.Read
         → has_failed reader.new ≡ true) }
     ensures write_failed { IfErr result (λ fault. fault.fault ≡ Fault.Write
@@ -342,10 +353,10 @@ pub fn serve_stream<T, H: Responder<T>, R: RequestRead, W: Write>(
     ensures too_many_reads { IfErr result (λ fault. fault.fault ≡ Fault.Reads
         → reads_of reader.new ≡ reads_of reader.old + read_limit) }
     ensures few_reads { reads_of reader.new ≤ reads_of reader.old + read_limit }
-    ensures reader_well { IfErr result (λ fault. fault.fault ≢ Fault.Read
-        → has_failed reader.new ≡ false) }
-    ensures writer_well { IfErr result (λ fault. fault.fault ≢ Fault.Write
-        → has_failed writer.new ≡ false) }
+    ensures reader_well { IfErr result (λ fault. fault.fault ≢ Fault.Read)
+        → has_failed reader.new ≡ false }
+    ensures writer_well { IfErr result (λ fault. fault.fault ≢ Fault.Write)
+        → has_failed writer.new ≡ false }
 {
     let mut input = Input::new(alloc, reader);
     let result = serve_input(alloc, responder, state, &mut input, writer);

@@ -139,18 +139,18 @@ impl StoredTable for Bank {
     ghost is_in_range = { IsBankRow };
 
     fn read(row: &Row) -> Result<BankRow, Fault> {
-        let line = BankLine {
-            reference: reference_at(row, 0)?,
-            value: day_at(row, 2)?,
-            employer: maybe_employer_at(row, 3)?,
-            cents: amount_at(row, 5)?,
-            purpose: purpose_at(row, 6)?,
-            note: note_at(row, 7)?,
-        };
+        // What owns memory is read last: less is to be dropped where a column is at fault.
         Ok(BankRow {
-            line,
             serial: serial_at(row, 1)?,
             employer: maybe_employer_at(row, 4)?,
+            line: BankLine {
+                value: day_at(row, 2)?,
+                employer: maybe_employer_at(row, 3)?,
+                cents: amount_at(row, 5)?,
+                purpose: purpose_at(row, 6)?,
+                reference: reference_at(row, 0)?,
+                note: note_at(row, 7)?,
+            },
         })
     }
 }

@@ -1,7 +1,7 @@
 -- What follows from the number that a database tells.
-use Rattle.std.proofs.Common.{◌≡◌, inl, inr, ℕ, Bool, true, false, Some, Result, Ok, Err, OnOk, IsTrue, refl, ap}
+use Rattle.std.proofs.Common.{◌≡◌, inl, inr, ℕ, Bool, true, false, Some, Result, Ok, Err, OnOk, IsTrue, refl, ap, subst}
 use Rattle.clear_values.specs.declared.causes.StoreCause.TheVariants.{Row}
-use Rattle.clear_schema.specs.Faults.{IsOfRowOrDisk, IsWrong}
+use Rattle.clear_schema.specs.Faults.{IsOfDisk, IsOfRowOrDisk, IsWrong}
 use Rattle.clear_schema.specs.declared.fault.Fault.{Fault}
 use Rattle.clear_schema.specs.declared.fault.Fault.TheVariants.{Store}
 use Rattle.clear_schema.specs.declared.fault.OpenFault.{OpenFault}
@@ -32,6 +32,15 @@ pub fails_untold : {A : Type 0} (number : A) (this found : ℕ) (fault : OpenFau
 fails_untold number this found (WrongVersion told) (inl same) = absurd cc
 fails_untold number this found (WrongVersion told) (inr (why, disk, same)) = absurd cc
 fails_untold number this found (Failed why) answers = tt
+
+-- where a number or none is told, no key and no row is to blame for an error
+pub told_disk : {A : Type 0} (number : A) (fault : OpenFault) (why : Fault) → AnswersOrFails (Ok number) (Err fault) → fault ≡ Failed why → IsOfDisk why
+told_disk number fault why (inl same) is = absurd cc
+told_disk number fault why (inr (found, disk, same)) is = subst IsOfDisk (let there : found ≡ why = cc in there) disk
+
+pub none_disk : {A : Type 0} (number : ℕ) (fault : OpenFault) (why : Fault) → AnswersOrFails {A = A} (Err (WrongVersion number)) (Err fault) → fault ≡ Failed why → IsOfDisk why
+none_disk number fault why (inl same) is = absurd cc
+none_disk number fault why (inr (found, disk, same)) is = subst IsOfDisk (let there : found ≡ why = cc in there) disk
 
 -- a value out of its range is to blame, or memory, or the disk
 pub row_or_disk : {A : Type 0} (fault : Fault) → IsOfRowOrDisk fault → AnswersOrFails {A = A} (Err (Failed (Store Row))) (Err (Failed fault))

@@ -2,9 +2,10 @@
 ghost use Rattle.std.specs.Prelude.{◌≡◌, ◌≢◌, false, true, ℕ, Ok, Err, IsTrue, IfErr, OnOk};
 ghost use Rattle.sqlite.specs.Held.{state};
 ghost use Rattle.sqlite.specs.State.{HasCleanDisk, Survives};
-ghost use Rattle.clear_schema.specs.Faults.{IsWrong, other_layout};
+ghost use Rattle.clear_schema.specs.Faults.{IsOfDisk, IsWrong, other_layout};
 ghost use Rattle.clear_schema.specs.Held.{HasOtherLayout, TellsSchema, this_schema};
-ghost use Rattle.clear_database.specs.Opening.{HasMetaOrNothing, IsBelowZero, TellsNoNumber};
+ghost use Rattle.clear_database.specs.Opening.{HasMetaOrNothing, IsBelowZero};
+ghost use Rattle.clear_database.specs.Opening.{TellsNoNumber, TellsNumberOrNone};
 ghost use Rattle.clear_schema.specs.Schema.{store_schema};
 ghost use Rattle.clear_database.specs.Still.{IsStill};
 ghost use Rattle.clear_migrate.specs.Answered.{AnswersOrFails};
@@ -82,6 +83,9 @@ pub fn to_current<S: Alter>(conn: &mut Connection<S>) -> Result<Migration, OpenF
     ensures below_zero { HasCleanDisk (state S.Store conn.new)
         → IsBelowZero (state S.Store conn.old).now
         → AnswersOrFails (Err (OpenFault.Failed (Fault.Store StoreCause.Row))) result }
+    ensures cause { HasCleanDisk (state S.Store conn.new)
+        → TellsNumberOrNone (state S.Store conn.old).now
+        → IfErr result (λ fault. (why : Fault) → fault ≡ OpenFault.Failed why → IsOfDisk why) }
     // A store is current only where its number, its tables and its indexes are just those of ours.
     ensures only_this { HasCleanDisk (state S.Store conn.new)
         → (number : ℕ) → TellsSchema number (state S.Store conn.old).now
@@ -109,6 +113,8 @@ fn current_if(number: u64, ours: bool) -> Result<Migration, OpenFault>
     ensures another { number ≢ this_schema → result ≡ Err (OpenFault.WrongVersion number) }
     ensures other { number ≡ this_schema → ours ≡ false → result ≡ Err other_layout }
     ensures version { IfErr result (IsWrong this_schema number) }
+    ensures cause { IfErr result (λ fault. (why : Fault) → fault ≡ OpenFault.Failed why
+        → IsOfDisk why) }
     ensures only_this { OnOk result (number ≡ this_schema) }
     ensures only_ours { OnOk result (IsTrue ours) }
 {

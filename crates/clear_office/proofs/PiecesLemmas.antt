@@ -178,7 +178,7 @@ kept_following day change t v requests pieces charges follows db (Ok u) has = (
   has,
   λ put.
       let then = follows put in
-      record { same = then.same; paid = then.paid; follows = follows_kept t (record v { pieces = pieces; charges = charges }) requests then.follows },
+      record { same = then.same; paid = then.paid; follows = follows_kept t (record v { pieces = pieces; charges = charges }) requests then.follows; others = then.others },
 )
 kept_following day change t v requests pieces charges follows db (Err fault) none = tt
 

@@ -30,7 +30,7 @@ tells_charge row lines charge t false told = λ stands. absurd (cc (told.1 stand
 module _ (change : Change) (t v : Tables) (put : IsPut change t v) where
   -- a change by which no contribution and no credit changes leaves the pieces, and what is open
   pub accounts_stay : (changed change t).charges ≡ t.charges → (changed change t).credits ≡ t.credits → AreFollowing t v v.pieces v.charges
-  accounts_stay charges credits = record { same = refl; paid = λ all. all; follows = accounts_left-follows t v put.pieces (put.charges ∙ charges) (put.credits ∙ credits) }
+  accounts_stay charges credits = record { same = refl; paid = λ all. all; follows = accounts_left-follows t v put.pieces (put.charges ∙ charges) (put.credits ∙ credits); others = λ e alike. refl }
 
   pub other_stays : LeavesAccounts change → AreFollowing t v v.pieces v.charges
   other_stays left = let same = accounts_left change left t in accounts_stay same.0 same.1

@@ -110,15 +110,17 @@ none_taken e month k g keeps charges rows sooner pieces own =
 
 -- ---- pieces of one firm come to those that stand
 
+-- the pieces of another firm stay beside new ones
+pub others_beside : (e f : ℕ) → (e == f) ≡ false → (pieces news : List PieceRow) → AllByRecursion (IsOf e) news
+    → filter (λ row. row.employer == f) (with_rows piece_key pieces news) ≡ filter (λ row. row.employer == f) pieces
+others_beside e f apart pieces news own =
+    filter-with_rows_other piece_key (λ row. row.employer == f) pieces news (each (IsOf e) (λ row. (row.employer == f) ≡ false) (λ row is. ap (λ m. m == f) is ∙ apart) news own)
+
 -- the pieces of another that is left stay
 pub others_stay : (e : ℕ) (firms : List ℕ) → is_among firms e ≡ false → (f : ℕ) → is_among firms f ≡ true → (pieces news : List PieceRow) → AllByRecursion (IsOf e) news
     → filter (λ row. row.employer == f) (with_rows piece_key pieces news) ≡ filter (λ row. row.employer == f) pieces
-others_stay e firms once f is pieces news own =
-    filter-with_rows_other piece_key (λ row. row.employer == f) pieces news (each (IsOf e) (λ row. (row.employer == f) ≡ false) (λ row is. other row.employer is) news own)
+others_stay e firms once f is pieces news own = others_beside e f (apart (e == f) refl) pieces news own
   where
     apart : (b : Bool) → (e == f) ≡ b → (e == f) ≡ false
     apart false h = h
     apart true h = absurd (cc (sym once ∙ ap (is_among firms) (eqb-true e f h) ∙ is))
-
-    other : (n : ℕ) → n ≡ e → (n == f) ≡ false
-    other n is = ap (λ m. m == f) is ∙ apart (e == f) refl

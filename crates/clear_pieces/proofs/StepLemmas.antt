@@ -1,7 +1,7 @@
 -- The pieces of a firm that is left are put, and what is open of its contributions: then one firm less is left.
-use Rattle.std.proofs.Common.{◌≡◌, ℕ, ◌<◌, ◌≤◌, List, [], ◌∷◌, ◌⊎◌, inl, inr, ◌==◌, drop, length, map, false, refl, sym, ap, subst, ◌∙◌}
-use Rattle.std.specs.List.{All, AllByRecursion, Contains}
-use Rattle.std.proofs.lemmas.Bool.{cases_lt, or_right}
+use Rattle.std.proofs.Common.{◌≡◌, ◌≢◌, ℕ, ◌<◌, ◌≤◌, List, [], ◌∷◌, ◌⊎◌, inl, inr, ◌==◌, drop, find, length, map, false, refl, sym, ap, subst, ◌∙◌}
+use Rattle.std.specs.List.{All, AllByRecursion, Any, Contains}
+use Rattle.std.proofs.lemmas.Bool.{cases_lt, ne_eqb, or_right}
 use Rattle.clear_account.specs.Account.{IsAccount, charge_at, credit_at}
 use Rattle.clear_account.specs.Places.{Ends}
 use Rattle.clear_account.specs.declared.entries.Charge.{Charge}
@@ -16,7 +16,7 @@ use Rattle.clear_values.specs.declared.rows.PieceRow.{PieceRow}
 use Rattle.clear_book.specs.Allocated.{AreAllocated, AreSameCharges, FirstCredit, FirstMonth, KeepsKeys, contribution_rows, kept_charges, weighed_in}
 use Rattle.clear_book.specs.Tables.{IsPaidInRange, Tables, charge_key, piece_key, table_credits, with_pieces}
 use Rattle.clear_laws.proofs.AccountChangeLemmas.{ChangesCharge}
-use Rattle.clear_laws.proofs.AllocatedLemmas.{charge_puttable, credits_puttable, pieces_from-own}
+use Rattle.clear_laws.proofs.AllocatedLemmas.{charge_puttable, credits_puttable, others_left, pieces_from-own}
 use Rattle.clear_laws.proofs.FollowsLemmas.{FollowsAt, FollowsBut, charge_follows, charge_follows-left, credits_follow, credits_follow-left, follows_beside, follows_last, next_there}
 use Rattle.clear_laws.proofs.SameChargesLemmas.{same_in_order, same_kept}
 use Rattle.clear_laws.proofs.SettledLemmas.{settled_all}
@@ -27,9 +27,9 @@ use Rattle.clear_store.specs.Changes.{AreFree}
 use Rattle.clear_pieces.specs.Anew.{ArePut, FromCharge, FromCredit, IsFreeBehind, IsFreeFromCharge, IsFreeFromCredit, credit_place, month_place, pieces_beyond, settled_charges}
 use Rattle.clear_pieces.specs.Behind.{AreLast}
 use Rattle.clear_pieces.specs.Firm.{settled_from}
-use Rattle.clear_pieces.specs.Keeping.{AreFollowing}
+use Rattle.clear_pieces.specs.Keeping.{AreFollowing, IsSameAccount, firm_pieces}
 use Rattle.clear_pieces.specs.declared.behind.NewCredits.{NewCredits}
-use Rattle.clear_pieces.proofs.SoonerLemmas.{none_taken, others_stay}
+use Rattle.clear_pieces.proofs.SoonerLemmas.{none_taken, others_beside, others_stay}
 
 -- ---- the pieces
 
@@ -122,6 +122,41 @@ module _ (t u : Tables) (e : ℕ) (firms : List ℕ) (once : is_among firms e �
         subst (λ (rows : List PieceRow). AreFree piece_key rows (pieces_beyond u e a b)) (none_there last (charge_at (kept_charges u e) a).month g keeps allocated)
         (credit_free g keeps allocated a b ends_c ends_k within)
 
+-- ---- the pieces of another firm stay, whatever they hold
+
+module _ (u : Tables) (e f : ℕ) (apart : f ≢ e) where
+  anew_beside : (m d s a b : ℕ) → firm_pieces f (with_pieces e m d s (pieces_beyond u e a b) u.pieces) ≡ firm_pieces f u.pieces
+  anew_beside m d s a b = others_left u e m d s f (pieces_beyond u e a b) (ne_eqb f e apart) (pieces_from-own u e a b)
+
+  charge_beside : (m : ℕ) (pieces : List PieceRow) (settled : List KeptCharge) → FromCharge u e m pieces settled → firm_pieces f pieces ≡ firm_pieces f u.pieces
+  charge_beside m pieces settled from = told (cases_lt from.b (length (table_credits u e)))
+    where
+      told : (from.b < length (table_credits u e)) ⊎ (length (table_credits u e) ≤ from.b) → firm_pieces f pieces ≡ firm_pieces f u.pieces
+      told (inl within) = ap (firm_pieces f) (from.anew within) ∙ anew_beside m (credit_at (table_credits u e) from.b).day (credit_at (table_credits u e) from.b).serial from.a from.b
+      told (inr past) = ap (firm_pieces f) (from.stay past)
+
+  credit_beside : (news : NewCredits) (pieces : List PieceRow) (settled : List KeptCharge) → FromCredit u e news pieces settled → firm_pieces f pieces ≡ firm_pieces f u.pieces
+  credit_beside news pieces settled from = told (cases_lt from.a (length (kept_charges u e)))
+    where
+      put : ArePut u e news from.a from.b pieces → firm_pieces f pieces ≡ firm_pieces f u.pieces
+      put (inl anew) = ap (firm_pieces f) anew ∙ anew_beside (charge_at (kept_charges u e) from.a).month news.first.day news.first.serial from.a from.b
+      put (inr added) =
+          ap (firm_pieces f) added.1
+          ∙ others_beside e f (ne_eqb e f (λ same. apart (sym same))) u.pieces (pieces_beyond u e from.a from.b) (pieces_from-own u e from.a from.b)
+
+      told : (from.a < length (kept_charges u e)) ⊎ (length (kept_charges u e) ≤ from.a) → firm_pieces f pieces ≡ firm_pieces f u.pieces
+      told (inl within) = put (from.anew within)
+      told (inr past) = ap (firm_pieces f) (from.stay past)
+
+-- a firm whose account is the same is another one
+not_of_charge : (t v : Tables) (e m : ℕ) → FirstMonth (kept_charges t e) (kept_charges v e) m → (f : ℕ) → IsSameAccount t v f → f ≢ e
+not_of_charge t v e m first f same is =
+    first.1 (ap (find (λ (c : Charge). c.month == m)) (subst (λ (k : ℕ). kept_charges t k ≡ kept_charges v k) is same.0))
+
+not_of_credit : (t v : Tables) (e : ℕ) (k : Credit) → FirstCredit (table_credits t e) (table_credits v e) k → (f : ℕ) → IsSameAccount t v f → f ≢ e
+not_of_credit t v e k first f same is =
+    first.2 (subst (Any (λ (l : Credit). l ≡ k)) (sym (subst (λ (n : ℕ). table_credits t n ≡ table_credits v n) is same.1)) first.1)
+
 -- ---- with what is open of the contributions
 
 -- with these pieces and rows of contributions the tables follow but for the firms that are left
@@ -130,10 +165,11 @@ pub record FollowSoFar (t v : Tables) (firms : List ℕ) (pieces : List PieceRow
   pub weighs : WeighsBut t (record v { pieces = pieces; charges = charges }) firms
   pub same : AreSameCharges v.charges charges
   pub paid : AllByRecursion IsPaidInRange v.charges → AllByRecursion IsPaidInRange charges
+  pub others : (f : ℕ) → IsSameAccount t v f → firm_pieces f pieces ≡ firm_pieces f v.pieces
 
 -- at first nothing is put
 pub none_put : (t v : Tables) (firms : List ℕ) → FollowsBut t v firms → WeighsBut t v firms → FollowSoFar t v firms v.pieces v.charges
-none_put t v firms follows weighs = record { follows = follows; weighs = weighs; same = refl; paid = λ all. all }
+none_put t v firms follows weighs = record { follows = follows; weighs = weighs; same = refl; paid = λ all. all; others = λ f same. refl }
 
 -- in the end no firm is left
 pub all_put : (t v : Tables) (pieces : List PieceRow) (charges : List KeptCharge) → FollowSoFar t v [] pieces charges → AreFollowing t v pieces charges
@@ -141,6 +177,7 @@ all_put t v pieces charges so_far = record {
   same = so_far.same;
   paid = so_far.paid;
   follows = follows_last t (record v { pieces = pieces; charges = charges }) so_far.follows so_far.weighs;
+  others = so_far.others;
 }
 
 -- the rows of a firm's contributions from one on, put in the places of those that stood
@@ -174,6 +211,7 @@ module _ (t v : Tables) (e m : ℕ) (changes : ChangesCharge t v e m) (first : F
         weighs = weighs_beside t (record v { charges = charges }) [] pieces (subst (λ (cs : List KeptCharge). WeighsBut t (record v { charges = cs }) []) (sym from.settled) settled);
         same = same;
         paid = λ all. subst (AllByRecursion IsPaidInRange) (sym from.settled) (settled_paid v e rises new n all);
+        others = λ f alike. charge_beside v e f (not_of_charge t v e m first f alike) m pieces charges from;
       })
     where
       n : ℕ
@@ -212,6 +250,7 @@ module _ (t v : Tables) (e : ℕ) (firms : List ℕ) (once : is_among firms e �
       weighs = weighs_beside t (record u { charges = settled }) firms pieces (subst (λ (cs : List KeptCharge). WeighsBut t (record u { charges = cs }) firms) (sym from.settled) put);
       same = before.same ∙ same;
       paid = λ all. subst (AllByRecursion IsPaidInRange) (sym from.settled) (settled_paid u e order account_so_far from.a (before.paid all));
+      others = λ f alike. credit_beside u e f (not_of_credit t v e credits.first first f alike) credits pieces settled from ∙ before.others f alike;
     }
       where
         same : AreSameCharges rows settled

@@ -1,5 +1,5 @@
 -- The pieces, and what is open of the contributions, follow a change that was put into the tables.
-use Rattle.std.specs.Prelude.{◌≡◌, ◌≢◌, ◌≤◌, ◌+◌, ℕ, List, [], ◌∷◌, Bool, true, false, IsTrue}
+use Rattle.std.specs.Prelude.{◌≡◌, ◌≢◌, ◌≤◌, ◌+◌, ◌==◌, ℕ, List, [], ◌∷◌, Bool, true, false, IsTrue}
 use Rattle.std.specs.Prelude.{Option, Some, None, Result, filter, if◌then◌else◌, length}
 use Rattle.std.specs.List.{AllByRecursion, Contains}
 use Rattle.sqlite.specs.Held.{Held}
@@ -126,6 +126,15 @@ AreTogether (Some some) (Some more) (Some all) =
 
 -- ---- what follows
 
+-- the account of a firm is the same
+abbrev pub IsSameAccount : Tables → Tables → ℕ → Type 0
+IsSameAccount t v e =
+    (kept_charges t e ≡ kept_charges v e) × (table_credits t e ≡ table_credits v e)
+
+-- the pieces of a firm
+abbrev pub firm_pieces : ℕ → List PieceRow → List PieceRow
+firm_pieces e pieces = filter (λ row. row.employer == e) pieces
+
 -- of these tables, with these pieces and these rows of contributions, pieces and what is open of
 -- the contributions follow others; the contributions are the same, and what is open stays in its
 -- range
@@ -134,6 +143,8 @@ pub record AreFollowing (t v : Tables) (pieces : List PieceRow) (charges : List 
     pub same : AreSameCharges v.charges charges
     pub paid : AllByRecursion IsPaidInRange v.charges → AllByRecursion IsPaidInRange charges
     pub follows : Follows t (record v { pieces = pieces; charges = charges })
+    -- those of a firm whose account is the same stay, whatever they and those of others hold
+    pub others : (e : ℕ) → IsSameAccount t v e → firm_pieces e pieces ≡ firm_pieces e v.pieces
 
 -- each row is in its ranges, and pieces and what is open were right before, but for the cents of
 -- some pieces

@@ -1,6 +1,6 @@
 -- Which task the words of a command line ask for.
-use Rattle.std.specs.Prelude.{◌≡◌, ◌≢◌, ◌≤◌, ◌⊎◌, ⊤, ℕ, true, ◌||◌, List, Result, codes, is_ok, length}
-use Rattle.std.specs.Prelude.{string_bytes}
+use Rattle.std.specs.Prelude.{◌≡◌, ◌≢◌, ◌≤◌, ◌⊎◌, ⊤, ℕ, true, false, ◌||◌, List, Result, codes, is_ok}
+use Rattle.std.specs.Prelude.{length, string_bytes}
 use Rattle.clear_money.specs.RateFile.{rates_of}
 use Rattle.clear_book.specs.declared.calls.Command.TheVariants.{ImportBank}
 use Rattle.clear_callers.specs.CallerFile.{directory_of}
@@ -69,17 +69,31 @@ abbrev pub IsAsked : List Text → Task → Type 0
 IsAsked line (Say text) = (asks_help line || calls_help line) ≡ true
 IsAsked line task = (said : Words) × Says line said × IsTaskFor said task
 
--- a file is read of what they name
+-- a path names a file, since it isn't the word for the sample
+abbrev pub IsNoSample : List ℕ → Type 0
+IsNoSample path = path ≢ codes "sample"
+
+-- there was no memory, or the file at this path, which isn't the sample, can't be used
+abbrev pub IsOfPath : List ℕ → Stop → Type 0
+IsOfPath path why = (why ≡ no_memory) ⊎ ((why ≡ stop.File) × IsNoSample path)
+
+-- a file is read of what they name: where both are the sample, none
 abbrev pub NamesAFile : Words → Type 0
 NamesAFile (words.Init store rates) = ⊤
-NamesAFile (words.Stream rates callers day) = ⊤
+NamesAFile (words.Stream rates callers day) = IsNoSample rates.now ⊎ IsNoSample callers.now
 NamesAFile (words.Serve store callers day port count) = ⊤
 NamesAFile (words.Import store day number file) = ⊤
 NamesAFile (words.Check kind file) = ⊤
 NamesAFile _ = ⊥
 
--- there was no memory, the words say nothing, or a file that they name can't be used
+-- there was no memory for what these words ask, or a file that they name can't be used
+abbrev pub IsOfNamed : Words → Stop → Type 0
+IsOfNamed said why = (why ≡ no_memory) ⊎ ((why ≡ stop.File) × NamesAFile said)
+
+-- there was no memory, the words say nothing and don't ask for help, or a file that they name can't be
+-- used
 abbrev pub IsNotDone : List Text → Stop → Type 0
 IsNotDone line why =
-    (why ≡ no_memory) ⊎ (((why ≡ stop.Line) × ((said : Words) → ¬ Says line said))
+    (why ≡ no_memory)
+    ⊎ (((why ≡ stop.Line) × (asks_help line ≡ false) × ((said : Words) → ¬ Says line said))
     ⊎ ((why ≡ stop.File) × ((said : Words) × Says line said × NamesAFile said)))

@@ -1,11 +1,12 @@
 //! What the words of the command line ask for, with what the files say that they name.
-ghost use Rattle.std.specs.Prelude.{◌≡◌, ◌⊎◌, IfErr, IfOk, map, string_bytes};
+ghost use Rattle.std.specs.Prelude.{◌≡◌, ◌≢◌, IfErr, IfOk, map, string_bytes};
+ghost use Rattle.std.specs.IoError.{error_kind};
 ghost use Rattle.clear_money.specs.RateFile.{rates_of};
 ghost use Rattle.clear_callers.specs.CallerFile.{directory_of};
 ghost use Rattle.clear_callers.specs.Callers.{sample_keys};
 ghost use Rattle.clear_sample.specs.Samples.{sample_rates};
-ghost use Rattle.clear_program.specs.Asked.{IsAsked, IsChecked, IsNotDone};
-ghost use Rattle.clear_program.specs.Asked.{IsSampleOr, IsTaskFor, NamesAFile};
+ghost use Rattle.clear_program.specs.Asked.{IsAsked, IsChecked, IsNotDone, IsOfNamed, IsOfPath};
+ghost use Rattle.clear_program.specs.Asked.{IsSampleOr, IsTaskFor};
 ghost use Rattle.clear_program.specs.Stops.{IsOfFile, IsOfWords, no_memory};
 
 use crate::stop::{NO_MEMORY, Stop};
@@ -25,6 +26,7 @@ use clear_money::numbers::EmployerNo;
 use clear_money::rates::RateTable;
 use clear_sample::samples::sample_rates;
 use std::alloc::{AllocError, Global};
+use std::io::ErrorKind;
 use std::{env, io};
 
 // The word that names the sample's rates or callers in the place of a file.
@@ -106,10 +108,13 @@ pub fn words_of(rt: &HostRuntime) -> Result<Vec<String>, Stop>
     }
 }
 
+// Want of memory, or any other fault of the words.
 fn stop_at_words(error: &io::Error) -> Stop
-    ensures { IsOfWords result }
+    ensures words { IsOfWords result }
+    ensures memory { error_kind error.now ≡ ErrorKind.OutOfMemory → result ≡ no_memory }
+    ensures other { error_kind error.now ≢ ErrorKind.OutOfMemory → result ≡ Stop.Line }
 {
-    if error.kind() == io::ErrorKind::OutOfMemory {
+    if error.kind() == ErrorKind::OutOfMemory {
         NO_MEMORY
     } else {
         Stop::Line
@@ -118,8 +123,8 @@ fn stop_at_words(error: &io::Error) -> Stop
 
 /// The task that the words name. The files that they name are read, and no store is touched.
 ///
-/// `Stop::Line` where they say nothing, `Stop::File` where a file that they name can't be used, and want of
-/// memory.
+/// `Stop::Line` where they say nothing and don't ask for help, `Stop::File` where a file that they name can't
+/// be used, and want of memory. The sample is no file.
 pub fn read_task<'a>(rt: &HostRuntime, words: &'a [String]) -> Result<Task<'a>, Stop>
     ensures asked { IfOk result (λ task. IsAsked (map string_bytes words.now) task) }
     ensures refused { IfErr result (λ why. IsNotDone (map string_bytes words.now) why) }
@@ -135,8 +140,7 @@ pub fn read_task<'a>(rt: &HostRuntime, words: &'a [String]) -> Result<Task<'a>, 
 // The task for what the words say.
 fn prepare<'a>(rt: &HostRuntime, words: Words<'a>) -> Result<Task<'a>, Stop>
     ensures task { IfOk result (λ task. IsTaskFor words.entry task) }
-    ensures refused { IfErr result (λ why. (why ≡ no_memory)
-        ⊎ ((why ≡ Stop.File) × NamesAFile words.entry)) }
+    ensures refused { IfErr result (IsOfNamed words.entry) }
 {
     match words {
         Words::Init { store, rates } => init_task(rt, store, rates),
@@ -235,7 +239,7 @@ fn stream_task<'a>(
 ) -> Result<Task<'a>, Stop>
     ensures task { IfOk result (λ task.
         IsTaskFor (Words.Stream rates.entry callers.entry day) task) }
-    ensures refused { IfErr result IsOfFile }
+    ensures refused { IfErr result (IsOfNamed (Words.Stream rates.entry callers.entry day)) }
 {
     Ok(Task::Stream {
         rates: rates_or_sample(rt, rates)?,
@@ -265,7 +269,7 @@ fn check_file(alloc: Global, kind: FileKind, bytes: &[u8]) -> Result<Checked, Al
 
 fn rates_or_sample(rt: &HostRuntime, path: &str) -> Result<RateTable, Stop>
     ensures said { IfOk result (IsSampleOr sample_rates path.now rates_of) }
-    ensures refused { IfErr result IsOfFile }
+    ensures refused { IfErr result (IsOfPath path.now) }
 {
     if path == SAMPLE {
         Ok(sample_rates(rt.alloc())?)
@@ -276,7 +280,7 @@ fn rates_or_sample(rt: &HostRuntime, path: &str) -> Result<RateTable, Stop>
 
 fn callers_or_sample(rt: &HostRuntime, path: &str) -> Result<Directory, Stop>
     ensures said { IfOk result (IsSampleOr sample_keys path.now directory_of) }
-    ensures refused { IfErr result IsOfFile }
+    ensures refused { IfErr result (IsOfPath path.now) }
 {
     if path == SAMPLE {
         Ok(Directory::sample(rt.alloc())?)

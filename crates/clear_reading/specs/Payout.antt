@@ -21,6 +21,10 @@ abbrev pub day_of_list : List ListRow → ℕ → ℕ
 day_of_list lists number =
     option_map_or (λ list. list.day) (find_row list_key lists (number ∷ [])) first_day
 
+-- the claims that were released on the day or later
+abbrev pub released_since : ℕ → List ClaimRow → List ClaimRow
+released_since day claims = filter (λ claim. is_released_since day claim.state) claims
+
 -- the number of each is one of a claim, and no number stands twice
 abbrev pub AreAmong : List ClaimRow → List ClaimRow → Type 0
 AreAmong rows claims =

@@ -1,5 +1,5 @@
 //! What a payout list is judged by.
-ghost use Rattle.std.specs.Prelude.{◌≡◌, ◌≤◌, ◌<◌, ◌^◌, filter, length, sum_by};
+ghost use Rattle.std.specs.Prelude.{◌≡◌, ◌≤◌, ◌<◌, ◌+◌, ◌^◌, filter, length, sum_by};
 ghost use Rattle.std.specs.Prelude.{IfErr, IfOk, IfSome, IsSome};
 ghost use Rattle.sqlite.specs.Held.{state};
 ghost use Rattle.sqlite.specs.State.{HasCleanDisk};
@@ -15,6 +15,7 @@ ghost use Rattle.clear_schema.specs.Faults.{IsOfDisk};
 ghost use Rattle.clear_schema.specs.Held.{HasTables};
 ghost use Rattle.clear_schema.specs.Values.{counts_of};
 ghost use Rattle.clear_reading.specs.Payout.{AreAmong, AreSince, IsViewOf, day_of_list};
+ghost use Rattle.clear_reading.specs.Payout.{released_since};
 
 use clear_money::days::Day;
 use clear_payouts::claims::claims_released_since;
@@ -47,6 +48,12 @@ pub fn payout_view<S: Alter>(
         → (t : Tables) → HasTables t (state S.Store tx.old.conn.now).now
         → counts.now ≡ counts_of t → (b : Book) → IsLawful b → Stands b t
         → IfOk result (IsPayoutView b) }
+    // Whatever the tables hold, it is of the claims released on the last list's day or later.
+    ensures since { HasCleanDisk (state S.Store tx.new.conn.now)
+        → (t : Tables) → HasTables t (state S.Store tx.old.conn.now).now
+        → 0 < counts.now.lists
+        → IfOk result (IsViewOf (released_since (day_of_list t.lists counts.now.lists) t.claims)
+        (counts.now.lists + 1)) }
     ensures fault { HasCleanDisk (state S.Store tx.new.conn.now)
         → (t : Tables) → HasTables t (state S.Store tx.old.conn.now).now
         → counts.now ≡ counts_of t → (b : Book) → IsLawful b → Stands b t
@@ -76,6 +83,9 @@ fn payable_after<S: Alter>(
     ensures view { HasCleanDisk (state S.Store tx.new.conn.now)
         → (t : Tables) → HasTables t (state S.Store tx.old.conn.now).now
         → AreSince (day_of_list t.lists last) t.claims → IfOk result (IsViewOf t.claims next) }
+    ensures since { HasCleanDisk (state S.Store tx.new.conn.now)
+        → (t : Tables) → HasTables t (state S.Store tx.old.conn.now).now
+        → IfOk result (IsViewOf (released_since (day_of_list t.lists last) t.claims) next) }
     ensures fault { HasCleanDisk (state S.Store tx.new.conn.now)
         → (t : Tables) → HasTables t (state S.Store tx.old.conn.now).now
         → AreInRange t → length t.claims ≤ most_entries → IfErr result IsOfDisk }
@@ -101,6 +111,9 @@ fn payable_since<S: Alter>(
     ensures view { HasCleanDisk (state S.Store tx.new.conn.now)
         → (t : Tables) → HasTables t (state S.Store tx.old.conn.now).now
         → AreSince since t.claims → IfOk result (IsViewOf t.claims next) }
+    ensures since { HasCleanDisk (state S.Store tx.new.conn.now)
+        → (t : Tables) → HasTables t (state S.Store tx.old.conn.now).now
+        → IfOk result (IsViewOf (released_since since t.claims) next) }
     ensures fault { HasCleanDisk (state S.Store tx.new.conn.now)
         → (t : Tables) → HasTables t (state S.Store tx.old.conn.now).now
         → AreInRange t → length t.claims ≤ most_entries → IfErr result IsOfDisk }

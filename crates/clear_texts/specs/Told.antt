@@ -1,5 +1,5 @@
 -- What is told of a firm by its records.
-use Rattle.std.specs.Prelude.{ℕ, ◌-◌, Bool, ◌&&◌, List, map, not}
+use Rattle.std.specs.Prelude.{ℕ, ◌-◌, ◌<◌, Bool, ◌&&◌, List, length, map, not, take}
 use Rattle.std.specs.Option.{option_map_or}
 use Rattle.clear_money.specs.Rates.{Rate}
 use Rattle.clear_account.specs.Account.{credited}
@@ -10,6 +10,7 @@ use Rattle.clear_book.specs.declared.rows.CreditRow.{CreditRow}
 use Rattle.clear_book.specs.declared.rows.EmployerRow.{EmployerRow}
 use Rattle.clear_book.specs.Accounts.{is_overdue, row_credit}
 use Rattle.clear_book.specs.Book.{is_member_in}
+use Rattle.clear_book.specs.Limits.{most_credited}
 use Rattle.clear_book.specs.Tables.{member_in}
 use Rattle.clear_texts.specs.Found.{has_charge, version_in}
 use Rattle.clear_texts.specs.declared.records.StatementRecords.{StatementRecords}
@@ -35,3 +36,8 @@ is_missing_in member rates charges day m =
 abbrev pub interest_owed : List Rate → List WeighedCharge → List CreditRow → ℕ → ℕ
 interest_owed rates charges interest_credits day =
     interest_in rates charges day - credited (map row_credit interest_credits)
+
+-- the credits before the last one come to more than those of an account
+abbrev pub AreTooMuch : List CreditRow → Type 0
+AreTooMuch credits =
+    most_credited < credited (map row_credit (take (length credits - 1) credits))

@@ -1,9 +1,9 @@
 //! What a firm owes of interest on a day.
-ghost use Rattle.std.specs.Prelude.{◌≡◌, ◌≤◌, ◌<◌, None, IfSome, IsSome, length, map};
+ghost use Rattle.std.specs.Prelude.{◌≡◌, ◌≤◌, None, IfSome, IsSome, length, map};
 ghost use Rattle.clear_account.specs.Account.{credited};
 ghost use Rattle.clear_book.specs.Accounts.{row_credit};
-ghost use Rattle.clear_book.specs.Limits.{most_credited, most_credits};
-ghost use Rattle.clear_texts.specs.Told.{interest_owed};
+ghost use Rattle.clear_book.specs.Limits.{most_credits};
+ghost use Rattle.clear_texts.specs.Told.{AreTooMuch, interest_owed};
 
 use clear_book::limits::MAX_CREDITED;
 use clear_book::rows::CreditRow;
@@ -22,7 +22,7 @@ pub fn interest_arrears(
     day: Day,
 ) -> Option<u64>
     ensures some { length interest_credits.now ≤ most_credits → IsSome result }
-    ensures none { result ≡ None → most_credited < credited (map row_credit interest_credits.now) }
+    ensures none { result ≡ None → AreTooMuch interest_credits.now }
     ensures value { IfSome result (λ cents. cents
         ≡ interest_owed rates.now charges.now interest_credits.now day) }
 {
@@ -36,7 +36,7 @@ pub fn interest_arrears(
 /// `MAX_CREDITED`, as those of an account never do, and nowhere else.
 pub fn add_credits(credits: &[CreditRow]) -> Option<u64>
     ensures some { length credits.now ≤ most_credits → IsSome result }
-    ensures none { result ≡ None → most_credited < credited (map row_credit credits.now) }
+    ensures none { result ≡ None → AreTooMuch credits.now }
     ensures value { IfSome result (λ sum. sum ≡ credited (map row_credit credits.now)) }
 {
     let mut sum = 0;

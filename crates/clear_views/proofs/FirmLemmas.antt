@@ -18,7 +18,7 @@ use Rattle.clear_rules.proofs.CountsLemmas.{at_number}
 use Rattle.clear_rules.specs.Views.ImportBank.{employer_under}
 use Rattle.clear_rules.specs.declared.decide.import.EmployerCredits.{EmployerCredits}
 use Rattle.clear_debts.proofs.FoundLemmas.{found_there}
-use Rattle.clear_views.specs.Imports.{counted_firm, firm_key, firm_viewed, is_among, names}
+use Rattle.clear_views.specs.Imports.{counted_firm, firm_key, firm_viewed, is_among, is_placed, names}
 
 -- ---- one more line
 
@@ -147,6 +147,42 @@ one_of test e (n ∷ firms) all among = told (n == e) refl among (one_of test e 
     told true same among rest = subst (λ k. test k ≡ true) (same_worker n e same) (and_parts (test n) (list_all test firms) all).0
     told false same among rest = rest among
 
+-- what is so of each that is among them is so of all
+of_all : (test : ℕ → Bool) (firms : List ℕ) → ((e : ℕ) → is_among e firms ≡ true → test e ≡ true) → list_all test firms ≡ true
+of_all test [] each = refl
+of_all test (n ∷ firms) each =
+    let one : test n ≡ true = each n (ap (λ b. b || is_among n firms) (itself n)) in
+    let rest : list_all test firms ≡ true = of_all test firms (λ e among. each e (later (n == e) among)) in
+    (λ i. one i && rest i)
+  where
+    later : {rest : Bool} (b : Bool) → rest ≡ true → (b || rest) ≡ true
+    later true there = refl
+    later false there = there
+
+-- a firm that a line names which is placed is under its number
+placed_named : (registered : List EmployerCredits) (e : ℕ) (lines : List BankLine) → AllByRecursion (λ line. is_placed registered line ≡ true) lines → list_any (names e) lines ≡ true → is_some (employer_under registered e) ≡ true
+placed_named registered e [] placed there = absurd cc
+placed_named registered e (line ∷ lines) placed there = told line.employer placed.0 there (placed_named registered e lines placed.1)
+  where
+    found : (n : ℕ) (b : Bool) → (n == e) ≡ b → is_some (employer_under registered n) ≡ true → (b || list_any (names e) lines) ≡ true
+        → (list_any (names e) lines ≡ true → is_some (employer_under registered e) ≡ true) → is_some (employer_under registered e) ≡ true
+    found n true same firm there rest = subst (λ k. is_some (employer_under registered k) ≡ true) (same_worker n e same) firm
+    found n false other firm there rest = rest there
+
+    told : (o : Option ℕ) → option_map_or (λ k. is_some (employer_under registered k)) o false ≡ true → (option_map_or (λ named. named == e) o false || list_any (names e) lines) ≡ true
+        → (list_any (names e) lines ≡ true → is_some (employer_under registered e) ≡ true) → is_some (employer_under registered e) ≡ true
+    told None firm there rest = absurd cc
+    told (Some n) firm there rest = found n (n == e) refl firm there rest
+
+-- each line that is placed names a firm
+pub placed_names : (registered : List EmployerCredits) (lines : List BankLine) → AllByRecursion (λ line. is_placed registered line ≡ true) lines → list_all (λ line. is_some line.employer) lines ≡ true
+placed_names registered [] placed = refl
+placed_names registered (line ∷ lines) placed = told line.employer placed.0 (placed_names registered lines placed.1)
+  where
+    told : (o : Option ℕ) → option_map_or (λ k. is_some (employer_under registered k)) o false ≡ true → list_all (λ line. is_some line.employer) lines ≡ true → (is_some o && list_all (λ line. is_some line.employer) lines) ≡ true
+    told None firm rest = absurd cc
+    told (Some n) firm rest = rest
+
 -- of two truths each follows from the other
 same_truth : (a b : Bool) → (a ≡ true → b ≡ true) → (b ≡ true → a ≡ true) → a ≡ b
 same_truth true b there back = sym (there refl)
@@ -200,3 +236,9 @@ module _ (t : Tables) (serving : Option ℕ) where
     pub named_registered : list_all (λ e. is_some (firm_viewed serving t e)) firms ≡ true → AllByRecursion (λ line. IfSome line.employer (λ e. is_some (employer_under found e) ≡ true)) lines
     named_registered all =
         each_named (λ e. is_some (employer_under found e) ≡ true) lines (λ e there. ap is_some (found_as e there) ∙ one_of (λ e. is_some (firm_viewed serving t e)) e firms all (named e ∙ there))
+
+    -- and where each line is placed, each of them is
+    pub placed_registered : AllByRecursion (λ line. is_placed found line ≡ true) lines → list_all (λ e. is_some (firm_viewed serving t e)) firms ≡ true
+    placed_registered placed = of_all (λ e. is_some (firm_viewed serving t e)) firms (λ e among.
+        let there : list_any (names e) lines ≡ true = sym (named e) ∙ among in
+        sym (ap is_some (found_as e there)) ∙ placed_named found e lines placed there)

@@ -2,10 +2,10 @@
 use Rattle.std.proofs.Common.{◌≡◌, ◌⊎◌, inl, inr, ℕ, ◌+◌, ◌≤◌, List, [], ◌∷◌, length, filter, map, count_by, Option, None, Some, is_none, is_some, Bool, true, false, cond, ◌&&◌, refl, sym, ap, subst, ◌∙◌, arith}
 use Rattle.std.proofs.lemmas.List.Sums.{length-filter}
 use Rattle.std.proofs.lemmas.Result.{IfOk-weaker}
-use Rattle.std.specs.Prelude.{⊤, Result, unwrap_or}
+use Rattle.std.specs.Prelude.{⊤, Result, nat_le, unwrap_or}
 use Rattle.sqlite.specs.Held.{Held}
 use Rattle.sqlite.specs.Store.{Ghosts}
-use Rattle.std.proofs.lemmas.Bool.{false≢true}
+use Rattle.std.proofs.lemmas.Bool.{false≢true, leb-true}
 use Rattle.std.proofs.lemmas.List.Sums.{count_by-le-length}
 use Rattle.std.specs.List.{AllByRecursion, enumerate_from, filter_map, list_all}
 use Rattle.std.specs.Option.{option_and_then, option_map, option_map_or}
@@ -41,7 +41,7 @@ use Rattle.clear_views.proofs.FirmLemmas.{named_registered}
 use Rattle.clear_debts.proofs.FoundLemmas.{each_found}
 use Rattle.clear_views.proofs.StillLemmas.{reads_query}
 use Rattle.clear_views.proofs.ViewLemmas.{credits_counted}
-use Rattle.clear_views.specs.Imports.{AreNamed, IsImportRead, IsServing, IsSuspenseViewed, counted_firm, credits_viewed, firm_viewed, is_placed, line_found}
+use Rattle.clear_views.specs.Imports.{AreNamed, IsImportRead, IsServing, IsSuspenseViewed, counted_firm, credits_viewed, firm_viewed, is_placed, line_found, serving_for}
 use Rattle.clear_debts.specs.Reads.{Reads}
 use Rattle.clear_views.specs.declared.import.firms.NamedFirms.{NamedFirms}
 
@@ -147,6 +147,14 @@ serials_serve serials more limit n count new serves few small =
     let within = serves.1 in
     inr (omega (arith, at), omega (arith, within))
 
+-- they serve if they and the lines are within the limit
+serves_if : (serials more limit : ℕ) → IfSome (cond (nat_le (serials + more) limit) (Some serials) None) (IsServing serials more limit)
+serves_if serials more limit = told (nat_le (serials + more) limit) refl
+  where
+    told : (b : Bool) → nat_le (serials + more) limit ≡ b → IfSome (cond b (Some serials) None) (IsServing serials more limit)
+    told true within = (refl, leb-true (serials + more) limit within)
+    told false over = tt
+
 -- a number that serves for what stood serves, with so many more, for what stands then
 then_serves : (viewed count more after limit : ℕ) → after ≡ count + more → Serves viewed count more limit → ServesAfter (viewed + more) after limit
 then_serves viewed count more after limit sum (inl same) = inl (ap (λ (n : ℕ). n + more) same ∙ sym sum)
@@ -155,6 +163,9 @@ then_serves viewed count more after limit sum (inr within) = let high = within.0
 -- ---- the view of a book
 
 module _ (b : Book) (t : Tables) (lawful : IsLawful b) (stands : Stands b t) (file : List ℕ) (view : ImportView) (read : IsImportRead t t.serial (lines_in file) view) where
+  abbrev served : Option ℕ
+  served = serving_for t.serial (lines_in file)
+
   lines_given : length (lines_standing b.entries) ≤ t.serial
   lines_given = omega (arith, length-standing b.entries, stands.serial)
 
@@ -171,17 +182,17 @@ module _ (b : Book) (t : Tables) (lawful : IsLawful b) (stands : Stands b t) (fi
   registered-at e = sym (is_some-map (λ (row : EmployerRow). record { name = row.name; start = row.start; last = row.last }) (find_row employer_key t.employers (e ∷ []))) ∙ ap is_some (stands.employers e)
 
   -- a line that is placed finds its firm registered
-  finds_firm : (lines : List BankLine) → AllByRecursion (λ line. IfSome line.employer (λ e. employer_under view.employers.items e ≡ firm_viewed read.serving t e)) lines → AllByRecursion (λ line. is_placed view.employers.items line ≡ true) lines
+  finds_firm : (lines : List BankLine) → AllByRecursion (λ line. IfSome line.employer (λ e. employer_under view.employers.items e ≡ firm_viewed served t e)) lines → AllByRecursion (λ line. is_placed view.employers.items line ≡ true) lines
       → AllByRecursion (λ line. is_some (employer_of_line (λ e. is_some (member_of b.entries e)) line) ≡ true) lines
   finds_firm [] firms placed = tt
   finds_firm (line ∷ lines) firms placed = (told line.employer firms.0 placed.0, finds_firm lines firms.1 placed.1)
     where
-      told : (o : Option ℕ) → IfSome o (λ e. employer_under view.employers.items e ≡ firm_viewed read.serving t e) → option_map_or (λ e. is_some (employer_under view.employers.items e)) o false ≡ true
+      told : (o : Option ℕ) → IfSome o (λ e. employer_under view.employers.items e ≡ firm_viewed served t e) → option_map_or (λ e. is_some (employer_under view.employers.items e)) o false ≡ true
           → is_some (option_and_then (λ e. cond (is_some (member_of b.entries e)) (Some e) None) o) ≡ true
       told None firm placed = absurd cc
       told (Some e) firm placed =
           ap (λ c. is_some (cond c (Some e) None))
-          (sym (registered-at e) ∙ sym (is_some-map (λ (row : EmployerRow). counted_firm read.serving t e) (find_row employer_key t.employers (e ∷ []))) ∙ sym (ap is_some firm) ∙ placed)
+          (sym (registered-at e) ∙ sym (is_some-map (λ (row : EmployerRow). counted_firm served t e) (find_row employer_key t.employers (e ∷ []))) ∙ sym (ap is_some firm) ∙ placed)
 
   suspense_serves : (view.suspense ≡ count_by is_in_suspense t.bank) ⊎ IsServing t.serial (length (lines_in file)) most_suspense view.suspense
       ⊎ ((view.suspense ≡ most_suspense) × AllByRecursion (λ line. is_placed view.employers.items line ≡ true) (lines_in file))
@@ -204,27 +215,27 @@ module _ (b : Book) (t : Tables) (lawful : IsLawful b) (stands : Stands b t) (fi
       (omega (arith, credits-few b.entries e p, stands.serial))
       (omega (arith, lines-few (rows_of_file b file) e p, file_few b file))
 
-  counted-for : (e : ℕ) (p : Purpose) → count_for p (counted_firm read.serving t e) ≡ credits_viewed read.serving t e p
+  counted-for : (e : ℕ) (p : Purpose) → count_for p (counted_firm served t e) ≡ credits_viewed served t e p
   counted-for e Contribution = refl
   counted-for e Interest = refl
 
   count_found : (e : ℕ) (p : Purpose) (o : Option EmployerRow) → is_some o ≡ true
-      → option_map_or (count_for p) (option_map (λ (row : EmployerRow). counted_firm read.serving t e) o) 0 ≡ credits_viewed read.serving t e p
+      → option_map_or (count_for p) (option_map (λ (row : EmployerRow). counted_firm served t e) o) 0 ≡ credits_viewed served t e p
   count_found e p None is = absurd (false≢true is)
   count_found e p (Some row) is = counted-for e p
 
-  firm_stands : (e : ℕ) → employer_under view.employers.items e ≡ firm_viewed read.serving t e → IsEmployerViewed b file view e
+  firm_stands : (e : ℕ) → employer_under view.employers.items e ≡ firm_viewed served t e → IsEmployerViewed b file view e
   firm_stands e found = record {
-    registered_is = ap is_some found ∙ is_some-map (λ (row : EmployerRow). counted_firm read.serving t e) (find_row employer_key t.employers (e ∷ [])) ∙ registered-at e;
+    registered_is = ap is_some found ∙ is_some-map (λ (row : EmployerRow). counted_firm served t e) (find_row employer_key t.employers (e ∷ [])) ∙ registered-at e;
     credits_serve = λ p registered.
         then_serves (credit_count_viewed view e p) (credit_count (credits_made b.entries) e p) (credit_count (credits_of_lines (rows_of_file b file)) e p) (credit_count (credits_after b.entries file) e p) most_credits
         (credits_after-count b.entries file e p)
         (subst (λ n. Serves n (credit_count (credits_made b.entries) e p) (credit_count (credits_of_lines (rows_of_file b file)) e p) most_credits)
         (sym (ap (λ (o : Option EmployerCredits). option_map_or (count_for p) o 0) found ∙ count_found e p (find_row employer_key t.employers (e ∷ [])) (registered-at e ∙ registered)))
-        (credits_serve e p read.serving read.serves));
+        (credits_serve e p served (serves_if t.serial (length (lines_in file)) most_credits)));
   }
 
-  firm_of_line : (o : Option ℕ) → IfSome o (λ e. employer_under view.employers.items e ≡ firm_viewed read.serving t e) → IfSome o (IsEmployerViewed b file view)
+  firm_of_line : (o : Option ℕ) → IfSome o (λ e. employer_under view.employers.items e ≡ firm_viewed served t e) → IfSome o (IsEmployerViewed b file view)
   firm_of_line None found = tt
   firm_of_line (Some e) found = firm_stands e found
 
@@ -233,7 +244,7 @@ module _ (b : Book) (t : Tables) (lawful : IsLawful b) (stands : Stands b t) (fi
     known_is = all_weaker (λ line. line_under line.reference (filter_map (line_found t) (lines_in file)) ≡ line_found t line)
         (λ line. line_under line.reference view.known.items ≡ line_under line.reference (lines_of_rows (lines_seen b.entries)))
         (λ line found. ap (line_under line.reference) read.known ∙ found ∙ known-at line.reference) (lines_in file) (each_line t (lines_in file));
-    employers_are = all_weaker (λ line. IfSome line.employer (λ e. employer_under view.employers.items e ≡ firm_viewed read.serving t e)) (λ line. IfSome line.employer (IsEmployerViewed b file view))
+    employers_are = all_weaker (λ line. IfSome line.employer (λ e. employer_under view.employers.items e ≡ firm_viewed served t e)) (λ line. IfSome line.employer (IsEmployerViewed b file view))
         (λ line found. firm_of_line line.employer found) (lines_in file) read.employers;
     suspense_serves =
         then_serves view.suspense (suspense_count (lines_standing b.entries)) (suspense_count (rows_of_file b file)) (suspense_count (lines_after b.entries file)) most_suspense

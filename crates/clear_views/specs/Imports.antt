@@ -1,6 +1,7 @@
 -- What an import reads of the tables.
 use Rattle.std.specs.Prelude.{◌≡◌, ◌≤◌, ◌⊎◌, ℕ, ◌+◌, ◌==◌, List, Option, Bool, false, true}
-use Rattle.std.specs.Prelude.{[], ◌∷◌, IfSome, count_by, is_some, length, unwrap_or}
+use Rattle.std.specs.Prelude.{[], ◌∷◌, IfSome, None, Some, count_by, if◌then◌else◌, is_some, length}
+use Rattle.std.specs.Prelude.{nat_le, unwrap_or}
 use Rattle.std.specs.List.{AllByRecursion, filter_map, list_all, list_any}
 use Rattle.std.specs.Option.{option_map, option_map_or}
 use Rattle.clear_bank.specs.declared.lines.BankLine.{BankLine}
@@ -79,17 +80,29 @@ IsSuspenseViewed t serials lines all n =
     ⊎ ((n ≡ most_suspense) × (all ≡ true)
     × (list_all (λ line. is_some line.employer) lines ≡ true))
 
+-- the number that serves for the credits of a firm, where these lines come in: the serials, if they
+-- and the lines are within the limit
+abbrev pub serving_for : ℕ → List BankLine → Option ℕ
+serving_for serials lines =
+    if nat_le (serials + length lines) most_credits then Some serials else None
+
+-- the lines in suspense were not counted: the serials serve, or the limit does
+abbrev pub IsUncounted : ℕ → ℕ → Type 0
+IsUncounted serials n = (n ≡ serials) ⊎ (n ≡ most_suspense)
+
 -- what was read for these lines: under each of their references what stands there, each firm that
--- they name, and a number for the lines in suspense
+-- they name, and a number for the lines in suspense: these aren't counted where the serials serve, nor
+-- where each line names a registered firm
 pub record IsImportRead (t : Tables) (serials : ℕ) (lines : List BankLine)
     (view : ImportView) : Type 0 where
   pub known : view.known.items ≡ filter_map (line_found t) lines
-  pub serving : Option ℕ
-  pub serves : IfSome serving (IsServing serials (length lines) most_credits)
   pub employers : AllByRecursion (λ line. IfSome line.employer (λ e.
-      employer_under view.employers.items e ≡ firm_viewed serving t e)) lines
+      employer_under view.employers.items e ≡ firm_viewed (serving_for serials lines) t e)) lines
   pub suspense : (view.suspense ≡ count_by is_in_suspense t.bank)
       ⊎ IsServing serials (length lines) most_suspense view.suspense
       ⊎ ((view.suspense ≡ most_suspense)
       × AllByRecursion (λ line. is_placed view.employers.items line ≡ true) lines)
+  pub few : serials + length lines ≤ most_suspense → IsUncounted serials view.suspense
+  pub placed : AllByRecursion (λ line. is_placed view.employers.items line ≡ true) lines
+      → IsUncounted serials view.suspense
   pub serials_is : view.serials ≡ serials

@@ -51,6 +51,12 @@ pub fn assign_view<S: Alter>(
         → (t : Tables) → HasTables t (state S.Store tx.old.conn.now).now
         → counts.now ≡ counts_of t → (b : Book) → Stands b t
         → IfOk result (IsAssignView b assignment.now) }
+    // While fewer serials were given than a firm may have credits, none is counted.
+    ensures full { HasCleanDisk (state S.Store tx.new.conn.now)
+        → (t : Tables) → HasTables t (state S.Store tx.old.conn.now).now
+        → IfOk result (λ view. view.full ≡ (nat_le most_credits counts.now.serial
+        && is_suspended view.line
+        && is_full (credit_count t.credits assignment.now.employer) view.line)) }
     ensures fault { HasCleanDisk (state S.Store tx.new.conn.now)
         → (t : Tables) → HasTables t (state S.Store tx.old.conn.now).now
         → AreInRange t → IfErr result IsOfDisk }

@@ -55,6 +55,10 @@ pub fn import_view<S: Alter>(
         → counts.now ≡ counts_of t → (b : Book) → IsLawful b → Stands b t
         → (file : List ℕ) → lines.now ≡ lines_in file
         → IfOk result (λ view. IsImportView b file view) }
+    // Whatever the tables hold, nothing is counted that need not be.
+    ensures read { HasCleanDisk (state S.Store tx.new.conn.now)
+        → (t : Tables) → HasTables t (state S.Store tx.old.conn.now).now
+        → IfOk result (IsImportRead t counts.now.serial lines.now) }
     ensures fault { HasCleanDisk (state S.Store tx.new.conn.now)
         → (t : Tables) → HasTables t (state S.Store tx.old.conn.now).now
         → counts.now ≡ counts_of t → AreInRange t → IfErr result IsOfDisk }

@@ -39,6 +39,11 @@ pub fn register_view<S: Alter>(
         → (t : Tables) → HasTables t (state S.Store tx.old.conn.now).now
         → counts.now ≡ counts_of t → (b : Book) → Stands b t
         → IfOk result (IsRegisterView b registration.now) }
+    // While the entries serve, no firm is counted.
+    ensures count { HasCleanDisk (state S.Store tx.new.conn.now)
+        → (t : Tables) → HasTables t (state S.Store tx.old.conn.now).now
+        → IfOk result (λ view. view.employer_count
+        ≡ bound_or_count counts.now.entries most_employers (length t.employers)) }
     ensures fault { HasCleanDisk (state S.Store tx.new.conn.now)
         → (t : Tables) → HasTables t (state S.Store tx.old.conn.now).now
         → AreInRange t → IfErr result IsOfDisk }

@@ -68,6 +68,12 @@ pub fn release_view<S: Alter>(
         → counts.now ≡ counts_of t → day_back t.day day ≡ None
         → (b : Book) → IsLawful b → StandsWeighed b t
         → IfOk result (IsReleaseView b day claim) }
+    // While the serials serve, no credit for contributions is counted.
+    ensures count { HasCleanDisk (state S.Store tx.new.conn.now)
+        → (t : Tables) → HasTables t (state S.Store tx.old.conn.now).now
+        → IfOk result (λ view. IfSome view.found (λ owing. owing.debts.contribution_count
+        ≡ bound_or_count counts.now.serial most_credits
+        (credit_count t.credits owing.claim.employer Contribution))) }
     ensures fault { HasCleanDisk (state S.Store tx.new.conn.now)
         → (t : Tables) → HasTables t (state S.Store tx.old.conn.now).now
         → (b : Book) → IsLawful b → StandsWeighed b t → IfErr result IsOfDisk }
@@ -98,6 +104,11 @@ fn find_owing<S: Alter>(
         → (b : Book) → IsLawful b → StandsWeighed b t
         → IfOk result (λ found. IfSome found (λ owing.
         AreDebts (debts_of b day owing.claim.employer) owing.debts)) }
+    ensures count { HasCleanDisk (state S.Store tx.new.conn.now)
+        → (t : Tables) → HasTables t (state S.Store tx.old.conn.now).now
+        → IfOk result (λ found. IfSome found (λ owing. owing.debts.contribution_count
+        ≡ bound_or_count serials most_credits
+        (credit_count t.credits owing.claim.employer Contribution))) }
     ensures fault { HasCleanDisk (state S.Store tx.new.conn.now)
         → (t : Tables) → HasTables t (state S.Store tx.old.conn.now).now
         → (b : Book) → IsLawful b → StandsWeighed b t → IfErr result IsOfDisk }
@@ -125,6 +136,10 @@ fn firm_debts<S: Alter>(
         → serials ≡ t.serial → day_back t.day day ≡ None
         → (b : Book) → IsLawful b → StandsWeighed b t
         → IfOk result (AreDebts (debts_of b day employer)) }
+    ensures count { HasCleanDisk (state S.Store tx.new.conn.now)
+        → (t : Tables) → HasTables t (state S.Store tx.old.conn.now).now
+        → IfOk result (λ debts. debts.contribution_count
+        ≡ bound_or_count serials most_credits (credit_count t.credits employer Contribution)) }
     ensures fault { HasCleanDisk (state S.Store tx.new.conn.now)
         → (t : Tables) → HasTables t (state S.Store tx.old.conn.now).now
         → (b : Book) → IsLawful b → StandsWeighed b t

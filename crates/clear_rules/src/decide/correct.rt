@@ -4,7 +4,7 @@ ghost use Rattle.std.specs.Option.{option_map};
 ghost use Rattle.clear_book.specs.declared.calls.Command.TheVariants.{Correct as DoCorrect};
 ghost use Rattle.clear_book.specs.Book.{Book};
 ghost use Rattle.clear_book.specs.Limits.{most_base, most_gross, most_lines};
-ghost use Rattle.clear_book.specs.Own.Correct.{own_correct, stale_rule};
+ghost use Rattle.clear_book.specs.Own.Correct.{correct_reply, own_correct, stale_rule};
 ghost use Rattle.clear_book.specs.Tables.{member_in};
 ghost use Rattle.clear_rules.specs.Decisions.{Obeys, Refuses, IsJudged, TakesTables};
 ghost use Rattle.clear_rules.specs.Views.Report.{IsReportView, charge_for, next_report};
@@ -43,6 +43,8 @@ pub fn decide_correct(
     ensures made { IfOk result (λ decision. decision.change
         ≡ Change.ReplaceReport (next_report correction.now) correction.now.report.lines
         (charge_for correction.now.report view.now)) }
+    ensures reply { IfOk result (λ decision. decision.reply
+        ≡ correct_reply correction.now view.now.row) }
     ensures few { OnOk result (length correction.now.report.lines ≤ most_lines) }
     ensures small { OnOk result
         (All (λ line. line.gross ≤ most_gross) correction.now.report.lines) }

@@ -4,7 +4,7 @@ ghost use Rattle.std.specs.Option.{option_map};
 ghost use Rattle.clear_book.specs.declared.calls.Command.TheVariants.{Report as DoReport};
 ghost use Rattle.clear_book.specs.Book.{Book};
 ghost use Rattle.clear_book.specs.Limits.{most_gross, most_lines};
-ghost use Rattle.clear_book.specs.Own.Report.{own_report};
+ghost use Rattle.clear_book.specs.Own.Report.{own_report, report_reply};
 ghost use Rattle.clear_book.specs.Tables.{member_in};
 ghost use Rattle.clear_rules.specs.Decisions.{Refuses, IsJudged, TakesTables};
 ghost use Rattle.clear_rules.specs.Views.Report.{IsReportView, charge_for, first_report};
@@ -50,6 +50,8 @@ pub fn decide_report(
     ensures made { IfOk result (λ decision. decision.change
         ≡ Change.AddReport (first_report report.now) report.now.lines
         (charge_for report.now view.now)) }
+    ensures reply { IfOk result (λ decision. decision.reply
+        ≡ report_reply view.now.row report.now.lines) }
     ensures few { OnOk result (length report.now.lines ≤ most_lines) }
     ensures small { OnOk result (All (λ line. line.gross ≤ most_gross) report.now.lines) }
 {

@@ -1,9 +1,12 @@
 //! How many lines are in suspense and how many credits a firm has, as far as they are counted.
 ghost use Rattle.std.specs.List.{list_all};
-ghost use Rattle.std.specs.Prelude.{◌≡◌, ◌+◌, None, Some, IfSome, ⊤, if◌then◌else◌};
+ghost use Rattle.std.specs.Prelude.{◌≡◌, ◌+◌, ◌≤◌, None, Some, IfOk, IfSome, ⊤, true};
+ghost use Rattle.std.specs.Prelude.{if◌then◌else◌};
 ghost use Rattle.std.specs.Prelude.{is_some, length, nat_le};
 ghost use Rattle.clear_debts.specs.Reads.{Reads};
-ghost use Rattle.clear_views.specs.Imports.{IsServing, IsSuspenseViewed, credits_viewed};
+ghost use Rattle.clear_book.specs.Limits.{most_suspense};
+ghost use Rattle.clear_views.specs.Imports.{IsServing, IsSuspenseViewed, IsUncounted};
+ghost use Rattle.clear_views.specs.Imports.{credits_viewed};
 
 use clear_bank::lines::{BankLine, Purpose};
 use clear_book::limits::MAX_SUSPENSE;
@@ -41,6 +44,11 @@ pub(super) fn view_suspense<S: Alter>(
     ensures same_reference { tx.new.conn.ghost_name ≡ tx.old.conn.ghost_name }
     ensures reads { Reads S.Store ⊤ tx.old.conn.now tx.new.conn.now result
         (λ t count. IsSuspenseViewed t serials lines.now all_registered count) }
+    ensures few { serials + length lines.now ≤ most_suspense
+        → IfOk result (IsUncounted serials) }
+    ensures placed { all_registered ≡ true
+        → list_all (λ line. is_some line.employer) lines.now ≡ true
+        → IfOk result (IsUncounted serials) }
 {
     if let Some(number) = serving(serials, lines, MAX_SUSPENSE) {
         return Ok(number);

@@ -1,4 +1,5 @@
-use Rattle.std.proofs.Common.{inr, subst, sym}
+use Rattle.std.proofs.Common.{◌∙◌, ap, inr, subst, sym}
+use Rattle.sqlite.specs.Effect.{Database}
 use Rattle.sqlite.specs.Files.{file_state}
 use Rattle.clear_schema.specs.Faults.{IsOfDisk}
 use Rattle.clear_schema.specs.Held.{StandsFor, StandsOtherwise, TellsAs}
@@ -45,6 +46,15 @@ returns-in-Err-open-clause-cause g c clean number trees holds stands =
     let opened = c.in-Ok.ensures.opened early in
     let there : TellsAs number (file_state c.in-Ok.conn).committed.trees = subst (TellsAs number) (sym ((c.in-Ok.ensures.found early).holds trees holds)) stands in
     c.in-Err-open.ensures.cause clean (inr (number, tells_seen number (file_state c.in-Ok.conn) opened.0.clean opened.1 opened.0.is_open there))
+
+pub returns-in-Err-open-clause-rests : goal.returns-in-Err-open-clause-rests
+returns-in-Err-open-clause-rests g c clean number trees holds stands on =
+    let early = c.in-Err-open.ensures.clean_left clean in
+    let opened = c.in-Ok.ensures.opened early in
+    let held = (c.in-Ok.ensures.found early).holds trees holds in
+    let there : TellsAs number (file_state c.in-Ok.conn).committed.trees = subst (TellsAs number) (sym held) stands in
+    let still = c.in-Err-open.ensures.still clean number there opened.0.is_open on in
+    (ap (λ (d : Database). d.trees) (still.now_is ∙ opened.0.clean) ∙ held, ap (λ (d : Database). d.trees) still.committed_is ∙ held)
 
 pub returns-in-Err-clause-unopened : goal.returns-in-Err-clause-unopened
 returns-in-Err-clause-unopened g c = subst IsOfDisk (sym c.fault_of.ensures) (open_fails _ c.in-Err.ensures.named)

@@ -3,9 +3,8 @@ use Rattle.sqlite.specs.Held.{state}
 use Rattle.clear_schema.specs.Held.{HasTables}
 use Rattle.clear_schema.specs.Schema.{this_layout}
 use Rattle.clear_database.proofs.OpenLemmas.{store_tells}
-use Rattle.clear_disk.proofs.SeenLemmas.{nothing_seen}
-use Rattle.clear_host.proofs.RefusalLemmas.{never_so, only_so, other_so}
-use Rattle.clear_host.proofs.StoreLemmas.{found_seen, just_seen, other_layout_seen, tables_seen, told_seen}
+use Rattle.clear_host.proofs.RefusalLemmas.{blames_none, never_so, only_so, other_so, range_so}
+use Rattle.clear_host.proofs.StoreLemmas.{below_seen, blameless_numbered, found_seen, just_seen, number_seen, other_layout_seen, tables_seen, told_seen, unnumbered_seen}
 use Rattle.clear_host.proofs.migrations.bring.Goals as goal
 
 pub returns-in-Ok-clause-found : goal.returns-in-Ok-clause-found
@@ -25,7 +24,8 @@ returns-in-Ok-clause-ours g c image sees clean =
       recovers = found_seen image old seen (λ none. never_so _ c.in-Ok.migration (c.in-Ok.ensures.empty clean (inl none)));
       only_this = λ number holds. c.in-Ok.ensures.only_this clean number (told_seen image old seen number holds).1;
       not_other = λ holds. never_so _ c.in-Ok.migration (c.in-Ok.ensures.other clean (other_layout_seen image old seen holds));
-      only_stores = λ nothing. never_so _ c.in-Ok.migration (c.in-Ok.ensures.empty clean (inl (nothing_seen image old seen nothing)));
+      only_stores = λ none. never_so _ c.in-Ok.migration (c.in-Ok.ensures.empty clean (unnumbered_seen image old seen none));
+      not_below_zero = λ below. never_so _ c.in-Ok.migration (c.in-Ok.ensures.below_zero clean (below_seen image old seen below));
     }
 
 pub returns-in-Err-clause-tells : goal.returns-in-Err-clause-tells
@@ -34,8 +34,14 @@ returns-in-Err-clause-tells g c image sees =
     record {
       version = λ number holds clean. c.in-Err.ensures.version clean number (told_seen image old (sees (c.in-Err.ensures.clean clean)) number holds).1;
       other = λ holds clean. other_so c.in-Err.fault (c.in-Err.ensures.other clean (other_layout_seen image old (sees (c.in-Err.ensures.clean clean)) holds));
-      empty = λ nothing clean. only_so 0 c.in-Err.fault (c.in-Err.ensures.empty clean (inl (nothing_seen image old (sees (c.in-Err.ensures.clean clean)) nothing)));
+      empty = λ none clean. only_so 0 c.in-Err.fault (c.in-Err.ensures.empty clean (unnumbered_seen image old (sees (c.in-Err.ensures.clean clean)) none));
+      below_zero = λ below clean. range_so c.in-Err.fault (c.in-Err.ensures.below_zero clean (below_seen image old (sees (c.in-Err.ensures.clean clean)) below));
+      cause = λ blameless clean. blames_none c.in-Err.fault (c.in-Err.ensures.cause clean (number_seen image old (sees (c.in-Err.ensures.clean clean)) (blameless_numbered image blameless)));
     }
+
+pub returns-in-Err-clause-cause : goal.returns-in-Err-clause-cause
+returns-in-Err-clause-cause g c image sees known clean =
+    blames_none c.in-Err.fault (c.in-Err.ensures.cause clean (number_seen image (state g.S.Store c.args.connection) (sees (c.in-Err.ensures.clean clean)) known))
 
 pub returns-in-Err-clause-rests : goal.returns-in-Err-clause-rests
 returns-in-Err-clause-rests g c image sees number trees holds tells clean live =

@@ -1,8 +1,8 @@
 use Rattle.std.proofs.lemmas.Result.{err_from_is_err_and}
 use Rattle.sqlite.specs.Files.{over_files}
 use Rattle.sqlite_wal.specs.Files.{image_at}
-use Rattle.clear_host.specs.Contents.{HasJust}
-use Rattle.clear_host.proofs.RefusalLemmas.{never_open, unopened_tells}
+use Rattle.clear_host.specs.Contents.{BlamesNone, HasJust}
+use Rattle.clear_host.proofs.RefusalLemmas.{never_open, unconnected, unopened_tells}
 use Rattle.clear_host.proofs.migrations.bring_to_current.Goals as goal
 
 pub returns-clause-current : goal.returns-clause-current
@@ -21,6 +21,14 @@ pub returns-in_err-connection-clause-tells : goal.returns-in_err-connection-clau
 returns-in_err-connection-clause-tells g c =
     let p = err_from_is_err_and c.from_residual.result c.from_residual.ensures.1 in
     rw (p.1, p.2) (unopened_tells over_files (image_at g.S.Start) c.in_err-connection.field-0.0 c.in_err-connection.ensures.none)
+
+pub returns-clause-cause : goal.returns-clause-cause
+returns-clause-cause g c = c.bring.ensures.cause (image_at g.S.Start) c.in_ok-connection.ensures.sees
+
+pub returns-in_err-connection-clause-cause : goal.returns-in_err-connection-clause-cause
+returns-in_err-connection-clause-cause g c known =
+    let p = err_from_is_err_and c.from_residual.result c.from_residual.ensures.1 in
+    rw (p.1, p.2) (unconnected over_files BlamesNone c.in_err-connection.field-0.0 c.in_err-connection.ensures.none)
 
 pub returns-clause-rests : goal.returns-clause-rests
 returns-clause-rests g c = c.bring.ensures.rests (image_at g.S.Start) c.in_ok-connection.ensures.sees

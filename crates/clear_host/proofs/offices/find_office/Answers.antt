@@ -2,7 +2,8 @@ use Rattle.std.proofs.lemmas.Result.{err_from_is_err_and}
 use Rattle.sqlite.specs.Held.{state}
 use Rattle.clear_disk.proofs.SeenLemmas.{if_ok_both}
 use Rattle.clear_host.proofs.OfficeLemmas.{if_ok_pair}
-use Rattle.clear_host.proofs.RefusalLemmas.{refused_leaves, untold_tells}
+use Rattle.clear_host.specs.Contents.{BlamesCounts}
+use Rattle.clear_host.proofs.RefusalLemmas.{counts_blameless, refused_leaves, untold_tells}
 use Rattle.clear_host.proofs.offices.find_office.Goals as goal
 
 pub returns-clause-opened : goal.returns-clause-opened
@@ -21,8 +22,11 @@ returns-clause-opened g c image sees =
 
 pub returns-clause-tells : goal.returns-clause-tells
 returns-clause-tells g c image sees =
-    untold_tells g.S.Store image c.office_over.result (λ sound. (c.in_ok-store.ensures.ours image sees sound).not_other)
-    c.office_over.ensures.untold c.office_over.ensures.clean_left
+    let store = c.in_ok-store.ensures in
+    let mid = state g.S.Store c.in_ok-store.store.conn in
+    untold_tells g.S.Store image c.office_over.result (BlamesCounts mid) (λ sound. (store.ours image sees sound).not_other) (λ sound. (store.ours image sees sound).not_below_zero)
+    (λ fault none sound. counts_blameless image mid fault (store.ours image sees sound) (λ t holds. (store.found image sees sound t holds).now) none)
+    c.office_over.ensures.untold c.office_over.ensures.clean_left c.office_over.ensures.cause
 
 pub returns-in_err-store-clause-tells : goal.returns-in_err-store-clause-tells
 returns-in_err-store-clause-tells g c image sees =

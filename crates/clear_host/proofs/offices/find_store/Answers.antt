@@ -5,9 +5,10 @@ use Rattle.sqlite.specs.State.{HasCleanDisk}
 use Rattle.clear_disk.specs.Seen.{SeesIn}
 use Rattle.clear_database.proofs.OpenLemmas.{store_tells}
 use Rattle.clear_schema.specs.Schema.{this_layout}
-use Rattle.clear_disk.proofs.SeenLemmas.{if_ok_both, nothing_seen}
-use Rattle.clear_host.proofs.RefusalLemmas.{refused_leaves, tells_only, untold_tells}
-use Rattle.clear_host.proofs.StoreLemmas.{found_seen, just_seen, other_is_seen, still_seen, store_seen, tables_seen, told_seen}
+use Rattle.clear_disk.proofs.SeenLemmas.{if_ok_both}
+use Rattle.clear_host.specs.Contents.{BlamesNone}
+use Rattle.clear_host.proofs.RefusalLemmas.{blames_none, refused_leaves, tells_only, untold_tells}
+use Rattle.clear_host.proofs.StoreLemmas.{below_seen, blameless_numbered, found_seen, just_seen, number_seen, other_is_seen, still_seen, store_seen, tables_seen, told_seen, unnumbered_seen}
 use Rattle.clear_host.proofs.offices.find_store.Goals as goal
 
 pub returns-in-Ok-clause-found : goal.returns-in-Ok-clause-found
@@ -29,16 +30,20 @@ returns-in-Ok-clause-ours g c image sees =
       recovers = found_seen image old seen (λ none. c.in-Ok.ensures.not_empty sound (inl none));
       only_this = λ number holds. c.in-Ok.ensures.right sound number (told_seen image old seen number holds).0 seen.opened.0.is_open;
       not_other = λ holds. c.in-Ok.ensures.not_other sound seen.opened.0.is_open (other_is_seen image old seen holds);
-      only_stores = λ nothing. c.in-Ok.ensures.not_empty sound (inl (nothing_seen image old seen nothing));
+      only_stores = λ none. c.in-Ok.ensures.not_empty sound (unnumbered_seen image old seen none);
+      not_below_zero = λ below. c.in-Ok.ensures.not_below_zero sound (below_seen image old seen below);
     })
     c.confirm.ensures.clean
 
 pub returns-in-Ok-clause-tells : goal.returns-in-Ok-clause-tells
 returns-in-Ok-clause-tells g c image sees =
-    untold_tells g.S.Store image c.confirm.result (λ sound holds.
+    let old = state g.S.Store c.args.connection in
+    untold_tells g.S.Store image c.confirm.result BlamesNone (λ sound holds.
     let seen = sees (c.in-Ok.ensures.clean sound) in
-    c.in-Ok.ensures.not_other sound seen.opened.0.is_open (other_is_seen image (state g.S.Store c.args.connection) seen holds))
-    c.confirm.ensures.untold c.confirm.ensures.clean_left
+    c.in-Ok.ensures.not_other sound seen.opened.0.is_open (other_is_seen image old seen holds))
+    (λ sound below. c.in-Ok.ensures.not_below_zero sound (below_seen image old (sees (c.in-Ok.ensures.clean sound)) below))
+    (λ fault none sound blameless. none)
+    c.confirm.ensures.untold c.confirm.ensures.clean_left c.confirm.ensures.cause
 
 pub returns-in-Err-clause-tells : goal.returns-in-Err-clause-tells
 returns-in-Err-clause-tells g c image sees =
@@ -47,7 +52,9 @@ returns-in-Err-clause-tells g c image sees =
     record {
       version = λ number holds clean. c.in-Err.ensures.version clean number (told_seen image old (seen clean) number holds).0 (seen clean).opened.0.is_open;
       other = λ holds clean. c.in-Err.ensures.other clean (other_is_seen image old (seen clean) holds) (seen clean).opened.0.is_open;
-      empty = λ nothing clean. tells_only 0 c.in-Err.refusal.fault (c.in-Err.ensures.empty clean (inl (nothing_seen image old (seen clean) nothing)));
+      empty = λ none clean. tells_only 0 c.in-Err.refusal.fault (c.in-Err.ensures.empty clean (unnumbered_seen image old (seen clean) none));
+      below_zero = λ below clean. c.in-Err.ensures.below_zero clean (below_seen image old (seen clean) below);
+      cause = λ blameless clean. blames_none c.in-Err.refusal.fault (c.in-Err.ensures.cause clean (number_seen image old (seen clean) (blameless_numbered image blameless)));
     }
 
 pub returns-in-Err-clause-leaves : goal.returns-in-Err-clause-leaves

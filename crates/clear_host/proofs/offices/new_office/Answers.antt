@@ -1,9 +1,9 @@
-use Rattle.std.proofs.Common.{ap, inl, sym, ◌∙◌}
+use Rattle.std.proofs.Common.{ap, sym, ◌∙◌}
 use Rattle.sqlite.specs.Effect.{Database}
 use Rattle.sqlite.specs.Held.{state}
 use Rattle.clear_disk.proofs.SeenLemmas.{nothing_seen}
 use Rattle.clear_host.proofs.RefusalLemmas.{blames_none, tells_none, tells_only}
-use Rattle.clear_host.proofs.StoreLemmas.{just_seen, none_seen, objects_seen, told_seen}
+use Rattle.clear_host.proofs.StoreLemmas.{below_seen, just_seen, none_seen, number_seen, objects_seen, told_seen, unnumbered_seen}
 use Rattle.clear_host.proofs.offices.new_office.Goals as goal
 
 pub returns-in-Ok-clause-made : goal.returns-in-Ok-clause-made
@@ -39,10 +39,20 @@ returns-in-Err-clause-undone g c image sees nothing clean live =
     let stays = c.in-Err.ensures.undone clean none live in
     (ap (λ (d : Database). d.schema) stays.0 ∙ bare, ap (λ (d : Database). d.schema) stays.1 ∙ bare)
 
-pub returns-in-Err-clause-cause : goal.returns-in-Err-clause-cause
-returns-in-Err-clause-cause g c image sees nothing clean =
+pub returns-in-Err-clause-no_number : goal.returns-in-Err-clause-no_number
+returns-in-Err-clause-no_number g c image sees none clean =
     let seen = sees (c.in-Err.ensures.clean_left clean) in
-    blames_none c.in-Err.refusal.fault (c.in-Err.ensures.cause clean (inl (inl (nothing_seen image (state g.S.Store c.args.connection) seen nothing))))
+    tells_only 0 c.in-Err.refusal.fault (c.in-Err.ensures.no_number clean (unnumbered_seen image (state g.S.Store c.args.connection) seen none))
+
+pub returns-in-Err-clause-below_zero : goal.returns-in-Err-clause-below_zero
+returns-in-Err-clause-below_zero g c image sees below clean =
+    let seen = sees (c.in-Err.ensures.clean_left clean) in
+    c.in-Err.ensures.below_zero clean (below_seen image (state g.S.Store c.args.connection) seen below)
+
+pub returns-in-Err-clause-cause : goal.returns-in-Err-clause-cause
+returns-in-Err-clause-cause g c image sees known clean =
+    let seen = sees (c.in-Err.ensures.clean_left clean) in
+    blames_none c.in-Err.refusal.fault (c.in-Err.ensures.cause clean (number_seen image (state g.S.Store c.args.connection) seen known))
 
 pub returns-in-Err-clause-rests : goal.returns-in-Err-clause-rests
 returns-in-Err-clause-rests g c image sees number trees holds tells clean live =

@@ -1,6 +1,7 @@
 use Rattle.std.proofs.lemmas.Result.{err_from_is_err_and}
 use Rattle.sqlite.specs.Files.{over_files}
 use Rattle.sqlite_wal.specs.Files.{image_at}
+use Rattle.clear_schema.specs.Faults.{TellsOutOfRange}
 use Rattle.clear_host.specs.Contents.{BlamesNone, HasJust, IsBare, TellsNone, TellsOnly}
 use Rattle.clear_host.proofs.RefusalLemmas.{never_open, unconnected}
 use Rattle.clear_host.proofs.stores.create_office.Goals as goal
@@ -22,6 +23,12 @@ returns-clause-empty g c = c.new_office.ensures.empty (image_at g.S.Start) c.in_
 
 pub returns-clause-undone : goal.returns-clause-undone
 returns-clause-undone g c = c.new_office.ensures.undone (image_at g.S.Start) c.in_ok-connection.ensures.sees
+
+pub returns-clause-no_number : goal.returns-clause-no_number
+returns-clause-no_number g c = c.new_office.ensures.no_number (image_at g.S.Start) c.in_ok-connection.ensures.sees
+
+pub returns-clause-below_zero : goal.returns-clause-below_zero
+returns-clause-below_zero g c = c.new_office.ensures.below_zero (image_at g.S.Start) c.in_ok-connection.ensures.sees
 
 pub returns-clause-cause : goal.returns-clause-cause
 returns-clause-cause g c = c.new_office.ensures.cause (image_at g.S.Start) c.in_ok-connection.ensures.sees
@@ -47,8 +54,18 @@ returns-in_err-connection-clause-undone g c nothing =
     let p = err_from_is_err_and c.from_residual.result c.from_residual.ensures.1 in
     rw (p.1, p.2) (never_open over_files IsBare c.in_err-connection.field-0.0 c.in_err-connection.ensures.none)
 
+pub returns-in_err-connection-clause-no_number : goal.returns-in_err-connection-clause-no_number
+returns-in_err-connection-clause-no_number g c none =
+    let p = err_from_is_err_and c.from_residual.result c.from_residual.ensures.1 in
+    rw (p.1, p.2) (unconnected over_files (TellsOnly 0) c.in_err-connection.field-0.0 c.in_err-connection.ensures.none)
+
+pub returns-in_err-connection-clause-below_zero : goal.returns-in_err-connection-clause-below_zero
+returns-in_err-connection-clause-below_zero g c below =
+    let p = err_from_is_err_and c.from_residual.result c.from_residual.ensures.1 in
+    rw (p.1, p.2) (unconnected over_files TellsOutOfRange c.in_err-connection.field-0.0 c.in_err-connection.ensures.none)
+
 pub returns-in_err-connection-clause-cause : goal.returns-in_err-connection-clause-cause
-returns-in_err-connection-clause-cause g c nothing =
+returns-in_err-connection-clause-cause g c known =
     let p = err_from_is_err_and c.from_residual.result c.from_residual.ensures.1 in
     rw (p.1, p.2) (unconnected over_files BlamesNone c.in_err-connection.field-0.0 c.in_err-connection.ensures.none)
 

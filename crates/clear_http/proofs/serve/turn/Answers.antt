@@ -1,4 +1,4 @@
-use Rattle.std.proofs.Common.{Bool, cond, ◌∷◌, ◌++◌, [], inl, inr, refl, sym, ap, ◌∙◌, subst, arith}
+use Rattle.std.proofs.Common.{Bool, Ok, Err, cond, ◌∷◌, ◌++◌, [], inl, inr, refl, sym, ap, ◌∙◌, subst, arith}
 use Rattle.std.proofs.lemmas.List.{append-nil}
 use Rattle.std.specs.Io.KnownBytes.{Appends}
 use Rattle.clear_answers.specs.declared.said.Said.TheVariants.{No}
@@ -7,6 +7,7 @@ use Rattle.clear_wire.specs.Cut.{left_after}
 use Rattle.clear_wire.specs.Request.{next_item}
 use Rattle.clear_wire.proofs.CutLemmas.{cuts_one, nothing_cut}
 use Rattle.clear_wire.proofs.KnownLemmas.{Appends-nil}
+use Rattle.clear_http.proofs.PlaceLemmas.{few_held}
 use Rattle.clear_http.proofs.ServeLemmas.{Replied, replied_as, same_answer, says, sent_ends}
 use Rattle.clear_http.proofs.serve.turn.Goals as goal
 use Rattle.clear_http.proofs.serve.turn.Goals.{in-Bad, in-Whole}
@@ -65,3 +66,12 @@ returns-clause-fault g c =
 pub returns-in-Err-clause-fault : goal.returns-in-Err-clause-fault
 returns-in-Err-clause-fault g c =
     ([], [], [], [], omega arith, nothing_cut c.args.left _, refl, Appends-nil _, refl, tt)
+
+pub returns-in-Err-clause-held : goal.returns-in-Err-clause-held
+returns-in-Err-clause-held g c = few_held _ _ (Err c.in-Err.fault) c.in-Err.ensures.ends c.in-Err.ensures.over c.in-Err.ensures.ahead
+
+pub returns-in-Ok-write_answer-clause-held : goal.returns-in-Ok-write_answer-clause-held
+returns-in-Ok-write_answer-clause-held g c = few_held _ _ (Ok c.in-Ok.item) c.in-Ok.ensures.ends c.in-Ok.ensures.over c.in-Ok.ensures.ahead
+
+pub returns-clause-held : goal.returns-clause-held
+returns-clause-held g c = few_held _ _ (Ok c.in-Ok.item) c.in-Ok.ensures.ends c.in-Ok.ensures.over c.in-Ok.ensures.ahead

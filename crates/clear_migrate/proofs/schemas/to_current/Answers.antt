@@ -1,11 +1,11 @@
-use Rattle.std.proofs.Common.{◌∙◌, Err, IfErr, ap, inl, subst, sym}
+use Rattle.std.proofs.Common.{◌∙◌, Err, IfErr, ap, inl, inr, subst, sym}
 use Rattle.std.proofs.lemmas.Result.{err_from_is_err_and}
 use Rattle.clear_schema.specs.Faults.{IsWrong}
 use Rattle.clear_schema.specs.Held.{this_schema}
 use Rattle.clear_values.specs.declared.causes.StoreCause.TheVariants.{Row}
 use Rattle.clear_schema.specs.declared.fault.Fault.TheVariants.{Store}
 use Rattle.clear_schema.specs.declared.fault.OpenFault.TheVariants.{Failed, WrongVersion}
-use Rattle.clear_migrate.proofs.AnswerLemmas.{fails_so, fails_untold, not_true, other_error, on_ok_so, told_is}
+use Rattle.clear_migrate.proofs.AnswerLemmas.{fails_so, fails_untold, none_disk, not_true, other_error, on_ok_so, told_disk, told_is}
 use Rattle.clear_migrate.proofs.schemas.to_current.Goals as goal
 
 pub returns-clause-current : goal.returns-clause-current
@@ -60,3 +60,11 @@ pub returns-in_err-number-clause-below_zero : goal.returns-in_err-number-clause-
 returns-in_err-number-clause-below_zero g c clean below =
     let p = err_from_is_err_and c.from_residual.result c.from_residual.ensures.1 in
     rw (p.1, p.2) (other_error (Failed (Store Row)) c.in_err-number.field-0.0 (c.in_err-number.ensures.below_zero clean below))
+
+pub returns-in_err-number-clause-cause : goal.returns-in_err-number-clause-cause
+returns-in_err-number-clause-cause g c clean (inl none) =
+    let p = err_from_is_err_and c.from_residual.result c.from_residual.ensures.1 in
+    rw (p.1, p.2) (λ why is. none_disk 0 c.in_err-number.field-0.0 why (c.in_err-number.ensures.empty clean none) is)
+returns-in_err-number-clause-cause g c clean (inr (number, has)) =
+    let p = err_from_is_err_and c.from_residual.result c.from_residual.ensures.1 in
+    rw (p.1, p.2) (λ why is. told_disk number c.in_err-number.field-0.0 why (c.in_err-number.ensures.told clean number has) is)

@@ -22,3 +22,8 @@ returns-in-Some-clause-none g c clean t has empty =
 
 pub returns-in-None-clause-fault : goal.returns-in-None-clause-fault
 returns-in-None-clause-fault g c clean t has within = absurd (none_left t.rates (sym c.in-None.is ∙ c.in_ok-row.ensures.looks.found clean t has) within.rates.some)
+
+pub returns-in_err-row-clause-cause : goal.returns-in_err-row-clause-cause
+returns-in_err-row-clause-cause g c clean t has =
+    let p = err_from_is_err_and c.from_residual.result c.from_residual.ensures.1 in
+    rw (p.1, p.2) (c.in_err-row.ensures.looks.cause clean t has)

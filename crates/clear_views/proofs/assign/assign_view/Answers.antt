@@ -24,6 +24,18 @@ returns-clause-view g c clean t has same b stands =
     (c.in_ok-line.ensures.looks.found clean_two t has_one)
     (c.in_ok-full.ensures.full clean t has_two)
 
+pub returns-clause-full : goal.returns-clause-full
+returns-clause-full g c clean t has =
+    let old = state g.S.Store c.args.tx.now.conn.now in
+    let one = state g.S.Store c.find_member.new.tx.conn.now in
+    let two = state g.S.Store c.find_line.new.tx.conn.now in
+    let end = state g.S.Store c.is_full.new.tx.conn.now in
+    let clean_two = was_clean two end c.is_full.ensures.leaves.survives clean in
+    let clean_one = was_clean one two c.find_line.ensures.looks.survives clean_two in
+    let has_one = still t old one (c.in_ok-find_member.ensures.leaves.same clean_one t has) has in
+    let has_two = still t one two (c.in_ok-line.ensures.looks.same clean_two t has_one) has_one in
+    c.in_ok-full.ensures.full clean t has_two
+
 pub returns-in_err-line-clause-fault : goal.returns-in_err-line-clause-fault
 returns-in_err-line-clause-fault g c clean t has good =
     let p = err_from_is_err_and c.from_residual-in_err-line.result c.from_residual-in_err-line.ensures.1 in

@@ -1,6 +1,9 @@
-use Rattle.std.proofs.Common.{rules, ◌≡◌, [], Ok, refl}
-use Rattle.std.specs.Prelude.{⊤}
-use Rattle.clear_views.proofs.FirmLemmas.{named_found}
+use Rattle.std.proofs.Common.{rules, ◌≡◌, ◌∙◌, ℕ, [], Option, Ok, refl, subst}
+use Rattle.std.specs.List.{AllByRecursion}
+use Rattle.std.specs.Prelude.{⊤, IfSome}
+use Rattle.clear_rules.specs.Views.ImportBank.{employer_under}
+use Rattle.clear_views.specs.Imports.{firm_viewed}
+use Rattle.clear_views.proofs.FirmLemmas.{named_found, placed_names, placed_registered}
 use Rattle.clear_views.proofs.ImportLemmas.{suspense_read}
 use Rattle.clear_debts.proofs.ReadLemmas.{was_clean}
 use Rattle.clear_views.proofs.StillLemmas.{reads_else, reads_then}
@@ -21,10 +24,15 @@ returns-clause-reads g c = record {
       reads_else g.S.Store t none none _ _ c.in_ok-suspense.suspense _ _ _ (λ p. p)
       (record {
         known = known.found;
-        serving = c.serving.result;
-        serves = c.serving.ensures.serves;
-        employers = named_found t c.serving.result c.in_ok-firms.firms.registered.items firms.found.firms firms.found.registered c.args.lines.now firms.found.named;
+        employers =
+            subst (λ (served : Option ℕ). AllByRecursion (λ line. IfSome line.employer (λ e. employer_under c.in_ok-firms.firms.registered.items e ≡ firm_viewed served t e)) c.args.lines.now) c.serving.ensures.number
+            (named_found t c.serving.result c.in_ok-firms.firms.registered.items firms.found.firms firms.found.registered c.args.lines.now firms.found.named);
         suspense = suspense_read t c.args.serials c.args.lines.now c.serving.result c.in_ok-firms.firms _ firms.found all.found;
+        few = c.in_ok-suspense.ensures.few;
+        placed = λ placed.
+            c.in_ok-suspense.ensures.placed
+            (firms.found.all ∙ placed_registered t c.serving.result c.in_ok-firms.firms.registered.items firms.found.firms firms.found.registered c.args.lines.now firms.found.named placed)
+            (placed_names c.in_ok-firms.firms.registered.items c.args.lines.now placed);
         serials_is = refl;
       })
       all;

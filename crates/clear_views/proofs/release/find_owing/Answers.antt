@@ -30,6 +30,15 @@ returns-clause-debts g c clean t has given back b lawful stands =
     let has_one = still t old one (c.in_ok-row.ensures.looks.same clean_one t has) has in
     c.in_ok-debts.ensures.debts clean t has_one given back b lawful stands
 
+pub returns-clause-count : goal.returns-clause-count
+returns-clause-count g c clean t has =
+    let old = state g.S.Store c.args.tx.now.conn.now in
+    let one = state g.S.Store c.find_claim.new.tx.conn.now in
+    let end = state g.S.Store c.firm_debts.new.tx.conn.now in
+    let clean_one = was_clean one end c.firm_debts.ensures.leaves.survives clean in
+    let has_one = still t old one (c.in_ok-row.ensures.looks.same clean_one t has) has in
+    c.in_ok-debts.ensures.count clean t has_one
+
 pub returns-in_err-debts-clause-fault : goal.returns-in_err-debts-clause-fault
 returns-in_err-debts-clause-fault g c clean t has b lawful stands =
     let p = err_from_is_err_and c.from_residual-in_err-debts.result c.from_residual-in_err-debts.ensures.1 in

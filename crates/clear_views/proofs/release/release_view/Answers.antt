@@ -13,3 +13,6 @@ returns-clause-view g c clean t has same back b lawful stands =
       debts_are = c.in_ok-found.ensures.debts clean t has given back b lawful stands;
       serials_is = given ∙ stands.stands.serial;
     }
+
+pub returns-clause-count : goal.returns-clause-count
+returns-clause-count g c clean t has = c.in_ok-found.ensures.count clean t has
