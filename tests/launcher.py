@@ -25,16 +25,18 @@ from program_under_test import NOBODY, ROOT  # noqa: E402
 TOOLS = "awk bash cat dirname env find flock mkdir nproc readlink sed sh sha256sum sleep sort stat wc".split()
 CRATES = """# as in the repository
 clear_money: std_of_the_kit
-clear_http: clear_money
-clear_program: clear_http clear_money
+clear_views: clear_money
+clear_office: clear_views
+clear_program: clear_office clear_money
 clear_app: clear_program
 other: clear_money
 """
-PROVED = ("clear_money", "clear_http", "clear_program", "clear_app")
+PROVED = ("clear_money", "clear_views", "clear_office", "clear_program", "clear_app")
+BUILD = ["clear_money: lib --jobs N", "clear_program: all test --jobs N", "clear_program: lib --jobs N", "clear_app: run"]
 KIT = "kit of the tests"
 
 # In the folder `state` beside the kit, a file of the name of a step has the stub wait in that step, `refused` names a step
-# that fails, and `busy` has it say that it waits.
+# that fails, and `busy` has it say that it waits. `all test` would go on for ever with the crate above those that it proves.
 STUB = r"""#!/bin/sh
 PATH=/usr/bin:/bin
 state=$(dirname "$(readlink -f "$0")")/../../state
@@ -48,14 +50,16 @@ case $* in
     version) cat "$state/version" ;;
     "lib --jobs "* | "all test --jobs "*)
         [ ! -e "$state/busy" ] || echo "rt: waiting for another rt to finish in clear_money" >&2
-        [ "$1" = lib ] && crates=clear_money || crates="clear_http clear_program"
+        crates=${PWD##*/}
+        [ "$crates" != clear_program ] || crates="clear_office clear_program"
+        [ "$1" = lib ] || { crates=clear_views && echo $$ >"$state/all" && echo "== clear_money"; }
         for crate in $crates; do
             step "$crate" && line="logic=proved functions=1" || line="fn $crate::f: not proved"
             [ "$1" = lib ] || echo "== $crate"
             printf '%s\n' "statements std: modules loaded=0 checked=0" "crate $crate: modules loaded=1 checked=1" "$line"
             [ "$line" = "logic=proved functions=1" ] || exit 1
         done
-        [ "$1" = lib ] || printf '%s\n' "== summary" "3 of 3 crates ok"
+        while [ "$1" = all ]; do sleep 0.02; done
         ;;
     run)
         printf '#!/bin/sh\necho "half a program"\n' >out/clear_app
@@ -94,10 +98,10 @@ class Launcher(unittest.TestCase):
         for it in TOOLS:
             (self.bin / it).symlink_to(shutil.which(it))
         self.write("checkout/crates.txt", CRATES)
-        for it in ("clear_money", "clear_http", "clear_program", "other"):
+        for it in (*PROVED[:-1], "other"):
             self.write(f"checkout/crates/{it}/src/lib.rt", "")
         self.write("checkout/crates/clear_money/specs/low.antt", "")
-        self.write("checkout/crates/clear_http/proofs/deep/high.antt", "")
+        self.write("checkout/crates/clear_views/proofs/deep/high.antt", "")
         self.write("checkout/crates/clear_app/src/main.rt", "")
         for it in ("clearing", "try"):
             shutil.copy(ROOT / it, self.root)
@@ -170,9 +174,10 @@ class Launcher(unittest.TestCase):
         return [re.sub(r"--jobs [1-9]\d*$", "--jobs N", it) for it in text.splitlines()]
 
     def builds(self, **options):
-        """Two calls of rt prove all, and a third one builds."""
+        """Three calls of rt prove all, and a fourth one builds. The one that would go on is ended."""
         lines = self.runs(**options)
-        self.assertEqual(self.calls(), ["clear_money: lib --jobs N", "clear_program: all test --jobs N", "clear_app: run"])
+        self.assertEqual(self.calls(), BUILD)
+        self.assertFalse(Path(f"/proc/{(self.state / 'all').read_text().strip()}").exists())
         return lines
 
     def runs_at_once(self, **options):
@@ -194,9 +199,9 @@ class Launcher(unittest.TestCase):
 class Builds(Launcher):
     def test_the_first_start_builds_and_the_second_does_not(self):
         lines = self.builds()
-        self.assertIn("4 crates", lines[0])
-        proved = [f"clearing: proved {it}, {at} of 4" for at, it in enumerate(PROVED, 1)]
-        self.assertEqual(lines[1:], [*proved[:3], "clearing: building the program", proved[3]])
+        self.assertIn("5 crates", lines[0])
+        proved = [f"clearing: proved {it}, {at} of 5" for at, it in enumerate(PROVED, 1)]
+        self.assertEqual(lines[1:], [*proved[:4], "clearing: building the program", proved[4]])
         self.runs_at_once()
 
     def test_another_rt_that_works_there_is_told(self):
@@ -215,7 +220,7 @@ class Builds(Launcher):
         closed = {"preexec_fn": lambda: os.close(0)}
         for _ in range(2):
             self.assertEqual(self.run_script("a word", **closed)[0], 3)
-        self.assertEqual(len(self.calls()), 3)
+        self.assertEqual(self.calls(), BUILD)
 
     def test_no_standard_error(self):
         with open("/dev/full", "w") as full:
@@ -223,7 +228,7 @@ class Builds(Launcher):
                 with self.subTest(str(how)):
                     status, output, _ = self.run_script("a word", stdin="input", folder=self.state, **how)
                     self.assertEqual(output, "state\na word\ninput")
-                    self.assertEqual(len(self.calls()), 3)
+                    self.assertEqual(self.calls(), BUILD)
                     self.kit.unlink()
                     self.program.unlink()
 
@@ -245,7 +250,7 @@ class Builds(Launcher):
     def test_sources(self):
         self.runs()
         self.calls()
-        for it in ("crates.txt", "crates/clear_money/specs/low.antt", "crates/clear_http/proofs/deep/high.antt", "crates/clear_http/src/lib.rt",
+        for it in ("crates.txt", "crates/clear_money/specs/low.antt", "crates/clear_views/proofs/deep/high.antt", "crates/clear_views/src/lib.rt",
                    "crates/clear_app/src/main.rt"):
             with self.subTest(it):
                 self.change(it)
@@ -266,7 +271,7 @@ class Builds(Launcher):
         self.calls()
         for hours in (-2, 2):
             with self.subTest(hours=hours):
-                self.change("crates/clear_http/src/lib.rt", time.time() + hours * 3_600)
+                self.change("crates/clear_views/src/lib.rt", time.time() + hours * 3_600)
                 self.builds()
                 self.runs_at_once()
 
@@ -320,7 +325,7 @@ class Builds(Launcher):
         self.runs_at_once()
 
     def test_two_starts_at_once_build_once(self):
-        held = self.holds("clear_http")
+        held = self.holds("clear_views")
         first = self.start("first")
         self.wait_for(lambda: (self.state / "process").exists())
         second = self.start("second")
@@ -330,7 +335,7 @@ class Builds(Launcher):
         for running, word in ((first, "first"), (second, "second")):
             status, output, errors = self.ended(running)
             self.assertEqual((status, output), (3, f"{self.folder.name}\n{word}\n"), errors)
-        self.assertEqual(len(self.calls()), 3)
+        self.assertEqual(self.calls(), BUILD)
         self.runs_at_once()
 
     def test_a_program_that_runs_holds_no_lock(self):
@@ -348,7 +353,7 @@ class Builds(Launcher):
 class Faults(Launcher):
     def test_a_build_that_is_broken_off(self):
         for number, status in ((signal.SIGHUP, 129), (signal.SIGINT, 130), (signal.SIGTERM, 143), (signal.SIGKILL, -9)):
-            for step in ("clear_http", "run"):
+            for step in ("clear_views", "run"):
                 with self.subTest(f"{number.name} in {step}"):
                     self.break_off(number, status, step)
                     self.calls()
@@ -380,7 +385,7 @@ class Faults(Launcher):
 
     def test_a_start_that_waits_and_is_broken_off(self):
         """Nothing of it stays, which would hold its standard error open."""
-        held = self.holds("clear_http")
+        held = self.holds("clear_views")
         first = self.start()
         self.wait_for(lambda: (self.state / "process").exists())
         for number, status in ((signal.SIGHUP, 129), (signal.SIGINT, 130), (signal.SIGTERM, 143)):
@@ -392,10 +397,10 @@ class Faults(Launcher):
         self.assertEqual(self.ended(first)[0], 3)
 
     def test_a_proof_that_fails(self):
-        self.write("state/refused", "clear_http")
-        lines = self.fails("clearing: proved clear_money, 1 of 4\n", "fn clear_http::f: not proved\nclearing: ")
-        self.assertFalse([it for it in lines if "proved clear_http" in it or "building" in it or it.startswith("statements")])
-        self.fails("fn clear_http::f: not proved\n")
+        self.write("state/refused", "clear_views")
+        lines = self.fails("clearing: proved clear_money, 1 of 5\n", "fn clear_views::f: not proved\nclearing: ")
+        self.assertFalse([it for it in lines if "proved clear_views" in it or "building" in it or it.startswith("statements")])
+        self.fails("fn clear_views::f: not proved\n")
         (self.state / "refused").unlink()
         self.calls()
         self.builds()
@@ -449,7 +454,7 @@ class Faults(Launcher):
         self.assertEqual(self.runs(user=NOBODY), ["0077"])
         self.assertEqual(self.calls(), [])
         # What keeps that user from it is told: the program need not be built again.
-        for it in (self.program.parent, self.kit, self.root / "crates/clear_http/src"):
+        for it in (self.program.parent, self.kit, self.root / "crates/clear_views/src"):
             mode = it.stat().st_mode
             it.chmod(0)
             self.assertEqual(len(self.fails("as far as this user may read", user=NOBODY)), 1)

@@ -1,8 +1,9 @@
 -- What work has to say at its end, by what it did.
-use Rattle.std.proofs.Common.{◌≡◌, ◌∙◌, ◌⊎◌, ℕ, List, [], Option, Result, Ok, Err, inl, inr, refl, sym, ap, subst}
-use Rattle.std.proofs.lemmas.Result.{IfOk-weaker}
+use Rattle.std.proofs.Common.{◌≡◌, ◌∙◌, ◌⊎◌, ℕ, Bool, true, false, List, [], Option, Result, Ok, Err, inl, inr, refl, sym, ap, subst}
+use Rattle.std.proofs.lemmas.Result.{IfErr-weaker, IfOk-weaker}
 use Rattle.std.specs.Prelude.{IfErr, IfOk}
 use Rattle.sqlite.specs.Store.{Ghosts}
+use Rattle.sqlite_wal.specs.Recovery.{Image}
 use Rattle.clear_book.specs.declared.outcomes.Answer.TheVariants.{Owed, Text}
 use Rattle.clear_book.specs.declared.outcomes.Outcome.{Outcome}
 use Rattle.clear_book.specs.declared.outcomes.Outcome.TheVariants.{Replied, Answered, Refused}
@@ -10,13 +11,16 @@ use Rattle.clear_book.specs.declared.outcomes.Reply.TheVariants as reply
 use Rattle.clear_book.specs.declared.rules.Rule.{Rule}
 use Rattle.clear_book.specs.declared.rules.Rule.TheVariants as rules
 use Rattle.clear_book.specs.declared.rules.StoreCause.TheVariants.{Row}
+use Rattle.clear_money.specs.Rates.{Rate}
 use Rattle.clear_office.specs.Office.{AtOffice}
 use Rattle.clear_cli.specs.Ready.{imported_line, served_line}
+use Rattle.clear_host.specs.declared.offices.Opened.{Opened}
 use Rattle.clear_server.specs.declared.connections.Ended.{Ended}
 use Rattle.clear_server.specs.declared.connections.Ended.TheVariants.{NoConnections, Served, StoreGone}
 use Rattle.clear_server.specs.Told.{Written}
 use Rattle.clear_program.specs.Ends.{CannotWork, SaysDone, TellsOf}
-use Rattle.clear_program.specs.Stops.{IsOfStore}
+use Rattle.clear_program.specs.Made.{Makes}
+use Rattle.clear_program.specs.Stops.{IsOfFile, IsOfStore, by_store, no_memory}
 use Rattle.clear_program.specs.Opening.{WorksOn}
 use Rattle.clear_program.specs.Works.{CannotServe, IsSaid, Works, import_said, serving_said, statement_said}
 use Rattle.clear_program.specs.declared.opening.Unopened.{Unopened}
@@ -111,7 +115,7 @@ module _ {A : Type 0} (bytes : A → List ℕ) where
     works_say old new result ledger_day told told' (work.Statement day employer) (done, same) =
         statement_any day employer result (statement_so result (statement_said done.0) (statement_is done.0) done.2)
     works_say old new result ledger_day told told' (work.Backup copy) (same, copied, quiet) =
-        (IfOk-weaker result _ _ (λ it is. (ledger_day, is)) copied.0, copied.1)
+        (IfOk-weaker result _ _ (λ it is. (is.0, (ledger_day, is.1))) copied.0, copied.1)
 
     works_tell : (old new : AtOffice S) (result : Result A Stop) (ledger_day : Option ℕ) (told told' : Written) (work : Work)
         → Works bytes g old new result ledger_day told told' work → TellsOf work told told'
@@ -143,3 +147,26 @@ module _ {A : Type 0} (bytes : A → List ℕ) where
       subst (λ (r : Result A Stop). MaySayOf work r) (sym none.0) (tt, inl (why.fault, refl)),
       nothing_told told told' work none.1,
     )
+
+module _ {A M E : Type 0} (bytes : A → List ℕ) (line : List ℕ) (stop_by : E → Stop) (P : Stop → Type 0) where
+  -- a line is said of what was made, or why it wasn't
+  pub said_so : (made : Result M E) (result : Result A Stop) → P no_memory → IfOk made (λ _. IsSaid bytes (Ok line) result)
+      → IfErr made (λ e. result ≡ Err (stop_by e)) → IfErr made (λ e. P (stop_by e)) → IfOk result (λ it. bytes it ≡ line) × IfErr result P
+  said_so (Ok it) (Ok text) none said refused why = (sym (ap text_in said), tt)
+  said_so (Ok it) (Err reason) none (inl is) refused why = (tt, subst P (sym is) none)
+  said_so (Ok it) (Err reason) none (inr is) refused why = absurd (cc is)
+  said_so (Err e) result none said is why = subst (λ (r : Result A Stop). IfOk r (λ it. bytes it ≡ line) × IfErr r P) (sym is) (tt, why)
+
+-- why no store is made
+abbrev pub IsUnmade : Stop → Type 0
+IsUnmade why = IsOfFile why ⊎ IsOfStore why
+
+pub unmade : {S : Type 0} (g : Ghosts S) (image : Image) (left : Bool) (rates : List Rate) (made : Result (Opened S) Stop)
+    → Makes g image left rates made → IfErr made IsUnmade
+unmade g image true rates made is = subst (λ r. IfErr r IsUnmade) (sym is) (inl (inr refl))
+unmade g image false rates made makes = IfErr-weaker made _ _ (λ why it. inr (it.0.fault, it.3)) makes.1
+
+-- why a store isn't opened is a reason of stores
+pub why_of_store : {M : Type 0} (made : Result M Unopened) → IfErr made (λ why. IsOfStore (by_store why.fault))
+why_of_store (Ok it) = tt
+why_of_store (Err why) = (why.fault, refl)

@@ -3,3 +3,4 @@ pub mod StatusLemmas
 pub mod WriteLemmas
 pub mod StreamLemmas
 pub mod EndLemmas
+pub mod LookLemmas

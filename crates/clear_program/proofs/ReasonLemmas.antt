@@ -10,14 +10,12 @@ use Rattle.sqlite_wal.specs.Recovery.{Image}
 use Rattle.clear_book.specs.declared.rules.StoreCause.TheVariants.{Other}
 use Rattle.clear_schema.specs.Faults.{fault_of}
 use Rattle.clear_schema.specs.declared.fault.Fault.TheVariants.{Store}
-use Rattle.clear_schema.specs.declared.fault.OpenFault.{OpenFault}
 use Rattle.clear_schema.specs.declared.fault.OpenFault.TheVariants.{Failed}
-use Rattle.clear_files.specs.declared.paths.PathKind.TheVariants.{Filled}
 use Rattle.clear_host.specs.Contents.{IsByError, IsWhyUnopened}
 use Rattle.clear_host.specs.Hindrances.{hindrance_of}
 use Rattle.clear_host.specs.declared.offices.NotOpened.{NotOpened}
-use Rattle.clear_program.specs.Opening.{IsRefused, gone}
-use Rattle.clear_program.specs.Reasons.{IsWhyRefused, refused_path}
+use Rattle.clear_program.specs.Opening.{IsRefused}
+use Rattle.clear_program.specs.Reasons.{IsWhyRefused}
 use Rattle.clear_program.specs.declared.opening.Unopened.{Unopened}
 
 -- what stands in the way is told as a fault of the store

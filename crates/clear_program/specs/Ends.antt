@@ -1,5 +1,5 @@
 -- How the program ends: what the words ask for is done and said, or why it is not is told.
-use Rattle.std.specs.Prelude.{◌≡◌, ◌⊎◌, ⊤, ℕ, Bool, true, List, Option, Result, Ok, Err, IfErr, IfOk}
+use Rattle.std.specs.Prelude.{◌≡◌, ◌⊎◌, ⊤, ℕ, Bool, false, true, List, Option, Result, Ok, Err, IfErr, IfOk}
 use Rattle.std.specs.Prelude.{if◌then◌else◌, string_bytes}
 use Rattle.std.specs.Global.{Global}
 use Rattle.std.specs.Io.KnownBytes.{Appends}
@@ -13,6 +13,7 @@ use Rattle.clear_texts.specs.Look.{look_text}
 use Rattle.clear_texts.specs.declared.look.Look.{Look}
 use Rattle.clear_cli.specs.Lines.{Text}
 use Rattle.clear_cli.specs.Ready.{copied_line, imported_line, ready_text, schema_line, served_line}
+use Rattle.clear_files.specs.Names.{is_of_another_use}
 use Rattle.clear_files.specs.declared.paths.PathKind.{PathKind}
 use Rattle.clear_host.specs.declared.hindrance.Hindrance.{Hindrance}
 use Rattle.clear_server.specs.Told.{AreTold, Writes, Written}
@@ -31,13 +32,14 @@ use Rattle.clear_program.specs.declared.tasks.Work.TheVariants as work
 
 -- ---- what a task has to say at its end
 
--- what work that is done says
+-- what work that is done says; a copy has a name of its own then
 abbrev pub SaysDone : Work → List ℕ → Type 0
 SaysDone (work.Serve directory day port count) text = text ≡ served_line count
 SaysDone (work.Import day number command) text =
     (new : ℕ) × (repeats : ℕ) × (text ≡ imported_line new repeats)
 SaysDone (work.Statement day employer) text = ⊤
-SaysDone (work.Backup copy) text = (day : Option ℕ) × (text ≡ copied_line day)
+SaysDone (work.Backup copy) text =
+    (is_of_another_use copy.now ≡ false) × ((day : Option ℕ) × (text ≡ copied_line day))
 
 -- why work on a store that was opened isn't done
 abbrev pub CannotWork : Work → Stop → Type 0
@@ -113,19 +115,23 @@ module _ (out out' told told' : Written) where
       (said : Result (String Global) Stop) × MaySay string_bytes task said
       × Puts string_bytes said (status_for task) out out' result × TellsMeanwhile task told told'
 
+  -- why a store isn't opened is told, with its status, and nothing is said
+  abbrev pub TellsUnopened : Unopened → Result ℕ Stop → Type 0
+  TellsUnopened why result =
+      (status : ℕ) × TellsWhy why.kind why.hindrance why.fault told told' status
+      × (result ≡ Ok status) × (out' ≡ out)
+
   -- there is no store to look at, and why is told
   abbrev pub TellsNoStore : Result ℕ Stop → Type 0
   TellsNoStore result =
-      (why : Unopened) × (status : ℕ) × IsWhyRefused why.kind why.hindrance why.fault
-      × TellsWhy why.kind why.hindrance why.fault told told' status × (result ≡ Ok status)
-      × (out' ≡ out)
+      (why : Unopened) × IsWhyRefused why.kind why.hindrance why.fault × TellsUnopened why result
 
-  -- a task is done; nothing is read for one but a stream, whose requests in these bytes are answered,
-  -- or those up to a fault
+  -- a task is done; nothing is read for one but a stream, whose requests in these bytes are answered
+  -- while neither input nor output fails, or those up to a fault
   abbrev pub Does : Option (List ℕ) → Noted → Noted → Task → Result ℕ Stop → Type 0
   Does bytes input input' (task.Stream rates directory day) result =
       (told' ≡ told)
-      × IfOk result (λ status. (status ≡ 0)
+      × IfOk result (λ status. (status ≡ 0) × (input'.failed ≡ false) × (out'.failed ≡ false)
       × AnswersAll (Reads directory day) rates bytes out.bytes out'.bytes)
       × IfErr result (λ why. AnswersFront (Reads directory day) rates bytes out.bytes out'.bytes
       × IsCutShort input'.failed out'.failed input.reads input'.reads why)

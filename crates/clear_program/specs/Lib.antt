@@ -3,6 +3,7 @@ pub mod Reasons
 pub mod Asked
 pub mod Streams
 pub mod Works
-pub mod Looks
 pub mod Opening
+pub mod Made
 pub mod Ends
+pub mod Looks

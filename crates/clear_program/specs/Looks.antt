@@ -1,5 +1,7 @@
 -- What a look says of a store, and what is done with an office before its store is closed.
-use Rattle.std.specs.Prelude.{◌≡◌, ℕ, List, [], Option, Result, Ok, IfErr, IfOk}
+use Rattle.std.specs.Prelude.{◌≡◌, ℕ, List, [], Option, Result, Ok, IfErr, IfOk, string_bytes}
+use Rattle.std.specs.Global.{Global}
+use Rattle.std.specs.declared.string.String.{String}
 use Rattle.sqlite.specs.Held.{Held, state}
 use Rattle.sqlite.specs.State.{HasCleanDisk, KeepsCommit, Survives}
 use Rattle.sqlite.specs.Store.{Ghosts}
@@ -10,6 +12,7 @@ use Rattle.clear_reading.specs.Look.{look_of}
 use Rattle.clear_texts.specs.Look.{look_text}
 use Rattle.clear_texts.specs.declared.look.Look.{Look}
 use Rattle.clear_server.specs.Told.{Written}
+use Rattle.clear_program.specs.Ends.{Puts}
 use Rattle.clear_program.specs.Stops.{IsOfStoreFault}
 use Rattle.clear_program.specs.Works.{IsSaid, Works}
 use Rattle.clear_program.specs.declared.jobs.Job.{Job}
@@ -41,3 +44,10 @@ module _ {A S : Type 0} (bytes : A → List ℕ) (g : Ghosts S) (result : Result
   DoesJob ledger_day office left told told' (job.Work file work) =
       (then : AtOffice S) × Works bytes g office then result ledger_day told told' work
       × (left ≡ then.conn)
+
+-- what stands in the store of a connection is said on the output, and nothing is told
+abbrev pub SaysLook : {S : Type 0} → Ghosts S → Written → Written → Written → Written → Held S
+    → Result ℕ Stop → Type 0
+SaysLook {S} g out out' told told' connection result =
+    (said : Result (String Global) Stop) × (left : Held S) × Looks string_bytes g said connection left
+    × Puts string_bytes said 0 out out' result × (told' ≡ told)

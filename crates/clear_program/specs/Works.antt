@@ -1,5 +1,5 @@
 -- What work does to an office that was opened, what is said of it at the end, and what is told before.
-use Rattle.std.specs.Prelude.{◌≡◌, ◌⊎◌, ℕ, List, Option, Result, Ok, Err, IfErr, IfOk}
+use Rattle.std.specs.Prelude.{◌≡◌, ◌⊎◌, ℕ, List, Option, Result, Ok, Err, IfErr, IfOk, false}
 use Rattle.sqlite.specs.Store.{Ghosts}
 use Rattle.clear_book.specs.declared.calls.Call.{Call}
 use Rattle.clear_book.specs.declared.calls.Call.TheVariants.{Do, Ask}
@@ -15,6 +15,7 @@ use Rattle.clear_office.specs.Office.{AtOffice, Acts, StaysFailed}
 use Rattle.clear_callers.specs.Callers.{KeyOf}
 use Rattle.clear_routes.specs.Reading.{Reads}
 use Rattle.clear_cli.specs.Ready.{copied_line, imported_line, ready_text, served_line}
+use Rattle.clear_files.specs.Names.{is_of_another_use}
 use Rattle.clear_server.specs.Talks.{AreServed}
 use Rattle.clear_server.specs.Told.{AreTold, Writes, Written}
 use Rattle.clear_server.specs.declared.connections.Ended.{Ended}
@@ -59,10 +60,11 @@ module _ {A : Type 0} (bytes : A → List ℕ) where
   IsSaid right (Ok text) = right ≡ Ok (bytes text)
   IsSaid right (Err why) = (why ≡ no_memory) ⊎ (right ≡ Err why)
 
-  -- this line is said, or why a copy can't be made
-  abbrev pub IsCopied : Option ℕ → Result A Stop → Type 0
-  IsCopied ledger_day result =
-      IfOk result (λ text. bytes text ≡ copied_line ledger_day) × IfErr result CannotCopy
+  -- this line is said of a copy with a name of its own, or why it can't be made
+  abbrev pub IsCopied : List ℕ → Option ℕ → Result A Stop → Type 0
+  IsCopied name ledger_day result =
+      IfOk result (λ text. (is_of_another_use name ≡ false) × (bytes text ≡ copied_line ledger_day))
+      × IfErr result CannotCopy
 
   module _ {S : Type 0} (g : Ghosts S) (old new : AtOffice S) (result : Result A Stop) where
     -- a call goes as the machine takes it, and this is said of its outcome
@@ -99,4 +101,4 @@ module _ {A : Type 0} (bytes : A → List ℕ) where
     Works ledger_day told told' (work.Statement day employer) =
         IsDone (Ask Clerk day (query.Statement employer)) statement_said × (told' ≡ told)
     Works ledger_day told told' (work.Backup copy) =
-        (new ≡ old) × IsCopied ledger_day result × (told' ≡ told)
+        (new ≡ old) × IsCopied copy.now ledger_day result × (told' ≡ told)

@@ -10,6 +10,7 @@
 
 mod jobs;
 mod look;
+mod make;
 mod migrate;
 mod opening;
 pub mod reasons;

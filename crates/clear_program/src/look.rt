@@ -1,12 +1,13 @@
 //! A look at a store, and why there is none to look at.
-ghost use Rattle.std.specs.Prelude.{◌≤◌, ◌⊎◌, string_bytes, IfOk};
+ghost use Rattle.std.specs.Prelude.{◌≤◌, ◌⊎◌, string_bytes, IfErr, IfOk};
+ghost use Rattle.sqlite.specs.Files.{over_files};
 ghost use Rattle.clear_server.specs.Told.{written_by};
-ghost use Rattle.clear_program.specs.Ends.{SaysAll, TellsNoStore, TellsWhy};
-ghost use Rattle.clear_program.specs.Looks.{Looks};
+ghost use Rattle.clear_program.specs.Ends.{SaysAll, TellsNoStore, TellsUnopened, TellsWhy};
+ghost use Rattle.clear_program.specs.Looks.{Looks, SaysLook};
 ghost use Rattle.clear_program.specs.declared.tasks.Task.TheVariants.{Look};
 
 use crate::jobs::Job;
-use crate::opening::{Unopened, do_and_close, open_whole};
+use crate::opening::{Unopened, Whole, do_and_close, open_whole};
 use crate::reasons::reason;
 use crate::stop::{Stop, tell};
 use crate::work::end_by;
@@ -17,8 +18,9 @@ use clear_schema::fault::OpenFault;
 use clear_server::told::write_front;
 use clear_texts::look::look_text;
 use clear_wire::counted::Counted;
-use sqlite::{Alter, Connection};
-use sqlite_disk::Unknown;
+use sqlite::{Alter, Connection, FileStore};
+use sqlite_disk::{Start, Unknown};
+use sqlite_std_file::FileFrom;
 use std::alloc::Global;
 use std::io::Write;
 
@@ -40,7 +42,27 @@ pub(crate) fn look_at<O: Write, E: Write>(
         (written_by E.contents errors.old) (written_by E.contents errors.new) result }
     ensures small { IfOk result (λ status. status ≤ 3) }
 {
-    match open_whole(rt, store, Unknown, Unknown) {
+    let whole = open_whole(rt, store, Unknown, Unknown);
+    look_on(rt, whole, output, errors)
+}
+
+// Says what stands in a store that was opened, and closes it; or tells why it wasn't opened.
+fn look_on<S: Start, O: Write, E: Write>(
+    rt: &HostRuntime,
+    whole: Result<Whole<'_, FileStore<FileFrom<S>>>, Unopened>,
+    output: &mut Counted<O>,
+    errors: &mut Counted<E>,
+) -> Result<u8, Stop>
+    ensures says { IfOk whole.entry (λ it. SaysLook over_files
+        (written_by O.contents output.old) (written_by O.contents output.new)
+        (written_by E.contents errors.old) (written_by E.contents errors.new)
+        it.opened.office.conn result) }
+    ensures refused { IfErr whole.entry (λ why. TellsUnopened
+        (written_by O.contents output.old) (written_by O.contents output.new)
+        (written_by E.contents errors.old) (written_by E.contents errors.new) why result) }
+    ensures small { IfOk result (λ status. status ≤ 3) }
+{
+    match whole {
         Ok(whole) => end_by(output, do_and_close(rt, whole.opened, Job::Look, errors), 0),
         Err(refused) => Ok(tell_why(rt.alloc(), &refused, errors)),
     }

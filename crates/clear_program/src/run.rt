@@ -5,19 +5,15 @@ ghost use Rattle.clear_server.specs.Told.{written_by};
 ghost use Rattle.clear_program.specs.Ends.{Does, DoesWords, Ends, MaySay, TellsMeanwhile};
 
 use crate::look::look_at;
+use crate::make::make_at;
 use crate::migrate::migrate_at;
-use crate::opening::{close_office, open_whole, why_unopened, work_on};
+use crate::opening::{open_whole, work_on};
 use crate::stop::{Stop, tell};
 use crate::stream::serve_in_memory;
 use crate::tasks::{Task, Work, read_task, words_of};
 use crate::work::end_by;
-use clear_cli::ready::schema_line;
-use clear_database::store::SCHEMA;
-use clear_files::logs::is_left_log;
-use clear_host::stores::create_office;
-use clear_money::rates::RateTable;
 use clear_wire::counted::{Counted, RequestRead};
-use sqlite_disk::{Start, Unknown};
+use sqlite_disk::Unknown;
 use std::io::Write;
 
 // The status of a file that was checked and has a fault.
@@ -128,27 +124,6 @@ fn do_task<I: RequestRead, O: Write, E: Write>(
             let said = work_at(rt, store, work, errors);
             end_by(output, said, 0)
         }
-    }
-}
-
-// Makes the store at a path, and closes it.
-fn make_at<S: Start>(
-    rt: &HostRuntime,
-    store: &str,
-    rates: &RateTable,
-    start: S,
-) -> Result<String, Stop>
-    ensures { MaySay string_bytes (Task.Init store.entry rates.now) result }
-{
-    if is_left_log(rt, store)? {
-        return Err(Stop::File);
-    }
-    match create_office(rt, store, rates, start) {
-        Ok(opened) => {
-            close_office(rt, opened);
-            Ok(schema_line(rt.alloc(), SCHEMA)?)
-        }
-        Err(refused) => Err(Stop::from(why_unopened(refused).fault)),
     }
 }
 

@@ -1,5 +1,5 @@
 //! The requests of a stream, served over a new office in memory.
-ghost use Rattle.std.specs.Prelude.{◌≡◌, ℕ, false, IfErr, IfOk};
+ghost use Rattle.std.specs.Prelude.{◌≡◌, ℕ, false, IfErr, IfOk, OnOk};
 ghost use Rattle.clear_book.specs.Book.{Book};
 ghost use Rattle.clear_book.specs.Machine.{IsLawful};
 ghost use Rattle.clear_office.specs.Office.{AtOffice, IsHonest, Keeps};
@@ -43,6 +43,7 @@ pub(crate) fn serve_in_memory<I: RequestRead, O: Write>(
     ensures fault { IfErr result (λ _. AnswersFront (Reads directory.now day) rates.now
         (I.remaining (inner reader.old))
         (O.contents (inner writer.old)) (O.contents (inner writer.new))) }
+    ensures well { OnOk result ((has_failed reader.new ≡ false) × (has_failed writer.new ≡ false)) }
     ensures why { IfErr result (IsCutShort (has_failed reader.new) (has_failed writer.new)
         (reads_of reader.old) (reads_of reader.new)) }
 {
@@ -75,6 +76,7 @@ fn serve_new<S: Alter + Drop, I: RequestRead, O: Write>(
         → (answered : ℕ) × IsServedPart S.Store (Reads directory.now day) office b
         (I.remaining (inner reader.old))
         (O.contents (inner writer.old)) (O.contents (inner writer.new)) then answered)) }
+    ensures well { OnOk result ((has_failed reader.new ≡ false) × (has_failed writer.new ≡ false)) }
     ensures why { IfErr result (IsCutShort (has_failed reader.new) (has_failed writer.new)
         (reads_of reader.old) (reads_of reader.new)) }
 {

@@ -207,7 +207,7 @@ fn backup(
     copy: &str,
     ledger_day: &Option<Day>,
 ) -> Result<String, Stop>
-    ensures { IsCopied string_bytes ledger_day.now result }
+    ensures { IsCopied string_bytes copy.now ledger_day.now result }
 {
     if !is_brought_over(rt, file.path) {
         return Err(LOG_LEFT);

@@ -1,6 +1,7 @@
 -- What is found for a query inside of its transaction, and what is made of it.
 use Rattle.std.specs.Prelude.{◌≡◌, ℕ, List, Some, None}
 use Rattle.std.specs.Prelude.{Result, Ok, Err}
+use Rattle.std.specs.List.{AllByRecursion}
 use Rattle.clear_book.specs.declared.calls.Query.{Query}
 use Rattle.clear_book.specs.declared.outcomes.Answer.{Answer}
 use Rattle.clear_book.specs.declared.outcomes.Answer.TheVariants.{Text}
@@ -9,10 +10,12 @@ use Rattle.clear_book.specs.Book.{Book}
 use Rattle.clear_book.specs.Judge.{answer_to, own_query}
 use Rattle.clear_book.specs.Machine.{IsLawful}
 use Rattle.clear_book.specs.Allocated.{Represents, StandsWeighed}
+use Rattle.clear_book.specs.RowRanges.{IsBankRow, IsClaimRow, IsReminderRow}
 use Rattle.clear_book.specs.Tables.{Tables}
-use Rattle.clear_reading.specs.Documents.{list_over, run_over, suspense_over}
+use Rattle.clear_reading.specs.Documents.{list_over, listed, reminded, run_over, suspended, suspense_over}
 use Rattle.clear_reading.specs.Look.{AreFewSuspended}
 use Rattle.clear_reading.specs.Paid.{ArePiecesFor, pieces_for}
+use Rattle.clear_reading.specs.Reader.{AreAddable}
 use Rattle.clear_texts.specs.Paid.{statement_paid}
 use Rattle.clear_database.specs.declared.body.Stop.{Stop}
 use Rattle.clear_database.specs.declared.body.Stop.TheVariants as stop
@@ -43,7 +46,15 @@ IsTellable (rows.List list) t = Unit {0}
 IsTellable (rows.Run run) t = Unit {0}
 IsTellable (rows.Suspense day) t = AreFewSuspended t
 
--- so it is with what is found, where the tables are those of a lawful book
+-- the rows that it tells are right: in their ranges, each of a firm's pieces under a charge of its
+-- statement, and the lines in suspense together less than 2^64 cents
+abbrev pub HasRightRows : RowDocument → Tables → Type 0
+HasRightRows (rows.Statement head) t = ArePiecesFor head t
+HasRightRows (rows.List list) t = AllByRecursion IsClaimRow (listed list t)
+HasRightRows (rows.Run run) t = AllByRecursion IsReminderRow (reminded run t)
+HasRightRows (rows.Suspense day) t = AreAddable IsBankRow (λ row. row.line.cents) (suspended t)
+
+-- what is found can be told, where the tables are those of a lawful book
 abbrev pub IsTold : Finding → Tables → Type 0
 IsTold (finding.Answer answer) t = Unit {0}
 IsTold (finding.Document document) t =

@@ -15,8 +15,8 @@ ghost use Rattle.clear_schema.specs.Frame.{Leaves};
 ghost use Rattle.clear_schema.specs.Held.{HasTables, StandsFor};
 ghost use Rattle.clear_database.specs.Still.{Holds, IsStill};
 ghost use Rattle.clear_debts.specs.Reads.{LeavesOpen};
-ghost use Rattle.clear_reading.specs.Reader.{TellsDocument};
-ghost use Rattle.clear_queries.specs.Findings.{IsTellable, IsTold, Replies};
+ghost use Rattle.clear_reading.specs.Reader.{TellsDocument, TellsOnlyWhere};
+ghost use Rattle.clear_queries.specs.Findings.{HasRightRows, IsTellable, IsTold, Replies};
 ghost use Rattle.clear_queries.specs.Inquiries.{FailsToTell, Refuses, Tells};
 ghost use Rattle.clear_queries.specs.Findings.{answer_of, text_of};
 
@@ -132,7 +132,7 @@ pub fn inquire<S: Alter>(
     }
 }
 
-// The answer that a document is.
+// The answer that a document is. It is told only where its rows are right.
 fn tell_document<S: Alter>(
     alloc: Global,
     conn: &mut Connection<S>,
@@ -144,6 +144,9 @@ fn tell_document<S: Alter>(
     ensures told { HasCleanDisk (state S.Store conn.new)
         → (t : Tables) → HasTables t (state S.Store conn.old).now
         → IfOk result (λ answer. answer ≡ answer_of t (Finding.Document document.now)) }
+    ensures only { HasCleanDisk (state S.Store conn.new)
+        → (t : Tables) → HasTables t (state S.Store conn.old).now
+        → OnOk result (HasRightRows document.now t) }
     ensures fault { IfErr result (λ stop. (fault : Fault) × (stop ≡ Stop.Fault fault)) }
     ensures failed { HasCleanDisk (state S.Store conn.new)
         → (t : Tables) → HasTables t (state S.Store conn.old).now
@@ -165,7 +168,7 @@ fn tell_document<S: Alter>(
     Ok(Answer::Text(told?))
 }
 
-// The document over its rows.
+// The document over its rows. It is told only where they are right.
 fn tell_rows<S: Alter>(
     alloc: Global,
     conn: &mut Connection<S>,
@@ -175,6 +178,7 @@ fn tell_rows<S: Alter>(
     ensures mode { conn.new.in_transaction ≡ false }
     ensures tells { TellsDocument S.Store conn.old conn.new (λ t. text_of t document.now)
         (IsTellable document.now) result }
+    ensures only { TellsOnlyWhere S.Store conn.old conn.new (HasRightRows document.now) result }
 {
     match document {
         RowDocument::Statement(head) => tell_statement(alloc, conn, head),

@@ -16,7 +16,7 @@ use Rattle.clear_texts.specs.Rows.{IsCutOff, IsCutOffAdding, IsCutOffUnless}
 use Rattle.clear_texts.specs.declared.rows.RowFault.{RowFault}
 use Rattle.clear_texts.specs.declared.rows.RowFault.TheVariants.{Memory}
 use Rattle.clear_reading.specs.Faults.{fault_told}
-use Rattle.clear_reading.specs.Reader.{AreAddable, Tells}
+use Rattle.clear_reading.specs.Reader.{AreAddable, AreRightIn, Tells, TellsOnlyOver}
 use Rattle.clear_reading.specs.Source.{Gives, KeepsLoan, Refuses}
 use Rattle.clear_reading.specs.declared.stored.StoredRows.{StoredRows}
 use Rattle.clear_debts.proofs.ReadLemmas.{was_clean}
@@ -47,6 +47,7 @@ module _ {S T X : Type 0} (g : Ghosts S) (show : X → Row) (P : X → Type 0) w
     survives : Survives (state g (conn_of old)) (state g (conn_of new)) (λ _. ⊥)
     same : HasCleanDisk (state g (conn_of new)) → (s : Held S) → IsUnchanged (state g (conn_of new)) (state g s) → IsUnchanged (state g (conn_of old)) (state g s)
     kept : HasCleanDisk (state g (conn_of new)) → KeepsCommit (state g (conn_of old)) (state g (conn_of new))
+    good : AllByRecursion P given
     left : HasCleanDisk (state g (conn_of new)) → (rest : List X) → HasToGive g show (conn_of old) rest
         → (more : List X) × (rest ≡ given ++ more) × HasToGive g show (conn_of new) more
 
@@ -57,6 +58,7 @@ module _ {S T X : Type 0} (g : Ghosts S) (show : X → Row) (P : X → Type 0) w
     survives = survives_none (state g (conn_of old));
     same = λ clean s same. same;
     kept = λ clean. keeps_none (state g (conn_of old));
+    good = tt;
     left = λ clean rest to_give. (rest, refl, to_give);
   }
 
@@ -75,6 +77,7 @@ module _ {S T X : Type 0} (g : Ghosts S) (show : X → Row) (P : X → Type 0) w
         survives = survives_both a b c asked.survives later.survives;
         same = λ clean s same. unchanged_then a b (state g s) (asked.same (early clean)) (later.same clean s same);
         kept = λ clean. keeps_both a b c (asked.kept (early clean)) (later.kept clean);
+        good = (asked.good, later.good);
         left = λ clean rest to_give.
             let got = asked.gives (early clean) rest to_give in
             let more = later.left clean got.0 got.2 in
@@ -87,9 +90,10 @@ module _ {S T X : Type 0} (g : Ghosts S) (show : X → Row) (P : X → Type 0) w
     pub mode : (conn_of old).in_transaction ≡ false → (conn_of new).in_transaction ≡ false
     pub survives : Survives (state g (conn_of old)) (state g (conn_of new)) (λ _. ⊥)
     pub same : HasCleanDisk (state g (conn_of new)) → IsUnchanged (state g (conn_of old)) (state g (conn_of new))
+    pub good : AllByRecursion P given
     pub is : HasCleanDisk (state g (conn_of new)) → (rest : List X) → HasToGive g show (conn_of old) rest → given ≡ rest
 
-  -- gave just the rows that were to come, and changed nothing
+  -- gave just the rows that were to come, in their ranges, and changed nothing
   pub done : (old new : StoredRows S T g) (given : List X) → YieldsThen (Gives g show P) old given None new → Done old new given
   done old new given (last, run, end) =
       let a = state g (conn_of old) in
@@ -103,6 +107,7 @@ module _ {S T X : Type 0} (g : Ghosts S) (show : X → Row) (P : X → Type 0) w
         mode = λ m. asked.mode (all.mode m);
         survives = survives_both a b c all.survives asked.survives;
         same = λ clean. all.same (early clean) (conn_of new) (asked.same clean);
+        good = all.good;
         is = λ clean rest to_give.
             let got = all.left (early clean) rest to_give in
             let none : got.0 ≡ [] = asked.gives clean got.0 got.2 in
@@ -176,6 +181,13 @@ module _ {S T X : Type 0} (g : Ghosts S) (show : X → Row) (P : X → Type 0) w
   -- and so are those whose amounts can be added up
   pub stopped_adding : (amount : X → ℕ) (old new : StoredRows S T g) (why : RowFault) → IsCutOffAdding (Gives g show P) (Refuses g show P) amount old why new → Stopped (AreAddable P amount) old why new
   stopped_adding amount old new why cut = stopped_unless (λ rows. sum_by amount rows < 2 ^ 64) old new why (adding_unless (Gives g show P) (Refuses g show P) amount old why new cut)
+
+  -- where the rows that a reader gave up to its end are right, those that were to come are
+  pub told_right : {A : Type 0} (old new : StoredRows S T g) (IsRight : List X → Type 0) (it : A) (given : List X) → YieldsThen (Gives g show P) old given None new → IsRight given
+      → TellsOnlyOver g show (conn_of old) (conn_of new) (AreRightIn P IsRight) (Ok it)
+  told_right old new IsRight it given run right =
+      let all = done old new given run in
+      record { right = λ clean rest to_give. subst (AreRightIn P IsRight) (all.is clean rest to_give) (all.good, right) }
 
   -- what is told of the rows that a reader gave up to its end, and what was refused
   module _ {A : Type 0} (old new : StoredRows S T g) (told_of : List X → A) (AreRight : List X → Type 0) where

@@ -5,7 +5,7 @@ use Rattle.std.proofs.lemmas.List.Sums.{sum_by-cons}
 use Rattle.std.proofs.lemmas.Result.{on_ok_weaker}
 use Rattle.sqlite.specs.Held.{Held, state}
 use Rattle.sqlite.specs.Order.{Row}
-use Rattle.sqlite.specs.State.{HasCleanDisk}
+use Rattle.sqlite.specs.State.{HasCleanDisk, Survives}
 use Rattle.sqlite.specs.Store.{Ghosts}
 use Rattle.sqlite.proofs.Callers.{unchanged_then}
 use Rattle.clear_values.specs.RowRanges.{AreInRange}
@@ -13,7 +13,7 @@ use Rattle.clear_values.specs.Tables.{Tables}
 use Rattle.clear_rows.proofs.Inside.{keeps_both, survives_both, unchanged_keeps}
 use Rattle.clear_columns.specs.Reading.{ReadsOn}
 use Rattle.clear_schema.specs.declared.fault.Fault.{Fault}
-use Rattle.clear_reading.specs.Reader.{AreAddable, Tells, TellsTablesWhere}
+use Rattle.clear_reading.specs.Reader.{AreAddable, Tells, TellsOnlyOver, TellsOnlyWhere, TellsTablesWhere}
 use Rattle.clear_debts.proofs.ReadLemmas.{was_clean}
 
 sum_by-none : {X : Type 0} (rows : List X) → sum_by (λ row. 0) rows ≡ 0
@@ -48,3 +48,12 @@ module _ {S : Type 0} (g : Ghosts S) where
         clean = λ clean. reads.clean (early clean);
         is_open = λ clean. on_ok_weaker result (λ same. same.0.is_open) (tells.same clean);
       })
+
+  -- it is told only of tables that are right, where only of rows that are
+  pub tells_only : {X A : Type 0} (show : X → Row) (old mid end new : Held S) (rows : Tables → List X) (AreRight : List X → Type 0) (IsRight : Tables → Type 0) (result : Result A Fault)
+      → end ≡ new → ReadsOn g old mid show rows → Survives (state g mid) (state g end) (λ _. ⊥) → TellsOnlyOver g show mid end AreRight result
+      → ((t : Tables) → AreRight (rows t) → IsRight t)
+      → TellsOnlyWhere g old new IsRight result
+  tells_only show old mid end new rows AreRight IsRight result is reads survives only right =
+      subst (λ n. TellsOnlyWhere g old n IsRight result) is
+      (record { right = λ clean t has. on_ok_weaker result (right t) (only.right clean (rows t) (reads.begun (was_clean (state g mid) (state g end) survives clean) t has)) })

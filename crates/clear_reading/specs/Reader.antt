@@ -26,6 +26,12 @@ pub record Tells {S X A : Type 0} (g : Ghosts S) (show : X → Row) (old new : H
   pub mode : old.in_transaction ≡ false → new.in_transaction ≡ false
   pub survives : Survives (state g old) (state g new) (λ _. ⊥)
 
+-- something is told of the rows that were to come only where they are right
+pub record TellsOnlyOver {S X A : Type 0} (g : Ghosts S) (show : X → Row) (old new : Held S)
+    (AreRight : List X → Type 0) (result : Result A Fault) : Type 0 where
+  pub right : HasCleanDisk (state g new) → (rest : List X)
+      → HasToGive g show old rest → OnOk result (AreRight rest)
+
 -- rows in their ranges, which are right besides
 abbrev pub AreRightIn : {X : Type 0} → (X → Type 0) → (List X → Type 0) → List X → Type 0
 AreRightIn P IsRight rows = AllByRecursion P rows × IsRight rows
@@ -51,6 +57,12 @@ pub record TellsTablesWhere {S A : Type 0} (IsKnown : Type 0) (g : Ghosts S) (ol
       → Survives (state g old) (state g new) (λ _. ⊥)
   pub clean : HasCleanDisk (state g new) → HasCleanDisk (state g old)
   pub is_open : HasCleanDisk (state g new) → OnOk result (IsTrue (state g new).is_open)
+
+-- something is told of the tables that the connection has only where they are right
+pub record TellsOnlyWhere {S A : Type 0} (g : Ghosts S) (old new : Held S)
+    (AreRight : Tables → Type 0) (result : Result A Fault) : Type 0 where
+  pub right : HasCleanDisk (state g new) → (t : Tables) → HasTables t (state g old).now
+      → OnOk result (AreRight t)
 
 -- a document, which one query tells, so that what a crash leaves is always known
 abbrev pub TellsDocument : {S : Type 0} → Ghosts S → Held S → Held S → (Tables → List ℕ)

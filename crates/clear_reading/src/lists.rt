@@ -1,7 +1,9 @@
 //! The document of a payout list, told outside of a transaction.
 ghost use Rattle.std.specs.Prelude.{◌≡◌, false};
-ghost use Rattle.clear_reading.specs.Documents.{list_over};
-ghost use Rattle.clear_reading.specs.Reader.{TellsDocument};
+ghost use Rattle.std.specs.List.{AllByRecursion};
+ghost use Rattle.clear_values.specs.RowRanges.{IsClaimRow};
+ghost use Rattle.clear_reading.specs.Documents.{list_over, listed};
+ghost use Rattle.clear_reading.specs.Reader.{TellsDocument, TellsOnlyWhere};
 
 use crate::telling::{DocumentHead, tell_rows};
 use clear_book::documents::Document;
@@ -14,7 +16,8 @@ use sqlite::{Alter, Connection};
 use std::alloc::Global;
 
 /// The document of a payout list over the claims that the table holds, which are read one at a time.
-/// Nothing is changed. It takes as many steps as the list has claims.
+/// Nothing is changed. It takes as many steps as the list has claims. It is told only where each claim
+/// on the list is in its ranges.
 pub fn tell_list<S: Alter>(
     alloc: Global,
     conn: &mut Connection<S>,
@@ -24,6 +27,8 @@ pub fn tell_list<S: Alter>(
     ensures mode { conn.new.in_transaction ≡ false }
     ensures tells { TellsDocument S.Store conn.old conn.new (list_over list.now)
         (λ t. Unit {0}) result }
+    ensures only { TellsOnlyWhere S.Store conn.old conn.new
+        (λ t. AllByRecursion IsClaimRow (listed list.now t)) result }
 {
     let mut rows = read_listed(conn, list.list)?;
     tell_rows(alloc, list, &mut rows)

@@ -1,7 +1,9 @@
 //! The document of a reminder run, told outside of a transaction.
 ghost use Rattle.std.specs.Prelude.{◌≡◌, false};
-ghost use Rattle.clear_reading.specs.Documents.{run_over};
-ghost use Rattle.clear_reading.specs.Reader.{TellsDocument};
+ghost use Rattle.std.specs.List.{AllByRecursion};
+ghost use Rattle.clear_values.specs.RowRanges.{IsReminderRow};
+ghost use Rattle.clear_reading.specs.Documents.{reminded, run_over};
+ghost use Rattle.clear_reading.specs.Reader.{TellsDocument, TellsOnlyWhere};
 
 use crate::telling::{DocumentHead, tell_rows};
 use clear_book::documents::Document;
@@ -14,7 +16,8 @@ use sqlite::{Alter, Connection};
 use std::alloc::Global;
 
 /// The document of a reminder run over the reminders that the table holds, which are read one at a
-/// time. Nothing is changed. It takes as many steps as the run has reminders.
+/// time. Nothing is changed. It takes as many steps as the run has reminders. It is told only where
+/// each of them is in its ranges.
 pub fn tell_reminders<S: Alter>(
     alloc: Global,
     conn: &mut Connection<S>,
@@ -24,6 +27,8 @@ pub fn tell_reminders<S: Alter>(
     ensures mode { conn.new.in_transaction ≡ false }
     ensures tells { TellsDocument S.Store conn.old conn.new (run_over run.now)
         (λ t. Unit {0}) result }
+    ensures only { TellsOnlyWhere S.Store conn.old conn.new
+        (λ t. AllByRecursion IsReminderRow (reminded run.now t)) result }
 {
     let mut rows = read_reminders(conn, run.run)?;
     tell_rows(alloc, run, &mut rows)

@@ -1,7 +1,7 @@
 //! The statement of a firm, whose pieces are read one at a time, outside of a transaction.
 ghost use Rattle.std.specs.Prelude.{◌≡◌, false};
 ghost use Rattle.clear_reading.specs.Paid.{ArePiecesFor, pieces_for};
-ghost use Rattle.clear_reading.specs.Reader.{TellsDocument};
+ghost use Rattle.clear_reading.specs.Reader.{TellsDocument, TellsOnlyWhere};
 ghost use Rattle.clear_texts.specs.Paid.{statement_paid};
 
 use crate::telling::{DocumentHead, tell_rows};
@@ -18,7 +18,7 @@ use std::alloc::Global;
 /// The statement of a firm, each of whose charges is followed by the pieces that the table holds of
 /// it, which are read one at a time. Nothing is changed. It takes as many steps as the firm has
 /// charges and pieces. A piece of a month that has no charge, and more rows than an account has, are
-/// refused with `Fault::Store(StoreCause::Row)`.
+/// refused with `Fault::Store(StoreCause::Row)`: so no piece is left out.
 pub fn tell_statement<S: Alter>(
     alloc: Global,
     conn: &mut Connection<S>,
@@ -28,6 +28,7 @@ pub fn tell_statement<S: Alter>(
     ensures mode { conn.new.in_transaction ≡ false }
     ensures tells { TellsDocument S.Store conn.old conn.new
         (λ t. statement_paid head.now (pieces_for head.now t)) (ArePiecesFor head.now) result }
+    ensures only { TellsOnlyWhere S.Store conn.old conn.new (ArePiecesFor head.now) result }
 {
     let mut rows = read_pieces(conn, head.firm.employer)?;
     tell_rows(alloc, head, &mut rows)

@@ -1,8 +1,9 @@
 //! The document of the lines in suspense, told outside of a transaction.
 ghost use Rattle.std.specs.Prelude.{◌≡◌, false};
-ghost use Rattle.clear_reading.specs.Documents.{suspense_over};
+ghost use Rattle.clear_values.specs.RowRanges.{IsBankRow};
+ghost use Rattle.clear_reading.specs.Documents.{suspended, suspense_over};
 ghost use Rattle.clear_reading.specs.Look.{AreFewSuspended};
-ghost use Rattle.clear_reading.specs.Reader.{TellsDocument};
+ghost use Rattle.clear_reading.specs.Reader.{AreAddable, TellsDocument, TellsOnlyWhere};
 
 use crate::telling::{DocumentHead, tell_rows};
 use clear_book::documents::Document;
@@ -16,8 +17,9 @@ use sqlite::{Alter, Connection};
 use std::alloc::Global;
 
 /// The document of the lines in suspense on a day, which are read one at a time, by their serials.
-/// Nothing is changed. It takes one pass over all bank lines. Lines in suspense that come to 2^64
-/// cents or more are refused with `Fault::Store(StoreCause::Row)`.
+/// Nothing is changed. It takes one pass over all bank lines. It is told only where each line in
+/// suspense is in its ranges. Such lines that come to 2^64 cents or more are refused with
+/// `Fault::Store(StoreCause::Row)`.
 pub fn tell_suspense<S: Alter>(
     alloc: Global,
     conn: &mut Connection<S>,
@@ -27,6 +29,8 @@ pub fn tell_suspense<S: Alter>(
     ensures mode { conn.new.in_transaction ≡ false }
     ensures tells { TellsDocument S.Store conn.old conn.new (suspense_over day)
         AreFewSuspended result }
+    ensures only { TellsOnlyWhere S.Store conn.old conn.new
+        (λ t. AreAddable IsBankRow (λ row. row.line.cents) (suspended t)) result }
 {
     let mut rows = read_suspense(conn)?;
     tell_rows(alloc, &day, &mut rows)

@@ -1,6 +1,6 @@
 //! Documents over rows of a table that a query gives one at a time, told outside of a transaction.
 ghost use Rattle.std.specs.Prelude.{◌≡◌};
-ghost use Rattle.clear_reading.specs.Reader.{AreRightIn, Tells};
+ghost use Rattle.clear_reading.specs.Reader.{AreRightIn, Tells, TellsOnlyOver};
 
 use crate::stored::{StoredRows, fault_told};
 use clear_book::documents::Document;
@@ -26,8 +26,8 @@ pub(crate) trait DocumentHead {
     /// Which rows it can be told over, of those in their ranges.
     ghost are_right: { Self → List Self.Table.Row → Type 0 };
 
-    /// Appends the text over the rows that the source gives up to its end. It is refused for want
-    /// of memory, for what the source tells, or for rows that aren't right.
+    /// Appends the text over the rows that the source gives up to its end, which are right. It is
+    /// refused for want of memory, for what the source tells, or for rows that aren't right.
     fn append<R: RowSource<Row = <Self::Table as StoredTable>::Row>>(
         &self,
         alloc: Global,
@@ -36,13 +36,15 @@ pub(crate) trait DocumentHead {
     ) -> Result<(), RowFault>
         ensures written { IfOk result (λ _. (given : List Self.Table.Row)
             × YieldsThen R.next_gives rows.old given None rows.new
+            × are_right self.now given
             × (string_bytes text.new ≡ string_bytes text.old ++ text_of self.now given)) }
         ensures refused { IfErr result (λ fault.
             IsCutOffUnless R.next_gives R.next_refuses (are_right self.now)
             rows.old fault rows.new) };
 }
 
-/// The document over what a query for rows of a table still has to give.
+/// The document over what a query for rows of a table still has to give, which is told only where
+/// each row is in its ranges, and they are right.
 pub(crate) fn tell_rows<D: DocumentHead, S: Alter>(
     alloc: Global,
     head: &D,
@@ -51,6 +53,8 @@ pub(crate) fn tell_rows<D: DocumentHead, S: Alter>(
     ensures same_reference { rows.new.conn.ghost_name ≡ rows.old.conn.ghost_name }
     ensures tells { Tells S.Store D.Table.shown rows.old.conn.now rows.new.conn.now
         (D.text_of head.now) (AreRightIn D.Table.is_in_range (D.are_right head.now)) result }
+    ensures only { TellsOnlyOver S.Store D.Table.shown rows.old.conn.now rows.new.conn.now
+        (AreRightIn D.Table.is_in_range (D.are_right head.now)) result }
 {
     let mut source = StoredRows::<S, D::Table> {
         rows,
@@ -71,6 +75,9 @@ fn tell_source<D: DocumentHead, S: Alter>(
     ensures tells { Tells S.Store D.Table.shown
         source.old.rows.now.conn.now source.new.rows.now.conn.now
         (D.text_of head.now) (AreRightIn D.Table.is_in_range (D.are_right head.now)) result }
+    ensures only { TellsOnlyOver S.Store D.Table.shown
+        source.old.rows.now.conn.now source.new.rows.now.conn.now
+        (AreRightIn D.Table.is_in_range (D.are_right head.now)) result }
 {
     let mut text = String::new(alloc);
     match head.append(alloc, source, &mut text) {

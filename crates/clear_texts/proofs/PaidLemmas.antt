@@ -1,5 +1,5 @@
 -- The rows of charges over a source of pieces are those of the charges with the pieces that it gave.
-use Rattle.std.proofs.Common.{◌≡◌, ℕ, ◌+◌, ◌<◌, Bool, true, false, cond, List, [], ◌∷◌, ◌++◌, Some, None, Option, drop, zero, suc, inl, inr, refl, sym, ap, ◌∙◌, subst, arith, length, append_assoc, append-nil, length-append}
+use Rattle.std.proofs.Common.{◌≡◌, ℕ, ◌+◌, ◌<◌, ◌≤◌, Bool, true, false, cond, List, [], ◌∷◌, ◌++◌, Some, None, Option, drop, zero, suc, inl, inr, refl, sym, ap, ◌∙◌, subst, arith, length, append_assoc, append-nil, length-append}
 use Rattle.std.specs.Prelude.{◌==◌}
 use Rattle.std.specs.Iterator.{Yields, YieldsThen}
 use Rattle.std.specs.List.{flat_map, slice_index_or}
@@ -249,9 +249,11 @@ module _ {R : Type 0} (gives : R → Option PieceRow → R → Type 0) where
     first : Ran gives start states (paying old) []
     first = subst (λ (p : Paying R). Ran gives start states p []) (sym charges) (begun gives start states old.next.now old.pieces.now step)
 
-    pub rows_told : (given : List ChargeRow) → YieldsThen (GivesRow gives) old given None new
-        → (pieces : List PieceRow) × YieldsThen gives start pieces None new.pieces.now × (given ≡ paid_rows states pieces) × (pieces_over states pieces ≡ [])
-    rows_told given (last, run, end) = told_all gives start states (paying last) (paying new) given (ran gives start states (paying old) (paying last) [] given first (calls old last given run)) end.1
+    pub rows_told : (given : List ChargeRow) → YieldsThen (GivesRow gives) old given None new → length given ≤ most_rows
+        → (pieces : List PieceRow) × YieldsThen gives start pieces None new.pieces.now × ArePaid states pieces × (given ≡ paid_rows states pieces)
+    rows_told given (last, run, end) few =
+        let all = told_all gives start states (paying last) (paying new) given (ran gives start states (paying old) (paying last) [] given first (calls old last given run)) end.1 in
+        (all.0, all.1, record { none_over = all.3; few = subst (λ (rows : List ChargeRow). length rows ≤ most_rows) all.2 few }, all.2)
 
     pub rows_cut_off : (refuses : R → RowFault → R → Type 0) (fault : RowFault) → IsRefused (GivesRow gives) (RefusesRow gives refuses) old fault new → IsCutOffUnless gives refuses (ArePaid states) start fault new.pieces.now
     rows_cut_off refuses fault why = cut_off gives start states refuses (paying old) (paying new) fault first (called refuses old new fault why)

@@ -20,8 +20,8 @@ use std::mem;
 /// Appends the statement of a firm, whose charges are paid by the pieces that the source gives up to
 /// its end: each piece stands under the charge of its month. It reads one piece ahead. It is refused
 /// for want of memory, for what the source tells, and, with `RowFault::Store(StoreCause::Row)`, for a
-/// piece that stands under none of the charges, and for more rows than an account has. A refusal may
-/// leave a part of the text.
+/// piece that stands under none of the charges, and for more rows than an account has: so no piece is
+/// left out. A refusal may leave a part of the text.
 pub fn statement_text<R: RowSource<Row = PieceRow>>(
     head: &StatementHead,
     pieces: &mut R,
@@ -29,6 +29,7 @@ pub fn statement_text<R: RowSource<Row = PieceRow>>(
 ) -> Result<(), RowFault>
     ensures written { IfOk result (λ _. (given : List PieceRow)
         × YieldsThen R.next_gives pieces.old given None pieces.new
+        × ArePiecesOf head.now given
         × (string_bytes text.new ≡ string_bytes text.old ++ statement_paid head.now given)) }
     ensures refused { IfErr result (λ fault. IsCutOffUnless R.next_gives R.next_refuses
         (ArePiecesOf head.now) pieces.old fault pieces.new) }
@@ -47,6 +48,7 @@ fn append_ahead<R: RowSource<Row = PieceRow>>(
     ensures written { (start : R) → R.next_gives start next.old pieces.old
         → IfOk result (λ _. (given : List PieceRow)
         × YieldsThen R.next_gives start given None pieces.new
+        × ArePiecesOf head.now given
         × (string_bytes text.new ≡ string_bytes text.old ++ statement_paid head.now given)) }
     ensures refused { (start : R) → R.next_gives start next.old pieces.old
         → IfErr result (λ fault. IsCutOffUnless R.next_gives R.next_refuses
@@ -151,6 +153,7 @@ fn append_rows<R: RowSource<Row = PieceRow>>(
     ensures written { (start : R) → R.next_gives start rows.old.next.now rows.old.pieces.now
         → IfOk result (λ _. (given : List PieceRow)
         × YieldsThen R.next_gives start given None rows.new.pieces.now
+        × ArePiecesOf head.now given
         × (string_bytes text.new ≡ string_bytes text.old ++ statement_paid head.now given)) }
     ensures refused { (start : R) → R.next_gives start rows.old.next.now rows.old.pieces.now
         → IfErr result (λ fault. IsCutOffUnless R.next_gives R.next_refuses

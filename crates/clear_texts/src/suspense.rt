@@ -1,5 +1,6 @@
 //! The document of the lines in suspense.
-ghost use Rattle.std.specs.Prelude.{◌≡◌, ◌++◌, List, None, codes, length, string_bytes, sum_by};
+ghost use Rattle.std.specs.Prelude.{◌≡◌, ◌<◌, ◌^◌, ◌++◌, List, None, codes, length};
+ghost use Rattle.std.specs.Prelude.{string_bytes, sum_by};
 ghost use Rattle.std.specs.Prelude.{IfErr, IfOk, OnErr};
 ghost use Rattle.std.specs.Iterator.{YieldsThen};
 ghost use Rattle.std.specs.List.{flat_map};
@@ -32,6 +33,7 @@ pub fn suspense_text<R: RowSource<Row = BankRow>>(
 ) -> Result<(), RowFault>
     ensures written { IfOk result (λ _. (given : List BankRow)
         × YieldsThen R.next_gives rows.old given None rows.new
+        × (sum_by (λ row. row.line.cents) given < 2 ^ 64)
         × (string_bytes text.new ≡ string_bytes text.old ++ suspense_text day given)) }
     ensures unchanged { OnErr result (string_bytes text.new ≡ string_bytes text.old) }
     ensures refused { IfErr result (λ fault. IsCutOffAdding R.next_gives R.next_refuses
@@ -52,6 +54,7 @@ fn append_suspense<R: RowSource<Row = BankRow>>(
 ) -> Result<(), RowFault>
     ensures written { IfOk result (λ _. (given : List BankRow)
         × YieldsThen R.next_gives rows.old given None rows.new
+        × (sum_by (λ row. row.line.cents) given < 2 ^ 64)
         × (string_bytes text.new ≡ string_bytes text.old ++ suspense_text day given)) }
     ensures refused { IfErr result (λ fault. IsCutOffAdding R.next_gives R.next_refuses
         (λ row. row.line.cents) rows.old fault rows.new) }

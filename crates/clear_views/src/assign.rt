@@ -51,7 +51,7 @@ pub fn assign_view<S: Alter>(
         → (t : Tables) → HasTables t (state S.Store tx.old.conn.now).now
         → counts.now ≡ counts_of t → (b : Book) → Stands b t
         → IfOk result (IsAssignView b assignment.now) }
-    // While fewer serials were given than a firm may have credits, none is counted.
+    // While fewer serials were given than a firm may have credits, the firm is never taken for full.
     ensures full { HasCleanDisk (state S.Store tx.new.conn.now)
         → (t : Tables) → HasTables t (state S.Store tx.old.conn.now).now
         → IfOk result (λ view. view.full ≡ (nat_le most_credits counts.now.serial

@@ -37,8 +37,8 @@ use std::alloc::Global;
 /// What the lines of a bank file are judged by, where these counts stand: the lines under their
 /// references, the firms that they name, and numbers for the credits of these and for the lines in
 /// suspense. While no more than 100,000 serials were given, one for each line of the file among
-/// them, these serve for the numbers, and nothing is counted. Where each line names a registered firm,
-/// the lines in suspense aren't counted later either.
+/// them, the serials serve for these numbers. Where each line names a registered firm, they serve later
+/// too for the lines in suspense.
 ///
 /// It costs n log n steps for n lines of the file, and one search for each of its references and
 /// for each firm that it names; where the serials don't serve, also one look at the key of each
@@ -55,7 +55,7 @@ pub fn import_view<S: Alter>(
         → counts.now ≡ counts_of t → (b : Book) → IsLawful b → Stands b t
         → (file : List ℕ) → lines.now ≡ lines_in file
         → IfOk result (λ view. IsImportView b file view) }
-    // Whatever the tables hold, nothing is counted that need not be.
+    // Whatever the tables hold, the limits are judged by the serials wherever these serve.
     ensures read { HasCleanDisk (state S.Store tx.new.conn.now)
         → (t : Tables) → HasTables t (state S.Store tx.old.conn.now).now
         → IfOk result (IsImportRead t counts.now.serial lines.now) }

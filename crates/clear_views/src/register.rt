@@ -39,7 +39,7 @@ pub fn register_view<S: Alter>(
         → (t : Tables) → HasTables t (state S.Store tx.old.conn.now).now
         → counts.now ≡ counts_of t → (b : Book) → Stands b t
         → IfOk result (IsRegisterView b registration.now) }
-    // While the entries serve, no firm is counted.
+    // While the entries serve, the limit is judged by their number, not by how many firms there are.
     ensures count { HasCleanDisk (state S.Store tx.new.conn.now)
         → (t : Tables) → HasTables t (state S.Store tx.old.conn.now).now
         → IfOk result (λ view. view.employer_count

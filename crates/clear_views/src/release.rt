@@ -68,7 +68,7 @@ pub fn release_view<S: Alter>(
         → counts.now ≡ counts_of t → day_back t.day day ≡ None
         → (b : Book) → IsLawful b → StandsWeighed b t
         → IfOk result (IsReleaseView b day claim) }
-    // While the serials serve, no credit for contributions is counted.
+    // While the serials serve, the limit is judged by their number, not by how many credits there are.
     ensures count { HasCleanDisk (state S.Store tx.new.conn.now)
         → (t : Tables) → HasTables t (state S.Store tx.old.conn.now).now
         → IfOk result (λ view. IfSome view.found (λ owing. owing.debts.contribution_count

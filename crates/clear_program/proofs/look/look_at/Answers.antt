@@ -1,13 +1,9 @@
-use Rattle.std.proofs.Common.{inl, inr, refl}
 use Rattle.sqlite.specs.Files.{over_files}
-use Rattle.clear_program.proofs.ReasonLemmas.{why_refused}
+use Rattle.clear_server.specs.Told.{written_by}
+use Rattle.clear_program.proofs.LookLemmas.{looked}
 use Rattle.clear_program.proofs.look.look_at.Goals as goal
 
-pub returns-in-Ok-clause-says : goal.returns-in-Ok-clause-says
-returns-in-Ok-clause-says g c =
-    let it = c.do_and_close.ensures in
-    inl (c.do_and_close.result, (it.1.0.text, it.1.0.why), c.end_by.ensures.puts, it.1.1)
-
-pub returns-in-Err-clause-says : goal.returns-in-Err-clause-says
-returns-in-Err-clause-says g c =
-    inr (c.in-Err.refused, c.tell_why.result, why_refused over_files _ c.in-Err.refused c.in-Err.ensures.opens.1, c.tell_why.ensures.told, refl, refl)
+pub returns-clause-says : goal.returns-clause-says
+returns-clause-says g c =
+    looked over_files _ (written_by g.O.Write.contents c.args.output.now) (written_by g.O.Write.contents c.look_on.new.output) (written_by g.E.Write.contents c.args.errors.now)
+    (written_by g.E.Write.contents c.look_on.new.errors) c.args.store c.open_whole-whole.result c.look_on.result c.open_whole-whole.ensures.opens c.look_on.ensures.says c.look_on.ensures.refused

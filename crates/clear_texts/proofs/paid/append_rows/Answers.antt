@@ -11,11 +11,12 @@ pub returns-clause-written : goal.returns-clause-written
 returns-clause-written g c start step =
     let head = c.args.head.now in
     let given = c.in_ok-append_statement.ensures.written.0 in
-    let all = rows_told g.R.RowSource.next_gives start c.args.head.now.charges.items c.args.rows.now c.append_statement.new.rows c.requires.all c.requires.charges step c.in_ok-append_statement.ensures.written.0 c.in_ok-append_statement.ensures.written.1 in (
+    let all = rows_told g.R.RowSource.next_gives start c.args.head.now.charges.items c.args.rows.now c.append_statement.new.rows c.requires.all c.requires.charges step c.in_ok-append_statement.ensures.written.0 c.in_ok-append_statement.ensures.written.1 c.in_ok-append_statement.ensures.written.2 in (
       all.0,
       all.1,
+      all.2,
       c.in_ok-append_statement.ensures.written.3
-          ∙ (λ i. string_bytes c.args.text.now ++ text_of_rows c.args.head.now.firm (c.as_slice.ensures.value i) (c.as_slice-2.ensures.value i) (all.2 i)),
+          ∙ (λ i. string_bytes c.args.text.now ++ text_of_rows c.args.head.now.firm (c.as_slice.ensures.value i) (c.as_slice-2.ensures.value i) (all.3 i)),
     )
 
 pub returns-in_err-append_statement-clause-same_source : goal.returns-in_err-append_statement-clause-same_source
