@@ -1,5 +1,5 @@
 -- What bank files hold by themselves.
-use Rattle.std.proofs.Common.{◌≡◌, ℕ, ◌+◌, ◌-◌, ◌*◌, ◌<◌, ◌≤◌, ◌/◌, ◌%◌, ◌^◌, Bool, true, false, not, if◌then◌else◌, List, [], ◌∷◌, ◌++◌, length, take, get_or, count_by, sum_by, Option, Some, None, is_some, is_none, Ok, Err, refl, sym, ap, ◌∙◌, add-one, zero-add, append_assoc, arith, ⊎_elim, codes}
+use Rattle.std.proofs.Common.{◌≡◌, ◌≢◌, ℕ, ◌+◌, ◌-◌, ◌*◌, ◌<◌, ◌≤◌, ◌/◌, ◌%◌, ◌^◌, Bool, true, false, not, if◌then◌else◌, List, [], ◌∷◌, ◌++◌, length, take, get_or, count_by, sum_by, Option, Some, None, is_some, is_none, Result, Ok, Err, refl, sym, ap, subst, ◌∙◌, add-one, zero-add, append_assoc, arith, ⊎_elim, codes}
 use Rattle.std.specs.Fmt.{decimal, styled_decimal, padded_integral, format_spec, char_count}
 use Rattle.std.specs.List.{cons_option}
 use Rattle.std.specs.Option.{option_to_list}
@@ -16,10 +16,12 @@ use Rattle.clear_money.specs.Texts.{two_digits}
 use Rattle.clear_values.specs.declared.lines.BankLine.{BankLine}
 use Rattle.clear_bank.specs.Files.{file_lines}
 use Rattle.clear_bank.specs.Newness.{judgement}
+use Rattle.clear_bank.specs.Answers.{Fails}
 use Rattle.clear_bank.specs.declared.fault.BankFault.{BankFault}
+use Rattle.clear_bank.specs.declared.fault.BankFault.TheVariants.{OverLimit, BadCsv, RefConflict, Memory as MemoryFault}
 use Rattle.clear_book.specs.Documents.Amounts.{euros_text}
 use Rattle.clear_check.proofs.CallerCheckLemmas.{at_most_one}
-use Rattle.clear_check.specs.BankChecks.{bank_of, cents_of, contents_of, lines_at, names_no_firm}
+use Rattle.clear_check.specs.BankChecks.{Contents, Tells, TellsFault, bank_of, cents_of, contents_of, lines_at, names_no_firm}
 
 -- a fault of the lines is that of the file
 pub bank_of-fault : (bytes : List ℕ) (fault : BankFault) → file_lines 10000 bytes ≡ Err fault → bank_of bytes ≡ Err fault
@@ -107,3 +109,12 @@ module _ (lines : List BankLine) (places : List ℕ) (count unnamed cents : ℕ)
         few = omega (arith, before.few, is, few);
         small = omega (arith, before.small, range);
       }
+
+-- ---- what is told of a fault
+
+-- the fault that is told is that of the file
+pub told : (bytes text : List ℕ) (fault : BankFault) (right : Result Contents BankFault) → Fails fault right → fault ≢ MemoryFault → TellsFault bytes fault text → Tells bytes right text
+told bytes text OverLimit right is known tells = subst (λ (r : Result Contents BankFault). Tells bytes r text) (sym is) tells
+told bytes text (BadCsv line bad) right is known tells = subst (λ (r : Result Contents BankFault). Tells bytes r text) (sym is) tells
+told bytes text (RefConflict line) right is known tells = subst (λ (r : Result Contents BankFault). Tells bytes r text) (sym is) tells
+told bytes text MemoryFault right is known tells = absurd (known refl)

@@ -93,20 +93,20 @@ directory_of-keys bytes document keys is e = given (keys_in document) (ap direct
 
 -- ---- a member that is no key
 
-keys_in-wrong : (ms : Members) (key : List ℕ) → first_wrong ms ≡ Some key → keys_in ms ≡ None
-keys_in-wrong no_members key e = absurd (none-some _ e)
-keys_in-wrong (member k d ms) key e = told (caller_at k d) (keys_in ms) (keys_in-wrong ms key) e
+keys_in-wrong : (ms : Members) (key : List ℕ) (value : Data) → first_wrong ms ≡ Some (key, value) → keys_in ms ≡ None
+keys_in-wrong no_members key value e = absurd (none-some _ e)
+keys_in-wrong (member k d ms) key value e = told (caller_at k d) (keys_in ms) (keys_in-wrong ms key value) e
   where
-    told : (caller : Option Caller) (more : Option (List KeyOf)) → (first_wrong ms ≡ Some key → more ≡ None)
-        → (if is_some caller then first_wrong ms else Some k) ≡ Some key
+    told : (caller : Option Caller) (more : Option (List KeyOf)) → (first_wrong ms ≡ Some (key, value) → more ≡ None)
+        → (if is_some caller then first_wrong ms else Some (k, d)) ≡ Some (key, value)
         → option_and_then (λ (c : Caller). option_and_then (λ (ks : List KeyOf). Some ((k, c) ∷ ks)) more) caller ≡ None
     told None more rest e = refl
     told (Some c) more rest e = ap (option_and_then (λ (ks : List KeyOf). Some ((k, c) ∷ ks))) (rest e)
 
 -- its file is no caller file
-pub directory_of-wrong : (bytes : List ℕ) (document : Members) (key : List ℕ) → document_of bytes ≡ Some document → first_wrong document ≡ Some key → directory_of bytes ≡ Err EntryFault
+pub directory_of-wrong : (bytes : List ℕ) (document : Members) (key : List ℕ) (value : Data) → document_of bytes ≡ Some document → first_wrong document ≡ Some (key, value) → directory_of bytes ≡ Err EntryFault
 unfolding directory_of
-directory_of-wrong bytes document key is wrong = ap directory_in is ∙ ap (λ found. ok_or found EntryFault) (keys_in-wrong document key wrong)
+directory_of-wrong bytes document key value is wrong = ap directory_in is ∙ ap (λ found. ok_or found EntryFault) (keys_in-wrong document key value wrong)
 
 -- and the fault that is told is the key's
 pub told_wrong : (fault : DirectoryFault) (right : Result (List KeyOf) DirectoryFault) → right ≡ Err EntryFault → Fails fault right → fault ≢ MemoryFault → fault ≡ EntryFault

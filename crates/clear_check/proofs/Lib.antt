@@ -1,3 +1,4 @@
 pub mod BankCheckLemmas
 pub mod CallerCheckLemmas
+pub mod RecordLemmas
 pub mod TextLemmas

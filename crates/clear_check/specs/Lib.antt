@@ -1,4 +1,5 @@
 pub mod BankChecks
+pub mod BankFound
 pub mod CallerChecks
 pub mod Hints
 pub mod RateChecks

@@ -2,7 +2,8 @@
 ghost use Rattle.std.specs.Prelude.{◌≡◌, ◌≢◌, IfOk, OnOk, is_ok, count_by, sum_by, string_bytes};
 ghost use Rattle.clear_bank.specs.Answers.{Gives};
 ghost use Rattle.clear_book.specs.Documents.Amounts.{euros_text};
-ghost use Rattle.clear_check.specs.BankChecks.{SaysBank, SaysFault, bank_line, bank_of, bank_text};
+ghost use Rattle.clear_check.specs.BankChecks.{SaysBank, SaysFault, Tells, TellsFault, bank_line};
+ghost use Rattle.clear_check.specs.BankChecks.{bank_of, bank_text};
 ghost use Rattle.clear_check.specs.BankChecks.{cents_of, counts_text, field_line, field_wanted};
 ghost use Rattle.clear_check.specs.BankChecks.{held_of, lines_at, names_no_firm, record_line};
 ghost use Rattle.clear_check.specs.BankChecks.{totals_text};
@@ -36,6 +37,8 @@ pub fn check_bank(alloc: Global, bytes: &[u8]) -> Result<Checked, AllocError>
     ensures good { IfOk result (λ checked. checked.good ≡ is_ok (bank_of bytes.now)) }
     ensures says { IfOk result (λ checked.
         SaysBank (bank_of bytes.now) (string_bytes checked.text)) }
+    ensures tells { IfOk result (λ checked.
+        Tells bytes.now (bank_of bytes.now) (string_bytes checked.text)) }
 {
     match read_bank(alloc, bytes) {
         Ok(held) => Ok(Checked {
@@ -144,6 +147,7 @@ fn euros_text(alloc: Global, cents: u128) -> Result<String, AllocError>
 fn fault_text(alloc: Global, bytes: &[u8], fault: BankFault) -> Result<String, AllocError>
     ensures known { OnOk result (fault ≢ BankFault.Memory) }
     ensures says { IfOk result (λ text. SaysFault fault (string_bytes text)) }
+    ensures tells { IfOk result (λ text. TellsFault bytes.now fault (string_bytes text)) }
 {
     let records = read_records(alloc, bytes, b',')?;
     let seen = look_at(alloc, records.as_slice(), fault)?;

@@ -1,13 +1,13 @@
 //! What is said of a caller file.
 ghost use Rattle.std.specs.Prelude.{◌≡◌, ◌≢◌, ℕ, List, IfOk, OnOk, Some, Ok, is_ok, count_by};
 ghost use Rattle.std.specs.Prelude.{string_bytes};
-ghost use Rattle.toml.specs.Data.{Members, as_integer};
+ghost use Rattle.toml.specs.Data.{as_integer};
 ghost use Rattle.toml.specs.View.{table_view, view};
 ghost use Rattle.clear_money.specs.RateFile.{document_of};
 ghost use Rattle.clear_callers.specs.CallerFile.{directory_of, keys_in};
 ghost use Rattle.clear_callers.specs.Callers.{KeyOf};
-ghost use Rattle.clear_check.specs.CallerChecks.{NamesKey, SaysKeys, caller_line, counts_text};
-ghost use Rattle.clear_check.specs.CallerChecks.{first_wrong, is_clerks, is_zero, keys_text};
+ghost use Rattle.clear_check.specs.CallerChecks.{SaysKeys, TellsWrongKey, caller_line, counts_text};
+ghost use Rattle.clear_check.specs.CallerChecks.{is_clerks, is_zero, keys_text};
 
 mod second_look;
 
@@ -26,10 +26,7 @@ pub fn check_callers(alloc: Global, bytes: &[u8]) -> Result<Checked, AllocError>
     ensures good { IfOk result (λ checked. checked.good ≡ is_ok (directory_of bytes.now)) }
     ensures says { IfOk result (λ checked.
         SaysKeys (directory_of bytes.now) (string_bytes checked.text)) }
-    // Where a member of the document is no key of a caller, the line names the first one.
-    ensures key { (document : Members) (key : List ℕ) → document_of bytes.now ≡ Some document
-        → first_wrong document ≡ Some key
-        → IfOk result (λ checked. NamesKey key (string_bytes checked.text)) }
+    ensures key { IfOk result (λ checked. TellsWrongKey bytes.now (string_bytes checked.text)) }
 {
     match Directory::read(alloc, bytes) {
         Ok(_) => Ok(Checked {

@@ -1,6 +1,7 @@
 //! What a bank file looks like that isn't taken.
-ghost use Rattle.std.specs.Prelude.{◌≡◌, IfOk, string_bytes};
-ghost use Rattle.clear_check.specs.Hints.{hint_lines, when};
+ghost use Rattle.std.specs.Prelude.{◌≡◌, ◌↔◌, false, IfOk, IsUtf8, string_bytes};
+ghost use Rattle.csv.specs.Reading.{strip_bom};
+ghost use Rattle.clear_check.specs.Hints.{AreHints, IsXml, hint_lines, when};
 
 use crate::records::{bytes_in, read_records, record_at};
 use crate::texts::joined;
@@ -70,28 +71,52 @@ pub(crate) fn hints_of(
     bytes: &[u8],
     records: &[ByteRecord],
     fault: BankFault,
-) -> Result<Hints, AllocError> {
+) -> Result<Hints, AllocError>
+    ensures { IfOk result (AreHints bytes.now) }
+{
     let xml = is_xml(bytes);
-    let mut hints = Hints {
-        xml,
-        semicolons: !xml && has_semicolons(bytes),
-        pointed_day: false,
-        parted_amount: false,
-        other_text: str::from_utf8(bytes).is_err(),
-    };
-    if hints.semicolons {
+    let semicolons = !xml && has_semicolons(bytes);
+    let other_text = is_other_text(bytes);
+    if semicolons {
         let records = read_records(alloc, bytes, b';')?;
-        look_at_fields(&mut hints, records.as_slice());
-    } else if let BankFault::BadCsv { line, fault } = fault {
-        look_at_field(&mut hints, record_at(records, line), fault);
+        return Ok(Hints {
+            xml,
+            semicolons,
+            pointed_day: has_pointed_day(records.as_slice()),
+            parted_amount: has_parted_amount(records.as_slice()),
+            other_text,
+        });
     }
-    Ok(hints)
+    Ok(Hints {
+        xml,
+        semicolons,
+        pointed_day: day_at(records, fault),
+        parted_amount: amount_at(records, fault),
+        other_text,
+    })
+}
+
+fn is_other_text(bytes: &[u8]) -> bool
+    ensures { (result ≡ false) ↔ IsUtf8 bytes.now }
+{
+    str::from_utf8(bytes).is_err()
 }
 
 // The first sign, behind a byte order mark and spaces, is that of XML.
-fn is_xml(bytes: &[u8]) -> bool {
-    let text = bytes.strip_prefix(b"\xEF\xBB\xBF").unwrap_or(bytes);
-    text.trim_ascii_start().starts_with(b"<")
+fn is_xml(bytes: &[u8]) -> bool
+    ensures { IsXml bytes.now result }
+{
+    without_mark(bytes).trim_ascii_start().starts_with(b"<")
+}
+
+// A file without the byte order mark at its beginning.
+fn without_mark(bytes: &[u8]) -> &[u8]
+    ensures { result.now ≡ strip_bom bytes.now }
+{
+    match bytes.strip_prefix(b"\xEF\xBB\xBF") {
+        Some(text) => text,
+        None => bytes,
+    }
 }
 
 // In the header, or in the whole file, more semicolons stand than commas.
@@ -111,42 +136,76 @@ fn has_semicolons(bytes: &[u8]) -> bool {
     semicolons > commas
 }
 
-// How days and amounts are written in any field.
-fn look_at_fields(hints: &mut Hints, records: &[ByteRecord]) {
+// A field of some record is a day with points.
+fn has_pointed_day(records: &[ByteRecord]) -> bool {
     for record in records {
         for field in record.iter() {
             if is_pointed_day(field) {
-                hints.pointed_day = true;
-            } else if is_parted_amount(field) {
-                hints.parted_amount = true;
+                return true;
             }
         }
     }
+    false
 }
 
-// How the field at a fault is written, if it is a day or an amount. An amount without quotation marks
-// is cut into two fields by its comma.
-fn look_at_field(hints: &mut Hints, record: Option<&ByteRecord>, fault: RecordFault) {
-    let Some(record) = record else {
-        return;
-    };
-    match fault {
-        RecordFault::FieldCount => {
-            let amount = bytes_in(record, BankField::Cents);
-            let rest = bytes_in(record, BankField::Purpose);
-            hints.parted_amount = record.len() == 7
-                && rest.len() == 2
-                && are_digits(amount)
-                && are_digits(rest);
+// A field of some record is an amount with cents behind a comma or a point. A day as 01.04.24 is none.
+fn has_parted_amount(records: &[ByteRecord]) -> bool {
+    for record in records {
+        for field in record.iter() {
+            if !is_pointed_day(field) && is_parted_amount(field) {
+                return true;
+            }
         }
-        RecordFault::Field(BankField::ValueDate) => {
-            hints.pointed_day = is_pointed_day(bytes_in(record, BankField::ValueDate));
-        }
-        RecordFault::Field(BankField::Cents) => {
-            hints.parted_amount = is_parted_amount(bytes_in(record, BankField::Cents));
-        }
-        RecordFault::Field(_) => {}
     }
+    false
+}
+
+// The field at a fault is to be a day, and is one with points.
+fn day_at(records: &[ByteRecord], fault: BankFault) -> bool {
+    match fault {
+        BankFault::BadCsv { line, fault } => match record_at(records, line) {
+            Some(record) => is_wrong_day(record, fault),
+            None => false,
+        },
+        BankFault::OverLimit | BankFault::RefConflict { .. } | BankFault::Memory => false,
+    }
+}
+
+fn is_wrong_day(record: &ByteRecord, fault: RecordFault) -> bool {
+    match fault {
+        RecordFault::Field(BankField::ValueDate) => {
+            is_pointed_day(bytes_in(record, BankField::ValueDate))
+        }
+        RecordFault::Field(_) | RecordFault::FieldCount => false,
+    }
+}
+
+// The field at a fault is to be an amount, and has cents behind a comma or a point.
+fn amount_at(records: &[ByteRecord], fault: BankFault) -> bool {
+    match fault {
+        BankFault::BadCsv { line, fault } => match record_at(records, line) {
+            Some(record) => is_wrong_amount(record, fault),
+            None => false,
+        },
+        BankFault::OverLimit | BankFault::RefConflict { .. } | BankFault::Memory => false,
+    }
+}
+
+fn is_wrong_amount(record: &ByteRecord, fault: RecordFault) -> bool {
+    match fault {
+        RecordFault::FieldCount => is_cut_amount(record),
+        RecordFault::Field(BankField::Cents) => {
+            is_parted_amount(bytes_in(record, BankField::Cents))
+        }
+        RecordFault::Field(_) => false,
+    }
+}
+
+// An amount without quotation marks is cut into two fields by its comma.
+fn is_cut_amount(record: &ByteRecord) -> bool {
+    let amount = bytes_in(record, BankField::Cents);
+    let rest = bytes_in(record, BankField::Purpose);
+    record.len() == 7 && rest.len() == 2 && are_digits(amount) && are_digits(rest)
 }
 
 // A day as 01.04.2024 or 01.04.24.

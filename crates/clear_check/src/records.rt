@@ -1,4 +1,10 @@
 //! The records of a bank file, looked at once more.
+ghost use Rattle.std.specs.Prelude.{◌≡◌, false, map, option_map, IfOk};
+ghost use Rattle.csv.specs.Reading.{strip_bom};
+ghost use Rattle.csv.specs.Records.{fields_of};
+ghost use Rattle.clear_bank.specs.Files.{is_over, records_of};
+ghost use Rattle.clear_book.specs.Limits.{most_records};
+ghost use Rattle.clear_check.specs.BankFound.{bytes_in, record_of};
 
 use clear_bank::fields::BankField;
 use clear_values::limits::MAX_RECORDS;
@@ -11,32 +17,49 @@ pub(crate) fn read_records(
     alloc: Global,
     bytes: &[u8],
     delimiter: u8,
-) -> Result<Vec<ByteRecord>, AllocError> {
+) -> Result<Vec<ByteRecord>, AllocError>
+    // Where commas part the fields: all of them, if a file can have so many.
+    ensures { delimiter ≡ 44 → IfOk result (λ rows.
+        is_over most_records (records_of (strip_bom bytes.now)) ≡ false
+        → map fields_of rows.items ≡ records_of (strip_bom bytes.now)) }
+{
     let reader = ReaderBuilder::new()
         .has_headers(false)
         .flexible(true)
         .delimiter(delimiter)
         .from_reader(alloc, bytes);
-    let mut records = Vec::new(alloc);
-    for record in reader.into_byte_records() {
-        let Ok(record) = record else {
-            return Err(AllocError);
+    let mut rows = Vec::new(alloc);
+    for row in reader.into_byte_records() {
+        let row = match row {
+            Ok(row) => row,
+            Err(_) => return Err(AllocError),
         };
-        if records.len() > MAX_RECORDS {
-            return Ok(records);
+        if rows.len() > MAX_RECORDS {
+            return Ok(rows);
         }
-        records.push(record)?;
+        rows.push(row)?;
     }
-    Ok(records)
+    Ok(rows)
 }
 
 // The record of a number, counted from 1.
-pub(crate) fn record_at(records: &[ByteRecord], line: usize) -> Option<&ByteRecord> {
-    records.get(line.checked_sub(1)?)
+pub(crate) fn record_at(records: &[ByteRecord], line: usize) -> Option<&ByteRecord>
+    ensures { option_map (λ row. fields_of row.now) result
+        ≡ record_of line (map fields_of records.now) }
+{
+    if line == 0 {
+        return None;
+    }
+    records.get(line - 1)
 }
 
 // What stands in a field of a record; nothing where the record is too short.
-pub(crate) fn bytes_in(record: &ByteRecord, field: BankField) -> &[u8] {
+pub(crate) fn bytes_in(row: &ByteRecord, field: BankField) -> &[u8]
+    ensures { result.now ≡ bytes_in (fields_of row.now) field }
+{
     let place = usize::from(field.number()).saturating_sub(1);
-    record.get(place).unwrap_or(b"")
+    match row.get(place) {
+        Some(bytes) => bytes,
+        None => b"",
+    }
 }

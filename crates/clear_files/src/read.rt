@@ -1,5 +1,6 @@
 //! Files that are read whole.
 ghost use Rattle.std.specs.Prelude.{◌≡◌, ◌≤◌, ◌++◌, ◌⊎◌, ℕ, true, List, length, IfErr, IfOk, IfSome};
+ghost use Rattle.std.specs.Prelude.{OnOk};
 ghost use Rattle.std.specs.Io.KnownBytes.{Consumes, IsAtEnd};
 ghost use Rattle.clear_money.specs.RateFile.{rates_of};
 ghost use Rattle.clear_book.specs.Ranges.{AreRates};
@@ -56,6 +57,7 @@ pub fn read_whole<R: Read>(alloc: Global, reader: &mut Counted<R>) -> Result<Vec
     ensures whole { IfSome (R.remaining (inner reader.old))
         (λ all. IfOk result (λ bytes. bytes.items ≡ all)) }
     ensures few { IfOk result (λ bytes. length bytes.items ≤ most_file_bytes) }
+    ensures well { OnOk result (has_failed reader.new ≡ has_failed reader.old) }
     ensures why { IfErr result (λ fault. fault ≡ FileFault.Unusable
         → IsUnread (has_failed reader.new) (R.remaining (inner reader.old))) }
 {
@@ -77,6 +79,7 @@ fn read_piece<R: Read>(reader: &mut Counted<R>, bytes: &mut Vec<u8>) -> Result<u
         × Consumes (R.remaining (inner reader.old)) (R.remaining (inner reader.new)) taken) }
     ensures end { IfOk result (λ count. count ≡ 0
         → IsAtEnd (R.remaining (inner reader.new))) }
+    ensures well { OnOk result (has_failed reader.new ≡ has_failed reader.old) }
     ensures why { IfErr result (λ fault. fault ≡ FileFault.Unusable
         → has_failed reader.new ≡ true) }
 {
@@ -98,6 +101,7 @@ pub fn read_rates_from<R: Read>(
 ) -> Result<RateTable, FileFault>
     ensures said { IfOk result (BytesSay (R.remaining (inner reader.old)) rates_of) }
     ensures lawful { IfOk result AreRates }
+    ensures well { OnOk result (has_failed reader.new ≡ has_failed reader.old) }
     ensures why { IfErr result (λ fault. fault ≡ FileFault.Unusable
         → IsUnread (has_failed reader.new) (R.remaining (inner reader.old))
         ⊎ BytesSayNothing (R.remaining (inner reader.old)) rates_of) }
@@ -121,6 +125,7 @@ pub fn read_callers_from<R: Read>(
     reader: &mut Counted<R>,
 ) -> Result<Directory, FileFault>
     ensures said { IfOk result (BytesSay (R.remaining (inner reader.old)) directory_of) }
+    ensures well { OnOk result (has_failed reader.new ≡ has_failed reader.old) }
     ensures why { IfErr result (λ fault. fault ≡ FileFault.Unusable
         → IsUnread (has_failed reader.new) (R.remaining (inner reader.old))
         ⊎ BytesSayNothing (R.remaining (inner reader.old)) directory_of) }

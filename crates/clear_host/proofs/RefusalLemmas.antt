@@ -1,5 +1,5 @@
 -- What a refusal tells, and refusals that are passed on.
-use Rattle.std.proofs.Common.{◌≡◌, inl, inr, ℕ, Option, Some, None, IfSome, Result, Ok, Err, IfErr, IsTrue, refl, sym, subst}
+use Rattle.std.proofs.Common.{◌≡◌, false, inl, inr, ℕ, Option, Some, None, IfSome, Result, Ok, Err, IfErr, IsTrue, refl, sym, subst}
 use Rattle.std.proofs.lemmas.Option.{IfSome_then}
 use Rattle.sqlite.specs.Store as store
 use Rattle.sqlite.specs.Files.{HoldsDatabase}
@@ -17,7 +17,7 @@ use Rattle.clear_book.specs.declared.rules.StoreCause.TheVariants.{Constraint, R
 use Rattle.clear_migrate.specs.Answered.{AnswersOrFails}
 use Rattle.clear_schema.specs.declared.fault.OpenFault.{OpenFault}
 use Rattle.clear_schema.specs.declared.fault.OpenFault.TheVariants.{WrongVersion, Failed}
-use Rattle.clear_host.specs.Contents.{AreBlameless, BlamesCounts, BlamesNone, HasJust, HoldsBelowZero, HoldsOtherLayout, HoldsStore, IfOpen, IfRefused, KeepsTables, TellsNone, TellsOnly, TellsOther}
+use Rattle.clear_host.specs.Contents.{AreBlameless, BlamesCounts, BlamesNone, HasJust, HoldsBelowZero, HoldsOtherLayout, HoldsStore, IfOpen, IfRefused, IsBare, IsOutside, KeepsTables, TellsNone, TellsOnly, TellsOther}
 use Rattle.clear_host.specs.Offices.{IsOurs, Leaves, TellsOf}
 use Rattle.clear_host.specs.declared.offices.NotOpened.{NotOpened}
 
@@ -55,6 +55,9 @@ pub never_open : {S : Type 0} (g : store.Ghosts S) (P : State → Type 0) (refus
 never_open g P refused none =
     subst (λ at. IfSome at (λ conn. HasCleanDisk (state g conn) → IsTrue (state g conn).is_open → P (state g conn))) (sym none) tt
 
+pub none_outside : {S : Type 0} (refused : NotOpened S) → refused.connection ≡ None → IsOutside refused
+none_outside refused none = subst (λ at. IfSome at (λ conn. conn.in_transaction ≡ false)) (sym none) tt
+
 if_both : {A : Type 0} (o : Option A) (P Q R : A → Type 0) → IfSome o P → IfSome o Q → ((a : A) → P a → Q a → R a) → IfSome o R
 if_both None P Q R p q both = tt
 if_both (Some a) P Q R p q both = both a p q
@@ -65,17 +68,26 @@ module _ {S : Type 0} (g : store.Ghosts S) (image : Image) where
   unopened_leaves refused none = record {
     tables = λ t _. never_open g (λ s. HasTables t s.now × HasTables t s.committed) refused none;
     others = λ number trees _ _ _. never_open g (HasJust trees) refused none;
+    otherwise = λ trees _ _. never_open g (HasJust trees) refused none;
+    unnumbered = λ db _ _ _. never_open g (HasJust db.trees) refused none;
+    nothing = λ _. never_open g IsBare refused none;
   }
 
   -- a refusal behind an open that found a store of this program
   pub refused_leaves : {A Sound : Type 0} (r : Result A (NotOpened S)) (mid : State)
-      → ((number : ℕ) (trees : Trees) → HoldsDatabase image trees → TellsAs number trees → Sound → number ≡ this_schema)
+      → (Sound → IsOurs image)
       → ((t : Tables) → HoldsStore this_layout t image → Sound → HasTables t mid.now × HasTables t mid.committed)
       → IfErr r (IfRefused g (λ fault. Sound)) → IfErr r (IfOpen g (KeepsTables mid)) → IfErr r (Leaves g image)
   refused_leaves (Ok it) mid ours has sound rests = tt
   refused_leaves (Err refused) mid ours has sound rests = record {
     tables = λ t holds. if_both refused.connection _ _ _ sound rests (λ conn so keeps clean live. let there = has t holds (so clean) in keeps clean live t there.0 there.1);
-    others = λ number trees holds tells other. IfSome_then refused.connection sound (λ conn so clean live. absurd (other (ours number trees holds tells (so clean))));
+    others = λ number trees holds tells other. IfSome_then refused.connection sound (λ conn so clean live. absurd (other ((ours (so clean)).only_this number (trees, holds, tells))));
+    otherwise = λ trees holds stands. IfSome_then refused.connection sound (λ conn so clean live. absurd ((ours (so clean)).not_other (trees, holds, stands)));
+    unnumbered = λ db holds is which. IfSome_then refused.connection sound (λ conn so clean live. elim which [
+      | inl none ↦ absurd ((ours (so clean)).only_stores (inr (db, holds, none, is)))
+      | inr below ↦ absurd ((ours (so clean)).not_below_zero (db, holds, below, is))
+    ]);
+    nothing = λ none. IfSome_then refused.connection sound (λ conn so clean live. absurd ((ours (so clean)).only_stores (inl none)));
   }
 
   -- files that weren't opened

@@ -1,8 +1,8 @@
 -- What a connection on files sees, by what the files hold.
-use Rattle.std.proofs.Common.{◌≡◌, ◌≢◌, ◌∙◌, ℕ, ap, inl, inr, refl, sym, subst}
+use Rattle.std.proofs.Common.{◌≡◌, ◌≢◌, ◌⊎◌, ◌∙◌, ℕ, IsTrue, ap, inl, inr, refl, sym, subst}
 use Rattle.sqlite_wal.specs.Recovery.{Image}
 use Rattle.sqlite.specs.Effect.{Database, IsDatabase}
-use Rattle.sqlite.specs.Files.{AreFoundIn, HoldsDatabase}
+use Rattle.sqlite.specs.Files.{AreFoundIn, HoldsDatabase, IsNothing}
 use Rattle.sqlite.specs.State.{State}
 use Rattle.sqlite.specs.Tree.{Trees}
 use Rattle.clear_book.specs.Tables.{Tables}
@@ -10,10 +10,17 @@ use Rattle.clear_schema.specs.Held.{HasObjects, HasOtherLayout, HasTables, Stand
 use Rattle.clear_schema.specs.Schema.{no_schema, this_layout}
 use Rattle.clear_disk.specs.Seen.{SeesIn}
 use Rattle.clear_disk.proofs.SeenLemmas.{bare_seen, nothing_seen}
-use Rattle.clear_database.specs.Opening.{IsBelowZero, TellsNoNumber, TellsNumberOrNone}
+use Rattle.clear_database.specs.Opening.{HasMetaOrNothing, IsBelowZero, TellsNoNumber, TellsNumberOrNone}
 use Rattle.clear_database.specs.Still.{IsStill}
 use Rattle.clear_database.proofs.OpenLemmas.{is_seen, other_seen, tells_as, tells_seen}
-use Rattle.clear_host.specs.Contents.{AreBlameless, HasJust, HaveObjects, HoldsBelowZero, HoldsNoNumber, HoldsNone, HoldsNumberOrNone, HoldsObjects, HoldsOtherLayout, HoldsSchema, HoldsStore}
+use Rattle.clear_host.specs.Contents.{AreBlameless, HasJust, HaveObjects, HoldsBelowZero, HoldsNoNumber, HoldsNone, HoldsNumberOrNone, HoldsObjects, HoldsOtherLayout, HoldsSchema, HoldsStore, IsBare}
+use Rattle.clear_host.specs.Offices.{IsOurs}
+
+-- a database that tells no number, or one below 0, has a `meta` as its first table, or none
+pub meta_or_none : (db : Database) → TellsNoNumber db ⊎ IsBelowZero db → HasMetaOrNothing db.schema
+meta_or_none db (inl (inl none)) = inr none
+meta_or_none db (inl (inr (meta, rows))) = inl meta
+meta_or_none db (inr below) = inl below.0
 
 -- a database with this property, that an open finds by its trees
 abbrev IsSound : (Database → Type 0) → Database → Type 0
@@ -86,8 +93,29 @@ module _ (image : Image) (s : State) (seen : SeesIn image s) where
   just_seen trees holds new still =
       (ap (λ (d : Database). d.trees) (still.now_is ∙ seen.opened.0.clean) ∙ seen.holds trees holds, ap (λ (d : Database). d.trees) still.committed_is ∙ seen.holds trees holds)
 
+  -- whatever stands in a `meta` that is the first table, if there is a table
+  pub meta_seen : (db : Database) → HoldsDatabase image db.trees → IsDatabase db → HasMetaOrNothing db.schema → HasMetaOrNothing s.now.schema
+  meta_seen db holds sound is = one_seen (λ d. HasMetaOrNothing d.schema) db holds is sound
+
+  -- and no table, where they hold nothing
+  pub bare_still : IsNothing image → (new : State) → IsStill s new → IsBare new
+  bare_still nothing new still =
+      let none = ap (λ (d : Database). d.schema) still.now_is ∙ nothing_seen image s seen nothing in
+      (none, ap (λ (d : Database). d.schema) (sym still.settled) ∙ none)
+
   -- or its tables
   pub still_seen : (t : Tables) → HoldsStore this_layout t image → (new : State) → IsStill s new → HasTables t new.now × HasTables t new.committed
   still_seen t holds new still =
       let here = subst (HasTables t) (sym still.now_is) (tables_seen t holds) in
       (here, subst (HasTables t) still.settled here)
+
+  -- they are a store's, where the connection sees nothing else
+  pub ours_seen : ¬ TellsNoNumber s.now → ((number : ℕ) → TellsAs number s.committed.trees → IsTrue s.is_open → number ≡ this_schema)
+      → (IsTrue s.is_open → ¬ StandsOtherwise s.committed.trees) → ¬ IsBelowZero s.now → IsOurs image
+  ours_seen numbered right not_other not_below = record {
+    recovers = found_seen (λ none. numbered (inl none));
+    only_this = λ number holds. right number (told_seen number holds).0 seen.opened.0.is_open;
+    not_other = λ holds. not_other seen.opened.0.is_open (other_is_seen holds);
+    only_stores = λ none. numbered (unnumbered_seen none);
+    not_below_zero = λ below. not_below (below_seen below);
+  }

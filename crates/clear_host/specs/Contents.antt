@@ -1,6 +1,6 @@
 -- What the two files of a store hold, its log and its database file. No contract knows that, so clauses
 -- speak of each content.
-use Rattle.std.specs.Prelude.{◌≡◌, ◌≢◌, ◌⊎◌, ⊤, ℕ, IfSome, IsTrue, MatchOption, None}
+use Rattle.std.specs.Prelude.{◌≡◌, ◌≢◌, ◌⊎◌, ⊤, ℕ, false, IfSome, IsTrue, MatchOption, None}
 use Rattle.sqlite_wal.specs.Recovery.{Image}
 use Rattle.sqlite.specs.declared.error.Error.{Error}
 use Rattle.sqlite.specs.Effect.{Database, IsDatabase}
@@ -19,7 +19,7 @@ use Rattle.clear_schema.specs.Values.{counts_of}
 use Rattle.clear_schema.specs.declared.fault.Fault.TheVariants.{Memory}
 use Rattle.clear_schema.specs.declared.fault.OpenFault.{OpenFault}
 use Rattle.clear_schema.specs.declared.fault.OpenFault.TheVariants.{WrongVersion, Failed}
-use Rattle.clear_database.specs.Opening.{IsBelowZero, TellsNoNumber}
+use Rattle.clear_database.specs.Opening.{HasMetaOrNothing, IsBelowZero, TellsNoNumber}
 use Rattle.clear_disk.specs.Seen.{IsUnmade}
 use Rattle.clear_firms.specs.Counts.{AreCounts}
 use Rattle.clear_host.specs.Hindrances.{hindrance_of}
@@ -132,6 +132,24 @@ KeepsTables old new = (t : Tables) → HasTables t old.now → HasTables t old.c
 abbrev pub LeavesSchema : {S : Type 0} (g : Ghosts S) → Image → NotOpened S → Type 0
 LeavesSchema g image refused = (number : ℕ) (trees : Trees) → HoldsDatabase image trees
     → TellsAs number trees → IfOpen g (HasJust trees) refused
+
+-- a database that they hold, with a `meta` as its first table or without any, is left as it was,
+-- whatever that tells
+abbrev pub LeavesAlone : {S : Type 0} (g : Ghosts S) → Image → NotOpened S → Type 0
+LeavesAlone g image refused = (db : Database) → HoldsDatabase image db.trees → IsDatabase db
+    → HasMetaOrNothing db.schema → IfOpen g (HasJust db.trees) refused
+
+-- where they hold nothing, no table is made
+abbrev pub MakesNone : {S : Type 0} (g : Ghosts S) → Image → NotOpened S → Type 0
+MakesNone g image refused = IsNothing image → IfOpen g IsBare refused
+
+-- the connection that is handed back, if one is, stands in no transaction
+abbrev pub IsOutside : {S : Type 0} → NotOpened S → Type 0
+IsOutside refused = IfSome refused.connection (λ conn. conn.in_transaction ≡ false)
+
+-- the connection is handed back, and nothing had stood in its way
+abbrev pub HandsBack : {S : Type 0} → NotOpened S → Type 0
+HandsBack refused = MatchOption refused.connection ⊥ (λ connection. refused.hindrance ≡ None)
 
 -- the refusal tells the fault of some error of the database, and what that error says of the file
 abbrev pub IsByError : {S : Type 0} → NotOpened S → Type 0

@@ -1,3 +1,4 @@
 pub mod Contents
 pub mod Hindrances
 pub mod Offices
+pub mod Paths

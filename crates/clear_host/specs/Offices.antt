@@ -1,5 +1,6 @@
 -- Why an office over a store in files is opened, and why it is not, by what the two files hold.
-use Rattle.std.specs.Prelude.{◌≡◌, ◌≢◌, ℕ, List}
+use Rattle.std.specs.Prelude.{◌≡◌, ◌≢◌, ◌⊎◌, ℕ, List}
+use Rattle.sqlite.specs.Effect.{Database, IsDatabase}
 use Rattle.sqlite.specs.Files.{AreFoundIn, HoldsDatabase}
 use Rattle.sqlite.specs.Store.{Ghosts}
 use Rattle.sqlite.specs.Tree.{Trees}
@@ -9,13 +10,14 @@ use Rattle.clear_book.specs.Book.{Book, first_book}
 use Rattle.clear_book.specs.Tables.{Tables}
 use Rattle.clear_schema.specs.Faults.{IsWrong, TellsOutOfRange}
 use Rattle.clear_database.specs.First.{first_tables}
-use Rattle.clear_schema.specs.Held.{HasTables, TellsAs, this_schema}
+use Rattle.clear_schema.specs.Held.{HasTables, StandsOtherwise, TellsAs, this_schema}
 use Rattle.clear_schema.specs.Schema.{this_layout}
+use Rattle.clear_database.specs.Opening.{IsBelowZero, TellsNoNumber}
 use Rattle.clear_database.specs.Still.{Holds}
 use Rattle.clear_office.specs.Office.{Keeps}
 use Rattle.clear_host.specs.Contents.{AreBlameless, BlamesNone, HasJust, HoldsBelowZero, HoldsBook}
 use Rattle.clear_host.specs.Contents.{HoldsNoNumber, HoldsOtherLayout, HoldsSchema, HoldsStore, IfOpen}
-use Rattle.clear_host.specs.Contents.{IfRefused, TellsOnly, TellsOther}
+use Rattle.clear_host.specs.Contents.{IfRefused, MakesNone, TellsOnly, TellsOther}
 use Rattle.clear_host.specs.declared.offices.NotOpened.{NotOpened}
 use Rattle.clear_host.specs.declared.offices.Opened.{Opened}
 
@@ -52,10 +54,15 @@ pub record TellsOf {S : Type 0} (g : Ghosts S) (image : Image) (refused : NotOpe
   pub below_zero : HoldsBelowZero image → IfRefused g TellsOutOfRange refused
   pub cause : AreBlameless image → IfRefused g BlamesNone refused
 
--- the refusal leaves what they hold: the tables of a store of this program, and a database of another
--- schema as it was
+-- the refusal leaves what they hold: the tables of a store of this program; a database of another schema,
+-- of another layout, or that tells no number or one below 0, as it was; and nothing, where they hold that
 pub record Leaves {S : Type 0} (g : Ghosts S) (image : Image) (refused : NotOpened S) : Type 0 where
   pub tables : (t : Tables) → HoldsStore this_layout t image
       → IfOpen g (λ s. HasTables t s.now × HasTables t s.committed) refused
   pub others : (number : ℕ) (trees : Trees) → HoldsDatabase image trees → TellsAs number trees
       → number ≢ this_schema → IfOpen g (HasJust trees) refused
+  pub otherwise : (trees : Trees) → HoldsDatabase image trees → StandsOtherwise trees
+      → IfOpen g (HasJust trees) refused
+  pub unnumbered : (db : Database) → HoldsDatabase image db.trees → IsDatabase db
+      → TellsNoNumber db ⊎ IsBelowZero db → IfOpen g (HasJust db.trees) refused
+  pub nothing : MakesNone g image refused

@@ -10,9 +10,11 @@ ghost use Rattle.clear_book.specs.Tables.{Tables};
 ghost use Rattle.clear_schema.specs.Held.{HasTables, TellsAs};
 ghost use Rattle.clear_schema.specs.Schema.{this_layout};
 ghost use Rattle.clear_disk.specs.Seen.{Sees};
-ghost use Rattle.clear_host.specs.Contents.{BlamesNone, HasJust, HoldsNumberOrNone, HoldsStore};
-ghost use Rattle.clear_host.specs.Contents.{IfRefused, IsWhyUnopened, LeavesSchema};
+ghost use Rattle.clear_host.specs.Contents.{BlamesNone, HandsBack, HasJust, HoldsNumberOrNone};
+ghost use Rattle.clear_host.specs.Contents.{HoldsStore, IfRefused, IsOutside, IsWhyUnopened};
+ghost use Rattle.clear_host.specs.Contents.{LeavesAlone, LeavesSchema, MakesNone};
 ghost use Rattle.clear_host.specs.Offices.{IsOurs, TellsOf};
+ghost use Rattle.clear_host.specs.Paths.{RefusesNoFile};
 
 use crate::offices::NotOpened;
 use crate::opening::open_database;
@@ -51,7 +53,13 @@ pub fn bring_to_current<S: Start>(
     ensures cause { HoldsNumberOrNone (image_at S.Start)
         → IfErr result (IfRefused over_files BlamesNone) }
     ensures unopened { IfErr result IsWhyUnopened }
+    ensures outside { IfErr result IsOutside }
+    ensures mode { IfOk result (λ brought. brought.connection.in_transaction ≡ false) }
+    // A path that SQLite takes for something else than the name of a file is refused.
+    ensures named { RefusesNoFile path.now result }
     ensures rests { IfErr result (LeavesSchema over_files (image_at S.Start)) }
+    ensures alone { IfErr result (LeavesAlone over_files (image_at S.Start)) }
+    ensures bare { IfErr result (MakesNone over_files (image_at S.Start)) }
     ensures still { IfOk result (λ brought. HasCleanDisk (state over_files brought.connection)
         → (number : ℕ) (trees : Trees) → HoldsDatabase (image_at S.Start) trees
         → TellsAs number trees → HasJust trees (state over_files brought.connection)) }
@@ -77,8 +85,15 @@ fn bring<S: Alter>(connection: Connection<S>) -> Result<Brought<S>, NotOpened<S>
     ensures cause { (image : Image) → Sees S.Store image connection → HoldsNumberOrNone image
         → IfErr result (IfRefused S.Store BlamesNone) }
     ensures unopened { IfErr result IsWhyUnopened }
+    ensures back { IfErr result HandsBack }
+    ensures outside { IfErr result IsOutside }
+    ensures mode { IfOk result (λ brought. brought.connection.in_transaction ≡ false) }
     ensures rests { (image : Image) → Sees S.Store image connection
         → IfErr result (LeavesSchema S.Store image) }
+    ensures alone { (image : Image) → Sees S.Store image connection
+        → IfErr result (LeavesAlone S.Store image) }
+    ensures bare { (image : Image) → Sees S.Store image connection
+        → IfErr result (MakesNone S.Store image) }
     ensures still { (image : Image) → Sees S.Store image connection
         → IfOk result (λ brought. HasCleanDisk (state S.Store brought.connection)
         → (number : ℕ) (trees : Trees) → HoldsDatabase image trees

@@ -16,11 +16,12 @@ ghost use Rattle.clear_schema.specs.Schema.{this_layout};
 ghost use Rattle.clear_disk.specs.Seen.{Sees};
 ghost use Rattle.clear_database.specs.Still.{Holds};
 ghost use Rattle.clear_office.specs.Office.{IsHonest, Keeps};
-ghost use Rattle.clear_host.specs.Contents.{BlamesCounts, BlamesNone, HoldsBelowZero};
+ghost use Rattle.clear_host.specs.Contents.{BlamesCounts, BlamesNone, HandsBack, HoldsBelowZero};
 ghost use Rattle.clear_host.specs.Contents.{HoldsNoNumber, HoldsNone, HoldsNumberOrNone};
 ghost use Rattle.clear_host.specs.Contents.{HoldsObjects, HoldsSchema, HoldsStore, IfOpen};
-ghost use Rattle.clear_host.specs.Contents.{IfRefused, IsBare, IsWhyUnopened, KeepsTables};
-ghost use Rattle.clear_host.specs.Contents.{LeavesSchema, TellsNone, TellsOnly};
+ghost use Rattle.clear_host.specs.Contents.{IfRefused, IsBare, IsOutside, IsWhyUnopened};
+ghost use Rattle.clear_host.specs.Contents.{KeepsTables, LeavesAlone, LeavesSchema};
+ghost use Rattle.clear_host.specs.Contents.{TellsNone, TellsOnly};
 ghost use Rattle.clear_host.specs.Offices.{IsNewOffice, IsOfficeOver, IsOurs, Leaves, TellsOf};
 
 use crate::hindrance::Hindrance;
@@ -92,8 +93,12 @@ pub(crate) fn new_office<S: Alter>(
     ensures cause { (image : Image) → Sees S.Store image connection → HoldsNumberOrNone image
         → IfErr result (IfRefused S.Store BlamesNone) }
     ensures unopened { IfErr result IsWhyUnopened }
+    ensures back { IfErr result HandsBack }
+    ensures outside { IfErr result IsOutside }
     ensures rests { (image : Image) → Sees S.Store image connection
         → IfErr result (LeavesSchema S.Store image) }
+    ensures alone { (image : Image) → Sees S.Store image connection
+        → IfErr result (LeavesAlone S.Store image) }
 {
     match make_office(alloc, connection, rates) {
         Ok(office) => Ok(Opened {
@@ -125,6 +130,8 @@ pub(crate) fn find_office<S: Alter>(
     ensures tells { (image : Image) → Sees S.Store image connection
         → IfErr result (TellsOf S.Store image) }
     ensures unopened { IfErr result IsWhyUnopened }
+    ensures back { IfErr result HandsBack }
+    ensures outside { IfErr result IsOutside }
     ensures leaves { (image : Image) → Sees S.Store image connection
         → IfErr result (Leaves S.Store image) }
 {
@@ -144,6 +151,8 @@ fn find_store<S: Alter>(connection: Connection<S>) -> Result<Store<S>, NotOpened
     ensures tells { (image : Image) → Sees S.Store image connection
         → IfErr result (TellsOf S.Store image) }
     ensures unopened { IfErr result IsWhyUnopened }
+    ensures back { IfErr result HandsBack }
+    ensures outside { IfErr result IsOutside }
     ensures leaves { (image : Image) → Sees S.Store image connection
         → IfErr result (Leaves S.Store image) }
 {
@@ -169,6 +178,8 @@ fn confirm<S: Alter>(store: Store<S>) -> Result<Store<S>, NotOpened<S>>
     ensures untold { IfErr result (IfRefused S.Store TellsNone) }
     ensures cause { IfErr result (IfRefused S.Store BlamesNone) }
     ensures unopened { IfErr result IsWhyUnopened }
+    ensures back { IfErr result HandsBack }
+    ensures outside { IfErr result IsOutside }
     ensures clean_left { IfErr result (IfRefused S.Store (λ fault.
         HasCleanDisk (state S.Store store.conn))) }
     ensures rests { IfErr result (IfOpen S.Store (KeepsTables (state S.Store store.conn))) }
@@ -202,6 +213,8 @@ fn office_over<S: Alter>(alloc: Global, store: Store<S>) -> Result<Opened<S>, No
     ensures untold { IfErr result (IfRefused S.Store TellsNone) }
     ensures cause { IfErr result (IfRefused S.Store (BlamesCounts (state S.Store store.conn))) }
     ensures unopened { IfErr result IsWhyUnopened }
+    ensures back { IfErr result HandsBack }
+    ensures outside { IfErr result IsOutside }
     ensures clean_left { IfErr result (IfRefused S.Store (λ fault.
         HasCleanDisk (state S.Store store.conn))) }
     ensures rests { IfErr result (IfOpen S.Store (KeepsTables (state S.Store store.conn))) }

@@ -1,10 +1,11 @@
 //! The two files of a store, its database file and its log, opened as a database.
-ghost use Rattle.std.specs.Prelude.{◌≡◌, false, true, None, IfErr, IfOk, IsTrue};
+ghost use Rattle.std.specs.Prelude.{◌≡◌, false, true, Err, None, IfErr, IfOk, IsTrue};
 ghost use Rattle.sqlite.specs.Files.{over_files};
 ghost use Rattle.sqlite_std_file.specs.File.{file_is_usable, IsFresh};
 ghost use Rattle.sqlite_wal.specs.Files.{image_at};
 ghost use Rattle.clear_disk.specs.Seen.{Sees};
 ghost use Rattle.clear_host.specs.Contents.{IsByError};
+ghost use Rattle.clear_host.specs.Paths.{RefusesNoFile, cannot_open, is_no_file};
 
 use crate::hindrance::hindrance_of;
 use crate::offices::NotOpened;
@@ -32,6 +33,7 @@ pub(crate) fn open_database<S: Start>(
     ensures sees { IfOk result (Sees over_files (image_at S.Start)) }
     ensures none { IfErr result (λ refused. refused.connection ≡ None) }
     ensures why { IfErr result IsByError }
+    ensures named { RefusesNoFile path.now result }
 {
     let files = open_files(rt, path, start)?;
     let seed = random_seed(rt)?;
@@ -44,6 +46,7 @@ fn open_files<S: Start>(rt: &HostRuntime, path: &str, start: S) -> Result<Files<
     ensures log { IfOk result (λ files. IsTrue (file_is_usable S.Start files.log)) }
     ensures db { IfOk result (λ files. IsTrue (file_is_usable S.Start files.db)) }
     ensures fresh { IfOk result (λ files. IsFresh true files.log × IsFresh false files.db) }
+    ensures named { is_no_file path.now ≡ true → result ≡ Err cannot_open }
 {
     if is_no_file(path) {
         return Err(CANNOT_OPEN);
@@ -70,8 +73,10 @@ fn error_of_file(error: &io::Error) -> Error {
 }
 
 /// Whether SQLite takes a path for something else than the name of a file: such a one is refused.
-pub(crate) fn is_no_file(path: &str) -> bool {
-    path == ":memory:" || path.starts_with("file:")
+pub(crate) fn is_no_file(path: &str) -> bool
+    ensures { result ≡ is_no_file path.now }
+{
+    path == ":memory:" || path.as_bytes().starts_with(b"file:")
 }
 
 // A random number for the salts of a log.

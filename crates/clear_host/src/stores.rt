@@ -12,9 +12,10 @@ ghost use Rattle.clear_schema.specs.Faults.{TellsOutOfRange};
 ghost use Rattle.clear_office.specs.Office.{IsHonest};
 ghost use Rattle.clear_host.specs.Contents.{BlamesNone, HoldsBelowZero, HoldsNoNumber, HoldsNone};
 ghost use Rattle.clear_host.specs.Contents.{HoldsNumberOrNone, HoldsObjects, HoldsSchema, IfOpen};
-ghost use Rattle.clear_host.specs.Contents.{IfRefused, IsBare, IsWhyUnopened, LeavesSchema};
-ghost use Rattle.clear_host.specs.Contents.{TellsNone, TellsOnly};
+ghost use Rattle.clear_host.specs.Contents.{IfRefused, IsBare, IsOutside, IsWhyUnopened};
+ghost use Rattle.clear_host.specs.Contents.{LeavesAlone, LeavesSchema, TellsNone, TellsOnly};
 ghost use Rattle.clear_host.specs.Offices.{IsNewOffice, IsOfficeOver, Leaves, TellsOf};
+ghost use Rattle.clear_host.specs.Paths.{RefusesNoFile};
 
 use crate::offices::{NotOpened, Opened, find_office, new_office};
 use crate::opening::{is_no_file, open_database};
@@ -64,7 +65,11 @@ pub fn create_office<S: Start>(
     ensures cause { HoldsNumberOrNone (image_at S.Start)
         → IfErr result (IfRefused over_files BlamesNone) }
     ensures unopened { IfErr result IsWhyUnopened }
+    ensures outside { IfErr result IsOutside }
+    // A path that SQLite takes for something else than the name of a file is refused.
+    ensures named { RefusesNoFile path.now result }
     ensures rests { IfErr result (LeavesSchema over_files (image_at S.Start)) }
+    ensures alone { IfErr result (LeavesAlone over_files (image_at S.Start)) }
 {
     // No effect at run time: the proof reads from this call that the rates are lawful.
     rates_in_range(rates);
@@ -78,8 +83,9 @@ pub fn create_office<S: Start>(
 /// Where no file is, none is made. Where the file holds no store of this program, `WrongVersion`
 /// with the number of its schema, 0 without one; where that is our number, but its tables or indexes
 /// are others than ours, `Failed(Fault::Store(StoreCause::Other))`. A refusal leaves a store its tables,
-/// and a database of another schema as it was. Of a store whose counts are in their ranges, and of a
-/// database of another schema or without a number, it blames no key and no row.
+/// and a database of another schema, of other tables or without a number as it was. Of a store whose
+/// counts are in their ranges, and of a database of another schema or without a number, it blames no
+/// key and no row.
 pub fn open_office<S: Start>(
     rt: &HostRuntime,
     path: &str,
@@ -90,6 +96,9 @@ pub fn open_office<S: Start>(
         → IsOfficeOver over_files (image_at S.Start) opened) }
     ensures tells { IfErr result (TellsOf over_files (image_at S.Start)) }
     ensures unopened { IfErr result IsWhyUnopened }
+    ensures outside { IfErr result IsOutside }
+    // A path that SQLite takes for something else than the name of a file is refused.
+    ensures named { RefusesNoFile path.now result }
     ensures leaves { IfErr result (Leaves over_files (image_at S.Start)) }
 {
     let connection = open_database(rt, path, start)?;

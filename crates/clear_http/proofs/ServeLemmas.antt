@@ -2,7 +2,7 @@
 use Rattle.std.proofs.Common.{◌≡◌, ◌⊎◌, ℕ, ◌+◌, ◌<◌, Bool, true, false, cond, eqb, List, [], ◌∷◌, ◌++◌, Option, Some, None, refl, sym, ap, ◌∙◌, subst, arith, inl, inr}
 use Rattle.std.proofs.lemmas.List.{append-nil, append_assoc, length-append}
 use Rattle.std.specs.Prelude.{IfSome, length, codes}
-use Rattle.std.specs.Io.KnownBytes.{Appends}
+use Rattle.std.specs.Io.KnownBytes.{Appends, prepend_known}
 use Rattle.clear_book.specs.declared.rules.Rule.TheVariants.{Memory}
 use Rattle.clear_answers.specs.declared.said.Said.{Said}
 use Rattle.clear_answers.specs.declared.said.Said.TheVariants.{Reply, Answer, No}
@@ -11,15 +11,17 @@ use Rattle.clear_answers.specs.Said.{refused_by}
 use Rattle.clear_wire.specs.Head.{Heading}
 use Rattle.clear_wire.specs.Stream.{NextItem, ended, Next}
 use Rattle.clear_wire.specs.Cut.{left_after, left_after_all, Cuts, IsAnswered}
+use Rattle.clear_wire.specs.Input.{has_ended, reader_of, stream, unused_of}
 use Rattle.clear_wire.specs.Known.{Leads}
 use Rattle.clear_wire.specs.Limits.{request_limit}
 use Rattle.clear_wire.specs.Request.{next_item}
+use Rattle.clear_wire.specs.declared.input.Input.{Input}
 use Rattle.clear_wire.specs.declared.request.Item.{Item}
 use Rattle.clear_wire.proofs.CutLemmas.{Cuts-append, left_after_all-append, cut_ended, cut_begun, nothing_cut}
 use Rattle.clear_wire.proofs.KnownLemmas.{Leads-refl, Leads-then, Appends-nil, Appends-then}
 use Rattle.clear_http.specs.declared.serve.Served.{Served}
 use Rattle.clear_http.specs.declared.serve.Behind.{Behind}
-use Rattle.clear_http.specs.Serve.{is_bad, ends_by_rule, ends_stream, left_then, NoneEnds, LastEnds, was_done, MaySend, Says, Responds, is_bare, item_answer, answer_text, AnswersOne, BreaksOff, Progress, Serves, ServesPart}
+use Rattle.clear_http.specs.Serve.{is_bad, ends_by_rule, ends_stream, left_then, NoneEnds, LastEnds, was_done, MaySend, Says, Responds, is_bare, item_answer, answer_text, AnswersOne, BreaksOff, Progress, Serves, ServesPart, ServesWhole}
 
 -- ---- what ends a stream
 
@@ -163,6 +165,14 @@ module _ {H : Type 0} (responds : H → Heading → List ℕ → Said → H → 
           left_same : (qs : List NextItem) (a : Option (List ℕ)) → IfSome a (λ m. (r : List ℕ) × Cuts left m qs r) → IfSome a (λ m. (r : List ℕ) × Cuts (left_after_all request_limit x.items) m qs r)
           left_same qs a q = subst (λ n. IfSome a (λ m. (r : List ℕ) × Cuts n m qs r)) left_is q
 
+      -- where nothing more was taken or written
+      pub progress_whole : (written' : Option (List ℕ)) (next : H) → next ≡ now → written' ≡ wmid → ServesWhole responds h bytes written written' next served.requests
+      unfolding progress_break
+      progress_whole written' next same kept =
+          let rests : BreaksOff responds left now mid wmid written' next =
+          ([], [], [], [], omega arith, nothing_cut left mid, same, subst (λ w. Appends wmid w []) (sym kept) (Appends-nil wmid), refl, tt) in
+          (progress_break written' next rests, refl)
+
   abbrev none_yet : Served
   none_yet = record { requests = 0; by_rule = false }
 
@@ -183,6 +193,21 @@ module _ {H : Type 0} (responds : H → Heading → List ℕ → Said → H → 
   pub nothing_served : (h : H) (bytes written : Option (List ℕ)) → ServesPart responds h bytes written written h 0
   nothing_served h bytes written = progress_break h bytes bytes written written request_limit h none_yet (progress_none h bytes written) (omega arith) written h
       ([], [], [], [], omega arith, nothing_cut request_limit bytes, refl, Appends-nil written, refl, tt)
+
+  pub nothing_whole : (h : H) (bytes written : Option (List ℕ)) → ServesWhole responds h bytes written written h 0
+  nothing_whole h bytes written = progress_whole h bytes bytes written written request_limit h none_yet (progress_none h bytes written) (omega arith) written h refl refl
+
+-- ---- an input of which nothing was read
+
+none_before : (bytes : Option (List ℕ)) → prepend_known [] bytes ≡ bytes
+none_before None = refl
+none_before (Some xs) = refl
+
+pub fresh_stream : {R : Type 0} (remaining : R → Option (List ℕ)) (input : Input R) (reader : R) → reader_of input ≡ reader → unused_of input ≡ [] → has_ended input ≡ false
+    → stream remaining input ≡ remaining reader
+fresh_stream remaining input reader is none goes_on =
+    ap (λ (e : Bool). cond e (Some []) (prepend_known (unused_of input) (remaining (reader_of input)))) goes_on
+    ∙ (λ i. prepend_known (none i) (remaining (is i))) ∙ none_before (remaining reader)
 
 -- ---- an answer has bytes
 

@@ -17,7 +17,8 @@ use Rattle.clear_wire.specs.Known.{Leads}
 use Rattle.clear_wire.specs.Limits.{chunk_size, request_limit}
 use Rattle.clear_wire.specs.Method.{is_head}
 use Rattle.clear_wire.specs.Stream.{NextItem, whole, bad, ended, Next}
-use Rattle.clear_http.specs.declared.serve.Fault.TheVariants.{Write}
+use Rattle.clear_http.specs.declared.serve.Fault.{Fault}
+use Rattle.clear_http.specs.declared.serve.Fault.TheVariants.{Read, Reads, Write}
 use Rattle.clear_http.specs.declared.serve.ServeFault.{ServeFault}
 use Rattle.clear_http.specs.declared.serve.Served.{Served}
 use Rattle.clear_http.specs.declared.serve.Behind.{Behind}
@@ -88,6 +89,10 @@ IsCutBy bytes items saids =
 -- memory
 abbrev pub MaySend : Said → Said → Type 0
 MaySend wanted said = (said ≡ wanted) ⊎ ((was_done wanted ≡ false) × (said ≡ refused_by Memory))
+
+-- why the requests of a stream aren't read any further
+abbrev pub IsOfReader : Fault → Type 0
+IsOfReader fault = (fault ≡ Read) ⊎ (fault ≡ Reads)
 
 -- an answer that was begun isn't whole: some of its bytes are left
 abbrev pub IsProper : List NextItem → List ℕ → Type 0
@@ -198,3 +203,9 @@ module _ {H : Type 0} (responds : H → Heading → List ℕ → Said → H → 
         ≡ answer_text request_limit items saids ++ (part ++ rest)
     pub proper : IsProper last rest
     pub count : answered ≡ length items
+
+  -- so many items were answered whole, and no other was taken
+  abbrev pub ServesWhole : H → Option (List ℕ) → Option (List ℕ) → Option (List ℕ) → H → ℕ
+      → Type 0
+  ServesWhole h bytes written written' h' answered =
+      (part : ServesPart h bytes written written' h' answered) × (part.last ≡ [])

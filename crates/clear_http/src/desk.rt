@@ -10,7 +10,8 @@ ghost use Rattle.clear_routes.specs.Reading.{Reads};
 ghost use Rattle.clear_answers.specs.Said.{said_of};
 ghost use Rattle.clear_http.specs.Desk.{MaySay, MayServe};
 ghost use Rattle.clear_http.specs.Guarded.{Guards};
-ghost use Rattle.clear_http.specs.Serve.{Serves, ServesPart, StandsBehind, TellsFailed};
+ghost use Rattle.clear_http.specs.Serve.{IsOfReader, Serves, ServesPart, ServesWhole};
+ghost use Rattle.clear_http.specs.Serve.{StandsBehind, TellsFailed};
 ghost use Rattle.clear_http.specs.Served.{IsServed, IsServedPart};
 
 use crate::serve::{Fault, Responder, ServeFault, Served, serve_stream, tell_failed};
@@ -118,6 +119,12 @@ pub fn serve<S: Alter, R: RequestRead, W: Write>(
         office.new served) }
     ensures answers_fault { office.old.failed ≡ false
         → IfErr result (λ fault. ServesPart (MaySay S.Store directory.now day) office.old
+        (R.remaining (inner reader.old))
+        (W.contents (inner writer.old)) (W.contents (inner writer.new))
+        office.new fault.answered) }
+    ensures whole { office.old.failed ≡ false
+        → IfErr result (λ fault. IsOfReader fault.fault
+        → ServesWhole (MaySay S.Store directory.now day) office.old
         (R.remaining (inner reader.old))
         (W.contents (inner writer.old)) (W.contents (inner writer.new))
         office.new fault.answered) }

@@ -12,7 +12,8 @@ ghost use Rattle.clear_wire.specs.Request.{next_item};
 ghost use Rattle.clear_wire.specs.Parsed.{heading};
 ghost use Rattle.clear_wire.specs.Stream.{ended, whole, Next};
 ghost use Rattle.clear_http.specs.Serve.{is_bad, is_bare, was_done, ends_stream, left_then};
-ghost use Rattle.clear_http.specs.Serve.{AnswersOne, BreaksOff, Serves, ServesPart};
+ghost use Rattle.clear_http.specs.Serve.{AnswersOne, BreaksOff, IsOfReader, Serves, ServesPart};
+ghost use Rattle.clear_http.specs.Serve.{ServesWhole};
 ghost use Rattle.clear_http.specs.Ahead.{HoldsFew};
 ghost use Rattle.clear_http.specs.Serve.{MaySend, StandsBehind, TellsFailed};
 
@@ -238,6 +239,8 @@ fn turn<T, H: Responder<T>, R: NotedRead, W: Write>(
     ensures fault { OnErr result (BreaksOff (H.responds responder.now) left state.old
         (stream R.remaining input.old)
         (W.contents (inner writer.old)) (W.contents (inner writer.new)) state.new) }
+    ensures unread { IfErr result (λ fault. IsOfReader fault
+        → (state.new ≡ state.old) × (writer.new ≡ writer.old)) }
     ensures held { HoldsFew input.old → HoldsFew input.new }
     ensures borrow { KeepsBorrow R.noted input.old input.new }
     ensures counts { CountsReads R.noted input.old input.new }
@@ -277,6 +280,11 @@ fn serve_input<T, H: Responder<T>, R: NotedRead, W: Write>(
         (W.contents (inner writer.old)) (W.contents (inner writer.new))
         state.new served) }
     ensures fault { IfErr result (λ fault. ServesPart (H.responds responder.now) state.old
+        (stream R.remaining input.old)
+        (W.contents (inner writer.old)) (W.contents (inner writer.new))
+        state.new fault.answered) }
+    ensures whole { IfErr result (λ fault. IsOfReader fault.fault
+        → ServesWhole (H.responds responder.now) state.old
         (stream R.remaining input.old)
         (W.contents (inner writer.old)) (W.contents (inner writer.new))
         state.new fault.answered) }
@@ -324,9 +332,10 @@ fn serve_input<T, H: Responder<T>, R: NotedRead, W: Write>(
 /// What was written is the answers to the items of the stream, whose bytes alone decide it. After a
 /// fault it is those of the first items, so many as the fault says, and a front of the next one's
 /// that isn't all of it. `Read` comes just where a call of this reader failed, `Write` just where one
-/// of this writer did, and `Reads` only after 1,000,000 reads of this reader. However it ends, it
-/// makes no more reads than these. Behind the last request fewer bytes are read than one read asks
-/// for, where a further one might come.
+/// of this writer did, and `Reads` only after 1,000,000 reads of this reader. After `Read` and `Reads`
+/// no request was taken whose answer wasn't written whole. However it ends, it makes no more reads
+/// than these. Behind the last request fewer bytes are read than one read asks for, where a further
+/// one might come.
 pub fn serve_stream<T, H: Responder<T>, R: RequestRead, W: Write>(
     alloc: Global,
     responder: &H,
@@ -341,6 +350,11 @@ pub fn serve_stream<T, H: Responder<T>, R: RequestRead, W: Write>(
         (W.contents (inner writer.old)) (W.contents (inner writer.new))
         state.new served) }
     ensures fault { IfErr result (λ fault. ServesPart (H.responds responder.now) state.old
+        (R.remaining (inner reader.old))
+        (W.contents (inner writer.old)) (W.contents (inner writer.new))
+        state.new fault.answered) }
+    ensures whole { IfErr result (λ fault. IsOfReader fault.fault
+        → ServesWhole (H.responds responder.now) state.old
         (R.remaining (inner reader.old))
         (W.contents (inner writer.old)) (W.contents (inner writer.new))
         state.new fault.answered) }

@@ -34,6 +34,7 @@ pub fn make_office<S: Alter>(
         → HasCleanDisk (state S.Store connection)) }
     ensures clean_left { IfErr result (λ left. HasCleanDisk (state S.Store left.connection)
         → HasCleanDisk (state S.Store connection)) }
+    ensures mode_left { IfErr result (λ left. left.connection.in_transaction ≡ false) }
     ensures created { IfOk result (λ office. IsHonest S.Store office
         → (state S.Store connection).now.schema ≡ no_schema
         → Holds S.Store office.conn (first_tables rates.now)) }

@@ -6,8 +6,8 @@ use Rattle.clear_book.specs.declared.calls.Command.TheVariants.{ImportBank}
 use Rattle.clear_callers.specs.CallerFile.{directory_of}
 use Rattle.clear_callers.specs.Callers.{sample_keys}
 use Rattle.clear_check.specs.RateChecks.{SaysRates}
-use Rattle.clear_check.specs.CallerChecks.{SaysKeys}
-use Rattle.clear_check.specs.BankChecks.{SaysBank, bank_of}
+use Rattle.clear_check.specs.CallerChecks.{SaysKeys, TellsWrongKey}
+use Rattle.clear_check.specs.BankChecks.{SaysBank, Tells, bank_of}
 use Rattle.clear_check.specs.declared.Checked.{Checked}
 use Rattle.clear_sample.specs.Samples.{sample_rates}
 use Rattle.clear_files.specs.Contents.{SomeFileSays, most_file_bytes}
@@ -31,9 +31,11 @@ IsChecked Rates bytes checked =
     × (checked.good ≡ is_ok (rates_of bytes))
 IsChecked Callers bytes checked =
     SaysKeys (directory_of bytes) (string_bytes checked.text)
+    × TellsWrongKey bytes (string_bytes checked.text)
     × (checked.good ≡ is_ok (directory_of bytes))
 IsChecked Bank bytes checked =
     SaysBank (bank_of bytes) (string_bytes checked.text)
+    × Tells bytes (bank_of bytes) (string_bytes checked.text)
     × (checked.good ≡ is_ok (bank_of bytes))
 
 -- the sample, where its word stands in the place of a path, else what some bytes say

@@ -1,6 +1,7 @@
 -- A payout list or a reminder run that is found and the lines in suspense are answered by their
 -- documents.
-use Rattle.std.proofs.Common.{◌≡◌, ◌==◌, ℕ, List, [], ◌∷◌, Option, Some, None, filter, is_some, sym, ap, ◌∙◌, ◌≤◌, arith}
+use Rattle.std.proofs.Common.{◌≡◌, ◌==◌, ℕ, List, [], ◌∷◌, Option, Some, None, filter, is_some, sym, ap, subst, ◌∙◌, ◌≤◌, arith}
+use Rattle.std.specs.List.{AllByRecursion}
 use Rattle.std.specs.Option.{option_map_or}
 use Rattle.clear_book.specs.declared.calls.Query.TheVariants.{Payout, Reminder, Suspense}
 use Rattle.clear_book.specs.declared.outcomes.Answer.TheVariants.{Text}
@@ -22,7 +23,8 @@ use Rattle.clear_book.specs.Tables.{Tables, Stands, list_key, run_key}
 use Rattle.clear_book.specs.Workers.{claims_on, is_on, list_of}
 use Rattle.clear_laws.proofs.SuspenseLemmas.{suspense_rows}
 use Rattle.clear_values.proofs.KeyedLemmas.{found_key}
-use Rattle.clear_queries.specs.Findings.{answer_of}
+use Rattle.clear_book.specs.RowRanges.{IsClaimRow, IsReminderRow}
+use Rattle.clear_queries.specs.Findings.{AreRightFor, HasRightRows, answer_of}
 use Rattle.clear_queries.specs.declared.inquiry.Finding.TheVariants as finding
 use Rattle.clear_queries.specs.declared.inquiry.RowDocument.TheVariants as rows
 use Rattle.clear_book.specs.Lines.{is_in_suspense, lines_standing, suspense_count}
@@ -73,6 +75,20 @@ module _ (b : Book) (t : Tables) (n : ℕ) (stands : Stands b t) where
         ap (λ (given : List ReminderRow). Text (reminders_text row given)) (reminders_are row same)
             ∙ sym (ap (λ (o : Option RunRow). Text (option_map_or (λ run. reminders_text run (reminders_in b n)) o [])) there),
       )
+
+-- the rows of a list and of a run that were found are those of their numbers
+module _ (t : Tables) (n : ℕ) where
+  pub list_right : (row : ListRow) → find_row list_key t.lists (n ∷ []) ≡ Some row → HasRightRows (rows.List row) t → AreRightFor (Payout n) t
+  list_right row is =
+      let number : list_key row ≡ n ∷ [] = found_key list_key t.lists (n ∷ []) row is in
+      let same : row.list ≡ n = cc in
+      subst (λ (k : ℕ). AllByRecursion IsClaimRow (filter (λ (claim : ClaimRow). is_on k claim.state) t.claims)) same
+
+  pub run_right : (row : RunRow) → find_row run_key t.runs (n ∷ []) ≡ Some row → HasRightRows (rows.Run row) t → AreRightFor (Reminder n) t
+  run_right row is =
+      let number : run_key row ≡ n ∷ [] = found_key run_key t.runs (n ∷ []) row is in
+      let same : row.run ≡ n = cc in
+      subst (λ (k : ℕ). AllByRecursion IsReminderRow (filter (λ (r : ReminderRow). r.run == k) t.reminders)) same
 
 -- the document of the lines in suspense is that over the lines of the book
 pub suspense_told : (b : Book) (t : Tables) → Stands b t → (day : ℕ) → answer_of t (finding.Document (rows.Suspense day)) ≡ answer_to b day Suspense

@@ -1,8 +1,9 @@
 -- What is found for a query inside of its transaction, and what is made of it.
-use Rattle.std.specs.Prelude.{◌≡◌, ℕ, List, Some, None}
+use Rattle.std.specs.Prelude.{◌≡◌, ◌==◌, ℕ, List, Some, None, filter}
 use Rattle.std.specs.Prelude.{Result, Ok, Err}
 use Rattle.std.specs.List.{AllByRecursion}
 use Rattle.clear_book.specs.declared.calls.Query.{Query}
+use Rattle.clear_book.specs.declared.calls.Query.TheVariants.{Payout, Reminder, Suspense}
 use Rattle.clear_book.specs.declared.outcomes.Answer.{Answer}
 use Rattle.clear_book.specs.declared.outcomes.Answer.TheVariants.{Text}
 use Rattle.clear_book.specs.declared.rules.Rule.{Rule}
@@ -12,6 +13,7 @@ use Rattle.clear_book.specs.Machine.{IsLawful}
 use Rattle.clear_book.specs.Allocated.{Represents, StandsWeighed}
 use Rattle.clear_book.specs.RowRanges.{IsBankRow, IsClaimRow, IsReminderRow}
 use Rattle.clear_book.specs.Tables.{Tables}
+use Rattle.clear_book.specs.Workers.{is_on}
 use Rattle.clear_reading.specs.Documents.{list_over, listed, reminded, run_over, suspended, suspense_over}
 use Rattle.clear_reading.specs.Look.{AreFewSuspended}
 use Rattle.clear_reading.specs.Paid.{ArePiecesFor, pieces_for}
@@ -54,6 +56,21 @@ HasRightRows (rows.List list) t = AllByRecursion IsClaimRow (listed list t)
 HasRightRows (rows.Run run) t = AllByRecursion IsReminderRow (reminded run t)
 HasRightRows (rows.Suspense day) t = AreAddable IsBankRow (λ row. row.line.cents) (suspended t)
 
+-- the rows that a query tells of a payout list, of a reminder run and of the lines in suspense are right,
+-- whatever else the tables hold
+abbrev pub AreRightFor : Query → Tables → Type 0
+AreRightFor (Payout list) t =
+    AllByRecursion IsClaimRow (filter (λ claim. is_on list claim.state) t.claims)
+AreRightFor (Reminder run) t =
+    AllByRecursion IsReminderRow (filter (λ row. row.run == run) t.reminders)
+AreRightFor Suspense t = AreAddable IsBankRow (λ row. row.line.cents) (suspended t)
+AreRightFor query t = Unit {0}
+
+-- so they are, where what is found can be told
+abbrev pub TellsOnlyRight : Query → Tables → Finding → Type 0
+TellsOnlyRight query t (finding.Answer answer) = AreRightFor query t
+TellsOnlyRight query t (finding.Document document) = HasRightRows document t → AreRightFor query t
+
 -- what is found can be told, where the tables are those of a lawful book
 abbrev pub IsTold : Finding → Tables → Type 0
 IsTold (finding.Answer answer) t = Unit {0}
@@ -66,6 +83,7 @@ Replies day query t (Ok found) =
     IsTold found t
     × ((b : Book) → IsLawful b → Represents b t
     → (own_query b query ≡ None) × (answer_of t found ≡ answer_to b day query))
+    × TellsOnlyRight query t found
 Replies day query t (Err (stop.Refused why)) =
     (b : Book) → IsLawful b → StandsWeighed b t → own_query b query ≡ Some why
 Replies day query t (Err (stop.Fault fault)) = Fails t fault

@@ -5,6 +5,7 @@ use Rattle.clear_book.specs.declared.calls.Call.{Call}
 use Rattle.clear_book.specs.declared.calls.Caller.{Caller}
 use Rattle.clear_book.specs.declared.rules.Rule.TheVariants.{Memory}
 use Rattle.clear_callers.specs.Callers.{KeyOf}
+use Rattle.clear_routes.specs.Asked.{asked_by}
 use Rattle.clear_routes.specs.Called.{called_by}
 use Rattle.clear_routes.specs.Kinds.{in_braces, kinds_in}
 use Rattle.clear_routes.specs.Methods.{action_for}
@@ -38,6 +39,18 @@ abbrev pub NamesAreKinds : Type 0
 NamesAreKinds =
     (path : Path) → IsListed paths path
     → path.0 ≡ filled (pattern path.0) (map in_braces (kinds_in path.1.kinds))
+
+-- by the method and the path that each request is asked for by, the table asks for that request
+abbrev pub EachHasItsPath : Type 0
+EachHasItsPath =
+    (action : Action) → (path : Path) × IsListed paths path × (path.0 ≡ (asked_by action).1)
+    × (action_for (asked_by action).0 path.1.methods ≡ Some action)
+
+-- what the table asks for by a method and a path is the request that is asked for by these
+abbrev pub NoneHasAnother : Type 0
+NoneHasAnother =
+    (path : Path) (m : Method) (action : Action) → IsListed paths path
+    → action_for m path.1.methods ≡ Some action → asked_by action ≡ (m, path.0)
 
 -- each kind of parameter that a request of the table needs is a kind of its path
 abbrev pub ParametersAreThere : Type 0

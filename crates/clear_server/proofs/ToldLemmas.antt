@@ -1,16 +1,16 @@
 -- The lines that are told, those of one connection more after others.
-use Rattle.std.proofs.Common.{◌≡◌, ◌∙◌, ◌+◌, ◌≤◌, ◌<◌, ℕ, Bool, true, false, List, [], ◌∷◌, ◌++◌, length, Result, Ok, Err, refl, sym, ap, ap₂, subst, arith}
+use Rattle.std.proofs.Common.{◌≡◌, ◌∙◌, ◌+◌, ◌-◌, ◌≤◌, ◌<◌, ℕ, Bool, true, false, List, [], ◌∷◌, ◌++◌, length, Result, Ok, Err, refl, sym, ap, ap₂, subst, arith}
 use Rattle.std.proofs.lemmas.Bool.{false≢true}
-use Rattle.std.proofs.lemmas.List.{append-nil, length-append, map-append}
-use Rattle.std.proofs.lemmas.List.Elements.{filter-append}
+use Rattle.std.proofs.lemmas.List.{append_assoc, append-nil, length-append, map-append}
+use Rattle.std.proofs.lemmas.List.Elements.{All-nil, All-push, filter-append}
 use Rattle.std.proofs.lemmas.List.Folds.{concat-append}
 use Rattle.std.specs.List.{concat, filter}
 use Rattle.std.specs.Io.KnownBytes.{Appends}
 use Rattle.std.specs.Prelude.{IfErr, OnErr, OnOk}
 use Rattle.clear_wire.proofs.KnownLemmas.{Appends-nil, Appends-then}
 use Rattle.clear_http.specs.declared.serve.Fault.{Fault}
-use Rattle.clear_http.specs.declared.serve.Fault.TheVariants.{Write}
-use Rattle.clear_server.specs.Told.{AreFronts, AreTold, Line, Writes, WritesLines, Written, line_text, is_end, is_failing, end_lines, failing_lines}
+use Rattle.clear_http.specs.declared.serve.Fault.TheVariants.{Read, Write}
+use Rattle.clear_server.specs.Told.{AreFronts, AreTold, TellsRefused, Line, refused_line, Writes, WritesLines, Written, line_text, is_end, is_failing, end_lines, failing_lines}
 
 -- a text that is written up to the first failure
 pub front_written : {A : Type 0} (text : List ℕ) (old new : Written) (result : Result A Fault)
@@ -99,3 +99,47 @@ then_told n first then last old mid new end before after was is was_then is_last
       filter-append is_failing lines more ∙ ap (λ ls. ls ++ filter is_failing more) fails ∙ ap (λ ls. failing_lines first then ++ ls) (one_fails end then last) ∙ fails_once first then last before after,
       lines_then lines more old mid new told line,
     )
+
+-- fewer connections than so many
+pub fewer_told : (n count : ℕ) (before after : Bool) (old new : Written) → n < count → AreTold n before after old new → AreTold (count - 1) before after old new
+fewer_told n count before after old new less (lines, few, fails, told) = (lines, omega (arith, less, few), fails, told)
+
+-- ---- connections that the system refused
+
+abbrev IsBroken : Line → Type 0
+IsBroken line = line ≡ refused_line
+
+pub none_broken : (w : Written) → TellsRefused 0 w w
+none_broken w = ([], ([], [], refl, omega arith, All-nil IsBroken), no_lines w)
+
+broken_line : (b : Bool) → refused_line ∷ failing_lines b b ≡ refused_line ∷ []
+broken_line false = refl
+broken_line true = refl
+
+-- one connection more, which the system gave or refused
+pub then_broken : {X E A H : Type 0} (accepted : Result X E) (failed : H → Bool) (h h' : H) (failures after : ℕ) (old mid new : Written) (end : Result A Fault) (was is : Bool)
+    → was ≡ failed h → is ≡ failed h' → OnErr accepted (h' ≡ h) → OnErr accepted (end ≡ Err Read) → OnOk accepted (after ≡ 0) → after ≤ failures + 1
+    → TellsRefused failures old mid → WritesLines (end_lines end ++ failing_lines was is) mid new → TellsRefused after old new
+then_broken (Ok stream) failed h h' failures after old mid new end was is was_then is_last same bad anew few (lines, tail, told) now =
+    let all = lines ++ (end_lines end ++ failing_lines was is) in
+    (all, (all, [], sym (append-nil all), omega (arith, anew), All-nil IsBroken), lines_then lines (end_lines end ++ failing_lines was is) old mid new told now)
+then_broken (Err error) failed h h' failures after old mid new end was is was_then is_last same bad anew few (lines, tail, told) now =
+    let (others, broken, split, many, all) = tail in
+    let still : is ≡ was = is_last ∙ ap failed same ∙ sym was_then in
+    let one : end_lines end ++ failing_lines was is ≡ refused_line ∷ [] =
+    (λ i. end_lines (bad i) ++ failing_lines was (still i)) ∙ broken_line was in (
+      lines ++ refused_line ∷ [],
+      (
+        others,
+        broken ++ refused_line ∷ [],
+        ap (λ (ls : List Line). ls ++ refused_line ∷ []) split ∙ append_assoc others broken (refused_line ∷ []),
+        omega (arith, few, many, length-append broken (refused_line ∷ [])),
+        All-push IsBroken broken refused_line all refl,
+      ),
+      lines_then lines (refused_line ∷ []) old mid new told (subst (λ (ls : List Line). WritesLines ls mid new) one now),
+    )
+
+-- the lines that are known of a refusal too many
+pub fewer_broken : (few many : ℕ) (old new : Written) → few ≤ many → TellsRefused many old new → TellsRefused few old new
+fewer_broken few many old new less (lines, (others, broken, split, enough, all), told) =
+    (lines, (others, broken, split, omega (arith, less, enough), all), told)

@@ -1,7 +1,7 @@
 -- What is told while connections are served: why some weren't served to their ends, and that the
 -- office has failed.
 use Rattle.std.specs.Prelude.{◌≡◌, ℕ, ◌≤◌, Bool, true, false, List, [], ◌∷◌, ◌++◌, length, map, codes}
-use Rattle.std.specs.Prelude.{⊤, Option, Result, Ok, Err}
+use Rattle.std.specs.Prelude.{⊤, All, Option, Result, Ok, Err}
 use Rattle.std.specs.List.{concat, filter}
 use Rattle.std.specs.Io.KnownBytes.{Appends}
 use Rattle.clear_wire.specs.Counted.{has_failed, inner}
@@ -76,6 +76,20 @@ abbrev pub WritesLines : List Line → Written → Written → Type 0
 WritesLines lines old new =
     (parts : List (List ℕ)) × AreFronts lines parts × Appends old.bytes new.bytes (concat parts)
     × (new.failed ≡ false → (parts ≡ map line_text lines) × (old.failed ≡ false))
+
+-- the line of a connection that the system refused
+abbrev pub refused_line : Line
+refused_line = ends Read
+
+-- so many of the lines at their end, or more, are those of connections that the system refused
+abbrev pub EndRefused : ℕ → List Line → Type 0
+EndRefused count lines =
+    (others : List Line) × (refused : List Line) × (lines ≡ others ++ refused)
+    × (count ≤ length refused) × All (λ line. line ≡ refused_line) refused
+
+-- lines are written, of which so many at the end, or more, are those of refused connections
+abbrev pub TellsRefused : ℕ → Written → Written → Type 0
+TellsRefused count old new = (lines : List Line) × EndRefused count lines × WritesLines lines old new
 
 -- so many lines at most tell why connections ended, one tells that the office has failed where it
 -- hadn't before and then has, and nothing else is written

@@ -9,12 +9,12 @@
 //! items of a stream and their answers is said where the bytes are known, of the serve loop. Here
 //! they stand in a list of talks, one for each connection, which is empty where none was accepted.
 //! Nor does one say which connection a line tells of, or what a path names.
-ghost use Rattle.std.specs.Prelude.{◌≡◌, ◌<◌, ◌≤◌, ◌+◌, true, OnErr, OnOk};
+ghost use Rattle.std.specs.Prelude.{◌≡◌, ◌≢◌, ◌<◌, ◌≤◌, ◌+◌, ◌-◌, true, Err, OnErr, OnOk};
 ghost use Rattle.clear_office.specs.Office.{IsHonest};
 ghost use Rattle.clear_routes.specs.Reading.{Reads};
 ghost use Rattle.clear_http.specs.Desk.{MayServe};
-ghost use Rattle.clear_server.specs.Talks.{AreServed};
-ghost use Rattle.clear_server.specs.Told.{AreTold, written_by};
+ghost use Rattle.clear_server.specs.Talks.{AreServed, most_failures};
+ghost use Rattle.clear_server.specs.Told.{AreTold, TellsRefused, written_by};
 
 use crate::peer::{Peer, Taker, close_after_answer};
 use crate::told::tell;
@@ -68,8 +68,8 @@ struct Talked {
 ///
 /// Each connection that is taken counts. Before it is served, the store has to stand at its path, with
 /// its log beside it: where one has gone, nothing more is served. One that the system refuses, as for
-/// want of descriptors, counts, too, and takes a tenth of a second; after more than a hundred in turn
-/// nothing more is served.
+/// want of descriptors, counts, too, is told, and takes a tenth of a second; after more than a hundred
+/// in turn nothing more is served. Of the connection before which serving ends nothing is told.
 ///
 /// A peer has 30 seconds for a request, and 10 for each read and each write. Without a request its
 /// connection may stay open for 30 seconds, or until another one waits; a new one is left a second
@@ -92,6 +92,11 @@ pub fn serve_connections<S: Alter, E: Write>(
     ensures failed { office.old.failed ≡ true → office.new ≡ office.old }
     ensures clean { IsHonest S.Store office.new → IsHonest S.Store office.old }
     ensures told { AreTold count office.old.failed office.new.failed
+        (written_by E.contents errors.old) (written_by E.contents errors.new) }
+    ensures fewer { result ≢ Ended.Served
+        → AreTold (count - 1) office.old.failed office.new.failed
+        (written_by E.contents errors.old) (written_by E.contents errors.new) }
+    ensures refused { result ≡ Ended.NoConnections → TellsRefused most_failures
         (written_by E.contents errors.old) (written_by E.contents errors.new) }
 {
     let mut next = None;
@@ -166,6 +171,7 @@ fn serve_next<S: Alter>(
 ) -> Talked
     ensures said { MayServe S.Store directory.now day office.old office.new }
     ensures silent { OnErr accepted (office.new ≡ office.old) }
+    ensures broken { OnErr accepted (result.end ≡ Err Fault.Read) }
     ensures failed { office.old.failed ≡ true → office.new ≡ office.old }
 {
     match accepted {
@@ -175,7 +181,9 @@ fn serve_next<S: Alter>(
 }
 
 // A connection on which nothing was said, since the system refused something.
-fn broken() -> Talked {
+fn broken() -> Talked
+    ensures { result.end ≡ Err Fault.Read }
+{
     Talked {
         end: Err(Fault::Read),
         next: None,

@@ -6,8 +6,9 @@
 //! good: bad ones end in a rule, within the limits of `limits`. A fault names its cause: `Read`
 //! comes just if a call of the reader failed, `Reads` only once a million reads didn't, else
 //! `Memory`. After all but a request the stream has ended, and nothing more is read. A reader is told
-//! when a request is awaited, so that it can tell how long one takes; that it is told, no contract
-//! says, and tests of slow peers show it.
+//! when a request is awaited, so that it can tell how long one takes, and a counted writer flushes the
+//! writer that it holds; that either is done, no contract says: tests of slow peers show the one, and a
+//! writer whose flush fails shows the other.
 #![tactic(auto)]
 
 pub mod counted;

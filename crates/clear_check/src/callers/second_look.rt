@@ -1,15 +1,15 @@
 //! A second look at a caller file that isn't taken: what stands at its first fault.
 //!
-//! Which fault is told is the reader's and proved, and so is which key it is found at. Of what else is
-//! found only that it stays in one line is promised, which `Seen` keeps, and tests on real files
-//! compare its words.
-ghost use Rattle.std.specs.Prelude.{◌≡◌, ℕ, List, IfOk, Some, is_none, is_some, map};
-ghost use Rattle.toml.specs.Data.{Members};
+//! Which fault is told is the reader's and proved, and so is which key it is found at, and why. Of where
+//! bytes are no document only that it stays in one line is promised, which `Seen` keeps, and tests on
+//! real files compare its words.
+ghost use Rattle.std.specs.Prelude.{◌≡◌, ℕ, List, IfOk, IfSome, Some, is_none, is_some};
+ghost use Rattle.std.specs.Prelude.{string_bytes};
+ghost use Rattle.toml.specs.Data.{Data, Members};
 ghost use Rattle.toml.specs.View.{table_view, view};
 ghost use Rattle.clear_money.specs.RateFile.{document_of};
 ghost use Rattle.clear_callers.specs.CallerFile.{caller_at};
-ghost use Rattle.clear_check.specs.CallerChecks.{first_wrong};
-ghost use Rattle.clear_check.specs.Shown.{shown, shown_byte};
+ghost use Rattle.clear_check.specs.CallerChecks.{IsWrongKey, first_wrong, why_no_key};
 
 use crate::document::no_document;
 use crate::seen::Seen;
@@ -21,9 +21,9 @@ use toml::{Table, Value};
 
 // What stands at the first fault.
 pub(crate) fn look_at(alloc: Global, bytes: &[u8]) -> Result<Seen, AllocError>
-    ensures { (document : Members) (key : List ℕ) → document_of bytes.now ≡ Some document
-        → first_wrong document ≡ Some key
-        → IfOk result (λ seen. seen.here ≡ map shown_byte (shown key)) }
+    ensures { (document : Members) (key : List ℕ) (value : Data)
+        → document_of bytes.now ≡ Some document → first_wrong document ≡ Some (key, value)
+        → IfOk result (IsWrongKey key value) }
 {
     match toml::table_from_slice(alloc, bytes) {
         Ok(document) => first_fault(alloc, &document),
@@ -34,8 +34,9 @@ pub(crate) fn look_at(alloc: Global, bytes: &[u8]) -> Result<Seen, AllocError>
 
 // What stands at the first member that is no key of a caller.
 fn first_fault(alloc: Global, document: &Table) -> Result<Seen, AllocError>
-    ensures { (key : List ℕ) → first_wrong (table_view document.now) ≡ Some key
-        → IfOk result (λ seen. seen.here ≡ map shown_byte (shown key)) }
+    ensures { (key : List ℕ) (value : Data)
+        → first_wrong (table_view document.now) ≡ Some (key, value)
+        → IfOk result (IsWrongKey key value) }
 {
     for (key, value) in document {
         let key = key.as_str().as_bytes();
@@ -49,8 +50,10 @@ fn first_fault(alloc: Global, document: &Table) -> Result<Seen, AllocError>
 
 // Why a member is no key of a caller.
 fn entry_fault(alloc: Global, key: &[u8], value: &Value) -> Result<Option<String>, AllocError>
-    ensures { IfOk result (λ fault.
+    ensures fits { IfOk result (λ fault.
         is_none fault ≡ is_some (caller_at key.now (view value.now))) }
+    ensures why { IfOk result (λ fault. IfSome fault (λ text.
+        string_bytes text ≡ why_no_key key.now (view value.now))) }
 {
     if !is_key(key) {
         let fault = "a key is 1 to 64 visible ASCII characters";

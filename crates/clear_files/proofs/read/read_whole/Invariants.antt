@@ -1,10 +1,11 @@
-use Rattle.std.proofs.Common.{◌-◌, length}
+use Rattle.std.proofs.Common.{◌≡◌, ◌-◌, length}
 use Rattle.std.specs.Io.KnownBytes.{Consumes}
-use Rattle.clear_wire.specs.Counted.{inner}
+use Rattle.clear_wire.specs.Counted.{has_failed, inner}
 use Rattle.clear_files.proofs.read.read_whole.Given as goal
 
 abbrev pub invariant-reads : goal.invariant-reads
 invariant-reads g l = record {
+  well : has_failed l.reader ≡ has_failed l.fn.reader;
   taken : Consumes (g.R.Read.remaining (inner l.fn.reader)) (g.R.Read.remaining (inner l.reader)) l.bytes.items;
 }
 

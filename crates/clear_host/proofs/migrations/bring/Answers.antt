@@ -1,10 +1,11 @@
-use Rattle.std.proofs.Common.{inl, subst, sym}
+use Rattle.std.proofs.Common.{inl, inr, subst, sym}
 use Rattle.sqlite.specs.Held.{state}
 use Rattle.clear_schema.specs.Held.{HasTables}
 use Rattle.clear_schema.specs.Schema.{this_layout}
 use Rattle.clear_database.proofs.OpenLemmas.{store_tells}
+use Rattle.clear_disk.proofs.SeenLemmas.{nothing_seen}
 use Rattle.clear_host.proofs.RefusalLemmas.{blames_none, never_so, only_so, other_so, range_so}
-use Rattle.clear_host.proofs.StoreLemmas.{below_seen, blameless_numbered, found_seen, just_seen, number_seen, other_layout_seen, tables_seen, told_seen, unnumbered_seen}
+use Rattle.clear_host.proofs.StoreLemmas.{bare_still, below_seen, blameless_numbered, found_seen, just_seen, meta_seen, number_seen, other_layout_seen, tables_seen, told_seen, unnumbered_seen}
 use Rattle.clear_host.proofs.migrations.bring.Goals as goal
 
 pub returns-in-Ok-clause-found : goal.returns-in-Ok-clause-found
@@ -56,3 +57,15 @@ returns-in-Ok-clause-still g c image sees clean number trees holds tells =
     let seen = sees (c.in-Ok.ensures.clean clean) in
     let known = inl (told_seen image old seen number (trees, holds, tells)).1.meta in
     just_seen image old seen trees holds (state g.S.Store c.to_current.new.conn) (c.in-Ok.ensures.still clean known (c.in-Ok.ensures.open clean known))
+
+pub returns-in-Err-clause-alone : goal.returns-in-Err-clause-alone
+returns-in-Err-clause-alone g c image sees db holds is meta clean live =
+    let old = state g.S.Store c.args.connection in
+    let seen = sees (c.in-Err.ensures.clean clean) in
+    just_seen image old seen db.trees holds (state g.S.Store c.to_current.new.conn) (c.in-Err.ensures.still clean (meta_seen image old seen db holds is meta) live)
+
+pub returns-in-Err-clause-bare : goal.returns-in-Err-clause-bare
+returns-in-Err-clause-bare g c image sees nothing clean live =
+    let old = state g.S.Store c.args.connection in
+    let seen = sees (c.in-Err.ensures.clean clean) in
+    bare_still image old seen nothing (state g.S.Store c.to_current.new.conn) (c.in-Err.ensures.still clean (inr (nothing_seen image old seen nothing)) live)

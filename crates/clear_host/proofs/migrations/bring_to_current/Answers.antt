@@ -1,8 +1,8 @@
 use Rattle.std.proofs.lemmas.Result.{err_from_is_err_and}
 use Rattle.sqlite.specs.Files.{over_files}
 use Rattle.sqlite_wal.specs.Files.{image_at}
-use Rattle.clear_host.specs.Contents.{BlamesNone, HasJust}
-use Rattle.clear_host.proofs.RefusalLemmas.{never_open, unconnected, unopened_tells}
+use Rattle.clear_host.specs.Contents.{BlamesNone, HasJust, IsBare}
+use Rattle.clear_host.proofs.RefusalLemmas.{none_outside, never_open, unconnected, unopened_tells}
 use Rattle.clear_host.proofs.migrations.bring_to_current.Goals as goal
 
 pub returns-clause-current : goal.returns-clause-current
@@ -40,3 +40,30 @@ pub returns-in_err-connection-clause-rests : goal.returns-in_err-connection-clau
 returns-in_err-connection-clause-rests g c =
     let p = err_from_is_err_and c.from_residual.result c.from_residual.ensures.1 in
     rw (p.1, p.2) λ number trees holds tells. never_open over_files (HasJust trees) c.in_err-connection.field-0.0 c.in_err-connection.ensures.none
+
+pub returns-clause-outside : goal.returns-clause-outside
+returns-clause-outside g c = c.bring.ensures.outside
+
+pub returns-in_err-connection-clause-outside : goal.returns-in_err-connection-clause-outside
+returns-in_err-connection-clause-outside g c =
+    let p = err_from_is_err_and c.from_residual.result c.from_residual.ensures.1 in
+    rw (p.1, p.2) (none_outside c.in_err-connection.field-0.0 c.in_err-connection.ensures.none)
+
+pub returns-clause-alone : goal.returns-clause-alone
+returns-clause-alone g c = c.bring.ensures.alone (image_at g.S.Start) c.in_ok-connection.ensures.sees
+
+pub returns-in_err-connection-clause-alone : goal.returns-in_err-connection-clause-alone
+returns-in_err-connection-clause-alone g c =
+    let p = err_from_is_err_and c.from_residual.result c.from_residual.ensures.1 in
+    rw (p.1, p.2) λ db holds is meta. never_open over_files (HasJust db.trees) c.in_err-connection.field-0.0 c.in_err-connection.ensures.none
+
+pub returns-clause-bare : goal.returns-clause-bare
+returns-clause-bare g c = c.bring.ensures.bare (image_at g.S.Start) c.in_ok-connection.ensures.sees
+
+pub returns-in_err-connection-clause-bare : goal.returns-in_err-connection-clause-bare
+returns-in_err-connection-clause-bare g c =
+    let p = err_from_is_err_and c.from_residual.result c.from_residual.ensures.1 in
+    rw (p.1, p.2) λ nothing. never_open over_files IsBare c.in_err-connection.field-0.0 c.in_err-connection.ensures.none
+
+pub returns-clause-mode : goal.returns-clause-mode
+returns-clause-mode g c = c.bring.ensures.mode

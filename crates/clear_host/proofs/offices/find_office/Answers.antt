@@ -37,7 +37,7 @@ pub returns-clause-leaves : goal.returns-clause-leaves
 returns-clause-leaves g c image sees =
     let store = c.in_ok-store.ensures in
     refused_leaves g.S.Store image c.office_over.result (state g.S.Store c.in_ok-store.store.conn)
-    (λ number trees holds tells sound. (store.ours image sees sound).only_this number (trees, holds, tells))
+    (store.ours image sees)
     (λ t holds sound. let it = store.found image sees sound t holds in (it.now, it.committed))
     c.office_over.ensures.clean_left c.office_over.ensures.rests
 

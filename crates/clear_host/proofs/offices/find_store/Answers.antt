@@ -1,4 +1,4 @@
-use Rattle.std.proofs.Common.{inl}
+use Rattle.std.proofs.Common.{inl, inr}
 use Rattle.std.proofs.lemmas.Result.{IfOk-weaker}
 use Rattle.sqlite.specs.Held.{state}
 use Rattle.sqlite.specs.State.{HasCleanDisk}
@@ -8,7 +8,8 @@ use Rattle.clear_schema.specs.Schema.{this_layout}
 use Rattle.clear_disk.proofs.SeenLemmas.{if_ok_both}
 use Rattle.clear_host.specs.Contents.{BlamesNone}
 use Rattle.clear_host.proofs.RefusalLemmas.{blames_none, refused_leaves, tells_only, untold_tells}
-use Rattle.clear_host.proofs.StoreLemmas.{below_seen, blameless_numbered, found_seen, just_seen, number_seen, other_is_seen, still_seen, store_seen, tables_seen, told_seen, unnumbered_seen}
+use Rattle.clear_disk.proofs.SeenLemmas.{nothing_seen}
+use Rattle.clear_host.proofs.StoreLemmas.{bare_still, below_seen, blameless_numbered, just_seen, meta_or_none, meta_seen, number_seen, other_is_seen, other_layout_seen, ours_seen, still_seen, store_seen, tables_seen, told_seen, unnumbered_seen}
 use Rattle.clear_host.proofs.offices.find_store.Goals as goal
 
 pub returns-in-Ok-clause-found : goal.returns-in-Ok-clause-found
@@ -23,16 +24,10 @@ returns-in-Ok-clause-found g c image sees =
 pub returns-in-Ok-clause-ours : goal.returns-in-Ok-clause-ours
 returns-in-Ok-clause-ours g c image sees =
     IfOk-weaker c.confirm.result _ _ (λ store honest clean.
-    let old = state g.S.Store c.args.connection in
     let sound = honest clean in
-    let seen = sees (c.in-Ok.ensures.clean sound) in
-    record {
-      recovers = found_seen image old seen (λ none. c.in-Ok.ensures.not_empty sound (inl none));
-      only_this = λ number holds. c.in-Ok.ensures.right sound number (told_seen image old seen number holds).0 seen.opened.0.is_open;
-      not_other = λ holds. c.in-Ok.ensures.not_other sound seen.opened.0.is_open (other_is_seen image old seen holds);
-      only_stores = λ none. c.in-Ok.ensures.not_empty sound (unnumbered_seen image old seen none);
-      not_below_zero = λ below. c.in-Ok.ensures.not_below_zero sound (below_seen image old seen below);
-    })
+    ours_seen image (state g.S.Store c.args.connection) (sees (c.in-Ok.ensures.clean sound))
+    (λ none. c.in-Ok.ensures.not_empty sound none) (λ number tells on. c.in-Ok.ensures.right sound number tells on)
+    (λ on other. c.in-Ok.ensures.not_other sound on other) (λ below. c.in-Ok.ensures.not_below_zero sound below))
     c.confirm.ensures.clean
 
 pub returns-in-Ok-clause-tells : goal.returns-in-Ok-clause-tells
@@ -69,15 +64,24 @@ returns-in-Err-clause-leaves g c image sees =
       others = λ number trees holds tells other clean live.
           let seen = sees (c.in-Err.ensures.clean_left clean) in
           just_seen image old seen trees holds new (c.in-Err.ensures.rests clean (inl (told_seen image old seen number (trees, holds, tells)).1.meta) live);
+      otherwise = λ trees holds stands clean live.
+          let seen = sees (c.in-Err.ensures.clean_left clean) in
+          just_seen image old seen trees holds new (c.in-Err.ensures.rests clean (inl (other_layout_seen image old seen (trees, holds, stands)).tells.meta) live);
+      unnumbered = λ db holds is which clean live.
+          let seen = sees (c.in-Err.ensures.clean_left clean) in
+          just_seen image old seen db.trees holds new (c.in-Err.ensures.rests clean (meta_seen image old seen db holds is (meta_or_none db which)) live);
+      nothing = λ none clean live.
+          let seen = sees (c.in-Err.ensures.clean_left clean) in
+          bare_still image old seen none new (c.in-Err.ensures.rests clean (inr (nothing_seen image old seen none)) live);
     }
 
 pub returns-in-Ok-clause-leaves : goal.returns-in-Ok-clause-leaves
 returns-in-Ok-clause-leaves g c image sees =
     let old = state g.S.Store c.args.connection in
     refused_leaves g.S.Store image c.confirm.result (state g.S.Store c.in-Ok.store.conn)
-    (λ number trees holds tells sound.
-    let seen = sees (c.in-Ok.ensures.clean sound) in
-    c.in-Ok.ensures.right sound number (told_seen image old seen number (trees, holds, tells)).0 seen.opened.0.is_open)
+    (λ sound. ours_seen image (state g.S.Store c.args.connection) (sees (c.in-Ok.ensures.clean sound))
+    (λ none. c.in-Ok.ensures.not_empty sound none) (λ number tells on. c.in-Ok.ensures.right sound number tells on)
+    (λ on other. c.in-Ok.ensures.not_other sound on other) (λ below. c.in-Ok.ensures.not_below_zero sound below))
     (λ t holds sound.
     let seen = sees (c.in-Ok.ensures.clean sound) in
     c.in-Ok.ensures.found sound t (store_seen image old seen t holds) seen.opened.0.is_open)

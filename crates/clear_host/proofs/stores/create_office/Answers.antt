@@ -3,7 +3,7 @@ use Rattle.sqlite.specs.Files.{over_files}
 use Rattle.sqlite_wal.specs.Files.{image_at}
 use Rattle.clear_schema.specs.Faults.{TellsOutOfRange}
 use Rattle.clear_host.specs.Contents.{BlamesNone, HasJust, IsBare, TellsNone, TellsOnly}
-use Rattle.clear_host.proofs.RefusalLemmas.{never_open, unconnected}
+use Rattle.clear_host.proofs.RefusalLemmas.{never_open, none_outside, unconnected}
 use Rattle.clear_host.proofs.stores.create_office.Goals as goal
 
 pub returns-clause-made : goal.returns-clause-made
@@ -76,3 +76,19 @@ pub returns-in_err-connection-clause-rests : goal.returns-in_err-connection-clau
 returns-in_err-connection-clause-rests g c =
     let p = err_from_is_err_and c.from_residual.result c.from_residual.ensures.1 in
     rw (p.1, p.2) λ number trees holds tells. never_open over_files (HasJust trees) c.in_err-connection.field-0.0 c.in_err-connection.ensures.none
+
+pub returns-clause-alone : goal.returns-clause-alone
+returns-clause-alone g c = c.new_office.ensures.alone (image_at g.S.Start) c.in_ok-connection.ensures.sees
+
+pub returns-in_err-connection-clause-alone : goal.returns-in_err-connection-clause-alone
+returns-in_err-connection-clause-alone g c =
+    let p = err_from_is_err_and c.from_residual.result c.from_residual.ensures.1 in
+    rw (p.1, p.2) λ db holds is meta. never_open over_files (HasJust db.trees) c.in_err-connection.field-0.0 c.in_err-connection.ensures.none
+
+pub returns-clause-outside : goal.returns-clause-outside
+returns-clause-outside g c = c.new_office.ensures.outside
+
+pub returns-in_err-connection-clause-outside : goal.returns-in_err-connection-clause-outside
+returns-in_err-connection-clause-outside g c =
+    let p = err_from_is_err_and c.from_residual.result c.from_residual.ensures.1 in
+    rw (p.1, p.2) (none_outside c.in_err-connection.field-0.0 c.in_err-connection.ensures.none)

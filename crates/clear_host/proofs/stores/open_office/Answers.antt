@@ -1,7 +1,7 @@
 use Rattle.std.proofs.lemmas.Result.{err_from_is_err_and}
 use Rattle.sqlite.specs.Files.{over_files}
 use Rattle.sqlite_wal.specs.Files.{image_at}
-use Rattle.clear_host.proofs.RefusalLemmas.{unopened_leaves, unopened_tells}
+use Rattle.clear_host.proofs.RefusalLemmas.{none_outside, unopened_leaves, unopened_tells}
 use Rattle.clear_host.proofs.stores.open_office.Goals as goal
 
 pub returns-clause-working : goal.returns-clause-working
@@ -25,3 +25,11 @@ pub returns-in_err-connection-clause-leaves : goal.returns-in_err-connection-cla
 returns-in_err-connection-clause-leaves g c =
     let p = err_from_is_err_and c.from_residual.result c.from_residual.ensures.1 in
     rw (p.1, p.2) (unopened_leaves over_files (image_at g.S.Start) c.in_err-connection.field-0.0 c.in_err-connection.ensures.none)
+
+pub returns-clause-outside : goal.returns-clause-outside
+returns-clause-outside g c = c.find_office.ensures.outside
+
+pub returns-in_err-connection-clause-outside : goal.returns-in_err-connection-clause-outside
+returns-in_err-connection-clause-outside g c =
+    let p = err_from_is_err_and c.from_residual.result c.from_residual.ensures.1 in
+    rw (p.1, p.2) (none_outside c.in_err-connection.field-0.0 c.in_err-connection.ensures.none)

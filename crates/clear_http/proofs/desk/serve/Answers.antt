@@ -2,7 +2,7 @@ use Rattle.std.proofs.Common.{refl}
 use Rattle.std.proofs.lemmas.Result.{IfOk-weaker, IfErr-weaker}
 use Rattle.clear_http.specs.Desk.{MaySay}
 use Rattle.clear_http.proofs.DeskLemmas.{desk_guarded, desk_guarded_part, desk_served, desk_served_part, nothing_said, said_all}
-use Rattle.clear_http.proofs.ServeLemmas.{nothing_served}
+use Rattle.clear_http.proofs.ServeLemmas.{nothing_served, nothing_whole}
 use Rattle.clear_http.proofs.desk.serve.Goals as goal
 
 pub returns-in-Err-clause-fault : goal.returns-in-Err-clause-fault
@@ -21,6 +21,9 @@ returns-in-Err-clause-access_fault g c working =
 
 pub returns-in-Err-clause-answers_fault : goal.returns-in-Err-clause-answers_fault
 returns-in-Err-clause-answers_fault g c working = nothing_served (MaySay g.S.Store c.args.directory.now c.args.day) c.args.office.now _ _
+
+pub returns-in-Err-clause-whole : goal.returns-in-Err-clause-whole
+returns-in-Err-clause-whole g c working of_reader = nothing_whole (MaySay g.S.Store c.args.directory.now c.args.day) c.args.office.now _ _
 
 pub returns-clause-served : goal.returns-clause-served
 returns-clause-served g c working = IfOk-weaker c.serve_stream.result _ _ (λ served. desk_served g.S.Store _ _ _ working _ _ _ _ served) c.serve_stream.ensures.served

@@ -1,7 +1,7 @@
 use Rattle.std.proofs.Common.{length, refl, ap, ◌∙◌, arith}
 use Rattle.clear_wire.specs.Counted.{inner}
 use Rattle.clear_http.proofs.PlaceLemmas.{stands_at_end, stands_so}
-use Rattle.clear_http.proofs.ServeLemmas.{progress_none, progress_more, progress_over, progress_break}
+use Rattle.clear_http.proofs.ServeLemmas.{progress_none, progress_more, progress_over, progress_break, progress_whole}
 use Rattle.clear_http.proofs.serve.serve_input.Goals as goal
 
 pub turns-init : goal.turns-init
@@ -38,3 +38,8 @@ returns-clause-place g c none =
 
 pub returns-in-Err-clause-fault : goal.returns-in-Err-clause-fault
 returns-in-Err-clause-fault g c = progress_break (g.H.Responder.responds c.args.responder.now) _ _ _ _ _ _ _ _ c.turns.invariant.progress c.turns-test.true _ _ c.in-Err.ensures.fault
+
+pub returns-in-Err-clause-whole : goal.returns-in-Err-clause-whole
+returns-in-Err-clause-whole g c of_reader =
+    let same = c.in-Err.ensures.unread of_reader in
+    progress_whole (g.H.Responder.responds c.args.responder.now) _ _ _ _ _ _ _ _ c.turns.invariant.progress c.turns-test.true _ _ same.0 (ap (λ w. g.W.Write.contents (inner w)) same.1)

@@ -30,6 +30,7 @@ returns-in_err-store g c =
       working = tt;
       clean = tt;
       clean_left = refused.clean_left;
+      mode_left = refused.mode_left;
       created = tt;
       keeps = tt;
       «open» = tt;

@@ -11,6 +11,7 @@ returns-in-Some-clause-told g c clean t has back =
     let found = λ (b : Book) (lawful : IsLawful b) (represents : Represents b t). rw c.in-Some.is at (c.in_ok-head.ensures.head clean t has back b lawful (stands_weighed (λ row. row) b t represents)) in (
       λ b lawful represents. statement_tellable b t lawful represents c.args.employer c.args.day c.in-Some.head (found b lawful represents),
       λ b lawful represents. statement_told b t lawful represents c.args.employer c.args.day c.in-Some.head (found b lawful represents),
+      λ right. tt,
     )
 
 pub returns-in-None-clause-told : goal.returns-in-None-clause-told

@@ -4,13 +4,14 @@ use Rattle.clear_book.specs.RowRanges.{IsListRow}
 use Rattle.clear_book.specs.Tables.{list_key}
 use Rattle.clear_laws.proofs.RowRangeLemmas.{rows_in_range}
 use Rattle.clear_debts.proofs.FaultLemmas.{found_in_range}
-use Rattle.clear_queries.proofs.ListLemmas.{list_found}
+use Rattle.clear_queries.proofs.ListLemmas.{list_found, list_right}
 use Rattle.clear_queries.proofs.inquiry.look_for_list.Goals as goal
 
 pub returns-in-Some-clause-told : goal.returns-in-Some-clause-told
 returns-in-Some-clause-told g c clean t has day = (
   λ b lawful represents. tt,
   λ b lawful represents. list_found b t c.args.list represents.stands day c.in-Some.row (sym (rw c.in-Some.is at c.in_ok-row.ensures.looks.found clean t has)),
+  list_right t c.args.list c.in-Some.row (sym (rw c.in-Some.is at c.in_ok-row.ensures.looks.found clean t has)),
 )
 
 pub returns-in_err-row-clause-told : goal.returns-in_err-row-clause-told

@@ -4,13 +4,14 @@ use Rattle.clear_book.specs.RowRanges.{IsRunRow}
 use Rattle.clear_book.specs.Tables.{run_key}
 use Rattle.clear_laws.proofs.RowRangeLemmas.{rows_in_range}
 use Rattle.clear_debts.proofs.FaultLemmas.{found_in_range}
-use Rattle.clear_queries.proofs.ListLemmas.{run_found}
+use Rattle.clear_queries.proofs.ListLemmas.{run_found, run_right}
 use Rattle.clear_queries.proofs.inquiry.look_for_run.Goals as goal
 
 pub returns-in-Some-clause-told : goal.returns-in-Some-clause-told
 returns-in-Some-clause-told g c clean t has day = (
   λ b lawful represents. tt,
   λ b lawful represents. run_found b t c.args.run represents.stands day c.in-Some.row (sym (rw c.in-Some.is at c.in_ok-row.ensures.looks.found clean t has)),
+  run_right t c.args.run c.in-Some.row (sym (rw c.in-Some.is at c.in_ok-row.ensures.looks.found clean t has)),
 )
 
 pub returns-in_err-row-clause-told : goal.returns-in_err-row-clause-told

@@ -6,11 +6,11 @@ use Rattle.clear_check.specs.CallerChecks.{first_wrong}
 use Rattle.clear_check.proofs.callers.second_look.look_at.Goals as goal
 
 pub returns-in-Ok : goal.returns-in-Ok
-returns-in-Ok c = λ document key is wrong.
+returns-in-Ok c = λ document key value is wrong.
     let read = document_of-text _ _ c.in-Ok.ensures.ok.0 c.in-Ok.ensures.ok.1 in
-    c.first_fault.ensures key (ap first_wrong (same_Some _ _ (sym read ∙ is)) ∙ wrong)
+    c.first_fault.ensures key value (ap first_wrong (same_Some _ _ (sym read ∙ is)) ∙ wrong)
 
 pub returns-in-Err-2 : goal.returns-in-Err-2
-returns-in-Err-2 c = λ document key is wrong.
+returns-in-Err-2 c = λ document key value is wrong.
     let none = document_of-none _ (c.in-Err.ensures.refused (λ memory. false≢true (c.if-is_memory.ensures.1 memory))) in
     absurd (none-some document (sym none ∙ is))
