@@ -208,6 +208,9 @@ class Bank(Checked):
         other = LINE.replace("B1", "B2")
         self.fault(HEADER + other + LINE + other + LINE.replace("150000", "150001"),
                    "record 5, reference: B1 stands with another content in record 3")
+        name = LINE.replace("B1", "reference")
+        self.fault(HEADER + name + name.replace("150000", "150001"),
+                   "record 3, reference: reference stands with another content in record 2")
 
     def test_days_with_points(self):
         said = "record 2, value_date: 01.04.2024 is no day (YYYY-MM-DD, 2000-01-01 to 2200-12-31)"

@@ -20,7 +20,7 @@ import time
 # No __pycache__ is left beside the sources.
 sys.dont_write_bytecode = True
 from program_under_test import (  # noqa: E402
-    DAY, NOBODY, RATES, ROOT, ROW_2024, ROW_2025, ProgramUnderTest, run_tests)
+    CALLERS, DAY, NOBODY, RATES, ROOT, ROW_2024, ROW_2025, ProgramUnderTest, run_tests)
 
 MAX_FILE = 4_194_304
 
@@ -258,6 +258,15 @@ class Init(Program):
         self.expect(["init", "fund.db", "rates.toml"], 2, "", "fault file\n")
         self.write("rates.toml", largest)
         self.init()
+
+    def test_a_byte_order_mark(self):
+        self.write("rates.toml", "\ufeff" + RATES)
+        self.write("callers.toml", "\ufeff" + CALLERS)
+        self.init()
+        self.expect(["stream", "rates.toml", "callers.toml", DAY], 0, stdin=b"")
+        for name, content in (("callers.toml", CALLERS), ("rates.toml", RATES)):
+            self.write(name, "\ufeff\ufeff" + content)
+            self.expect(["stream", "rates.toml", "callers.toml", DAY], 2, "", "fault file\n")
 
     def test_no_place_for_a_store(self):
         self.write("text", "a text of more than nothing\n" * 200)

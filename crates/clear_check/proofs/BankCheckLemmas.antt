@@ -14,14 +14,18 @@ use Rattle.std.proofs.lemmas.List.Sums.{sum_by-append}
 use Rattle.clear_money.specs.Results.{◌>>=◌}
 use Rattle.clear_money.specs.Texts.{two_digits}
 use Rattle.clear_values.specs.declared.lines.BankLine.{BankLine}
-use Rattle.clear_bank.specs.Files.{file_lines}
+use Rattle.clear_bank.specs.Files.{Fields, file_lines}
 use Rattle.clear_bank.specs.Newness.{judgement}
 use Rattle.clear_bank.specs.Answers.{Fails}
 use Rattle.clear_bank.specs.declared.fault.BankFault.{BankFault}
 use Rattle.clear_bank.specs.declared.fault.BankFault.TheVariants.{OverLimit, BadCsv, RefConflict, Memory as MemoryFault}
 use Rattle.clear_book.specs.Documents.Amounts.{euros_text}
 use Rattle.clear_check.proofs.CallerCheckLemmas.{at_most_one}
-use Rattle.clear_check.specs.BankChecks.{Contents, Tells, TellsFault, bank_of, cents_of, contents_of, lines_at, names_no_firm}
+use Rattle.clear_check.specs.BankChecks.{Contents, Tells, TellsFault, bank_line, bank_of, cents_of, contents_of, lines_at, names_no_firm}
+use Rattle.clear_check.specs.BankFound.{IsFoundIn, records_by}
+use Rattle.clear_check.specs.Hints.{AreHints, hint_lines}
+use Rattle.clear_check.specs.Shown.{Found}
+use Rattle.clear_check.specs.declared.hints.Hints.{Hints}
 
 -- a fault of the lines is that of the file
 pub bank_of-fault : (bytes : List ℕ) (fault : BankFault) → file_lines 10000 bytes ≡ Err fault → bank_of bytes ≡ Err fault
@@ -118,3 +122,14 @@ told bytes text OverLimit right is known tells = subst (λ (r : Result Contents 
 told bytes text (BadCsv line bad) right is known tells = subst (λ (r : Result Contents BankFault). Tells bytes r text) (sym is) tells
 told bytes text (RefConflict line) right is known tells = subst (λ (r : Result Contents BankFault). Tells bytes r text) (sym is) tells
 told bytes text MemoryFault right is known tells = absurd (known refl)
+
+-- a line and what stands below it tell a fault
+pub tells_fault : (bytes text line below : List ℕ) (rows : List Fields) (fault : BankFault) (seen : Found) (hints : Hints) → rows ≡ records_by 44 bytes → IsFoundIn rows fault seen
+    → AreHints bytes rows fault hints → line ≡ bank_line fault seen → below ≡ hint_lines hints → text ≡ line ++ (below ++ []) → TellsFault bytes fault text
+tells_fault bytes text line below rows fault seen hints read found are here hinted is = (
+  seen,
+  subst (λ (rows : List Fields). IsFoundIn rows fault seen) read found,
+  hints,
+  subst (λ (rows : List Fields). AreHints bytes rows fault hints) read are,
+  is ∙ ap (λ rest. line ++ rest) (append-nil below) ∙ (λ i. here i ++ hinted i),
+)

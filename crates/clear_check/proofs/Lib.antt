@@ -1,4 +1,6 @@
 pub mod BankCheckLemmas
 pub mod CallerCheckLemmas
+pub mod HintLemmas
+pub mod RateCheckLemmas
 pub mod RecordLemmas
 pub mod TextLemmas

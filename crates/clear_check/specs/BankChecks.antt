@@ -1,9 +1,8 @@
 -- What is said of a bank file.
-use Rattle.std.specs.Prelude.{◌≡◌, ⊤, ℕ, ◌==◌, Bool, false, is_none, List, [], ◌∷◌, ◌++◌, length, count_by, sum_by}
+use Rattle.std.specs.Prelude.{◌≡◌, ⊤, ℕ, ◌==◌, Bool, is_none, List, [], ◌∷◌, ◌++◌, length, count_by, sum_by}
 use Rattle.std.specs.Prelude.{codes, if◌then◌else◌, Result, Ok, Err, slice_get}
 use Rattle.std.specs.Fmt.{decimal}
 use Rattle.std.specs.List.{concat, filter_map}
-use Rattle.csv.specs.Reading.{strip_bom}
 use Rattle.clear_money.specs.Results.{◌>>=◌}
 use Rattle.clear_values.specs.declared.lines.BankLine.{BankLine}
 use Rattle.clear_bank.specs.declared.fields.BankField.{BankField}
@@ -11,14 +10,14 @@ use Rattle.clear_bank.specs.declared.fields.BankField.TheVariants as field
 use Rattle.clear_bank.specs.declared.fields.RecordFault.{RecordFault}
 use Rattle.clear_bank.specs.declared.fields.RecordFault.TheVariants.{FieldCount, Field}
 use Rattle.clear_bank.specs.Fields.{field_name}
-use Rattle.clear_bank.specs.Files.{file_lines, is_over, records_of}
+use Rattle.clear_bank.specs.Files.{file_lines}
 use Rattle.clear_bank.specs.Newness.{judgement}
 use Rattle.clear_bank.specs.declared.fault.BankFault.{BankFault}
 use Rattle.clear_bank.specs.declared.fault.BankFault.TheVariants.{OverLimit, BadCsv, RefConflict}
 use Rattle.clear_bank.specs.declared.fault.BankFault.TheVariants.{Memory}
 use Rattle.clear_book.specs.Documents.Amounts.{euros_text}
 use Rattle.clear_book.specs.Limits.{most_records}
-use Rattle.clear_check.specs.BankFound.{IsFoundIn}
+use Rattle.clear_check.specs.BankFound.{IsFoundIn, records_by}
 use Rattle.clear_check.specs.Hints.{AreHints, hint_lines}
 use Rattle.clear_check.specs.Shown.{Found, IsInLine, plural}
 use Rattle.clear_check.specs.declared.bank.Held.{Held}
@@ -127,16 +126,14 @@ abbrev pub SaysFault : BankFault → List ℕ → Type 0
 SaysFault fault text = (found : Found) × IsInLine found × (hints : Hints)
     × (text ≡ bank_line fault found ++ hint_lines hints)
 
--- what was found is what stands at the fault, in the records of a file that has no more than it can
--- have
+-- what was found is what stands at the fault, in the records that commas part
 abbrev pub IsFound : List ℕ → BankFault → Found → Type 0
-IsFound bytes fault found = is_over most_records (records_of (strip_bom bytes)) ≡ false
-    → IsFoundIn (records_of (strip_bom bytes)) fault found
+IsFound bytes fault found = IsFoundIn (records_by 44 bytes) fault found
 
 -- the line on a fault says what stands there, and the hints below it are those that the bytes give
 abbrev pub TellsFault : List ℕ → BankFault → List ℕ → Type 0
 TellsFault bytes fault text = (found : Found) × IsFound bytes fault found
-    × (hints : Hints) × AreHints bytes hints
+    × (hints : Hints) × AreHints bytes (records_by 44 bytes) fault hints
     × (text ≡ bank_line fault found ++ hint_lines hints)
 
 -- the same of what a bank file says, if that is a fault

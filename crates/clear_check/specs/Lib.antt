@@ -3,4 +3,5 @@ pub mod BankFound
 pub mod CallerChecks
 pub mod Hints
 pub mod RateChecks
+pub mod RateFound
 pub mod Shown

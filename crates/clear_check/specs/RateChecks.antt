@@ -1,13 +1,16 @@
 -- What is said of a rate file.
 use Rattle.std.specs.Prelude.{◌≡◌, ℕ, ◌-◌, ◌==◌, List, [], ◌∷◌, length, codes, if◌then◌else◌, Result}
-use Rattle.std.specs.Prelude.{Ok, Err}
+use Rattle.std.specs.Prelude.{Ok, Err, Some}
 use Rattle.std.specs.Fmt.{decimal}
 use Rattle.std.specs.List.{concat}
+use Rattle.toml.specs.Data.{Members}
+use Rattle.clear_money.specs.RateFile.{document_of, rates_of}
 use Rattle.clear_money.specs.Rates.{Rate, last_first}
 use Rattle.clear_money.specs.Texts.{month_text}
 use Rattle.clear_money.specs.declared.rate_file.RateFault.{RateFault}
 use Rattle.clear_money.specs.declared.rate_file.RateFault.TheVariants.{Text, Field, Range, Order}
 use Rattle.clear_money.specs.declared.rate_file.RateFault.TheVariants.{Empty, Memory}
+use Rattle.clear_check.specs.RateFound.{IsFoundIn}
 use Rattle.clear_check.specs.Shown.{Found, IsInLine, plural}
 
 -- the first month of the first row
@@ -47,3 +50,14 @@ rate_line Memory found = []
 abbrev pub SaysRates : Result (List Rate) RateFault → List ℕ → Type 0
 SaysRates (Ok rows) text = text ≡ rates_text rows
 SaysRates (Err fault) text = (found : Found) × IsInLine found × (text ≡ rate_line fault found)
+
+-- the line on a fault says what stands there
+abbrev pub TellsFault : Members → RateFault → List ℕ → Type 0
+TellsFault document fault text =
+    (found : Found) × IsFoundIn document fault found × (text ≡ rate_line fault found)
+
+-- the same of the fault of a file, where its bytes are a document
+abbrev pub TellsRates : List ℕ → List ℕ → Type 0
+TellsRates bytes text =
+    (document : Members) (fault : RateFault) → document_of bytes ≡ Some document
+    → rates_of bytes ≡ Err fault → TellsFault document fault text

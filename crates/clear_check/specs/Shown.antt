@@ -1,5 +1,5 @@
 -- How values of a file are shown, so that a line stays one line.
-use Rattle.std.specs.Prelude.{ℕ, ◌==◌, nat_le, Bool, ◌&&◌, IsTrue, List, [], ◌∷◌, map, take}
+use Rattle.std.specs.Prelude.{◌≡◌, ℕ, ◌==◌, nat_le, Bool, ◌&&◌, IsTrue, List, [], ◌∷◌, map, take}
 use Rattle.std.specs.Prelude.{codes, if◌then◌else◌}
 use Rattle.std.specs.List.{list_all}
 
@@ -28,3 +28,12 @@ pub record Found : Type 0 where
 -- both are plain ASCII text, and so stay in one line
 abbrev pub IsInLine : Found → Type 0
 IsInLine found = IsTrue (list_all is_plain found.here) × IsTrue (list_all is_plain found.other)
+
+-- what stands at the fault, and nothing that belongs to it
+abbrev pub alone : List ℕ → Found
+alone here = record { here = here; other = [] }
+
+-- these two texts were found, as they are shown
+abbrev pub IsShown : Found → Found → Type 0
+IsShown told found =
+    (found.here ≡ map shown_byte told.here) × (found.other ≡ map shown_byte told.other)

@@ -150,9 +150,10 @@ fn fault_text(alloc: Global, bytes: &[u8], fault: BankFault) -> Result<String, A
     ensures tells { IfOk result (λ text. TellsFault bytes.now fault (string_bytes text)) }
 {
     let records = read_records(alloc, bytes, b',')?;
-    let seen = look_at(alloc, records.as_slice(), fault)?;
+    let rows = records.as_slice();
+    let seen = look_at(alloc, rows, fault)?;
     let line = bank_line(alloc, fault, &seen)?;
-    let hints = hints_of(alloc, bytes, records.as_slice(), fault)?;
+    let hints = hints_of(alloc, bytes, rows, fault)?;
     joined(alloc, &[line.as_str(), hints.text(alloc)?.as_str()])
 }
 

@@ -1,4 +1,7 @@
 //! Where bytes are no TOML document, and why.
+//!
+//! It has no contract, since that of the kit's reader says of the place only that it is within the bytes,
+//! and of the message nothing. `Seen` keeps that it stays in one line, and tests on real files compare it.
 
 use crate::seen::Seen;
 use std::alloc::{AllocError, Global};

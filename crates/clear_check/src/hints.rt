@@ -1,7 +1,15 @@
 //! What a bank file looks like that isn't taken.
-ghost use Rattle.std.specs.Prelude.{◌≡◌, ◌↔◌, false, IfOk, IsUtf8, string_bytes};
+ghost use Rattle.std.specs.Prelude.{◌≡◌, ◌↔◌, ◌==◌, ◌&&◌, not, false, count_by, map, IfOk, IsUtf8};
+ghost use Rattle.std.specs.Prelude.{string_bytes};
+ghost use Rattle.std.specs.Char.{is_ascii_digit};
+ghost use Rattle.std.specs.List.{list_all, list_any, position};
 ghost use Rattle.csv.specs.Reading.{strip_bom};
-ghost use Rattle.clear_check.specs.Hints.{AreHints, IsXml, hint_lines, when};
+ghost use Rattle.csv.specs.Records.{fields_of};
+ghost use Rattle.clear_check.specs.Hints.{AreHints, IsXml, at_fault, fits, has_more_semicolons};
+ghost use Rattle.clear_check.specs.Hints.{has_semicolons, header_in, hint_lines, in_some_field};
+ghost use Rattle.clear_check.specs.Hints.{is_amount_field, is_cut_amount, is_of_amount, is_of_shape};
+ghost use Rattle.clear_check.specs.Hints.{is_parted_amount, is_pointed_day, is_wrong_amount};
+ghost use Rattle.clear_check.specs.Hints.{is_wrong_day, when};
 
 use crate::records::{bytes_in, read_records, record_at};
 use crate::texts::joined;
@@ -64,18 +72,18 @@ fn when(applies: bool, line: &'static str) -> &'static str
     if applies { line } else { "" }
 }
 
-// What a file and its record at a fault look like. In a bank's own export each field counts, and in a
-// file of the office's form only the one at fault.
+// What a file and its record at a fault look like, given the records that commas part. In a bank's own
+// export each field counts, and in a file of the office's form only the one at fault.
 pub(crate) fn hints_of(
     alloc: Global,
     bytes: &[u8],
     records: &[ByteRecord],
     fault: BankFault,
 ) -> Result<Hints, AllocError>
-    ensures { IfOk result (AreHints bytes.now) }
+    ensures { IfOk result (AreHints bytes.now (map fields_of records.now) fault) }
 {
     let xml = is_xml(bytes);
-    let semicolons = !xml && has_semicolons(bytes);
+    let semicolons = is_export(bytes, xml);
     let other_text = is_other_text(bytes);
     if semicolons {
         let records = read_records(alloc, bytes, b';')?;
@@ -119,49 +127,107 @@ fn without_mark(bytes: &[u8]) -> &[u8]
     }
 }
 
+// A file that isn't in XML, and whose fields are parted by semicolons.
+fn is_export(bytes: &[u8], xml: bool) -> bool
+    ensures { result ≡ (not xml && has_semicolons bytes.now) }
+{
+    if xml { false } else { has_semicolons(bytes) }
+}
+
 // In the header, or in the whole file, more semicolons stand than commas.
-fn has_semicolons(bytes: &[u8]) -> bool {
-    let mut semicolons = 0usize;
-    let mut commas = 0usize;
-    let mut is_header = true;
-    for byte in bytes {
-        match *byte {
-            b';' => semicolons = semicolons.saturating_add(1),
-            b',' => commas = commas.saturating_add(1),
-            b'\n' if is_header && semicolons > commas => return true,
-            b'\n' => is_header = false,
-            _ => {}
-        }
+fn has_semicolons(bytes: &[u8]) -> bool
+    ensures { result ≡ has_semicolons bytes.now }
+{
+    has_more_semicolons(header_in(bytes)) || has_more_semicolons(bytes)
+}
+
+// What stands before the first end of a line.
+fn header_in(bytes: &[u8]) -> &[u8]
+    ensures { result.now ≡ header_in bytes.now }
+{
+    match line_end(bytes) {
+        Some(end) => &bytes[..end],
+        None => bytes,
     }
-    semicolons > commas
+}
+
+// Where the first line ends.
+fn line_end(bytes: &[u8]) -> Option<usize>
+    ensures { result ≡ position (λ byte. byte == 10) bytes.now }
+{
+    bytes.iter().position(|byte| *byte == b'\n')
+}
+
+fn has_more_semicolons(text: &[u8]) -> bool
+    ensures { result ≡ has_more_semicolons text.now }
+{
+    count_of(text, b';') > count_of(text, b',')
+}
+
+// How often a byte stands in a text.
+fn count_of(text: &[u8], wanted: u8) -> usize
+    ensures { result ≡ count_by (λ byte. byte == wanted) text.now }
+{
+    text.iter().filter(|byte| **byte == wanted).count()
 }
 
 // A field of some record is a day with points.
-fn has_pointed_day(records: &[ByteRecord]) -> bool {
+fn has_pointed_day(records: &[ByteRecord]) -> bool
+    ensures { result ≡ in_some_field is_pointed_day (map fields_of records.now) }
+{
     for record in records {
-        for field in record.iter() {
-            if is_pointed_day(field) {
-                return true;
-            }
+        if has_day_field(record) {
+            return true;
         }
     }
     false
 }
 
-// A field of some record is an amount with cents behind a comma or a point. A day as 01.04.24 is none.
-fn has_parted_amount(records: &[ByteRecord]) -> bool {
-    for record in records {
-        for field in record.iter() {
-            if !is_pointed_day(field) && is_parted_amount(field) {
-                return true;
-            }
+fn has_day_field(row: &ByteRecord) -> bool
+    ensures { result ≡ list_any is_pointed_day (fields_of row.now) }
+{
+    for field in row {
+        if is_pointed_day(field) {
+            return true;
         }
     }
     false
+}
+
+// A field of some record is an amount with cents behind a comma or a point.
+fn has_parted_amount(records: &[ByteRecord]) -> bool
+    ensures { result ≡ in_some_field is_amount_field (map fields_of records.now) }
+{
+    for record in records {
+        if has_amount_field(record) {
+            return true;
+        }
+    }
+    false
+}
+
+fn has_amount_field(row: &ByteRecord) -> bool
+    ensures { result ≡ list_any is_amount_field (fields_of row.now) }
+{
+    for field in row {
+        if is_amount_field(field) {
+            return true;
+        }
+    }
+    false
+}
+
+// A day as 01.04.24 is no amount.
+fn is_amount_field(field: &[u8]) -> bool
+    ensures { result ≡ is_amount_field field.now }
+{
+    !is_pointed_day(field) && is_parted_amount(field)
 }
 
 // The field at a fault is to be a day, and is one with points.
-fn day_at(records: &[ByteRecord], fault: BankFault) -> bool {
+fn day_at(records: &[ByteRecord], fault: BankFault) -> bool
+    ensures { result ≡ at_fault is_wrong_day (map fields_of records.now) fault }
+{
     match fault {
         BankFault::BadCsv { line, fault } => match record_at(records, line) {
             Some(record) => is_wrong_day(record, fault),
@@ -171,17 +237,21 @@ fn day_at(records: &[ByteRecord], fault: BankFault) -> bool {
     }
 }
 
-fn is_wrong_day(record: &ByteRecord, fault: RecordFault) -> bool {
+fn is_wrong_day(row: &ByteRecord, fault: RecordFault) -> bool
+    ensures { result ≡ is_wrong_day fault (fields_of row.now) }
+{
     match fault {
         RecordFault::Field(BankField::ValueDate) => {
-            is_pointed_day(bytes_in(record, BankField::ValueDate))
+            is_pointed_day(bytes_in(row, BankField::ValueDate))
         }
         RecordFault::Field(_) | RecordFault::FieldCount => false,
     }
 }
 
 // The field at a fault is to be an amount, and has cents behind a comma or a point.
-fn amount_at(records: &[ByteRecord], fault: BankFault) -> bool {
+fn amount_at(records: &[ByteRecord], fault: BankFault) -> bool
+    ensures { result ≡ at_fault is_wrong_amount (map fields_of records.now) fault }
+{
     match fault {
         BankFault::BadCsv { line, fault } => match record_at(records, line) {
             Some(record) => is_wrong_amount(record, fault),
@@ -191,61 +261,82 @@ fn amount_at(records: &[ByteRecord], fault: BankFault) -> bool {
     }
 }
 
-fn is_wrong_amount(record: &ByteRecord, fault: RecordFault) -> bool {
+fn is_wrong_amount(row: &ByteRecord, fault: RecordFault) -> bool
+    ensures { result ≡ is_wrong_amount fault (fields_of row.now) }
+{
     match fault {
-        RecordFault::FieldCount => is_cut_amount(record),
+        RecordFault::FieldCount => is_cut_amount(row),
         RecordFault::Field(BankField::Cents) => {
-            is_parted_amount(bytes_in(record, BankField::Cents))
+            is_parted_amount(bytes_in(row, BankField::Cents))
         }
         RecordFault::Field(_) => false,
     }
 }
 
 // An amount without quotation marks is cut into two fields by its comma.
-fn is_cut_amount(record: &ByteRecord) -> bool {
-    let amount = bytes_in(record, BankField::Cents);
-    let rest = bytes_in(record, BankField::Purpose);
-    record.len() == 7 && rest.len() == 2 && are_digits(amount) && are_digits(rest)
+fn is_cut_amount(row: &ByteRecord) -> bool
+    ensures { result ≡ is_cut_amount (fields_of row.now) }
+{
+    let amount = bytes_in(row, BankField::Cents);
+    let rest = bytes_in(row, BankField::Purpose);
+    row.len() == 7 && are_digits(amount) && is_of_shape(b"00", rest)
 }
 
 // A day as 01.04.2024 or 01.04.24.
-fn is_pointed_day(field: &[u8]) -> bool {
-    match field {
-        [a, b, b'.', c, d, b'.', year @ ..] => {
-            are_digits(&[*a, *b, *c, *d])
-                && are_digits(year)
-                && (year.len() == 2 || year.len() == 4)
-        }
-        _ => false,
-    }
+fn is_pointed_day(text: &[u8]) -> bool
+    ensures { result ≡ is_pointed_day text.now }
+{
+    is_of_shape(b"00.00.0000", text) || is_of_shape(b"00.00.00", text)
 }
 
 // An amount with two digits behind a comma or a point.
-fn is_parted_amount(field: &[u8]) -> bool {
-    match field {
-        [euros @ .., last, b',' | b'.', a, b] => {
-            are_digits(&[*last, *a, *b]) && are_of_amount(euros)
-        }
-        _ => false,
-    }
+fn is_parted_amount(text: &[u8]) -> bool
+    ensures { result ≡ is_parted_amount text.now }
+{
+    let (front, back) = text.split_at(text.len().saturating_sub(4));
+    are_of_amount(front) && (is_of_shape(b"0,00", back) || is_of_shape(b"0.00", back))
 }
 
-fn are_digits(bytes: &[u8]) -> bool {
-    for byte in bytes {
-        if !byte.is_ascii_digit() {
+// Whether a text is of a shape, in which 0 stands for any digit.
+fn is_of_shape(shape: &[u8], text: &[u8]) -> bool
+    ensures { result ≡ is_of_shape shape.now text.now }
+{
+    if shape.len() != text.len() {
+        return false;
+    }
+    for (place, sign) in shape.iter().enumerate() {
+        if !fits(*sign, text[place]) {
             return false;
         }
     }
     true
 }
 
-// Digits, signs and what stands between thousands.
-fn are_of_amount(bytes: &[u8]) -> bool {
-    for byte in bytes {
-        match *byte {
-            b'0'..=b'9' | b'.' | b',' | b'-' | b'+' => {}
-            _ => return false,
-        }
+fn fits(sign: u8, byte: u8) -> bool
+    ensures { result ≡ fits sign byte }
+{
+    if sign == b'0' {
+        byte.is_ascii_digit()
+    } else {
+        byte == sign
     }
-    true
+}
+
+fn are_digits(bytes: &[u8]) -> bool
+    ensures { result ≡ list_all is_ascii_digit bytes.now }
+{
+    bytes.iter().all(|byte| byte.is_ascii_digit())
+}
+
+fn are_of_amount(bytes: &[u8]) -> bool
+    ensures { result ≡ list_all is_of_amount bytes.now }
+{
+    bytes.iter().all(|byte| is_of_amount(*byte))
+}
+
+// A digit, a sign, or what stands between thousands.
+fn is_of_amount(byte: u8) -> bool
+    ensures { result ≡ is_of_amount byte }
+{
+    byte.is_ascii_digit() || byte == b'.' || byte == b',' || byte == b'-' || byte == b'+'
 }

@@ -3,16 +3,15 @@
 //!
 //! A file is read as the program reads it, and its first fault is the reader's: which row, record,
 //! field or key it is in, and of which kind it is, are proved. A second look at the bytes finds what
-//! stands there: of a caller file why the key is none, and of a bank file the value of the field, the
-//! number of fields or the reference, is proved, and so are its hints of XML and of no UTF-8. Of the
-//! rest that it finds the contracts say only that a line stays one line, and tests on real files compare
-//! it.
+//! stands there, and the hints on a bank file, and that is proved, too. Of where bytes are no TOML
+//! document the contracts say only that a line stays one line, and tests on real files compare it.
 #![tactic(auto)]
 
 pub mod bank;
 pub mod callers;
 mod document;
 mod hints;
+pub mod laws;
 pub mod rates;
 mod records;
 mod seen;

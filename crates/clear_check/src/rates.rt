@@ -1,8 +1,8 @@
 //! What is said of a rate file.
 ghost use Rattle.std.specs.Prelude.{◌≡◌, ◌≢◌, ◌<◌, length, IfOk, OnOk, is_ok, string_bytes};
 ghost use Rattle.clear_money.specs.RateFile.{rates_of};
-ghost use Rattle.clear_check.specs.RateChecks.{SaysRates, first_month, order_line, place_of};
-ghost use Rattle.clear_check.specs.RateChecks.{rate_line, rates_text};
+ghost use Rattle.clear_check.specs.RateChecks.{SaysRates, TellsRates, first_month, order_line};
+ghost use Rattle.clear_check.specs.RateChecks.{place_of, rate_line, rates_text};
 
 mod second_look;
 
@@ -22,6 +22,7 @@ pub fn check_rates(alloc: Global, bytes: &[u8]) -> Result<Checked, AllocError>
     ensures good { IfOk result (λ checked. checked.good ≡ is_ok (rates_of bytes.now)) }
     ensures says { IfOk result (λ checked.
         SaysRates (rates_of bytes.now) (string_bytes checked.text)) }
+    ensures tells { IfOk result (λ checked. TellsRates bytes.now (string_bytes checked.text)) }
 {
     match read_rates(alloc, bytes) {
         Ok(table) => Ok(Checked {

@@ -1,10 +1,7 @@
 //! The records of a bank file, looked at once more.
-ghost use Rattle.std.specs.Prelude.{◌≡◌, false, map, option_map, IfOk};
-ghost use Rattle.csv.specs.Reading.{strip_bom};
+ghost use Rattle.std.specs.Prelude.{◌≡◌, map, option_map, IfOk};
 ghost use Rattle.csv.specs.Records.{fields_of};
-ghost use Rattle.clear_bank.specs.Files.{is_over, records_of};
-ghost use Rattle.clear_book.specs.Limits.{most_records};
-ghost use Rattle.clear_check.specs.BankFound.{bytes_in, record_of};
+ghost use Rattle.clear_check.specs.BankFound.{bytes_in, record_of, records_by};
 
 use clear_bank::fields::BankField;
 use clear_values::limits::MAX_RECORDS;
@@ -18,10 +15,8 @@ pub(crate) fn read_records(
     bytes: &[u8],
     delimiter: u8,
 ) -> Result<Vec<ByteRecord>, AllocError>
-    // Where commas part the fields: all of them, if a file can have so many.
-    ensures { delimiter ≡ 44 → IfOk result (λ rows.
-        is_over most_records (records_of (strip_bom bytes.now)) ≡ false
-        → map fields_of rows.items ≡ records_of (strip_bom bytes.now)) }
+    ensures { IfOk result (λ rows.
+        map fields_of rows.items ≡ records_by delimiter bytes.now) }
 {
     let reader = ReaderBuilder::new()
         .has_headers(false)

@@ -1,1 +1,2 @@
+mod FolderLemmas
 mod ReadLemmas

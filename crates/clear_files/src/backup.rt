@@ -1,17 +1,22 @@
 //! A copy of a store in one file. No contract knows what files hold.
-ghost use Rattle.std.specs.Prelude.{◌≡◌, OnOk, false};
-ghost use Rattle.clear_files.specs.Names.{is_of_another_use};
+ghost use Rattle.std.specs.Prelude.{◌≡◌, ◌⊎◌, ◌++◌, bit_and, codes, string_bytes, IfOk, OnOk};
+ghost use Rattle.std.specs.Prelude.{false, true};
+ghost use Rattle.std.specs.Fs.{asks_create_new, asks_write, metadata_mode};
+ghost use Rattle.std.specs.IoError.{error_kind};
+ghost use Rattle.clear_files.specs.Found.{IsMissing, IsPlainFile};
+ghost use Rattle.clear_files.specs.Names.{is_of_another_use, StandsIn};
 
 use crate::fault::{FileFault, fault_of};
 use crate::logs::log_path;
 use crate::named::{FileId, StoreFile};
-use crate::paths::is_free;
-use std::alloc::AllocError;
-use std::fs::{File, OpenOptions};
+use crate::paths::{is_free, is_missing};
+use std::alloc::{AllocError, Global};
+use std::fs::{File, Metadata, OpenOptions};
+use std::io::ErrorKind;
 use std::os::unix::fs::{MetadataExt, OpenOptionsExt};
 use std::{fs, io};
 
-// What owner, group and others may do with a file.
+// The bits of a mode that say what owner, group and others may do.
 const RIGHTS: u32 = 0o777;
 
 /// Copies the file of a store into a new file, whole or not at all.
@@ -36,8 +41,9 @@ pub fn copy_whole(rt: &HostRuntime, store: &StoreFile<'_>, copy: &str) -> Result
 fn copy_by_part(rt: &HostRuntime, store: &StoreFile<'_>, copy: &str) -> io::Result<()>
     ensures of_its_own { OnOk result (is_of_another_use copy.now ≡ false) }
 {
-    let part = format!(in rt.alloc(); "{copy}.part")?;
-    if is_of_another_use(copy) || !is_new(rt, copy)? || !is_writable(rt, part.as_str(), store) {
+    let part = part_path(rt.alloc(), copy)?;
+    let part_told = fs::symlink_metadata(rt, part.as_str());
+    if is_of_another_use(copy) || !is_new(rt, copy)? || !is_writable(&part_told, store) {
         return Err(in_the_way());
     }
     let mut source = File::open(rt, store.path)?;
@@ -45,7 +51,7 @@ fn copy_by_part(rt: &HostRuntime, store: &StoreFile<'_>, copy: &str) -> io::Resu
     if !store.is_of(&found) {
         return Err(in_the_way());
     }
-    let mut target = make_part(rt, part.as_str(), found.mode() & RIGHTS)?;
+    let mut target = make_part(rt, part.as_str(), rights_of(&found))?;
     let part_id = FileId::of(&target.metadata()?);
     let written = write_copy(rt, &mut source, &mut target, part.as_str(), &part_id, copy);
     if written.is_err() && stands_at(rt, part.as_str(), &part_id) {
@@ -71,16 +77,40 @@ fn is_of_another_use(copy: &str) -> bool
 // Nothing stands at the path of the copy, nor beside it what would be taken for the copy's.
 fn is_new(rt: &HostRuntime, copy: &str) -> Result<bool, AllocError> {
     let log = log_path(rt.alloc(), copy)?;
-    let journal = format!(in rt.alloc(); "{copy}-journal")?;
+    let journal = journal_path(rt.alloc(), copy)?;
     Ok(is_free(rt, copy) && is_free(rt, log.as_str()) && is_free(rt, journal.as_str()))
 }
 
-// Nothing stands at the path of the part, or a file as an earlier copy leaves it: not a link, and not
-// the file that is copied.
-fn is_writable(rt: &HostRuntime, part: &str, store: &StoreFile<'_>) -> bool {
-    match fs::symlink_metadata(rt, part) {
-        Ok(found) => found.is_file() && !store.is_of(&found),
-        Err(error) => error.kind() == io::ErrorKind::NotFound,
+// The path at which a copy is written.
+fn part_path(alloc: Global, copy: &str) -> Result<String, AllocError>
+    ensures { IfOk result (λ path. string_bytes path ≡ copy.now ++ codes ".part") }
+{
+    format!(in alloc; "{copy}.part")
+}
+
+// The path of the journal that would be taken for a copy's.
+fn journal_path(alloc: Global, copy: &str) -> Result<String, AllocError>
+    ensures { IfOk result (λ path. string_bytes path ≡ copy.now ++ codes "-journal") }
+{
+    format!(in alloc; "{copy}-journal")
+}
+
+// What owner, group and others may do with a file of which this is told.
+fn rights_of(found: &Metadata) -> u32
+    ensures { result ≡ bit_and (metadata_mode found.now) 0o777 }
+{
+    found.mode() & RIGHTS
+}
+
+// Whether a part may be made where this was told: nothing stands there, or a file as an earlier copy
+// leaves it, not a link, and not the file that is copied.
+fn is_writable(told: &io::Result<Metadata>, store: &StoreFile<'_>) -> bool
+    ensures free { IsMissing told.now → result ≡ true }
+    ensures only { result ≡ true → IsMissing told.now ⊎ IsPlainFile told.now }
+{
+    match told {
+        Ok(found) => found.is_file() && !store.is_of(found),
+        Err(_) => is_missing(told),
     }
 }
 
@@ -89,9 +119,19 @@ fn make_part(rt: &HostRuntime, part: &str, rights: u32) -> io::Result<File> {
     if !is_free(rt, part) {
         fs::remove_file(rt, part)?;
     }
+    part_options(rights).open(rt, part)
+}
+
+// How a part is opened: to write it, and where a file stands already not at all.
+fn part_options(rights: u32) -> OpenOptions
+    ensures written { asks_write result ≡ true }
+    ensures new { asks_create_new result ≡ true }
+{
     let mut options = OpenOptions::new();
-    options.write(true).create_new(true).mode(rights);
-    options.open(rt, part)
+    options.mode(rights);
+    options.write(true);
+    options.create_new(true);
+    options
 }
 
 // Writes the copy, and gives it its name. Meanwhile another copy may have taken the part away and begun
@@ -117,25 +157,33 @@ fn write_copy(
 
 // Whether just this file stands at a path, and no link to it.
 fn stands_at(rt: &HostRuntime, path: &str, id: &FileId) -> bool {
-    match fs::symlink_metadata(rt, path) {
-        Ok(found) => id.is_of(&found),
-        Err(_) => false,
-    }
+    id.is_found(&fs::symlink_metadata(rt, path))
 }
 
-fn in_the_way() -> io::Error {
-    io::Error::from(io::ErrorKind::AlreadyExists)
+fn in_the_way() -> io::Error
+    ensures { error_kind result ≡ ErrorKind.AlreadyExists }
+{
+    io::Error::from(ErrorKind::AlreadyExists)
 }
 
 fn sync_folder(rt: &HostRuntime, folder: &str) -> io::Result<()> {
     File::open(rt, folder)?.sync_all()
 }
 
+/// A law of the definitions, without effect: in which folder a file stands.
+pub fn law_folders_by_example()
+    ensures here { StandsIn (codes "copy") (codes ".") }
+    ensures root { StandsIn (codes "/copy") (codes "/") }
+    ensures folder { StandsIn (codes "a/b/copy") (codes "a/b") }
+{}
+
 // The folder that the file of a path stands in.
-fn folder_of(path: &str) -> &str {
+fn folder_of(path: &str) -> &str
+    ensures { StandsIn path.now result.now }
+{
     match path.rsplit_once('/') {
-        Some(("", _)) => "/",
-        Some((folder, _)) => folder,
+        Some((before, _name)) if before.is_empty() => "/",
+        Some((before, _name)) => before,
         None => ".",
     }
 }

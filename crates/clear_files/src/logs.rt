@@ -1,9 +1,12 @@
 //! The log of a store, which stands beside its file. No contract knows what files hold.
-ghost use Rattle.std.specs.Prelude.{◌≡◌, ◌≢◌, ◌++◌, None, codes, IfOk, OnErr, string_bytes};
+ghost use Rattle.std.specs.Prelude.{◌≡◌, ◌≢◌, ◌↔◌, ◌++◌, ℕ, List, None, codes};
+ghost use Rattle.std.specs.Prelude.{IfOk, IfSome, IsTrue, OnErr, string_bytes};
 ghost use Rattle.std.specs.IoError.{error_kind};
+ghost use Rattle.clear_files.specs.Found.{IsBroughtOver};
 
-use crate::paths::{PathKind, is_free, path_kind};
+use crate::paths::{PathKind, is_free, is_missing, path_kind};
 use std::alloc::{AllocError, Global};
+use std::fs::Metadata;
 use std::io::ErrorKind;
 use std::{fs, io};
 
@@ -14,12 +17,19 @@ const LOG_OF_A_CLOSE: u64 = 41;
 /// the file that a link leads to, is no longer than a close leaves it. `false` where that can't be told,
 /// too.
 pub fn is_brought_over(rt: &HostRuntime, store: &str) -> bool {
-    let Ok(Some(log)) = log_beside(rt, store) else {
-        return false;
-    };
-    match fs::metadata(rt, log.as_str()) {
+    match log_beside(rt, store) {
+        Ok(Some(log)) => is_as_closed(&fs::metadata(rt, log.as_str())),
+        Ok(None) | Err(_) => false,
+    }
+}
+
+// Whether a log of which this was told has nothing that a close would bring over, or isn't there.
+fn is_as_closed(told: &io::Result<Metadata>) -> bool
+    ensures { IsTrue result ↔ IsBroughtOver told.now }
+{
+    match told {
         Ok(found) => found.len() <= LOG_OF_A_CLOSE,
-        Err(error) => error.kind() == io::ErrorKind::NotFound,
+        Err(_) => is_missing(told),
     }
 }
 
@@ -46,7 +56,10 @@ fn has_something(rt: &HostRuntime, path: &str) -> bool {
 }
 
 // The path of the log of a store, beside the file that a link leads to. `None` where that can't be told.
-pub(crate) fn log_beside(rt: &HostRuntime, store: &str) -> Result<Option<String>, AllocError> {
+pub(crate) fn log_beside(rt: &HostRuntime, store: &str) -> Result<Option<String>, AllocError>
+    ensures { IfOk result (λ found. IfSome found (λ log.
+        (file : List ℕ) × (string_bytes log ≡ file ++ codes "-wal"))) }
+{
     match fs::canonicalize(rt, store) {
         Ok(file) => Ok(Some(log_path(rt.alloc(), file.as_str())?)),
         Err(error) => none_but_memory(&error),

@@ -1,5 +1,6 @@
-//! Whether the files of a store still stand where they stood. No contract knows what a path names.
-ghost use Rattle.std.specs.Prelude.{◌≡◌, IfSome};
+//! Whether the files of a store still stand where they stood. No contract knows what a path names, nor
+//! which device and which number there the system tells of a file.
+ghost use Rattle.std.specs.Prelude.{◌≡◌, false, IfOk, IfSome, OnErr};
 
 use crate::logs::{log_beside, none_but_memory};
 use std::alloc::AllocError;
@@ -27,6 +28,16 @@ impl FileId {
     pub(crate) fn is_of(&self, found: &Metadata) -> bool {
         found.dev() == self.device && found.ino() == self.inode
     }
+
+    /// Whether this file stands where the system was asked; not where it told nothing.
+    pub(crate) fn is_found(&self, told: &io::Result<Metadata>) -> bool
+        ensures { OnErr told.now (result ≡ false) }
+    {
+        match told {
+            Ok(found) => self.is_of(found),
+            Err(_) => false,
+        }
+    }
 }
 
 /// The file of a store: its path, and which file stood there.
@@ -50,7 +61,7 @@ impl<'a> StoreFile<'a> {
 
     /// Whether its path still names this file: no other, and none that can't be asked for.
     pub fn stands(&self, rt: &HostRuntime) -> bool {
-        names(rt, self.path, &self.id)
+        self.id.is_found(&fs::metadata(rt, self.path))
     }
 
     /// Whether this is told of this file.
@@ -74,7 +85,9 @@ impl<'a> NamedStore<'a> {
     pub fn with_log(
         rt: &'a HostRuntime,
         file: StoreFile<'a>,
-    ) -> Result<Option<NamedStore<'a>>, AllocError> {
+    ) -> Result<Option<NamedStore<'a>>, AllocError>
+        ensures { IfOk result (λ found. IfSome found (λ store. store.file ≡ file.entry)) }
+    {
         let Some(log) = log_beside(rt, file.path)? else {
             return Ok(None);
         };
@@ -97,21 +110,15 @@ impl<'a> NamedStore<'a> {
 
     // A file that was moved, and is found by a link now, has its log at another path.
     fn has_log(&self) -> bool {
-        match log_beside(self.rt, self.file.path) {
-            Ok(Some(log)) => names(self.rt, log.as_str(), &self.log_id),
+        let told = match log_beside(self.rt, self.file.path) {
+            Ok(Some(log)) => fs::metadata(self.rt, log.as_str()),
             // There was no memory to ask where it stands.
-            Ok(None) | Err(_) => names(self.rt, self.log.as_str(), &self.log_id),
-        }
+            Ok(None) | Err(_) => fs::metadata(self.rt, self.log.as_str()),
+        };
+        self.log_id.is_found(&told)
     }
 }
 
 fn id_at(rt: &HostRuntime, path: &str) -> io::Result<FileId> {
     Ok(FileId::of(&fs::metadata(rt, path)?))
-}
-
-fn names(rt: &HostRuntime, path: &str, id: &FileId) -> bool {
-    match fs::metadata(rt, path) {
-        Ok(found) => id.is_of(&found),
-        Err(_) => false,
-    }
 }

@@ -1,7 +1,7 @@
-//! What stands at a path. No contract knows what a path names.
-ghost use Rattle.std.specs.Prelude.{◌≡◌, ◌≢◌, ◌↔◌};
-ghost use Rattle.std.specs.Fs.{IsDir, IsFile, file_type, metadata_len};
-ghost use Rattle.std.specs.IoError.{error_kind};
+//! What stands at a path. No contract knows what a path names: each function asks the system once, and
+//! a function over what it tells says what that means.
+ghost use Rattle.std.specs.Prelude.{◌≡◌, ◌↔◌, IsTrue};
+ghost use Rattle.clear_files.specs.Found.{IsEmptyFile, IsFolder, IsMissing};
 
 use std::fs::Metadata;
 use std::io::ErrorKind;
@@ -21,44 +21,34 @@ pub enum PathKind {
 
 /// Nothing stands at the path, not even a link that leads nowhere.
 pub(crate) fn is_free(rt: &HostRuntime, path: &str) -> bool {
-    match fs::symlink_metadata(rt, path) {
+    is_missing(&fs::symlink_metadata(rt, path))
+}
+
+/// Whether the system told that nothing stands where it was asked.
+pub(crate) fn is_missing(told: &io::Result<Metadata>) -> bool
+    ensures { IsTrue result ↔ IsMissing told.now }
+{
+    match told {
         Ok(_) => false,
-        Err(error) => error.kind() == io::ErrorKind::NotFound,
+        Err(error) => error.kind() == ErrorKind::NotFound,
     }
 }
 
 /// What stands at a path, through links too.
 pub fn path_kind(rt: &HostRuntime, path: &str) -> PathKind {
-    match fs::metadata(rt, path) {
-        Ok(found) => kind_of(&found),
-        Err(error) => kind_without(&error),
-    }
+    kind_of(&fs::metadata(rt, path))
 }
 
-// What it is of which this is told.
-fn kind_of(found: &Metadata) -> PathKind
-    ensures there { result ≢ PathKind.Missing }
-    ensures folder { (result ≡ PathKind.Folder) ↔ IsDir (file_type found.now) }
-    ensures empty { (result ≡ PathKind.Empty)
-        ↔ (IsFile (file_type found.now) × (metadata_len found.now ≡ 0)) }
+// What stands where this was told.
+fn kind_of(told: &io::Result<Metadata>) -> PathKind
+    ensures missing { (result ≡ PathKind.Missing) ↔ IsMissing told.now }
+    ensures folder { (result ≡ PathKind.Folder) ↔ IsFolder told.now }
+    ensures empty { (result ≡ PathKind.Empty) ↔ IsEmptyFile told.now }
 {
-    if found.is_dir() {
-        PathKind::Folder
-    } else if found.is_file() && found.len() == 0 {
-        PathKind::Empty
-    } else {
-        PathKind::Filled
-    }
-}
-
-// What counts as standing there where nothing can be told of it.
-fn kind_without(error: &io::Error) -> PathKind
-    ensures missing { error_kind error.now ≡ ErrorKind.NotFound → result ≡ PathKind.Missing }
-    ensures other { error_kind error.now ≢ ErrorKind.NotFound → result ≡ PathKind.Filled }
-{
-    if error.kind() == ErrorKind::NotFound {
-        PathKind::Missing
-    } else {
-        PathKind::Filled
+    match told {
+        Ok(found) if found.is_dir() => PathKind::Folder,
+        Ok(found) if found.is_file() && found.len() == 0 => PathKind::Empty,
+        Err(error) if error.kind() == ErrorKind::NotFound => PathKind::Missing,
+        Ok(_) | Err(_) => PathKind::Filled,
     }
 }

@@ -92,6 +92,7 @@ struct Behind {
 fn fault_of(fault: ReadFault) -> Fault
     ensures read { result ≡ Fault.Read → fault ≡ ReadFault.Read }
     ensures reads { result ≡ Fault.Reads → fault ≡ ReadFault.Reads }
+    ensures memory { result ≡ Fault.Memory → fault ≡ ReadFault.Memory }
     ensures well { result ≢ Fault.Read → fault ≢ ReadFault.Read }
     ensures write { result ≢ Fault.Write }
 {

@@ -5,7 +5,7 @@ use Rattle.clear_money.specs.RateFile.{rates_of}
 use Rattle.clear_book.specs.declared.calls.Command.TheVariants.{ImportBank}
 use Rattle.clear_callers.specs.CallerFile.{directory_of}
 use Rattle.clear_callers.specs.Callers.{sample_keys}
-use Rattle.clear_check.specs.RateChecks.{SaysRates}
+use Rattle.clear_check.specs.RateChecks.{SaysRates, TellsRates}
 use Rattle.clear_check.specs.CallerChecks.{SaysKeys, TellsWrongKey}
 use Rattle.clear_check.specs.BankChecks.{SaysBank, Tells, bank_of}
 use Rattle.clear_check.specs.declared.Checked.{Checked}
@@ -28,6 +28,7 @@ use Rattle.clear_program.specs.declared.tasks.Work.TheVariants.{Backup, Import, 
 abbrev pub IsChecked : FileKind → List ℕ → Checked → Type 0
 IsChecked Rates bytes checked =
     SaysRates (rates_of bytes) (string_bytes checked.text)
+    × TellsRates bytes (string_bytes checked.text)
     × (checked.good ≡ is_ok (rates_of bytes))
 IsChecked Callers bytes checked =
     SaysKeys (directory_of bytes) (string_bytes checked.text)

@@ -14,11 +14,6 @@ use Rattle.clear_database.specs.declared.body.Stop.{Stop}
 use Rattle.clear_schema.specs.Held.{HasTables, StandsFor}
 use Rattle.clear_database.specs.Still.{Holds, IsStill}
 
--- what holds where something is told, and what follows from it
-pub only_behind : {A E : Type 0} (result : Result A E) (P Q : Type 0) → (P → Q) → OnOk result P → OnOk result Q
-only_behind (Ok told) P Q so right = so right
-only_behind (Err stop) P Q so right = tt
-
 -- a crash leaves what it could leave before, or the tables, which the transaction left as they were
 pub leaves_tables : {S A : Type 0} (g : Ghosts S) (old mid : Held S) (t : Tables) (does : Tables → A → Type 0)
     → ((u : Tables) (out : A) → does u out → u ≡ t)

@@ -15,7 +15,7 @@ use Rattle.clear_database.specs.declared.body.Stop.TheVariants as stop
 use Rattle.clear_schema.specs.declared.fault.Fault.{Fault}
 use Rattle.clear_schema.specs.Held.{HasTables}
 use Rattle.clear_queries.specs.declared.inquiry.Finding.{Finding}
-use Rattle.clear_queries.specs.Findings.{IsTold, Replies, TellsOnlyRight, answer_of}
+use Rattle.clear_queries.specs.Findings.{FindsStatement, IsTold, Replies, TellsOnlyRight, answer_of}
 use Rattle.clear_queries.specs.Inquiries.{Fails, Refuses, Tells}
 
 module _ (day : ℕ) (query : Query) (t : Tables) (db : Database) (has : HasTables t db) (back : day_back t.day day ≡ None) where
@@ -27,7 +27,7 @@ module _ (day : ℕ) (query : Query) (t : Tables) (db : Database) (has : HasTabl
       (λ i. judged_ask (allowed i) (days i) (own_query b query) (answer_to b day query))
 
   pub told : (result : Result Finding (Stop Rule)) → Replies day query t result
-      → IfOk result (λ found. (u : Tables) × ((u ≡ t) × IsTold found t × ((caller : Caller) → may_query caller query ≡ true → Tells (Ask caller day query) t (answer_of t found)) × TellsOnlyRight query t found) × HasTables u db)
+      → IfOk result (λ found. (u : Tables) × ((u ≡ t) × IsTold found t × ((caller : Caller) → may_query caller query ≡ true → Tells (Ask caller day query) t (answer_of t found)) × TellsOnlyRight query t found × FindsStatement query found) × HasTables u db)
   told (Ok found) replies = (
     t,
     (
@@ -37,6 +37,7 @@ module _ (day : ℕ) (query : Query) (t : Tables) (db : Database) (has : HasTabl
           let own = replies.1 b lawful represents in
           asked b represents.stands caller allowed ∙ (λ i. judged_ask true None (own.0 i) (sym own.1 i)),
       replies.2,
+      replies.3,
     ),
     has,
   )

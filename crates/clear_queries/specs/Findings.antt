@@ -3,7 +3,7 @@ use Rattle.std.specs.Prelude.{◌≡◌, ◌==◌, ℕ, List, Some, None, filter
 use Rattle.std.specs.Prelude.{Result, Ok, Err}
 use Rattle.std.specs.List.{AllByRecursion}
 use Rattle.clear_book.specs.declared.calls.Query.{Query}
-use Rattle.clear_book.specs.declared.calls.Query.TheVariants.{Payout, Reminder, Suspense}
+use Rattle.clear_book.specs.declared.calls.Query.TheVariants.{Payout, Reminder, Statement, Suspense}
 use Rattle.clear_book.specs.declared.outcomes.Answer.{Answer}
 use Rattle.clear_book.specs.declared.outcomes.Answer.TheVariants.{Text}
 use Rattle.clear_book.specs.declared.rules.Rule.{Rule}
@@ -19,6 +19,7 @@ use Rattle.clear_reading.specs.Look.{AreFewSuspended}
 use Rattle.clear_reading.specs.Paid.{ArePiecesFor, pieces_for}
 use Rattle.clear_reading.specs.Reader.{AreAddable}
 use Rattle.clear_texts.specs.Paid.{statement_paid}
+use Rattle.clear_texts.specs.declared.records.StatementHead.{StatementHead}
 use Rattle.clear_database.specs.declared.body.Stop.{Stop}
 use Rattle.clear_database.specs.declared.body.Stop.TheVariants as stop
 use Rattle.clear_queries.specs.declared.inquiry.Finding.{Finding}
@@ -71,6 +72,25 @@ abbrev pub TellsOnlyRight : Query → Tables → Finding → Type 0
 TellsOnlyRight query t (finding.Answer answer) = AreRightFor query t
 TellsOnlyRight query t (finding.Document document) = HasRightRows document t → AreRightFor query t
 
+-- for a firm's statement a statement is found
+abbrev pub FindsStatement : Query → Finding → Type 0
+FindsStatement (Statement employer) found =
+    (head : StatementHead) × (found ≡ finding.Document (rows.Statement head))
+FindsStatement query found = Unit {0}
+
+-- the answer is a statement over right pieces of the tables: those of the firm that it names, each in
+-- its ranges and under a charge that it tells
+abbrev pub IsOverRightPieces : Tables → Answer → Type 0
+IsOverRightPieces t answer =
+    (head : StatementHead) × (answer ≡ Text (statement_paid head (pieces_for head t)))
+    × ArePiecesFor head t
+
+-- the answer to a query tells only rows that are right, whatever else the tables hold: a statement's
+-- pieces, the claims on a payout list, the reminders of a run, and the lines in suspense
+abbrev pub IsOverRightRows : Query → Tables → Answer → Type 0
+IsOverRightRows (Statement employer) t answer = IsOverRightPieces t answer
+IsOverRightRows query t answer = AreRightFor query t
+
 -- what is found can be told, where the tables are those of a lawful book
 abbrev pub IsTold : Finding → Tables → Type 0
 IsTold (finding.Answer answer) t = Unit {0}
@@ -83,7 +103,7 @@ Replies day query t (Ok found) =
     IsTold found t
     × ((b : Book) → IsLawful b → Represents b t
     → (own_query b query ≡ None) × (answer_of t found ≡ answer_to b day query))
-    × TellsOnlyRight query t found
+    × TellsOnlyRight query t found × FindsStatement query found
 Replies day query t (Err (stop.Refused why)) =
     (b : Book) → IsLawful b → StandsWeighed b t → own_query b query ≡ Some why
 Replies day query t (Err (stop.Fault fault)) = Fails t fault

@@ -18,7 +18,7 @@ ghost use Rattle.clear_debts.specs.Reads.{LeavesOpen};
 ghost use Rattle.clear_reading.specs.Reader.{TellsDocument, TellsOnlyWhere};
 ghost use Rattle.clear_queries.specs.Findings.{HasRightRows, IsTellable, IsTold, Replies};
 ghost use Rattle.clear_queries.specs.Inquiries.{FailsToTell, Refuses, Tells};
-ghost use Rattle.clear_queries.specs.Findings.{AreRightFor, answer_of, text_of};
+ghost use Rattle.clear_queries.specs.Findings.{IsOverRightRows, answer_of, text_of};
 
 use clear_book::calls::Query;
 use clear_book::documents::Document;
@@ -100,11 +100,11 @@ pub fn inquire<S: Alter>(
         → IfOk result (λ answer. ((caller : Caller) → may_query caller query.now ≡ true
         → Tells (Ask caller day query.now) t answer)
         × Holds S.Store conn.new t) }
-    // A list, a run and the lines in suspense are told only where their rows are right, whatever
-    // else the tables hold.
+    // A statement, a list, a run and the lines in suspense are told only where their rows are right,
+    // whatever else the tables hold.
     ensures only { HasCleanDisk (state S.Store conn.new)
         → (t : Tables) → HasTables t (state S.Store conn.old).now
-        → OnOk result (AreRightFor query.now t) }
+        → IfOk result (IsOverRightRows query.now t) }
     ensures refused { HasCleanDisk (state S.Store conn.new)
         → (t : Tables) → HasTables t (state S.Store conn.old).now
         → IfErr result (λ stop. (why : _) → stop ≡ Stop.Refused why
@@ -198,7 +198,7 @@ impl Body for Inquiry<'_> {
     ghost use Rattle.clear_book.specs.declared.calls.Caller.{Caller};
     ghost use Rattle.clear_book.specs.declared.calls.Call.TheVariants.{Ask};
     ghost use Rattle.clear_book.specs.Calls.{may_query};
-    ghost use Rattle.clear_queries.specs.Findings.{IsTold, TellsOnlyRight, answer_of};
+    ghost use Rattle.clear_queries.specs.Findings.{FindsStatement, IsTold, TellsOnlyRight, answer_of};
     ghost use Rattle.clear_queries.specs.Inquiries.{Fails, Refuses, Tells};
 
     type Out = Finding;
@@ -208,7 +208,7 @@ impl Body for Inquiry<'_> {
     ghost does = { λ self t u found. (u ≡ t) × IsTold found t
         × ((caller : Caller) → may_query caller self.query.now ≡ true
         → Tells (Ask caller self.day self.query.now) t (answer_of t found))
-        × TellsOnlyRight self.query.now t found };
+        × TellsOnlyRight self.query.now t found × FindsStatement self.query.now found };
 
     ghost refuses = { λ self t why. (caller : Caller) → may_query caller self.query.now ≡ true
         → Refuses (Ask caller self.day self.query.now) t why };

@@ -69,7 +69,8 @@ struct Talked {
 /// Each connection that is taken counts. Before it is served, the store has to stand at its path, with
 /// its log beside it: where one has gone, nothing more is served. One that the system refuses, as for
 /// want of descriptors, counts, too, is told, and takes a tenth of a second; after more than a hundred
-/// in turn nothing more is served. Of the connection before which serving ends nothing is told.
+/// in turn nothing more is served. Where not all are served, fewer lines tell of connections than were
+/// to be served.
 ///
 /// A peer has 30 seconds for a request, and 10 for each read and each write. Without a request its
 /// connection may stay open for 30 seconds, or until another one waits; a new one is left a second

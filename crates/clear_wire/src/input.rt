@@ -148,6 +148,8 @@ impl<R: NotedRead> Input<R> {
         ensures few { length (unused_of self.new) ≤ length (unused_of self.old) + CHUNK }
         ensures turn { IfOk result (λ _. reads_made self.new ≡ reads_made self.old + 1) }
         ensures limit { result ≡ Err ReadFault.Reads → reads_made self.new ≡ MAX_READS }
+        ensures memory { result ≡ Err ReadFault.Memory → reads_made self.new ≢ MAX_READS }
+        ensures spent { reads_made self.old ≡ MAX_READS → result ≡ Err ReadFault.Reads }
         ensures fault { NotesFault R.noted self.old self.new result }
         ensures reads { CountsReads R.noted self.old self.new }
         ensures borrow { KeepsBorrow R.noted self.old self.new }
@@ -187,6 +189,7 @@ impl<R: NotedRead> Input<R> {
         ensures skips { Leads (λ old new. skip_empty_lines new ≡ skip_empty_lines old)
             (unread R.remaining self.old) (unread R.remaining self.new) }
         ensures fewer { length (unused_of self.new) ≤ length (unused_of self.old) }
+        ensures made { reads_made self.new ≡ reads_made self.old }
         ensures failed { failed_of R.noted self.new ≡ failed_of R.noted self.old }
         ensures reads { CountsReads R.noted self.old self.new }
         ensures borrow { KeepsBorrow R.noted self.old self.new }
@@ -210,6 +213,9 @@ impl<R: NotedRead> Input<R> {
             < max (length (unused_of self.old) + 1) (2 + CHUNK) }
         ensures end { result ≡ Ok false → IsAtEnd (R.remaining (reader_of self.new)) }
         ensures limit { result ≡ Err ReadFault.Reads → reads_made self.new ≡ MAX_READS }
+        ensures memory { result ≡ Err ReadFault.Memory → reads_made self.new ≢ MAX_READS }
+        ensures spent { reads_made self.old ≡ MAX_READS → unused_of self.old ≡ []
+            → result ≡ Err ReadFault.Reads }
         ensures fault { NotesFault R.noted self.old self.new result }
         ensures reads { CountsReads R.noted self.old self.new }
         ensures borrow { KeepsBorrow R.noted self.old self.new }
@@ -238,6 +244,7 @@ impl<R: NotedRead> Input<R> {
             < max (length (unused_of self.old) + 1) (head_room place + CHUNK))) }
         ensures some { IfOk result (λ place. place ≢ Place.Nothing) }
         ensures limit { result ≡ Err ReadFault.Reads → reads_made self.new ≡ MAX_READS }
+        ensures memory { result ≡ Err ReadFault.Memory → reads_made self.new ≢ MAX_READS }
         ensures fault { NotesFault R.noted self.old self.new result }
         ensures reads { CountsReads R.noted self.old self.new }
         ensures borrow { KeepsBorrow R.noted self.old self.new }
@@ -269,6 +276,9 @@ impl<R: NotedRead> Input<R> {
         ensures end { IsOkAnd result (λ place. place ≡ Place.Nothing)
             → IsAtEnd (R.remaining (reader_of self.new)) }
         ensures limit { result ≡ Err ReadFault.Reads → reads_made self.new ≡ MAX_READS }
+        ensures memory { result ≡ Err ReadFault.Memory → reads_made self.new ≢ MAX_READS }
+        ensures spent { reads_made self.old ≡ MAX_READS → unused_of self.old ≡ []
+            → result ≡ Err ReadFault.Reads }
         ensures fault { NotesFault R.noted self.old self.new result }
         ensures reads { CountsReads R.noted self.old self.new }
         ensures borrow { KeepsBorrow R.noted self.old self.new }
@@ -291,6 +301,9 @@ impl<R: NotedRead> Input<R> {
         ensures short { result ≡ Ok false → length (unused_of self.new) < len }
         ensures end { result ≡ Ok false → IsAtEnd (R.remaining (reader_of self.new)) }
         ensures limit { result ≡ Err ReadFault.Reads → reads_made self.new ≡ MAX_READS }
+        ensures memory { result ≡ Err ReadFault.Memory → reads_made self.new ≢ MAX_READS }
+        ensures spent { reads_made self.old ≡ MAX_READS → length (unused_of self.old) < len
+            → result ≡ Err ReadFault.Reads }
         ensures fault { NotesFault R.noted self.old self.new result }
         ensures reads { CountsReads R.noted self.old self.new }
         ensures borrow { KeepsBorrow R.noted self.old self.new }
@@ -313,6 +326,8 @@ impl<R: NotedRead> Input<R> {
         ensures ahead { len ≤ body_limit → IfOk result (λ item. length (unused_of self.new)
             < max (length (unused_of self.old) + 1) (held_limit item)) }
         ensures limit { result ≡ Err ReadFault.Reads → reads_made self.new ≡ MAX_READS }
+        ensures spent { reads_made self.old ≡ MAX_READS → length (unused_of self.old) < len
+            → result ≡ Err ReadFault.Reads }
         ensures fault { NotesFault R.noted self.old self.new result }
         ensures reads { CountsReads R.noted self.old self.new }
         ensures borrow { KeepsBorrow R.noted self.old self.new }

@@ -1,5 +1,5 @@
 //! What a stream goes on with: its requests and its end.
-ghost use Rattle.std.specs.Prelude.{◌≡◌, ◌+◌, ◌<◌, true, false, IfOk, IsOkAnd, Ok, Err, length, max};
+ghost use Rattle.std.specs.Prelude.{◌≡◌, ◌+◌, ◌<◌, true, false, [], IfOk, IsOkAnd, Ok, Err, length, max};
 ghost use Rattle.std.specs.Io.KnownBytes.{IsAtEnd};
 ghost use Rattle.clear_wire.specs.Input.{reader_of, unused_of, reads_made, has_ended};
 ghost use Rattle.clear_wire.specs.Input.{unread, stream};
@@ -45,7 +45,7 @@ fn is_last(next: &Result<Item, ReadFault>) -> bool
 ///
 /// After all but a whole request the stream has ended: a further call reads nothing and gives
 /// `Item::End`. The fault `Read` comes just if a call of the reader failed, and `Reads` only once
-/// all reads that a stream may make were made.
+/// all reads that a stream may make were made; then it always comes where no byte is held.
 pub fn read_request<R: NotedRead>(input: &mut Input<R>) -> Result<Item, ReadFault>
     ensures next { IfOk result (λ item. Leads (λ bytes rest. Next bytes (next_item item) rest)
         (stream R.remaining input.old) (stream R.remaining input.new)) }
@@ -57,6 +57,8 @@ pub fn read_request<R: NotedRead>(input: &mut Input<R>) -> Result<Item, ReadFaul
     ensures ahead { IfOk result (λ item. length (unused_of input.new)
         < max (length (unused_of input.old) + 1) (held_limit item)) }
     ensures limit { result ≡ Err ReadFault.Reads → reads_made input.new ≡ MAX_READS }
+    ensures spent { has_ended input.old ≡ false → reads_made input.old ≡ MAX_READS
+        → unused_of input.old ≡ [] → result ≡ Err ReadFault.Reads }
     ensures fault { NotesFault R.noted input.old input.new result }
     ensures reads { CountsReads R.noted input.old input.new }
     ensures borrow { KeepsBorrow R.noted input.old input.new }
@@ -79,6 +81,8 @@ fn read_item<R: NotedRead>(input: &mut Input<R>) -> Result<Item, ReadFault>
     ensures ahead { IfOk result (λ item. length (unused_of input.new)
         < max (length (unused_of input.old) + 1) (held_limit item)) }
     ensures limit { result ≡ Err ReadFault.Reads → reads_made input.new ≡ MAX_READS }
+    ensures spent { reads_made input.old ≡ MAX_READS → unused_of input.old ≡ []
+        → result ≡ Err ReadFault.Reads }
     ensures fault { NotesFault R.noted input.old input.new result }
     ensures reads { CountsReads R.noted input.old input.new }
     ensures borrow { KeepsBorrow R.noted input.old input.new }

@@ -1,19 +1,17 @@
 //! A second look at a bank file that isn't taken: what stands at its fault.
 //!
-//! Which fault is told is the reader's and proved, and so is what stands there. Of the record that a
-//! reference stands in already only that it stays in one line is promised, which `Seen` keeps, and tests
-//! on real files compare its number.
+//! Which fault is told is the reader's and proved, and so is what stands there: the value of the field, the
+//! number of fields, what the header has, or the reference and the record that it stands in already.
 ghost use Rattle.std.specs.Prelude.{◌≡◌, map, option_map, IfOk, IfSome};
 ghost use Rattle.csv.specs.Records.{fields_of};
-ghost use Rattle.clear_bank.specs.declared.fields.BankField.TheVariants.{Reference};
-ghost use Rattle.clear_check.specs.BankFound.{IsFoundIn, bytes_in, header_found, name_found};
-ghost use Rattle.clear_check.specs.BankFound.{record_found, record_of};
-ghost use Rattle.clear_check.specs.Shown.{shown, shown_byte};
+ghost use Rattle.clear_check.specs.BankFound.{IsFoundIn, conflict_found, first_with, header_found};
+ghost use Rattle.clear_check.specs.BankFound.{name_found, record_found};
+ghost use Rattle.clear_check.specs.Shown.{IsShown, alone};
 
 use crate::records::{bytes_in, record_at};
 use crate::seen::Seen;
 use crate::texts::{plural, shown};
-use clear_bank::fault::BankFault;
+use clear_bank::fault::{BankFault, FIRST_ROW};
 use clear_bank::fields::{BankField, RecordFault};
 use csv::ByteRecord;
 use std::alloc::{AllocError, Global};
@@ -40,8 +38,8 @@ fn wrong_header(
     header: Option<&ByteRecord>,
     fault: RecordFault,
 ) -> Result<Seen, AllocError>
-    ensures { IfOk result (λ seen. seen.here ≡ map shown_byte
-        (header_found (option_map (λ row. fields_of row.now) header.entry) fault)) }
+    ensures { IfOk result (IsShown (alone
+        (header_found (option_map (λ row. fields_of row.now) header.entry) fault))) }
 {
     let Some(header) = header else {
         return Seen::new(alloc, &["the file is empty"], &[]);
@@ -58,8 +56,7 @@ fn wrong_header(
 
 // What stands in the place of a field's name.
 fn wrong_name(alloc: Global, header: &ByteRecord, field: BankField) -> Result<Seen, AllocError>
-    ensures { IfOk result (λ seen.
-        seen.here ≡ map shown_byte (name_found (fields_of header.now) field)) }
+    ensures { IfOk result (IsShown (alone (name_found (fields_of header.now) field))) }
 {
     let value = bytes_in(header, field);
     if value == field.name().as_bytes() {
@@ -81,7 +78,7 @@ fn wrong_field(
     ensures { IfOk result (λ seen. IfSome
         (option_map (λ fields. record_found fields fault)
         (option_map (λ row. fields_of row.now) row.entry))
-        (λ text. seen.here ≡ map shown_byte text)) }
+        (λ text. IsShown (alone text) seen)) }
 {
     let Some(row) = row else {
         return Seen::nothing(alloc);
@@ -99,30 +96,34 @@ fn wrong_field(
     }
 }
 
-// The reference of a record, and the number of the first that has the same.
+// The reference of a record, and the number of the record that it stands in already.
 fn conflict(alloc: Global, records: &[ByteRecord], line: usize) -> Result<Seen, AllocError>
-    ensures { IfOk result (λ seen. IfSome
-        (option_map (λ fields. shown (bytes_in fields Reference))
-        (record_of line (map fields_of records.now)))
-        (λ text. seen.here ≡ map shown_byte text)) }
+    ensures { IfOk result (λ seen. IfSome (conflict_found line (map fields_of records.now))
+        (λ told. IsShown told seen)) }
 {
     let Some(record) = record_at(records, line) else {
         return Seen::nothing(alloc);
     };
     let reference = bytes_in(record, BankField::Reference);
+    let Some((_, rows)) = records.split_first() else {
+        return Seen::nothing(alloc);
+    };
+    let Some(first) = first_with(rows, reference) else {
+        return Seen::nothing(alloc);
+    };
     let here = shown(alloc, reference)?;
-    let other = first_with(records, reference).to_string(alloc)?;
+    let other = first.to_string(alloc)?;
     Seen::new(alloc, &[here.as_str()], &[other.as_str()])
 }
 
-// The number of the first record that has this reference.
-fn first_with(records: &[ByteRecord], reference: &[u8]) -> usize {
-    let mut number = 1usize;
-    for record in records {
-        if bytes_in(record, BankField::Reference) == reference {
-            return number;
+// The number of the first record that has this reference, of those behind the header.
+fn first_with(rows: &[ByteRecord], reference: &[u8]) -> Option<usize>
+    ensures { result ≡ first_with reference.now (map fields_of rows.now) }
+{
+    for (place, row) in rows.iter().enumerate() {
+        if bytes_in(row, BankField::Reference) == reference {
+            return Some(place + FIRST_ROW);
         }
-        number = number.saturating_add(1);
     }
-    number
+    None
 }

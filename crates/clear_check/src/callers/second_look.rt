@@ -1,8 +1,7 @@
 //! A second look at a caller file that isn't taken: what stands at its first fault.
 //!
-//! Which fault is told is the reader's and proved, and so is which key it is found at, and why. Of where
-//! bytes are no document only that it stays in one line is promised, which `Seen` keeps, and tests on
-//! real files compare its words.
+//! Which fault is told is the reader's and proved, and so is which key it is found at, and why. Where
+//! bytes are no document, `no_document` tells it.
 ghost use Rattle.std.specs.Prelude.{◌≡◌, ℕ, List, IfOk, IfSome, Some, is_none, is_some};
 ghost use Rattle.std.specs.Prelude.{string_bytes};
 ghost use Rattle.toml.specs.Data.{Data, Members};

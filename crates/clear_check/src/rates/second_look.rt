@@ -1,8 +1,18 @@
 //! A second look at a rate file that isn't taken: what stands at its fault.
 //!
-//! It has no contract. Which fault is told is the reader's and proved; of what is found beside it
-//! only that it stays in one line is promised, which `Seen` keeps, and tests on real files compare
-//! its words.
+//! Which fault is told is the reader's and proved, and so is what stands there. Where bytes are no
+//! document, `no_document` tells it.
+ghost use Rattle.std.specs.Prelude.{◌≡◌, ◌∷◌, ◌++◌, [], map, codes, Some, IfOk, IfSome, option_map};
+ghost use Rattle.std.specs.Prelude.{option_and_then, is_none, is_some, slice_get};
+ghost use Rattle.toml.specs.Data.{Members, get, get_member};
+ghost use Rattle.toml.specs.View.{table_view, view};
+ghost use Rattle.clear_money.specs.RateFile.{document_of};
+ghost use Rattle.clear_money.specs.WrittenRate.{month_spelled, number_of, text_of, within};
+ghost use Rattle.clear_check.specs.RateFound.{IsFoundIn, first_of, first_other, members_wrong};
+ghost use Rattle.clear_check.specs.RateFound.{month_wrong, no_month, number_text, numbers_wrong};
+ghost use Rattle.clear_check.specs.RateFound.{order_found, outside_found, ranged, row_of};
+ghost use Rattle.clear_check.specs.RateFound.{row_wrong, value_wrong, why_wrong};
+ghost use Rattle.clear_check.specs.Shown.{IsShown, alone};
 
 use crate::document::no_document;
 use crate::seen::Seen;
@@ -14,71 +24,166 @@ use clear_money::rates::RateRow;
 use std::alloc::{AllocError, Global};
 use toml::{Table, Value};
 
-// The members that are numbers, with the least and the greatest that each can be.
-const NUMBERS: [(&str, i64, i64); 5] = [
-    ("contribution", 0, RateRow::MAX_SHARE as i64),
-    ("report_day", 1, RateRow::LAST_DAY as i64),
-    ("due_day", 1, RateRow::LAST_DAY as i64),
-    ("interest", 0, RateRow::MAX_INTEREST_RATE as i64),
-    ("entitlement", 0, RateRow::MAX_SHARE as i64),
+// A member that is a number, with the least and the greatest that it can be.
+#[derive(Clone, Copy)]
+struct NumberRange {
+    name: &'static str,
+    least: u16,
+    greatest: u16,
+}
+
+// The members that are numbers.
+const NUMBERS: [NumberRange; 5] = [
+    NumberRange {
+        name: "contribution",
+        least: 0,
+        greatest: RateRow::MAX_SHARE,
+    },
+    NumberRange {
+        name: "report_day",
+        least: 1,
+        greatest: RateRow::LAST_DAY as u16,
+    },
+    NumberRange {
+        name: "due_day",
+        least: 1,
+        greatest: RateRow::LAST_DAY as u16,
+    },
+    NumberRange {
+        name: "interest",
+        least: 0,
+        greatest: RateRow::MAX_INTEREST_RATE,
+    },
+    NumberRange {
+        name: "entitlement",
+        least: 0,
+        greatest: RateRow::MAX_SHARE,
+    },
 ];
 
+// A number that is out of its range.
+#[derive(Clone, Copy)]
+struct OutOfRange {
+    range: NumberRange,
+    number: i64,
+}
+
+// What is wrong with a member of this name.
+#[derive(Clone, Copy)]
+struct WrongMember<'a> {
+    name: &'a str,
+    why: &'static str,
+}
+
 // What stands at a fault.
-pub(crate) fn look_at(alloc: Global, bytes: &[u8], fault: RateFault) -> Result<Seen, AllocError> {
-    let document = match toml::table_from_slice(alloc, bytes) {
-        Ok(document) => document,
-        Err(error) => return no_document(alloc, bytes, &error),
-    };
+pub(crate) fn look_at(alloc: Global, bytes: &[u8], fault: RateFault) -> Result<Seen, AllocError>
+    ensures { (document : Members) → document_of bytes.now ≡ Some document
+        → IfOk result (IsFoundIn document fault) }
+{
+    match toml::table_from_slice(alloc, bytes) {
+        Ok(document) => look_in(alloc, &document, fault),
+        Err(error) if error.is_memory() => Err(AllocError),
+        Err(error) => no_document(alloc, bytes, &error),
+    }
+}
+
+// What stands at a fault of a document.
+fn look_in(alloc: Global, document: &Table, fault: RateFault) -> Result<Seen, AllocError>
+    ensures { IfOk result (IsFoundIn (table_view document.now) fault) }
+{
     match fault {
-        RateFault::Field(0) => outside_rows(alloc, &document),
-        RateFault::Field(number) => wrong_member(alloc, row(&document, number)),
-        RateFault::Range(number) => out_of_range(alloc, row(&document, number)),
-        RateFault::Order(number) => out_of_order(alloc, &document, number),
+        RateFault::Field(0) => outside_rows(alloc, document),
+        RateFault::Field(number) => wrong_member(alloc, row(document, number)),
+        RateFault::Range(number) => out_of_range(alloc, row(document, number)),
+        RateFault::Order(number) => out_of_order(alloc, document, number),
         RateFault::Text | RateFault::Empty | RateFault::Memory => Seen::nothing(alloc),
     }
 }
 
 // The row of a number, counted from 1.
-fn row(document: &Table, number: usize) -> Option<&Value> {
-    let rows = document.get("rate")?.as_array()?;
-    rows.get(number.checked_sub(1)?)
+fn row(document: &Table, number: usize) -> Option<&Value>
+    ensures { option_map (λ row. view row.now) result ≡ row_of number (table_view document.now) }
+{
+    if number == 0 {
+        return None;
+    }
+    rows_in(document)?.get(number - 1)
+}
+
+// The member that has the rows.
+fn rows_in(document: &Table) -> Option<&Value>
+    ensures { option_map (λ rows. view rows.now) result
+        ≡ get_member (codes "rate") (table_view document.now) }
+{
+    document.get("rate")
 }
 
 // What stands at the top level and isn't the array of rows.
-fn outside_rows(alloc: Global, document: &Table) -> Result<Seen, AllocError> {
-    for (name, _) in document {
-        if name.as_str() != "rate" {
-            let name = shown(alloc, name.as_str().as_bytes())?;
-            return Seen::new(alloc, &[name.as_str(), " is no member of a rate file"], &[]);
+fn outside_rows(alloc: Global, document: &Table) -> Result<Seen, AllocError>
+    ensures { IfOk result (IsShown (alone (outside_found
+        (first_other (codes "rate" ∷ []) (table_view document.now))))) }
+{
+    match first_other(document, &["rate"]) {
+        Some(name) => {
+            let name = shown(alloc, name.as_bytes())?;
+            Seen::new(alloc, &[name.as_str(), " is no member of a rate file"], &[])
+        }
+        None => Seen::new(alloc, &["rate is no array of tables, [[rate]]"], &[]),
+    }
+}
+
+// The first member that has none of these names.
+fn first_other<'a>(table: &'a Table, names: &[&str]) -> Option<&'a str>
+    ensures { option_map (λ name. name.now) result
+        ≡ first_other (map (λ name. name.now) names.now) (table_view table.now) }
+{
+    for (name, _) in table {
+        if !is_one_of(name.as_str(), names) {
+            return Some(name.as_str());
         }
     }
-    Seen::new(alloc, &["rate is no array of tables, [[rate]]"], &[])
+    None
 }
 
 // In what a row isn't a table of exactly its members.
-fn wrong_member(alloc: Global, row: Option<&Value>) -> Result<Seen, AllocError> {
+fn wrong_member(alloc: Global, row: Option<&Value>) -> Result<Seen, AllocError>
+    ensures { IfOk result (λ seen. IfSome
+        (option_and_then row_wrong (option_map (λ row. view row.now) row.entry))
+        (λ why. IsShown (alone why) seen)) }
+{
     let Some(row) = row else {
         return Seen::nothing(alloc);
     };
     let Some(members) = row.as_table() else {
         return Seen::new(alloc, &["it is no table"], &[]);
     };
-    for (name, _) in members {
-        if !is_one_of(name.as_str(), &ROW_MEMBERS) {
-            let name = shown(alloc, name.as_str().as_bytes())?;
-            return Seen::new(alloc, &[name.as_str(), " is no member of a row"], &[]);
+    if let Some(name) = first_other(members, &ROW_MEMBERS) {
+        let name = shown(alloc, name.as_bytes())?;
+        return Seen::new(alloc, &[name.as_str(), " is no member of a row"], &[]);
+    }
+    match first_wrong(row, &ROW_MEMBERS) {
+        Some(wrong) => Seen::new(alloc, &[wrong.name, wrong.why], &[]),
+        None => Seen::nothing(alloc),
+    }
+}
+
+// The first of these members that isn't as it has to be.
+fn first_wrong<'a>(row: &Value, names: &[&'a str]) -> Option<WrongMember<'a>>
+    ensures { option_map (λ wrong. wrong.name.now ++ wrong.why.now) result
+        ≡ slice_get (members_wrong (view row.now) (map (λ name. name.now) names.now)) 0 }
+{
+    for name in names {
+        if let Some(why) = member_fault(row, name) {
+            return Some(WrongMember { name, why });
         }
     }
-    for name in ROW_MEMBERS {
-        if let Some(fault) = member_fault(row, name) {
-            return Seen::new(alloc, &[name, fault], &[]);
-        }
-    }
-    Seen::nothing(alloc)
+    None
 }
 
 // Why the member of this name isn't as it has to be.
-fn member_fault(row: &Value, name: &str) -> Option<&'static str> {
+fn member_fault(row: &Value, name: &str) -> Option<&'static str>
+    ensures { option_map (λ why. why.now) result ≡ why_wrong name.now (get name.now (view row.now)) }
+{
     match row.get(name) {
         None => Some(" is missing"),
         Some(value) if name == "from" && !value.is_str() => Some(" is no text"),
@@ -88,64 +193,113 @@ fn member_fault(row: &Value, name: &str) -> Option<&'static str> {
 }
 
 // The first value of a row that is out of its range, and what it can be.
-fn out_of_range(alloc: Global, row: Option<&Value>) -> Result<Seen, AllocError> {
+fn out_of_range(alloc: Global, row: Option<&Value>) -> Result<Seen, AllocError>
+    ensures { IfOk result (λ seen. IfSome
+        (option_and_then value_wrong (option_map (λ row. view row.now) row.entry))
+        (λ told. IsShown told seen)) }
+{
     let Some(row) = row else {
         return Seen::nothing(alloc);
     };
-    let from = text_of(row);
-    if Month::read(from.as_bytes()).is_none() {
+    if let Some(from) = wrong_month(row) {
         let from = shown(alloc, from.as_bytes())?;
         let other = ["a month, YYYY-MM, 2000-01 to 2199-12"];
         return Seen::new(alloc, &["from is ", from.as_str()], &other);
     }
-    for (name, least, greatest) in NUMBERS {
-        let number = number_of(row, name);
-        if number < least || number > greatest {
-            return out_of(alloc, name, number, least, greatest);
-        }
+    match first_out(row, &NUMBERS) {
+        Some(out) => out_of(alloc, out),
+        None => Seen::nothing(alloc),
     }
-    Seen::nothing(alloc)
 }
 
-// A number of this name that isn't from the least to the greatest.
-fn out_of(
-    alloc: Global,
-    name: &str,
-    number: i64,
-    least: i64,
-    greatest: i64,
-) -> Result<Seen, AllocError> {
-    let number = number.to_string(alloc)?;
-    let least = least.to_string(alloc)?;
-    let greatest = greatest.to_string(alloc)?;
-    let here = [name, " is ", number.as_str()];
+// What a row has as its first month, where that is no month.
+fn wrong_month(row: &Value) -> Option<&str>
+    ensures { option_map (λ text. no_month text.now) result
+        ≡ option_and_then month_wrong (text_of (codes "from") (view row.now)) }
+{
+    let from = text_of(row, "from")?;
+    if is_month(from) { None } else { Some(from) }
+}
+
+fn is_month(text: &str) -> bool
+    ensures { result ≡ is_some (month_spelled text.now) }
+{
+    Month::read(text.as_bytes()).is_some()
+}
+
+// The first of these numbers of a row that is out of its range.
+fn first_out(row: &Value, ranges: &[NumberRange]) -> Option<OutOfRange>
+    ensures { option_map (λ out. number_text (ranged out.range) out.number) result
+        ≡ slice_get (numbers_wrong (view row.now) (map ranged ranges.now)) 0 }
+{
+    for range in ranges {
+        if let Some(number) = number_of(row, range.name) {
+            if is_out(number, range.least, range.greatest) {
+                return Some(OutOfRange {
+                    range: *range,
+                    number,
+                });
+            }
+        }
+    }
+    None
+}
+
+// Whether a number isn't from the least to the greatest.
+fn is_out(number: i64, least: u16, greatest: u16) -> bool
+    ensures { result ≡ is_none (within least greatest number) }
+{
+    match u16::try_from(number) {
+        Ok(number) => number < least || number > greatest,
+        Err(_) => true,
+    }
+}
+
+// A number that is out of its range, and what it can be.
+fn out_of(alloc: Global, out: OutOfRange) -> Result<Seen, AllocError>
+    ensures { IfOk result (IsShown (number_text (ranged out.range) out.number)) }
+{
+    let number = out.number.to_string(alloc)?;
+    let least = out.range.least.to_string(alloc)?;
+    let greatest = out.range.greatest.to_string(alloc)?;
+    let here = [out.range.name, " is ", number.as_str()];
     let other = [least.as_str(), " to ", greatest.as_str()];
     Seen::new(alloc, &here, &other)
 }
 
 // The first months of a row and of that before it.
-fn out_of_order(alloc: Global, document: &Table, number: usize) -> Result<Seen, AllocError> {
-    let before = number.saturating_sub(1);
-    let (Some(this), Some(before)) = (row(document, number), row(document, before)) else {
+fn out_of_order(alloc: Global, document: &Table, number: usize) -> Result<Seen, AllocError>
+    ensures { IfOk result (λ seen. IfSome (order_found number (table_view document.now))
+        (λ told. IsShown told seen)) }
+{
+    let Some(first) = first_of(document, number) else {
         return Seen::nothing(alloc);
     };
-    let here = shown(alloc, text_of(this).as_bytes())?;
-    let other = shown(alloc, text_of(before).as_bytes())?;
+    let Some(before) = first_of(document, number.saturating_sub(1)) else {
+        return Seen::nothing(alloc);
+    };
+    let here = shown(alloc, first.as_bytes())?;
+    let other = shown(alloc, before.as_bytes())?;
     Seen::new(alloc, &[here.as_str()], &[other.as_str()])
 }
 
-// What a row has as its first month. Empty where it has no text there.
-fn text_of(row: &Value) -> &str {
-    match row.get("from") {
-        Some(value) => value.as_str().unwrap_or(""),
-        None => "",
-    }
+// The text in which the row of a number has its first month.
+fn first_of(document: &Table, number: usize) -> Option<&str>
+    ensures { option_map (λ text. text.now) result ≡ first_of number (table_view document.now) }
+{
+    text_of(row(document, number)?, "from")
 }
 
-// What a row has as the number of this name. 0 where it has no whole number there.
-fn number_of(row: &Value, name: &str) -> i64 {
-    match row.get(name) {
-        Some(value) => value.as_integer().unwrap_or(0),
-        None => 0,
-    }
+// The text that a row has under this name.
+fn text_of<'a>(row: &'a Value, name: &str) -> Option<&'a str>
+    ensures { option_map (λ text. text.now) result ≡ text_of name.now (view row.now) }
+{
+    row.get(name)?.as_str()
+}
+
+// The whole number that a row has under this name.
+fn number_of(row: &Value, name: &str) -> Option<i64>
+    ensures { result ≡ number_of name.now (view row.now) }
+{
+    row.get(name)?.as_integer()
 }

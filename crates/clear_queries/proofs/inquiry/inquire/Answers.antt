@@ -9,17 +9,18 @@ use Rattle.clear_book.specs.Tables.{Tables}
 use Rattle.std.proofs.lemmas.Result.{IfErr-weaker, err_from_is_err_and}
 use Rattle.clear_laws.proofs.WeighedLemmas.{stands_weighed}
 use Rattle.clear_schema.specs.Held.{HasTables, StandsFor}
-use Rattle.clear_queries.specs.Findings.{AreRightFor, IsTold, TellsOnlyRight, answer_of}
+use Rattle.clear_queries.specs.Findings.{FindsStatement, IsTold, TellsOnlyRight, answer_of}
 use Rattle.clear_queries.specs.Inquiries.{Tells}
 use Rattle.clear_queries.specs.declared.inquiry.Finding.{Finding}
 use Rattle.clear_queries.specs.declared.inquiry.Finding.TheVariants as finding
-use Rattle.clear_queries.proofs.BehindLemmas.{leaves_tables, only_behind, told_behind}
+use Rattle.clear_queries.proofs.BehindLemmas.{leaves_tables, told_behind}
+use Rattle.clear_queries.proofs.StatementLemmas.{answer_right, document_right}
 use Rattle.clear_queries.proofs.inquiry.inquire.Goals as goal
 
 pub returns-in-Answer-clause-crash : goal.returns-in-Answer-clause-crash
 returns-in-Answer-clause-crash g c clean t has trees may =
     leaves_tables g.S.Store c.args.conn.now c.within.new.conn t
-    (λ (u : Tables) (found : Finding). (u ≡ t) × IsTold found t × ((caller : Caller) → may_query caller c.args.query.now ≡ true → Tells (Ask caller c.args.day c.args.query.now) t (answer_of t found)) × TellsOnlyRight c.args.query.now t found)
+    (λ (u : Tables) (found : Finding). (u ≡ t) × IsTold found t × ((caller : Caller) → may_query caller c.args.query.now ≡ true → Tells (Ask caller c.args.day c.args.query.now) t (answer_of t found)) × TellsOnlyRight c.args.query.now t found × FindsStatement c.args.query.now found)
     (λ u found does. does.0) (c.within.ensures.crash t has) clean trees may
 
 pub returns-in-Document-clause-told : goal.returns-in-Document-clause-told
@@ -46,7 +47,7 @@ returns-in-Document-clause-crash g c clean t has trees may =
     let now : HasTables t (state g.S.Store mid).now = subst (λ (u : Tables). HasTables u (state g.S.Store mid).now) done.1.0 done.2 in
     elim ((c.tell_document.ensures.survives t now).crash clean trees may) [
       | inl then ↦ leaves_tables g.S.Store c.args.conn.now mid t
-          (λ (u : Tables) (found : Finding). (u ≡ t) × IsTold found t × ((caller : Caller) → may_query caller c.args.query.now ≡ true → Tells (Ask caller c.args.day c.args.query.now) t (answer_of t found)) × TellsOnlyRight c.args.query.now t found)
+          (λ (u : Tables) (found : Finding). (u ≡ t) × IsTold found t × ((caller : Caller) → may_query caller c.args.query.now ≡ true → Tells (Ask caller c.args.day c.args.query.now) t (answer_of t found)) × TellsOnlyRight c.args.query.now t found × FindsStatement c.args.query.now found)
           (λ u found does. does.0) (c.within.ensures.crash t has) before trees then
       | inr none ↦ absurd none
     ]
@@ -66,11 +67,13 @@ returns-in_err-answer-clause-failed g c clean t has =
 
 pub returns-in-Answer-clause-only : goal.returns-in-Answer-clause-only
 returns-in-Answer-clause-only g c clean t has =
-    subst (TellsOnlyRight c.args.query.now t) c.in-Answer.is (c.in_ok-answer.ensures.done clean t has).1.3
+    let done = c.in_ok-answer.ensures.done clean t has in
+    answer_right c.args.query.now t _ (subst (TellsOnlyRight c.args.query.now t) c.in-Answer.is done.1.3) (subst (FindsStatement c.args.query.now) c.in-Answer.is done.1.4)
 
 pub returns-in-Document-clause-only : goal.returns-in-Document-clause-only
 returns-in-Document-clause-only g c clean t has =
     let mid = c.within.new.conn in
     let done = c.in_ok-answer.ensures.done (c.tell_document.ensures.clean clean) t has in
     let now : HasTables t (state g.S.Store mid).now = subst (λ (u : Tables). HasTables u (state g.S.Store mid).now) done.1.0 done.2 in
-    only_behind c.tell_document.result _ (AreRightFor c.args.query.now t) (subst (TellsOnlyRight c.args.query.now t) c.in-Document.is done.1.3) (c.tell_document.ensures.only clean t now)
+    document_right c.args.query.now t c.in-Document.document (subst (TellsOnlyRight c.args.query.now t) c.in-Document.is done.1.3) (subst (FindsStatement c.args.query.now) c.in-Document.is done.1.4)
+    c.tell_document.result (c.tell_document.ensures.told clean t now) (c.tell_document.ensures.only clean t now)

@@ -1,3 +1,4 @@
+use Rattle.std.proofs.Common.{refl}
 use Rattle.std.proofs.lemmas.Result.{err_from_is_err_and}
 use Rattle.clear_book.specs.Allocated.{Represents}
 use Rattle.clear_book.specs.Book.{Book}
@@ -12,6 +13,7 @@ returns-in-Some-clause-told g c clean t has back =
       λ b lawful represents. statement_tellable b t lawful represents c.args.employer c.args.day c.in-Some.head (found b lawful represents),
       λ b lawful represents. statement_told b t lawful represents c.args.employer c.args.day c.in-Some.head (found b lawful represents),
       λ right. tt,
+      (c.in-Some.head, refl),
     )
 
 pub returns-in-None-clause-told : goal.returns-in-None-clause-told

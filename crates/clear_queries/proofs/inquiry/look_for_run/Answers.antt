@@ -12,6 +12,7 @@ returns-in-Some-clause-told g c clean t has day = (
   λ b lawful represents. tt,
   λ b lawful represents. run_found b t c.args.run represents.stands day c.in-Some.row (sym (rw c.in-Some.is at c.in_ok-row.ensures.looks.found clean t has)),
   run_right t c.args.run c.in-Some.row (sym (rw c.in-Some.is at c.in_ok-row.ensures.looks.found clean t has)),
+  tt,
 )
 
 pub returns-in_err-row-clause-told : goal.returns-in_err-row-clause-told

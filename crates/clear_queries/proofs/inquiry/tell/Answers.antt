@@ -17,4 +17,4 @@ returns-in-Reminder-clause-told g c clean t has back =
 pub returns-in-Suspense-clause-told : goal.returns-in-Suspense-clause-told
 returns-in-Suspense-clause-told g c clean t has back =
     subst (λ (query : Query). Replies c.args.day query t (Ok (finding.Document (rows.Suspense c.args.day)))) (sym c.in-Suspense.is)
-    (λ b lawful represents. suspense_few b t lawful represents.stands, λ b lawful represents. (refl, suspense_told b t represents.stands c.args.day), λ right. right)
+    (λ b lawful represents. suspense_few b t lawful represents.stands, λ b lawful represents. (refl, suspense_told b t represents.stands c.args.day), (λ right. right), tt)

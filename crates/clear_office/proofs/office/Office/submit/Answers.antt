@@ -11,10 +11,10 @@ use Rattle.sqlite.specs.Held.{state}
 use Rattle.clear_book.specs.Tables.{Tables}
 use Rattle.clear_book.specs.Book.{entry}
 use Rattle.clear_schema.specs.Held.{HasTables, StandsFor}
-use Rattle.clear_office.specs.Bodies.{IsAdmitted, IsUnused, Notes}
-use Rattle.clear_office.specs.Office.{HasSame, HasSameIf, LeavesNoMore, LeavesTablesIf, MayLeave, Steps, StepsBut}
+use Rattle.clear_office.specs.Bodies.{IsAdmitted, IsByRows, IsUnused, Notes}
+use Rattle.clear_office.specs.Office.{HadTables, HasSame, HasSameIf, LeavesNoMore, LeavesTablesIf, MayLeave, Steps, StepsBut}
 use Rattle.clear_office.proofs.PiecesLemmas.{keeps_plain}
-use Rattle.clear_office.proofs.StepLemmas.{accepted, accepted_leaves, accepted_tables, each_reached, ended, ended_leaves, ended_rests, ended_same, from_working, open_at, rolled_back_stays, still_working}
+use Rattle.clear_office.proofs.StepLemmas.{accepted, accepted_leaves, accepted_tables, each_reached, ended, ended_by_rows, ended_leaves, ended_rests, ended_same, from_working, open_at, rolled_back_stays, still_working}
 use Rattle.clear_office.proofs.office.Office.submit.Goals as goal
 
 pub returns-in-Ok-clause-step : goal.returns-in-Ok-clause-step
@@ -59,6 +59,14 @@ returns-in-Ok-clause-left g c =
     still_working inside.store.conn inside.failed c.args.self.now c.self.view_is working c.within.new.conn (λ a b. LeavesTablesIf g.S.Store a b (λ t. ¬ IsUnused c.args.caller c.args.number t))
     (λ clean t has used trees may. let got = c.in-Ok.ensures.done clean t has in inr (subst (λ (u : Tables). StandsFor u trees) (got.1.1 used) (got.4 trees may)))
 
+pub returns-in-Ok-clause-again : goal.returns-in-Ok-clause-again
+returns-in-Ok-clause-again g c allowed =
+    let call = Do c.args.caller c.args.number c.args.day c.args.command.now in
+    let inside = c.self.inside in
+    let working : inside.failed ≡ false = search rules in
+    still_working inside.store.conn inside.failed c.args.self.now c.self.view_is working c.within.new.conn (λ a b. HadTables g.S.Store a b (λ t. IsByRows call t (Replied c.in-Ok.reply)))
+    (λ clean t has. (c.in-Ok.ensures.done clean t has).1.3)
+
 pub returns-in-Ok-clause-noted : goal.returns-in-Ok-clause-noted
 returns-in-Ok-clause-noted g c =
     let inside = c.self.inside in
@@ -78,7 +86,7 @@ returns-in-Err-clause-step g c =
     (λ b why said. ap (after b call) said)
     (λ b lawful. takes_lawful b call (outcome_of (judge b call)) (step b call) (inl (refl, refl)) admitted.0 lawful)
     c.end.ensures.clean
-    (λ clean t has why is. let said = c.in-Err.ensures.refused clean t has why is in (said.0 admitted, said.1))
+    (λ clean t has why is. let said = c.in-Err.ensures.refused clean t has why is in (said.0.0 admitted, said.1))
     KeepsKeys keeps_plain
     (λ blur keeps clean b lawful t represents has cause is. elim (c.in-Err.ensures.failed clean t has (fault.Store cause) is) [ inl fails ↦ fails admitted (blur, keeps, represents.pieces) b lawful (stands_weighed blur b t represents) | inr disk ↦ disk ])
     (λ clean t has on. rolled_back_stays g.S.Store inside.store.conn c.within.new.conn t (c.in-Err.ensures.stays clean t has) (c.in-Err.ensures.was_open clean t has) (c.is_autocommit-outside.ensures.settled (search rules)) has on)
@@ -100,7 +108,7 @@ returns-in-Err-clause-blurred g c blur keeps =
     (λ b why said. ap (after b call) said)
     (λ b lawful. takes_lawful b call (outcome_of (judge b call)) (step b call) (inl (refl, refl)) admitted.0 lawful)
     c.end.ensures.clean
-    (λ clean t has why is. let said = c.in-Err.ensures.refused clean t has why is in (said.0 admitted, said.1))
+    (λ clean t has why is. let said = c.in-Err.ensures.refused clean t has why is in (said.0.0 admitted, said.1))
     KeepsKeys keeps_plain
     (λ blur keeps clean b lawful t represents has cause is. elim (c.in-Err.ensures.failed clean t has (fault.Store cause) is) [ inl fails ↦ fails admitted (blur, keeps, represents.pieces) b lawful (stands_weighed blur b t represents) | inr disk ↦ disk ])
     (λ clean t has on. rolled_back_stays g.S.Store inside.store.conn c.within.new.conn t (c.in-Err.ensures.stays clean t has) (c.in-Err.ensures.was_open clean t has) (c.is_autocommit-outside.ensures.settled (search rules)) has on)
@@ -122,7 +130,7 @@ returns-in-Err-clause-crash g c =
     (λ b why said. ap (after b call) said)
     (λ b lawful. takes_lawful b call (outcome_of (judge b call)) (step b call) (inl (refl, refl)) admitted.0 lawful)
     c.end.ensures.clean
-    (λ clean t has why is. let said = c.in-Err.ensures.refused clean t has why is in (said.0 admitted, said.1))
+    (λ clean t has why is. let said = c.in-Err.ensures.refused clean t has why is in (said.0.0 admitted, said.1))
     KeepsKeys keeps_plain
     (λ blur keeps clean b lawful t represents has cause is. elim (c.in-Err.ensures.failed clean t has (fault.Store cause) is) [ inl fails ↦ fails admitted (blur, keeps, represents.pieces) b lawful (stands_weighed blur b t represents) | inr disk ↦ disk ])
     (λ clean t has on. rolled_back_stays g.S.Store inside.store.conn c.within.new.conn t (c.in-Err.ensures.stays clean t has) (c.in-Err.ensures.was_open clean t has) (c.is_autocommit-outside.ensures.settled (search rules)) has on)
@@ -173,3 +181,13 @@ returns-in-Err-clause-left g c =
       ]
       | inr none ↦ absurd none
     ])
+
+pub returns-in-Err-clause-again : goal.returns-in-Err-clause-again
+returns-in-Err-clause-again g c allowed =
+    let call = Do c.args.caller c.args.number c.args.day c.args.command.now in
+    let inside = c.self.inside in
+    let working : inside.failed ≡ false = search rules in
+    from_working inside.store.conn inside.failed c.args.self.now c.self.view_is working (λ a. HadTables g.S.Store a c.end.new.self (λ t. IsByRows call t (Refused c.end.result)))
+    (λ clean t has. ended_by_rows c.args.caller c.args.number c.args.day c.args.command.now t c.in-Err.stop c.end.result
+    (λ why is. (c.in-Err.ensures.refused (c.end.ensures.clean clean) t has why is).0.1)
+    c.end.new.self.failed c.end.ensures.told c.end.ensures.failed)

@@ -1,4 +1,4 @@
-use Rattle.std.proofs.Common.{◌≡◌, ◌+◌, ◌-◌, ◌<◌, length, max}
+use Rattle.std.proofs.Common.{◌≡◌, ◌+◌, ◌-◌, ◌<◌, [], length, max}
 use Rattle.clear_wire.specs.Input.{unread, unused_of, reads_made, failed_of, CountsReads, KeepsBorrow}
 use Rattle.clear_wire.specs.Known.{Leads}
 use Rattle.clear_wire.specs.Lines.{skip_empty_lines}
@@ -9,6 +9,7 @@ abbrev pub invariant-reads : goal.invariant-reads
 invariant-reads g l = record {
   same : Leads (λ old new. skip_empty_lines new ≡ skip_empty_lines old) (unread g.R.Read.remaining l.fn.self) (unread g.R.Read.remaining l.self);
   ahead : length (unused_of l.self) < max (length (unused_of l.fn.self) + 1) (2 + chunk_size);
+  spent : reads_made l.fn.self ≡ read_limit → unused_of l.fn.self ≡ [] → (reads_made l.self ≡ read_limit) × (unused_of l.self ≡ []);
   failed : failed_of g.R.NotedRead.noted l.self ≡ failed_of g.R.NotedRead.noted l.fn.self;
   reads : CountsReads g.R.NotedRead.noted l.fn.self l.self;
   borrow : KeepsBorrow g.R.NotedRead.noted l.fn.self l.self;

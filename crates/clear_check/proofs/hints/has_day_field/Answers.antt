@@ -1,0 +1,23 @@
+use Rattle.std.proofs.Common.{true, false, drop, sym, ap, ◌∙◌}
+use Rattle.std.specs.List.{list_any}
+use Rattle.csv.specs.Records.{fields_of}
+use Rattle.clear_check.specs.Hints.{is_pointed_day}
+use Rattle.clear_check.proofs.HintLemmas.{any-ends, any-more}
+use Rattle.clear_check.proofs.hints.has_day_field.Goals as goal
+
+pub returns-then-is_pointed_day : goal.returns-then-is_pointed_day
+returns-then-is_pointed_day c =
+    let h = c.loop-field.invariant in
+    sym (any-more is_pointed_day c.args.row.now c.loop-field.field-iterator.row.now c.loop-field.field-iterator.at h.2 h.3 c.in-Some.field.now true c.in-Some.ensures.steps.1 c.if-is_pointed_day.ensures)
+
+pub loop-field-preserved : goal.loop-field-preserved
+loop-field-preserved c =
+    let h = c.loop-field.invariant in
+    let steps = c.in-Some.ensures.steps in
+    let more = any-more is_pointed_day c.args.row.now c.loop-field.field-iterator.row.now c.loop-field.field-iterator.at h.2 h.3 c.in-Some.field.now false steps.1 c.if-is_pointed_day.ensures in
+    (tt, tt, ap (λ row. row.now) steps.0 ∙ h.2, more ∙ ap (λ at. list_any is_pointed_day (drop at (fields_of c.args.row.now))) (sym steps.2))
+
+pub returns : goal.returns
+returns c =
+    let h = c.loop-field.invariant in
+    any-ends is_pointed_day c.args.row.now c.loop-field.field-iterator.row.now c.loop-field.field-iterator.at h.2 h.3 c.in-None.ensures.steps.1
