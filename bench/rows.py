@@ -4,11 +4,11 @@
     python3 bench/rows.py [REPEATS [PAGES]]
 
 It proves and builds a program of the sources in bench/rows, in a copy of the repository outside of it, since
-the gate would take a sixth longer with that program: some 15 minutes the first time. The copy stays for the
-next time. The program makes a store of each size in a temporary folder. Then it makes 1,000 calls of each
-kind in one transaction on a fresh copy of either store, one size after the other, and repeats the whole, five
-times if no other number is given. PAGES is how many pages of 4,096 bytes the store keeps in memory, 20,000 if
-not given, into which both files fit; the kit's own number is 2,000.
+the gate would take longer with that program: some 8 minutes the first time where the crates are proved. The
+copy stays for the next time. The program makes a store of each size in a temporary folder. Then it makes 1,000
+calls of each kind in one transaction on a fresh copy of either store, one size after the other, and repeats the
+whole, five times if no other number is given. PAGES is how many pages of 4,096 bytes the store keeps in memory,
+20,000 if not given, into which both files fit; the kit's own number is 2,000.
 
 The program measures itself, so that starting it and opening the file, which reads all of it, don't count:
 processor time for the calls, so that other work on the machine hardly matters, and the clock for the
