@@ -1,7 +1,7 @@
 -- Employers and workers: who is registered, what a worker has earned and claimed, and what of it is
 -- still to be claimed.
-use Rattle.std.specs.Prelude.{ℕ, ◌-◌, ◌*◌, ◌/◌, List, [], ◌∷◌, ◌++◌, Option, Some, None, Bool, true}
-use Rattle.std.specs.Prelude.{false, ◌&&◌, ◌==◌, if◌then◌else◌, is_none, not, filter, length, map}
+use Rattle.std.specs.Prelude.{ℕ, ◌-◌, ◌*◌, ◌/◌, List, [], ◌∷◌, ◌++◌, Option, Some, None, Bool}
+use Rattle.std.specs.Prelude.{◌&&◌, ◌==◌, if◌then◌else◌, not, filter, length, map}
 use Rattle.std.specs.Prelude.{◌+◌, nat_lt, sum_by}
 use Rattle.std.specs.List.{filter_map, flat_map}
 use Rattle.std.specs.Option.{option_map, option_map_or}
@@ -17,7 +17,6 @@ use Rattle.clear_values.specs.declared.replies.Reply.TheVariants.{Released as re
 use Rattle.clear_values.specs.declared.replies.Settlement.{Settlement}
 use Rattle.clear_values.specs.declared.rows.ClaimRow.{ClaimRow}
 use Rattle.clear_values.specs.declared.rows.ListRow.{ListRow}
-use Rattle.clear_values.specs.declared.rows.ReleasedClaim.{ReleasedClaim}
 use Rattle.clear_values.specs.declared.rows.ClaimState.{ClaimState}
 use Rattle.clear_values.specs.declared.rows.ClaimState.TheVariants.{Open, Withdrawn, Released}
 use Rattle.clear_values.specs.declared.texts.WageLine.{WageLine}

@@ -7,7 +7,7 @@ use Rattle.toml.specs.Data.{Data, Members, no_members, member, as_integer, get_m
 use Rattle.clear_money.specs.Bytes.{is_visible}
 use Rattle.clear_money.specs.Numbers.{most_employer_no}
 use Rattle.clear_money.specs.Options.{◌>>=◌}
-use Rattle.clear_money.specs.RateFile.{document_of}
+use Rattle.clear_toml.specs.RateFile.{document_of}
 use Rattle.clear_book.specs.declared.calls.Caller.{Caller}
 use Rattle.clear_book.specs.declared.calls.Caller.TheVariants.{Firm, Clerk}
 use Rattle.clear_callers.specs.Callers.{KeyOf, caller_of}

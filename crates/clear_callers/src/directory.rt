@@ -8,8 +8,8 @@ ghost use Rattle.clear_callers.specs.declared.caller_file.DirectoryFault.TheVari
 
 use crate::caller_file::{DirectoryFault, add_key, callers_in};
 use clear_book::calls::Caller;
-use clear_money::documents::read_document;
 use clear_money::numbers::EmployerNo;
+use clear_toml::documents::read_document;
 use std::alloc::{AllocError, Global};
 use std::collections::BTreeMap;
 use std::marker::Model;

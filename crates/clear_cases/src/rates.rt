@@ -1,8 +1,8 @@
 //! Rate rows, the tables that they make, and rate files.
 use clear_money::months::Month;
-use clear_money::rate_file::RateFault::{self, Empty, Field, Memory, Order, Range, Text};
-use clear_money::rate_file::{law_written_rates, read_rates};
 use clear_money::rates::{PushFault, RateRow, RateTable};
+use clear_toml::rate_file::RateFault::{self, Empty, Field, Memory, Order, Range, Text};
+use clear_toml::rate_file::{law_written_rates, read_rates};
 use std::alloc::Global;
 
 // The contribution rate, the day of the report, the day due, the interest rate and the entitlement

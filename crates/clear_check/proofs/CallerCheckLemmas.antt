@@ -8,7 +8,7 @@ use Rattle.toml.specs.View.{members_view, view}
 use Rattle.toml.specs.declared.value.Value.{Value}
 use Rattle.clear_book.specs.declared.calls.Caller.{Caller}
 use Rattle.clear_book.specs.declared.calls.Caller.TheVariants.{Firm, Clerk}
-use Rattle.clear_money.specs.RateFile.{document_of}
+use Rattle.clear_toml.specs.RateFile.{document_of}
 use Rattle.clear_callers.specs.CallerFile.{caller_at, caller_numbered, directory_in, directory_of, is_key, keys_in, Fails}
 use Rattle.clear_callers.specs.declared.caller_file.DirectoryFault.{DirectoryFault}
 use Rattle.clear_callers.specs.declared.caller_file.DirectoryFault.TheVariants.{Entry as EntryFault, Memory as MemoryFault, Text as TextFault}

@@ -1,10 +1,11 @@
 -- What is said of a caller file.
-use Rattle.std.specs.Prelude.{◌≡◌, ℕ, ◌-◌, ◌==◌, ℤ, pos, Bool, true, false, List, [], ◌∷◌, length, count_by, codes, map}
+use Rattle.std.specs.Prelude.{◌≡◌, ℕ, ◌-◌, ◌==◌, ℤ, pos, Bool, true, false, List, [], ◌∷◌, length}
+use Rattle.std.specs.Prelude.{count_by, codes, map}
 use Rattle.std.specs.Prelude.{Option, Some, None, Result, Ok, Err, is_some, if◌then◌else◌}
 use Rattle.std.specs.Fmt.{decimal, signed_decimal}
 use Rattle.std.specs.List.{concat}
 use Rattle.toml.specs.Data.{Data, Members, no_members, member, as_integer}
-use Rattle.clear_money.specs.RateFile.{document_of}
+use Rattle.clear_toml.specs.RateFile.{document_of}
 use Rattle.clear_book.specs.declared.calls.Caller.{Caller}
 use Rattle.clear_book.specs.declared.calls.Caller.TheVariants.{Firm, Clerk}
 use Rattle.clear_callers.specs.CallerFile.{caller_at, is_key}

@@ -4,12 +4,12 @@ use Rattle.std.specs.Prelude.{Ok, Err, Some}
 use Rattle.std.specs.Fmt.{decimal}
 use Rattle.std.specs.List.{concat}
 use Rattle.toml.specs.Data.{Members}
-use Rattle.clear_money.specs.RateFile.{document_of, rates_of}
+use Rattle.clear_toml.specs.RateFile.{document_of, rates_of}
 use Rattle.clear_money.specs.Rates.{Rate, last_first}
 use Rattle.clear_money.specs.Texts.{month_text}
-use Rattle.clear_money.specs.declared.rate_file.RateFault.{RateFault}
-use Rattle.clear_money.specs.declared.rate_file.RateFault.TheVariants.{Text, Field, Range, Order}
-use Rattle.clear_money.specs.declared.rate_file.RateFault.TheVariants.{Empty, Memory}
+use Rattle.clear_toml.specs.declared.rate_file.RateFault.{RateFault}
+use Rattle.clear_toml.specs.declared.rate_file.RateFault.TheVariants.{Text, Field, Range, Order}
+use Rattle.clear_toml.specs.declared.rate_file.RateFault.TheVariants.{Empty, Memory}
 use Rattle.clear_check.specs.RateFound.{IsFoundIn}
 use Rattle.clear_check.specs.Shown.{Found, IsInLine, plural}
 

@@ -8,10 +8,11 @@ use Rattle.std.specs.Option.{option_or}
 use Rattle.toml.specs.Data.{Data, Members, no_members, member, at, get, get_member, as_str, as_integer}
 use Rattle.toml.specs.Data.{as_table}
 use Rattle.clear_money.specs.Options.{◌>>=◌}
-use Rattle.clear_money.specs.WrittenRate.{month_spelled, number_of, row_names, text_of, within}
-use Rattle.clear_money.specs.declared.rate_file.RateFault.{RateFault}
-use Rattle.clear_money.specs.declared.rate_file.RateFault.TheVariants.{Text, Field, Range, Order}
-use Rattle.clear_money.specs.declared.rate_file.RateFault.TheVariants.{Empty, Memory}
+use Rattle.clear_money.specs.Texts.{month_spelled}
+use Rattle.clear_toml.specs.WrittenRate.{number_of, row_names, text_of, within}
+use Rattle.clear_toml.specs.declared.rate_file.RateFault.{RateFault}
+use Rattle.clear_toml.specs.declared.rate_file.RateFault.TheVariants.{Text, Field, Range, Order}
+use Rattle.clear_toml.specs.declared.rate_file.RateFault.TheVariants.{Empty, Memory}
 use Rattle.clear_check.specs.Shown.{Found, IsShown, alone, shown}
 use Rattle.clear_check.specs.declared.rates.second_look.NumberRange.{NumberRange}
 

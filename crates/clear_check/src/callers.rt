@@ -1,9 +1,8 @@
 //! What is said of a caller file.
-ghost use Rattle.std.specs.Prelude.{◌≡◌, ◌≢◌, ℕ, List, IfOk, OnOk, Some, Ok, is_ok, count_by};
+ghost use Rattle.std.specs.Prelude.{◌≡◌, ◌≢◌, List, IfOk, OnOk, Some, Ok, is_ok, count_by};
 ghost use Rattle.std.specs.Prelude.{string_bytes};
 ghost use Rattle.toml.specs.Data.{as_integer};
 ghost use Rattle.toml.specs.View.{table_view, view};
-ghost use Rattle.clear_money.specs.RateFile.{document_of};
 ghost use Rattle.clear_callers.specs.CallerFile.{directory_of, keys_in};
 ghost use Rattle.clear_callers.specs.Callers.{KeyOf};
 ghost use Rattle.clear_check.specs.CallerChecks.{SaysKeys, TellsWrongKey, caller_line, counts_text};
@@ -16,7 +15,7 @@ use crate::seen::Seen;
 use crate::texts::{joined, plural};
 use clear_callers::caller_file::DirectoryFault;
 use clear_callers::directory::Directory;
-use clear_money::documents::read_document;
+use clear_toml::documents::read_document;
 use second_look::look_at;
 use std::alloc::{AllocError, Global};
 use toml::{Table, Value};

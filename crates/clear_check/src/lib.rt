@@ -1,21 +1,19 @@
-//! What is said of a file before the office takes it: how much it holds, or its first fault and
-//! where that is.
+//! What is said of a TOML file before the office takes it: how much a rate file or a caller file
+//! holds, or its first fault and where that is. `Checked`, `seen` and `texts` serve what is said of
+//! other files, too: `clear_bank_check` stands on them.
 //!
-//! A file is read as the program reads it, and its first fault is the reader's: which row, record,
-//! field or key it is in, and of which kind it is, are proved. A second look at the bytes finds what
-//! stands there, and the hints on a bank file, and that is proved, too. Of where bytes are no TOML
-//! document the contracts say only that a line stays one line, and tests on real files compare it.
+//! A file is read as the program reads it, and its first fault is the reader's: which row, field or
+//! key it is in, and of which kind it is, are proved. A second look at the document finds what stands
+//! there, and that is proved, too. Of where bytes are no document the contracts say only that a line
+//! stays one line, and tests on real files compare it.
 #![tactic(auto)]
 
-pub mod bank;
 pub mod callers;
 mod document;
-mod hints;
 pub mod laws;
 pub mod rates;
-mod records;
-mod seen;
-mod texts;
+pub mod seen;
+pub mod texts;
 
 /// What is said of a file.
 #[derive(Drop)]

@@ -1,6 +1,6 @@
 //! What is said of a rate file.
 ghost use Rattle.std.specs.Prelude.{◌≡◌, ◌≢◌, ◌<◌, length, IfOk, OnOk, is_ok, string_bytes};
-ghost use Rattle.clear_money.specs.RateFile.{rates_of};
+ghost use Rattle.clear_toml.specs.RateFile.{rates_of};
 ghost use Rattle.clear_check.specs.RateChecks.{SaysRates, TellsRates, first_month, order_line};
 ghost use Rattle.clear_check.specs.RateChecks.{place_of, rate_line, rates_text};
 
@@ -12,8 +12,8 @@ use crate::texts::{joined, plural};
 use clear_answers::answer::carried_text;
 use clear_book::rules::Carried;
 use clear_money::months::Month;
-use clear_money::rate_file::{RateFault, read_rates};
 use clear_money::rates::{RateRow, RateTable, last_month};
+use clear_toml::rate_file::{RateFault, read_rates};
 use second_look::look_at;
 use std::alloc::{AllocError, Global};
 

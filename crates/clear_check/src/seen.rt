@@ -28,8 +28,8 @@ impl Model for Seen {
 }
 
 impl Seen {
-    /// Two texts, each of these parts one after another. What would not stay in a line is shown
-    /// otherwise.
+    /// Two texts, each of these parts one after another, with a `?` for each byte that is no plain
+    /// ASCII text.
     pub fn new(alloc: Global, here: &[&str], other: &[&str]) -> Result<Seen, AllocError>
         ensures here { IfOk result (λ seen. seen.here
             ≡ map shown_byte (concat (map (λ part. part.now) here.now))) }
@@ -41,7 +41,7 @@ impl Seen {
         Ok(Seen { here, other })
     }
 
-    /// Nothing was found.
+    /// Nothing was found: both texts are `?`.
     pub fn nothing(alloc: Global) -> Result<Seen, AllocError>
         ensures { IfOk result (λ seen. (seen.here ≡ codes "?") × (seen.other ≡ codes "?")) }
     {

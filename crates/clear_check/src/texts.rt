@@ -8,8 +8,8 @@ use std::alloc::{AllocError, Global};
 // How many bytes of a value are shown.
 const MAX_SHOWN: usize = 40;
 
-// These parts, one after another.
-pub(crate) fn joined(alloc: Global, parts: &[&str]) -> Result<String, AllocError>
+/// These parts, one after another.
+pub fn joined(alloc: Global, parts: &[&str]) -> Result<String, AllocError>
     ensures { IfOk result (λ text. string_bytes text ≡ concat (map (λ part. part.now) parts.now)) }
 {
     let mut text = String::new(alloc);
@@ -19,15 +19,16 @@ pub(crate) fn joined(alloc: Global, parts: &[&str]) -> Result<String, AllocError
     Ok(text)
 }
 
-// What stands behind the word for a thing of which there are so many.
-pub(crate) fn plural(count: usize) -> &'static str
+/// What stands behind the word for a thing of which there are so many: nothing for one, else `s`.
+pub fn plural(count: usize) -> &'static str
     ensures { result.now ≡ plural count }
 {
     if count == 1 { "" } else { "s" }
 }
 
-// A value of a file, as it is shown.
-pub(crate) fn shown(alloc: Global, value: &[u8]) -> Result<String, AllocError>
+/// A value of a file as it is shown: its first 40 bytes, with a `?` for each that is no plain ASCII
+/// text. An empty value is shown as two quotation marks.
+pub fn shown(alloc: Global, value: &[u8]) -> Result<String, AllocError>
     ensures { IfOk result (λ text. string_bytes text ≡ shown value.now) }
 {
     if value.is_empty() {

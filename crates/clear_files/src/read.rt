@@ -2,7 +2,7 @@
 ghost use Rattle.std.specs.Prelude.{◌≡◌, ◌≤◌, ◌++◌, ◌⊎◌, ℕ, true, List, length, IfErr, IfOk, IfSome};
 ghost use Rattle.std.specs.Prelude.{OnOk};
 ghost use Rattle.std.specs.Io.KnownBytes.{Consumes, IsAtEnd};
-ghost use Rattle.clear_money.specs.RateFile.{rates_of};
+ghost use Rattle.clear_toml.specs.RateFile.{rates_of};
 ghost use Rattle.clear_book.specs.Ranges.{AreRates};
 ghost use Rattle.clear_callers.specs.CallerFile.{directory_of};
 ghost use Rattle.clear_wire.specs.Counted.{has_failed, inner};
@@ -13,8 +13,8 @@ use crate::fault::{FileFault, fault_of};
 use clear_book::ranges::rates_in_range;
 use clear_callers::caller_file::DirectoryFault;
 use clear_callers::directory::Directory;
-use clear_money::rate_file::{RateFault, read_rates};
 use clear_money::rates::RateTable;
+use clear_toml::rate_file::{RateFault, read_rates};
 use clear_wire::counted::Counted;
 use std::alloc::{AllocError, Global};
 use std::fs::File;

@@ -3,7 +3,6 @@ pub mod CountLemmas
 pub mod DateLemmas
 pub mod DayTextLemmas
 pub mod MonthLemmas
+pub mod MonthTextLemmas
 pub mod NumberLemmas
 pub mod RateFacts
-pub mod RateFileLemmas
-pub mod WrittenRateLemmas

@@ -3,8 +3,6 @@ pub mod Calendar
 pub mod Limits
 pub mod Numbers
 pub mod Options
-pub mod RateFile
 pub mod Rates
 pub mod Results
 pub mod Texts
-pub mod WrittenRate

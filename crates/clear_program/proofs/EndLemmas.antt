@@ -18,17 +18,17 @@ use Rattle.clear_host.specs.declared.offices.Opened.{Opened}
 use Rattle.clear_server.specs.declared.connections.Ended.{Ended}
 use Rattle.clear_server.specs.declared.connections.Ended.TheVariants.{NoConnections, Served, StoreGone}
 use Rattle.clear_server.specs.Told.{Written}
+use Rattle.clear_work.specs.Stops.{IsOfFile, IsOfStore, by_store, no_memory}
+use Rattle.clear_work.specs.Works.{CannotServe, IsSaid, Works, import_said, serving_said, statement_said}
+use Rattle.clear_work.specs.declared.stop.Stop.{Stop}
+use Rattle.clear_work.specs.declared.stop.Stop.TheVariants as stop
+use Rattle.clear_work.specs.declared.work.Work.{Work}
+use Rattle.clear_work.specs.declared.work.Work.TheVariants as work
 use Rattle.clear_program.specs.Ends.{CannotWork, SaysDone, TellsOf}
 use Rattle.clear_program.specs.Made.{Makes}
-use Rattle.clear_program.specs.Stops.{IsOfFile, IsOfStore, by_store, no_memory}
 use Rattle.clear_program.specs.Opening.{WorksOn}
-use Rattle.clear_program.specs.Works.{CannotServe, IsSaid, Works, import_said, serving_said, statement_said}
 use Rattle.clear_program.specs.declared.opening.Unopened.{Unopened}
 use Rattle.clear_program.specs.declared.opening.Whole.{Whole}
-use Rattle.clear_program.specs.declared.stop.Stop.{Stop}
-use Rattle.clear_program.specs.declared.stop.Stop.TheVariants as stop
-use Rattle.clear_program.specs.declared.tasks.Work.{Work}
-use Rattle.clear_program.specs.declared.tasks.Work.TheVariants as work
 
 -- the text that is said, and why none is
 abbrev text_in : Result (List ℕ) Stop → List ℕ

@@ -5,12 +5,11 @@ use Rattle.std.specs.Prelude.{IfErr, IfOk}
 use Rattle.sqlite.specs.Store.{Ghosts}
 use Rattle.sqlite_wal.specs.Recovery.{Image}
 use Rattle.clear_server.specs.Told.{Written}
-use Rattle.clear_program.specs.Ends.{SaysAll, TellsNoStore, TellsUnopened}
-use Rattle.clear_program.specs.Looks.{SaysLook}
+use Rattle.clear_work.specs.declared.stop.Stop.{Stop}
+use Rattle.clear_program.specs.Ends.{SaysAll, SaysLook, TellsNoStore, TellsUnopened}
 use Rattle.clear_program.specs.Opening.{OpensWhole}
 use Rattle.clear_program.specs.declared.opening.Unopened.{Unopened}
 use Rattle.clear_program.specs.declared.opening.Whole.{Whole}
-use Rattle.clear_program.specs.declared.stop.Stop.{Stop}
 use Rattle.clear_program.specs.declared.tasks.Task.TheVariants.{Look}
 use Rattle.clear_program.proofs.ReasonLemmas.{why_refused}
 

@@ -1,14 +1,14 @@
 -- Which task the words of a command line ask for.
 use Rattle.std.specs.Prelude.{◌≡◌, ◌≢◌, ◌≤◌, ◌⊎◌, ⊤, ℕ, true, false, ◌||◌, List, Result, codes, is_ok}
 use Rattle.std.specs.Prelude.{length, string_bytes}
-use Rattle.clear_money.specs.RateFile.{rates_of}
+use Rattle.clear_toml.specs.RateFile.{rates_of}
 use Rattle.clear_book.specs.declared.calls.Command.TheVariants.{ImportBank}
 use Rattle.clear_callers.specs.CallerFile.{directory_of}
 use Rattle.clear_callers.specs.Callers.{sample_keys}
 use Rattle.clear_check.specs.RateChecks.{SaysRates, TellsRates}
 use Rattle.clear_check.specs.CallerChecks.{SaysKeys, TellsWrongKey}
-use Rattle.clear_check.specs.BankChecks.{SaysBank, Tells, bank_of}
 use Rattle.clear_check.specs.declared.Checked.{Checked}
+use Rattle.clear_bank_check.specs.BankChecks.{SaysBank, Tells, bank_of}
 use Rattle.clear_sample.specs.Samples.{sample_rates}
 use Rattle.clear_files.specs.Contents.{SomeFileSays, most_file_bytes}
 use Rattle.clear_cli.specs.Lines.{Says, Text, asks_help, calls_help}
@@ -16,13 +16,13 @@ use Rattle.clear_cli.specs.declared.words.FileKind.{FileKind}
 use Rattle.clear_cli.specs.declared.words.FileKind.TheVariants.{Bank, Callers, Rates}
 use Rattle.clear_cli.specs.declared.words.Words.{Words}
 use Rattle.clear_cli.specs.declared.words.Words.TheVariants as words
-use Rattle.clear_program.specs.Stops.{no_memory}
-use Rattle.clear_program.specs.declared.stop.Stop.{Stop}
-use Rattle.clear_program.specs.declared.stop.Stop.TheVariants as stop
+use Rattle.clear_work.specs.Stops.{no_memory}
+use Rattle.clear_work.specs.declared.stop.Stop.{Stop}
+use Rattle.clear_work.specs.declared.stop.Stop.TheVariants as stop
+use Rattle.clear_work.specs.declared.work.Work.TheVariants.{Backup, Import, Serve, Statement}
 use Rattle.clear_program.specs.declared.tasks.Task.{Task}
 use Rattle.clear_program.specs.declared.tasks.Task.TheVariants.{Check, Init, Look, Migrate}
 use Rattle.clear_program.specs.declared.tasks.Task.TheVariants.{OnStore, Say, Stream}
-use Rattle.clear_program.specs.declared.tasks.Work.TheVariants.{Backup, Import, Serve, Statement}
 
 -- what is said of the bytes of a file of this kind, and whether it is taken
 abbrev pub IsChecked : FileKind → List ℕ → Checked → Type 0

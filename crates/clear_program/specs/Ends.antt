@@ -1,9 +1,10 @@
 -- How the program ends: what the words ask for is done and said, or why it is not is told.
-use Rattle.std.specs.Prelude.{◌≡◌, ◌⊎◌, ⊤, ℕ, Bool, false, true, List, Option, Result, Ok, Err, IfErr, IfOk}
+use Rattle.std.specs.Prelude.{◌≡◌, ◌⊎◌, ⊤, ℕ, Bool, false, List, Option, Result, Ok, Err, IfErr, IfOk}
 use Rattle.std.specs.Prelude.{if◌then◌else◌, string_bytes}
 use Rattle.std.specs.Global.{Global}
-use Rattle.std.specs.Io.KnownBytes.{Appends}
 use Rattle.std.specs.declared.string.String.{String}
+use Rattle.sqlite.specs.Held.{Held}
+use Rattle.sqlite.specs.Store.{Ghosts}
 use Rattle.clear_book.specs.declared.rules.Rule.{Rule}
 use Rattle.clear_schema.specs.Held.{this_schema}
 use Rattle.clear_schema.specs.declared.fault.OpenFault.{OpenFault}
@@ -17,18 +18,20 @@ use Rattle.clear_files.specs.Names.{is_of_another_use}
 use Rattle.clear_files.specs.declared.paths.PathKind.{PathKind}
 use Rattle.clear_host.specs.declared.hindrance.Hindrance.{Hindrance}
 use Rattle.clear_server.specs.Told.{AreTold, Writes, Written}
+use Rattle.clear_work.specs.Looks.{Looks}
+use Rattle.clear_work.specs.Says.{Puts}
+use Rattle.clear_work.specs.Stops.{IsOfFile, IsOfStore, IsOfStoreFault, Tells, by_store}
+use Rattle.clear_work.specs.Streams.{AnswersAll, AnswersFront, IsCutShort}
+use Rattle.clear_work.specs.Works.{CannotCopy, CannotServe}
+use Rattle.clear_work.specs.declared.stop.Stop.{Stop}
+use Rattle.clear_work.specs.declared.stop.Stop.TheVariants as stop
+use Rattle.clear_work.specs.declared.work.Work.{Work}
+use Rattle.clear_work.specs.declared.work.Work.TheVariants as work
 use Rattle.clear_program.specs.Asked.{IsAsked, IsNotDone}
 use Rattle.clear_program.specs.Reasons.{IsWhyRefused, reason}
-use Rattle.clear_program.specs.Stops.{IsOfFile, IsOfStore, IsOfStoreFault, Tells, by_store}
-use Rattle.clear_program.specs.Streams.{AnswersAll, AnswersFront, IsCutShort}
-use Rattle.clear_program.specs.Works.{CannotCopy, CannotServe}
 use Rattle.clear_program.specs.declared.opening.Unopened.{Unopened}
-use Rattle.clear_program.specs.declared.stop.Stop.{Stop}
-use Rattle.clear_program.specs.declared.stop.Stop.TheVariants as stop
 use Rattle.clear_program.specs.declared.tasks.Task.{Task}
 use Rattle.clear_program.specs.declared.tasks.Task.TheVariants as task
-use Rattle.clear_program.specs.declared.tasks.Work.{Work}
-use Rattle.clear_program.specs.declared.tasks.Work.TheVariants as work
 
 -- ---- what a task has to say at its end
 
@@ -68,16 +71,6 @@ module _ {A : Type 0} (bytes : A → List ℕ) where
       IfOk said (λ it. SaysDone work (bytes it))
       × IfErr said (λ why. IsOfStore why ⊎ CannotWork work why)
 
-  -- this is said on the output, and the program then ends with this status; or the output failed, and
-  -- a front of it is there; where there is nothing to say, the output stays
-  abbrev pub Puts : Result A Stop → ℕ → Written → Written → Result ℕ Stop → Type 0
-  Puts (Ok said) status out out' result =
-      IfOk result (λ given. (given ≡ status) × Appends out.bytes out'.bytes (bytes said)
-      × (out'.failed ≡ out.failed))
-      × IfErr result (λ why. (why ≡ stop.Stream) × Writes (bytes said) out out'
-      × (out'.failed ≡ true))
-  Puts (Err why) status out out' result = (result ≡ Err why) × (out' ≡ out)
-
 -- the status of a task that is done
 abbrev pub status_for : Task → ℕ
 status_for (task.Check checked) = if checked.good then 0 else 2
@@ -97,6 +90,13 @@ TellsOf work told told' = told' ≡ told
 abbrev pub TellsMeanwhile : Task → Written → Written → Type 0
 TellsMeanwhile (task.OnStore at work) told told' = TellsOf work told told'
 TellsMeanwhile task told told' = told' ≡ told
+
+-- what stands in the store of a connection is said on the output, and nothing is told
+abbrev pub SaysLook : {S : Type 0} → Ghosts S → Written → Written → Written → Written → Held S
+    → Result ℕ Stop → Type 0
+SaysLook {S} g out out' told told' connection result =
+    (said : Result (String Global) Stop) × (left : Held S) × Looks string_bytes g said connection left
+    × Puts string_bytes said 0 out out' result × (told' ≡ told)
 
 -- why a store isn't opened is told in its line, and behind that in words, unless there was no memory
 -- for these

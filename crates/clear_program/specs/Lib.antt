@@ -1,9 +1,5 @@
-pub mod Stops
 pub mod Reasons
 pub mod Asked
-pub mod Streams
-pub mod Works
 pub mod Opening
 pub mod Made
 pub mod Ends
-pub mod Looks

@@ -12,12 +12,12 @@ use Rattle.clear_host.specs.Offices.{IsNewOffice, IsOurs}
 use Rattle.clear_host.specs.declared.migrations.Brought.{Brought}
 use Rattle.clear_host.specs.declared.offices.NotOpened.{NotOpened}
 use Rattle.clear_host.specs.declared.offices.Opened.{Opened}
+use Rattle.clear_work.specs.Stops.{by_store}
+use Rattle.clear_work.specs.declared.stop.Stop.{Stop}
+use Rattle.clear_work.specs.declared.stop.Stop.TheVariants as stop
 use Rattle.clear_program.specs.Opening.{RefusesFiles}
 use Rattle.clear_program.specs.Reasons.{refused_path}
-use Rattle.clear_program.specs.Stops.{by_store}
 use Rattle.clear_program.specs.declared.opening.Unopened.{Unopened}
-use Rattle.clear_program.specs.declared.stop.Stop.{Stop}
-use Rattle.clear_program.specs.declared.stop.Stop.TheVariants as stop
 
 module _ {S : Type 0} (g : Ghosts S) (image : Image) where
   -- no store is made of these files, and a number that is told for it is that of their schema

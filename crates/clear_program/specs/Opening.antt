@@ -13,13 +13,13 @@ use Rattle.clear_host.specs.declared.hindrance.Hindrance.TheVariants.{NotReachab
 use Rattle.clear_host.specs.declared.offices.NotOpened.{NotOpened}
 use Rattle.clear_host.specs.declared.offices.Opened.{Opened}
 use Rattle.clear_server.specs.Told.{Written}
+use Rattle.clear_work.specs.Stops.{by_store}
+use Rattle.clear_work.specs.Works.{Works}
+use Rattle.clear_work.specs.declared.stop.Stop.{Stop}
+use Rattle.clear_work.specs.declared.work.Work.{Work}
 use Rattle.clear_program.specs.Reasons.{refused_path}
-use Rattle.clear_program.specs.Stops.{by_store}
-use Rattle.clear_program.specs.Works.{Works}
 use Rattle.clear_program.specs.declared.opening.Unopened.{Unopened}
 use Rattle.clear_program.specs.declared.opening.Whole.{Whole}
-use Rattle.clear_program.specs.declared.stop.Stop.{Stop}
-use Rattle.clear_program.specs.declared.tasks.Work.{Work}
 
 -- the store doesn't stand at its path any more
 abbrev pub gone : Unopened

@@ -2,23 +2,17 @@
 ghost use Rattle.std.specs.Prelude.{◌≤◌, ◌⊎◌, string_bytes, IfErr, IfOk};
 ghost use Rattle.sqlite.specs.Files.{over_files};
 ghost use Rattle.clear_server.specs.Told.{written_by};
-ghost use Rattle.clear_program.specs.Ends.{SaysAll, TellsNoStore, TellsUnopened, TellsWhy};
-ghost use Rattle.clear_program.specs.Looks.{Looks, SaysLook};
+ghost use Rattle.clear_program.specs.Ends.{SaysAll, SaysLook, TellsNoStore, TellsUnopened, TellsWhy};
 ghost use Rattle.clear_program.specs.declared.tasks.Task.TheVariants.{Look};
 
-use crate::jobs::Job;
 use crate::opening::{Unopened, Whole, do_and_close, open_whole};
 use crate::reasons::reason;
-use crate::stop::{Stop, tell};
-use crate::work::end_by;
-use clear_book::rules::{Rule, StoreCause};
-use clear_database::store::SCHEMA;
-use clear_reading::look::look;
-use clear_schema::fault::OpenFault;
 use clear_server::told::write_front;
-use clear_texts::look::look_text;
 use clear_wire::counted::Counted;
-use sqlite::{Alter, Connection, FileStore};
+use clear_work::jobs::Job;
+use clear_work::says::end_by;
+use clear_work::stop::{Stop, tell};
+use sqlite::FileStore;
 use sqlite_disk::{Start, Unknown};
 use sqlite_std_file::FileFrom;
 use std::alloc::Global;
@@ -79,20 +73,4 @@ fn tell_why<E: Write>(alloc: Global, refused: &Unopened, errors: &mut Counted<E>
         write_front(errors, text.as_bytes());
     }
     status
-}
-
-/// What stands in the store of a connection, in words. Nothing is changed.
-pub(crate) fn look_over<S: Alter>(
-    alloc: Global,
-    connection: &mut Connection<S>,
-) -> Result<String, Stop>
-    ensures { Looks string_bytes S.Store result connection.old connection.new }
-{
-    if !connection.is_autocommit() {
-        return Err(Stop::Rule(Rule::Store(StoreCause::Other)));
-    }
-    match look(connection) {
-        Ok(found) => Ok(look_text(alloc, SCHEMA, &found)?),
-        Err(fault) => Err(Stop::from(OpenFault::Failed(fault))),
-    }
 }

@@ -8,11 +8,12 @@ use crate::look::look_at;
 use crate::make::make_at;
 use crate::migrate::migrate_at;
 use crate::opening::{open_whole, work_on};
-use crate::stop::{Stop, tell};
-use crate::stream::serve_in_memory;
-use crate::tasks::{Task, Work, read_task, words_of};
-use crate::work::end_by;
+use crate::tasks::{Task, read_task, words_of};
 use clear_wire::counted::{Counted, RequestRead};
+use clear_work::says::end_by;
+use clear_work::stop::{Stop, tell};
+use clear_work::stream::serve_in_memory;
+use clear_work::work::Work;
 use sqlite_disk::Unknown;
 use std::io::Write;
 

@@ -1,21 +1,20 @@
 //! What the words of the command line ask for, with what the files say that they name.
 ghost use Rattle.std.specs.Prelude.{◌≡◌, ◌≢◌, IfErr, IfOk, map, string_bytes};
 ghost use Rattle.std.specs.IoError.{error_kind};
-ghost use Rattle.clear_money.specs.RateFile.{rates_of};
+ghost use Rattle.clear_toml.specs.RateFile.{rates_of};
 ghost use Rattle.clear_callers.specs.CallerFile.{directory_of};
 ghost use Rattle.clear_callers.specs.Callers.{sample_keys};
 ghost use Rattle.clear_sample.specs.Samples.{sample_rates};
+ghost use Rattle.clear_work.specs.Stops.{IsOfFile, IsOfWords, no_memory};
 ghost use Rattle.clear_program.specs.Asked.{IsAsked, IsChecked, IsNotDone, IsOfNamed, IsOfPath};
 ghost use Rattle.clear_program.specs.Asked.{IsSampleOr, IsTaskFor};
-ghost use Rattle.clear_program.specs.Stops.{IsOfFile, IsOfWords, no_memory};
 
-use crate::stop::{NO_MEMORY, Stop};
+use clear_bank_check::bank::check_bank;
 use clear_book::calls::Command;
 use clear_book::files::BankFile;
 use clear_book::numbers::RequestNo;
 use clear_callers::directory::Directory;
 use clear_check::Checked;
-use clear_check::bank::check_bank;
 use clear_check::callers::check_callers;
 use clear_check::rates::check_rates;
 use clear_cli::line::read_words;
@@ -25,6 +24,8 @@ use clear_money::days::Day;
 use clear_money::numbers::EmployerNo;
 use clear_money::rates::RateTable;
 use clear_sample::samples::sample_rates;
+use clear_work::stop::{NO_MEMORY, Stop};
+use clear_work::work::Work;
 use std::alloc::{AllocError, Global};
 use std::io::ErrorKind;
 use std::{env, io};
@@ -62,33 +63,6 @@ pub enum Task<'a> {
     OnStore {
         store: &'a str,
         work: Work<'a>,
-    },
-}
-
-/// What is done with a store that was opened.
-#[derive(Drop)]
-pub enum Work<'a> {
-    /// Serves so many connections on a port of this machine.
-    Serve {
-        directory: Directory,
-        day: Day,
-        port: u16,
-        count: u32,
-    },
-    /// Imports a bank file as the clerk, as the request of this number.
-    Import {
-        day: Day,
-        number: RequestNo,
-        command: Command,
-    },
-    /// Tells a firm's statement, as the clerk asks for it.
-    Statement {
-        day: Day,
-        employer: EmployerNo,
-    },
-    /// Copies it into a new file at a path.
-    Backup {
-        copy: &'a str,
     },
 }
 

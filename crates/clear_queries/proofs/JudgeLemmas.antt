@@ -27,7 +27,7 @@ module _ (day : ℕ) (query : Query) (t : Tables) (db : Database) (has : HasTabl
       (λ i. judged_ask (allowed i) (days i) (own_query b query) (answer_to b day query))
 
   pub told : (result : Result Finding (Stop Rule)) → Replies day query t result
-      → IfOk result (λ found. (u : Tables) × ((u ≡ t) × IsTold found t × ((caller : Caller) → may_query caller query ≡ true → Tells (Ask caller day query) t (answer_of t found)) × TellsOnlyRight query t found × FindsStatement query found) × HasTables u db)
+      → IfOk result (λ found. (u : Tables) × ((u ≡ t) × IsTold found t × ((caller : Caller) → may_query caller query ≡ true → Tells (Ask caller day query) t (answer_of t found)) × TellsOnlyRight query t found × FindsStatement day query found) × HasTables u db)
   told (Ok found) replies = (
     t,
     (

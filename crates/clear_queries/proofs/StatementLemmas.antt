@@ -26,7 +26,7 @@ use Rattle.clear_laws.proofs.TableAccountLemmas.{account_of_tables}
 use Rattle.clear_reading.specs.Paid.{ArePiecesFor, pieces_for}
 use Rattle.clear_texts.proofs.PaidBookLemmas.{told_pieces, told_text}
 use Rattle.clear_texts.specs.Paid.{statement_paid}
-use Rattle.clear_texts.specs.Records.{IsHead}
+use Rattle.clear_texts.specs.Records.{IsFor, IsHead}
 use Rattle.clear_texts.specs.declared.records.StatementHead.{StatementHead}
 use Rattle.clear_database.specs.declared.body.Stop.{Stop}
 use Rattle.clear_queries.specs.Findings.{AreRightFor, FindsStatement, HasRightRows, IsOverRightPieces, IsOverRightRows, answer_of}
@@ -58,29 +58,29 @@ module _ (b : Book) (t : Tables) (lawful : IsLawful b) (represents : Represents 
     )
 
 -- what is told of a statement is over its pieces
-over_pieces : (t : Tables) (document : RowDocument) (head : StatementHead) → document ≡ rows.Statement head → (result : Result Answer (Stop Rule))
-    → IfOk result (λ answer. answer ≡ answer_of t (finding.Document document)) → OnOk result (HasRightRows document t) → IfOk result (IsOverRightPieces t)
-over_pieces t document head is (Ok answer) told right =
-    (head, told ∙ ap (λ (d : RowDocument). answer_of t (finding.Document d)) is, subst (λ (d : RowDocument). HasRightRows d t) is right)
-over_pieces t document head is (Err stop) told right = tt
+over_pieces : (e day : ℕ) (t : Tables) (document : RowDocument) (head : StatementHead) → IsFor e day head → document ≡ rows.Statement head → (result : Result Answer (Stop Rule))
+    → IfOk result (λ answer. answer ≡ answer_of t (finding.Document document)) → OnOk result (HasRightRows document t) → IfOk result (IsOverRightPieces e day t)
+over_pieces e day t document head for is (Ok answer) told right =
+    (head, for, told ∙ ap (λ (d : RowDocument). answer_of t (finding.Document d)) is, subst (λ (d : RowDocument). HasRightRows d t) is right)
+over_pieces e day t document head for is (Err stop) told right = tt
 
 -- what is found at once is right, and no statement
-pub answer_right : (query : Query) (t : Tables) (answer : Answer) → AreRightFor query t → FindsStatement query (finding.Answer answer) → IsOverRightRows query t answer
-answer_right (query.Owed e) t answer right finds = right
-answer_right (query.Statement e) t answer right finds = absurd (cc (finds.1))
-answer_right (query.Worker w) t answer right finds = right
-answer_right (query.Payout n) t answer right finds = right
-answer_right (query.Reminder n) t answer right finds = right
-answer_right query.Suspense t answer right finds = right
+pub answer_right : (day : ℕ) (query : Query) (t : Tables) (answer : Answer) → AreRightFor query t → FindsStatement day query (finding.Answer answer) → IsOverRightRows day query t answer
+answer_right day (query.Owed e) t answer right finds = right
+answer_right day (query.Statement e) t answer right finds = absurd (cc (finds.2))
+answer_right day (query.Worker w) t answer right finds = right
+answer_right day (query.Payout n) t answer right finds = right
+answer_right day (query.Reminder n) t answer right finds = right
+answer_right day query.Suspense t answer right finds = right
 
 -- what is told behind it is right
-pub document_right : (query : Query) (t : Tables) (document : RowDocument) → (HasRightRows document t → AreRightFor query t) → FindsStatement query (finding.Document document)
-    → (result : Result Answer (Stop Rule)) → IfOk result (λ answer. answer ≡ answer_of t (finding.Document document)) → OnOk result (HasRightRows document t) → IfOk result (IsOverRightRows query t)
-document_right query t document rights finds (Err stop) told right = tt
-document_right (query.Statement e) t document rights finds (Ok answer) told right =
-    over_pieces t document finds.0 (cc (finds.1)) (Ok answer) told right
-document_right (query.Owed e) t document rights finds (Ok answer) told right = rights right
-document_right (query.Worker w) t document rights finds (Ok answer) told right = rights right
-document_right (query.Payout n) t document rights finds (Ok answer) told right = rights right
-document_right (query.Reminder n) t document rights finds (Ok answer) told right = rights right
-document_right query.Suspense t document rights finds (Ok answer) told right = rights right
+pub document_right : (day : ℕ) (query : Query) (t : Tables) (document : RowDocument) → (HasRightRows document t → AreRightFor query t) → FindsStatement day query (finding.Document document)
+    → (result : Result Answer (Stop Rule)) → IfOk result (λ answer. answer ≡ answer_of t (finding.Document document)) → OnOk result (HasRightRows document t) → IfOk result (IsOverRightRows day query t)
+document_right day query t document rights finds (Err stop) told right = tt
+document_right day (query.Statement e) t document rights finds (Ok answer) told right =
+    over_pieces e day t document finds.0 finds.1 (cc (finds.2)) (Ok answer) told right
+document_right day (query.Owed e) t document rights finds (Ok answer) told right = rights right
+document_right day (query.Worker w) t document rights finds (Ok answer) told right = rights right
+document_right day (query.Payout n) t document rights finds (Ok answer) told right = rights right
+document_right day (query.Reminder n) t document rights finds (Ok answer) told right = rights right
+document_right day query.Suspense t document rights finds (Ok answer) told right = rights right

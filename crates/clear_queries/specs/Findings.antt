@@ -19,6 +19,7 @@ use Rattle.clear_reading.specs.Look.{AreFewSuspended}
 use Rattle.clear_reading.specs.Paid.{ArePiecesFor, pieces_for}
 use Rattle.clear_reading.specs.Reader.{AreAddable}
 use Rattle.clear_texts.specs.Paid.{statement_paid}
+use Rattle.clear_texts.specs.Records.{IsFor}
 use Rattle.clear_texts.specs.declared.records.StatementHead.{StatementHead}
 use Rattle.clear_database.specs.declared.body.Stop.{Stop}
 use Rattle.clear_database.specs.declared.body.Stop.TheVariants as stop
@@ -72,24 +73,27 @@ abbrev pub TellsOnlyRight : Query → Tables → Finding → Type 0
 TellsOnlyRight query t (finding.Answer answer) = AreRightFor query t
 TellsOnlyRight query t (finding.Document document) = HasRightRows document t → AreRightFor query t
 
--- for a firm's statement a statement is found
-abbrev pub FindsStatement : Query → Finding → Type 0
-FindsStatement (Statement employer) found =
-    (head : StatementHead) × (found ≡ finding.Document (rows.Statement head))
-FindsStatement query found = Unit {0}
+-- for a firm's statement on a day such a statement is found
+abbrev pub FindsStatement : ℕ → Query → Finding → Type 0
+FindsStatement day (Statement employer) found =
+    (head : StatementHead) × IsFor employer day head
+    × (found ≡ finding.Document (rows.Statement head))
+FindsStatement day query found = Unit {0}
 
--- the answer is a statement over right pieces of the tables: those of the firm that it names, each in
--- its ranges and under a charge that it tells
-abbrev pub IsOverRightPieces : Tables → Answer → Type 0
-IsOverRightPieces t answer =
-    (head : StatementHead) × (answer ≡ Text (statement_paid head (pieces_for head t)))
+-- the answer is the statement of a firm on a day, over right pieces of the tables: those of this firm,
+-- each in its ranges and under a charge that it tells
+abbrev pub IsOverRightPieces : ℕ → ℕ → Tables → Answer → Type 0
+IsOverRightPieces employer day t answer =
+    (head : StatementHead) × IsFor employer day head
+    × (answer ≡ Text (statement_paid head (pieces_for head t)))
     × ArePiecesFor head t
 
--- the answer to a query tells only rows that are right, whatever else the tables hold: a statement's
--- pieces, the claims on a payout list, the reminders of a run, and the lines in suspense
-abbrev pub IsOverRightRows : Query → Tables → Answer → Type 0
-IsOverRightRows (Statement employer) t answer = IsOverRightPieces t answer
-IsOverRightRows query t answer = AreRightFor query t
+-- the answer to a query on a day tells only rows that are right, whatever else the tables hold: the
+-- pieces of the firm's statement on this day, the claims on a payout list, the reminders of a run, and
+-- the lines in suspense
+abbrev pub IsOverRightRows : ℕ → Query → Tables → Answer → Type 0
+IsOverRightRows day (Statement employer) t answer = IsOverRightPieces employer day t answer
+IsOverRightRows day query t answer = AreRightFor query t
 
 -- what is found can be told, where the tables are those of a lawful book
 abbrev pub IsTold : Finding → Tables → Type 0
@@ -103,7 +107,7 @@ Replies day query t (Ok found) =
     IsTold found t
     × ((b : Book) → IsLawful b → Represents b t
     → (own_query b query ≡ None) × (answer_of t found ≡ answer_to b day query))
-    × TellsOnlyRight query t found × FindsStatement query found
+    × TellsOnlyRight query t found × FindsStatement day query found
 Replies day query t (Err (stop.Refused why)) =
     (b : Book) → IsLawful b → StandsWeighed b t → own_query b query ≡ Some why
 Replies day query t (Err (stop.Fault fault)) = Fails t fault

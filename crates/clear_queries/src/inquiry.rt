@@ -100,11 +100,11 @@ pub fn inquire<S: Alter>(
         → IfOk result (λ answer. ((caller : Caller) → may_query caller query.now ≡ true
         → Tells (Ask caller day query.now) t answer)
         × Holds S.Store conn.new t) }
-    // A statement, a list, a run and the lines in suspense are told only where their rows are right,
-    // whatever else the tables hold.
+    // A statement, which is the firm's on this day, a list, a run and the lines in suspense are told only
+    // where their rows are right, whatever else the tables hold.
     ensures only { HasCleanDisk (state S.Store conn.new)
         → (t : Tables) → HasTables t (state S.Store conn.old).now
-        → IfOk result (IsOverRightRows query.now t) }
+        → IfOk result (IsOverRightRows day query.now t) }
     ensures refused { HasCleanDisk (state S.Store conn.new)
         → (t : Tables) → HasTables t (state S.Store conn.old).now
         → IfErr result (λ stop. (why : _) → stop ≡ Stop.Refused why
@@ -208,7 +208,7 @@ impl Body for Inquiry<'_> {
     ghost does = { λ self t u found. (u ≡ t) × IsTold found t
         × ((caller : Caller) → may_query caller self.query.now ≡ true
         → Tells (Ask caller self.day self.query.now) t (answer_of t found))
-        × TellsOnlyRight self.query.now t found × FindsStatement self.query.now found };
+        × TellsOnlyRight self.query.now t found × FindsStatement self.day self.query.now found };
 
     ghost refuses = { λ self t why. (caller : Caller) → may_query caller self.query.now ≡ true
         → Refuses (Ask caller self.day self.query.now) t why };

@@ -1,5 +1,5 @@
 //! What a firm's statement tells, but for the pieces that pay its charges.
-ghost use Rattle.std.specs.Prelude.{◌≡◌, ℕ, IfErr, IfOk, None};
+ghost use Rattle.std.specs.Prelude.{◌≡◌, ℕ, IfErr, IfOk, IfSome, None};
 ghost use Rattle.sqlite.specs.Held.{state};
 ghost use Rattle.sqlite.specs.State.{HasCleanDisk};
 ghost use Rattle.clear_book.specs.Allocated.{StandsWeighed};
@@ -10,7 +10,7 @@ ghost use Rattle.clear_book.specs.Tables.{Tables};
 ghost use Rattle.clear_schema.specs.Frame.{Leaves};
 ghost use Rattle.clear_schema.specs.Faults.{IsOfDisk};
 ghost use Rattle.clear_schema.specs.Held.{HasTables};
-ghost use Rattle.clear_texts.specs.Records.{AreStatementRecords, IsHead};
+ghost use Rattle.clear_texts.specs.Records.{AreStatementRecords, IsFor, IsHead};
 ghost use Rattle.clear_reading.specs.FirmHead.{AreRead, IsFound};
 
 use crate::stored::fault_told;
@@ -46,6 +46,10 @@ pub fn firm_head<S: Alter>(
         → (t : Tables) → HasTables t (state S.Store tx.old.conn.now).now
         → day_back t.day day ≡ None → (b : Book) → IsLawful b → StandsWeighed b t
         → IfOk result (IsFound b employer (IsHead b employer day)) }
+    // Whatever else the tables hold.
+    ensures firm { HasCleanDisk (state S.Store tx.new.conn.now)
+        → (t : Tables) → HasTables t (state S.Store tx.old.conn.now).now
+        → IfOk result (λ head. IfSome head (IsFor employer day)) }
     // On a day that isn't before the ledger day, as it is judged to be before.
     ensures fault { HasCleanDisk (state S.Store tx.new.conn.now)
         → (t : Tables) → HasTables t (state S.Store tx.old.conn.now).now
@@ -74,6 +78,9 @@ fn find_records<S: Alter>(
         → (t : Tables) → HasTables t (state S.Store tx.old.conn.now).now
         → (day : ℕ) → day_back t.day day ≡ None → (b : Book) → IsLawful b → StandsWeighed b t
         → IfOk result (IsFound b employer (AreStatementRecords b employer day)) }
+    ensures firm { HasCleanDisk (state S.Store tx.new.conn.now)
+        → (t : Tables) → HasTables t (state S.Store tx.old.conn.now).now
+        → IfOk result (λ found. IfSome found (λ records. records.member.employer ≡ employer)) }
     ensures fault { HasCleanDisk (state S.Store tx.new.conn.now)
         → (t : Tables) → HasTables t (state S.Store tx.old.conn.now).now
         → (b : Book) → IsLawful b → StandsWeighed b t → IfErr result IsOfDisk }
@@ -96,6 +103,7 @@ fn read_records<S: Alter>(
     ensures read { HasCleanDisk (state S.Store tx.new.conn.now)
         → (t : Tables) → HasTables t (state S.Store tx.old.conn.now).now
         → (b : Book) → IsLawful b → StandsWeighed b t → IfOk result (AreRead b t member) }
+    ensures member { IfOk result (λ records. records.member ≡ member) }
     ensures fault { HasCleanDisk (state S.Store tx.new.conn.now)
         → (t : Tables) → HasTables t (state S.Store tx.old.conn.now).now
         → (b : Book) → IsLawful b → StandsWeighed b t → IfErr result IsOfDisk }

@@ -8,8 +8,8 @@ use Rattle.std.specs.Str.{is_utf8}
 use Rattle.clear_money.specs.Bytes.{is_printable}
 use Rattle.clear_money.specs.Calendar.{IsMonth}
 use Rattle.clear_money.specs.Texts.{month_text}
-use Rattle.clear_money.specs.WrittenRate.{month_spelled}
-use Rattle.clear_money.proofs.WrittenRateLemmas.{month_spelled-some, month_spelled-none}
+use Rattle.clear_money.specs.Texts.{month_spelled}
+use Rattle.clear_money.proofs.MonthTextLemmas.{month_spelled-some, month_spelled-none}
 use Rattle.clear_book.specs.Limits.{most_name_bytes}
 use Rattle.clear_book.specs.Texts.{IsName}
 use Rattle.clear_routes.specs.Members.{is_name, name_in, where_so}

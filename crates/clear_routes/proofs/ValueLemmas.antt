@@ -10,7 +10,7 @@ use Rattle.std.specs.Str.Parse.{AllDigits}
 use Rattle.clear_money.specs.Calendar.{IsMonth}
 use Rattle.clear_money.specs.Numbers.{IsNumberText}
 use Rattle.clear_money.specs.Texts.{month_text}
-use Rattle.clear_money.proofs.WrittenRateLemmas.{month_text-one}
+use Rattle.clear_money.proofs.MonthTextLemmas.{month_text-one}
 use Rattle.clear_routes.specs.Kinds.{IsOfKind, AreOfKinds, spelling, spellings, kinds_in, with_value, least, parameters}
 use Rattle.clear_routes.specs.Raw.{texts_in}
 use Rattle.clear_routes.specs.Raw.{AllAscii}

@@ -8,7 +8,7 @@ use Rattle.serde_json.specs.Find.{get, as_object, as_array, as_number, as_u64, a
 use Rattle.clear_money.specs.Bytes.{is_printable}
 use Rattle.clear_money.specs.Numbers.{most_amount, most_employer_no, most_worker_no}
 use Rattle.clear_money.specs.Options.{◌>>=◌}
-use Rattle.clear_money.specs.WrittenRate.{month_spelled}
+use Rattle.clear_money.specs.Texts.{month_spelled}
 use Rattle.clear_book.specs.Limits.{most_name_bytes}
 use Rattle.clear_book.specs.Texts.{is_reference}
 use Rattle.clear_book.specs.declared.texts.WageLine.{WageLine}

@@ -7,7 +7,7 @@ ghost use Rattle.clear_routes.specs.Further.{least_further, only};
 ghost use Rattle.clear_routes.specs.InOrder.{first_further};
 
 use crate::faults::{BodyFault, Member};
-use clear_money::documents::is_one_of;
+use clear_money::names::is_one_of;
 use serde_json::{Map, Value};
 use std::alloc::Global;
 

@@ -1,6 +1,6 @@
 //! What single members of a JSON object say. A reader takes the object and the member's name.
 ghost use Rattle.std.specs.Prelude.{◌≡◌, option_map, IfOk};
-ghost use Rattle.clear_money.specs.WrittenRate.{month_spelled};
+ghost use Rattle.clear_money.specs.Texts.{month_spelled};
 ghost use Rattle.serde_json.specs.View.{view, items_view};
 ghost use Rattle.clear_routes.specs.Members.{number_at, text_at, array_at, worker_at, name_in};
 ghost use Rattle.clear_routes.specs.Members.{reference_in, line_in, lines_in};

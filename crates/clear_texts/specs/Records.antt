@@ -50,6 +50,10 @@ pub record IsHead (b : Book) (e day : ℕ) (head : StatementHead) : Type 0 where
       ≡ map whole_payment (credit_rows_of b e Interest)
   pub missing_is : head.missing.items ≡ missing b e day
 
+-- it is for this firm and this day
+abbrev pub IsFor : ℕ → ℕ → StatementHead → Type 0
+IsFor e day head = (head.firm.employer ≡ e) × (head.firm.day ≡ day)
+
 -- the records are those of the worker in the tables of the book: its wage rows, and all claims for
 -- it, those that are withdrawn too
 pub record AreWorkerRecords (b : Book) (w : ℕ) (r : WorkerRecords) : Type 0 where

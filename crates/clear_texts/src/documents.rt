@@ -5,7 +5,7 @@ ghost use Rattle.clear_book.specs.Book.{Book};
 ghost use Rattle.clear_book.specs.Documents.Worker.{worker_text};
 ghost use Rattle.clear_book.specs.Machine.{IsLawful};
 ghost use Rattle.clear_book.specs.Own.Worker.{worker_on};
-ghost use Rattle.clear_texts.specs.Records.{AreStatementRecords, AreWorkerRecords, IsHead};
+ghost use Rattle.clear_texts.specs.Records.{AreStatementRecords, AreWorkerRecords, IsFor, IsHead};
 
 use crate::account::worker_account;
 use crate::arrears::interest_arrears;
@@ -23,8 +23,8 @@ use std::alloc::Global;
 
 /// What the statement of a firm tells on a day, by its records, but for the pieces that pay its
 /// charges. Records that no book has are refused with `StoreCause::Row` where they have credits for
-/// interest of which those before one already come to more than those of an account do; else no
-/// contract says what is told of such records.
+/// interest of which those before one already come to more than those of an account do; else the
+/// contract says of such records only that the statement is for their firm and this day.
 pub fn statement_head(
     alloc: Global,
     records: &StatementRecords,
@@ -34,6 +34,8 @@ pub fn statement_head(
         → IfOk result (IsHead b e day) }
     ensures fault { (b : Book) (e : ℕ) → AreStatementRecords b e day records.now
         → IfErr result (λ fault. fault ≡ RowFault.Memory) }
+    // Whatever the records are.
+    ensures firm { IfOk result (IsFor records.now.member.employer day) }
 {
     let credits = records.interest_credits.as_slice();
     let interest = match interest_arrears(&records.rates, &records.charges, credits, day) {

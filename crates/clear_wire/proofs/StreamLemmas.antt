@@ -1,5 +1,5 @@
 -- What stands at the front of a stream, from the bytes that came so far.
-use Rattle.std.proofs.Common.{◌≡◌, ℕ, ◌+◌, ◌-◌, ◌<◌, ◌≤◌, cond, List, [], ◌∷◌, ◌++◌, length, take, drop, Some, None, eqb, sym, ap, ◌∙◌, subst, arith, inl, inr, ◌⊎◌}
+use Rattle.std.proofs.Common.{◌≡◌, ℕ, ◌+◌, ◌-◌, ◌<◌, ◌≤◌, cond, List, [], ◌∷◌, ◌++◌, length, take, drop, max, Option, Some, None, eqb, sym, ap, ◌∙◌, subst, arith, inl, inr, ◌⊎◌}
 use Rattle.std.proofs.lemmas.List.{append-nil, take-append-le, take_all, length-append, length-take}
 use Rattle.std.proofs.lemmas.Bool.{le-leb, lt-leb, cases_lt, cases_Bool}
 use Rattle.std.proofs.Math.Seq.{take-append-add}
@@ -45,7 +45,7 @@ pub front_ended : (b : ℕ) (u : List ℕ) → skip_empty_lines (b ∷ u) ≡ b 
 front_ended b u none e short =
     ap front_of none ∙ ap (λ o. cut_at o (b ∷ u)) e ∙ ap (λ t. cond t too_long unended) (lt-leb head_limit _ short)
 
-pub front_unended : (u m : List ℕ) → m ≡ [] → 0 < length u → skip_empty_lines u ≡ u → head_len (take head_limit u) ≡ None → length u < head_limit → front (u ++ m) ≡ unended
+pub front_unended : (u m : List ℕ) → m ≡ [] → 2 ≤ length u → skip_empty_lines u ≡ u → head_len (take head_limit u) ≡ None → length u < head_limit → front (u ++ m) ≡ unended
 front_unended [] m end some none e short = absurd (omega arith)
 front_unended (b ∷ u) m end some none e short = ap (λ t. front (b ∷ u ++ t)) end ∙ ap front (append-nil (b ∷ u)) ∙ front_ended b u none e short
 
@@ -58,10 +58,21 @@ front_short [] m end some short none = absurd (omega arith)
 front_short (b ∷ []) m end some short none = front_one b m end none
 front_short (b ∷ c ∷ u) m end some short none = absurd (omega arith)
 
+-- the end that is found among some bytes, and among the same under another name
+pub same_end : (limit : ℕ) (a b : List ℕ) (o : Option ℕ) → a ≡ b → o ≡ head_len (take limit a) → head_len (take limit b) ≡ o
+same_end limit a b o e found = ap (λ t. head_len (take limit t)) (sym e) ∙ sym found
+
+pub head_len-some : (n : ℕ) (bytes : List ℕ) → head_len bytes ≡ Some n → 2 ≤ n
+head_len-some n bytes e = (head_end-bounds 0 n bytes e).0
+
+pub begun-append : (u v m : List ℕ) → v ≡ u ++ m → 2 ≤ length u → 2 ≤ length v
+begun-append u v m grown begun = omega (arith, ap length grown, length-append u m, begun)
+
 -- further bytes came, and those before them, so many, end no head
-pub searched-append : (limit n : ℕ) (u v m : List ℕ) → n ≡ length u → v ≡ u ++ m → 2 ≤ length u → length u ≤ limit → head_len (take limit u) ≡ None
+pub searched-append : (limit n : ℕ) (u v m : List ℕ) → n ≡ length u → v ≡ u ++ m → 2 ≤ length u → length u < limit → head_len (take limit u) ≡ None
     → HasNoEndBefore (n - 2) (take limit v)
-searched-append limit n u v m count grown long short none =
+searched-append limit n u v m count grown long under none =
+    let short : length u ≤ limit = omega (arith, under) in
     let more = take (limit - length u) m in
     let all : take limit v ≡ u ++ more = ap (take limit) grown ∙ take-longer limit u m short in
     let found : head_len u ≡ None = ap head_len (sym (take_all limit u short)) ∙ none in
@@ -69,17 +80,27 @@ searched-append limit n u v m count grown long short none =
     subst (λ (t : List ℕ). HasNoEndBefore (n - 2) t) (sym all)
     (ap (λ k. head_end k (drop (n - 2) (u ++ more))) place ∙ head_end-searched (n - 2) 0 u more (omega (arith, long, count)) found)
 
+pub searched-within : (limit n : ℕ) (u v m : List ℕ) → n ≡ length u → v ≡ u ++ m → length u < limit → n - 2 ≤ length (take limit v)
+searched-within limit n u v m count grown under =
+    let all : take limit v ≡ u ++ take (limit - length u) m = ap (take limit) grown ∙ take-longer limit u m (omega (arith, under)) in
+    omega (arith, count, ap length all, length-append u (take (limit - length u) m))
+
 -- further bytes came, and those before them end no head: one that ends now has more than those
-pub found_behind : (limit n : ℕ) (u v m : List ℕ) → v ≡ u ++ m → length u ≤ limit → head_len (take limit u) ≡ None → head_len (take limit v) ≡ Some n
+found_behind : (limit n : ℕ) (u v m : List ℕ) → v ≡ u ++ m → length u < limit → head_len (take limit u) ≡ None → head_len (take limit v) ≡ Some n
     → length u < n
-found_behind limit n u v m grown short none found =
+found_behind limit n u v m grown under none found =
+    let short : length u ≤ limit = omega (arith, under) in
     let more = take (limit - length u) m in
     let all : take limit v ≡ u ++ more = ap (take limit) grown ∙ take-longer limit u m short in
     let before : head_len u ≡ None = ap head_len (sym (take_all limit u short)) ∙ none in
     let after : head_len (u ++ more) ≡ Some n = ap head_len (sym all) ∙ found in
     omega (arith, head_end-behind 0 n u more before after)
 
-pub searched-within : (limit n : ℕ) (u v m : List ℕ) → n ≡ length u → v ≡ u ++ m → length u ≤ limit → n - 2 ≤ length (take limit v)
-searched-within limit n u v m count grown short =
-    let all : take limit v ≡ u ++ take (limit - length u) m = ap (take limit) grown ∙ take-longer limit u m short in
-    omega (arith, count, ap length all, length-append u (take (limit - length u) m))
+-- fewer bytes came than were needed, and one read more
+pub ahead-read : (limit chunk before a b : ℕ) → a < limit → b ≤ a + chunk → b < max before (limit + chunk)
+ahead-read limit chunk before a b under few = omega (arith, under, few)
+
+pub ahead-found : (limit chunk before n : ℕ) (u v m : List ℕ) → v ≡ u ++ m → length u < limit → head_len (take limit u) ≡ None → head_len (take limit v) ≡ Some n
+    → length v ≤ length u + chunk → length v < max before (n + chunk)
+ahead-found limit chunk before n u v m grown under none found few =
+    ahead-read n chunk before (length u) (length v) (found_behind limit n u v m grown under none found) few

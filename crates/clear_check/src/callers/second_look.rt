@@ -6,7 +6,7 @@ ghost use Rattle.std.specs.Prelude.{◌≡◌, ℕ, List, IfOk, IfSome, Some, is
 ghost use Rattle.std.specs.Prelude.{string_bytes};
 ghost use Rattle.toml.specs.Data.{Data, Members};
 ghost use Rattle.toml.specs.View.{table_view, view};
-ghost use Rattle.clear_money.specs.RateFile.{document_of};
+ghost use Rattle.clear_toml.specs.RateFile.{document_of};
 ghost use Rattle.clear_callers.specs.CallerFile.{caller_at};
 ghost use Rattle.clear_check.specs.CallerChecks.{IsWrongKey, first_wrong, why_no_key};
 

@@ -6,8 +6,9 @@ ghost use Rattle.std.specs.Prelude.{◌≡◌, ◌∷◌, ◌++◌, [], map, cod
 ghost use Rattle.std.specs.Prelude.{option_and_then, is_none, is_some, slice_get};
 ghost use Rattle.toml.specs.Data.{Members, get, get_member};
 ghost use Rattle.toml.specs.View.{table_view, view};
-ghost use Rattle.clear_money.specs.RateFile.{document_of};
-ghost use Rattle.clear_money.specs.WrittenRate.{month_spelled, number_of, text_of, within};
+ghost use Rattle.clear_money.specs.Texts.{month_spelled};
+ghost use Rattle.clear_toml.specs.RateFile.{document_of};
+ghost use Rattle.clear_toml.specs.WrittenRate.{number_of, text_of, within};
 ghost use Rattle.clear_check.specs.RateFound.{IsFoundIn, first_of, first_other, members_wrong};
 ghost use Rattle.clear_check.specs.RateFound.{month_wrong, no_month, number_text, numbers_wrong};
 ghost use Rattle.clear_check.specs.RateFound.{order_found, outside_found, ranged, row_of};
@@ -17,10 +18,10 @@ ghost use Rattle.clear_check.specs.Shown.{IsShown, alone};
 use crate::document::no_document;
 use crate::seen::Seen;
 use crate::texts::shown;
-use clear_money::documents::is_one_of;
 use clear_money::months::Month;
-use clear_money::rate_file::{ROW_MEMBERS, RateFault};
+use clear_money::names::is_one_of;
 use clear_money::rates::RateRow;
+use clear_toml::rate_file::{ROW_MEMBERS, RateFault};
 use std::alloc::{AllocError, Global};
 use toml::{Table, Value};
 

@@ -1,7 +1,7 @@
 use Rattle.std.proofs.Common.{refl}
 use Rattle.std.specs.Str.{is_utf8, chars}
 use Rattle.toml.proofs.OnLiterals.{toml_on_literals}
-use Rattle.clear_money.specs.RateFile.{document_of}
+use Rattle.clear_toml.specs.RateFile.{document_of}
 use Rattle.clear_callers.specs.CallerFile.{directory_of}
 use Rattle.clear_callers.proofs.directory.law_examples_are_read.Goals as goal
 

@@ -1,7 +1,7 @@
 use Rattle.std.proofs.Common.{ℕ, List, ◌∙◌, inl, inr, refl, subst}
 use Rattle.clear_server.specs.Told.{Writes, written_by}
-use Rattle.clear_program.specs.Stops.{Tells}
-use Rattle.clear_program.specs.declared.stop.Stop.{Stop}
+use Rattle.clear_work.specs.Stops.{Tells}
+use Rattle.clear_work.specs.declared.stop.Stop.{Stop}
 use Rattle.clear_program.proofs.look.tell_why.Goals as goal
 
 pub returns-in-Ok-clause-told : goal.returns-in-Ok-clause-told

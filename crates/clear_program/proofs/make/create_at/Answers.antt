@@ -1,5 +1,5 @@
 use Rattle.std.proofs.Common.{◌∙◌, ap}
-use Rattle.clear_program.specs.Stops.{by_store}
+use Rattle.clear_work.specs.Stops.{by_store}
 use Rattle.clear_program.proofs.make.create_at.Goals as goal
 
 pub returns-in-Err : goal.returns-in-Err

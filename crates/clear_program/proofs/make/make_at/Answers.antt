@@ -2,7 +2,7 @@ use Rattle.std.proofs.Common.{inl, refl, string_bytes}
 use Rattle.sqlite.specs.Files.{over_files}
 use Rattle.clear_cli.specs.Ready.{schema_line}
 use Rattle.clear_schema.specs.Held.{this_schema}
-use Rattle.clear_program.specs.declared.stop.Stop.{Stop}
+use Rattle.clear_work.specs.declared.stop.Stop.{Stop}
 use Rattle.clear_program.proofs.EndLemmas.{IsUnmade, said_so, unmade}
 use Rattle.clear_program.proofs.make.make_at.Goals as goal
 

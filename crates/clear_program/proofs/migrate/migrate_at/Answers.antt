@@ -3,7 +3,7 @@ use Rattle.clear_cli.specs.Ready.{schema_line}
 use Rattle.clear_schema.specs.Held.{this_schema}
 use Rattle.clear_schema.specs.declared.fault.Fault.TheVariants.{Memory}
 use Rattle.clear_schema.specs.declared.fault.OpenFault.TheVariants.{Failed}
-use Rattle.clear_program.specs.Stops.{IsOfStore, by_store}
+use Rattle.clear_work.specs.Stops.{IsOfStore, by_store}
 use Rattle.clear_program.specs.declared.opening.Unopened.{Unopened}
 use Rattle.clear_program.proofs.EndLemmas.{said_so, why_of_store}
 use Rattle.clear_program.proofs.migrate.migrate_at.Goals as goal

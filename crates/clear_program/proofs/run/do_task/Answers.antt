@@ -1,6 +1,6 @@
 use Rattle.std.proofs.Common.{◌≡◌, ◌∙◌, ℕ, Bool, Ok, if◌then◌else◌, refl, sym, ap, subst, string_bytes}
 use Rattle.clear_server.specs.Told.{written_by}
-use Rattle.clear_program.specs.Ends.{Puts}
+use Rattle.clear_work.specs.Says.{Puts}
 use Rattle.clear_program.proofs.run.do_task.Goals as goal
 use Rattle.clear_program.proofs.run.do_task.Goals.{then-checked, else-checked}
 

@@ -20,7 +20,7 @@ use Rattle.clear_queries.proofs.inquiry.inquire.Goals as goal
 pub returns-in-Answer-clause-crash : goal.returns-in-Answer-clause-crash
 returns-in-Answer-clause-crash g c clean t has trees may =
     leaves_tables g.S.Store c.args.conn.now c.within.new.conn t
-    (λ (u : Tables) (found : Finding). (u ≡ t) × IsTold found t × ((caller : Caller) → may_query caller c.args.query.now ≡ true → Tells (Ask caller c.args.day c.args.query.now) t (answer_of t found)) × TellsOnlyRight c.args.query.now t found × FindsStatement c.args.query.now found)
+    (λ (u : Tables) (found : Finding). (u ≡ t) × IsTold found t × ((caller : Caller) → may_query caller c.args.query.now ≡ true → Tells (Ask caller c.args.day c.args.query.now) t (answer_of t found)) × TellsOnlyRight c.args.query.now t found × FindsStatement c.args.day c.args.query.now found)
     (λ u found does. does.0) (c.within.ensures.crash t has) clean trees may
 
 pub returns-in-Document-clause-told : goal.returns-in-Document-clause-told
@@ -47,7 +47,7 @@ returns-in-Document-clause-crash g c clean t has trees may =
     let now : HasTables t (state g.S.Store mid).now = subst (λ (u : Tables). HasTables u (state g.S.Store mid).now) done.1.0 done.2 in
     elim ((c.tell_document.ensures.survives t now).crash clean trees may) [
       | inl then ↦ leaves_tables g.S.Store c.args.conn.now mid t
-          (λ (u : Tables) (found : Finding). (u ≡ t) × IsTold found t × ((caller : Caller) → may_query caller c.args.query.now ≡ true → Tells (Ask caller c.args.day c.args.query.now) t (answer_of t found)) × TellsOnlyRight c.args.query.now t found × FindsStatement c.args.query.now found)
+          (λ (u : Tables) (found : Finding). (u ≡ t) × IsTold found t × ((caller : Caller) → may_query caller c.args.query.now ≡ true → Tells (Ask caller c.args.day c.args.query.now) t (answer_of t found)) × TellsOnlyRight c.args.query.now t found × FindsStatement c.args.day c.args.query.now found)
           (λ u found does. does.0) (c.within.ensures.crash t has) before trees then
       | inr none ↦ absurd none
     ]
@@ -68,12 +68,12 @@ returns-in_err-answer-clause-failed g c clean t has =
 pub returns-in-Answer-clause-only : goal.returns-in-Answer-clause-only
 returns-in-Answer-clause-only g c clean t has =
     let done = c.in_ok-answer.ensures.done clean t has in
-    answer_right c.args.query.now t _ (subst (TellsOnlyRight c.args.query.now t) c.in-Answer.is done.1.3) (subst (FindsStatement c.args.query.now) c.in-Answer.is done.1.4)
+    answer_right c.args.day c.args.query.now t _ (subst (TellsOnlyRight c.args.query.now t) c.in-Answer.is done.1.3) (subst (FindsStatement c.args.day c.args.query.now) c.in-Answer.is done.1.4)
 
 pub returns-in-Document-clause-only : goal.returns-in-Document-clause-only
 returns-in-Document-clause-only g c clean t has =
     let mid = c.within.new.conn in
     let done = c.in_ok-answer.ensures.done (c.tell_document.ensures.clean clean) t has in
     let now : HasTables t (state g.S.Store mid).now = subst (λ (u : Tables). HasTables u (state g.S.Store mid).now) done.1.0 done.2 in
-    document_right c.args.query.now t c.in-Document.document (subst (TellsOnlyRight c.args.query.now t) c.in-Document.is done.1.3) (subst (FindsStatement c.args.query.now) c.in-Document.is done.1.4)
+    document_right c.args.day c.args.query.now t c.in-Document.document (subst (TellsOnlyRight c.args.query.now t) c.in-Document.is done.1.3) (subst (FindsStatement c.args.day c.args.query.now) c.in-Document.is done.1.4)
     c.tell_document.result (c.tell_document.ensures.told clean t now) (c.tell_document.ensures.only clean t now)

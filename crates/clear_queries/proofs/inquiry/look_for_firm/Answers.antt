@@ -13,7 +13,7 @@ returns-in-Some-clause-told g c clean t has back =
       λ b lawful represents. statement_tellable b t lawful represents c.args.employer c.args.day c.in-Some.head (found b lawful represents),
       λ b lawful represents. statement_told b t lawful represents c.args.employer c.args.day c.in-Some.head (found b lawful represents),
       λ right. tt,
-      (c.in-Some.head, refl),
+      (c.in-Some.head, rw c.in-Some.is at (c.in_ok-head.ensures.firm clean t has), refl),
     )
 
 pub returns-in-None-clause-told : goal.returns-in-None-clause-told

@@ -1,9 +1,10 @@
-use Rattle.std.proofs.Common.{[], ◌∷◌, ◌∙◌, sym, ap}
+use Rattle.std.proofs.Common.{◌≡◌, [], ◌∷◌, ◌∙◌, sym, ap}
 use Rattle.std.proofs.lemmas.Result.{err_from_is_err_and}
 use Rattle.std.specs.Option.{option_map}
 use Rattle.sqlite.specs.Held.{state}
 use Rattle.clear_book.specs.RowRanges.{IsEmployerRow}
 use Rattle.clear_book.specs.Tables.{employer_key, member_in}
+use Rattle.clear_values.proofs.KeyedLemmas.{found_key}
 use Rattle.clear_laws.proofs.RowRangeLemmas.{rows_in_range}
 use Rattle.clear_debts.proofs.FaultLemmas.{found_in_range}
 use Rattle.clear_debts.proofs.ReadLemmas.{was_clean, still}
@@ -40,3 +41,12 @@ returns-in_err-records-clause-fault g c clean t has b lawful weighed =
     let clean_one = was_clean one end c.in_err-records.ensures.leaves.survives clean in
     let has_one = still t old one (c.in_ok-member.ensures.looks.same clean_one t has) has in
     rw (p.1, p.2) (c.in_err-records.ensures.fault clean t has_one b lawful weighed)
+
+pub returns-clause-firm : goal.returns-clause-firm
+returns-clause-firm g c clean t has =
+    let one = state g.S.Store c.find_employer.new.tx.conn.now in
+    let end = state g.S.Store c.read_records.new.tx.conn.now in
+    let clean_one = was_clean one end c.in_ok-records.ensures.leaves.survives clean in
+    let key : c.in-Some.member.employer ∷ [] ≡ c.args.employer ∷ [] =
+    found_key employer_key t.employers (c.args.employer ∷ []) c.in-Some.member (sym (rw c.in-Some.is at (c.in_ok-member.ensures.looks.found clean_one t has))) in
+    ap (λ member. member.employer) c.in_ok-records.ensures.member ∙ cc key

@@ -1,7 +1,7 @@
 use Rattle.std.proofs.Common.{ap, sym, ◌∙◌}
 use Rattle.std.proofs.lemmas.Bool.{false≢true}
 use Rattle.std.proofs.lemmas.Option.{none-some, same_Some}
-use Rattle.clear_money.proofs.RateFileLemmas.{document_of-text, document_of-none}
+use Rattle.clear_toml.proofs.RateFileLemmas.{document_of-text, document_of-none}
 use Rattle.clear_check.specs.CallerChecks.{first_wrong}
 use Rattle.clear_check.proofs.callers.second_look.look_at.Goals as goal
 

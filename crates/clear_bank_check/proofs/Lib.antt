@@ -1,0 +1,3 @@
+pub mod BankCheckLemmas
+pub mod HintLemmas
+pub mod RecordLemmas

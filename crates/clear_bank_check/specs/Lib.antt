@@ -1,0 +1,3 @@
+pub mod BankChecks
+pub mod BankFound
+pub mod Hints

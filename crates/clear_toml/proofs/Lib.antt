@@ -1,0 +1,2 @@
+pub mod RateFileLemmas
+pub mod WrittenRateLemmas

@@ -1,0 +1,2 @@
+pub mod RateFile
+pub mod WrittenRate

@@ -1,0 +1,2 @@
+pub mod StreamLemmas
+pub mod WriteLemmas

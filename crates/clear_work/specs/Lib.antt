@@ -1,0 +1,5 @@
+pub mod Stops
+pub mod Works
+pub mod Says
+pub mod Looks
+pub mod Streams
