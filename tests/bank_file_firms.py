@@ -232,7 +232,7 @@ class Firms(BankFiles):
         texts = [f"{word} 1001" for word in words] + [f"1001 {unit}" for unit in ("Tage", "h", "m", "km", "Bremen")]
         texts += ["Mai 1001, Juni 1400", "Beitrag 1001 Zinsen 12", "Beitrag 1001, 03-77", "Beitrag 1001 77/2024",
                   "Nr. 1001 vom 12.5.24", "Beitrag vom 12.05.24 1001", "Arbeitgeber 1001 Arbeitnehmer 900",
-                  "Mai 1001 Juni 1997", "Mai 1001, Juni 2405", "1001 4711 1001", "#1001/x",
+                  "Mai 1001 Juni 1997", "Mai 1001, Juni 2405", "#1001/x",
                   ["Nummer RE2024A", "1001 Danke"], ["Nr. 1001-", "Nord"],
                   ["IBAN DE89 3704 0044 0532 0130 00", "1001 Danke"], "Gemeinde 1001 Beitrag Mai", "Ingenieur 1001",
                   "Büro 1001 Beitrag Mai 2024 Nord GmbH Danke", "BG 1001 Beitrag Mai 2024 Nord GmbH", "Baron 1001",
@@ -272,7 +272,8 @@ class Firms(BankFiles):
         self.finds("1224", "AG-Nr. 1224", table="iban,employer\n,1224\n")
 
     def test_small_numbers(self):
-        none = ("9", "Monat 9", "9 Arbeiter", "9. Abschlag", "Anzahl 9", "Beitrag 500", "500", "12 Uhr", "5, 9")
+        none = ("9", "Monat 9", "9 Arbeiter", "9. Abschlag", "Anzahl 9", "Beitrag 500", "500", "12 Uhr", "5, 9",
+                "Beitrag Monat Nr. 9", "Quartal Nr. 9", "Beitrag Nr. 12")
         for text in ("Nr. 9", "Betrieb 9", "Mitglieds-Nr. 9, Mai", "Firma 9, 12 Arbeiter"):
             self.finds("9", text, table="iban,employer\n,9\n")
         self.finds_each((9, 12, 500), none, ())
@@ -297,12 +298,27 @@ class Firms(BankFiles):
 
     def test_numbers_that_are_named_together(self):
         """The other one may be of a firm that isn't in the table yet."""
-        none = ("Betrieb 1001 und 1010", "Betrieb 1001 u. 1010", "Firma 1001 / 1010", "Betrieb 1001 + 1010",
-                "Betrieb 1001 bis 1010", "Mitglied 1001, 1003 sowie 1010")
+        none = ("Betrieb 1001 und 1010", "Betrieb 1001 u. 1010", "Betrieb 1001 + 1010", "Betrieb 1001 bis 1010",
+                "Betrieb 1001 oder 1010", "Betrieb 1001 und auch 1010", "Betrieb Nr. 1001 und Nr. 1010",
+                "Betrieb 1001 und Betrieb 1010", "Betrieb 1010 / Betrieb 1001", "Betrieb 1001, Betrieb 10",
+                "Betrieb 1001 1.000,00 EUR, Betrieb 1010 500,00 EUR", ["Betrieb 1001", "und Betrieb 1010"])
+        by_name = ("Firma 1001 / 1010", "Mitglied 1001, 1003 sowie 1010", "Betriebs-Nr. 1001 + Betriebs-Nr. 1010",
+                   "Firma 1001, Mitglieds-Nr. 1010")
         known = ("Betrieb 1001, 28195 Bremen", "Betrieb 1001 und 12 Arbeiter", "Betrieb 1001 und 2024",
-                 "Betrieb 1001 und Rechnung 1010", "Betrieb 1001 und 122024", "Betrieb 1001 4711")
-        self.finds_each((1001,), none, known)
-        self.finds_each((1001,), none[:1], known[:3], "--number-word", "Betrieb")
+                 "Betrieb 1001 und Rechnung 1010", "Betrieb 1001 und 122024", "Betrieb 1001 Mai, Betrieb 1001 Juni",
+                 "Rechnung Nr. 1010, Betrieb 1001")
+        self.finds_each((1001,), none + by_name, (*known, "Betrieb 1001, Betrieb 2024"))
+        self.finds_each((1001,), none, (*known[:3], *known[4:], "Betrieb 1001, Mitglieds-Nr. 1010"),
+                        "--number-word", "Betrieb")
+
+    def test_numbers_in_groups(self):
+        """Further digits behind one, but for a year, a date and an amount, may be of the same number."""
+        none = ("Betriebs-Nr. 1234 5678", "Betrieb 1234 567", "Betrieb 1234 28195 Bremen", "1234 5678",
+                "Betrieb 1234 0815", "Betrieb 1234 4711 1234")
+        known = ("Betrieb 1001 2024", "Betrieb 1001 05 2024", "Betrieb 1001 122024", "Betrieb 1001 0524",
+                 "Betrieb 1001 500,00", "Betrieb 1001 1.500,00", "Betrieb 1001 12 Arbeiter", "Betrieb 1001, 4711")
+        self.finds_each((1234, 5678, 12345678, 1001), none, known)
+        self.finds_each((1234, 5678, 1001), ("Betrieb 1234 5678",), known, "--number-word", "Betrieb")
 
     def test_dates_without_points_and_quarters(self):
         dates = (1224, 52024, 122024, 202405, 150524, 15052024, 20240515, 2405, 240515)
@@ -385,11 +401,17 @@ class Firms(BankFiles):
         entries = payment("2.00", "x", "", STRANGE, "E-1"), payment("3.00", "y", "", STRANGE, "E-2")
         content = one("0", "5.00", *entries)
         self.write("made.csv", HEADER + "E-1,2024-04-30,1001,200,,x\nE-2,2024-04-30,1001,299,C,y\n")
-        self.write("more.csv", HEADER + "E-1,2024-04-30,1002,200,C,x\n")
+        self.write("more.csv", HEADER + "E-1,2024-04-30,1001,200,C,x\n")
         self.write("firms.csv", f"iban,employer\n{STRANGE},5\n")
         told = self.makes(content, ["E-1,2024-04-30,1001,200,,x", "E-2,2024-04-30,5,300,C,y"],
                           "--earlier", "made.csv", "more.csv")
         self.assertIn("  as in an earlier file: 1 line, 2.00 EUR\n", told)
+        # The office has taken one of them alone.
+        for line in ("E-1,2024-04-30,1002,200,C,x", "E-1,2024-04-30,1001,200,I,x", "E-1,2024-04-30,1001,201,C,x"):
+            self.write("more.csv", f"{HEADER}{line}\n")
+            self.refuses(content, "more.csv, line 2: E-1 is another line than in made.csv, line 2, so the office took "
+                         "one of the two at most; give the files that were imported", 2,
+                         words=("--firms", "firms.csv", "--earlier", "made.csv", "more.csv"))
         # Of another payer or text it is another payment, which the office refuses under that reference.
         self.write("made.csv", HEADER + "E-1,2024-04-30,1001,200,C,z\n")
         self.makes(content, ["E-1,2024-04-30,5,200,C,x", "E-2,2024-04-30,5,300,C,y"], "--earlier", "made.csv")

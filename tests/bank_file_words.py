@@ -247,6 +247,16 @@ class CommandLine(BankFiles):
             status, _, told = self.tool(*self.words, stdout=full)
         self.assertEqual((status, told), (2, "[Errno 28] No space left on device\n"))
 
+        for words in (["--help"], [*self.words, "--help"]):
+            with open("/dev/full", "wb") as full:
+                status, _, told = self.tool(*words, stdout=full)
+            self.assertEqual((status, told), (2, "[Errno 28] No space left on device\n"))
+
+    def test_no_memory(self):
+        self.write("statement", entries(10_000))
+        few = {"preexec_fn": lambda: resource.setrlimit(resource.RLIMIT_AS, (45_000_000, 45_000_000))}
+        self.assertEqual(self.tool(*self.words, **few), (2, "", "there was no memory\nnothing is written\n"))
+
     def test_stops(self):
         os.mkfifo(self.folder / "slow")
         for number in (signal.SIGINT, signal.SIGTERM, signal.SIGHUP):
@@ -294,6 +304,7 @@ class CommandLine(BankFiles):
             self.assertIn(word, output)
         for words in ("", "statement", "--firms firms.csv", "statement --firms firms.csv more",
                       "statement --firms firms.csv --interest-word a-b",
+                      "statement --firms firms.csv --firms firms.csv", "statement --firms firms.csv --out a --out b",
                       "statement --firms firms.csv --ou x"):
             status, output, told = self.tool(*words.split())
             self.assertEqual((status, output, told[:6]), (2, "", "usage:"))

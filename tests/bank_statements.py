@@ -225,7 +225,7 @@ NO_REFERENCES_LINES = [
 
 # "B: " and 135 letters are 138 bytes, so that the next sign of four bytes doesn't fit.
 NOTES = one(
-    "0.00", "8.00",
+    "0.00", "9.00",
     payment("1.00", "n" * 135 + "\U0001f477z", "B", reference="NT-1"),
     payment("1.00", "n" * 133 + "\U0001f477z", "B", reference="NT-2"),
     payment("1.00", 'a,b "c"\n\t d&#13;&#x85;&#x7f;&#x202e;e', reference="NT-3"),
@@ -234,6 +234,7 @@ NOTES = one(
     payment("1.00", "u&#x308; &lt;b&gt; &amp;", "Bau", reference="NT-6"),
     payment("1.00", "a; b;= +1", "Bau;=1+1", reference="NT-7"),
     payment("1.00", "\uff1d1+1", reference="NT-8"),
+    payment("1.00", "a;&quot;=1+1;b", reference="NT-9"),
 )
 NOTES_LINES = [
     f"NT-1,2024-04-30,,100,C,B: {'n' * 135}",
@@ -244,6 +245,7 @@ NOTES_LINES = [
     "NT-6,2024-04-30,,100,C,Bau: ü <b> &",
     'NT-7,2024-04-30,,100,C,"Bau,=1+1: a; b,= +1"',
     "NT-8,2024-04-30,,100,C,1+1",
+    'NT-9,2024-04-30,,100,C,"a,""=1+1;b"',
 ]
 
 LATIN = one("0.00", "1.00", payment("1.00", "März", "Größe", NORD, "LT-1"))

@@ -212,7 +212,7 @@ class Files(Tool):
         for day in ("20240503", "3.5.2024", "2024-W18-5"):
             self.refuse(2, f"argument --execution-date: '{day}' is no day YYYY-MM-DD\n",
                         *self.words, "--execution-date", day)
-        self.refuse(2, "argument --execution-date: day is out of range for month\n",
+        self.refuse(2, "argument --execution-date: '2024-02-30' is no day of the calendar\n",
                     *self.words, "--execution-date", "2024-02-30")
 
     def test_a_day_that_is_over(self):
@@ -289,7 +289,7 @@ class Lists(Tool):
                 (LIST.replace("   259.90", "259.90"), f"'     259.90' {wrong_amount}"),
                 (LIST.replace("         0.05", "        00.05"), f"'         00.05' {wrong_amount}"),
                 (LIST.replace("0.05", "0,05"), line.format(3, lines[2].replace(".", ",")[:-1])),
-                (LIST.replace("05-02", "02-30"), "day is out of range for month"),
+                (LIST.replace("05-02", "02-30"), "'2024-02-30' is no day of the calendar"),
                 ("\x1b[2J" + LIST, line.format(1, "\x1b[2Jpayout 7 2024-05-02"))):
             self.write("list.txt", text)
             self.refuse(2, f"list.txt: {fault}\n", *self.words)
@@ -392,11 +392,15 @@ class Words(Tool):
         # Quotation marks are part of a word.
         self.write("fund.words", '--debtor-name\n"Ferienkasse Süd"\n')
         self.assertIn(b"<Nm>'Ferienkasse Sued'</Nm>", self.make("@fund.words", *self.words[:4], *self.words[6:]))
+        # As editors write them: with a byte order mark, an empty line and other ends of lines.
+        self.write("fund.words", "\ufeff\n" + "\r\n".join(self.words[2:]) + "\r\n\r\n")
+        self.assertEqual(self.make("@fund.words", *self.words[:2], *MADE), wanted)
         self.write("fund.words", "@more.words\n")
-        self.write("more.words", "@fund.words\n")
-        self.refuse(2, "a file of words names itself\n", "@fund.words", *self.words)
+        self.write("more.words", "@./fund.words\n")
+        self.refuse(2, "fund.words: a file of words that names itself\n", "@fund.words", *self.words)
         self.write("fund.words", b"--debtor-name\nS\xfcd\n")
-        self.refuse(2, "a file of words is no text\n", "@fund.words", *self.words)
+        self.refuse(2, "fund.words: no text in UTF-8\n", "@fund.words", *self.words)
+        self.refuse(2, "/dev/zero: more than 4194304 bytes\n", "@/dev/zero", *self.words)
         self.refuse(2, "[Errno 2] No such file or directory: 'none'\n", "@none", *self.words)
 
     def test_words_that_stand_twice(self):

@@ -8,7 +8,7 @@ from __future__ import annotations
 
 import re
 from collections.abc import Iterable
-from dataclasses import dataclass
+from dataclasses import dataclass, replace
 
 from .tables import read_rows
 from .texts import Fault, shown
@@ -26,15 +26,24 @@ class EarlierLine:
     purpose: str
     note: str
 
+    def meant(self) -> EarlierLine:
+        """The line with its purpose, as the office takes it."""
+        return replace(self, purpose=self.purpose or "C")
+
 
 def read_earlier(paths: Iterable[str]) -> dict[str, EarlierLine]:
-    """The lines of bank files by their references, of which the first one counts."""
-    lines: dict[str, EarlierLine] = {}
+    """The lines of bank files by their references. The office has taken one of a reference alone, so files that
+    disagree on it weren't all imported."""
+    lines: dict[str, tuple[str, EarlierLine]] = {}
     for path in paths:
         for place, fields in read_rows(path, HEADER):
             check_fields(place, fields)
-            lines.setdefault(fields[0], EarlierLine(*fields[1:]))
-    return lines
+            line = EarlierLine(*fields[1:])
+            first, known = lines.setdefault(fields[0], (place, line))
+            if line.meant() != known.meant():
+                raise Fault(f"{place}: {shown(fields[0])} is another line than in {first}, so the office took one of "
+                            "the two at most; give the files that were imported")
+    return {reference: line for reference, (_, line) in lines.items()}
 
 
 def check_fields(place: str, fields: list[str]) -> None:

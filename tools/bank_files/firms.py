@@ -52,15 +52,22 @@ class Firms:
 
     def named_in(self, reading: str, may_be_paid: Callable[[Decimal], bool]) -> tuple[set[str], set[str]]:
         """The firms that a reading names for sure, and those that it may name."""
-        possible = [it for it in numbers_in(reading) if it.digits in self.numbers and self.may_be_named(it)]
-        return {it.digits for it in possible if self.is_sure(it, may_be_paid)}, {it.digits for it in possible}
+        numbers = [it for it in numbers_in(reading) if self.may_be_named(it)]
+        possible = [it for it in numbers if it.digits in self.numbers]
+        # Where several are called firms' numbers, be they in the table or not, none is sure.
+        called = {it.digits.lstrip("0") for it in numbers if self.is_called_a_firm(it)}
+        sure = [it for it in possible if len(called) < 2 and self.is_sure(it, may_be_paid)]
+        return {it.digits for it in sure}, {it.digits for it in possible}
 
     def may_be_named(self, number: Number) -> bool:
         return bool(number.words & self.number_words) if self.number_words else not number.may_be_a_year
 
+    def is_called_a_firm(self, number: Number) -> bool:
+        return not number.is_joined if self.number_words else number.is_behind_a_firm_word
+
     def is_sure(self, number: Number, may_be_paid: Callable[[Decimal], bool]) -> bool:
         is_in_doubt = number.is_joined if self.number_words else number.is_in_doubt(may_be_paid)
-        return not (is_in_doubt or number.is_one_of_several)
+        return not (is_in_doubt or number.goes_on or number.is_one_of_several)
 
 
 def read_firms(path: str, number_words: Iterable[str] = ()) -> Firms:

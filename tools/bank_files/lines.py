@@ -34,7 +34,7 @@ MOST_BYTES = 1_048_576
 
 # By these signs a spreadsheet knows a formula, also the wide ones; and by some settings a semicolon parts its fields.
 FORMULA = "=+@＝＋－＠-"
-FIELD_OF_FORMULA = re.compile(rf";(?=\s*[{FORMULA}])")
+FIELD_OF_FORMULA = re.compile(rf""";(?=[\s"']*[{FORMULA}])""")
 
 # References of this program's own making, which none of the bank's may look like.
 MADE = re.compile("(bank|place)~.*")

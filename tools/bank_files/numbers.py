@@ -92,9 +92,13 @@ SHORT_DATE = re.compile("|".join((
     "[23][0-9](?:0[1-9]|1[0-2])(?:0[1-9]|[12][0-9]|3[01])?",
 )))
 # What joins a number to that before it: 1001, 1003 and 1001 und 1003; not 1001 (1003)
-JOINED = re.compile(r"[^\w#(]{1,3}(?:(?:und|u|sowie|bis)\W{1,2})?")
-# What names two numbers together: 1001 und 1010, 1001 / 1010; not 1001, 28195 Bremen
-NAMED_TOGETHER = re.compile(r"\W{0,2}(?:und|u|sowie|bis|[&+/])\W{0,2}")
+JOINED = re.compile(r"[^\w#(]{1,3}(?:(?:und|u|sowie|oder|bis)\W{1,2})?")
+# What names two numbers together: 1001 und 1010, 1001 / 1010, 1001 und auch Nr. 1010; not 1001, 28195 Bremen
+NAMED_TOGETHER = re.compile(
+    r"\W{0,2}(?:und|u|sowie|oder|bis|[&+/])(?:\W{1,2}auch)?(?:\W{1,2}(?:nr|nummer|no))?\W{0,3}")
+# Further digits behind a blank, which may be of the same number: 1234 5678; not 1001 2024, 1001 122024, 1001 500,00
+YEAR_OR_DATE = f"(?:{YEAR}|0[1-9](?:0[1-9]|1[0-2])?(?:20)?[23][0-9]|{SHORT_DATE.pattern})(?![0-9])"
+GOES_ON = re.compile(rf" (?!{YEAR_OR_DATE})[0-9]{{3,}}(?![0-9]|[.,][0-9])")
 # What makes of a number that of a year, behind it: 1001 / 24, 1001 / 2024
 OF_A_YEAR = re.compile(rf" ?/ ?(?:{YEAR}|[0-9]{{2}})(?!\w|[.,:/-][0-9]| ?[./-] ?[0-9]+\b)")
 # The word right before a number: Betrieb 1001, Betrieb-Nr. 1001, AG-Nr. 1001, Betr.-Nr. 1001; of `Bau AG, Nr. 1001` and
@@ -142,6 +146,8 @@ class Number:
     is_plain: bool
     # Whether it and the next one are of a year, or it and that before.
     is_of_a_year: bool
+    # Whether it may be the first digits of a longer one.
+    goes_on: bool
     # Whether it is named together with another one that may be a firm's, be that in the table or not.
     is_one_of_several: bool = False
 
@@ -150,17 +156,29 @@ class Number:
         return re.fullmatch(YEAR, self.digits) is not None
 
     @property
+    def is_short(self) -> bool:
+        return len(self.digits) < LEAST_SURE_DIGITS
+
+    @property
     def is_like_a_count_or_a_date(self) -> bool:
-        return len(self.digits) < LEAST_SURE_DIGITS or SHORT_DATE.fullmatch(self.digits) is not None
+        return self.is_short or SHORT_DATE.fullmatch(self.digits) is not None
+
+    @property
+    def is_behind_a_firm_word(self) -> bool:
+        return not self.is_joined and any(map(FIRM_WORD.fullmatch, self.words))
 
     def is_in_doubt(self, may_be_paid: Callable[[Decimal], bool]) -> bool:
         """Whether it may be something else than a firm's number by what stands around it, or by its digits, as a sum
         that may be paid, in euros."""
-        words = frozenset() if self.is_joined else self.words
-        if any(map(FIRM_WORD.fullmatch, words)):
+        if self.is_behind_a_firm_word:
             return False
-        is_like_another = self.is_like_a_count_or_a_date or may_be_paid(Decimal(self.digits))
-        return not self.is_plain or self.is_of_a_year or words.isdisjoint(("nr", "nummer")) and is_like_another
+        if not self.is_plain or self.is_of_a_year:
+            return True
+        words = frozenset() if self.is_joined else self.words
+        if words.isdisjoint(("nr", "nummer")):
+            return self.is_like_a_count_or_a_date or may_be_paid(Decimal(self.digits))
+        # Monat Nr. 5; not Nr. 5
+        return self.is_short and len(words) > 1
 
 
 def numbers_in(text: str) -> list[Number]:
@@ -169,14 +187,15 @@ def numbers_in(text: str) -> list[Number]:
     is_plain = not IN_A_CURRENCY.search(text) and all(map(PLAIN_WORD.fullmatch, WORD.findall(left)))
     told = set(DIGITS.findall(YEARS.sub("", left)))
     numbers: list[Number] = []
-    end, goes_on = 0, False
+    end, is_before_a_year = 0, False
     for found in NUMBER_WORD.finditer(left):
         is_joined = bool(numbers and JOINED.fullmatch(left, end, found.start()))
         is_named_too = bool(numbers and NAMED_TOGETHER.fullmatch(left, end, found.start()))
         words = numbers[-1].words if is_joined else words_before(left, found.start())
-        end, was_of_a_year = found.end(), goes_on
-        goes_on = OF_A_YEAR.match(left, end) is not None
-        number = Number(found[0], words, is_joined, is_plain and told <= {found[0]}, was_of_a_year or goes_on)
+        end, is_behind_one = found.end(), is_before_a_year
+        is_before_a_year = OF_A_YEAR.match(left, end) is not None
+        number = Number(found[0], words, is_joined, is_plain and told <= {found[0]}, is_before_a_year or is_behind_one,
+                        GOES_ON.match(left, end) is not None)
         if is_named_too and not (number.is_like_a_count_or_a_date or number.may_be_a_year):
             numbers = with_another(numbers)
         numbers.append(number)

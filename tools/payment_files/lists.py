@@ -52,7 +52,10 @@ def euros(cents: int) -> str:
 def day_of(text: str) -> datetime.date:
     if not DAY.fullmatch(text):
         raise ValueError(f"{text[:40]!r} is no day YYYY-MM-DD")
-    return datetime.date.fromisoformat(text)
+    try:
+        return datetime.date.fromisoformat(text)
+    except ValueError:
+        raise ValueError(f"{text!r} is no day of the calendar") from None
 
 
 def cents_of(field: str) -> int:
