@@ -53,12 +53,18 @@ class EmptyFile(Stores):
         self.assertEqual(self.run_program("look", "fund.db")[1].splitlines()[2], "requests 2")
 
     def test_an_empty_log_alone(self):
-        """A log without bytes, as a file that is no database gets one when it is opened, has nothing to lose."""
+        """A log without bytes, as a file that is no database gets one when it is opened, has nothing to lose. But who may
+        read it would read what the new store accepts."""
         no_database = self.write("fund.db", "hello\n")
         self.expect(["init", "fund.db", "rates.toml"], 3, "", "rule 41 Store\n")
-        self.assertEqual((self.folder / "fund.db-wal").stat().st_size, 0)
+        log = self.folder / "fund.db-wal"
+        self.assertEqual(log.stat().st_size, 0)
         no_database.unlink()
+        self.expect(["init", "fund.db", "rates.toml"], 2, "", "fault file\n")
+        self.assertEqual((no_database.exists(), log.stat().st_size), (False, 0))
+        log.unlink()
         self.init()
+        self.assertEqual([stat.S_IMODE(it.stat().st_mode) for it in (no_database, log)], [0o600, 0o600])
         self.expect(["look", "fund.db"], 0, NEW)
 
     def test_what_a_start_meets_first(self):

@@ -34,24 +34,17 @@ fn is_as_closed(told: &io::Result<Metadata>) -> bool
 }
 
 /// Whether a log was left alone beside a path where no file is, or an empty one, as where a store was
-/// moved away without it. Who makes a store there loses what that log has. An empty one has nothing, and
-/// a store that was only begun has an empty file and no longer log than a close leaves.
+/// moved away without it. Who makes a store there loses what that log has; and a log that others may
+/// read stays so, with what the new store accepts. A store that was only begun has an empty file and no
+/// longer log than a close leaves.
 pub fn is_left_log(rt: &HostRuntime, store: &str) -> Result<bool, AllocError> {
     match path_kind(rt, store) {
         PathKind::Missing => {
             let log = log_path(rt.alloc(), store)?;
-            Ok(has_something(rt, log.as_str()))
+            Ok(!is_free(rt, log.as_str()))
         }
         PathKind::Empty => Ok(!is_brought_over(rt, store)),
         PathKind::Folder | PathKind::Filled => Ok(false),
-    }
-}
-
-// Something stands at the path, and it is no empty file.
-fn has_something(rt: &HostRuntime, path: &str) -> bool {
-    match path_kind(rt, path) {
-        PathKind::Empty => false,
-        PathKind::Missing | PathKind::Folder | PathKind::Filled => !is_free(rt, path),
     }
 }
 
