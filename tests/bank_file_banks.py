@@ -11,7 +11,7 @@ import sys
 # No __pycache__ is left beside the sources.
 sys.dont_write_bytecode = True
 import bank_file  # noqa: E402
-from bank_file import HEADER, BankFiles  # noqa: E402
+from bank_file import HEADER, RETURNED, BankFiles  # noqa: E402
 from bank_statements import (  # noqa: E402
     ACCOUNT, NORD, STRANGE, as_02, document, entry, one, payment, statement, transaction)
 from program_under_test import run_tests  # noqa: E402
@@ -163,6 +163,16 @@ class Twice(BankFiles):
         for other, is_told in ((second, True), (second.replace(ACCOUNT, NORD), False),
                                (second.replace("EUR", "USD"), False)):
             self.assertEqual("none ends" in self.made(document(first, other))[1], is_told)
+
+
+    def test_a_payment_that_is_taken_back_with_charges(self):
+        """They are told beside the amount, by the transaction or by its entry."""
+        charges = '<Chrgs><Rcrd><Amt Ccy="EUR">3.00</Amt></Rcrd></Chrgs>'
+        own = transaction("13.00", more=f"{charges}{RETURNED}").replace("CRDT", "DBIT")
+        of_the_entry = entry("13.00", transaction("", more=RETURNED), direction="DBIT")
+        for taken in entry("13.00", own, direction="DBIT"), of_the_entry.replace("<NtryDtls>", f"{charges}<NtryDtls>"):
+            content = one("3.00", "0", payment("10.00", reference="A"), taken)
+            self.assertIn("  of this amount: A; ", self.makes(content, ["A,2024-04-30,,1000,C,"]))
 
 
 class References(BankFiles):

@@ -159,10 +159,10 @@ class Firms(BankFiles):
                 "Lieferschein #1001", "Steuernr. 1001", "St.-Nr. 1001", "Betrag 1001", "Restbetrag: 1001", "Fax 1001",
                 "Postfach 1001", "PLZ 28195", "Rechnung No. 1001", "Rech.-Nr. 1001", "Invoice 1001", "INV-1001",
                 "Schlussrechnung 1001", "Order-Nr. 1001", "Bankleitzahl 1001", "Fon: 1001", "Rufnummer 1001",
-                "USt-IdNr. 1001", "Lohnsumme 1001", "Überweisungsbetrag 1001", "1.TAN 1001")
+                "USt-IdNr. 1001", "Lohnsumme 1001", "Überweisungsbetrag 1001", "1.TAN 1001", "Baufirma 1001")
         known = ("Rechnung 77, Betrieb 1001", "Rechnung 1001, Betrieb 1001", "Nr-1001", "Mitgliedsnr. 1001",
                  "Beitragskonto 1001", "Betriebskonto-Nr. 1001", "Betr.-Nr. 1001", "Firma 1001", "Arbeitgebernr. 1001",
-                 "Baufirma 1001", "Mai 2024 / 1001", "2024 / 1001", "1001 / 24. Mai", "1001 / 24/05/24",
+                 "Mai 2024 / 1001", "2024 / 1001", "1001 / 24. Mai", "1001 / 24/05/24",
                  "1001 / 2024-05", "Betrieb 1001 / 2024")
         self.finds_each((24, 1001, 1003, 28195, 37040044), none, known)
         self.finds_each((1001,), ["1001 / 24", "Nr. 1001 / 24"], ["Mitgl.-Nr.: 1001 / 24", "Betrieb 1001 / 24"])
@@ -194,8 +194,8 @@ class Firms(BankFiles):
                  "Betrieb 1001, Rechnung vom 12.5.24")
         self.finds_each((1001,), none, known)
         # With the word that the clerk names nothing changes.
-        self.finds_each((1001, 1003), ["Rechnung vom 12.5.24 1001"], ["Betrieb 1001 vom 12.5.24, 1003"],
-                        "--number-word", "Betrieb")
+        self.finds_each((1001, 1003), ["Rechnung vom 12.5.24 1001", "Betrieb 1001 vom 12.5.24, 1003"],
+                        ["Betrieb 1001 vom 12.5.24, Rechnung 1003"], "--number-word", "Betrieb")
 
     def test_words_for_amounts_and_files(self):
         none = ("Beitrag i.H.v. 1001", "i. H. v. 1001", "i.H.v. EUR 1001", "Rate 1001", "2. Rate: 1001", "Anzahlung 1001",
@@ -247,7 +247,7 @@ class Firms(BankFiles):
                   "500 EUR - 1001", "500,- EUR - 1001", "500,-- EUR (1001)", "1001 - EUR 500", "1001 / EUR 500",
                   "1001, 500 EUR", "1001 Rechnung Nr. : 77", "Rechnung Nr. : 77 (1001)"]
         named = [[part.replace("1001", "Betrieb 1001", 1) for part in ([text] if isinstance(text, str) else text)]
-                 for text in texts]
+                 for text in texts if "BG 1001" not in text]
         self.finds_each((1001,), texts, named)
 
     def test_plain_texts(self):
@@ -257,6 +257,12 @@ class Firms(BankFiles):
             "Monatsbeitrag für Mai 1001", "1001 Beiträge April und Mai 2024", "january 2024 1001",
             "Beitragszahlung: 1001", "ULAK 1001", ["Beitrag M", "ai 2024 1001"], ["Urlaubskassenbei", "trag 1001"],
             "Urlaubs-Beitrag Mai 1001", "Mitgliedsbeitrag 1001"))
+
+        self.finds_each((1001, 20241), ("Beitrag 20241", "1001 500.-"),
+                        ("Beitrag 01.03.-31.03.2024 1001", "Beitrag 1.3.-31.3.24 1001"))
+        # Nothing else is in them, as a percentage, hours and a telephone's number.
+        self.finds_each((1001, 1500), ("Beitrag 20% 1500", "Beitrag 1500 20%", "160 Stunden 1001", "Beitrag 160 Std 1500",
+                                       "Nr. 1001 +49 421 777", "Beitrag 1 200 1001"), ())
 
     def test_a_long_word(self):
         """It takes no time to find that it is no plain one."""
@@ -282,11 +288,20 @@ class Firms(BankFiles):
         """A number that is the sum itself, in whole euros."""
         self.write("firms.csv", "iban,employer\n,1001\n,1500\n")
         for amount, text, firm in (
-                ("1500.00", "Beitrag Mai 1500", ""), ("1500", "1500", ""), ("1500.01", "1500", "1500"),
+                ("1500.00", "Beitrag Mai 1500", ""), ("1500", "1500", ""), ("1500.99", "1500", ""), ("1501.00", "1500", "1500"),
                 ("1500.00", "Betrieb 1500", "1500"), ("1500.00", "Nr. 1500", "1500"), ("1500.00", "1001", "1001"),
                 ("1500.00", "1001, 1500", "")):
             output, _ = self.made(one("0", amount, payment(amount, text, "", STRANGE, "F")))
             self.assertEqual(output.split(",")[2], firm, (amount, text))
+        # For several months at once.
+        for amount, firm in (("4500.00", ""), ("18000.00", ""), ("4501.00", "1500")):
+            output, _ = self.made(one("0", amount, payment(amount, "Beitrag 1500", "", STRANGE, "F")))
+            self.assertEqual(output.split(",")[2], firm, amount)
+        # Before the bank took its charges off, which it tells; and behind them.
+        for charge in ('<Rcrd><Amt Ccy="EUR">5.00</Amt></Rcrd>', '<TtlChrgsAndTaxAmt Ccy="EUR">5.00</TtlChrgsAndTaxAmt>'):
+            for amount, firm in (("1495.00", ""), ("1505.00", ""), ("1496.00", "1500")):
+                told = transaction(amount, "Beitrag 1500", "", STRANGE, "F", more=f"<Chrgs>{charge}</Chrgs>")
+                self.assertEqual(self.made(one("0", amount, entry(amount, told)))[0].split(",")[2], firm, (amount, charge))
         # Before the bank took its charges off; and of a batch in one line, of which no part is told.
         before = '<AmtDtls><InstdAmt><Amt Ccy="EUR">1500.00</Amt></InstdAmt></AmtDtls>'
         for text, firm in (("Beitrag 1500", ""), ("Betrieb 1500", "1500")):
@@ -311,14 +326,91 @@ class Firms(BankFiles):
         self.finds_each((1001,), none, (*known[:3], *known[4:], "Betrieb 1001, Mitglieds-Nr. 1010"),
                         "--number-word", "Betrieb")
 
+    def test_a_second_firm_whose_number_looks_like_something_else(self):
+        """Beside a currency, a month or other signs it is no firm's for sure, and yet the payment isn't the first one's."""
+        none = ["Betrieb 1001 und Betrieb 1002 EUR 2900,00", "Betrieb 1001 und 1002 EUR 2900",
+                "Betrieb 1001 + 1002 EUR 2900", "Betrieb 1001, 1002 EUR 2900,00", "Betriebs-Nr. 1001 und 1002: EUR 2900",
+                "Betrieb 1001 und Betrieb 1002 € 2900", "EUR 1500 Betrieb 1001 EUR 1400 Betrieb 1002",
+                "1500 EUR Betrieb 1001, 1400 EUR 1002",
+                "Betrieb 1001 1500 EUR 1002 1400 EUR", "Betrieb 1001 Mai 2024,1002 Mai 2024",
+                "Betrieb 1001 05/24/1002 05/24", "05/24 Betrieb 1001,05/24 Betrieb 1002",
+                "05-24 Betrieb 1001,05-24 Betrieb 1002",
+                "1500,00 Betrieb 1001,1400,00 Betrieb 1002", "Betrieb 1001 0524 / 1002 0524", "1001 0524 / 1002 0524",
+                "Betrieb 1001, Betrieb1002", "Betrieb1001 Betrieb 1002", "1.500 Betrieb 1001, 1.500 1002",
+                "SVWZ+Betrieb 1001 EREF+Betrieb 1002", "Betrieb 1001 Mai EUR 1500,1002 Mai EUR 1400"]
+        none += [f"Betrieb 1001 und Betrieb 1002{end}" for end in (
+            "/05.2024", "/24", "/05/2024", "-1", "/1", "-A", "a", "%", " Std", ",00", ",-", " 500 EUR")]
+        known = ["Betrieb 1001 EUR 500,00", "Betrieb 1001, EUR 500,00", "Betrieb 1001, 1002,00 EUR",
+                 "Betrieb 1001 Tel. 0421/1002", "Betrieb 1001 +49 421 1002", "SVWZ+Betrieb 1001 EREF+1002",
+                 "Betrieb 1001 01.2024", ["EREF+NOTPROVIDED", "SVWZ+Betrieb 1001"]]
+        self.finds_each((1001, 1002), none, known)
+        # It may be one that isn't in the table yet, where it is named with the first one, or called a firm's.
+        self.finds_each((1001,), [*none[:4], "Betrieb 1001 1500,00, Betrieb 1002 EUR 1400"], known[:2])
+        # A year is meant, unless it is called a firm's, or named with the first one.
+        none = ("Betrieb 1001 und Betrieb 2003", "Betrieb 1001 und 2003", "Betrieb 1001, Betrieb 2003")
+        self.finds_each((1001, 2003), none, ("Betrieb 1001, 2003", "Betrieb 1001 / 2003", "Betrieb 1001 2020"))
+
+    def test_numbers_in_a_list(self):
+        """Of as many digits as the first one, it may be of a firm that isn't in the table yet."""
+        none = ("Betrieb 1001, 1010", "Betrieb 1001; 1010", "Betrieb 1001 - 1010", "Betrieb 1001 | 1010",
+                "Betrieb 1001, Nr. 1010", "Betrieb 1001 Mai und 1010 Mai", "Betrieb 1001 500,00, 1010 400,00",
+                "Betrieb 1001 bzw. 1010",
+                "Betrieb 1001 und für 1010", "Betrieb 1001 Mai 2024, 1010 Mai 2024", "Betrieb 1001 und 1030",
+                ["Betrieb 1001 und Betrieb 1010", "05/24"], ["Betrieb 1001 und 1010", "05/24"])
+        known = ("Betrieb 1001, 28195 Bremen", "Betrieb 1001, 4711 Bremen", "Betrieb 1001, 77", "Betrieb 1001, 0524",
+                 "Betrieb 1001, 1001", "Rechnung 4711, Betrieb 1001")
+        self.finds_each((1001,), none, known)
+        self.finds_each((24,), ("Betrieb 24 bis 30", "Betrieb 24 und 240"), ())
+        # Behind an amount without another sign, and where the first digits are the same.
+        none = ("Betrieb 1001 EUR 500,00 1010 EUR 400,00", "Betrieb 1001 500,00 1010 400,00", "Betrieb 1001+02",
+                "Betrieb 1001 i 1010", "Betrieb 1001 mit 1010", "Betrieb 1001 jetzt 1010")
+        self.finds_each((1001,), none, ("Betrieb 1001 / 03.2024", "Betrieb 1001 / 03-2024", "Betrieb 1001 und 02 2024"))
+
+    def test_words_by_which_a_firm_is_not_meant(self):
+        """One that it was before, or isn't; and the number that another body has for it."""
+        none = ("nicht Betrieb 1001 sondern 1010", "statt Betrieb 1001 bitte 1010", "früher Betrieb 1001, jetzt 1010",
+                "vormals Betrieb 1001", "Nachfolger von Betrieb 1001", "ehem. Betrieb 1001", "Alt-Betriebs-Nr. 1001",
+                "bisherige Betriebs-Nr. 1001", "IHK-Mitglieds-Nr. 1001 Beitrag 2024", "BG BAU Mitgliedsnummer 1001",
+                "BG-Mitgliedsnr. 1001", "AOK-Betriebsnummer 1001", "Nichtmitglied 1001", "Fremdfirma 1001",
+                ["statt", "Betrieb 1001"], "Bau West, fr?her Betrieb 1001", "Vorgänger Betrieb 1001", "ohne Betrieb 1001",
+                "Umbuchung von Betrieb 1001 auf Bau West", "Betrieb 1001 erloschen", "Bauinnung Bremen Mitglieds-Nr. 1001",
+                "TK Betriebsnummer 1001", "BG Betrieb 1001", "BA-Betriebsnummer 1001", "IG BAU Mitgliedsnummer 1001")
+        # In another part of the sentence it is said of something else.
+        known = ("Neue Betriebs-Nr. 1001", "Altbau Nord, Betrieb 1001", "SOKA-BAU Mitglieds-Nr. 1001",
+                 "Handwerkskammer, Betrieb 1001", "Betrieb 1001, BG BAU gesondert", "Skonto nicht abgezogen, Betrieb 1001",
+                 "Betrieb 1001 Skonto nicht abgezogen", "Bauunternehmung Alt GmbH Betrieb 1001", "SOKA-Betriebs-Nr. 1001")
+        self.finds_each((1001,), none, known)
+
+    def test_words_that_end_like_a_firm_word(self):
+        """They are of a trade, and a town's number may stand behind them."""
+        none = ("Müller Malerbetrieb 28195 Bremen Beitrag 04/2024", "Otto GmbH, Meisterbetrieb, 28195 Bremen, Beitrag Mai",
+                "Müller Maler-Betrieb 28195 Bremen", "Gerüstbaufirma 28195 Bremen", "Vorgängerbetrieb 28195",
+                ["Müller Maler- und Bodenbelagsbetrieb", "28195 Bremen"], ["Müller Maler", "betrieb 28195 Bremen"])
+        self.finds_each((28195,), none, ())
+        self.finds_each((1001,), (), (["Bau Nord", "Betrieb 1001"], ["BAU NORD", "BETRIEB 1001"],
+                                      ["Beitrag Mai", "Mitglieds-Nr. 1001"], "BeitragBetrieb 1001"))
+
+    def test_a_text_that_is_cut_off(self):
+        """Of as many signs as a text may have."""
+        for signs, firm in ((139, "1001"), (140, ""), (141, "1001")):
+            text = "Bau Nord ".ljust(signs - 13, "x") + " Betrieb 1001"
+            self.finds(firm, text)
+            self.finds(firm, f"EREF+NOTPROVIDED SVWZ+{text}")
+            if signs <= 140:
+                self.finds(firm, [text[at:at + 35] for at in range(0, signs, 35)])
+
     def test_numbers_in_groups(self):
         """Further digits behind one, but for a year, a date and an amount, may be of the same number."""
         none = ("Betriebs-Nr. 1234 5678", "Betrieb 1234 567", "Betrieb 1234 28195 Bremen", "1234 5678",
-                "Betrieb 1234 0815", "Betrieb 1234 4711 1234")
+                "Betrieb 1234 0815", "Betrieb 1234 4711 1234", "Betriebs-Nr. 1234 56 78", "Betriebs-Nr. 1234 1951",
+                "Betriebs-Nr. 1234 3207", "Betriebs-Nr. 1234 0727", "Betriebs-Nr. 1234'5678",
+                "Betriebs-Nr. 1234 56 7", "Betriebs-Nr. 1234. 5678")
         known = ("Betrieb 1001 2024", "Betrieb 1001 05 2024", "Betrieb 1001 122024", "Betrieb 1001 0524",
-                 "Betrieb 1001 500,00", "Betrieb 1001 1.500,00", "Betrieb 1001 12 Arbeiter", "Betrieb 1001, 4711")
+                 "Betrieb 1001 500,00", "Betrieb 1001 1.500,00", "Betrieb 1001 12 Arbeiter", "Betrieb 1001, 12345",
+                 "Betrieb 1001 05 24", "Betrieb 1001 2404", "Betrieb 1001 240430")
         self.finds_each((1234, 5678, 12345678, 1001), none, known)
         self.finds_each((1234, 5678, 1001), ("Betrieb 1234 5678",), known, "--number-word", "Betrieb")
+        self.finds_each((12,), ("Betriebs-Nr. 12 34 56 78", "Betrieb 12 Monate", "Firma 12 Grad Bau"), ())
 
     def test_dates_without_points_and_quarters(self):
         dates = (1224, 52024, 122024, 202405, 150524, 15052024, 20240515, 2405, 240515)
@@ -347,9 +439,11 @@ class Firms(BankFiles):
         # Several, of which one may be none of the table.
         none = ("BETRIEB: 2024, 1001", "Betrieb 1001 und 2024", "Betrieb 1001, 2024", "Betrieb 1001 / 1003",
                 "Betrieb 1001 bis 1003", "Betrieb 1001 1003", "Betrieb 7 und 1001", "Betrieb 1001 u. 1003",
-                "Betrieb 1001 sowie 2024", "Betrieb 1001/24")
+                "Betrieb 1001 sowie 2024", "Betrieb 1001/24", "1003 Betrieb 1001", "Betrieb 1001 und Firma 1003",
+                "Betrieb 1001 Mai 2024, 1003 Mai 2024", "Betrieb 1001 bzw. 1003", "Betrieb 1001 500,00, 1003 400,00",
+                "Betrieb 1001 (Bau Nord) und 1003 (Bau West)", "Betrieb 1001 Mai, Beitrag 1003")
         known = ("Betrieb Nr. 1001", "Betrieb-Nr.: 1001", "Betrieb Nummer 1001", "Betrieb 1001, Rechnung 1003",
-                 "Betrieb 1001 Mai 2024", "Betrieb 1001, 05/2024", "1003 Betrieb 1001")
+                 "Betrieb 1001 Mai 2024", "Betrieb 1001, 05/2024", "Rechnung Nr. 1003, Betrieb 1001")
         self.finds_each((1001, 1003, 2024), none, known, "--number-word", "Betrieb")
         self.finds_each((1001,), ["Betrieb Nr. 1001"], ["Betriebs-Nr. 1001"], "--number-word", "Betriebsnr")
         # An amount isn't one behind any word.
@@ -425,6 +519,9 @@ class Firms(BankFiles):
             self.write("made.csv", f"{HEADER}{line}\n")
             self.refuses(content, f"made.csv, line 2: {said}, which the office doesn't take; "
                          "give the file as it was imported", 2, words=words)
+        self.write("made.csv", f"{HEADER}2.02404E+15,2024-04-30,1001,200,C,x\n")
+        self.refuses(content, "made.csv, line 2: reference is 2.02404E+15, as a spreadsheet writes a long number; "
+                     "give the file as it was imported", 2, words=words)
 
 
 if __name__ == "__main__":

@@ -32,6 +32,7 @@ DAY = re.compile(r"([0-9]{4}-[0-9]{2}-[0-9]{2})(T.*|Z|[+-][0-9]{2}:[0-9]{2})?", 
 PAGE_NUMBER = re.compile("[0-9]{1,5}")
 # The amounts of a transaction, with what the bank adds to it or takes off and without.
 AMOUNTS = ("Amt", "AmtDtls/TxAmt/Amt", "AmtDtls/InstdAmt/Amt")
+CHARGES = ("Chrgs/Rcrd/Amt", "Chrgs/Amt", "Chrgs/TtlChrgsAndTaxAmt")
 REMITTANCE = ("RmtInf/Ustrd", "RmtInf/Strd/CdtrRefInf/Ref", "RmtInf/Strd/AddtlRmtInf")
 DEBTOR_NAME = ("RltdPties/Dbtr/Pty/Nm", "RltdPties/Dbtr/Nm", "RltdPties/Dbtr/Agt/FinInstnId/Nm")
 # Some banks have an IBAN among the other numbers of an account.
@@ -250,8 +251,9 @@ def read_balance(node: Node) -> Balance:
 def read_entry(node: Node, account: str) -> Entry:
     details = list(node.parts("NtryDtls"))
     is_credit, money = read_direction(node), read_money(node, "Amt")
-    transactions = tuple(
-        read_transaction(it, account if is_credit else None) for part in details for it in part.parts("TxDtls"))
+    found = [it for part in details for it in part.parts("TxDtls")]
+    whole = node if len(found) == 1 else None
+    transactions = tuple(read_transaction(it, whole, account if is_credit else None) for it in found)
     return Entry(
         status=node.need("Sts/Cd", "Sts/Prtry", "Sts"),
         is_credit=is_credit,
@@ -292,8 +294,8 @@ def credited_by(transactions: tuple[Transaction, ...]) -> Money | None:
     return Money(sum((it.amount for it in amounts), Decimal(0)), amounts[0].currency)
 
 
-def read_transaction(node: Node, credited_account: str | None) -> Transaction:
-    """A transaction of an entry, which credits an account or doesn't."""
+def read_transaction(node: Node, whole: Node | None, credited_account: str | None) -> Transaction:
+    """A transaction of an entry, which is told where it is the only one, and which credits an account or doesn't."""
     parts = (it.own_text() for path in REMITTANCE for it in node.parts(path))
     # Where a line ends, or a sign without a width stands, a number may go on as where one part follows another.
     texts = [plain(piece) for part in parts for piece in UNSHOWN.split(part)]
@@ -316,8 +318,24 @@ def read_transaction(node: Node, credited_account: str | None) -> Transaction:
         other_name=other_name if is_of_another else "",
         iban=iban,
         texts=tuple(filter(None, texts)),
-        amounts=frozenset(read_money(node, path) for path in AMOUNTS if node.has(path)),
+        amounts=read_amounts(node, whole),
     )
+
+
+def read_amounts(node: Node, whole: Node | None) -> frozenset[Money]:
+    """The amounts that are told of a transaction, and the same before charges and behind them."""
+    nodes = [node, whole] if whole else [node]
+    told = {read_money(it, path) for it in nodes for path in AMOUNTS if it.has(path)}
+    charges = [it for at in nodes for path in CHARGES for it in at.parts(path)]
+    # (What a bank writes there otherwise than by the rules is no reason to refuse its statement.)
+    taken = [Decimal(it.own_text()) for it in charges if AMOUNT.fullmatch(it.own_text())]
+    return frozenset(told | {Money(it.amount + charge, it.currency) for it in told for charge in sums_of(taken)})
+
+
+def sums_of(charges: list[Decimal]) -> set[Decimal]:
+    """What is taken off, or was put on, by each of these charges alone, and by all."""
+    sums = {*charges, sum(charges, Decimal(0))} if charges else set()
+    return sums | {-it for it in sums}
 
 
 def letters_of(name: str) -> str:

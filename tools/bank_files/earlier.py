@@ -17,6 +17,8 @@ HEADER = ("reference", "value_date", "employer", "cents", "purpose", "note")
 # How the office has the fields before the note.
 WRITTEN = ("[!-~]{1,35}", "[0-9]{4}-[0-9]{2}-[0-9]{2}", "([1-9][0-9]{0,7})?", "[1-9][0-9]{0,11}", "[CI]?")
 
+ROUNDED = re.compile(r"[0-9](?:\.[0-9]+)?E\+[0-9]{2}")
+
 
 @dataclass(frozen=True)
 class EarlierLine:
@@ -52,3 +54,6 @@ def check_fields(place: str, fields: list[str]) -> None:
         if not re.fullmatch(written, field):
             raise Fault(f"{place}: {name} is {shown(field) or 'empty'}, which the office doesn't take; "
                         "give the file as it was imported")
+    if ROUNDED.fullmatch(fields[0]):
+        raise Fault(f"{place}: reference is {fields[0]}, as a spreadsheet writes a long number; "
+                    "give the file as it was imported")

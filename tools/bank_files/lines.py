@@ -293,7 +293,7 @@ class BankFile:
         """The firm of all transactions of a payment; none where they have several, or aren't all known."""
         # An account tells whose payment it is, where it isn't for another one.
         ibans = ("" if it.other_name else it.iban for it in payment.transactions)
-        found = {self.firms.firm_of(iban, it.texts, partial(may_be_paid, payment, it))
+        found = {self.firms.firm_of(iban, it.texts, payment.value.year, partial(may_be_paid, payment, it))
                  for iban, it in zip(ibans, payment.transactions)}
         is_sure = payment.is_detailed and not any(it.is_return for it in payment.transactions)
         if not is_sure or len({firm for firm, _ in found}) != 1:
@@ -306,11 +306,12 @@ class BankFile:
 
 
 def may_be_paid(payment: Payment, transaction: Transaction, euros: Decimal) -> bool:
-    """Whether a transaction of a payment may be of so many euros, with fees or without; one that tells no amount, of
-    several in one line, may be of as many as there are at most."""
+    """Whether a transaction of a payment may be of so many euros, to less than one, with fees or without; one that tells
+    no amount, of several in one line, may be of as many as there are at most."""
     told = {it.amount for it in transaction.amounts}
     is_part = not told and len(payment.transactions) > 1
-    return euros in told | {payment.money.amount} or is_part and euros < payment.money.amount
+    is_one = any(abs(euros - it) < 1 for it in told | {payment.money.amount})
+    return is_one or is_part and euros < payment.money.amount
 
 
 def is_line(payment: Payment) -> bool:

@@ -3,136 +3,18 @@
 from __future__ import annotations
 
 import re
-from collections.abc import Callable
+from collections.abc import Callable, Iterable, Iterator
 from dataclasses import dataclass, replace
 from decimal import Decimal
+from functools import lru_cache
 
-# ---- parts of the patterns below, for a text as casefold() leaves it, in which each dash is "-"
-
-# (The longer ones first.)
-MONTH_NAME = (
-    "(?:january|januar|jänner|jaenner|jän|jaen|jan|february|februar|feber|febr|feb|märz|maerz|march|mär|maer|mar|mrz|"
-    "april|apr|mai|may|june|juni|jun|july|juli|jul|august|aug|september|sept|sep|oktober|october|okt|oct|november|nov|"
-    "dezember|december|dez|dec)")
-MONTH = rf"{MONTH_NAME}\b\.?"
-YEAR = "(?:19[0-9]{2}|2[01][0-9]{2}|2200)"
-# A day of a month, and what may stand between a month and its year.
-DAY = rf"[0-3]?[0-9](?:\. ?[01]?[0-9]\.|\.?[ /-]?\b{MONTH})"
-MONTH_OF_YEAR = r"[01]?[0-9](?: ?/ ?(?:19|2[01])?[0-9]{2}|\.(?:19|2[01])[0-9]{2})(?![0-9])"
-NO_DATE = f"(?!{DAY}|{MONTH_OF_YEAR})"
-BEHIND_MONTH = f"[ ./'’‘´`-]{{0,3}}{NO_DATE}"
-# What stands between the first and the last of several days or months, and between two amounts.
-TO_WORD = r"(?:bis|to|und|u\.)"
-AND = "(?:[+&]|und|bis)"
-CURRENCY_NAME = "(?:t?eur|euros?|usd|chf|gbp|pln|czk|huf|ron|dm|cent|sfr|zł|kč)"
-CURRENCY = rf"(?:\b{CURRENCY_NAME}\b|[€$£¤])"
-# Also as `EUR_` and `BetragEUR`.
-ANY_CURRENCY = rf"(?:(?:(?<![^\W_])|(?<=betrag|eitrag)|(?<=summe)){CURRENCY_NAME}(?![^\W_])|[€$£¤])"
-GROUPS = "[0-9]{1,3}(?:[ .'’][0-9]{3})+"
-# Where digits begin that don't go on from others, as the 24 of 1001,24 does.
-BEGIN = "(?<![0-9])(?<![0-9][.,:/-])"
-NOT_BEHIND_A_NAME = r"(?<!betrieb )(?<!betrieb: )(?<!firma )(?<!nummer )(?<!nummer: )(?<!nr[ .])(?<!nr[.:] )(?<!nr\.: )"
-# Cents may be letters or dashes: `1001,OO`, `1001,--`.
-AMOUNT = rf"{BEGIN}(?:{GROUPS}|[0-9]+)(?:[.,](?:[0-9o]+|-+))?(?![0-9])"
-# Where no telephone's number goes on, as in 500 EUR +49 421 1001.
-NO_TELEPHONE = r"(?![ :.=]{0,2}\+[1-9][0-9]{0,2} ?[(/0-9])"
-AMOUNT_BEHIND = f"{NO_TELEPHONE}[ :.=+]{{0,3}}{NO_DATE}{AMOUNT}"
-
-# ---- the patterns
-
-# What has digits and isn't a firm's number, each with an example.
-OTHER_NUMBERS = re.compile("|".join((
-    # The payer's own reference and the like, up to the bank's next mark: EREF+1001 SVWZ+
-    r"\b(?:[a-z]ref|coam|oamt|ocmt|chrg|debt|cred|abw[ae]|mdat|purp) ?[+:].*?(?=\b[a-z]{1,4} ?\+|$)",
-    # The first of two amounts: 1001 + 500 EUR, 1001 / 500 EUR; not Betrieb 1001 / 500 EUR
-    # (Each amount is read in one way, since the ways of several in a row are multiplied.)
-    f"{NOT_BEHIND_A_NAME}(?:(?:(?>{AMOUNT}) ?{AND} ?){{1,9}}(?={AMOUNT} ?{CURRENCY})|{AMOUNT} ?/ ?(?=[0-9]+ ?{CURRENCY}))",
-    # An amount before its currency, or on both sides: 1001 EUR, 1001, 24 EUR, 1001 EUR 500
-    rf"{AMOUNT}(?:[.,] [0-9]{{2}})? ?[-*/(]?{CURRENCY}(?:{AMOUNT_BEHIND})?",
-    # An amount behind its currency: EUR 1001
-    f"{CURRENCY}[*/;|+( -]{{0,2}}{AMOUNT_BEHIND}",
-    # An amount without its cents, a percentage, and hours: 1001,- 1001,OO 5 % 1001 Std
-    rf"{AMOUNT} ?(?:[.,]-|%|std\b|stunden\b)|{BEGIN}[0-9]+[.,]oo\b",
-    # Digits in groups, and those behind them: 1 001, 60 123 4567
-    f"(?<![0-9]){GROUPS}(?:[.,][0-9]+|(?: {NO_DATE}[0-9]+)+)?(?![0-9])",
-    # A telephone's number: +49 421 1001, (0421) 1001, 0421 / 1001, 030 1001
-    r"(?<![\w+])(?:(?:\+|00)[1-9][0-9]*(?![0-9])(?: ?\(0?[0-9]{0,5}\))?|\(0[0-9]{2,5}\)|0[0-9]{2,4}(?= ?/)|"
-    rf"0(?:[0-9]{{2}}){{1,2}}(?= ))(?:[ /-]{{0,3}}{NO_DATE}[0-9]+(?![0-9]|[.,][0-9])){{1,9}}",
-    # A quarter, and a week: 1. Quartal 24, Q1 24, KW 24
-    rf"(?:(?<![0-9])[1-4]\.? ?|\b)q(?:uartal)?(?![a-z])\.?(?: ?[1-4](?![0-9]))?"
-    rf"(?:[ ./'-]{{0,3}}{NO_DATE}(?:20)?[0-9]{{2}}(?![0-9]))?",
-    r"\bkw\.? ?[0-9]{1,2}(?![0-9])(?: ?[/-] ?(?:20)?[0-9]{2}(?![0-9]))*",
-    # A date, and a day with the name of its month: 12. 5. 24, 30. April 24
-    f"(?<![0-9]){DAY}(?:{BEHIND_MONTH}(?:(?:19|2[01])[0-9]{{2}}|[0-9]{{1,2}})(?![0-9]))?",
-    # A month with its day or year: Mai 24
-    rf"\b{MONTH}{BEHIND_MONTH}[0-9]{{1,2}}(?![0-9])",
-    # A month of a year in digits, and a date with strokes: 03/2024, 24/05/24
-    f"(?<![0-9])(?:{BEGIN}[0-3]?[0-9] ?/ ?)?[01]?[0-9] ?/ ?(?:19|2[01])?[0-9]{{2}}(?![0-9]|\\. ?[01]?[0-9]\\.)",
-    # The first of several days, of which the last has the rest of the date: 1. bis 15.5.24
-    rf"(?<![0-9])[0-3]?[0-9](?:\. ?[-/+&]|\.? {TO_WORD}) ?(?={DAY})",
-    # The first of several months: 10 - 12/2024
-    rf"(?<![0-9])(?:1[0-2]|0?[1-9])(?: ?[-+&]| {TO_WORD}) ?(?={MONTH_OF_YEAR})",
-)))
-# The same, once those are gone: a number on either side of a currency that has no amount yet.
-# EUR **1001**, (1001) EUR
-BESIDE_A_CURRENCY = re.compile(rf"{ANY_CURRENCY}[\W_]{{0,6}}{AMOUNT}|{AMOUNT}[\W_]{{0,4}}{ANY_CURRENCY}")
-# Digits that are a word: no part of a longer word, a date or a fraction, as 03-1001 or 1001/1, nor R-1001 or 1001-A.
-NUMBER_WORD = re.compile(r"(?<!\w)(?<![0-9_][.,:/-])(?<!\b[a-z]-)[0-9]+(?!\w)(?! ?[.,][0-9]|[:/-][0-9])(?!-[a-z]\b)")
-# A date of 2020 to 2039 without points, each with an example.
-SHORT_DATE = re.compile("|".join((
-    # 1224
-    "1[0-2][23][0-9]",
-    # 52024, 122024
-    "(?:[1-9]|1[0-2])20[23][0-9]",
-    # 202405, 20240515
-    "20[23][0-9](?:0[1-9]|1[0-2])(?:0[1-9]|[12][0-9]|3[01])?",
-    # 150524, 15052024
-    "(?:[12][0-9]|3[01])(?:0[1-9]|1[0-2])(?:20)?[23][0-9]",
-    # 2405, 240515
-    "[23][0-9](?:0[1-9]|1[0-2])(?:0[1-9]|[12][0-9]|3[01])?",
-)))
-# What joins a number to that before it: 1001, 1003 and 1001 und 1003; not 1001 (1003)
-JOINED = re.compile(r"[^\w#(]{1,3}(?:(?:und|u|sowie|oder|bis)\W{1,2})?")
-# What names two numbers together: 1001 und 1010, 1001 / 1010, 1001 und auch Nr. 1010; not 1001, 28195 Bremen
-NAMED_TOGETHER = re.compile(
-    r"\W{0,2}(?:und|u|sowie|oder|bis|[&+/])(?:\W{1,2}auch)?(?:\W{1,2}(?:nr|nummer|no))?\W{0,3}")
-# Further digits behind a blank, which may be of the same number: 1234 5678; not 1001 2024, 1001 122024, 1001 500,00
-YEAR_OR_DATE = f"(?:{YEAR}|0[1-9](?:0[1-9]|1[0-2])?(?:20)?[23][0-9]|{SHORT_DATE.pattern})(?![0-9])"
-GOES_ON = re.compile(rf" (?!{YEAR_OR_DATE})[0-9]{{3,}}(?![0-9]|[.,][0-9])")
-# What makes of a number that of a year, behind it: 1001 / 24, 1001 / 2024
-OF_A_YEAR = re.compile(rf" ?/ ?(?:{YEAR}|[0-9]{{2}})(?!\w|[.,:/-][0-9]| ?[./-] ?[0-9]+\b)")
-# The word right before a number: Betrieb 1001, Betrieb-Nr. 1001, AG-Nr. 1001, Betr.-Nr. 1001; of `Bau AG, Nr. 1001` and
-# `Betr.: Nr. 1001` it is `nr`
-WORD_BEFORE = re.compile(
-    r"(?<!\w)(\w+)(?:(?!(?<=\bag)(?!-)|(?<=\bbetr)(?!\.?-|\.n))\W{1,3}(nr|nummer|no))?\W{1,3}\Z")
-LONGEST_WORD = 60
-# A word for a firm's number, which is no date and of no year: Betrieb 1224, Mitglieds-Nr. 1001 / 24; also at the end of a
-# longer word, as where the bank has put two together
-FIRM = "(?:betriebskonto|betriebs?|bkn|firmen|firma|mitglieds?|mitgl)"
-FIRM_WORD = re.compile(rf"\w*{FIRM}(?:nr|nummer)?|(?:ag|arbeitgeber|betr)(?:nr|nummer)")
-# One of fewer is often a month, a count or an hour: Monat 9, 9 Arbeiter
-LEAST_SURE_DIGITS = 4
-# The words of a plain text, which tells of contributions alone, also where the bank has put two of them together:
-# Beitrag Mai 2024, 1001 (The longer ones first: none is read in a second way.)
-CONTRIBUTIONS = "beitr(?:ag|äge|aege)"
-PLAIN_WORD = re.compile("(?:" + "|".join((
-    MONTH_NAME, f"betriebe|{FIRM}|nummer|nr",
-    # (A payment alone may have a number.)
-    "(?:beitrags|urlaubskassen|monats|nach|raten|rest|sammel|voraus|zins)zahlung|zinsen|svwz",
-    rf"{CONTRIBUTIONS}(?:skonto|s)?|soka(?:\W{{0,3}}bau)?|ulak|zvk|(?:urlaubs|ferien|sozial)kassen?|urlaubs",
-    "monat[es]?|quartale?|jahr|für|fuer|im|und|bis|danke|no|n",
-)) + ")++")
-WORD = re.compile(r"\bsoka\W{0,3}bau\b|[^\W\d_]+")
-# Where one stands, the number may be an amount, too.
-IN_A_CURRENCY = re.compile(CURRENCY)
-# What such a text may have besides its one number: years with their months, and dates, as `05.2024`, `2024-05`, `0524`,
-# `122024`; not `1224`, which may be an amount.
-YEARS = re.compile("(?<![0-9])(?:" + "|".join((
-    "(?:[01]?[0-9][./-])?20[1-3][0-9](?:-[01][0-9])?", "0[1-9](?:0[1-9]|1[0-2])?(?:20)?[23][0-9]",
-    f"(?=[0-9]{{5}})(?:{SHORT_DATE.pattern})",
-)) + ")(?![0-9])")
-# What was put for something else isn't one.
-DIGITS = re.compile("[0-9]+(?![0-9_])")
+from .patterns import (
+    BEFORE_A_DATE, BEFORE_A_WORD, BEGIN_OF_A_TELEPHONE, BESIDE_A_CURRENCY, CALLED_A_TELEPHONE, CENTS, COUNTED,
+    DAY_WITH_A_DASH, DIGITS, FIRM_WORD, GOES_ON, IN_A_CURRENCY, JOINED, LEAST_SURE_DIGITS, LISTED, LONGEST_WORD,
+    MOST_NAMED, NAMED_BEFORE, NAMED_TOGETHER, NAMED_WITH, NUMBER_WORD, OF_A_YEAR, OF_PLAIN_TEXTS, ON_BOTH_SIDES,
+    OTHER_NUMBERS, PLAIN_WORD, SAID_BEFORE, SAYS_NOTHING, SHORT_DATE, STUCK_WORD, WHOLE, WORD, WORD_BEFORE, YEAR,
+    YEARS,
+)
 
 
 @dataclass(frozen=True)
@@ -141,15 +23,23 @@ class Number:
     # The word right before it, as "betrieb"; of "Betrieb-Nr." all of "betrieb", "nr" and "betriebnr". Where it is
     # joined to a number, those of that one.
     words: frozenset[str]
-    is_joined: bool
+    is_joined: bool = False
     # Whether it is the one number of a plain text.
-    is_plain: bool
-    # Whether it and the next one are of a year, or it and that before.
-    is_of_a_year: bool
-    # Whether it may be the first digits of a longer one.
-    goes_on: bool
+    is_plain: bool = False
+    # Whether it and the next one are of a year.
+    is_before_a_year: bool = False
+    # Whether they are, or it and that before.
+    is_of_a_year: bool = False
+    # Whether it may be the first digits of a longer one, or counts something.
+    goes_on: bool = False
+    # Whether it is named together with that before it, which is no year, by a word or sign that stands before no year.
+    is_named_with: bool = False
     # Whether it is named together with another one that may be a firm's, be that in the table or not.
     is_one_of_several: bool = False
+    # Whether it is no firm's, where no firm's word stands before it, as the 1001 of EUR 1001.
+    is_none: bool = False
+    # Whether the word before it, or before the number that it is joined to, says what it is, as in Rechnung 1001.
+    is_told: bool = False
 
     @property
     def may_be_a_year(self) -> bool:
@@ -169,52 +59,184 @@ class Number:
 
     def is_in_doubt(self, may_be_paid: Callable[[Decimal], bool]) -> bool:
         """Whether it may be something else than a firm's number by what stands around it, or by its digits, as a sum
-        that may be paid, in euros."""
+        that may be paid, in euros, once or for several months."""
         if self.is_behind_a_firm_word:
             return False
         if not self.is_plain or self.is_of_a_year:
             return True
         words = frozenset() if self.is_joined else self.words
         if words.isdisjoint(("nr", "nummer")):
-            return self.is_like_a_count_or_a_date or may_be_paid(Decimal(self.digits))
+            sums = (Decimal(self.digits) * months for months in range(1, 13))
+            return self.is_like_a_count_or_a_date or any(map(may_be_paid, sums))
         # Monat Nr. 5; not Nr. 5
         return self.is_short and len(words) > 1
 
 
-def numbers_in(text: str) -> list[Number]:
-    """The numbers in a text that are nothing else."""
-    left = BESIDE_A_CURRENCY.sub(replaced, OTHER_NUMBERS.sub(replaced, text))
-    is_plain = not IN_A_CURRENCY.search(text) and all(map(PLAIN_WORD.fullmatch, WORD.findall(left)))
-    told = set(DIGITS.findall(YEARS.sub("", left)))
+def numbers_in(text: str, year: int) -> tuple[list[Number], list[Number]]:
+    """The numbers in a text of that year that are nothing else, and those that make a firm among them doubtful at most:
+    they look like something else, or are parts of longer words."""
+    found_others = [*OTHER_NUMBERS.finditer(text)]
+    left = without(text, found_others)
+    beside = [*BESIDE_A_CURRENCY.finditer(left)]
+    others = [*others_in(text, found_others), *amounts_in(left, beside)]
+    left = without(left, beside)
+    told = told_in_plain_words(text, found_others, left)
     numbers: list[Number] = []
-    end, is_before_a_year = 0, False
+    places, end = set(), 0
     for found in NUMBER_WORD.finditer(left):
-        is_joined = bool(numbers and JOINED.fullmatch(left, end, found.start()))
-        is_named_too = bool(numbers and NAMED_TOGETHER.fullmatch(left, end, found.start()))
-        words = numbers[-1].words if is_joined else words_before(left, found.start())
-        end, is_behind_one = found.end(), is_before_a_year
-        is_before_a_year = OF_A_YEAR.match(left, end) is not None
-        number = Number(found[0], words, is_joined, is_plain and told <= {found[0]}, is_before_a_year or is_behind_one,
-                        GOES_ON.match(left, end) is not None)
-        if is_named_too and not (number.is_like_a_count_or_a_date or number.may_be_a_year):
-            numbers = with_another(numbers)
-        numbers.append(number)
-    return numbers
+        number = number_at(left, found, numbers[-1:], end, year)
+        if numbers and is_another(left, found, numbers, end, year):
+            name_with_another(numbers, number, year)
+        numbers.append(replace(number, is_plain=told is not None and told <= {number.digits}))
+        places.add(found.start())
+        end = found.end()
+    others += (other_at(left, it, False) for it in WHOLE.finditer(left) if it.start() not in places)
+    return numbers, others
 
 
-def with_another(numbers: list[Number]) -> list[Number]:
-    """The numbers, of which the last one, and those that it is joined to, are named together with another one."""
-    first = max(place for place, it in enumerate(numbers) if not it.is_joined)
-    return numbers[:first] + [replace(it, is_one_of_several=True) for it in numbers[first:]]
+def without(text: str, others: Iterable[re.Match]) -> str:
+    """The text without what is something else. For what began with a digit one stands, so that what goes on into it, as
+    the 1001 of 1001,24 Mai, is no number."""
+    pieces, end = [], 0
+    for it in others:
+        pieces += text[end:it.start()], "0_" if it[0][0].isdecimal() else "_"
+        end = it.end()
+    return "".join((*pieces, text[end:]))
 
 
-def words_before(text: str, end: int) -> frozenset[str]:
-    before = WORD_BEFORE.search(text, max(0, end - LONGEST_WORD), end)
+def told_in_plain_words(text: str, others: list[re.Match], left: str) -> set[str] | None:
+    """The numbers of a plain text, years aside; nothing where it isn't one. What looks like something else is gone from
+    what is left of it."""
+    are_plain = (it.lastgroup.startswith(OF_PLAIN_TEXTS) or DAY_WITH_A_DASH.fullmatch(it[0]) for it in others)
+    is_plain = (not IN_A_CURRENCY.search(text) and all(are_plain)
+                and all(map(PLAIN_WORD.fullmatch, WORD.findall(left))))
+    return set(DIGITS.findall(YEARS.sub("", left))) if is_plain else None
+
+
+def number_at(text: str, found: re.Match, before: list[Number], end: int, year: int) -> Number:
+    """The number that was found there, behind another one that ends there, if there is one."""
+    begin, digits = found.span()[0], found[0]
+    is_joined = bool(before and JOINED.fullmatch(text, end, begin))
+    is_before_a_year = OF_A_YEAR.match(text, found.end()) is not None
+    return Number(
+        digits,
+        before[0].words if is_joined else words_before(text, begin),
+        is_joined=is_joined,
+        is_before_a_year=is_before_a_year,
+        is_of_a_year=is_before_a_year or any(it.is_before_a_year for it in before),
+        goes_on=goes_on(text, found, year),
+        is_named_with=any(not it.may_be_a_year and NAMED_WITH.fullmatch(text, end, begin) for it in before),
+        is_told=before[0].is_told if is_joined else is_told(text, begin),
+    )
+
+
+def goes_on(text: str, found: re.Match, year: int) -> bool:
+    """Whether a number may be the first digits of a longer one, or counts something."""
+    more = GOES_ON.match(text, found.end())
+    return more is not None and not is_date_near(more[1], year) or counts(text, found)
+
+
+def counts(text: str, found: re.Match) -> bool:
+    """Whether a number counts something: 12 Monate"""
+    return len(found[0]) < LEAST_SURE_DIGITS and COUNTED.match(text, found.end()) is not None
+
+
+def is_ordinal(text: str, found: re.Match) -> bool:
+    """Whether a number may be the end of a longer one, as in Betrieb 1001+02."""
+    return found[0].startswith("0") and not BEFORE_A_DATE.match(text, found.end())
+
+
+def is_another(text: str, found: re.Match, before: list[Number], end: int, year: int) -> bool:
+    """Whether a number is named together with those before it, of which the last one ends there, and may be a firm's."""
+    digits, last = found[0], before[-1].digits
+    is_less = len(digits) < min(LEAST_SURE_DIGITS, len(last)) and not is_ordinal(text, found)
+    if is_less or counts(text, found) or is_date_near(digits, year):
+        return False
+    word = BEFORE_A_WORD.match(text, found.end())
+    is_in_an_address = word is not None and not PLAIN_WORD.fullmatch(word[1])
+    is_alike = any(len(it.digits) == len(digits) for it in before) and not is_in_an_address
+    names = NAMED_TOGETHER.fullmatch(text, end, found.start()), is_alike and LISTED.fullmatch(text, end, found.start())
+    return any(names)
+
+
+def name_with_another(numbers: list[Number], other: Number, year: int) -> None:
+    """Notes that the last one that is no date, and those behind it, are named together with another one. (Of a long list
+    each has been noted by the one behind it.)"""
+    for place in range(len(numbers) - 1, max(-1, len(numbers) - 1 - MOST_NAMED), -1):
+        number = numbers[place]
+        if number.digits != other.digits:
+            numbers[place] = replace(number, is_one_of_several=True)
+        if not number.is_joined and not is_date_near(number.digits, year):
+            return
+
+
+def is_date_near(digits: str, year: int) -> bool:
+    """Whether digits may be a year, a month or a day of some years before this one up to the next, without points."""
+    return dates_near(year).fullmatch(digits) is not None
+
+
+@lru_cache
+def dates_near(year: int) -> re.Pattern:
+    years = range(year - 5, year + 2)
+    whole, short = "|".join(map(str, years)), "|".join(f"{it % 100:02}" for it in years)
+    month, day = "(?:0[1-9]|1[0-2])", "(?:0[1-9]|[12][0-9]|3[01])"
+    return re.compile(f"(?:{whole})(?:{month}(?:{day})?)?|(?:{short}){month}(?:{day})?|"
+                      f"(?:{day})?{month}(?:{whole}|{short})|[1-9](?:{whole})")
+
+
+def others_in(text: str, others: Iterable[re.Match]) -> Iterator[Number]:
+    """The numbers of what looks like something else, and may be firms' all the same."""
+    for found in others:
+        numbers = [*WHOLE.finditer(text, *found.span())]
+        count = count_of_none(text, found, len(numbers))
+        yield from (other_at(text, it, place < count) for place, it in enumerate(numbers))
+
+
+def count_of_none(text: str, found: re.Match, count: int) -> int:
+    """How many of so many numbers in what looks like something else are that for sure, from the first one on."""
+    kind, _, _ = found.lastgroup.partition("_")
+    if kind in ("reference", "date"):
+        return count
+    if kind == "amount":
+        return 0 if ON_BOTH_SIDES.search(found[0]) else 1
+    # (Of two with an area, and of three with a country.)
+    if kind == "telephone" and BEGIN_OF_A_TELEPHONE.match(text, found.start()):
+        return 3
+    return 2 if kind == "telephone" and ends_in(CALLED_A_TELEPHONE, text, found.start()) else 0
+
+
+def amounts_in(text: str, beside: Iterable[re.Match]) -> Iterator[Number]:
+    """The numbers beside a currency that has no amount yet."""
+    for found in beside:
+        yield from (other_at(text, it, True) for it in WHOLE.finditer(text, *found.span()))
+
+
+def other_at(text: str, found: re.Match, is_none: bool) -> Number:
+    is_none = is_none or CENTS.match(text, found.end()) is not None
+    return Number(
+        found[0],
+        words_before(text, found.start()),
+        is_named_with=(not is_none and len(found[0]) >= LEAST_SURE_DIGITS
+                       and ends_in(NAMED_BEFORE, text, found.start()) is not None),
+        is_none=is_none,
+        is_told=is_told(text, found.start()),
+    )
+
+
+def is_told(text: str, begin: int) -> bool:
+    """Whether the word before a number that begins there says what it is."""
+    said = ends_in(SAID_BEFORE, text, begin)
+    return said is not None and not SAYS_NOTHING.fullmatch(said[1])
+
+
+def words_before(text: str, begin: int) -> frozenset[str]:
+    if stuck := ends_in(STUCK_WORD, text, begin):
+        return frozenset({stuck[0]})
+    before = ends_in(WORD_BEFORE, text, begin)
     word, label = before.groups("") if before else ("", "")
     return frozenset({word, label, word + label} - {""})
 
 
-def replaced(other: re.Match) -> str:
-    """What is put for something else. Where it began with a digit, one stands, so that what goes on into it, as the
-    1001 of 1001,24 Mai, is no number."""
-    return "0_" if other[0][0].isdecimal() else "_"
+def ends_in(pattern: re.Pattern, text: str, end: int) -> re.Match | None:
+    """What stands before that place, as far as a longest word."""
+    return pattern.search(text, max(0, end - LONGEST_WORD), end)

@@ -12,9 +12,11 @@ MOST_SHOWN = 60
 # Every dash, for str.translate().
 DASHES = dict.fromkeys(map(ord, "‐‑‒–—―−"), "-")
 # Of a text in more parts no firm is known, and no word is put together at a single place: banks have some 10.
-MOST_PARTS = 200
+MOST_PARTS = 100
 # Nor of a longer one: banks have some 500 signs at most.
 MOST_SIGNS = 5_000
+# So many a payer may write; software cuts there, too.
+MOST_SIGNS_OF_A_TEXT = 140
 # The place of a reading among those of a text.
 PUT_TOGETHER = 1
 # The parts into which banks cut a text have so many signs; one that has is cut for certain, or by chance.
@@ -29,8 +31,9 @@ SEAM = re.compile("|".join((
     r"(?<=[^\W_]-)\n(?=[^\W_])", r"(?<=\+)\n(?=[0-9])",
     # 10|01
     r"(?<=[0-9])\n(?=[0-9])",
-    # Zin|sen; not Bau AG|Nr. 1001, nor betr|Nr. 1001
-    r"(?<=[^\W\d_])\n(?!(?i:(?:(?<=\bag\n)|(?<=\bbetr\n))(?:nr|nummer)))(?=[^\W\d_])",
+    # Zin|sen; not Bau AG|Nr. 1001, nor betr|Nr. 1001, nor NOTPROVIDED|SVWZ+Betrieb 1001, nor Bau Nord|Betrieb 1001
+    r"(?<=[^\W\d_])\n(?!(?i:(?:(?<=\bag\n)|(?<=\bbetr\n))(?:nr|nummer))|(?:SVWZ|[EKMC]REF|CRED|ABWA)\+|"
+    r"(?:Betriebs?|BETRIEBS?|Firma|FIRMA|Mitglieds?|MITGLIEDS?|BKN)\b)(?=[^\W\d_])",
     # RE2024A|1001, where the part before is a whole one; not Betrieb|1001
     *(rf"(?<=^.{{{signs - 1}}}[^\W\d_])(?<![^\W\d_]{{4}})\n(?=[0-9])" for signs in WHOLE_PARTS),
 )), re.MULTILINE)
