@@ -49,11 +49,12 @@ def read_requests(path):
 
 def logged_refusal(entry):
     """The refusal of an answer in the log, empty where the request was done. None where it is to be sent again,
-    as where an earlier build of this script took a page for an answer that no office gives."""
+    as where an earlier build of this script took for an answer what no office gives."""
     status = int(entry["status"][:3])
     if stops(status):
         return None
-    answer = Answer(status, entry["status"][4:], entry["answer"])
+    request = " ".join(entry["request"].split(" ")[:2])
+    answer = Answer(request, status, entry["status"][4:], entry["answer"])
     try:
         return None if answer.rule in OF_KEY_OR_DAY else refusal_of(answer)
     except Fault:

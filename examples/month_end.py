@@ -3,12 +3,14 @@
 A clerk's month end: the statement of each firm, the lines in suspense, a reminder run under NUMBER
 and a payout list under NUMBER + 1. Each document comes into a file of FOLDER that is named by its
 first line. FIRMS is an employer number, a range FIRST-LAST, or a text file of these; a number
-without a firm is skipped, and without any firm nothing is made. Run again under the same NUMBER it
-makes no second run or list.
+without a firm is skipped, and without any firm nothing is made. All are of one day: where the office
+was started anew on another one meanwhile, it ends before the run, or behind what that day made, and is
+to be run again. Run again under the same NUMBER it makes no second run or list.
 """
 
 import itertools
 import re
+from collections import Counter
 from pathlib import Path
 from typing import NamedTuple
 
@@ -19,6 +21,7 @@ FIRMS = re.compile(r"([1-9][0-9]{0,7})(?:-([1-9][0-9]{0,7}))?")
 # So many of the skipped numbers are told.
 MOST_TOLD = 10
 UNKNOWN_EMPLOYER = 11
+STARTED_ANEW = "the office was started anew on another day meanwhile"
 
 
 class Kind(NamedTuple):
@@ -57,8 +60,6 @@ def file_of(folder, title):
 def save(folder, answer):
     """Writes a document into its file. Its first line."""
     title = answer.done().title
-    if title is None:
-        raise Fault(printable(f"no document of an office: {answer.text[:60]}"), 3)
     folder.mkdir(parents=True, exist_ok=True)
     write_whole(file_of(folder, title), answer.text.encode())
     return title
@@ -70,7 +71,12 @@ def save_and_tell(folder, answer):
     return title
 
 
+def day_of(title):
+    return title.split()[-1]
+
+
 def save_statements(office, folder, firms):
+    """Saves the statement of each firm. How many are of each day."""
     # A number may stand in several ranges.
     saved, skipped = set(), {}
     for firm in firms:
@@ -86,13 +92,22 @@ def save_statements(office, folder, firms):
         print(f"numbers without a firm: {len(skipped)} ({told}{more})")
     if not saved:
         raise Fault("no number is a firm's, so no run and no list is made", 2)
+    return Counter(map(day_of, saved))
+
+
+def check_days(statements, day):
+    """A Fault where not all statements, so many of each day, are of the day of the lines in suspense."""
+    if set(statements) != {day}:
+        told = ", ".join(f"{statements[it]} of {it}" for it in sorted(statements))
+        raise Fault(f"statements: {told}; lines in suspense: of {day}: {STARTED_ANEW}, so no run and no list is made",
+                    3)
 
 
 def stands_already(folder, document, number):
     """Whether the file of a run or a list stands in the folder. It never changes: a Fault where another book made the
     one there, which perhaps was transferred."""
-    file = document.title and file_of(folder, document.title)
-    if not file or file.is_symlink() or not file.exists():
+    file = file_of(folder, document.title)
+    if file.is_symlink() or not file.exists():
         return False
     if file.read_bytes() != document.text.encode():
         raise Fault(f"{file} stands with another content, and is left as it is: the office has another "
@@ -112,7 +127,9 @@ def make_and_save(office, folder, kind, number, day):
     document = office.ask("GET", f"{kind.path}/{made}").done()
     stood = stands_already(folder, document, number)
     title = save_and_tell(folder, document)
-    if title.split()[-1] != day:
+    if day_of(title) > day:
+        raise Fault(f"{title} is of a later day than the statements: {STARTED_ANEW}", 3)
+    if day_of(title) < day:
         print(f"number {number} made it on an earlier day; a new one needs a new number")
     elif stood:
         print(f"its file stood in the folder: number {number} made it before, and a new one needs a new number, "
@@ -130,9 +147,9 @@ def main():
     check_numbers(words.number, 2)
     office = Office(words.address, words.key)
     # What only asks comes first: a run and a list can't be taken back.
-    save_statements(office, words.folder, itertools.chain(*firms))
-    title = save_and_tell(words.folder, office.ask("GET", "/suspense"))
-    day = title.split()[-1]
+    statements = save_statements(office, words.folder, itertools.chain(*firms))
+    day = day_of(save_and_tell(words.folder, office.ask("GET", "/suspense")))
+    check_days(statements, day)
     make_and_save(office, words.folder, REMINDERS, words.number, day)
     make_and_save(office, words.folder, PAYOUTS, words.number + 1, day)
     return 0

@@ -24,22 +24,34 @@ LAST_NUMBER = 999_999_999_999_999_999
 # The key goes unenciphered, so to this machine alone, or into a tunnel that begins here.
 ADDRESS = re.compile(r"(127\.0\.0\.1|localhost):([0-9]{1,5})")
 KEY = re.compile(r"[!-~]{1,64}")
-# The first line of a document.
-TITLE = re.compile(r"[a-z]+( [0-9-]+)+")
+DAY = "[0-9]{4}-[0-9]{2}-[0-9]{2}"
 AGAIN = "run the same command again: nothing is done twice"
 BROKEN_OFF = f"broken off; to go on, {AGAIN}"
-# The members of what else an office answers: of a refusal, and of each reply.
+# The members of a refusal.
 REFUSAL = {"detail", "name", "rule"}
-REPLIES = (
-    {"done"},
-    {"charge", "version"},
-    {"claim"},
-    {"paid", "to_contributions", "to_interest"},
-    {"items", "list", "total"},
-    {"firms", "run"},
-    {"new", "repeats"},
-    {"arrears", "charged", "credited", "prepaid"},
-)
+DONE, REPORTED = {"done"}, {"charge", "version"}
+# What an office answers to a request that it does (docs/http.md), by the method and the path, in which # is a number or
+# a month: the members of a reply, or the first word of a document.
+ANSWERS = {
+    "POST /rates": DONE,
+    "POST /employers": DONE,
+    "POST /employers/#/end": DONE,
+    "POST /employers/#/reports/#": REPORTED,
+    "PUT /employers/#/reports/#": REPORTED,
+    "POST /employers/#/claims": {"claim"},
+    "POST /employers/#/claims/#/withdraw": DONE,
+    "POST /claims/#/release": {"paid", "to_contributions", "to_interest"},
+    "POST /bank": {"new", "repeats"},
+    "POST /assign": DONE,
+    "POST /payouts": {"items", "list", "total"},
+    "POST /reminders": {"firms", "run"},
+    "GET /employers/#/owed": {"arrears", "charged", "credited", "prepaid"},
+    "GET /employers/#/statement": "statement",
+    "GET /workers/#": "worker",
+    "GET /suspense": "suspense",
+    "GET /payouts/#": "payout",
+    "GET /reminders/#": "reminders",
+}
 
 
 class Fault(Exception):
@@ -52,15 +64,16 @@ class Fault(Exception):
 
 
 class Answer(NamedTuple):
+    # Its method and path.
+    request: str
     status: int
     reason: str
     text: str
 
     @property
     def title(self):
-        """The first line of a document; None of another body."""
-        title = self.text.partition("\n")[0]
-        return title if TITLE.fullmatch(title) else None
+        """The first line, which names a document and ends with its day."""
+        return self.text.partition("\n")[0]
 
     @property
     def members(self):
@@ -74,20 +87,31 @@ class Answer(NamedTuple):
         return members
 
     @property
+    def is_of_its_kind(self):
+        """Whether the body is what an office answers to this request where it does it."""
+        kind = ANSWERS.get(re.sub("(?<=/)[0-9-]+", "#", self.request))
+        if kind is None:
+            return False
+        if isinstance(kind, str):
+            words = [kind, *re.findall("[0-9]+", self.request), DAY]
+            return re.fullmatch(" ".join(words), self.title) is not None
+        members = self.members
+        return set(members) == kind and all(it is True if kind is DONE else type(it) is int for it in members.values())
+
+    @property
     def rule(self):
         """The number of the rule that refuses the request, 0 where it is done. A Fault of what no office
-        answers."""
-        if self.status == 200 and self.title:
+        answers to it."""
+        if self.status == 200 and self.is_of_its_kind:
             return 0
-        members = self.members
-        if self.status == 200 and set(members) in REPLIES and all(isinstance(it, int) for it in members.values()):
-            return 0
-        if self.status != 200 and set(members) == REFUSAL and isinstance(members["rule"], int):
-            return members["rule"]
+        if self.status != 200:
+            members = self.members
+            if set(members) == REFUSAL and type(members["rule"]) is int and members["rule"] > 0:
+                return members["rule"]
         raise self.no_answer_of_an_office()
 
     def no_answer_of_an_office(self):
-        """The Fault of an answer that something else gave, as a proxy."""
+        """The Fault of an answer that something else gave, as a proxy or another program on the port."""
         return Fault(printable(f"no answer of an office: {self.status} {self.reason}"), 3)
 
     @property
@@ -114,14 +138,18 @@ class Office:
     def __init__(self, address, key, timeout=TIMEOUT):
         self.key = key
         self.connection = http.client.HTTPConnection(*address, timeout=timeout)
+        # Whether the last request was sent once more: it may have been done before its answer.
+        self.asked_again = False
 
     def ask(self, method, path, number=None, body=""):
         """The answer to a request. One that has none is sent once more: it is done once, by its
         number."""
+        self.asked_again = False
         try:
             return self.ask_once(method, path, number, body)
         except (http.client.HTTPException, OSError):
             self.connection.close()
+        self.asked_again = True
         try:
             return self.ask_once(method, path, number, body)
         except (http.client.HTTPException, OSError) as why:
@@ -139,7 +167,7 @@ class Office:
         # An answer of the office always has its length.
         if answer.length is None or answer.length > MOST_BYTES:
             raise http.client.HTTPException(f"no length of at most {MOST_BYTES} bytes")
-        return Answer(answer.status, answer.reason, answer.read().decode(errors="replace"))
+        return Answer(f"{method} {path}", answer.status, answer.reason, answer.read().decode(errors="replace"))
 
 
 def printable(text):
@@ -152,10 +180,12 @@ def euros(cents):
 
 
 def read_text(path):
-    try:
-        return Path(path).read_text(encoding="utf-8-sig")
-    except UnicodeError:
-        raise Fault(f"{path}: no text in UTF-8", 2) from None
+    with contextlib.suppress(UnicodeError):
+        text = Path(path).read_text(encoding="utf-8-sig")
+        # One in UTF-16 without a mark may pass for UTF-8, with zeros in it.
+        if "\0" not in text:
+            return text
+    raise Fault(f"{path}: no text in UTF-8", 2)
 
 
 def read_key(path):

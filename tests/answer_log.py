@@ -140,7 +140,10 @@ class AnswerLog(Scripts):
                      b"HTTP/1.1 404 Not Found\r\nContent-Length: 10\r\n\r\n{\"rule\":4}",
                      b"HTTP/1.1 200 OK\r\nContent-Length: 4\r\n\r\nnull",
                      b"HTTP/1.1 200 OK\r\nContent-Length: 2\r\n\r\n{}",
-                     b"HTTP/1.1 200 OK\r\nContent-Length: 15\r\n\r\n{\"status\":\"up\"}"):
+                     b"HTTP/1.1 200 OK\r\nContent-Length: 15\r\n\r\n{\"status\":\"up\"}",
+                     # What an office answers, but not to this request, and what looks like a document.
+                     b"HTTP/1.1 200 OK\r\nContent-Length: 24\r\n\r\n{\"charge\":20,\"version\":1}",
+                     b"HTTP/1.1 200 OK\r\nContent-Length: 9\r\n\r\nready 1\n\n"):
             with socket.create_server(("127.0.0.1", 0)) as listener:
                 self.address = f"127.0.0.1:{listener.getsockname()[1]}"
 
@@ -161,16 +164,18 @@ class AnswerLog(Scripts):
     def test_a_log_in_which_pages_stand_for_answers(self):
         """As an earlier build wrote it: what stands behind them was never sent."""
         self.open_office()
-        requests = [REGISTRATION_LINE, "GET /employers/1001/owed -\n", "GET /rates -\n", "GET /suspense -\n"]
-        pages = (("400 Bad Request", "<html>"), ("200 OK", "{}"), ("200 OK", 10_000 * "["),
+        requests = [REGISTRATION_LINE, "GET /employers/1001/owed -\n", "GET /rates -\n", "POST /payouts 6\n",
+                    "GET /suspense -\n"]
+        pages = (("400 Bad Request", "<html>"), ("200 OK", "{}"), ("200 OK", 10_000 * "["), ("200 OK", "ready 1\n\n"),
                  ("200 OK", "suspense 2024-04-30\nlines 0\n"))
         self.write("batch", "".join(requests))
         self.write("log", "".join(
             f'{json.dumps({"time": "", "request": request.strip(), "status": status, "answer": page})}\n'
             for request, (status, page) in zip(requests, pages)))
         self.assertEqual(self.script("answer_log", "batch", "log", status=1), "GET /rates -: rule 5 BadMethod\n"
-                         "sent: 3, skipped: 1, refused: 1\n")
-        self.assertEqual([it["answer"][:13] for it in self.entries()[4:]], ['{"done":true}', '{"arrears":0,', '{"detail":"",'])
+                         "POST /payouts 6: rule 29 NothingToPay\nsent: 4, skipped: 1, refused: 2\n")
+        self.assertEqual([it["answer"][:13] for it in self.entries()[5:]],
+                         ['{"done":true}', '{"arrears":0,', '{"detail":"",', '{"detail":"",'])
 
     def test_two_batches_at_once(self):
         self.open_office()

@@ -16,10 +16,13 @@ import threading
 
 # No __pycache__ is left beside the sources.
 sys.dont_write_bytecode = True
-from examples import (AGAIN, BROKEN_OFF, CSV_HEADER, JANUARY, NO_LINES, REGISTRATION_LINE, REPORT_LINE,  # noqa: E402
-                      Scripts)
-from program import REGISTRATION  # noqa: E402
-from program_under_test import run_tests  # noqa: E402
+from examples import (AGAIN, BROKEN_OFF, CSV_HEADER, JANUARY, NO_LINES, ONCE_IT_IS_GONE,  # noqa: E402
+                      REGISTRATION_LINE, REPORT_LINE, Scripts, made_before)
+from program import REGISTRATION, post  # noqa: E402
+from program_under_test import DAY, run_tests  # noqa: E402
+from serving import ask  # noqa: E402
+
+NEXT_DAY = "2024-05-01"
 
 
 class BrokenOff(Scripts):
@@ -34,7 +37,8 @@ class BrokenOff(Scripts):
         fault = f"no answer from {self.address}: [Errno 111] Connection refused\n"
         for name, words, more, said in (
                 ("month_end", ["april", 2, 1001], "", ""),
-                ("reports_from_csv", [1, "wages.csv"], "2 reports have no answer\n", ""),
+                ("reports_from_csv", [1, "wages.csv"],
+                 "number 1 may have been done; reports to be sent again, from number 1 on: 2\n", ""),
                 ("answer_log", ["batch", "log"], "", "sent: 0, skipped: 0, refused: 0, left: 2\n")):
             self.assertEqual(self.script(name, *words, status=3, errors=f"{fault}{more}{AGAIN}"), said)
 
@@ -104,22 +108,48 @@ class BrokenOff(Scripts):
     def test_what_is_no_office(self):
         """None of its signs reaches the terminal as it came, and no value is taken for a number."""
         of_length = "HTTP/1.1 200 OK\r\nContent-Length: {}\r\n\r\n{}".format
-        document, reply = "suspense 2024-04-30\n\x1b[2J\n", r'{"charge":1,"version":"\u001b[2J"}'
-        no_office = f"no answer of an office: 200 OK\n{AGAIN}"
-        for answer, name, words, printed, told in (
-                ("\x1b]0;x\x07 no HTTP\r\n", "answer_log", ["batch", "log"], "sent: 0, skipped: 0, refused: 0, left: 2\n",
-                 f"no answer from ADDRESS: ?]0;x? no HTTP\n{AGAIN}"),
-                ("HTTP/9\x1b[2J 200 OK\r\n", "month_end", ["april", 2, 1001], "",
-                 f"no answer from ADDRESS: HTTP/9?[2J\n{AGAIN}"),
-                (of_length(len(document), document), "month_end", ["april", 2, 1001],
+        bodies = ("statement 1001 2024-04-30\n", "suspense 2024-04-30\n\x1b[2J\n", '{"done":true}',
+                  r'{"charge":1,"version":"\u001b[2J"}')
+        statement, suspense, another, reply = (of_length(len(body), body) for body in bodies)
+        no_office = "no answer of an office: 200 OK\n"
+        for given, name, words, printed, told in (
+                (["\x1b]0;x\x07 no HTTP\r\n"], "answer_log", ["batch", "log"],
+                 "sent: 0, skipped: 0, refused: 0, left: 2\n", "no answer from ADDRESS: ?]0;x? no HTTP\n"),
+                (["HTTP/9\x1b[2J 200 OK\r\n"], "month_end", ["april", 2, 1001], "",
+                 "no answer from ADDRESS: HTTP/9?[2J\n"),
+                ([suspense], "month_end", ["april", 2, 1001], "", no_office),
+                ([statement, suspense, another], "month_end", ["april", 2, 1001],
                  "statements: 1\nsuspense 2024-04-30: ?[2J\n", no_office),
-                (of_length(len(reply), reply), "reports_from_csv", [1, "wages.csv"], "",
-                 f"no answer of an office: 200 OK\n2 reports have no answer\n{AGAIN}")):
-            with self.subTest(answer), socket.create_server(("127.0.0.1", 0)) as listener:
-                self.address = f"127.0.0.1:{listener.getsockname()[1]}"
-                threading.Thread(target=answers, args=(listener, answer.encode()), daemon=True).start()
-                errors = told.replace("ADDRESS", self.address)
+                ([reply], "reports_from_csv", [1, "wages.csv"], "",
+                 f"{no_office}number 1 may have been done; reports to be sent again, from number 1 on: 2\n")):
+            with self.subTest(given), socket.create_server(("127.0.0.1", 0)) as listener:
+                self.answer(listener, given)
+                errors = told.replace("ADDRESS", self.address) + AGAIN
                 self.assertEqual(self.script(name, *words, status=3, errors=errors), printed)
+
+    def answer(self, listener, given):
+        """Has the address answer each request with the next one of what is given, and then with the last one."""
+        self.address = f"127.0.0.1:{listener.getsockname()[1]}"
+        threading.Thread(target=answers, args=(listener, [it.encode() for it in given]), daemon=True).start()
+
+    def test_an_office_that_fails(self):
+        """Behind rule 41 a report may have been done, and behind another one where an answer of before was lost
+        (docs/http.md)."""
+        done = 'HTTP/1.1 200 OK\r\nConnection: close\r\nContent-Length: 29\r\n\r\n{"charge":200000,"version":1}'
+        doubt = "number 2 may have been done; "
+        for status, rule, lost, doubt in (("500 Internal Server Error", "41 Store", [], doubt),
+                                          ("500 Internal Server Error", "42 Failed", [], ""),
+                                          ("500 Internal Server Error", "42 Failed", [""], doubt),
+                                          ("503 Service Unavailable", "40 Memory", [], "")):
+            number, name = rule.split()
+            body = f'{{"detail":"","name":"{name}","rule":{number}}}'
+            refused = f"HTTP/1.1 {status}\r\nContent-Length: {len(body)}\r\n\r\n{body}"
+            with self.subTest(rule, lost=lost), socket.create_server(("127.0.0.1", 0)) as listener:
+                self.answer(listener, [done, *lost, refused])
+                told = f"{doubt}reports to be sent again, from number 2 on: 1\n{ONCE_IT_IS_GONE}"
+                said = self.script("reports_from_csv", 1, "wages.csv", status=1, errors=told)
+                self.assertEqual(said, "1 1001 2024-01: 2000.00 euros for 10000.00 euros gross, version 1\n"
+                                       f"2 1001 2024-02: rule {rule}\n")
 
     def test_a_number_of_a_month_end_that_is_taken(self):
         """The run is made, and it is told that the list isn't."""
@@ -142,6 +172,56 @@ class BrokenOff(Scripts):
                          f"{refusals}sent: 0, skipped: 3, refused: 2\n")
 
 
+class AnotherDay(Scripts):
+    """The office is started anew on the next day in the middle of a month end, whose documents are to be of one day."""
+
+    def start_anew_before(self, path):
+        """An address before the office, which is started anew before the first request for this path."""
+        listener = socket.create_server(("127.0.0.1", 0))
+        self.addCleanup(listener.close)
+
+        def pass_on():
+            awaited = path
+            with contextlib.suppress(OSError):
+                while True:
+                    with listener.accept()[0] as peer:
+                        request = peer.recv(65536)
+                        if awaited and request.split()[1] == awaited.encode():
+                            self.close_office()
+                            self.open_office(NEXT_DAY)
+                            awaited = None
+                        with self.connect(self.server) as served:
+                            peer.sendall(ask(served, request))
+
+        threading.Thread(target=pass_on, daemon=True).start()
+        return f"127.0.0.1:{listener.getsockname()[1]}"
+
+    def test_a_month_end(self):
+        anew = "the office was started anew on another day meanwhile"
+        mixed = f"lines in suspense: of {NEXT_DAY}: {anew}, so no run and no list is made\n"
+        made = f"reminders 1 {NEXT_DAY}: firms 2\n"
+        for path, day, more, told in (
+                ("/employers/1002/statement", NEXT_DAY, "", f"statements: 1 of {DAY}, 1 of {NEXT_DAY}; {mixed}"),
+                ("/suspense", NEXT_DAY, "", f"statements: 2 of {DAY}; {mixed}"),
+                ("/reminders", DAY, made, f"reminders 1 {NEXT_DAY} is of a later day than the statements: {anew}\n")):
+            with self.subTest(path):
+                folder = path.split("/")[-1]
+                self.store = f"{folder}.db"
+                self.open_office()
+                for firm in (1001, 1002):
+                    self.ask_desk(post("/employers", firm, f'{{"employer":{firm},"name":"Bau","start":"2024-01"}}'))
+                self.address = self.start_anew_before(path)
+                words = ["month_end", folder, 2, "1001-1002"]
+                said = self.script(*words, status=3, errors=f"{told}{AGAIN}")
+                self.assertEqual(said, f"statements: 2\nsuspense {day}: total 0.00\n{more}")
+                # Run again, straight to the new office, it makes all of that day.
+                self.address = f"127.0.0.1:{self.server.port}"
+                note = made_before(2) if more else ""
+                self.assertEqual(self.script(*words), f"statements: 2\nsuspense {NEXT_DAY}: total 0.00\n{made}{note}"
+                                                      "payouts: rule 29 NothingToPay\n")
+                self.close_office()
+
+
 class Corrections(Scripts):
     def test_a_correction(self):
         self.open_office()
@@ -149,7 +229,7 @@ class Corrections(Scripts):
         self.write("wages.csv", JANUARY)
         self.script("reports_from_csv", 1, "wages.csv", key="firm.key")
         self.write("better.csv", CSV_HEADER + "1001,2024-01,7,500000\n1001,2024-01,8,250025\n")
-        told = "2 1001 2024-01: 1500.05 euros, version 2\nreports: 1, refused: 0\n"
+        told = "2 1001 2024-01: 1500.05 euros for 7500.25 euros gross, version 2\nreports: 1, refused: 0\n"
         for _ in range(2):
             self.assertEqual(self.script("reports_from_csv", 2, "better.csv", 1, key="firm.key"), told)
         said = self.script("reports_from_csv", 3, "wages.csv", 1, key="firm.key", status=1)
@@ -163,10 +243,10 @@ class Corrections(Scripts):
                                   "reports_from_csv", 1, "wages.csv", 1)
 
 
-def answers(listener, answer):
-    """Answers each request over a connection of its own with these bytes."""
+def answers(listener, given):
+    """Answers each request over a connection of its own with the next of these bytes, and then with the last ones."""
     with contextlib.suppress(OSError):
-        for _ in range(8):
+        for answer in given + 8 * given[-1:]:
             peer, _ = listener.accept()
             with peer:
                 peer.recv(65536)

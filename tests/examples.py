@@ -31,6 +31,7 @@ JANUARY = CSV_HEADER + "1001,2024-01,7,1000000\n"
 NO_LINES = "no lines; a month in which nobody worked is reported by hand (docs/clerk.md, section 3)"
 # Where no office answers.
 AGAIN = "when the office answers, run the same command again: nothing is done twice\n"
+ONCE_IT_IS_GONE = "once the cause is gone, run the same command again: nothing is done twice\n"
 BROKEN_OFF = "broken off; to go on, run the same command again: nothing is done twice\n"
 REGISTRATION_LINE = 'POST /employers 1 {"employer":1001,"name":"Bau Nord","start":"2024-01"}\n'
 REPORT_LINE = 'POST /employers/1001/reports/2024-02 2 {"lines":[{"gross":100,"worker":8}]}\n'
@@ -208,7 +209,8 @@ class Fund(Scripts):
             for firm in firms:
                 if month in firm.charges:
                     told = f"{1_001 + len(wanted)} {firm.employer} {name}"
-                    wanted.append(f"{told}: {in_euros(firm.charges[month])} euros, version 1\n")
+                    gross = in_euros(sum(firm.wages(month).values()))
+                    wanted.append(f"{told}: {in_euros(firm.charges[month])} euros for {gross} euros gross, version 1\n")
                     lines += [f"{firm.employer},{name},{worker},{gross}\n"
                               for worker, gross in firm.wages(month).items()]
         self.write("wages.csv", "".join(lines))
@@ -432,9 +434,9 @@ class Reports(Scripts):
         self.open_office()
         self.ask_desk(REGISTRATION)
         self.write("wages.csv", JANUARY + "1002,2024-01,8,1\n1001,2024-05,7,1\n1001,2024-02,7,500050\n")
-        wanted = ("1 1001 2024-01: 2000.00 euros, version 1\n2 1002 2024-01: rule 7 NotYours\n"
-                  "3 1001 2024-05: rule 14 MonthAhead\n4 1001 2024-02: 1000.10 euros, version 1\n"
-                  "reports: 4, refused: 2\n")
+        wanted = ("1 1001 2024-01: 2000.00 euros for 10000.00 euros gross, version 1\n"
+                  "2 1002 2024-01: rule 7 NotYours\n3 1001 2024-05: rule 14 MonthAhead\n"
+                  "4 1001 2024-02: 1000.10 euros for 5000.50 euros gross, version 1\nreports: 4, refused: 2\n")
         for _ in range(2):
             said = self.script("reports_from_csv", 1, "wages.csv", key="firm.key", status=1)
             self.assertEqual(said, wanted)
@@ -451,15 +453,15 @@ class Reports(Scripts):
         self.write("no.key", "nobody\n")
         self.write("wages.csv", JANUARY + "1001,2024-02,7,1\n")
         said = self.script("reports_from_csv", 1, "wages.csv", key="no.key", status=1,
-                           errors="1 reports weren't sent\n")
+                           errors=f"reports to be sent again, from number 1 on: 2\n{ONCE_IT_IS_GONE}")
         self.assertEqual(said, "1 1001 2024-01: rule 6 UnknownKey\n")
 
     def test_a_broken_file_sends_nothing(self):
         full = "".join(f"1001,2024-02,{worker},1\n" for worker in range(1, 501))
         faults = {
-            "line 1: the header isn't employer,month,worker,gross": "employer;month;worker;gross\n",
             "line 3: 3 fields in place of 4": JANUARY + "1001,2024-01,8\n",
-            "line 3: gross has other signs than 1 to 18 digits": JANUARY + "1001,2024-01,8,10.00\n",
+            "line 3: worker is empty": JANUARY + "1001,2024-01,,1\n",
+            "line 4: employer is empty": JANUARY + ",,,\n,,Summe,1000000\n",
             "line 3: employer has other signs than 1 to 18 digits": JANUARY + "Bau,2024-01,8,1\n",
             "line 3: worker isn't from 1 to 999999999": JANUARY + "1001,2024-01,0,1\n",
             "line 3: gross isn't from 0 to 10000000": JANUARY + "1001,2024-01,8,10000001\n",
@@ -470,18 +472,38 @@ class Reports(Scripts):
             NO_LINES: CSV_HEADER + "\n",
         }
         for fault, text in faults.items():
-            self.write("wages.csv", text)
-            self.refuses_to_start(f"{fault}\nwages.csv: nothing is sent\n", "reports_from_csv", 1, "wages.csv")
+            self.refuses_file(fault, text)
+
+    def refuses_file(self, fault, text):
+        self.write("wages.csv", text)
+        self.refuses_to_start(f"{fault}\nwages.csv: nothing is sent\n", "reports_from_csv", 1, "wages.csv")
+
+    def test_amounts_in_euros(self):
+        """Nobody is led to take the signs out of an amount: 1234.5 without them is a tenth of it."""
+        in_cents = "gross is in cents, 1 to 18 digits alone: 123450 for 1.234,50 euros"
+        for gross in ("10.00", "1234.5", '"1.234,50"', "1'234", "-100", "1E6", "100 €", 19 * "0"):
+            self.refuses_file(f"line 3: {in_cents}", f"{JANUARY}1001,2024-01,8,{gross}\n")
+        self.refuses_file(f"line 3: 5 fields in place of 4; {in_cents}", f"{JANUARY}1001,2024-01,8,1234,50\n")
+
+    def test_headers_as_spreadsheets_write_them(self):
+        """What stands there is told."""
+        for header in ("employer;month;worker;gross", "employer\tmonth\tworker\tgross", "sep=,",
+                       "employer,month,worker,gross,", "1001,2024-01,7,5", 3 * "employer,month,worker,gross,", ""):
+            told = f"line 1: the header isn't {CSV_HEADER.strip()} with commas between and nothing behind: "
+            self.refuses_file(f"{told}{header[:60]!r}", f"{header}\n{JANUARY}")
+        for encoding in ("utf-16", "utf-16-le", "utf-16-be"):
+            self.write("wages.csv", JANUARY.encode(encoding))
+            self.refuses_to_start("wages.csv: no text in UTF-8\n", "reports_from_csv", 1, "wages.csv")
 
     def test_what_is_just_allowed(self):
-        """The largest amount, 500 lines, and a byte order mark, as spreadsheets write it."""
+        """The largest amount, 500 lines, a byte order mark, and rows without anything, as spreadsheets write them."""
         self.open_office()
         self.ask_desk(REGISTRATION)
         lines = "".join(f"1001,2024-01,{worker},10000000\r\n" for worker in range(1, 501))
-        self.write("wages.csv", b"\xef\xbb\xbf" + CSV_HEADER.encode() + lines.encode())
+        self.write("wages.csv", b"\xef\xbb\xbf" + f"{CSV_HEADER}{lines}\r\n,,,\r\n ,, ,,\r\n".encode())
         # A fifth of 500 times 100,000.00.
-        self.assertEqual(self.script("reports_from_csv", 1, "wages.csv", key="firm.key"),
-                         "1 1001 2024-01: 10000000.00 euros, version 1\nreports: 1, refused: 0\n")
+        told = "1 1001 2024-01: 10000000.00 euros for 50000000.00 euros gross, version 1\nreports: 1, refused: 0\n"
+        self.assertEqual(self.script("reports_from_csv", 1, "wages.csv", key="firm.key"), told)
 
 
 class Readme(Scripts):

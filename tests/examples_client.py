@@ -24,6 +24,16 @@ from serving import read_answer  # noqa: E402
 sys.path.append(str(ROOT / "examples"))
 import office  # noqa: E402
 
+# What the parameters of paths are in docs/http.md, and the first lines of the documents there.
+PARAMETERS = {"employer": 1001, "month": "2024-01", "claim": 1, "worker": 7, "list": 1, "run": 1}
+DOCUMENTS = {
+    "Statement": "statement 1001 2024-04-30",
+    "Worker": "worker 7 2024-04-30",
+    "Lines in suspense": "suspense 2024-04-30",
+    "Payout list": "payout 1 2024-04-30",
+    "Reminder run": "reminders 1 2024-04-30",
+}
+
 
 class Client(Scripts):
     def test_an_answer_that_is_lost(self):
@@ -48,7 +58,7 @@ class Client(Scripts):
         self.address = f"127.0.0.1:{listener.getsockname()[1]}"
         self.write("wages.csv", JANUARY)
         self.assertEqual(self.script("reports_from_csv", 1, "wages.csv", key="firm.key"),
-                         "1 1001 2024-01: 2000.00 euros, version 1\nreports: 1, refused: 0\n")
+                         "1 1001 2024-01: 2000.00 euros for 10000.00 euros gross, version 1\nreports: 1, refused: 0\n")
         between.join(30)
         self.assertIn("\ncharge 2024-01 due 2024-02-20 version 1 ", self.statement(1001))
 
@@ -65,14 +75,39 @@ class Client(Scripts):
             self.assertRaises(BlockingIOError, listener.accept)
 
     def test_each_answer_of_an_office(self):
-        """As docs/http.md has them."""
+        """As docs/http.md has them: each request has the one of its own row, or a refusal."""
         text = (ROOT / "docs/http.md").read_text()
-        bodies = re.findall(r"^\| [A-Z]\w+ \| `(\{.*?\})`", text, re.M)
+        bodies = dict(re.findall(r"^\| ([A-Z]\w+) \| `(\{.*?\})`", text, re.M))
         self.assertEqual(len(bodies), 8)
-        for body in bodies:
-            self.assertEqual(office.Answer(200, "OK", body).rule, 0)
+        for title in DOCUMENTS.values():
+            self.assertRegex(text, f"(?m)^(< )?{title}$")
+        bodies |= {name: f"{title}\n" for name, title in DOCUMENTS.items()}
         refusal, = re.findall(r"^\| a refusal \| `(.*)` \|$", text, re.M)
-        self.assertEqual(office.Answer(409, "Conflict", refusal).rule, 10)
+        routes = re.findall(r"^\| (/\S*) \| (GET|POST|PUT) \|(?: [^|]+ \|){2} ([^|]+) \|", text, re.M)
+        self.assertEqual(len(routes), 18)
+        for path, method, answer in routes:
+            request = f"{method} {path.format(**PARAMETERS)}"
+            self.assertEqual(office.Answer(request, 409, "Conflict", refusal).rule, 10)
+            self.assertEqual(office.Answer(request, 200, "OK", bodies[answer]).rule, 0, request)
+            for name in bodies.keys() - {answer}:
+                self.is_no_answer(request, 200, bodies[name])
+
+    def is_no_answer(self, request, status, body):
+        with self.assertRaisesRegex(office.Fault, "^no answer of an office: ", msg=(request, body)) as told:
+            office.Answer(request, status, "OK", body).done()
+        self.assertEqual(told.exception.status, 3)
+
+    def test_answers_to_other_requests(self):
+        """The document of another number, what has another day or value, and a request that no office does."""
+        for request, body in (("GET /payouts/2", "payout 1 2024-04-30\n"), ("GET /workers/7", "worker 77 2024-04-30\n"),
+                              ("GET /suspense", "suspense 30.04.2024\n"), ("GET /suspense", "suspense 1 2024-04-30\n"),
+                              ("POST /claims/1/release", "ready 1\n\n"), ("POST /assign", '{"done":false}'),
+                              ("POST /payouts", '{"items":1,"list":true,"total":1}'), ("GET /rates", '{"done":true}'),
+                              ("PUT /bank", '{"new":1,"repeats":0}'), ("GET /", "suspense 2024-04-30\n")):
+            self.is_no_answer(request, 200, body)
+        # A refusal is by a rule.
+        for rule in ("0", "-1", "true", '"9"'):
+            self.is_no_answer("POST /assign", 409, f'{{"detail":"","name":"","rule":{rule}}}')
 
     def test_signs_that_a_terminal_would_obey(self):
         """Of a refusal, whose detail may be a member's name, and of what is no office."""
@@ -84,7 +119,7 @@ class Client(Scripts):
         self.assertEqual(said, "POST /assign 1: rule 8 BadBody ?]0;x?\nPOST /assign 2: rule 8 BadBody ?2J\n"
                                "sent: 2, skipped: 0, refused: 2\n")
         with self.assertRaisesRegex(office.Fault, r"^no answer of an office: 404 \?\[2J$"):
-            office.Answer(404, "\x1b[2J", "none").done()
+            office.Answer("GET /suspense", 404, "\x1b[2J", "none").done()
 
     def test_what_is_no_office(self):
         with socket.create_server(("127.0.0.1", 0)) as listener:
@@ -123,7 +158,8 @@ class Client(Scripts):
                             peer.sendall(b"HTTP/1.1 200 OK\r\n" + head + b"\r\n\r\n" + body)
 
                 threading.Thread(target=answer, daemon=True).start()
-                told = f"{where}{errors}1 reports have no answer\n{AGAIN}"
+                told = (f"{where}{errors}number 1 may have been done; reports to be sent again, from number 1 on: 1\n"
+                        f"{AGAIN}")
                 self.script("reports_from_csv", 1, "wages.csv", key="firm.key", status=3, errors=told)
 
     def test_stops(self):
