@@ -91,6 +91,25 @@ class Lost(DeskUnderTest):
                                              (2, "repeated", "report 1001 2024-01 1 1000000")])
         self.does({"claim": 1}, self.command("claim", employer="1001", worker="7", amount="10,00"))
 
+    def test_a_request_that_is_under_way(self):
+        """The state says so until its answer has come, or until it stays without one."""
+        for answer, outcome, pending in ((answer_bytes(200, DONE), "done", None), (None, "lost", False)):
+            may_answer, told = threading.Event(), []
+            self.addCleanup(may_answer.set)
+            office = FakeOffice(self, lambda request: answer if may_answer.wait(60) else None)
+            self.open_desk(office.port)
+            self.assertIsNone(self.session["state"]["pending"])
+            asked = threading.Thread(target=lambda: told.append(self.register()), daemon=True)
+            asked.start()
+            self.wait_for(lambda: office.requests)
+            self.assertIs(self.get("/api/session")[1]["state"]["pending"]["under_way"], True)
+            may_answer.set()
+            asked.join(60)
+            self.assertEqual(told[0][1]["entry"]["outcome"], outcome)
+            for state in (told[0][1]["state"], self.get("/api/session")[1]["state"]):
+                self.assertIs(state["pending"] and state["pending"]["under_way"], pending)
+            self.kill_desk()
+
     def test_a_crash_between_the_number_and_the_office(self):
         office = free_port()
         self.open_desk(office)

@@ -1,5 +1,5 @@
 """The office's day on the desk's page: what is told of it before something is sent, and an office that is slow to say
-it. And who has the keyboard where an answer comes late.
+it. And where an answer comes late: what is said of the request, and who has the keyboard.
 
     python3 tests/desk_days.py [PROGRAM]
 
@@ -192,6 +192,8 @@ class SlowDays(MadeAnswers):
     def answer(self, request):
         if request.startswith(b"POST"):
             time.sleep(self.office.seconds[1])
+            if not self.may_answer.wait(60) or self.is_lost:
+                return None
             return answer_bytes(200, {"claim": len(self.claims())})
         return answer_bytes(200, STATEMENT if b"/employers" in request[:20] else SUSPENSE, "text/plain")
 
@@ -200,6 +202,9 @@ class SlowDays(MadeAnswers):
 
     def open_page(self):
         self.kill_desk()
+        self.may_answer = threading.Event()
+        self.may_answer.set()
+        self.is_lost = False
         self.office = SlowToSay(self, self.answer)
         self.open_desk(self.office.port, "--log", "made-log")
         self.does({"claim": 1}, self.command("claim", employer="1001", worker="7", amount="1"))
@@ -246,6 +251,73 @@ class SlowDays(MadeAnswers):
         other.join()
         self.browser.driver.execute_async_script("setTimeout(arguments[0], 1000)")
         self.is_done(3)
+
+    def claim_and_wait(self):
+        """A claim that the office has, and doesn't answer yet."""
+        self.open_page()
+        self.may_answer.clear()
+        self.addCleanup(self.may_answer.set)
+        self.claim_slowly((0, 0))
+        self.wait_for(lambda: len(self.claims()) == 2)
+
+    def is_under_way(self):
+        self.browser.wait_for_text("#pending", "A request is being sent")
+        self.assertIn("Claim: 1001, worker 7: €10.00", self.browser.text("#pending"))
+        self.assertFalse(self.browser.is_shown("#pending-send-again"))
+        self.assertFalse(self.browser.is_shown("#pending-give-up"))
+
+    def is_over(self):
+        """It is told what became of the claim, without a click, and the forms go on."""
+        self.browser.wait_for_text("#answer", "done · Claim: 1001, worker 7: €10.00")
+        self.browser.wait_for_text("#answer", "The claim has the number 2.")
+        self.browser.wait(lambda: not self.browser.is_shown("#pending"), "the forms")
+        self.assertFalse(self.browser.run("return document.getElementById('form-claim').inert"))
+        self.assertEqual(len(self.claims()), 2)
+
+    def test_another_view_meanwhile(self):
+        """The claim is told as one that is being sent."""
+        for view in ("morning", "log"):
+            self.claim_and_wait()
+            self.go(view)
+            self.is_under_way()
+            self.browser.click("#language-de")
+            self.browser.wait_for_text("#pending", "Ein Vorgang wird gesendet")
+            self.browser.click("#language-en")
+            self.may_answer.set()
+            self.is_over()
+
+    def test_a_page_that_is_loaded_anew_meanwhile(self):
+        self.claim_and_wait()
+        self.browser.driver.refresh()
+        self.is_under_way()
+        self.may_answer.set()
+        self.is_over()
+        self.go("log")
+        self.assertEqual(self.browser.one("#log-table tbody tr").get_attribute("data-outcome"), "done")
+
+    def test_a_page_that_is_loaded_anew_and_no_answer(self):
+        """Now it stands there as a request without an answer."""
+        self.claim_and_wait()
+        self.is_lost = True
+        self.browser.driver.refresh()
+        self.is_under_way()
+        self.may_answer.set()
+        self.browser.wait_for_text("#pending", "A request without an answer")
+        self.is_lost = False
+        self.browser.click("#pending-send-again")
+        self.browser.wait_for_text("#answer", "sent again, done once")
+        self.browser.wait(lambda: not self.browser.is_shown("#pending"), "the forms")
+
+    def test_a_desk_that_is_stopped_meanwhile(self):
+        self.claim_and_wait()
+        self.browser.driver.refresh()
+        self.is_under_way()
+        self.kill_desk()
+        self.browser.wait_for_text("#fault", "The desk isn't there.")
+        self.desk = self.start_desk(self.office.port, "--port", str(self.port), "--log", "made-log")
+        self.browser.wait_for_text("#pending", "A request without an answer")
+        self.assertTrue(self.browser.is_shown("#pending-send-again"))
+        self.browser.wait(lambda: not self.browser.is_shown("#fault"), "no fault")
 
 
 class Keyboard(desk_hurry.Hurry):
@@ -395,6 +467,22 @@ class Claims(desk_hurry.Hurry):
         self.browser.wait(lambda: self.browser.is_shown("#confirm"), "the second click")
         self.assertIn("not to be learnt now: firm, worker and amount", self.browser.text("#confirm"))
         self.browser.click("#confirm-no")
+
+    def test_a_last_try_that_was_refused(self):
+        """Once that is known, the claim is mended and sent as any other."""
+        self.open_firm("1001")
+        self.close_office()
+        self.lose_the_answer("/api/commands/claim")
+        self.claim("7", "9,999.00")
+        self.answers("it isn't known whether this was done")
+        self.come_back()
+        self.open_firm("1001")
+        self.browser.click("#pending-send-again")
+        self.browser.wait_for_text("#answer", "rule 25, OverBalance")
+        self.browser.wait(lambda: self.value("claim-amount") == "9,999.00", "the claim")
+        self.browser.type("#claim-amount", "9.00")
+        self.browser.click("#claim-send")
+        self.browser.wait_for_text("#answer", "The claim has the number 1.")
 
 
 if __name__ == "__main__":

@@ -149,6 +149,45 @@ class Files(DeskUnderTest):
         # The list whose line the log lost is made, and isn't known here.
         self.assertEqual([it[0] for it in self.logged()], [2, 3])
 
+    def test_a_last_line_without_its_end(self):
+        """It is kept where it is whole: the list stays known, and its number isn't taken again."""
+        listed = [answer_bytes(200, {"items": 1, "list": number, "total": 5}) for number in (1, 2)]
+        self.open_with_fake_office(*listed, answer_bytes(200, b"something\n", "text/plain"))
+        self.command("payouts")
+        self.kill_desk()
+        before = [(self.log_folder / name).read_bytes() for name in ("log.jsonl", "numbers.jsonl")]
+        for name, content in zip(("log.jsonl", "numbers.jsonl"), before):
+            (self.log_folder / name).write_bytes(content.removesuffix(b"\n"))
+        self.open_desk(self.office.port)
+        self.assertEqual([(self.log_folder / name).read_bytes() for name in ("log.jsonl", "numbers.jsonl")], before)
+        self.assertEqual(self.command("payouts")[1]["entry"]["number"], 2)
+        self.assertEqual([it[0] for it in self.logged()], [1, 2])
+        self.assertEqual(self.get("/api/suspense/0")[1]["lists"], [1, 2])
+        self.desk.terminate()
+        self.assertEqual((self.desk.stderr.read(), list(self.log_folder.glob("*.cut"))), ("", []))
+
+    def test_a_last_line_that_is_cut_off(self):
+        """The desk starts without it, says where it is, and doesn't lose those that were put there before."""
+        answered = answer_bytes(200, {"items": 1, "list": 1, "total": 5})
+        self.open_with_fake_office(answered)
+        self.command("payouts")
+        self.kill_desk()
+        entry = (self.log_folder / "log.jsonl").read_bytes()
+        parts = [entry[:-2], entry[:1], b"\0" * 40]
+        for count, part in enumerate(parts, 1):
+            for name in ("log", "numbers"):
+                path = self.log_folder / f"{name}.jsonl"
+                whole = path.read_bytes()
+                path.write_bytes(whole + part)
+                self.open_desk(self.office.port)
+                aside = self.log_folder / f"{name}.cut"
+                told = f"desk-log/{name}.jsonl: the last line was cut off, and stands in {aside} now\n"
+                self.kill_desk()
+                self.assertTrue(self.desk.stderr.read().endswith(told))
+                self.assertEqual((path.read_bytes(), aside.read_bytes()),
+                                 (whole, b"".join(it + b"\n" for it in parts[:count])))
+                self.assertEqual(aside.stat().st_mode & 0o777, 0o600)
+
     def test_a_folder_that_takes_nothing_any_more(self):
         """Neither can the answer be written nor the request's file be removed."""
         journal = Journal(self.log_folder, 1, 2)

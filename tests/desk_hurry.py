@@ -216,22 +216,28 @@ class Slow(desk_mishaps.MadeAnswers):
 
     def answer(self, request):
         if request.startswith(b"POST /rates "):
-            self.goes_on.wait(30)
-            return answer_bytes(200, DONE)
+            return answer_bytes(200, DONE) if self.goes_on.wait(30) and self.is_there else None
         suspense = b"suspense 2024-04-30\nlines 0\ntotal           0.00\n"
         return answer_bytes(200, suspense, "text/plain; charset=utf-8")
 
-    def test_sent_again_while_the_first_try_is_under_way(self):
+    def test_sent_again_while_another_window_sends_it_again(self):
         """What is told in the end is what became of it."""
-        self.goes_on = threading.Event()
+        self.goes_on, self.is_there = threading.Event(), False
+        self.goes_on.set()
         self.open_page(self.answer)
         self.go("new")
         self.type_in("rates", contribution="19.5", entitlement="14.20", interest="0.9", report_day="15",
                      due_day="20", **{"from": "2026-01"})
         self.browser.click("#rates-send")
         self.confirm("can't be changed or taken back")
-        self.go("log")
-        self.browser.wait(lambda: self.browser.is_shown("#pending"), "the request without an answer")
+        self.answers("no answer")
+        self.goes_on.clear()
+        self.is_there = True
+        sent = len(self.office.requests)
+        again = ["/api/pending/send-again", "send-again", {"number": 1}]
+        other = threading.Thread(target=self.post, args=again, daemon=True)
+        other.start()
+        self.wait_for(lambda: len(self.office.requests) > sent)
         self.browser.run(desk_mishaps.Late.HOLD, "/api/pending/send-again")
         self.browser.click("#pending-send-again")
         self.browser.wait(lambda: self.browser.is_shown("#sending"), "the sign that it is sent")
@@ -239,7 +245,8 @@ class Slow(desk_mishaps.MadeAnswers):
         self.browser.wait(lambda: self.browser.run("return globalThis.isHeld ?? false"), "the second answer")
         self.browser.run("letGo()")
         self.browser.wait(lambda: self.browser.run("return globalThis.isRead ?? false"), "the second answer")
-        self.answers("done · New rates: from Jan 2026")
+        self.answers("sent again, done once · New rates: from Jan 2026")
+        other.join()
         self.assertFalse(self.browser.is_shown("#pending"))
         self.assertFalse(self.browser.is_shown("#sending"))
 
@@ -460,6 +467,10 @@ class Unanswered(Hurry):
         self.browser.click("#pending-send-again")
         self.browser.wait_for_text("#answer", "The claim has the number 1.")
         self.assertEqual((self.value("claim-worker"), self.value("claim-amount")), ("", ""))
+        # It is known what became of it, so the next one is sent as any other.
+        self.open_firm("1001")
+        self.claim("7", "5.00")
+        self.browser.wait_for_text("#answer", "The claim has the number 2.")
 
     def test_what_wants_a_second_click(self):
         """Before it nothing is sent, so a desk that isn't there has done nothing. Behind it that isn't known."""

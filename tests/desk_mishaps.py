@@ -520,20 +520,24 @@ class Small(Mishaps):
         self.assertIn("that isn't today (01 May 2024)", self.browser.text("#morning-other-day"))
 
     def test_the_text_is_saved(self):
+        """The one that is shown, whatever the office says by then, or if it says nothing."""
         saved = self.folder / "saved"
         saved.mkdir()
         told = {"behavior": "allow", "downloadPath": str(saved)}
         self.browser.driver.execute_cdp_cmd("Browser.setDownloadBehavior", told)
+        self.does(DONE, self.register("1002", "Bräu & Söhne"))
+        shown = {number: self.statement(number) for number in ("1001", "1002")}
         self.open_firm("1001")
+        self.does({"charge": 20000, "version": 1}, self.report("2024-02", "7,100000\n"))
+        self.saves(saved / "statement-1001.txt", shown["1001"])
+        self.open_firm("1002")
         self.close_office()
+        self.saves(saved / "statement-1002.txt", shown["1002"])
+
+    def saves(self, path, text):
         self.browser.click("#firm-download")
-        self.answers("The office isn't there")
-        self.assertEqual(list(saved.iterdir()), [])
-        self.come_back()
-        self.browser.click("#firm-download")
-        path = saved / "statement-1001.txt"
         self.browser.wait(path.exists, "the text")
-        self.assertEqual(path.read_text(), self.statement("1001"))
+        self.assertEqual(path.read_bytes(), text.encode())
         self.assertFalse(self.browser.is_shown("#answer"))
 
     def test_two_files_that_are_dropped_at_once(self):

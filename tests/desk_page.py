@@ -249,9 +249,17 @@ class Readers(unittest.TestCase):
 
     def test_a_report_as_a_spreadsheet_writes_it(self):
         for text in ('"worker","gross"\n"7","100"\n', '"worker";"gross"\r\n"7";"100"\r\n',
-                     "\ufeffworker,gross\n7,100\n", "worker,gross\n 7 , 100 \n"):
+                     "\ufeffworker,gross\n7,100\n", "worker,gross\n 7 , 100 \n", "worker\tgross\r\n7\t100",
+                     '"worker"\t"gross"\n7\t"100"\n'):
             report = reports.read_report(text)
             self.assertEqual((report.wages, report.faults), ({7: 100}, []))
+
+    def test_a_report_with_lines_that_are_parted_in_another_way(self):
+        """What stands in the header parts all lines."""
+        for header in ",;\t":
+            for line in {*",;\t"} - {header}:
+                faults = reports.read_report(f"worker{header}gross\n7{line}100\n").faults
+                self.assertEqual(faults, [{"line": 2, "reason": "fields", "word": "1"}], (header, line))
 
     def test_a_report_that_cannot_be_read(self):
         """Each fault has its own words."""
@@ -274,10 +282,18 @@ class Readers(unittest.TestCase):
                 ("de", "14.25", None), ("en", "14,25", None), ("de", "1,234", None), ("de", "", None)):
             self.assertEqual(amounts.read_hundredths(text, language), hundredths, text)
         for text, month in (("2024-01", "2024-01"), ("01/2024", "2024-01"), ("1/2024", "2024-01"),
-                            ("12.2199", "2199-12")):
+                            ("12.2199", "2199-12"), ("2024-3", "2024-03"), ("mar 2024", "2024-03"),
+                            (" Mar\u00a02024 ", "2024-03"), ("März 2024", "2024-03"), ("Jan 2024", "2024-01")):
             self.assertEqual(amounts.month("month", text), month)
-        for text in ("2024-1", "13/2024", "1999-12", "2200-01", "2024", "2024-01-01", "00/2024"):
+        for text in ("2024-13", "2024-001", "13/2024", "1999-12", "2200-01", "2024", "2024-01-01", "00/2024", "2024-0",
+                     "Mer 2024", "Mar 1999", "Mar2024", "Mar. . 2024", "Mar 24", "2024 Mar", "Mar-2024", "٣/2024"):
             self.assertRaises(Fault, amounts.month, "month", text)
+
+    def test_months_are_read_as_they_are_shown(self):
+        for language in LANGUAGES:
+            for number in range(1, 13):
+                shown = f"{WORDS[language][f'month.{number:02}']} 2024"
+                self.assertEqual(amounts.month("month", shown), f"2024-{number:02}", shown)
 
     def test_numbers(self):
         day = datetime.date(2024, 4, 30)

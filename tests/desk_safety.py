@@ -196,6 +196,22 @@ class Safety(DeskUnderTest):
         self.faults(404, "path", self.post_with(self.headers("payouts"), "/api/commands/nothing"))
         self.faults(404, "path", self.post_with(self.headers("payouts"), "/api/session"))
 
+    def test_a_browser_that_asks_for_another_page(self):
+        """It is told what to open, and gets nothing of its own request back."""
+        html = {"Accept": "text/html,application/xhtml+xml,*/*;q=0.8"}
+        texts = set()
+        cases = (("/<b>", {}, 404), ("/", {"Host": f"localhost:{self.port}"}, 403), ("/", {"Host": "x\"><b>"}, 403),
+                 ("/api/log", {"Sec-Fetch-Site": "cross-site"}, 403))
+        for path, headers, expected in cases:
+            status, told, body = self.ask("GET", path, headers={**html, **headers})
+            self.assertEqual((status, told["Content-Type"]), (expected, "text/html; charset=utf-8"), path)
+            texts.add(body)
+            self.assertIn("fault", json.loads(self.ask("GET", path, headers=headers)[2]))
+        (text,) = texts
+        link = f'<a href="http://127.0.0.1:{self.port}/">http://127.0.0.1:{self.port}/</a>'
+        self.assertRegex(text.decode(), f"Open {link}, where the desk is.*\n.*Bitte {link} öffnen")
+        self.faults(404, "path", self.post_with({**self.headers("payouts"), **html}, "/nothing"))
+
     def test_methods(self):
         for method in ("PUT", "DELETE", "OPTIONS", "PATCH", "TRACE", "BREW"):
             status, headers, body = self.ask(method, "/api/session", headers={"Origin": self.own})

@@ -37,8 +37,13 @@ export function subject(entry) {
   return what ? `${say(`kind.${entry.kind}`)}: ${what}` : say(`kind.${entry.kind}`);
 }
 
+const isOneOf = (outcomes, { entry }) => outcomes.includes(entry?.outcome.replace(UNWRITTEN, ""));
+
 /** Whether a command was done, now or before. */
-export const isDone = (told) => ["done", "repeated"].includes(told.entry?.outcome.replace(UNWRITTEN, ""));
+export const isDone = (told) => isOneOf(["done", "repeated"], told);
+
+/** Whether it is known what became of a command: it isn't sent again. */
+export const isOver = (told) => isOneOf(Object.keys(MARKS), told);
 
 export const outcomeText = (entry) => `${MARKS[entry.outcome] ?? "!"} ${say(`outcome.${entry.outcome}`)}`;
 
@@ -202,23 +207,37 @@ let stop = null;
 /** The fault that stops the forms now, or null. */
 export const whatStops = () => stop;
 
+/** Shows the request that has no answer yet. One that is under way is neither sent again nor dropped. */
+function showPending(pending) {
+  byId("pending").hidden = !pending;
+  if (!pending) {
+    return;
+  }
+  const [title, text] = pending.under_way
+    ? ["under-way.title", "under-way.text"]
+    : ["pending.title", "pending.text"];
+  byId("pending-title").textContent = say(title);
+  byId("pending-text").textContent = say(text);
+  byId("pending-buttons").hidden = pending.under_way;
+  byId("pending-what").textContent = `${say("answer.number", pending)} · ${subject(pending)}`;
+  byId("pending").dataset.number = String(pending.number);
+  byId("pending").dataset.kind = pending.kind;
+}
+
 /** Shows what stops the forms: failed records, or a request that has no answer yet. */
 export function showState(state) {
   const { failure, pending } = state;
   stop = null;
-  if (failure || pending) {
-    stop = failure ? "stopped" : "pending";
+  if (failure) {
+    stop = "stopped";
+  } else if (pending) {
+    stop = pending.under_way ? "busy" : "pending";
   }
   byId("stopped").hidden = !failure;
   if (failure) {
     byId("stopped-rule").textContent = ruleText(failure);
   }
-  byId("pending").hidden = !pending;
-  if (pending) {
-    byId("pending-what").textContent = `${say("answer.number", pending)} · ${subject(pending)}`;
-    byId("pending").dataset.number = String(pending.number);
-    byId("pending").dataset.kind = pending.kind;
-  }
+  showPending(pending);
   // What stands in a dialog can be left; the desk sends nothing of it.
   for (const form of document.querySelectorAll("main form[data-form], #form-bank, #form-report")) {
     form.toggleAttribute("inert", stop !== null);

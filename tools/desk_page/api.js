@@ -17,7 +17,7 @@ let session = null;
 let heard = () => {};
 // The time of the state that was heard last.
 let heardAt = 0;
-// How many requests to the office are under way.
+// How many requests of this window are under way.
 let underWay = 0;
 
 /** What the desk said at the beginning: the tokens of the forms, how it was started, the firms that were
@@ -31,17 +31,18 @@ export function onState(listener) {
 }
 
 /** What the desk answers; a fault where it isn't there. */
-async function answered(path, options, read = (answer) => answer.json()) {
+async function answered(path, options) {
   try {
-    return await read(await fetch(path, { cache: "no-store", redirect: "error", ...options }));
+    const answer = await fetch(path, { cache: "no-store", redirect: "error", ...options });
+    return await answer.json();
   } catch {
     return { fault: "no-desk", carried: {} };
   }
 }
 
 /** What the desk answers, when its state was heard. */
-async function ask(...asked) {
-  const told = await answered(...asked);
+async function ask(path, options) {
+  const told = await answered(path, options);
   // An answer may come behind a later one.
   if (told.state && told.state.at > heardAt) {
     heardAt = told.state.at;
@@ -51,6 +52,9 @@ async function ask(...asked) {
 }
 
 export const get = (path) => ask(path, {});
+
+/** Whether this window has sent something whose answer isn't there yet. */
+export const isSending = () => underWay > 0;
 
 /** Hands on an answer, or null where something was asked since: a view shows the last answer that it asked for,
  * in whatever order they come. */
@@ -63,10 +67,6 @@ export function lastOnly() {
     return turn === turns ? told : null;
   };
 }
-
-/** The file at a path; where the desk has none, why not. */
-export const getFile = (path) =>
-  ask(path, {}, async (answer) => (answer.ok ? { file: await answer.blob() } : answer.json()));
 
 /** What became of a request that isn't without an answer any more, by the log. */
 export async function askSettled(number) {

@@ -1,15 +1,15 @@
 // The page begins here: its words, its session with the desk, and the view that the address names.
 
-import { beginPending, clearAnswer, clearFault, isDone, showState, tellAnswer, tellFault } from "./answers.js";
-import { askSettled, beginSession, getFile, onState, theSession } from "./api.js";
+import { beginPending, clearAnswer, clearFault, isDone, isOver, showState, tellAnswer, tellFault } from "./answers.js";
+import { askSettled, beginSession, isSending, onState, theSession } from "./api.js";
 import { clearBank, showBank } from "./bank.js";
 import { onOtherDay } from "./days.js";
 import { byId, goAlong, make } from "./elements.js";
 import { askFirm, beginFirm, showFirm, showRecent } from "./firm.js";
-import { beginFinder, beginForm, clearFields, wasSentAs } from "./forms.js";
+import { beginFinder, beginForm, clearFields, forgetSent, wasSentAs } from "./forms.js";
 import { askLog, showLog } from "./log.js";
 import { askMorning, beginMorning, isMaker, keepMade, openMorning } from "./morning.js";
-import { clearReport, showChecked, showSend } from "./report.js";
+import { clearReport, dropKept, showChecked, showSend } from "./report.js";
 import { beginTyping } from "./typing.js";
 import { askWorker, beginWorker, showWorker } from "./worker.js";
 import { beginWords, say, sayWords } from "./words.js";
@@ -22,11 +22,15 @@ const VIEWS = {
   new: { ask: () => null, open: () => {} },
   log: { ask: askLog, open: showLog },
 };
+// In milliseconds: how soon the desk is asked again about what it has under way.
+const SOON = 1_000;
 // What the desk said last of its state, and what of it is shown.
 let state = {};
 let shown = {};
 // Whether the log is being asked for a request that was settled elsewhere.
 let isLooking = false;
+// Whether the desk is being asked again until it has nothing under way.
+let isWaiting = false;
 // How often a view was shown: one that comes late isn't taken for the one that is shown now.
 let turns = 0;
 // Whether the answer of a command stays where that leads to another view.
@@ -89,25 +93,29 @@ function goTo(hash, isLed = false) {
   }
 }
 
-/** Saves the text that a link names, or tells why it can't be had: a browser would tell nothing. */
-async function save(link) {
+/** Saves the text that is shown beside a link. The office may say another one by now. */
+function save(link) {
   clearAnswer();
-  const told = await getFile(link.href);
-  if (!told.file) {
-    tellAnswer(told);
-    return;
-  }
-  const href = URL.createObjectURL(told.file);
+  const text = link.closest(".card").querySelector("pre").textContent;
+  const href = URL.createObjectURL(new Blob([text], { type: "text/plain;charset=utf-8" }));
   make("a", { href, download: link.href.split("/").at(-1) }).click();
   // The browser has begun to save it by then.
   setTimeout(() => URL.revokeObjectURL(href), 60_000);
 }
 
-/** Empties the form of a command that is done: one more click would do it a second time. What else is typed
- * in a form of its kind stays. */
-function clearForm({ kind, number }) {
+/** Has the form of a request that is settled know it. One that is done, or that the log doesn't have, is emptied: one
+ * more click would do it a second time. What else is typed in a form of its kind stays. */
+function settleForm({ kind, number, values }, { entry }) {
   const form = byId(`form-${kind === "correct" ? "report" : kind}`);
+  const isEmptied = !entry || isDone({ entry });
+  if (isEmptied && form.id === "form-report") {
+    dropKept(String(values.employer), number);
+  }
   if (!wasSentAs(form, number)) {
+    return;
+  }
+  forgetSent(form);
+  if (!isEmptied) {
     return;
   }
   if (kind === "bank") {
@@ -119,18 +127,36 @@ function clearForm({ kind, number }) {
   }
 }
 
-/** Tells what became of a request that was settled elsewhere, as in another window, and empties its form
- * where it was done, or where the log doesn't have it. Whether the log could be asked. */
-async function tellSettled({ kind, number }) {
-  const told = await askSettled(number);
+/** Tells what became of a request that was settled elsewhere, as in another window. Whether the log could be asked. */
+async function tellSettled(pending) {
+  const told = await askSettled(pending.number);
   if (!told.entry && told.fault !== "not-in-log") {
     return false;
   }
-  if (!told.entry || isDone(told)) {
-    clearForm({ kind, number });
-  }
+  settleForm(pending, told);
   tellAnswer(told);
   return true;
+}
+
+/** Asks the desk for its state until it has nothing under way: what another window has sent, or this one before it was
+ * loaded anew. What this window has sent brings the state with its answer. */
+async function waitForIt() {
+  if (isWaiting) {
+    return;
+  }
+  isWaiting = true;
+  let wasGone = false;
+  while (shown.pending?.under_way) {
+    await new Promise((resolve) => { setTimeout(resolve, SOON); });
+    const told = isSending() ? {} : await beginSession();
+    if (told.fault) {
+      tellFault(told, place().view);
+    } else if (wasGone) {
+      clearFault();
+    }
+    wasGone = Boolean(told.fault);
+  }
+  isWaiting = false;
 }
 
 /** Shows what the desk says of its state. Where a request was settled elsewhere, the forms wait until it is
@@ -151,6 +177,7 @@ async function takeState(told, entry) {
   }
   shown = state;
   showState(shown);
+  waitForIt();
 }
 
 function beginForms() {
@@ -167,8 +194,8 @@ function beginForms() {
   beginForm("form-rates", () => {});
   beginFinder("find-firm", (number) => goTo(`#/firm/${number}`));
   beginPending((told) => {
-    if (isDone(told)) {
-      clearForm(told.entry);
+    if (isOver(told)) {
+      settleForm(told.entry, told);
     }
     if (isDone(told) && isMaker(told)) {
       keepMade(told);

@@ -6,7 +6,7 @@ import { tellDay } from "./days.js";
 import { button, byId, make, makeSvg, pairs, row, table } from "./elements.js";
 import { beginForm, claimActions, clearFields } from "./forms.js";
 import { day, euros, firmName, month } from "./formats.js";
-import { beginReport, clearReport, openReport } from "./report.js";
+import { beginReport, changeFirm, openReport } from "./report.js";
 import { say } from "./words.js";
 
 // What stands empty where the desk doesn't understand the statement.
@@ -219,12 +219,12 @@ export async function showFirm(number, asked = askFirm(number), isOpen = true) {
 /** Empties the forms for another firm. */
 function openForms(number) {
   formsOf = number;
-  for (const kind of ["report", "claim", "withdraw", "end"]) {
+  for (const kind of ["claim", "withdraw", "end"]) {
     byId(`form-${kind}`).reset();
     clearFields(byId(`form-${kind}`));
     byId(`${kind}-employer`).value = number;
   }
-  clearReport();
+  changeFirm(number);
 }
 
 export function beginFirm() {

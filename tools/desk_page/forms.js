@@ -98,8 +98,13 @@ async function sendCommand(kind, fields, tell, asks = {}) {
 /** Has a form know the request as which it was sent. */
 export function markSent(form, told) {
   if (told.entry || told.fault === UNANSWERED) {
-    form.dataset.number = told.entry?.number ?? UNANSWERED;
+    form.dataset.number = String(told.entry?.number ?? UNANSWERED);
   }
+}
+
+/** Has a form know that it is settled what became of the request as which it was sent. */
+export function forgetSent(form) {
+  delete form.dataset.number;
 }
 
 /** Whether a form was sent as the request of this number. */

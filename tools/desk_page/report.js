@@ -1,10 +1,10 @@
 // A report of a month, or its correction: lines from a CSV file, their sum, and the charge to be expected.
 
-import { clearAnswer, tellAnswer } from "./answers.js";
-import { MOST_BYTES, fieldsOf, sendForm } from "./api.js";
+import { clearAnswer, isDone, tellAnswer } from "./answers.js";
+import { MOST_BYTES, fieldsOf, sendForm, theSession } from "./api.js";
 import { beginDrop } from "./drop.js";
 import { byId, make, row, table } from "./elements.js";
-import { clearFields, markSent, tellField } from "./forms.js";
+import { clearFields, forgetSent, markSent, tellField, wasSentAs } from "./forms.js";
 import { euros, month, percent } from "./formats.js";
 import { say } from "./words.js";
 
@@ -17,19 +17,29 @@ let turns = 0;
 let chosen = null;
 // The month that the version belongs to, with the version; null where it was typed and no month stood there yet.
 let corrected = null;
+// What was typed for other firms than the one that is open, by their numbers: the fields, and as which request they
+// were sent, as a form knows it.
+const kept = new Map();
+const FIELDS = ["employer", "month", "version", "csv"];
+
+/** Whether these fields are those that were sent. */
+const areSame = (fields, sent) => FIELDS.every((it) => fields?.[it] === sent[it]);
 
 /** The month that stands there as the office writes it, however it is typed; empty where it is none. */
 function typedMonth() {
   const text = byId("report-month").value.trim();
-  const [, month, year] = /^([0-9]{1,2})[/.]([0-9]{4})$/.exec(text) ?? [];
-  const iso = year ? `${year}-${month.padStart(2, "0")}` : text;
-  return /^[0-9]{4}-(0[1-9]|1[0-2])$/.test(iso) ? iso : "";
+  const [, year, its] = /^([0-9]{4})-([0-9]{1,2})$/.exec(text) ?? [];
+  const [, first, end] = /^(.*?)[/.\s]+([0-9]{4})$/.exec(text) ?? [];
+  const number = Number(its ?? theSession().months[first?.toLowerCase()] ?? first);
+  return number >= 1 && number <= 12 ? `${year ?? end}-${String(number).padStart(2, "0")}` : "";
 }
 
+/** The month that stands there, unless more of it may be to come: 2024-1 may become 2024-12. */
+const wholeMonth = () => (byId("report-month").value.trim().endsWith("-1") ? "" : typedMonth());
+
 /** Keeps which month's version stands there. */
-function keepVersion() {
+function keepVersion(month = wholeMonth()) {
   const version = byId("report-version").value;
-  const month = typedMonth();
   corrected = version && month ? { month, version } : null;
 }
 
@@ -46,30 +56,58 @@ export function showSend() {
   byId("report-send").textContent = say(isCorrection ? "report.send-correction" : "report.send");
 }
 
-/** Takes a month and the version that stands, from the statement. Lines of another month don't stay. */
-export function openReport(text, version) {
-  const before = typedMonth();
+/** Fills in what isn't checked yet. */
+function fill({ month, version, csv }) {
   forget();
   clearFields(byId("form-report"));
-  if (before !== "" && before !== text) {
-    chosen = null;
-    byId("report-csv").value = "";
-  }
-  byId("report-month").value = text ?? "";
-  byId("report-version").value = version ?? "";
+  byId("report-month").value = month;
+  byId("report-version").value = version;
+  byId("report-csv").value = csv;
   keepVersion();
   showSend();
-  if (text) {
-    byId("report-file").focus();
-    byId("report-title").scrollIntoView({ block: "start" });
+}
+
+/** Takes a month and the version that stands, from the statement. Lines of another month don't stay. */
+export function openReport(month, version) {
+  const before = typedMonth();
+  if (before !== "" && before !== month) {
+    clearReport();
   }
+  fill({ month, version: version ?? "", csv: byId("report-csv").value });
+  byId("report-file").focus();
+  byId("report-title").scrollIntoView({ block: "start" });
 }
 
 /** Empties the form, where what stood there is done. */
 export function clearReport() {
   chosen = null;
-  byId("report-csv").value = "";
-  openReport(null, null);
+  fill({ month: "", version: "", csv: "" });
+}
+
+/** Turns to another firm. Lines that weren't sent stay with theirs, and are there again with it. */
+export function changeFirm(employer) {
+  const form = byId("form-report");
+  const before = fieldsOf(form);
+  if (before.csv.trim() !== "") {
+    kept.set(before.employer, { ...before, dataset: { ...form.dataset } });
+  }
+  form.reset();
+  forgetSent(form);
+  byId("report-employer").value = employer;
+  clearReport();
+  if (kept.has(employer)) {
+    const its = kept.get(employer);
+    kept.delete(employer);
+    Object.assign(form.dataset, its.dataset);
+    fill(its);
+  }
+}
+
+/** Drops what is kept of a firm, where it was sent as the request of this number. */
+export function dropKept(employer, number) {
+  if (kept.has(employer) && wasSentAs(kept.get(employer), number)) {
+    kept.delete(employer);
+  }
 }
 
 function expectedText(told) {
@@ -123,6 +161,10 @@ async function check() {
     return;
   }
   checked = told;
+  if (byId("report-version").value) {
+    // Nothing more of the month is to come.
+    keepVersion(told.month);
+  }
   showChecked();
   byId("report-send").disabled = told.faults.length > 0;
 }
@@ -135,6 +177,23 @@ function compare({ reply }, awaited) {
   return [say("report.differs", { amount: euros(awaited.cents) })];
 }
 
+/** Marks what was sent, in the form or where it is kept, and empties that where it is done. Other lines stay. */
+function settle(sent, told) {
+  const form = byId("form-report");
+  const its = kept.get(sent.employer);
+  if (areSame(fieldsOf(form), sent)) {
+    markSent(form, told);
+    if (isDone(told)) {
+      clearReport();
+    }
+  } else if (areSame(its, sent)) {
+    markSent(its, told);
+    if (isDone(told)) {
+      kept.delete(sent.employer);
+    }
+  }
+}
+
 async function send(done) {
   const form = byId("form-report");
   const kind = byId("report-version").value.trim() === "" ? "report" : "correct";
@@ -143,18 +202,16 @@ async function send(done) {
   byId("report-send").disabled = true;
   const turn = turns;
   const awaited = checked?.expected;
-  const told = await sendForm(`/api/commands/${kind}`, kind, fieldsOf(form));
-  const isSame = turn === turns;
-  if (isSame) {
+  const sent = fieldsOf(form);
+  const told = await sendForm(`/api/commands/${kind}`, kind, sent);
+  if (turn === turns) {
     byId("report-send").disabled = false;
-    markSent(form, told);
   }
   if (tellField(form, told)) {
     return;
   }
-  if (tellAnswer(told, told.entry ? compare(told.entry, awaited) : []) && isSame) {
-    clearReport();
-  }
+  tellAnswer(told, told.entry ? compare(told.entry, awaited) : []);
+  settle(sent, told);
   if (told.entry) {
     done(told);
   }

@@ -16,8 +16,13 @@ NAME_BYTES = 60
 SEPARATORS = {"de": (".", ","), "en": (",", ".")}
 SPACES = " \t\u00a0\u202f"
 NUMBER = re.compile(r"[1-9][0-9]{0,17}")
-YEAR_FIRST = re.compile(r"(2[01][0-9]{2})-(0[1-9]|1[0-2])")
+YEAR_FIRST = re.compile(r"(2[01][0-9]{2})-(0?[1-9]|1[0-2])")
 MONTH_FIRST = re.compile(r"(0?[1-9]|1[0-2])[./](2[01][0-9]{2})")
+NAME_FIRST = re.compile(r"([^\W\d_]+)\.?[ \u00a0]+(2[01][0-9]{2})")
+# As the page shows them, in English and German, without their full stops.
+MONTH_NAMES = (
+    "jan", "feb", "mar märz", "apr", "may mai", "jun juni", "jul juli", "aug", "sept", "oct okt", "nov", "dec dez")
+MONTHS = {name: number for number, names in enumerate(MONTH_NAMES, 1) for name in names.split()}
 REFERENCE = re.compile(r"[!-~]{1,35}")
 # A terminal may obey them, those behind 0x7F too, as where a statement or the log is shown there.
 CONTROL = re.compile(r"[\x00-\x1f\x7f-\x9f]")
@@ -76,14 +81,19 @@ def number(field: str, text: str, most: int) -> int:
 
 
 def month(field: str, text: str) -> str:
-    """A month as the office takes it, `2024-01`; a clerk may write 01/2024 or 01.2024 too."""
+    """A month as the office takes it, `2024-01`; a clerk may write 2024-1, 01/2024 or 01.2024 too, or as the page shows
+    it, Jan 2024 or Jan. 2024."""
     text = text.strip(SPACES)
-    if YEAR_FIRST.fullmatch(text):
-        return text
-    found = MONTH_FIRST.fullmatch(text)
-    if not found:
-        raise FieldFault(field, "month")
-    return f"{found[2]}-{int(found[1]):02}"
+    if found := YEAR_FIRST.fullmatch(text):
+        year, its = found.groups()
+    elif found := MONTH_FIRST.fullmatch(text):
+        its, year = found.groups()
+    else:
+        found = NAME_FIRST.fullmatch(text)
+        if not found or found[1].casefold() not in MONTHS:
+            raise FieldFault(field, "month")
+        its, year = MONTHS[found[1].casefold()], found[2]
+    return f"{year}-{int(its):02}"
 
 
 def name(field: str, text: str) -> str:

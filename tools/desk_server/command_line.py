@@ -100,6 +100,8 @@ def make_server(words: argparse.Namespace) -> Server:
     folder = words.log or words.key_file.resolve().parent / "desk-log"
     journal = Journal(folder, words.desk, words.first_number)
     settings = {"office": words.office, "desk": words.desk, "folder": str(folder.resolve())}
+    for lines in filter(lambda it: it.aside, (journal.numbers, journal.log)):
+        print(f"{lines.path}: the last line was cut off, and stands in {lines.aside} now", file=sys.stderr)
     if journal.pending is not None:
         told = f"request {journal.pending.number} ({journal.pending.command.words})"
         print(f"{told} has no answer yet: the page offers it", file=sys.stderr)

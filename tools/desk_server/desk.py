@@ -44,6 +44,8 @@ class Desk:
         # What the office said when its records failed. It stops the forms until the office answers again.
         self.failure: dict[str, Any] | None = None
         self.turns = threading.Lock()
+        # Whether a request is on its way to the office, or waits there.
+        self.is_sending = False
         # By which the page knows the later one of two states.
         self.told_at = 0
         self.telling = threading.Lock()
@@ -86,7 +88,9 @@ class Desk:
                 raise Fault("stopped", 409)
             if self.journal.pending is not None:
                 raise Fault("pending", 409)
-            return self.send(self.take(command), is_repeat=False)
+            with self.sending():
+                entry = self.send(self.take(command), is_repeat=False)
+            return self.told(entry)
 
     def take(self, command: Command) -> Numbered:
         """The command under its number. What can't be written down is told and not sent."""
@@ -119,7 +123,9 @@ class Desk:
     def send_again(self, number: int) -> dict[str, Any]:
         """Sends the request that has no answer again, with the same bytes under the same number."""
         with self.turn():
-            return self.send(self.pending(number), is_repeat=True)
+            with self.sending():
+                entry = self.send(self.pending(number), is_repeat=True)
+            return self.told(entry)
 
     def give_up(self, number: int) -> dict[str, Any]:
         """Drops the request that has no answer. It may have been done."""
@@ -147,7 +153,19 @@ class Desk:
         finally:
             self.turns.release()
 
+    @contextlib.contextmanager
+    def sending(self) -> Iterator[None]:
+        """Has each state say that a request is under way: from before it is pending until it is settled, or stays."""
+        with self.telling:
+            self.is_sending = True
+        try:
+            yield
+        finally:
+            with self.telling:
+                self.is_sending = False
+
     def send(self, numbered: Numbered, is_repeat: bool) -> dict[str, Any]:
+        """Sends a request. Its entry in the log."""
         command, reason = numbered.command, ""
         for pause in PAUSES:
             time.sleep(pause)
@@ -173,26 +191,27 @@ class Desk:
         return self.noted(numbered, outcome, answer.members)
 
     def noted(self, numbered: Numbered, outcome: str, reply: dict[str, Any]) -> dict[str, Any]:
-        """Logs what became of a request; what the page is told, also of an entry that the disk didn't take.
+        """Logs what became of a request. The entry as the page is told it, also where the disk didn't take it.
         A request that stays is told as such in any case."""
         entry, is_written = self.journal.note(numbered, outcome, reply)
-        told = self.told(entry)
-        if not is_written and is_settled(entry):
-            told["entry"] = {**entry, "outcome": f"{outcome}{UNWRITTEN}"}
-        return told
+        if is_written or not is_settled(entry):
+            return entry
+        return {**entry, "outcome": f"{outcome}{UNWRITTEN}"}
 
     def told(self, entry: dict[str, Any]) -> dict[str, Any]:
         """What the page is told of an entry of the log, with the state in which the desk is then."""
         return {"entry": entry, "state": self.state()}
 
     def state(self) -> dict[str, Any]:
-        """What stops the forms, and the request without an answer. Its time, in microseconds since the machine
-        started, is later than that of each state before, also of a desk before this one."""
+        """What stops the forms, and the request without an answer, which may still be under way. Its time, in
+        microseconds since the machine started, is later than that of each state before, also of a desk before this
+        one."""
         with self.telling:
             self.told_at = max(self.told_at + 1, time.monotonic_ns() // 1_000)
             pending = self.journal.pending
             return {"at": self.told_at, "failure": self.failure, "pending": None if pending is None else {
-                **pending.entry(), "kind": pending.command.kind, "values": pending.command.values}}
+                **pending.entry(), "kind": pending.command.kind, "values": pending.command.values,
+                "under_way": self.is_sending}}
 
     # ---- what a report will be charged
 

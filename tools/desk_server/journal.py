@@ -34,6 +34,15 @@ def time_text() -> str:
     return now().isoformat(timespec="seconds")
 
 
+def read_entry(text: bytes) -> dict[str, Any] | None:
+    """The entry of a line, or None. The first part of an entry is none: its last brace isn't there."""
+    try:
+        entry = json.loads(text)
+    except ValueError:
+        return None
+    return entry if isinstance(entry, dict) and type(entry.get("number")) is int else None
+
+
 class Lines:
     """A file of JSON objects, one a line, to which lines are added; each is on the disk when `append`
     returns."""
@@ -41,30 +50,44 @@ class Lines:
     def __init__(self, path: Path):
         self.path = path
         self.file = os.open(path, os.O_RDWR | os.O_CREAT | os.O_APPEND | os.O_CLOEXEC, 0o600)
+        # Where the last line went, if it was cut off.
+        self.aside: Path | None = None
 
     def read(self) -> list[dict[str, Any]]:
-        """All lines. One without an end was being written in a crash, and is dropped."""
-        content = self.path.read_bytes()
-        whole = content.rfind(b"\n") + 1
-        if whole != len(content):
-            os.ftruncate(self.file, whole)
-        return [self.entry(place, text) for place, text in enumerate(content[:whole].split(b"\n")[:-1], 1)]
+        """All lines. The last one has no end where the desk stopped while it was written, or where an editor took
+        the end away: whole it is kept, and cut off put aside, as what it was for isn't settled."""
+        *lines, last = self.path.read_bytes().split(b"\n")
+        if read_entry(last) is not None:
+            lines.append(last)
+            self.add(b"\n")
+        elif last:
+            self.put_aside(last)
+        return [self.entry(place, text) for place, text in enumerate(lines, 1)]
+
+    def put_aside(self, last: bytes) -> None:
+        """Moves the last line into a file beside this one, behind those that went there before."""
+        self.aside = self.path.with_suffix(".cut")
+        with open(self.aside, "ab", opener=private) as file:
+            file.write(last + b"\n")
+            file.flush()
+            os.fsync(file.fileno())
+        sync_folder(self.path.parent)
+        os.ftruncate(self.file, os.fstat(self.file).st_size - len(last))
 
     def entry(self, place: int, text: bytes) -> dict[str, Any]:
-        try:
-            entry = json.loads(text)
-        except ValueError:
-            entry = None
-        if not isinstance(entry, dict) or type(entry.get("number")) is not int:
+        entry = read_entry(text)
+        if entry is None:
             raise StartFault(f"{self.path}: line {place} is none of the desk's")
         return entry
 
     def append(self, entry: dict[str, Any]) -> None:
+        self.add(json.dumps(entry, ensure_ascii=False).encode() + b"\n")
+
+    def add(self, content: bytes) -> None:
         end = os.fstat(self.file).st_size
-        line = json.dumps(entry, ensure_ascii=False).encode() + b"\n"
         try:
-            while line:
-                line = line[os.write(self.file, line):]
+            while content:
+                content = content[os.write(self.file, content):]
             os.fsync(self.file)
         except OSError:
             os.ftruncate(self.file, end)

@@ -55,11 +55,12 @@ def csv_reason(why: csv.Error) -> str:
 
 
 def read_report(text: str) -> Report:
-    """A spreadsheet may put a byte order mark in front, and semicolons in the place of the commas."""
+    """A spreadsheet may put a byte order mark in front, and semicolons in the place of the commas, or tabs where its
+    cells are copied. What stands in the header parts all lines."""
     report = Report()
     text = text.removeprefix("\ufeff")
     header = text.partition("\n")[0].strip("\r ").replace('"', "")
-    separator = ";" if ";" in header else ","
+    separator = next((it for it in ";\t" if it in header), ",")
     if header != f"worker{separator}gross":
         report.faults.append({"line": 1, "reason": "header", "word": header[:40]})
         return report

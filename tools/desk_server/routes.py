@@ -6,7 +6,7 @@ import urllib.parse
 from dataclasses import dataclass, field
 from typing import Any, Callable
 
-from .amounts import CONTROL
+from .amounts import CONTROL, MONTHS
 from .bank_check import check_bank
 from .desk import UNWRITTEN, Desk, Refused
 from .documents import NotUnderstood, read_payout, read_reminders, read_statement, read_suspense, read_worker
@@ -118,6 +118,7 @@ class Routes:
         tokens = {form: self.tokens.token(form) for form in (*FORMS, *FURTHER_FORMS)}
         return json_response({
             **self.settings, "tokens": tokens, "state": self.desk.state(), "recent": self.desk.recent.told(),
+            "months": MONTHS,
         })
 
     def suspense(self, first: str) -> Response:

@@ -28,10 +28,24 @@ LENGTH = re.compile(r"[0-9]{1,10}")
 METHODS = "GET, POST"
 # The forms that take a bank's file. Of the others only a report could be as large.
 BANK_FORMS = ("bank", "check-bank")
+# Where a browser has asked for a page that isn't the desk's. Nothing of what it asked for stands there.
+SIGNPOST = """<!doctype html>
+<html lang="en">
+<meta charset="utf-8">
+<title>Desk</title>
+<p>Open <a href="{address}">{address}</a>, where the desk is. There is no page here.</p>
+<p lang="de">Bitte <a href="{address}">{address}</a> öffnen: dort ist der Arbeitsplatz. Hier ist keine Seite.</p>
+</html>
+"""
 
 
 def refusal(fault: Fault) -> Response:
     return json_response({"fault": fault.code, "carried": fault.carried}, fault.http_status)
+
+
+def signpost(fault: Fault, port: int) -> Response:
+    text = SIGNPOST.format(address=f"http://{HOST}:{port}/")
+    return Response(fault.http_status, text.encode(), "text/html; charset=utf-8")
 
 
 class Handler(http.server.BaseHTTPRequestHandler):
@@ -69,11 +83,15 @@ class Handler(http.server.BaseHTTPRequestHandler):
             check_source(self.headers, self.server.server_port, self.command == "POST")
             response = find()
         except Fault as fault:
-            response = refusal(fault)
+            response = signpost(fault, self.server.server_port) if self.is_for_a_page() else refusal(fault)
         except Exception:
             traceback.print_exc(file=sys.stderr)
             response = refusal(Fault("internal", 500))
         self.send(response)
+
+    def is_for_a_page(self) -> bool:
+        """Whether a browser shows the answer by itself. What the page asks for takes any kind."""
+        return self.command == "GET" and "text/html" in self.headers.get("Accept", "")
 
     def answer_get(self) -> Response:
         path, mark, _ = self.path.partition("?")
