@@ -164,7 +164,6 @@ class Twice(BankFiles):
                                (second.replace("EUR", "USD"), False)):
             self.assertEqual("none ends" in self.made(document(first, other))[1], is_told)
 
-
     def test_a_payment_that_is_taken_back_with_charges(self):
         """They are told beside the amount, by the transaction or by its entry."""
         charges = '<Chrgs><Rcrd><Amt Ccy="EUR">3.00</Amt></Rcrd></Chrgs>'

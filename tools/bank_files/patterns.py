@@ -110,18 +110,19 @@ AND_ALSO = "und|u|and|i|oraz|ve|si|și|sowie|mit|inkl|incl|zzgl|plus|oder|or|lub
 TOGETHER = f"(?:{AND_ALSO}|bis|[&+/]|->)"
 NAMED_TOGETHER = re.compile(
     rf"{BETWEEN}\W{{0,2}}{TOGETHER}(?:\W{{1,2}}(?:auch|für|fuer))?(?:\W{{1,2}}(?:nr|nummer|no))?\W{{0,3}}")
+# The same where no year is meant behind it: 1001 und 2003; not 1001 / 2003, which may be of that year
+NAMED_WITH = re.compile(rf"(?!.*(?:/|\bbis\b)){NAMED_TOGETHER.pattern}")
+# The same before a second number that looks like an amount: the 1002 of 1001 und 1002 EUR 500
+NAMED_BEFORE = re.compile(rf"[0-9]\W{{0,2}}{TOGETHER}(?:\W{{1,2}}(?:nr|nummer|no))?\W{{1,3}}\Z")
 # So many numbers before another one are named with it at most.
 MOST_NAMED = 12
-# What stands between them in a list, where both have as many digits: 1001, 1010; not 10011, 28195 Bremen
+# What stands between two numbers of as many digits in a list: 1001, 1010, and behind an amount 1001 500,00 1010
 LISTED = re.compile(
     rf"{BETWEEN}(?: ?[,;|] ?| - )(?:(?:nr|nummer|no)\W{{1,3}})?|{BETWEEN}\W{{0,3}}(?:[0-9]+[.,][0-9]{{2}}|0?_) ")
+# The word behind the second one, by which it is no firm's, as in an address: 28195 Bremen
 BEFORE_A_WORD = re.compile(r" ([^\W\d_]+)")
 # A month of a year or a day behind a number: 02 2024, 02 Mai
 BEFORE_A_DATE = re.compile(rf"[ ./-]{{1,3}}(?:[0-9]|{MONTH})")
-# The same before the second one: the 1002 of 1001 und 1002 EUR 500
-NAMED_BEFORE = re.compile(rf"[0-9]\W{{0,2}}{TOGETHER}(?:\W{{1,2}}(?:nr|nummer|no))?\W{{1,3}}\Z")
-# The same where no year is meant behind it: 1001 und 2003; not 1001 / 2003, which may be of that year
-NAMED_WITH = re.compile(rf"(?!.*(?:/|\bbis\b)){NAMED_TOGETHER.pattern}")
 # Further digits behind a blank or the like, which may be of the same number: 1234 5678, 1234'5678, or in smaller groups,
 # 12 34 56, 1234 56 7; not 1001 500,00 nor 1001 05 24
 GOES_ON = re.compile(r"(?: |'|[.-] )([0-9]{3,}|(?!(?:0?[1-9]|1[0-2]) (?:20)?[0-9]{2}(?! ?[0-9]))[0-9]{1,2} [0-9]+)"
@@ -135,7 +136,8 @@ OF_A_YEAR = re.compile(rf" ?/ ?(?:{YEAR}|[0-9]{{2}})(?!\w|[.,:/-][0-9]| ?[./-] ?
 # `Betr.: Nr. 1001` it is `nr`
 WORD_BEFORE = re.compile(
     # (Maler-Betrieb is none of a firm's number, and SOKA-Betriebs-Nr. is.)
-    r"(?<!\w)(?:(?<![^\W\d_]-)|(?<=soka-))(\w+)(?:(?!(?<=\bag)(?!-)|(?<=\bbetr)(?!\.?-|\.n))\W{1,3}(nr|nummer|no))?\W{1,3}\Z")
+    r"(?<!\w)(?:(?<![^\W\d_]-)|(?<=soka-))(\w+)"
+    r"(?:(?!(?<=\bag)(?!-)|(?<=\bbetr)(?!\.?-|\.n))\W{1,3}(nr|nummer|no))?\W{1,3}\Z")
 LONGEST_WORD = 60
 # A word for a firm's number, which is no date and of no year: Betrieb 1224, Mitglieds-Nr. 1001 / 24; not Malerbetrieb,
 # but behind words of contributions, as where the bank has put two together
@@ -161,22 +163,25 @@ SAID_BEFORE = re.compile(r"([^\W\d_]+)(?:[ .:-]{1,3}(?:nr|nummer|no))?[ .:#-]{1,
 SAYS_NOTHING = re.compile(
     rf"{PLAIN_WORD.pattern}|{CURRENCY_NAME}|{AND_ALSO}|for|auch|statt|sondern|bitte|dazu|tochter|künftig|fa|betr|"
     "beitr")
-# Words before a number by which it may be an earlier one, or one that isn't meant: statt Betrieb 1001; those of other
-# bodies, which have members, too: IHK-Mitglieds-Nr. 1001; and those behind it: Betrieb 1001 erloschen. They are of one part
-# of a sentence: not `Skonto nicht abgezogen, Betrieb 1001`, nor `Alt GmbH Betrieb 1001`.
+# Words before a number by which it may be an earlier one, or one that isn't meant, and those of other bodies, which have
+# members, too: statt Betrieb 1001, IHK Mitglieds-Nr. 1001
 OF_ANOTHER = "|".join((
-    "nicht", "keine?", "(?:an)?statt", "anstelle", "sondern", r"fr(?:ü|ue|\W| )?her(?:e[nrs]?)?", "vormals", "zuvor",
+    "nicht", "keine?", "(?:an)?statt", "anstelle", "sondern", r"fr(?:ü|ue|\W)?her(?:e[nrs]?)?", "vormals", "zuvor",
     "vorher", "bislang", "ursprünglich", r"vorgänger\w*", "ehem(?:als|alige[nrs]?)?", "bisher(?:ige[nrs]?)?", "alte?",
     r"(?:rechts)?nachfolger\w*", "ohne", "außer|ausser", "umbuchung", "falsch(?:e[nrs]?)?", "irrtümlich", "irrtuemlich",
     "versehentlich", "not", "formerly", "zamiast", "nie", "eski", "fosta",
     "ihk", "hwk", "aok", "ikk", "bkk", "dak", "barmer", r"\w*krankenkasse", "knappschaft", r"\w*innung\w*", r"\w*kammer",
     "kreishandwerkerschaft", "berufsgenossenschaft", "bg[- ]?bau", "ig[- ]?bau", "finanzamt", "bundesagentur", "minijob",
     "malerkasse", "soka-dach", r"\w*verband",
-    "(?:ba|bg|sv|tk|ex)[- ](?=firm|mitgl|betr|arbeitg)", "(?:nicht|fremd|sub|alt|ex)-?(?:firm|mitgl|betr)[a-z]*",
 ))
+# The same where a firm's word follows at once: BG-Mitgliedsnr. 1001, Fremdfirma 1001
+CALLED_OTHERWISE = (
+    "(?:ba|bg|sv|tk|ex)[- ](?=firm|mitgl|betr|arbeitg)|(?:nicht|fremd|sub|alt|ex)-?(?:firm|mitgl|betr)[a-z]*")
+# They are of one part of a sentence: not `Skonto nicht abgezogen, Betrieb 1001`, nor `Alt GmbH Betrieb 1001`. Or such a
+# word stands behind the number: Betrieb 1001 erloschen
 FORM_OF_A_FIRM = r"\b(?:gmbh|kg|ohg|gbr|ug|co)\b"
 NOT_MEANT = re.compile(
-    rf"\b(?:{OF_ANOTHER})(?<![a-z](?=[a-zäöü]))(?:(?!{FORM_OF_A_FIRM})[^,;0-9]){{0,40}}[0-9]|"
+    rf"\b(?:(?:{OF_ANOTHER})\b|{CALLED_OTHERWISE})(?:(?!{FORM_OF_A_FIRM})[^,;0-9]){{0,40}}[0-9]|"
     r"[0-9] (?:ist )?(?:erloschen|aufgelöst|abgemeldet|falsch)\b")
 # Where one stands, the number may be an amount, too.
 IN_A_CURRENCY = re.compile(CURRENCY)
