@@ -1,2 +1,1 @@
 mod AnswerLemmas
-mod DetailLemmas

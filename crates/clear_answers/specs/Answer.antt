@@ -4,9 +4,7 @@ use Rattle.std.specs.Prelude.{if◌then◌else◌}
 use Rattle.std.specs.Fmt.{decimal}
 use Rattle.serde_json.specs.Data.{string}
 use Rattle.serde_json.specs.Written.{compact_text}
-use Rattle.clear_money.specs.Texts.{day_text, month_text}
-use Rattle.clear_book.specs.Rules.{number_of, name_of, carried_by}
-use Rattle.clear_book.specs.Rules.{word_of, table_word}
+use Rattle.clear_book.specs.Rules.{number_of, name_of, carried_by, carried_text}
 use Rattle.clear_book.specs.declared.outcomes.Reply.{Reply}
 use Rattle.clear_book.specs.declared.outcomes.Reply.TheVariants.{Done, Reported, Imported}
 use Rattle.clear_book.specs.declared.outcomes.Reply.TheVariants.{Claimed, Released, Listed}
@@ -14,8 +12,6 @@ use Rattle.clear_book.specs.declared.outcomes.Reply.TheVariants.{Reminded}
 use Rattle.clear_book.specs.declared.outcomes.Answer.{Answer}
 use Rattle.clear_book.specs.declared.outcomes.Answer.TheVariants.{Owed, Text}
 use Rattle.clear_book.specs.declared.rules.Carried.{Carried}
-use Rattle.clear_book.specs.declared.rules.Carried.TheVariants.{Nothing, Day, Month, Number}
-use Rattle.clear_book.specs.declared.rules.Carried.TheVariants.{Field, Limit, Table}
 use Rattle.clear_wire.specs.declared.rule.FramingStatus.TheVariants.{NotImplemented}
 use Rattle.clear_wire.specs.declared.rule.FramingStatus.TheVariants.{ExpectationFailed}
 use Rattle.clear_wire.specs.declared.rule.FramingStatus.TheVariants.{LengthRequired, BadRequest}
@@ -56,17 +52,6 @@ abbrev pub status_of : Said → List ℕ
 status_of (said.Reply reply) = codes "200 OK"
 status_of (said.Answer answer) = codes "200 OK"
 status_of (said.No refused) = status_by (number_of refused.rule) refused.extra
-
--- what a rule carries, as a text: a day, a month, a number in decimal, a record of a file and its
--- field, or a word
-abbrev pub carried_text : Carried → List ℕ
-carried_text Nothing = []
-carried_text (Day day) = day_text day
-carried_text (Month month) = month_text month
-carried_text (Number number) = decimal number
-carried_text (Field line field) = decimal line ++ codes ":" ++ decimal field
-carried_text (Limit limit) = word_of limit
-carried_text (Table table) = table_word table
 
 -- the detail where a refusal tells this beside a rule that carries that: the word for the part of
 -- the request that is wrong, else what the rule carries

@@ -1,23 +1,20 @@
 //! The bytes of an answer.
 ghost use Rattle.std.specs.Prelude.{◌≡◌, ◌++◌, codes, false, true, IfOk, is_ok, if◌then◌else◌, string_bytes};
 ghost use Rattle.std.specs.Fmt.{decimal};
-ghost use Rattle.clear_money.specs.Texts.{day_text, month_text};
 ghost use Rattle.clear_book.specs.declared.outcomes.Answer.TheVariants.{Owed};
 ghost use Rattle.clear_book.specs.declared.outcomes.Reply.TheVariants.{Listed, Released, Reminded};
 ghost use Rattle.clear_book.specs.declared.rules.Rule.TheVariants.{Memory, Failed};
 ghost use Rattle.clear_answers.specs.Said.{refused_by};
-ghost use Rattle.clear_answers.specs.Answer.{framing_status, status_by, status_of, carried_text};
+ghost use Rattle.clear_answers.specs.Answer.{framing_status, status_by, status_of};
 ghost use Rattle.clear_answers.specs.Answer.{detail_of, quoted, refused_body, reply_body};
 ghost use Rattle.clear_answers.specs.Answer.{query_body, body_of, content_type, allow_field};
 ghost use Rattle.clear_answers.specs.Answer.{further_field, first_lines};
 ghost use Rattle.clear_answers.specs.Answer.{answer_of, head_of};
 
 use crate::said::{Extra, Refused, Said};
+use clear_book::carried::carried_text;
 use clear_book::numbers::{ListNo, RunNo};
 use clear_book::outcomes::{Answer, Reply, Settlement};
-use clear_book::rules::Carried;
-use clear_money::days::Day;
-use clear_money::months::Month;
 use clear_wire::rule::FramingStatus;
 use serde_json::Value;
 use std::alloc::{AllocError, Global};
@@ -70,45 +67,6 @@ fn append_number(text: &mut Vec<u8>, before: &[u8], number: u64) -> Result<(), A
     let digits = number.to_string(*text.allocator())?;
     text.extend_from_slice(before)?;
     text.extend_from_slice(digits.as_bytes())
-}
-
-/// A record of a file and a field of it.
-fn field_text(alloc: Global, line: u64, field: u8) -> Result<String, AllocError>
-    ensures { IfOk result (λ text. string_bytes text
-        ≡ decimal line ++ codes ":" ++ decimal field) }
-{
-    let mut text = line.to_string(alloc)?;
-    text.push_str(":")?;
-    text.push_str(field.to_string(alloc)?.as_str())?;
-    Ok(text)
-}
-
-fn day_text(alloc: Global, day: Day) -> Result<String, AllocError>
-    ensures { IfOk result (λ text. string_bytes text ≡ day_text day) }
-{
-    String::from_utf8_lossy(alloc, day.text().as_slice())
-}
-
-fn month_text(alloc: Global, month: Month) -> Result<String, AllocError>
-    ensures { IfOk result (λ text. string_bytes text ≡ month_text month) }
-{
-    String::from_utf8_lossy(alloc, month.text().as_slice())
-}
-
-/// What a rule carries, as a text: a day, a month, a number in decimal, a line and a field as
-/// `2:4`, or the word of a limit or of a table. Empty where it carries nothing.
-pub fn carried_text(alloc: Global, carried: Carried) -> Result<String, AllocError>
-    ensures { IfOk result (λ text. string_bytes text ≡ carried_text carried) }
-{
-    match carried {
-        Carried::Nothing => Ok(String::new(alloc)),
-        Carried::Day(day) => day_text(alloc, day),
-        Carried::Month(month) => month_text(alloc, month),
-        Carried::Number(number) => number.to_string(alloc),
-        Carried::Field { line, field } => field_text(alloc, line, field),
-        Carried::Limit(limit) => String::from_str(alloc, limit.word()),
-        Carried::Table(table) => String::from_str(alloc, table.word()),
-    }
 }
 
 fn detail_of(alloc: Global, refused: &Refused) -> Result<String, AllocError>

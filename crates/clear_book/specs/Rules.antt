@@ -1,5 +1,7 @@
 -- The rules: the number and the name of each, and what it carries; the words for limits.
-use Rattle.std.specs.Prelude.{ℕ, List, codes, Bool, true, false}
+use Rattle.std.specs.Prelude.{ℕ, List, [], ◌++◌, codes, Bool, true, false}
+use Rattle.std.specs.Fmt.{decimal}
+use Rattle.clear_money.specs.Texts.{day_text, month_text}
 use Rattle.clear_book.specs.declared.rules.Carried.{Carried}
 use Rattle.clear_book.specs.declared.rules.Carried.TheVariants.{Nothing, Day, Month, Number}
 use Rattle.clear_book.specs.declared.rules.Carried.TheVariants.{Field, Limit, Table}
@@ -117,3 +119,14 @@ table_word table.Rates = codes "rates"
 table_word table.Charges = codes "charges"
 table_word table.Pieces = codes "pieces"
 table_word table.Credits = codes "credits"
+
+-- what a rule carries, as a text: a day, a month, a number in decimal, a record of a file and its
+-- field, or a word
+abbrev pub carried_text : Carried → List ℕ
+carried_text Nothing = []
+carried_text (Day day) = day_text day
+carried_text (Month month) = month_text month
+carried_text (Number number) = decimal number
+carried_text (Field line field) = decimal line ++ codes ":" ++ decimal field
+carried_text (Limit limit) = word_of limit
+carried_text (Table table) = table_word table

@@ -7,6 +7,7 @@
 #![tactic(auto)]
 
 pub mod calls;
+pub mod carried;
 pub mod documents;
 pub mod files;
 pub mod outcomes;

@@ -36,6 +36,7 @@ pub(crate) fn callers_in(
     ensures { Gives (λ callers. map key_of callers.entries) result
         (ok_or (keys_in (table_view document.now)) DirectoryFault.Entry) }
 {
+    // No effect at run time: the proof reads from this call that the keys rise.
     let _in_order = document.iter();
     let mut callers = BTreeMap::new(alloc);
     for (name, value) in document {

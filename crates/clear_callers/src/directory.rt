@@ -69,6 +69,7 @@ impl Directory {
         ensures anywhere { (caller : Caller)
             → Contains self.now (key.now, caller) → result ≡ Some caller }
     {
+        // No effect at run time: the proof reads from this call that the keys rise.
         let _in_order = self.callers.iter();
         self.callers.get(key).copied()
     }

@@ -9,7 +9,7 @@ mod second_look;
 use crate::Checked;
 use crate::seen::Seen;
 use crate::texts::{joined, plural};
-use clear_answers::answer::carried_text;
+use clear_book::carried::carried_text;
 use clear_book::rules::Carried;
 use clear_money::months::Month;
 use clear_money::rates::{RateRow, RateTable, last_month};

@@ -3,7 +3,7 @@ ghost use Rattle.std.specs.Prelude.{◌≡◌, IfOk, string_bytes};
 ghost use Rattle.clear_cli.specs.Ready.{copied_line, day_or_none, imported_line, meaning};
 ghost use Rattle.clear_cli.specs.Ready.{ready_line, ready_text, schema_line, served_line};
 
-use clear_answers::answer::carried_text;
+use clear_book::carried::carried_text;
 use clear_book::rules::Carried;
 use clear_money::days::Day;
 use std::alloc::{AllocError, Global};

@@ -13,7 +13,7 @@ use Rattle.clear_book.specs.declared.rules.Rule.TheVariants.{DayBack, NotYours, 
 use Rattle.clear_book.specs.Book.{Book, Entry, entry_under, ledger_day}
 use Rattle.clear_book.specs.Calls.{may_do, may_query, same_command}
 use Rattle.clear_book.specs.Checks.{when}
-use Rattle.clear_book.specs.Judge.{Verdict, a_refusal, answer_to, day_back, is_full, judge, judged_ask, judged_do, kept_reply, new_reply, own_query, own_rule, reply_to, said_before}
+use Rattle.clear_book.specs.Judge.{Verdict, a_refusal, an_answer, answer_to, day_back, is_full, judge, judged_ask, judged_do, kept_reply, new_reply, own_query, own_rule, reply_to, said_before}
 use Rattle.clear_laws.proofs.KeptLemmas.{same_command-refl, same_command-true}
 
 -- different commands are not the same
@@ -120,3 +120,8 @@ module _ (b : Book) (caller : Caller) (day : ℕ) (query : Query) where
     own_last_asked come rule own =
         let back = in_order (ledger_day b.entries) day come in
         (λ i. asked (may i) (back i) (own i))
+
+    pub none_last_asked : IfSome (ledger_day b.entries) (λ last. last ≤ day) → own_query b query ≡ None → judge b (Ask caller day query) ≡ an_answer (answer_to b day query)
+    none_last_asked come none =
+        let back = in_order (ledger_day b.entries) day come in
+        (λ i. asked (may i) (back i) (none i))

@@ -506,11 +506,22 @@ payable_since rates xs h number claim found payable =
 
 -- ---- a claim is on one list at most
 
-pub one_list : (list other : ℕ) (state : ClaimState) → is_on list state ≡ true → is_on other state ≡ true → list ≡ other
-one_list list other Open on also = absurd (cc on)
-one_list list other Withdrawn on also = absurd (cc on)
-one_list list other (Released release) on also = told release.list on also
+-- one that is on a list stays so, whatever comes
+still_listed : (rates : RateTable) (xs more : List Entry) → AreJudged rates (more ++ xs) → (number list : ℕ) (claim : ClaimRow) → claim_of xs number ≡ Some claim → is_on list claim.state ≡ true → claim_of (more ++ xs) number ≡ Some claim
+still_listed rates xs [] h number list claim found on = found
+still_listed rates xs (x ∷ more) h number list claim found on =
+    listed_stays rates (more ++ xs) x h number list claim (still_listed rates xs more h.0 number list claim found on) on
+
+one_list_now : (list other : ℕ) (state : ClaimState) → is_on list state ≡ true → is_on other state ≡ true → list ≡ other
+one_list_now list other Open on also = absurd (cc on)
+one_list_now list other Withdrawn on also = absurd (cc on)
+one_list_now list other (Released release) on also = told release.list on also
   where
     told : (o : Option ℕ) → option_map_or (λ own. own == list) o false ≡ true → option_map_or (λ own. own == other) o false ≡ true → list ≡ other
     told None h k = absurd (cc h)
     told (Some own) h k = sym (same_worker own list h) ∙ same_worker own other k
+
+pub one_list : (rates : RateTable) (xs more : List Entry) → AreJudged rates (more ++ xs) → (number list other : ℕ) (claim last : ClaimRow) → claim_of xs number ≡ Some claim → is_on list claim.state ≡ true → claim_of (more ++ xs) number ≡ Some last → is_on other last.state ≡ true → list ≡ other
+one_list rates xs more h number list other claim last found on then also =
+    let same : claim ≡ last = cc (sym (still_listed rates xs more h number list claim found on) ∙ then) in
+    one_list_now list other claim.state on (subst (λ (row : ClaimRow). is_on other row.state ≡ true) (sym same) also)

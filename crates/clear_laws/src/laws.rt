@@ -40,8 +40,8 @@ ghost use Rattle.clear_book.specs.Book.{reported_version};
 ghost use Rattle.clear_book.specs.Conserved.{firm_cents, interest_cents, pieces_cents};
 ghost use Rattle.clear_book.specs.Conserved.{prepaid_cents, set_off_cents, standing_cents};
 ghost use Rattle.clear_book.specs.Conserved.{suspense_cents};
-ghost use Rattle.clear_book.specs.Judge.{a_refusal, judge, kept_reply, new_reply, own_rule};
-ghost use Rattle.clear_book.specs.Judge.{own_query, reply_to, run_text};
+ghost use Rattle.clear_book.specs.Judge.{a_refusal, an_answer, answer_to, judge, kept_reply};
+ghost use Rattle.clear_book.specs.Judge.{new_reply, own_query, own_rule, reply_to, run_text};
 ghost use Rattle.clear_book.specs.Calls.{command_bytes, may_do, may_query, same_command};
 ghost use Rattle.clear_book.specs.Laws.{AreCounted, AreEmployers, AreNumbered, AreSorted, IsBy};
 ghost use Rattle.clear_book.specs.Laws.{IsSmall};
@@ -172,7 +172,8 @@ pub fn law_order_for_commands()
         → judge b (Do caller number day command) ≡ new_reply (reply_to b day command) }
 {}
 
-/// The checks of a query come in one order, too: access, the day, the query's own rules.
+/// The checks of a query come in one order, too: access, the day, the query's own rules. Where none
+/// applies, it has its answer.
 pub fn law_order_for_queries()
     ensures access { (b : Book) (caller : Caller) (day : ℕ) (query : Query)
         → may_query caller query ≡ false
@@ -183,6 +184,10 @@ pub fn law_order_for_queries()
     ensures own { (b : Book) (caller : Caller) (day : ℕ) (query : Query) (rule : Rule)
         → may_query caller query ≡ true → IfSome (ledger_day b.entries) (λ last. last ≤ day)
         → own_query b query ≡ Some rule → judge b (Ask caller day query) ≡ a_refusal rule }
+    ensures none { (b : Book) (caller : Caller) (day : ℕ) (query : Query)
+        → may_query caller query ≡ true → IfSome (ledger_day b.entries) (λ last. last ≤ day)
+        → own_query b query ≡ None
+        → judge b (Ask caller day query) ≡ an_answer (answer_to b day query) }
 {}
 
 /// A call that is answered with a fault of the store is so because the store failed: no key that
@@ -374,10 +379,16 @@ pub fn law_pieces()
 {}
 
 /// The bank lines and the releases of a book together have the serials 1, 2, 3, .. in the order in
-/// which they came, those of the lines rise, and no reference stands twice.
+/// which they came, those of the lines rise, and no reference stands twice. The lines that stand are
+/// those that were seen, in their order, as the files had them and with their serials: only the firm
+/// may be another one.
 pub fn law_bank_lines()
     ensures counted { (b : Book) → AreCounted b.entries }
     ensures references { (b : Book) → HasNoReferenceTwice (lines_of_rows (lines_seen b.entries)) }
+    ensures lines { (b : Book)
+        → lines_of_rows (lines_standing b.entries) ≡ lines_of_rows (lines_seen b.entries) }
+    ensures serials { (b : Book) → map (λ row. row.serial) (lines_standing b.entries)
+        ≡ map (λ row. row.serial) (lines_seen b.entries) }
 {}
 
 /// A line of a lawful book that has a firm stands under it, unchanged, in each later one: no
@@ -455,7 +466,8 @@ pub fn law_2()
 /// set-offs, is in the pieces of the firms, is prepaid, or is in suspense; the firms' payments of
 /// interest are their standing lines of interest and the set-offs to interest; and each standing
 /// line of interest is a firm's or is in suspense. A claim that is released is settled whole: its
-/// cents are those of the three parts. It is on one payout list at most.
+/// cents are those of the three parts. It is on one payout list at most: whatever comes later, it is
+/// on no other one.
 pub fn law_3()
     ensures contributions { (b : Book) → IsLawful b
         → standing_cents b Contribution + set_off_cents b Contribution
@@ -467,9 +479,11 @@ pub fn law_3()
     ensures released { (b : Book) (number : ℕ) (claim : ClaimRow) (release : ReleasedClaim)
         → IsLawful b → claim_of b.entries number ≡ Some claim → claim.state ≡ Released release
         → settled release.settlement ≡ claim.cents }
-    ensures one_list { (b : Book) (number list other : ℕ) (claim : ClaimRow) → IsLawful b
+    ensures one_list { (b : Book) (more : List Entry) (number list other : ℕ) (claim last : ClaimRow)
+        → let later = record b { entries = more ++ b.entries } in IsLawful later
         → claim_of b.entries number ≡ Some claim → is_on list claim.state ≡ true
-        → is_on other claim.state ≡ true → list ≡ other }
+        → claim_of later.entries number ≡ Some last → is_on other last.state ≡ true
+        → list ≡ other }
 {}
 
 /// Two commands are the same exactly where their kinds and each of their values are, and different

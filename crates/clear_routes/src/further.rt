@@ -31,6 +31,7 @@ pub(crate) fn least_further<'a>(members: &'a Map<String, Value>, listed: &[&str]
     ensures { option_map (λ name. name.now) result
         ≡ least_further (map (λ name. name.now) listed.now) (members_view members.now.entries) }
 {
+    // No effect at run time: the proof reads from this call that the names rise.
     let _in_order = members.iter();
     first_further(members, listed)
 }

@@ -16,7 +16,7 @@ pub enum StreamRule {
 pub enum FramingStatus {
     /// 501: the body comes in a transfer coding.
     NotImplemented,
-    /// 417: the client waits for an interim answer before it sends the body.
+    /// 417: the head has a field `Expect`, and interim answers aren't given.
     ExpectationFailed,
     /// 411: no length is stated where one is needed.
     LengthRequired,

@@ -3,12 +3,11 @@ use Rattle.std.specs.Prelude.{◌≡◌, ◌⊎◌, ℕ, nat_lt, List, [], ◌�
 use Rattle.std.specs.Fmt.{decimal}
 use Rattle.clear_book.specs.declared.rules.Rule.{Rule}
 use Rattle.clear_book.specs.declared.rules.Rule.TheVariants as rules
-use Rattle.clear_book.specs.Rules.{number_of, name_of, carried_by}
+use Rattle.clear_book.specs.Rules.{number_of, name_of, carried_by, carried_text}
 use Rattle.clear_schema.specs.declared.fault.Fault.{Fault as StoreFault}
 use Rattle.clear_schema.specs.declared.fault.Fault.TheVariants as store
 use Rattle.clear_schema.specs.declared.fault.OpenFault.{OpenFault}
 use Rattle.clear_schema.specs.declared.fault.OpenFault.TheVariants.{WrongVersion, Failed}
-use Rattle.clear_answers.specs.Answer.{carried_text}
 use Rattle.clear_http.specs.declared.serve.Fault.{Fault}
 use Rattle.clear_http.specs.declared.serve.Fault.TheVariants.{Memory}
 use Rattle.clear_files.specs.declared.fault.FileFault.{FileFault}

@@ -4,7 +4,7 @@ ghost use Rattle.clear_server.specs.Told.{written_by};
 ghost use Rattle.clear_work.specs.Stops.{behind_space, by_store, by_stream};
 ghost use Rattle.clear_work.specs.Stops.{rule_line, status_by, status_of, Tells};
 
-use clear_answers::answer::carried_text;
+use clear_book::carried::carried_text;
 use clear_book::rules::{Rule, StoreCause};
 use clear_files::fault::FileFault;
 use clear_http::serve::Fault;

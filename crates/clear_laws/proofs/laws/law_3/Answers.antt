@@ -17,4 +17,4 @@ pub returns-clause-released : goal.returns-clause-released
 returns-clause-released c = λ b number claim release lawful found state. released_whole b.opening b.entries lawful number claim release found state
 
 pub returns-clause-one_list : goal.returns-clause-one_list
-returns-clause-one_list c = λ b number list other claim lawful found on also. one_list list other claim.state on also
+returns-clause-one_list c = λ b more number list other claim last lawful found on then also. one_list b.opening b.entries more lawful number list other claim last found on then also

@@ -3,8 +3,8 @@ use Rattle.std.proofs.lemmas.Result.{IfOk-weaker}
 use Rattle.std.specs.Str.{IsUtf8}
 use Rattle.clear_money.specs.Calendar.{IsDay}
 use Rattle.clear_money.specs.Texts.{day_text}
-use Rattle.clear_answers.proofs.DetailLemmas.{day_utf8}
-use Rattle.clear_answers.proofs.answer.day_text.Goals as goal
+use Rattle.clear_book.proofs.DayTextLemmas.{day_utf8}
+use Rattle.clear_book.proofs.carried.day_text.Goals as goal
 
 pub returns : goal.returns
 returns c =
