@@ -6,7 +6,7 @@ use Rattle.std.proofs.lemmas.Bool.{ltb-false}
 use Rattle.std.proofs.lemmas.List.Elements.{All-append, All-cons, All-nil}
 use Rattle.std.proofs.lemmas.List.Sums.{sum_by-append, sum_by-cons, sum_by-take-le, sum_by_more}
 use Rattle.std.proofs.lemmas.Nat.{mul-le}
-use Rattle.clear_money.specs.Calendar.{begun_months, day_of_month}
+use Rattle.clear_money.specs.Calendar.{begun_months}
 use Rattle.clear_account.specs.declared.entries.Charge.{Charge}
 use Rattle.clear_account.specs.declared.entries.Credit.{Credit}
 use Rattle.clear_account.specs.declared.settled.Share.{Share}
@@ -156,9 +156,6 @@ module _ (cs : List Charge) (ks : List Credit) (i s : ℕ) (d : Charge) (shares 
 
   pub paid-low : sum_by (λ (r : Share). r.cents) shares ≤ 5000000000
   paid-low = omega (arith, paid-le, (charge_at_place cs i a.each_charge within).cents, ap (λ (c : Charge). c.cents) charge_is)
-
-  pub due-low : day_of_month d.due ≤ 28
-  due-low = subst (λ (c : Charge). day_of_month c.due ≤ 28) (sym charge_is) (charge_at_place cs i a.each_charge within).due
 
   pub places_within : All (λ (r : Share). r.place < length ks) shares
   places_within = subst (λ (ss : List Share). All (λ r. r.place < length ks) ss) (sym shares_are) (places-shares_of cs ks i)

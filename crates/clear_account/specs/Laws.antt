@@ -11,7 +11,6 @@ use Rattle.clear_account.specs.Account.{credited, places}
 use Rattle.clear_account.specs.Allocation.{open_part, paid_of, piece_of, prepaid, right_pieces}
 use Rattle.clear_account.specs.Allocation.{share}
 use Rattle.clear_account.specs.Interest.{all_interest_on, interest_on, weight_on}
-use Rattle.clear_account.specs.Settled.{shares_of}
 
 -- the shares of a charge sum to what the payments reach of it
 abbrev pub SharesSum : Type 0
@@ -64,18 +63,6 @@ OnePiece = (charges : List Charge) (credits : List Credit) (i j : ℕ) →
 abbrev pub FewPieces : Type 0
 FewPieces = (charges : List Charge) (credits : List Credit) →
     length (right_pieces charges credits) ≤ length charges + length credits
-
--- the shares of all charges are as many as the pieces
-abbrev pub ShareAPiece : Type 0
-ShareAPiece = (charges : List Charge) (credits : List Credit) →
-    sum_by (λ i. length (shares_of charges credits i)) (places charges)
-    ≡ length (right_pieces charges credits)
-
--- the shares of all charges are at most as many as charges and payments together
-abbrev pub FewShares : Type 0
-FewShares = (charges : List Charge) (credits : List Credit) →
-    sum_by (λ i. length (shares_of charges credits i)) (places charges)
-    ≤ length charges + length credits
 
 -- ---- interest in small cases
 

@@ -1,8 +1,8 @@
 //! Laws of accounts, over the definitions alone. Each function does nothing: its contract is the
 //! law.
-ghost use Rattle.clear_account.specs.Laws.{CreditsKept, FewPieces, FewShares, InterestByCharge};
+ghost use Rattle.clear_account.specs.Laws.{CreditsKept, FewPieces, InterestByCharge};
 ghost use Rattle.clear_account.specs.Laws.{InterestPerHundred, InterestRoundedOnce, OnePiece, PiecesSum};
-ghost use Rattle.clear_account.specs.Laws.{ShareAPiece, SharesSum, WeightByPieces};
+ghost use Rattle.clear_account.specs.Laws.{SharesSum, WeightByPieces};
 
 /// The shares of a charge sum to what the payments reach of it.
 pub fn law_shares_sum()
@@ -32,16 +32,6 @@ pub fn law_one_piece()
 /// There are at most as many pieces as charges and payments together.
 pub fn law_few_pieces()
     ensures { FewPieces }
-{}
-
-/// The shares of all charges are as many as the pieces.
-pub fn law_share_a_piece()
-    ensures { ShareAPiece }
-{}
-
-/// The shares of all charges are at most as many as charges and payments together.
-pub fn law_few_shares()
-    ensures { FewShares }
 {}
 
 /// Interest is rounded down once for a charge, and not for its pieces or months.

@@ -1,6 +1,6 @@
 -- Why a conflict with the first line of a reference is one with any earlier line.
 use Rattle.std.proofs.Common.{◌≡◌, ℕ, zero, suc, ◌+◌, Bool, true, false, not, cond, ◌&&◌, ◌||◌, nat_eq, List, [], ◌∷◌, ◌++◌, take, drop, map, Option, Some, None, refl, sym, ap, ◌∙◌, subst, append_assoc, append-nil, add-one, inl, inr, ◌⊎◌}
-use Rattle.std.proofs.lemmas.Bool.{cases_Bool, false_from_ne_true}
+use Rattle.std.proofs.lemmas.Bool.{and_parts, cases_Bool, false_from_ne_true}
 use Rattle.std.proofs.lemmas.Bool.Decides.{Decides-eqb}
 use Rattle.std.proofs.lemmas.List.Folds.{find-append}
 use Rattle.std.proofs.lemmas.Map.Keys.{IsDistinct-head, IsDistinct-tail}
@@ -41,10 +41,6 @@ bears r (x ∷ xs) first e =
     ]
 
 -- ---- tests of the lines before a line
-
-both : (a b : Bool) → a && b ≡ true → (a ≡ true) × (b ≡ true)
-both true b h = (refl, h)
-both false b h = cc h
 
 or_and : (a b : Bool) → a || (b && a) ≡ a
 or_and true b = refl
@@ -108,10 +104,10 @@ option_eq_true (Some m) (Some n) h = ap Some ((Decides-eqb m n).0 h)
 -- lines of one reference and one content are equal
 equal_lines : (a b : BankLine) → a.reference ≡ b.reference → same_content a b ≡ true → a ≡ b
 equal_lines a b r h =
-    let four = both _ _ h in
-    let three = both _ _ four.0 in
-    let two = both _ _ three.0 in
-    let one = both _ _ two.0 in
+    let four = and_parts _ _ h in
+    let three = and_parts _ _ four.0 in
+    let two = and_parts _ _ three.0 in
+    let one = and_parts _ _ two.0 in
     let value = (Decides-eqb a.value b.value).0 one.0 in
     let employer = option_eq_true a.employer b.employer one.1 in
     let cents = (Decides-eqb a.cents b.cents).0 two.1 in

@@ -10,9 +10,9 @@ pub const FIRST_ROW: usize = 2;
 pub enum BankFault {
     /// More data records than the limit.
     OverLimit,
-    /// A record that is not as it should be.
+    /// A record that is not as it should be. `line` is its number.
     BadCsv { line: usize, fault: RecordFault },
-    /// A record whose reference stands earlier with another content.
+    /// A record whose reference stands earlier with another content. `line` is its number.
     RefConflict { line: usize },
     Memory,
 }

@@ -177,8 +177,9 @@ pub fn may_ask(caller: Caller, query: &Query) -> bool
     }
 }
 
-/// The bytes under which a command is kept: its word and its values in decimal, with a space between
-/// them. Different commands have different bytes. docs/formats.md has the table.
+/// The bytes under which a command is kept: its word and its values, with a space between them; a
+/// name stands last, and so do the bytes of a bank file. Different commands have different bytes.
+/// docs/formats.md has the table.
 pub fn command_bytes(alloc: Global, command: &Command) -> Result<Vec<u8>, AllocError>
     ensures { IfOk result (λ bytes. bytes.items ≡ kept_bytes command.now) }
 {

@@ -53,9 +53,9 @@ pub struct FirmAccount {
     pub last: Option<Month>,
     /// What is credited and not yet charged.
     pub prepaid: u64,
-    /// The contributions due before the day, less all credits for contributions.
+    /// The contributions due before the day, less all credits for contributions, at least 0.
     pub arrears: u64,
-    /// The interest up to the day, less all credits for interest.
+    /// The interest up to the day, less all credits for interest, at least 0.
     pub interest: u64,
 }
 

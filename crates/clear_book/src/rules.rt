@@ -135,8 +135,8 @@ pub enum Carried {
     Day(Day),
     Month(Month),
     Number(u64),
-    /// The number of a record of a file from 1, and of its bad field from 1, or 0 where it has another
-    /// number of fields.
+    /// A record of a file: `line` is its number from 1, `field` that of its bad field from 1, or 0
+    /// where it has another number of fields.
     Field { line: u64, field: u8 },
     Limit(Limit),
     Table(OldTable),

@@ -158,7 +158,7 @@ fn released(
         state: ClaimState::Open,
     };
     let debts = FirmDebts {
-        missing: None,
+        first_missing: None,
         arrears,
         interest_arrears,
         contribution_count,

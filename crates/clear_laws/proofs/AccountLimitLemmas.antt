@@ -34,7 +34,7 @@ use Rattle.clear_values.specs.RowRanges.{IsCreditRow}
 use Rattle.clear_values.specs.Limits.{most_credits, most_suspense}
 use Rattle.clear_book.specs.Lines.{credit_of_line, credits_after, credits_made, lines_after, lines_of_rows, assigned, moved_by, rows_by, rows_brought, lines_seen, lines_standing, serial_count, set_offs, set_offs_by, set_offs_of, suspense_count, credits_of_lines, is_credit_of, credit_count}
 use Rattle.clear_book.specs.Machine.{AreJudged}
-use Rattle.clear_laws.proofs.AssignLemmas.{accepted_assignment, counted, few_credits, new_credit, standing_among, waiting}
+use Rattle.clear_laws.proofs.AssignLemmas.{accepted_assignment, counted, few_credits, new_credit, same_means, standing_among, waiting}
 use Rattle.clear_laws.proofs.CreditsMadeLemmas.{credit_count-append, credits_after-count, part_for, release-count}
 use Rattle.clear_laws.proofs.JudgeLemmas.{unrefused}
 use Rattle.clear_laws.proofs.LinesLemmas.{of_standing}
@@ -44,12 +44,6 @@ use Rattle.clear_laws.proofs.ChecksLemmas.{none_applies, when-none}
 use Rattle.clear_values.proofs.KeyedRowsLemmas.{sum_by-with_rows}
 
 -- ---- the payments of a firm for a purpose
-
-pub same_means : (p q : Purpose) → same_purpose p q ≡ true → p ≡ q
-same_means Contribution Contribution h = refl
-same_means Contribution Interest h = absurd (cc)
-same_means Interest Contribution h = absurd (cc)
-same_means Interest Interest h = refl
 
 -- where none is over, either there is none for the firm and the purpose, or there are not too many
 none_over : (g : ℕ → Purpose → ℕ) (rows : List CreditRow) → list_any (λ row. nat_lt most_credits (g row.employer row.purpose)) rows ≡ false → (e : ℕ) (p : Purpose) → (count_by (is_credit_of e p) rows ≡ 0) ⊎ (g e p ≤ 100000)

@@ -167,18 +167,18 @@ once-between {Row = Row} key (x ∷ xs) ys new once =
     none_of None p h = h
     none_of (Some y) p h = absurd (cc)
 
+pub same_means : (p q : Purpose) → same_purpose p q ≡ true → p ≡ q
+same_means Contribution Contribution h = refl
+same_means Contribution Interest h = absurd (cc)
+same_means Interest Contribution h = absurd (cc)
+same_means Interest Interest h = refl
+
 -- the credits of a book and the one that a line becomes: as many as its firm may have
 pub few_credits : (count : ℕ → Purpose → ℕ) (credit : CreditRow) (e : ℕ) (p : Purpose) → count credit.employer credit.purpose + 1 ≤ 100000 → count e p ≤ 100000 → count e p + cond {A = ℕ} (is_credit_of e p credit) 1 0 ≤ 100000
 few_credits count credit e p room low = told (credit.employer == e) (same_purpose credit.purpose p) refl refl
   where
     same : credit.employer == e ≡ true → credit.employer ≡ e
     same h = grind (arith, nat_tests)
-
-    same_means : (p q : Purpose) → same_purpose p q ≡ true → p ≡ q
-    same_means Contribution Contribution h = refl
-    same_means Contribution Interest h = absurd (cc)
-    same_means Interest Contribution h = absurd (cc)
-    same_means Interest Interest h = refl
 
     told : (f s : Bool) → credit.employer == e ≡ f → same_purpose credit.purpose p ≡ s → count e p + cond {A = ℕ} (f && s) 1 0 ≤ 100000
     told true true firm purpose =

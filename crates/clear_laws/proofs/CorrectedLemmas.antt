@@ -1,6 +1,6 @@
 -- A kept contribution that gives way to that of a correction, or stays where it is the same.
 use Rattle.std.proofs.Common.{◌≡◌, ◌≢◌, ℕ, List, Option, Some, None, is_some, Bool, true, false, cond, ◌&&◌, ◌==◌, refl, sym, ap, ◌∙◌}
-use Rattle.std.proofs.lemmas.Bool.{eq-eqb, eqb-true}
+use Rattle.std.proofs.lemmas.Bool.{and_parts, eq-eqb, eqb-true}
 use Rattle.std.specs.List.{AllByRecursion}
 use Rattle.std.specs.Option.{option_map, option_map_or}
 use Rattle.clear_account.specs.declared.entries.Charge.{Charge}
@@ -17,14 +17,9 @@ stays charge rows = option_map_or (keeps_contribution charge) (find_row charge_k
 -- a row of the month that is due on the same day and of the same cents is the same contribution
 keeps-same : (charge old : KeptCharge) → charge_key old ≡ charge_key charge → keeps_contribution charge old ≡ true → charge_in old ≡ charge_in charge
 keeps-same charge old key is =
-    let parts = both (old.due == charge.due) (old.cents == charge.cents) is in
+    let parts = and_parts (old.due == charge.due) (old.cents == charge.cents) is in
     let month : old.month ≡ charge.month = cc in
     (λ i. record { month = month i; due = eqb-true old.due charge.due parts.0 i; cents = eqb-true old.cents charge.cents parts.1 i })
-  where
-    both : (a b : Bool) → a && b ≡ true → (a ≡ true) × (b ≡ true)
-    both true true h = (refl, refl)
-    both true false h = absurd (cc)
-    both false b h = absurd (cc)
 
 same-keeps : (charge old : KeptCharge) → charge_in old ≡ charge_in charge → keeps_contribution charge old ≡ true
 same-keeps charge old same =

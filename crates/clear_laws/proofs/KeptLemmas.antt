@@ -1,9 +1,10 @@
 -- Commands are the same exactly where their values are, and different ones have different bytes.
-use Rattle.std.proofs.Common.{◌≡◌, ◌≢◌, ℕ, ◌<◌, ◌^◌, List, [], ◌∷◌, ◌++◌, length, Bool, true, false, cond, ◌&&◌, ◌==◌, nat_le, refl, sym, ap, ◌∙◌, subst, arith, inl, inr}
+use Rattle.std.proofs.Common.{◌≡◌, ◌≢◌, ℕ, ◌<◌, ◌^◌, List, [], ◌∷◌, ◌++◌, length, true, cond, ◌&&◌, ◌==◌, nat_le, refl, sym, ap, ◌∙◌, subst, arith, inl, inr}
 use Rattle.std.specs.Prelude.{bytes_eq, codes}
 use Rattle.std.specs.Cmp.Lexicographic.{pointwise}
 use Rattle.std.specs.List.{AllByRecursion, list_all}
 use Rattle.std.specs.Fmt.{decimal}
+use Rattle.std.proofs.lemmas.Bool.{and_from, and_parts}
 use Rattle.std.proofs.lemmas.Bool.Decides.{Decides-eqb, nat_tests}
 use Rattle.std.proofs.lemmas.Slice.Eq.{bytes_eq-Decides}
 use Rattle.std.proofs.lemmas.Fmt.{decimal_injective}
@@ -27,23 +28,13 @@ use Rattle.clear_laws.proofs.FrontLemmas.{number_front, month_front, same_front,
 
 -- ---- the same as values
 
-both : (a b : Bool) → a && b ≡ true → (a ≡ true) × (b ≡ true)
-both true true h = (refl, refl)
-both true false h = absurd (cc)
-both false b h = absurd (cc)
-
-joined : (a b : Bool) → a ≡ true → b ≡ true → a && b ≡ true
-joined true true h k = refl
-joined true false h k = absurd (cc)
-joined false b h k = absurd (cc)
-
 same_lines-true : (ls ks : List WageLine) → pointwise same_line ls ks ≡ true → ls ≡ ks
 same_lines-true [] [] h = refl
 same_lines-true [] (k ∷ ks) h = absurd (cc)
 same_lines-true (l ∷ ls) [] h = absurd (cc)
 same_lines-true (l ∷ ls) (k ∷ ks) h =
-    let parts = both (same_line l k) (pointwise same_line ls ks) h in
-    let values = both (l.worker == k.worker) (l.gross == k.gross) parts.0 in
+    let parts = and_parts (same_line l k) (pointwise same_line ls ks) h in
+    let values = and_parts (l.worker == k.worker) (l.gross == k.gross) parts.0 in
     let worker : l.worker ≡ k.worker = (Decides-eqb l.worker k.worker).0 values.0 in
     let gross : l.gross ≡ k.gross = (Decides-eqb l.gross k.gross).0 values.1 in
     let one : l ≡ k = (λ i. record { worker = worker i; gross = gross i }) in
@@ -52,14 +43,14 @@ same_lines-true (l ∷ ls) (k ∷ ks) h =
 same_lines-refl : (ls : List WageLine) → pointwise same_line ls ls ≡ true
 same_lines-refl [] = refl
 same_lines-refl (l ∷ ls) =
-    joined (same_line l l) (pointwise same_line ls ls)
-    (joined (l.worker == l.worker) (l.gross == l.gross) ((Decides-eqb l.worker l.worker).1 refl) ((Decides-eqb l.gross l.gross).1 refl))
+    and_from (same_line l l) (pointwise same_line ls ls)
+    (and_from (l.worker == l.worker) (l.gross == l.gross) ((Decides-eqb l.worker l.worker).1 refl) ((Decides-eqb l.gross l.gross).1 refl))
     (same_lines-refl ls)
 
 same_report-true : (r s : WageReport) → same_report r s ≡ true → r ≡ s
 same_report-true r s h =
-    let outer = both ((r.employer == s.employer) && (r.month == s.month)) (pointwise same_line r.lines s.lines) h in
-    let inner = both (r.employer == s.employer) (r.month == s.month) outer.0 in
+    let outer = and_parts ((r.employer == s.employer) && (r.month == s.month)) (pointwise same_line r.lines s.lines) h in
+    let inner = and_parts (r.employer == s.employer) (r.month == s.month) outer.0 in
     let employer : r.employer ≡ s.employer = (Decides-eqb r.employer s.employer).0 inner.0 in
     let month : r.month ≡ s.month = (Decides-eqb r.month s.month).0 inner.1 in
     let lines = same_lines-true r.lines s.lines outer.1 in
@@ -67,17 +58,17 @@ same_report-true r s h =
 
 same_report-refl : (r : WageReport) → same_report r r ≡ true
 same_report-refl r =
-    joined ((r.employer == r.employer) && (r.month == r.month)) (pointwise same_line r.lines r.lines)
-    (joined (r.employer == r.employer) (r.month == r.month) ((Decides-eqb r.employer r.employer).1 refl) ((Decides-eqb r.month r.month).1 refl))
+    and_from ((r.employer == r.employer) && (r.month == r.month)) (pointwise same_line r.lines r.lines)
+    (and_from (r.employer == r.employer) (r.month == r.month) ((Decides-eqb r.employer r.employer).1 refl) ((Decides-eqb r.month r.month).1 refl))
     (same_lines-refl r.lines)
 
 same_rate-true : (r s : Rate) → same_rate r s ≡ true → r ≡ s
 same_rate-true r s h =
-    let five = both ((r.first == s.first) && (r.contribution_rate == s.contribution_rate) && (r.report_day == s.report_day) && (r.due_day == s.due_day) && (r.interest_rate == s.interest_rate)) (r.entitlement_rate == s.entitlement_rate) h in
-    let four = both ((r.first == s.first) && (r.contribution_rate == s.contribution_rate) && (r.report_day == s.report_day) && (r.due_day == s.due_day)) (r.interest_rate == s.interest_rate) five.0 in
-    let three = both ((r.first == s.first) && (r.contribution_rate == s.contribution_rate) && (r.report_day == s.report_day)) (r.due_day == s.due_day) four.0 in
-    let two = both ((r.first == s.first) && (r.contribution_rate == s.contribution_rate)) (r.report_day == s.report_day) three.0 in
-    let one = both (r.first == s.first) (r.contribution_rate == s.contribution_rate) two.0 in
+    let five = and_parts ((r.first == s.first) && (r.contribution_rate == s.contribution_rate) && (r.report_day == s.report_day) && (r.due_day == s.due_day) && (r.interest_rate == s.interest_rate)) (r.entitlement_rate == s.entitlement_rate) h in
+    let four = and_parts ((r.first == s.first) && (r.contribution_rate == s.contribution_rate) && (r.report_day == s.report_day) && (r.due_day == s.due_day)) (r.interest_rate == s.interest_rate) five.0 in
+    let three = and_parts ((r.first == s.first) && (r.contribution_rate == s.contribution_rate) && (r.report_day == s.report_day)) (r.due_day == s.due_day) four.0 in
+    let two = and_parts ((r.first == s.first) && (r.contribution_rate == s.contribution_rate)) (r.report_day == s.report_day) three.0 in
+    let one = and_parts (r.first == s.first) (r.contribution_rate == s.contribution_rate) two.0 in
     let first : r.first ≡ s.first = (Decides-eqb r.first s.first).0 one.0 in
     let contribution : r.contribution_rate ≡ s.contribution_rate = (Decides-eqb r.contribution_rate s.contribution_rate).0 one.1 in
     let report : r.report_day ≡ s.report_day = (Decides-eqb r.report_day s.report_day).0 two.1 in
@@ -97,47 +88,47 @@ same_rate-true r s h =
 same_rate-refl : (r : Rate) → same_rate r r ≡ true
 same_rate-refl r =
     let same = λ (n : ℕ). (Decides-eqb n n).1 refl in
-    joined ((r.first == r.first) && (r.contribution_rate == r.contribution_rate) && (r.report_day == r.report_day) && (r.due_day == r.due_day) && (r.interest_rate == r.interest_rate)) (r.entitlement_rate == r.entitlement_rate)
-    (joined ((r.first == r.first) && (r.contribution_rate == r.contribution_rate) && (r.report_day == r.report_day) && (r.due_day == r.due_day)) (r.interest_rate == r.interest_rate)
-    (joined ((r.first == r.first) && (r.contribution_rate == r.contribution_rate) && (r.report_day == r.report_day)) (r.due_day == r.due_day)
-    (joined ((r.first == r.first) && (r.contribution_rate == r.contribution_rate)) (r.report_day == r.report_day)
-    (joined (r.first == r.first) (r.contribution_rate == r.contribution_rate) (same r.first) (same r.contribution_rate)) (same r.report_day)) (same r.due_day)) (same r.interest_rate)) (same r.entitlement_rate)
+    and_from ((r.first == r.first) && (r.contribution_rate == r.contribution_rate) && (r.report_day == r.report_day) && (r.due_day == r.due_day) && (r.interest_rate == r.interest_rate)) (r.entitlement_rate == r.entitlement_rate)
+    (and_from ((r.first == r.first) && (r.contribution_rate == r.contribution_rate) && (r.report_day == r.report_day) && (r.due_day == r.due_day)) (r.interest_rate == r.interest_rate)
+    (and_from ((r.first == r.first) && (r.contribution_rate == r.contribution_rate) && (r.report_day == r.report_day)) (r.due_day == r.due_day)
+    (and_from ((r.first == r.first) && (r.contribution_rate == r.contribution_rate)) (r.report_day == r.report_day)
+    (and_from (r.first == r.first) (r.contribution_rate == r.contribution_rate) (same r.first) (same r.contribution_rate)) (same r.report_day)) (same r.due_day)) (same r.interest_rate)) (same r.entitlement_rate)
 
 pub same_command-true : (c d : Command) → same_command c d ≡ true → c ≡ d
 same_command-true (AddRate r) (AddRate s) h = ap AddRate (same_rate-true r s h)
 same_command-true (Register r) (Register s) h =
-    let outer = both ((r.employer == s.employer) && bytes_eq r.name s.name) (r.start == s.start) h in
-    let inner = both (r.employer == s.employer) (bytes_eq r.name s.name) outer.0 in
+    let outer = and_parts ((r.employer == s.employer) && bytes_eq r.name s.name) (r.start == s.start) h in
+    let inner = and_parts (r.employer == s.employer) (bytes_eq r.name s.name) outer.0 in
     let employer : r.employer ≡ s.employer = (Decides-eqb r.employer s.employer).0 inner.0 in
     let name : r.name ≡ s.name = (bytes_eq-Decides r.name s.name).0 inner.1 in
     let start : r.start ≡ s.start = (Decides-eqb r.start s.start).0 outer.1 in
     (λ i. Register (record { employer = employer i; name = name i; start = start i }))
 same_command-true (EndMembership x) (EndMembership y) h =
-    let parts = both (x.employer == y.employer) (x.last == y.last) h in
+    let parts = and_parts (x.employer == y.employer) (x.last == y.last) h in
     let employer : x.employer ≡ y.employer = (Decides-eqb x.employer y.employer).0 parts.0 in
     let last : x.last ≡ y.last = (Decides-eqb x.last y.last).0 parts.1 in
     (λ i. EndMembership (record { employer = employer i; last = last i }))
 same_command-true (Report r) (Report s) h = ap Report (same_report-true r s h)
 same_command-true (Correct c) (Correct d) h =
-    let parts = both (same_report c.report d.report) (c.version == d.version) h in
+    let parts = and_parts (same_report c.report d.report) (c.version == d.version) h in
     let report = same_report-true c.report d.report parts.0 in
     let version : c.version ≡ d.version = (Decides-eqb c.version d.version).0 parts.1 in
     (λ i. Correct (record { report = report i; version = version i }))
 same_command-true (ImportBank f) (ImportBank g) h = ap ImportBank ((bytes_eq-Decides f g).0 h)
 same_command-true (Assign x) (Assign y) h =
-    let parts = both (bytes_eq x.reference y.reference) (x.employer == y.employer) h in
+    let parts = and_parts (bytes_eq x.reference y.reference) (x.employer == y.employer) h in
     let reference : x.reference ≡ y.reference = (bytes_eq-Decides x.reference y.reference).0 parts.0 in
     let employer : x.employer ≡ y.employer = (Decides-eqb x.employer y.employer).0 parts.1 in
     (λ i. Assign (record { reference = reference i; employer = employer i }))
 same_command-true (Claim c) (Claim d) h =
-    let outer = both ((c.employer == d.employer) && (c.worker == d.worker)) (c.cents == d.cents) h in
-    let inner = both (c.employer == d.employer) (c.worker == d.worker) outer.0 in
+    let outer = and_parts ((c.employer == d.employer) && (c.worker == d.worker)) (c.cents == d.cents) h in
+    let inner = and_parts (c.employer == d.employer) (c.worker == d.worker) outer.0 in
     let employer : c.employer ≡ d.employer = (Decides-eqb c.employer d.employer).0 inner.0 in
     let worker : c.worker ≡ d.worker = (Decides-eqb c.worker d.worker).0 inner.1 in
     let cents : c.cents ≡ d.cents = (Decides-eqb c.cents d.cents).0 outer.1 in
     (λ i. Claim (record { employer = employer i; worker = worker i; cents = cents i }))
 same_command-true (Withdraw w) (Withdraw v) h =
-    let parts = both (w.employer == v.employer) (w.claim == v.claim) h in
+    let parts = and_parts (w.employer == v.employer) (w.claim == v.claim) h in
     let employer : w.employer ≡ v.employer = (Decides-eqb w.employer v.employer).0 parts.0 in
     let claim : w.claim ≡ v.claim = (Decides-eqb w.claim v.claim).0 parts.1 in
     (λ i. Withdraw (record { employer = employer i; claim = claim i }))
@@ -149,23 +140,23 @@ same_command-true c d h = absurd (cc)
 pub same_command-refl : (c : Command) → same_command c c ≡ true
 same_command-refl (AddRate r) = same_rate-refl r
 same_command-refl (Register r) =
-    joined ((r.employer == r.employer) && bytes_eq r.name r.name) (r.start == r.start)
-    (joined (r.employer == r.employer) (bytes_eq r.name r.name) ((Decides-eqb r.employer r.employer).1 refl) ((bytes_eq-Decides r.name r.name).1 refl))
+    and_from ((r.employer == r.employer) && bytes_eq r.name r.name) (r.start == r.start)
+    (and_from (r.employer == r.employer) (bytes_eq r.name r.name) ((Decides-eqb r.employer r.employer).1 refl) ((bytes_eq-Decides r.name r.name).1 refl))
     ((Decides-eqb r.start r.start).1 refl)
 same_command-refl (EndMembership x) =
-    joined (x.employer == x.employer) (x.last == x.last) ((Decides-eqb x.employer x.employer).1 refl) ((Decides-eqb x.last x.last).1 refl)
+    and_from (x.employer == x.employer) (x.last == x.last) ((Decides-eqb x.employer x.employer).1 refl) ((Decides-eqb x.last x.last).1 refl)
 same_command-refl (Report r) = same_report-refl r
 same_command-refl (Correct c) =
-    joined (same_report c.report c.report) (c.version == c.version) (same_report-refl c.report) ((Decides-eqb c.version c.version).1 refl)
+    and_from (same_report c.report c.report) (c.version == c.version) (same_report-refl c.report) ((Decides-eqb c.version c.version).1 refl)
 same_command-refl (ImportBank f) = (bytes_eq-Decides f f).1 refl
 same_command-refl (Assign x) =
-    joined (bytes_eq x.reference x.reference) (x.employer == x.employer) ((bytes_eq-Decides x.reference x.reference).1 refl) ((Decides-eqb x.employer x.employer).1 refl)
+    and_from (bytes_eq x.reference x.reference) (x.employer == x.employer) ((bytes_eq-Decides x.reference x.reference).1 refl) ((Decides-eqb x.employer x.employer).1 refl)
 same_command-refl (Claim c) =
-    joined ((c.employer == c.employer) && (c.worker == c.worker)) (c.cents == c.cents)
-    (joined (c.employer == c.employer) (c.worker == c.worker) ((Decides-eqb c.employer c.employer).1 refl) ((Decides-eqb c.worker c.worker).1 refl))
+    and_from ((c.employer == c.employer) && (c.worker == c.worker)) (c.cents == c.cents)
+    (and_from (c.employer == c.employer) (c.worker == c.worker) ((Decides-eqb c.employer c.employer).1 refl) ((Decides-eqb c.worker c.worker).1 refl))
     ((Decides-eqb c.cents c.cents).1 refl)
 same_command-refl (Withdraw w) =
-    joined (w.employer == w.employer) (w.claim == w.claim) ((Decides-eqb w.employer w.employer).1 refl) ((Decides-eqb w.claim w.claim).1 refl)
+    and_from (w.employer == w.employer) (w.claim == w.claim) ((Decides-eqb w.employer w.employer).1 refl) ((Decides-eqb w.claim w.claim).1 refl)
 same_command-refl (Release n) = (Decides-eqb n n).1 refl
 same_command-refl PayoutList = refl
 same_command-refl RemindRun = refl
@@ -218,14 +209,14 @@ numbers_apart (n ∷ ns) (k ∷ ks) hn hk e =
 no_space : (bytes : List ℕ) → list_all is_visible bytes ≡ true → Lacks 32 bytes
 no_space [] h = tt
 no_space (b ∷ bytes) h =
-    let parts = both (is_visible b) (list_all is_visible bytes) h in
+    let parts = and_parts (is_visible b) (list_all is_visible bytes) h in
     (other b parts.0, no_space bytes parts.1)
   where
     other : (b : ℕ) → is_visible b ≡ true → b ≢ 32
     other b h = λ e. absurd (grind (arith, nat_tests))
 
 reference_lacks : (bytes : List ℕ) → is_reference bytes ≡ true → Lacks 32 bytes
-reference_lacks bytes h = no_space bytes (both (nat_le 1 (length bytes) && nat_le (length bytes) 35) (list_all is_visible bytes) h).1
+reference_lacks bytes h = no_space bytes (and_parts (nat_le 1 (length bytes) && nat_le (length bytes) 35) (list_all is_visible bytes) h).1
 
 -- ---- each command in bytes
 

@@ -45,7 +45,7 @@ few_payable xs =
 -- ---- a list more
 
 -- there is something to be paid out, where the rule does not apply
-some_payable : (payable : List ClaimRow) → own_payout_list payable ≡ None → 1 ≤ length payable
+pub some_payable : (payable : List ClaimRow) → own_payout_list payable ≡ None → 1 ≤ length payable
 some_payable payable own = told (length payable) (when-none (not (nat_lt 0 (length payable))) NothingToPay own)
   where
     told : (n : ℕ) → not (nat_lt 0 n) ≡ false → 1 ≤ n

@@ -1,6 +1,7 @@
 -- The payout lists of a lawful book: each has just the claims that are on it, and those stay as they are; and what is still to be paid out was released on the day of the last list or later.
 use Rattle.std.proofs.Common.{◌≡◌, ℕ, ◌+◌, ◌<◌, ◌≤◌, ◌⊎◌, inl, inr, ⊎_elim, List, [], ◌∷◌, ◌++◌, length, map, filter, sum_by, Option, Some, None, IsSome, IfSome, is_some, Bool, true, false, cond, not, ◌&&◌, ◌==◌, nat_lt, nat_le, refl, sym, ap, ◌∙◌, subst, arith, length-append}
 use Rattle.std.specs.Prelude.{is_none}
+use Rattle.std.proofs.lemmas.Bool.{and_parts}
 use Rattle.std.proofs.lemmas.Bool.Decides.{nat_tests}
 use Rattle.std.proofs.lemmas.List.{append-nil, length-map}
 use Rattle.std.proofs.lemmas.List.Elements.{filter-append}
@@ -38,14 +39,13 @@ use Rattle.clear_laws.proofs.ClaimsLemmas.{claims_found}
 use Rattle.clear_laws.proofs.DistinctLemmas.{itself, same_worker}
 use Rattle.clear_laws.proofs.JudgeLemmas.{unrefused}
 use Rattle.clear_laws.proofs.ListNumbersLemmas.{list_there, lists_between}
+use Rattle.clear_laws.proofs.ListRangeLemmas.{some_payable}
+use Rattle.clear_laws.proofs.MissingLemmas.{none_is}
 use Rattle.clear_laws.proofs.ReleasedLemmas.{found_under, is_so, released_open, released_stays, withdrawn_open}
 use Rattle.clear_laws.proofs.SeenLemmas.{still_by}
+use Rattle.clear_laws.proofs.SerialLemmas.{of_both}
 
 -- ---- lists of anything
-
-both_hold : {X : Type 0} (P Q R : X → Type 0) → ((x : X) → P x → Q x → R x) → (xs : List X) → AllByRecursion P xs → AllByRecursion Q xs → AllByRecursion R xs
-both_hold P Q R f [] h k = tt
-both_hold P Q R f (x ∷ xs) h k = (f x h.0 k.0, both_hold P Q R f xs h.1 k.1)
 
 over_map : {X : Type 0} (P Q : X → Type 0) (change : X → X) → ((x : X) → P x → Q (change x)) → (xs : List X) → AllByRecursion P xs → AllByRecursion Q (map change xs)
 over_map P Q change f [] h = tt
@@ -98,14 +98,6 @@ all_passing P test f (x ∷ xs) = told (test x) refl (all_passing P test f xs)
     told true is rest = (f x is, rest)
     told false is rest = rest
 
-both_true : (a b : Bool) → a && b ≡ true → (a ≡ true) × (b ≡ true)
-both_true true b h = (refl, h)
-both_true false b h = absurd (cc h)
-
-none_is : (o : Option ℕ) → is_none o ≡ true → o ≡ None
-none_is None h = refl
-none_is (Some n) h = absurd (cc h)
-
 other_number : (a b : ℕ) → a < b → a == b ≡ false
 other_number a b h = grind (arith, nat_tests)
 
@@ -135,7 +127,7 @@ still_of n m (Released release) h of = told release.list of
 module _ (list : ℕ) where
   -- a claim of which something is to be paid out is on no list yet, and what is paid out of it is above 0
   on_none : (release : ReleasedClaim) → is_payable_release release ≡ true → release.list ≡ None
-  on_none release h = none_is release.list (both_true (nat_lt 0 release.settlement.paid) (is_none release.list) h).1
+  on_none release h = none_is release.list (and_parts (nat_lt 0 release.settlement.paid) (is_none release.list) h).1
 
   -- a claim on a list before stays as it is, and no other comes on that
   state_left : (before : ℕ) (state : ClaimState) → before < list → (is_on before (state_on list state) ≡ is_on before state) × (is_on before state ≡ true → state_on list state ≡ state)
@@ -205,7 +197,7 @@ module _ (list : ℕ) where
 paid_some : (state : ClaimState) → is_payable state ≡ true → 0 < paid_out state
 paid_some Open h = absurd (cc h)
 paid_some Withdrawn h = absurd (cc h)
-paid_some (Released release) h = some_there release.settlement.paid (both_true (nat_lt 0 release.settlement.paid) (is_none release.list) h).0
+paid_some (Released release) h = some_there release.settlement.paid (and_parts (nat_lt 0 release.settlement.paid) (is_none release.list) h).0
 
 -- ---- a claim and another command
 
@@ -338,7 +330,7 @@ claims_on_lists rates (x ∷ xs) h =
     let new = claims_by (length (claims_of xs)) x.day x.command in
     both of (map (claim_after x.day x.reply x.command) (claims_of xs)) new
     (over_map (λ claim. found claim × before claim) of (claim_after x.day x.reply x.command) (of_next rates xs x.day x.reply x.command said.unruled said.replied) (claims_of xs)
-    (both_hold found before (λ claim. found claim × before claim) (λ claim f k. (f, k)) (claims_of xs) (claims_found xs) (claims_on_lists rates xs h.0)))
+    (of_both found before (λ claim. found claim × before claim) (λ claim f k. (f, k)) (claims_of xs) (claims_found xs) (claims_on_lists rates xs h.0)))
     (new_open (λ state. IsOf (length (lists_of (x ∷ xs))) state) tt (length (claims_of xs)) x.day x.command)
 
 -- so that list is there
@@ -364,11 +356,6 @@ new_claims_on rates xs h list high =
     ap (filter (λ (claim : ClaimRow). is_on list claim.state)) (append-nil (map (on_list list) (claims_of xs)))
     ∙ filter-map (λ claim. is_on list claim.state) (λ claim. is_payable claim.state) (on_list list) (claims_of xs)
     (each (λ claim. IsOf (length (lists_of xs)) claim.state) (λ claim. is_on list (on_list list claim).state ≡ is_payable claim.state) (λ claim of. comes_on list (length (lists_of xs)) claim.state high of) (claims_of xs) (claims_on_lists rates xs h))
-
-something : (payable : List ClaimRow) → own_payout_list payable ≡ None → 1 ≤ length payable
-something payable own =
-    let some : nat_lt 0 (length payable) ≡ true = is_so (nat_lt 0 (length payable)) (when-none (not (nat_lt 0 (length payable))) NothingToPay own) in
-    some_there (length payable) some
 
 -- a list with these claims on it is right
 with_claims : (xs ys : List Entry) (list : ListRow) → claims_on ys list.list ≡ claims_on xs list.list → IsListOf xs list → IsListOf ys list
@@ -401,7 +388,7 @@ new_list rates xs h caller number t reply PayoutList own replied =
 
     listed : IsListOf (entry caller number t PayoutList (payout_list_reply (length (lists_of xs)) payable) ∷ xs) (record { list = list; day = t; items = length payable; total = sum_by (λ (claim : ClaimRow). paid_out claim.state) payable })
     listed = record {
-      some = something payable own;
+      some = some_payable payable own;
       items = sym (length-map payable (on_list list)) ∙ ap length (sym claims);
       total =
           sym (sum_by-map (λ (claim : ClaimRow). paid_out claim.state) (on_list list) (λ claim. same_paid list claim.state) payable)
@@ -416,7 +403,7 @@ lists_right rates (x ∷ xs) h =
     let said = unrefused (book rates xs) x.caller x.number x.day x.command x.reply h.2 in
     let between = λ (list : ListRow). (0 < list.list) × (list.list ≤ length (lists_of xs)) in
     both (IsListOf (x ∷ xs)) (lists_of xs) (lists_by x.day x.reply x.command)
-    (both_hold (IsListOf xs) between (IsListOf (x ∷ xs))
+    (of_both (IsListOf xs) between (IsListOf (x ∷ xs))
     (λ list is low. with_claims xs (x ∷ xs) list (claims_on-left rates xs x.day x.reply x.command said.unruled said.replied list.list low.1) is) (lists_of xs) (lists_right rates xs h.0) (lists_between rates xs h.0))
     (new_list rates xs h.0 x.caller x.number x.day x.reply x.command said.unruled said.replied)
 
@@ -492,7 +479,7 @@ payable_all rates (x ∷ xs) h =
     let by = each (λ list. IsBy (ledger_day xs) list.day) (λ list. list.day ≤ x.day) (λ list day. still_by (ledger_day xs) x.day list.day said.in_order day) (lists_of xs) (lists_come rates xs h.0) in
     both since (map (claim_after x.day x.reply x.command) (claims_of xs)) new
     (over_map (λ claim. found claim × before claim) since (claim_after x.day x.reply x.command) (since_next rates xs x.day x.reply x.command said.unruled said.replied (last_day_by xs x.day by)) (claims_of xs)
-    (both_hold found before (λ claim. found claim × before claim) (λ claim f k. (f, k)) (claims_of xs) (claims_found xs) (payable_all rates xs h.0)))
+    (of_both found before (λ claim. found claim × before claim) (λ claim f k. (f, k)) (claims_of xs) (claims_found xs) (payable_all rates xs h.0)))
     (new_open (λ state. IsSince (last_list_day (x ∷ xs)) state) (λ payable. absurd (cc payable)) (length (claims_of xs)) x.day x.command)
 
 -- so those to be paid out are found among those that were released since then

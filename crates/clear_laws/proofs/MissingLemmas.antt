@@ -1,5 +1,6 @@
 -- When a report is overdue, and which months are missing.
 use Rattle.std.proofs.Common.{◌≡◌, ℕ, zero, suc, ◌+◌, ◌≤◌, ◌<◌, nat_le, nat_lt, List, [], ◌∷◌, filter, Option, Some, None, IfSome, is_none, Bool, true, false, cond, ◌&&◌, ◌==◌, refl, sym, ap, ◌∙◌, subst, arith}
+use Rattle.std.proofs.lemmas.Bool.{and_parts}
 use Rattle.std.proofs.lemmas.Bool.Decides.{nat_tests}
 use Rattle.std.specs.List.{AllByRecursion, Contains, range_with_len}
 use Rattle.std.specs.Option.{option_map, option_map_or}
@@ -30,10 +31,6 @@ module _ (rates : List Rate) (m t : ℕ) where
   overdue-unrated is = at_row None is
 
 -- ---- what passes a test
-
-both : (a b : Bool) → a && b ≡ true → (a ≡ true) × (b ≡ true)
-both true b h = (refl, h)
-both false b h = absurd (cc h)
 
 chosen : (P : ℕ → Type 0) (p : ℕ → Bool) → ((m : ℕ) → p m ≡ true → P m) → (ms : List ℕ) → AllByRecursion P (filter p ms)
 chosen P p means [] = tt
@@ -76,7 +73,7 @@ is_upto a b h = grind (arith, nat_tests)
 
 within : (member : Member) (m : ℕ) → is_member_in member m ≡ true → (member.start ≤ m) × IfSome member.last (λ last. m ≤ last)
 within member m h =
-    let parts = both (nat_le member.start m) (option_map_or (λ last. nat_le m last) member.last true) h in
+    let parts = and_parts (nat_le member.start m) (option_map_or (λ last. nat_le m last) member.last true) h in
     (upto member.start m parts.0, ended member.last parts.1)
   where
     ended : (o : Option ℕ) → option_map_or (λ last. nat_le m last) o true ≡ true → IfSome o (λ last. m ≤ last)
@@ -92,7 +89,7 @@ is_within member m begun going = (λ i. is_upto member.start m begun i && ended 
 
 -- ---- missing
 
-none_is : (o : Option ℕ) → is_none o ≡ true → o ≡ None
+pub none_is : (o : Option ℕ) → is_none o ≡ true → o ≡ None
 none_is None h = refl
 none_is (Some v) h = absurd (cc h)
 
@@ -105,8 +102,8 @@ module _ (b : Book) (e t : ℕ) where
   module _ (member : Member) (there : member_of b.entries e ≡ Some member) where
     means : (m : ℕ) → is_missing b e t m ≡ true → IsMissing member m
     means m h =
-        let outer = both (is_member_month (member_of b.entries e) m && is_overdue (rates_of b) t m) (is_none (reported_version b.entries e m)) h in
-        let inner = both (is_member_month (member_of b.entries e) m) (is_overdue (rates_of b) t m) outer.0 in
+        let outer = and_parts (is_member_month (member_of b.entries e) m && is_overdue (rates_of b) t m) (is_none (reported_version b.entries e m)) h in
+        let inner = and_parts (is_member_month (member_of b.entries e) m) (is_overdue (rates_of b) t m) outer.0 in
         let span = within member m (sym (ap (λ (o : Option Member). is_member_month o m) there) ∙ inner.0) in
         (span.0, span.1, inner.1, reported_none b.entries e m (none_is (reported_version b.entries e m) outer.1))
 

@@ -1,5 +1,6 @@
 -- Released claims: the entry that one comes of, that it stays but for a payout list, and how it is settled.
-use Rattle.std.proofs.Common.{◌≡◌, ℕ, ◌+◌, ◌-◌, ◌<◌, ◌≤◌, min, ◌⊎◌, inl, inr, ⊎_elim, suc, List, [], ◌∷◌, length, map, Option, Some, None, is_some, Bool, true, false, cond, not, ◌&&◌, refl, sym, ap, ◌∙◌, subst, arith}
+use Rattle.std.proofs.Common.{◌≡◌, ℕ, ◌+◌, ◌-◌, ◌<◌, ◌≤◌, min, ◌⊎◌, inl, inr, ⊎_elim, suc, List, [], ◌∷◌, length, map, Option, Some, None, is_some, Bool, true, false, cond, not, refl, sym, ap, ◌∙◌, subst, arith}
+use Rattle.std.proofs.lemmas.Bool.{and_parts}
 use Rattle.std.specs.Prelude.{is_none, nat_lt}
 use Rattle.std.proofs.Math.Nat.{min-le_right, sub-add-min_cancel}
 use Rattle.std.specs.List.{Contains}
@@ -116,10 +117,6 @@ keeps_none : (o new : Option ℕ) → is_none o ≡ true → KeepsList o new
 keeps_none None new h = tt
 keeps_none (Some list) new h = absurd (cc h)
 
-second_true : (a b : Bool) → a && b ≡ true → b ≡ true
-second_true true b h = h
-second_true false b h = absurd (cc h)
-
 as_it_was : (claim : ClaimRow) (release : ReleasedClaim) → claim.state ≡ Released release → Stays claim release claim
 as_it_was claim release state = (release.list, keeps_itself release.list, ap (λ (s : ClaimState). record claim { state = s }) state)
 
@@ -130,7 +127,7 @@ listed_stays (Listed n items total) claim release state =
     (found.0, found.1, ap (λ (s : ClaimState). record claim { state = state_on n s }) state ∙ found.2)
   where
     told : (b : Bool) → is_payable_release release ≡ b → Stays claim release (record claim { state = cond b (Released (record release { list = Some n })) (Released release) })
-    told true is = (Some n, keeps_none release.list (Some n) (second_true (nat_lt 0 release.settlement.paid) (is_none release.list) is), refl)
+    told true is = (Some n, keeps_none release.list (Some n) (and_parts (nat_lt 0 release.settlement.paid) (is_none release.list) is).1, refl)
     told false is = (release.list, keeps_itself release.list, refl)
 listed_stays reply claim release state = as_it_was claim release state
 

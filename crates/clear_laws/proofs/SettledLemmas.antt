@@ -94,9 +94,6 @@ module _ {Row : Type 0} (key : Row → List ℕ) where
   behind_drop k (suc n) [] all = all
   behind_drop k (suc n) (row ∷ rows) all = behind_drop k n rows all.1
 
-  behind_differ : (k : List ℕ) (rows : List Row) → AllBehind key k rows → AllByRecursion (λ row. is_key (key row) k ≡ false) rows
-  behind_differ k rows all = keys_differ key rows k (none_behind key k rows all)
-
 -- ---- contributions from one on
 
 -- the same contributions stand in the place of all

@@ -1,6 +1,6 @@
 -- The contributions and the credits that the tables of a lawful book keep of a firm are an account.
 use Rattle.std.proofs.Common.{◌≡◌, ◌≢◌, ℕ, ◌+◌, ◌<◌, ◌≤◌, List, [], ◌∷◌, length, map, filter, Option, Some, None, Bool, true, false, cond, ◌&&◌, ◌||◌, ◌==◌, nat_lt, refl, sym, ap, ◌∙◌, subst, arith}
-use Rattle.std.proofs.lemmas.Bool.{eqb-true}
+use Rattle.std.proofs.lemmas.Bool.{and_parts, eqb-true}
 use Rattle.std.proofs.lemmas.Bool.Decides.{nat_tests}
 use Rattle.std.proofs.lemmas.List.Elements.{All-filter, All-from_recursion, All-map, All-nil, All-cons}
 use Rattle.std.proofs.lemmas.List.Kept.{AllPairs-cons}
@@ -28,7 +28,7 @@ use Rattle.clear_book.specs.Book.{Book, latest_lines, rates_of}
 use Rattle.clear_book.specs.Lines.{credits_made, is_credit_of}
 use Rattle.clear_book.specs.Machine.{IsLawful}
 use Rattle.clear_book.specs.Tables.{Tables, Stands, charge_in, charge_key, table_credits}
-use Rattle.clear_laws.proofs.AccountLimitLemmas.{same_means}
+use Rattle.clear_laws.proofs.AssignLemmas.{same_means}
 use Rattle.clear_laws.proofs.CreditsLemmas.{credits-standing, table_credits-credits_of}
 use Rattle.clear_laws.proofs.CreditsMadeLemmas.{made_once, paid_key}
 use Rattle.clear_laws.proofs.KeptChargesLemmas.{charge_of_row}
@@ -113,13 +113,8 @@ reported_place b lawful row month is = told (latest_lines b.entries row.employer
 -- the tests of firm and purpose, apart
 pub own_credit : (e : ℕ) (p : Purpose) (row : CreditRow) → is_credit_of e p row ≡ true → (row.employer ≡ e) × (row.purpose ≡ p)
 own_credit e p row h =
-    let parts = both (row.employer == e) (same_purpose row.purpose p) h in
+    let parts = and_parts (row.employer == e) (same_purpose row.purpose p) h in
     (eqb-true row.employer e parts.0, same_means row.purpose p parts.1)
-  where
-    both : (a b : Bool) → a && b ≡ true → (a ≡ true) × (b ≡ true)
-    both true true h = (refl, refl)
-    both true false h = absurd (cc)
-    both false b h = absurd (cc)
 
 later_credit : (e f k c d m a b : ℕ) → nat_lt e f || ((e == f) && (nat_lt k c || ((k == c) && (nat_lt d m || ((d == m) && (nat_lt a b || ((a == b) && false))))))) ≡ true → e ≡ f → k ≡ c → nat_lt d m || ((d == m) && nat_lt a b) ≡ true
 later_credit e f k c d m a b h same alike = grind (arith, nat_tests)

@@ -102,10 +102,10 @@ module _ (b : Book) (t : Tables) (stands : Stands b t) where
 
   -- what is told of a firm is what the book says of it
   pub firm_is : (day e : ℕ) (overdue : Overdue) → overdue ≡ overdue_told b day e → (last : Option LastReminder) → last ≡ option_map last_viewed (last_among t.runs t.reminders e)
-      → record { employer = e; missing = overdue.missing; first = overdue.first; arrears = overdue.arrears; interest = overdue.interest; last = last } ≡ firm_on_day b day e
+      → record { employer = e; missing_count = overdue.missing; first_missing = overdue.first; arrears = overdue.arrears; interest_arrears = overdue.interest; last = last } ≡ firm_on_day b day e
   firm_is day e overdue told last seen =
       let last_is : last ≡ option_map last_viewed (last_reminder b e) = seen ∙ (λ i. option_map last_viewed (last_among (stands.runs i) (stands.reminders i) e)) in
-      λ i. record { employer = e; missing = (told i).missing; first = (told i).first; arrears = (told i).arrears; interest = (told i).interest; last = last_is i }
+      λ i. record { employer = e; missing_count = (told i).missing; first_missing = (told i).first; arrears = (told i).arrears; interest_arrears = (told i).interest; last = last_is i }
 
 -- ---- one firm more
 

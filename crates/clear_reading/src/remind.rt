@@ -121,10 +121,10 @@ fn overdue_firm<S: Alter>(
     let last = read_last(tx, member.employer)?;
     Ok(OverdueFirm {
         employer: member.employer,
-        missing: overdue.missing,
-        first: overdue.first,
+        missing_count: overdue.missing,
+        first_missing: overdue.first,
         arrears: overdue.arrears,
-        interest: overdue.interest,
+        interest_arrears: overdue.interest,
         last,
     })
 }

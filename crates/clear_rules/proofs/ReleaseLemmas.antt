@@ -43,7 +43,7 @@ module _ (d : Debts) (f : FirmDebts) (claim : ClaimRow) (are : AreDebts d f) whe
 
   rules_alike : own_release (Some claim) (λ _. d) ≡ release_rule (Some (record { claim = claim; debts = f }))
   rules_alike =
-      let months : missing_rule d.months ≡ missing_rule (option_to_list f.missing) = months_alike d.months ∙ ap (λ o. missing_rule (option_to_list o)) (sym are.missing_is) in
+      let months : missing_rule d.months ≡ missing_rule (option_to_list f.first_missing) = months_alike d.months ∙ ap (λ o. missing_rule (option_to_list o)) (sym are.missing_is) in
       (λ i. first_of (when (not (is_some (Some claim))) UnknownClaim ∷ when (not (is_open_claim (Some claim))) ClaimNotOpen ∷ months i ∷ when (too_many_alike i) (OverLimit Credits) ∷ []))
 
 module _ (b : Book) (t number : ℕ) (view : ReleaseView) (is : IsReleaseView b t number view) (found : OwingClaim) (there : view.found ≡ Some found) where

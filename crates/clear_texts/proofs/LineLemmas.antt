@@ -1,7 +1,7 @@
 -- The rows that a document tells one after another, call by call.
 use Rattle.std.proofs.Common.{◌≡◌, ℕ, ◌+◌, List, [], ◌∷◌, ◌++◌, length, refl, inl, inr, sym, ap, ◌∙◌, append_assoc, append-nil, length-append}
-use Rattle.std.specs.Prelude.{Option, None, Some}
-use Rattle.std.specs.Iterator.{Yields, YieldsThen}
+use Rattle.std.specs.Prelude.{Option, Some}
+use Rattle.std.specs.Iterator.{Yields}
 use Rattle.std.specs.List.{flat_map}
 use Rattle.std.proofs.lemmas.Grind.{flat_map-append}
 use Rattle.clear_texts.specs.declared.rows.RowFault.{RowFault}
@@ -32,9 +32,6 @@ module _ {S Row : Type 0} (line : Row → List ℕ) (gives : S → Option Row �
       where
         all_lines : flat_map line (so_far.given ++ row ∷ []) ≡ flat_map line so_far.given ++ line row
         all_lines = flat_map-append line so_far.given (row ∷ []) ∙ ap (λ lines. flat_map line so_far.given ++ lines) (append-nil (line row))
-
-    pub all_told : gives mid None new → (given : List Row) × YieldsThen gives old given None new × (text ≡ start ++ flat_map line given) × (count ≡ length given)
-    all_told end = (so_far.given, (mid, so_far.run, end), so_far.lines, so_far.many)
 
     pub no_room : (refuses : S → RowFault → S → Type 0) (row : Row) → gives mid (Some row) new → IsCutOff gives refuses old Memory new
     no_room refuses row step = inl (refl, (so_far.given ++ row ∷ [], inl (Yields-append gives old so_far.given mid row new so_far.run step)))

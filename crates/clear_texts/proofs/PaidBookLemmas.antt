@@ -30,13 +30,14 @@ use Rattle.clear_laws.proofs.KeptChargesLemmas.{kept_charges-charges_of}
 use Rattle.clear_laws.proofs.PiecesLemmas.{rows_right}
 use Rattle.clear_laws.proofs.TableAccountLemmas.{account_of_tables}
 use Rattle.clear_laws.proofs.TablePiecesLemmas.{table_pieces-book}
-use Rattle.clear_texts.specs.Laws.{IsRising, rows_of, rows_with, row_of}
+use Rattle.clear_texts.specs.Laws.{PaidChargesRise, rows_of, rows_with, row_of}
 use Rattle.clear_texts.specs.Paid.{ArePiecesOf, behind_month, charge_paid, charges_paid, first_of_month, paid_rows, pieces_over, statement_paid}
 use Rattle.clear_texts.specs.Records.{IsHead}
 use Rattle.clear_texts.specs.Rows.{most_rows}
 use Rattle.clear_texts.specs.Text.{text_of_rows}
 use Rattle.clear_texts.specs.declared.records.StatementHead.{StatementHead}
-use Rattle.clear_texts.proofs.LawLemmas.{statement_law}
+use Rattle.clear_texts.proofs.LawLemmas.{rising_cons, statement_law}
+use Rattle.clear_texts.proofs.PaidLemmas.{one_taken}
 
 -- ---- pieces of one month, and pieces of later ones
 
@@ -58,9 +59,10 @@ own_taken m [] rest own later = later_left m rest later
 own_taken m (piece ∷ pieces) rest own later =
     let is : piece.month ≡ m = own.0 in
     let same : (piece.month == m) ≡ true = grind (arith, nat_tests) in
+    let taken = one_taken m piece (pieces ++ rest) same in
     let more = own_taken m pieces rest own.1 later in (
-      ap (λ (b : Bool). cond b (piece ∷ first_of_month m (pieces ++ rest)) []) same ∙ ap (λ (ps : List PieceRow). piece ∷ ps) more.0,
-      ap (λ (b : Bool). cond b (behind_month m (pieces ++ rest)) (piece ∷ pieces ++ rest)) same ∙ more.1,
+      taken.0 ∙ ap (λ (ps : List PieceRow). piece ∷ ps) more.0,
+      taken.1 ∙ more.1,
     )
 
 later_all : (m n : ℕ) (pieces : List PieceRow) → m < n → AreOf n pieces → AreLater m pieces
@@ -137,11 +139,12 @@ pieces_month m cents n (row ∷ rows) =
     subst (AreOf m) (sym (flat_map-cons (λ (placed : ℕ × CreditRow). piece_of m placed.1 (cents placed.0)) (n, row) (enumerate_from (n + 1) rows)))
     (both_of m (piece_of m row (cents n)) (flat_map (λ placed. piece_of m placed.1 (cents placed.0)) (enumerate_from (n + 1) rows)) (piece_month m row (cents n) (nat_lt 0 (cents n))) (pieces_month m cents (n + 1) rows))
 
-rising_range : (f : ℕ → PaidCharge) (a n : ℕ) → ((i j : ℕ) → a ≤ i → i < j → j < a + n → (f i).state.month < (f j).state.month) → IsRising (map f (range_with_len a n))
-rising_range f a zero rise = tt
-rising_range f a (suc zero) rise = tt
+rising_range : (f : ℕ → PaidCharge) (a n : ℕ) → ((i j : ℕ) → a ≤ i → i < j → j < a + n → (f i).state.month < (f j).state.month) → PaidChargesRise (map f (range_with_len a n))
+rising_range f a zero rise = λ k within. absurd (omega (arith, within))
+rising_range f a (suc zero) rise = λ k within. absurd (omega (arith, within))
 rising_range f a (suc (suc n)) rise =
-    (rise a (a + 1) (omega arith) (omega arith) (omega arith), rising_range f (a + 1) (suc n) (λ i j low less high. rise i j (omega (arith, low)) less (omega (arith, high))))
+    rising_cons (f a).state.month (map (λ (c : PaidCharge). c.state.month) (map f (range_with_len (a + 1) (suc n)))) (λ some. rise a (a + 1) (omega arith) (omega arith) (omega arith))
+    (rising_range f (a + 1) (suc n) (λ i j low less high. rise i j (omega (arith, low)) less (omega (arith, high))))
 
 -- ---- a lawful book
 

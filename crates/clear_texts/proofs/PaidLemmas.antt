@@ -2,9 +2,10 @@
 use Rattle.std.proofs.Common.{◌≡◌, ℕ, ◌+◌, ◌<◌, ◌≤◌, Bool, true, false, cond, List, [], ◌∷◌, ◌++◌, Some, None, Option, drop, zero, suc, inl, inr, refl, sym, ap, ◌∙◌, subst, arith, length, append_assoc, append-nil, length-append}
 use Rattle.std.specs.Prelude.{◌==◌}
 use Rattle.std.specs.Iterator.{Yields, YieldsThen}
-use Rattle.std.specs.List.{flat_map, slice_index_or}
+use Rattle.std.specs.List.{flat_map, prefix_len, slice_index_or, take_while}
 use Rattle.std.specs.Option.{option_map}
 use Rattle.std.proofs.lemmas.List.Concat.{flat_map-cons}
+use Rattle.std.proofs.lemmas.List.Sums.{take_while-cons}
 use Rattle.clear_book.specs.declared.documents.ChargeState.{ChargeState}
 use Rattle.clear_book.specs.declared.rows.PieceRow.{PieceRow}
 use Rattle.clear_book.specs.Own.Statement.{payment_in}
@@ -21,6 +22,16 @@ use Rattle.clear_texts.proofs.RowLemmas.{Yields-append}
 abbrev pub ahead : Option PieceRow → List PieceRow → List PieceRow
 ahead None more = []
 ahead (Some piece) more = piece ∷ more
+
+-- a piece of the month is taken with the first ones
+pub one_taken : (m : ℕ) (piece : PieceRow) (pieces : List PieceRow) → (piece.month == m) ≡ true → (first_of_month m (piece ∷ pieces) ≡ piece ∷ first_of_month m pieces) × (behind_month m (piece ∷ pieces) ≡ behind_month m pieces)
+one_taken m piece pieces same =
+    let own : PieceRow → Bool = λ p. p.month == m in
+    let n : ℕ = prefix_len own pieces in
+    let next : 1 + n ≡ suc n = omega arith in (
+      take_while-cons own piece pieces ∙ ap (λ (b : Bool). cond b (piece ∷ take_while own pieces) []) same,
+      ap (λ (b : Bool). drop (cond b (1 + n) 0) (piece ∷ pieces)) same ∙ ap (λ (k : ℕ). drop k (piece ∷ pieces)) next,
+    )
 
 -- ---- one row
 
@@ -48,9 +59,10 @@ takes_rows state states piece (Some next) more under = by (next.month == state.m
         × (pieces_over (state ∷ states) (piece ∷ next ∷ more) ≡ pieces_over (charges_left state states (Some next)) (next ∷ more))
     by true also =
         let left : charges_left state states (Some next) ≡ state ∷ states = ap (λ (b : Bool). cond b (state ∷ states) states) also in
-        let behind : behind_month state.month (piece ∷ next ∷ more) ≡ behind_month state.month (next ∷ more) = ap (λ (b : Bool). cond b (behind_month state.month (next ∷ more)) (piece ∷ next ∷ more)) under in
-        let first : first_of_month state.month (piece ∷ next ∷ more) ≡ piece ∷ first_of_month state.month (next ∷ more) = ap (λ (b : Bool). cond b (piece ∷ first_of_month state.month (next ∷ more)) []) under in
-        let some : first_of_month state.month (next ∷ more) ≡ next ∷ first_of_month state.month more = ap (λ (b : Bool). cond b (next ∷ first_of_month state.month more) []) also in
+        let taken = one_taken state.month piece (next ∷ more) under in
+        let first = taken.0 in
+        let behind = taken.1 in
+        let some : first_of_month state.month (next ∷ more) ≡ next ∷ first_of_month state.month more = (one_taken state.month next more also).0 in
         let rest : List ChargeRow = flat_map rows_of (charges_paid states (behind_month state.month (next ∷ more))) in (
           (λ i. flat_map rows_of (charge_paid state (first i) ∷ charges_paid states (behind i)))
               ∙ flat_map-cons rows_of (charge_paid state (piece ∷ first_of_month state.month (next ∷ more))) (charges_paid states (behind_month state.month (next ∷ more)))

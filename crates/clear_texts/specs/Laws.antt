@@ -1,5 +1,6 @@
 -- The rows that charges are given as.
-use Rattle.std.specs.Prelude.{◌<◌, ⊤, List, [], ◌∷◌, map, Option, None, Some}
+use Rattle.std.specs.Prelude.{List, [], ◌∷◌, map, Option, None, Some}
+use Rattle.std.specs.List.Sorted.{IsStrictlyIncreasing}
 use Rattle.clear_book.specs.declared.documents.Payment.{Payment}
 use Rattle.clear_book.specs.Documents.Statement.{PaidCharge}
 use Rattle.clear_texts.specs.declared.rows.ChargeRow.{ChargeRow}
@@ -18,8 +19,5 @@ abbrev pub rows_of : PaidCharge → List ChargeRow
 rows_of charge = rows_with charge charge.pieces
 
 -- each charge is of a later month than the one before
-abbrev pub IsRising : List PaidCharge → Type 0
-IsRising [] = ⊤
-IsRising (charge ∷ []) = ⊤
-IsRising (charge ∷ next ∷ charges) =
-    (charge.state.month < next.state.month) × IsRising (next ∷ charges)
+abbrev pub PaidChargesRise : List PaidCharge → Type 0
+PaidChargesRise charges = IsStrictlyIncreasing (map (λ charge. charge.state.month) charges)

@@ -1,6 +1,6 @@
 -- The pieces of an account under its charges: each piece under the charge of its month.
-use Rattle.std.specs.Prelude.{◌≡◌, ◌≤◌, ◌==◌, ℕ, List, [], ◌∷◌, length, map, if◌then◌else◌}
-use Rattle.std.specs.List.{flat_map}
+use Rattle.std.specs.Prelude.{◌≡◌, ◌≤◌, ◌==◌, ℕ, List, [], ◌∷◌, drop, length, map}
+use Rattle.std.specs.List.{flat_map, prefix_len, take_while}
 use Rattle.clear_book.specs.declared.documents.ChargeState.{ChargeState}
 use Rattle.clear_book.specs.declared.rows.PieceRow.{PieceRow}
 use Rattle.clear_book.specs.Documents.Statement.{PaidCharge}
@@ -13,15 +13,11 @@ use Rattle.clear_texts.specs.Text.{text_of_rows}
 
 -- the first pieces, up to the first one that isn't of the month
 abbrev pub first_of_month : ℕ → List PieceRow → List PieceRow
-first_of_month m [] = []
-first_of_month m (piece ∷ pieces) =
-    if piece.month == m then piece ∷ first_of_month m pieces else []
+first_of_month m pieces = take_while (λ piece. piece.month == m) pieces
 
 -- the pieces behind these
 abbrev pub behind_month : ℕ → List PieceRow → List PieceRow
-behind_month m [] = []
-behind_month m (piece ∷ pieces) =
-    if piece.month == m then behind_month m pieces else piece ∷ pieces
+behind_month m pieces = drop (prefix_len (λ piece. piece.month == m) pieces) pieces
 
 -- a charge with these pieces
 abbrev pub charge_paid : ChargeState → List PieceRow → PaidCharge

@@ -11,7 +11,7 @@ ghost use Rattle.clear_book.specs.Machine.{IsLawful};
 ghost use Rattle.clear_book.specs.Tables.{Tables};
 ghost use Rattle.clear_texts.specs.declared.records.StatementHead.{StatementHead};
 ghost use Rattle.clear_texts.specs.Charges.{charge_lines};
-ghost use Rattle.clear_texts.specs.Laws.{IsRising, rows_of};
+ghost use Rattle.clear_texts.specs.Laws.{PaidChargesRise, rows_of};
 ghost use Rattle.clear_texts.specs.Paid.{ArePiecesOf, statement_paid};
 ghost use Rattle.clear_texts.specs.Records.{IsHead};
 ghost use Rattle.clear_texts.specs.Text.{text_of_rows};
@@ -19,14 +19,14 @@ ghost use Rattle.clear_texts.specs.Text.{text_of_rows};
 /// Where the rows are those of charges with rising months, the lines are those of the charges: for
 /// each its own line, and below it a line for each of its pieces.
 pub fn law_charges()
-    ensures { (charges : List PaidCharge) → IsRising charges
+    ensures { (charges : List PaidCharge) → PaidChargesRise charges
         → charge_lines (flat_map rows_of charges) ≡ flat_map charge_text charges }
 {}
 
 /// The text over the rows of a statement's charges is that of the statement, where their months
 /// rise.
 pub fn law_statement()
-    ensures { (s : Statement) → IsRising s.charges
+    ensures { (s : Statement) → PaidChargesRise s.charges
         → text_of_rows s.firm s.interest_credits s.missing (flat_map rows_of s.charges)
         ≡ statement_text s }
 {}

@@ -1,6 +1,6 @@
 -- Rows in the order of their keys, and one more.
 use Rattle.std.proofs.Common.{◌≡◌, ℕ, ◌+◌, ◌<◌, ◌⊎◌, ⊎_elim, inl, inr, List, [], ◌∷◌, length, Some, None, Bool, true, false, cond, ◌&&◌, ◌||◌, ◌==◌, nat_lt, refl, sym, ap, ◌∙◌, subst, arith}
-use Rattle.std.proofs.lemmas.Bool.{cases_order}
+use Rattle.std.proofs.lemmas.Bool.{and_parts, cases_order}
 use Rattle.std.proofs.lemmas.Bool.Decides.{nat_tests}
 use Rattle.clear_values.specs.Keyed.{is_key, is_before, find_row, AllBehind, AreInOrder, with_row}
 
@@ -9,11 +9,6 @@ use Rattle.clear_values.specs.Keyed.{is_key, is_before, find_row, AllBehind, Are
 pub is_key-refl : (k : List ℕ) → is_key k k ≡ true
 is_key-refl [] = refl
 is_key-refl (a ∷ k) = let rest = is_key-refl k in grind (arith, nat_tests)
-
-both_true : (a b : Bool) → a && b ≡ true → (a ≡ true) × (b ≡ true)
-both_true true true h = (refl, refl)
-both_true true false h = absurd (cc)
-both_true false b h = absurd (cc)
 
 equal_numbers : (a b : ℕ) → a == b ≡ true → a ≡ b
 equal_numbers a b h = grind (arith, nat_tests)
@@ -24,7 +19,7 @@ is_key-true [] [] h = refl
 is_key-true [] (b ∷ l) h = absurd (cc)
 is_key-true (a ∷ k) [] h = absurd (cc)
 is_key-true (a ∷ k) (b ∷ l) h =
-    let both = both_true (a == b) (is_key k l) h in
+    let both = and_parts (a == b) (is_key k l) h in
     (λ i. equal_numbers a b both.0 i ∷ is_key-true k l both.1 i)
 
 pub is_key-sym : (k l : List ℕ) → is_key k l ≡ false → is_key l k ≡ false
@@ -74,7 +69,7 @@ before_parts : (a b : ℕ) (k l : List ℕ) → is_before (a ∷ k) (b ∷ l) �
 before_parts a b k l h =
     ⊎_elim
     (λ (lt : nat_lt a b ≡ true). inl (less a b lt))
-    (λ (s : (a == b) && is_before k l ≡ true). let both = both_true (a == b) (is_before k l) s in inr (equal_numbers a b both.0, both.1))
+    (λ (s : (a == b) && is_before k l ≡ true). let both = and_parts (a == b) (is_before k l) s in inr (equal_numbers a b both.0, both.1))
     (either (nat_lt a b) ((a == b) && is_before k l) h)
 
 pub is_before-trans : (k l m : List ℕ) → is_before k l ≡ true → is_before l m ≡ true → is_before k m ≡ true

@@ -275,8 +275,9 @@ pub enum Change {
     EndMembership(EmployerRow),
     /// A first report, with a wage row for each of its lines, and the contribution for it.
     AddReport(ReportRow, WageLines, KeptCharge),
-    /// A correction: its row, its wage rows and the contribution for it stand in the place of the
-    /// month's.
+    /// A correction: its row and its wage rows stand in the place of the month's. So does the
+    /// contribution for it, unless the month's has the same cents and is due on the same day: that
+    /// stays, with what is paid of it. Where none is kept of the month, none is added.
     ReplaceReport(ReportRow, WageLines, KeptCharge),
     /// The new lines of a bank file; each that has a firm is a credit of it.
     AddBankLines(Rows<BankRow>),

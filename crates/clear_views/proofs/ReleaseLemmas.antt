@@ -35,7 +35,7 @@ rows_counted b e p =
     (credits_once b.entries) (λ k. find_row-in_key_order credit_key (credits_made b.entries) k (credits_once b.entries))
 
 pub debts_are : (b : Book) (t : Tables) → Stands b t → (e day serials : ℕ) → serials ≡ t.serial → (overdue : Overdue) → overdue ≡ overdue_told b day e → (d : FirmDebts)
-    → d.missing ≡ overdue.first → d.arrears ≡ overdue.arrears → d.interest_arrears ≡ overdue.interest
+    → d.first_missing ≡ overdue.first → d.arrears ≡ overdue.arrears → d.interest_arrears ≡ overdue.interest
     → d.contribution_count ≡ bound_or_count serials most_credits (credit_count t.credits e Contribution) → d.interest_count ≡ overdue.interest_count → AreDebts (debts_of b day e) d
 debts_are b t stands e day serials given overdue told d missing_first owed interest viewed counted =
     record {

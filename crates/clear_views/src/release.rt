@@ -149,7 +149,7 @@ fn firm_debts<S: Alter>(
     let overdue = find_overdue(alloc, tx, day, employer)?;
     let contribution_count = count_contributions(tx, serials, employer)?;
     Ok(FirmDebts {
-        missing: overdue.first,
+        first_missing: overdue.first,
         arrears: overdue.arrears,
         interest_arrears: overdue.interest,
         contribution_count,

@@ -24,7 +24,7 @@ use Rattle.clear_values.specs.declared.replies.Settlement.{Settlement}
 -- the numbers are what a firm owes; for its credits for contributions, a number that serves where one
 -- more comes
 pub record AreDebts (d : Debts) (f : FirmDebts) : Type 0 where
-  pub missing_is : f.missing ≡ first_of_months d.months
+  pub missing_is : f.first_missing ≡ first_of_months d.months
   pub arrears_is : f.arrears ≡ d.owed
   pub interest_is : f.interest_arrears ≡ d.interest
   pub contributions_serve : Serves f.contribution_count (d.count Contribution) 1 most_credits
@@ -46,7 +46,7 @@ counts_in debts Interest = debts.interest_count
 abbrev pub debts_in : FirmDebts → Debts
 debts_in debts =
     record {
-      months = option_to_list debts.missing;
+      months = option_to_list debts.first_missing;
       owed = debts.arrears;
       interest = debts.interest_arrears;
       count = counts_in debts;

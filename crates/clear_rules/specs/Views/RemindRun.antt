@@ -30,10 +30,10 @@ abbrev pub firm_on_day : Book → ℕ → ℕ → OverdueFirm
 firm_on_day b t e =
     record {
       employer = e;
-      missing = length (missing b e t);
-      first = first_of_months (missing b e t);
+      missing_count = length (missing b e t);
+      first_missing = first_of_months (missing b e t);
       arrears = arrears b e t;
-      interest = interest_arrears b e t;
+      interest_arrears = interest_arrears b e t;
       last = option_map last_viewed (last_reminder b e);
     }
 
@@ -47,7 +47,8 @@ pub record IsRemindView (b : Book) (t : ℕ) (view : RemindView) : Type 0 where
 
 -- a firm is in default: a month misses its report, or something is in arrears
 abbrev pub has_overdue : OverdueFirm → Bool
-has_overdue firm = nat_lt 0 firm.missing || nat_lt 0 firm.arrears || nat_lt 0 firm.interest
+has_overdue firm =
+    nat_lt 0 firm.missing_count || nat_lt 0 firm.arrears || nat_lt 0 firm.interest_arrears
 
 -- the reminder of a level to a firm in a run, with what it has overdue
 abbrev pub row_at : ℕ → OverdueFirm → ℕ → ReminderRow
@@ -56,10 +57,10 @@ row_at run firm level =
       run = run;
       employer = firm.employer;
       level = level;
-      missing = firm.missing;
-      first = firm.first;
+      missing = firm.missing_count;
+      first = firm.first_missing;
       arrears = firm.arrears;
-      interest = firm.interest;
+      interest = firm.interest_arrears;
     }
 
 -- the level of it that is due on a day, if one is

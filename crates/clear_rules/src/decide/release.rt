@@ -21,7 +21,7 @@ use clear_values::replies::Settlement;
 #[derive(Clone, Copy)]
 pub struct FirmDebts {
     /// The first month that misses its report, if one does.
-    pub missing: Option<Month>,
+    pub first_missing: Option<Month>,
     /// What is in arrears of contributions, in cents.
     pub arrears: u64,
     /// What is in arrears of interest, in cents.
@@ -101,7 +101,7 @@ fn settle_claim(found: &OwingClaim) -> Result<Settlement, Rule>
     if !claim.state.is_open() {
         return Err(Rule::ClaimNotOpen);
     }
-    if let Some(month) = debts.missing {
+    if let Some(month) = debts.first_missing {
         return Err(Rule::MissingReport(month));
     }
     let settlement = settle(claim.cents, debts.arrears, debts.interest_arrears);

@@ -25,13 +25,13 @@ use std::alloc::{AllocError, Global};
 pub struct OverdueFirm {
     pub employer: EmployerNo,
     /// How many months miss their report.
-    pub missing: u32,
+    pub missing_count: u32,
     /// The first of them, if there is one.
-    pub first: Option<Month>,
+    pub first_missing: Option<Month>,
     /// What is in arrears of contributions, in cents.
     pub arrears: u64,
     /// What is in arrears of interest, in cents.
-    pub interest: u64,
+    pub interest_arrears: u64,
     /// The last reminder that it had, if it had one.
     pub last: Option<LastReminder>,
 }
@@ -121,10 +121,10 @@ fn firm_due(run: RunNo, day: Day, firm: &OverdueFirm) -> Option<ReminderRow>
             run,
             employer: firm.employer,
             level,
-            missing: firm.missing,
-            first: firm.first,
+            missing: firm.missing_count,
+            first: firm.first_missing,
             arrears: firm.arrears,
-            interest: firm.interest,
+            interest: firm.interest_arrears,
         }),
         None => None,
     }
@@ -134,7 +134,7 @@ fn firm_due(run: RunNo, day: Day, firm: &OverdueFirm) -> Option<ReminderRow>
 fn is_in_default(firm: &OverdueFirm) -> bool
     ensures { result ≡ has_overdue firm.now }
 {
-    firm.missing > 0 || firm.arrears > 0 || firm.interest > 0
+    firm.missing_count > 0 || firm.arrears > 0 || firm.interest_arrears > 0
 }
 
 // The level that is due on a day after the last reminder, if one is.
