@@ -1,5 +1,6 @@
--- A query for one row in the falling order of the keys gives the last of the rows that pass.
-use Rattle.clear_columns.proofs.Words.{◌≡◌, ◌==◌, ℕ, ℤ, List, [], ◌∷◌, Bool, true, false, arith, cond, nat_cmp, nat_tests, None, Equal, Less, map, filter, slice_get, refl, ◌∙◌, IsPermutation-filter, Database, Row, output, output_cmp, Ghosts, Term, Key, Tables, first_program, meets, plain_query, content, AnswersJust, HasTables, by_key, answers_just, store_schema, keyed_row, numbered_row, Binary, Int, col, ap, sym, map-id, ordering_then}
+-- The rows that pass, in an order that is that of the keys among them alone: a query for one row in the falling
+-- order gives the last of them.
+use Rattle.clear_columns.proofs.Words.{◌≡◌, ◌==◌, ℕ, ℤ, List, [], ◌∷◌, Bool, true, false, arith, cond, nat_cmp, nat_tests, None, Equal, Less, map, filter, slice_get, refl, ◌∙◌, IsPermutation-filter, Database, Row, output, output_cmp, Ghosts, Term, Key, Tables, first_program, meets, plain_program, plain_query, content, AnswersJust, HasTables, by_key, answers_just, store_schema, keyed_row, numbered_row, Binary, Int, col, ap, sym, map-id, ordering_then}
 use Rattle.std.proofs.Common.{◌++◌, append-nil, subst, take, IsPermutation}
 use Rattle.std.proofs.lemmas.List.{take-map}
 use Rattle.std.proofs.lemmas.List.Sorted.{IsPermutation-middle, IsPermutation-refl, IsPermutation-sym, IsPermutation-trans}
@@ -8,7 +9,7 @@ use Rattle.sqlite.specs.Query.{Output}
 use Rattle.sqlite.specs.Tree.{IsAscending}
 use Rattle.sqlite_keyed.proofs.KeyedLemmas.{Less-from_lt}
 use Rattle.sqlite_value.proofs.OrderLemmas.{value_cmp-Int}
-use Rattle.clear_rows.proofs.Queries.{first_in_order}
+use Rattle.clear_rows.proofs.Queries.{first_in_order, in_this_order}
 use Rattle.clear_columns.proofs.KeyedTable.{KeyedTable}
 use Rattle.clear_columns.proofs.NumberedTable.{NumberedTable}
 use Rattle.clear_columns.proofs.Says.{SaysQuery, is_query, plain_query_text, unlisted_query}
@@ -101,6 +102,14 @@ module _ {X S : Type 0} (it : KeyedTable X) (g : Ghosts S) (t : Tables) (db : Da
       let down = falls (λ a b. output_cmp (plain_query it.table.tree conditions columns order) (sorted b, shown b) (sorted a, shown a) ≡ Less) rows (rises_passing p (λ a b. by_key it.key a b ≡ Less) _ orders (it.rows t) kept.rises) in
       answers_just g says.names sql params store_schema (is_query says) (plain_query_text says) (unlisted_query says) db has.schema _
       (λ found answer. first_in_order it.table.tree conditions columns order params (keyed_row it.given) content p tests (λ x. (sorted x, shown x)) shows db.schema db.trees kept.numbered kept.stored.is found answer (from_last rows) same down ∙ take-map shown 1 (from_last rows))
+
+  -- or all of them, where by that order they rise with their keys
+  pub lists_passing : {order : List (Term × Key)} → SaysQuery sql (plain_program it.table.tree conditions columns order) → (sorted : X → Row) → ((y : ℤ × X) → output (plain_query it.table.tree conditions columns order) (params ∷ keyed_row it.given y ∷ []) ≡ (sorted (content y), shown (content y)))
+      → ((a b : X) → p a ≡ true → p b ≡ true → by_key it.key a b ≡ Less → output_cmp (plain_query it.table.tree conditions columns order) (sorted a, shown a) (sorted b, shown b) ≡ Less) → AnswersJust g sql params db (map shown (filter p (it.rows t)))
+  lists_passing {order} says sorted shows rises =
+      let kept = it.has t db has in
+      answers_just g says.names sql params store_schema (is_query says) (plain_query_text says) (unlisted_query says) db has.schema _
+      (λ found answer. in_this_order it.table.tree conditions columns order params (keyed_row it.given) content p tests (λ x. (sorted x, shown x)) shows db.schema db.trees kept.numbered kept.stored.is found answer (λ a b. output_cmp (plain_query it.table.tree conditions columns order) (sorted a, shown a) (sorted b, shown b)) (λ a b less. less) (filter p (it.rows t)) (IsPermutation-filter p _ _ kept.same) (rises_passing p (λ a b. by_key it.key a b ≡ Less) _ rises (it.rows t) kept.rises))
 
 -- ---- rows of a table that stand under a number
 

@@ -1,5 +1,5 @@
 //! Values of the office's types out of the columns of a row.
-ghost use Rattle.std.specs.Prelude.{◌≡◌, ◌≢◌, ◌<◌, ◌≤◌, ◌+◌, ◌↔◌, ℕ, List, length};
+ghost use Rattle.std.specs.Prelude.{◌≡◌, ◌≢◌, ◌<◌, ◌≤◌, ◌+◌, ◌↔◌, ⊤, ℕ, List, length};
 ghost use Rattle.std.specs.Prelude.{IsTrue, IfOk, IfErr, IfSome, IsSome};
 ghost use Rattle.sqlite_value.specs.Order.{column};
 ghost use Rattle.sqlite_value.specs.declared.value.Value.TheVariants.{Blob, Text};
@@ -7,7 +7,6 @@ ghost use Rattle.clear_money.specs.Calendar.{IsDay, IsMonth, months};
 ghost use Rattle.clear_money.specs.Numbers.{IsAmount, IsEmployerNo, IsWorkerNo};
 ghost use Rattle.clear_money.specs.Rates.{IsDayOfEachMonth};
 ghost use Rattle.clear_values.specs.Texts.{is_note, is_reference};
-ghost use Rattle.clear_values.specs.declared.lines.Purpose.{Purpose};
 ghost use Rattle.clear_values.specs.Limits.{most_base, most_entries, most_gross};
 ghost use Rattle.clear_values.specs.Limits.{most_versions, most_weight};
 ghost use Rattle.clear_values.specs.Numbers.{IsClaimNo, IsListNo, IsRunNo, IsSerialCount};
@@ -43,11 +42,7 @@ fn in_range<T: Copy>(value: T, is_right: bool) -> Result<T, Fault>
 
 /// The whole number in a column.
 pub fn number_at(row: &Row, at: usize) -> Result<u64, Fault>
-    ensures read { IfOk result (λ n. column row.now at ≡ stored.number n) }
-    ensures cause { IfErr result (λ fault. fault ≢ Fault.Store StoreCause.Constraint) }
-    ensures other { IfErr result (λ fault. fault ≢ Fault.Store StoreCause.Other) }
-    ensures range { IfErr result (λ fault. fault ≡ Fault.Store StoreCause.Row → at < length row.now
-        → (n : ℕ) → column row.now at ≢ stored.number n) }
+    ensures reads { ReadsColumn row.now at result stored.number (λ _. ⊤) }
 {
     value_at(row, at)
 }
@@ -86,11 +81,7 @@ pub fn amount_at(row: &Row, at: usize) -> Result<Amount, Fault>
 
 /// The purpose in a column.
 pub fn purpose_at(row: &Row, at: usize) -> Result<Purpose, Fault>
-    ensures read { IfOk result (λ p. column row.now at ≡ stored.purpose p) }
-    ensures cause { IfErr result (λ fault. fault ≢ Fault.Store StoreCause.Constraint) }
-    ensures other { IfErr result (λ fault. fault ≢ Fault.Store StoreCause.Other) }
-    ensures range { IfErr result (λ fault. fault ≡ Fault.Store StoreCause.Row → at < length row.now
-        → (p : Purpose) → column row.now at ≢ stored.purpose p) }
+    ensures reads { ReadsColumn row.now at result stored.purpose (λ _. ⊤) }
 {
     let text: String = value_at(row, at)?;
     match text.as_str().as_bytes() {

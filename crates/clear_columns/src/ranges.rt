@@ -50,14 +50,14 @@ pub fn is_serial(number: u64) -> bool
     number >= 1 && number <= MAX_SERIALS
 }
 
-/// Whether there can be so many firms, at most 10,000.
-pub fn is_firm_count(number: u64) -> bool
+// Whether there can be so many firms, at most 10,000.
+fn is_firm_count(number: u64) -> bool
     ensures { (result ≡ true) ↔ (number ≤ most_employers) }
 {
     number <= MAX_EMPLOYERS
 }
 
-/// Whether there are so many months, at most 2,400.
+/// Whether there can be so many months, at most 2,400.
 pub fn is_month_count(number: u32) -> bool
     ensures { (result ≡ true) ↔ (number ≤ length months) }
 {
@@ -85,8 +85,8 @@ pub fn is_entry_count(number: u64) -> bool
     number <= MAX_ENTRIES
 }
 
-/// Whether claims can come to this together, at most 5,000,000,000,000,000,000 cents.
-pub fn is_claimed(cents: u64) -> bool
+// Whether claims can come to this together, at most 5,000,000,000,000,000,000 cents.
+fn is_claimed(cents: u64) -> bool
     ensures { (result ≡ true) ↔ (cents ≤ most_claimed) }
 {
     cents <= MAX_CLAIMED

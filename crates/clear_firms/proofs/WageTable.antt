@@ -1,10 +1,11 @@
 -- The wages: under their firms, months and workers.
-use Rattle.clear_columns.proofs.Words.{◌≡◌, ◌==◌, ℤ, pos, ℕ, Bool, ◌&&◌, List, [], ◌∷◌, Less, map, filter, refl, ◌∙◌, inl, is_eq, codes, cast_row, Binary, Delete, Insert, Database, Row, Values, Ghosts, Term, lit, col, op2, Null, automatic, agree, Compare, Eq, Key, Tables, WageRow, is_wage_key_of, wage_key, meets, output_cmp, plain_program, plain_query, content, HasTables, by_key, wages_table, month, month_number, number, cast_int, cast_null, equal_months, equal_numbers, key_is, months_compare, numbers_compare, turned_nat, AnswersJust, and-true, two_met, keyed_row}
-use Rattle.std.proofs.Common.{arith, length}
+use Rattle.clear_columns.proofs.Words.{◌≡◌, ◌==◌, ℤ, pos, ℕ, Bool, true, ◌&&◌, List, [], ◌∷◌, Equal, Less, nat_cmp, ordering_then, subst, map, filter, refl, ◌∙◌, inl, is_eq, codes, cast_row, Binary, Delete, Insert, Database, Row, Values, Ghosts, Term, lit, col, op2, Null, automatic, agree, Compare, Eq, Key, Tables, WageRow, is_wage_key_of, wage_key, meets, output_cmp, plain_program, plain_query, content, HasTables, by_key, wages_table, month, month_number, number, cast_int, cast_null, equal_months, equal_numbers, key_is, months_compare, numbers_compare, turned_nat, AnswersJust, and-true, two_met, keyed_row}
+use Rattle.std.proofs.Common.{Ordering, arith, length}
 use Rattle.sqlite_tied.specs.Compute.{everything}
 use Rattle.sqlite_value.specs.Keys.{ascending, first_key, plain}
 use Rattle.clear_schema.proofs.Changes.{wages_changed}
-use Rattle.clear_columns.proofs.KeyedTable.{KeyedTable, lists, or_false}
+use Rattle.clear_columns.proofs.KeyedTable.{KeyedTable, or_false}
+use Rattle.clear_columns.proofs.LastLemmas.{as_one, lists_passing}
 use Rattle.clear_columns.proofs.Says.{Says, SaysQuery}
 use Rattle.clear_values.specs.Keyed.{is_held, with_rows}
 use Rattle.clear_values.specs.Tables.{wage_row, wage_rows}
@@ -107,7 +108,7 @@ abbrev columns : List Term
 columns = col 1 1 ∷ col 1 2 ∷ col 1 3 ∷ col 1 4 ∷ []
 
 abbrev order : List (Term × Key)
-order = (col 1 1, ascending Binary) ∷ (col 1 2, ascending Binary) ∷ (col 1 3, ascending Binary) ∷ []
+order = (col 1 1, ascending Binary) ∷ (col 1 2, ascending Binary) ∷ []
 
 -- ---- what they do
 
@@ -122,7 +123,7 @@ of_month e m y =
 
 -- what ORDER BY goes by
 abbrev sorted : WageRow → Row
-sorted row = number row.employer ∷ month row.month ∷ number row.worker ∷ []
+sorted row = number row.employer ∷ month row.month ∷ []
 
 -- ---- those of a worker
 
@@ -130,7 +131,7 @@ abbrev by_worker : List Term
 by_worker = op2 (Compare Eq Binary) (col 1 3) (col 0 0) ∷ []
 
 abbrev pub of_worker : List ℕ
-of_worker = codes "SELECT employer, month, worker, gross FROM wages WHERE worker = ?1 ORDER BY employer, month, worker"
+of_worker = codes "SELECT employer, month, worker, gross FROM wages WHERE worker = ?1 ORDER BY employer, month"
 
 of_worker_says : SaysQuery of_worker (plain_program 5 by_worker columns order)
 unfolding everything
@@ -143,8 +144,11 @@ is_for w row = row.worker == w
 for_worker : (w : ℕ) (y : ℤ × WageRow) → meets by_worker (number w ∷ []) (keyed_row wage_shown y) ≡ is_for w (content y)
 for_worker w y = rw (equal_numbers (content y).worker w) (and-true ((content y).worker == w))
 
-rises_for : (a b : WageRow) → by_key wage_key a b ≡ Less → output_cmp (plain_query 5 by_worker columns order) (sorted a, wage_shown a) (sorted b, wage_shown b) ≡ Less
-rises_for a b less = rw (numbers_compare a.employer b.employer, months_compare a.month b.month, numbers_compare a.worker b.worker) less
+-- of one worker's rows the later is that of the later firm or month
+rises_for : (w : ℕ) (a b : WageRow) → is_for w a ≡ true → is_for w b ≡ true → by_key wage_key a b ≡ Less → output_cmp (plain_query 5 by_worker columns order) (sorted a, wage_shown a) (sorted b, wage_shown b) ≡ Less
+rises_for w a b first second less =
+    rw (numbers_compare a.employer b.employer, months_compare a.month b.month)
+    (subst (λ (workers : Ordering). ordering_then (nat_cmp a.employer b.employer) (ordering_then (nat_cmp a.month b.month) (ordering_then workers Equal)) ≡ Less) (as_one a.worker b.worker w first second) less)
 
 pub answers_for : {S : Type 0} (g : Ghosts S) (t : Tables) (db : Database) (w : ℕ) → HasTables t db → AnswersJust g of_worker (number w ∷ []) db (map wage_shown (filter (is_for w) t.wages))
-answers_for g t db w has = lists wages g t db has (number w ∷ []) wage_shown (is_for w) (for_worker w) of_worker_says sorted (λ _. refl) rises_for
+answers_for g t db w has = lists_passing wages g t db has (number w ∷ []) wage_shown (is_for w) (for_worker w) of_worker_says sorted (λ _. refl) (rises_for w)

@@ -24,7 +24,8 @@ use sqlite_value::value::ValueRef;
 // The counts that stand.
 const COUNTS: &str = "SELECT day, entries, serial, claims, lists, runs FROM meta WHERE one = 1";
 
-/// The counts that stand.
+/// The counts that stand. A day or a count that is out of its range is `Fault::Store(StoreCause::Row)`,
+/// and where `meta` has no row, that is `Fault::Store(StoreCause::Other)`.
 pub fn find_counts<S: Alter>(tx: &mut Transaction<'_, S>) -> Result<Counts, Fault>
     ensures same_reference { tx.new.conn.ghost_name ≡ tx.old.conn.ghost_name }
     ensures looks { LooksUp S.Store tx.old.conn.now tx.new.conn.now result

@@ -103,7 +103,7 @@ pub fn worker_wages<S: Alter>(
     list::<S, Wages>(
         tx,
         "SELECT employer, month, worker, gross FROM wages WHERE worker = ?1 \
-         ORDER BY employer, month, worker",
+         ORDER BY employer, month",
         &[person(worker)],
     )
 }

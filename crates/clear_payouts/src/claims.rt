@@ -34,8 +34,8 @@ use clear_values::rows::{ClaimRow, ClaimState};
 use sqlite::{Alter, Connection, Error, Row, Rows, Transaction};
 use sqlite_value::value::ValueRef;
 
-/// Adds a claim whose number is free. A release whose amounts are not in all those of the claim is
-/// refused with `Fault::Store(StoreCause::Row)`, and nothing is done.
+/// Adds a claim whose number is free. A release whose three amounts don't come to those of the claim
+/// is refused with `Fault::Store(StoreCause::Row)`, and nothing is done.
 pub fn insert_claim<S: Alter>(tx: &mut Transaction<'_, S>, row: &ClaimRow) -> Result<(), Fault>
     ensures same_reference { tx.new.conn.ghost_name ≡ tx.old.conn.ghost_name }
     ensures writes { Writes S.Store tx.old.conn.now tx.new.conn.now result (IsClaimRow row.now)

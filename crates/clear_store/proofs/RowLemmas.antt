@@ -1,9 +1,10 @@
 -- Rows with free keys, added one after another.
 use Rattle.std.proofs.Common.{◌≡◌, ℕ, List, [], ◌∷◌, Option, None, Some, is_some, Bool, true, false, cond, ◌||◌, refl, ap, ap₂, ◌∙◌, true≢false}
-use Rattle.std.proofs.lemmas.Bool.{or_parts}
+use Rattle.std.proofs.lemmas.Bool.{or_from, or_parts}
 use Rattle.std.specs.Prelude.{◌↔◌}
 use Rattle.clear_values.specs.Keyed.{is_key, is_before, is_held, find_row, with_row}
 use Rattle.clear_values.proofs.KeyedLemmas.{other_row}
+use Rattle.clear_columns.specs.Keys.{are_held}
 use Rattle.clear_store.specs.Changes.{AreFree}
 
 -- a key that is none of the rows', whatever the order in which more are added
@@ -53,24 +54,22 @@ pub not_held : {X : Type 0} (found : Option X) → (found ≡ None) ↔ (is_some
 not_held None = (λ free. refl, λ held. refl)
 not_held (Some x) = (λ free. ap is_some free, λ held. absurd (true≢false held))
 
--- the first key of some
-pub first_not_held : {X Rest : Type 0} (found : Option X) → ((found ≡ None) × Rest) ↔ ((is_some found ≡ false) × Rest)
-first_not_held found = (λ free. ((not_held found).0 free.0, free.1), λ free. ((not_held found).1 free.0, free.1))
-
--- of rows with two keys that stand in the order of one of them
-pub first_neither_held : {Row : Type 0} (key other : Row → List ℕ) (rows : List Row) (new : Row) (news : List Row)
-    → (AreFree key rows (new ∷ news) × AreFree other rows (new ∷ news)) ↔ (((is_held key new rows || is_held other new rows) ≡ false) × (AreFree key (with_row key rows new) news × AreFree other (with_row key rows new) news))
-first_neither_held key other rows new news = (
-  λ free. (ap₂ (λ x y. is_some x || is_some y) free.0.0 free.1.0, (free.0.1, free_behind other other key rows new news free.1.1)),
-  λ free. (
-    ((not_held (find_row key rows (key new))).1 (or_parts _ _ free.0).0, free.1.0),
-    ((not_held (find_row other rows (other new))).1 (or_parts _ _ free.0).1, free_behind other key other rows new news free.1.1),
-  ),
-)
+-- rows with two keys, of which they stand in the order of one
+pub none_held : {Row : Type 0} (key other : Row → List ℕ) (rows news : List Row)
+    → (AreFree key rows news × AreFree other rows news) ↔ (are_held (λ new rows. is_held key new rows || is_held other new rows) key news rows ≡ false)
+none_held key other rows [] = (λ free. refl, λ none. (tt, tt))
+none_held key other rows (new ∷ news) =
+    let rest = none_held key other (with_row key rows new) news in (
+      λ free. or_from _ _ (ap₂ (λ x y. is_some x || is_some y) free.0.0 free.1.0) (rest.0 (free.0.1, free_behind other other key rows new news free.1.1)),
+      λ none.
+          let parts = or_parts _ _ none in
+          let first = or_parts _ _ parts.0 in
+          let more = rest.1 parts.1 in (
+            ((not_held (find_row key rows (key new))).1 first.0, more.0),
+            ((not_held (find_row other rows (other new))).1 first.1, free_behind other key other rows new news more.1),
+          ),
+    )
 
 -- a statement that asks for no free key
 pub no_key : Unit {0} ↔ (false ≡ false)
 no_key = (λ is. refl, λ is. tt)
-
-pub no_keys : Unit {0} ↔ ((false ≡ false) × Unit {0})
-no_keys = (λ is. (refl, tt), λ is. tt)

@@ -22,8 +22,13 @@ use clear_values::rows::Change;
 use sqlite::{Alter, Transaction};
 use std::alloc::Global;
 
-/// Puts a change into the tables, and notes the day of its request and one entry more. `counts` are
-/// those that stand.
+/// Puts a change into the tables, and notes the day of its request and one entry more.
+///
+/// That is promised where `counts` are those that stand, and what the change changes is there: the
+/// firm, the report, the claims, each named once, or the line, which is this one but for its firm. A
+/// row of rates is to come behind the others, and the contribution for a correction to lie in its
+/// range. Otherwise the tables may be others than the change makes; what is told of errors below holds
+/// all the same.
 ///
 /// It is done only where each key that it adds is free, each number of a row is in its range, and at
 /// most 50,000,000 entries, claims, lists and runs, and 500,000,000,000 serials, are then counted.

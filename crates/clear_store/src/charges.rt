@@ -6,7 +6,8 @@ ghost use Rattle.clear_values.specs.Tables.{charge_key};
 ghost use Rattle.clear_firms.specs.Amounts.{AreInRange};
 ghost use Rattle.clear_store.specs.Changes.{Puts};
 
-use clear_firms::charges::settle_charge;
+use crate::each::put_each;
+use clear_firms::charges::Charges;
 use clear_schema::fault::Fault;
 use clear_values::rows::KeptCharge;
 use sqlite::{Alter, Transaction};
@@ -26,8 +27,5 @@ pub fn settle_charges<S: Alter>(
         (λ _. Unit {0}) (AllByRecursion AreInRange rows.now)
         (λ t. record t { charges = replaced_rows charge_key t.charges rows.now }) }
 {
-    for row in rows {
-        settle_charge(tx, *row)?;
-    }
-    Ok(())
+    put_each(tx, &Charges, rows)
 }

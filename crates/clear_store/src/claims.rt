@@ -6,8 +6,9 @@ ghost use Rattle.clear_values.specs.RowRanges.{IsClaimRow};
 ghost use Rattle.clear_values.specs.Tables.{claim_key};
 ghost use Rattle.clear_store.specs.Changes.{IsClaimThere, IsFree, IsInRange, Puts};
 
-use crate::bank_file::insert_credits;
+use crate::each::put_each;
 use crate::new_credits::set_offs;
+use clear_ledger::credits::Credits;
 use clear_payouts::claims::{insert_claim, replace_claim};
 use clear_schema::fault::Fault;
 use clear_values::rows::{Change, ClaimRow};
@@ -51,6 +52,6 @@ pub(crate) fn put_release<S: Alter>(
         }) }
 {
     let credits = set_offs(alloc, claim, serial)?;
-    insert_credits(tx, credits.as_slice())?;
+    put_each(tx, &Credits, credits.as_slice())?;
     put_claim(tx, claim)
 }

@@ -12,6 +12,7 @@ mod bank_file;
 pub mod changes;
 pub mod charges;
 mod claims;
+mod each;
 mod firms;
 mod lists;
 mod month_report;

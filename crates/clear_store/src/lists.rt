@@ -1,12 +1,11 @@
 //! Payout lists, and the claims that go on them.
 ghost use Rattle.std.specs.Prelude.{◌≡◌};
-ghost use Rattle.std.specs.List.{AllByRecursion};
 ghost use Rattle.clear_values.specs.Keyed.{put_rows, with_row};
-ghost use Rattle.clear_values.specs.RowRanges.{IsClaimRow};
 ghost use Rattle.clear_values.specs.Tables.{claim_key, list_key};
 ghost use Rattle.clear_store.specs.Changes.{AreClaimsThere, IsFree, IsInRange, Puts};
 
-use clear_payouts::claims::replace_claim;
+use crate::each::put_each;
+use clear_payouts::claims::Claims;
 use clear_payouts::lists::insert_list;
 use clear_schema::fault::Fault;
 use clear_values::rows::{Change, ClaimRow, ListRow};
@@ -27,18 +26,5 @@ pub(crate) fn add_list<S: Alter>(
         }) }
 {
     insert_list(tx, row)?;
-    put_claims(tx, claims)
-}
-
-// Puts claims in the places of those of their numbers, one after another.
-fn put_claims<S: Alter>(tx: &mut Transaction<'_, S>, claims: &[ClaimRow]) -> Result<(), Fault>
-    ensures same_reference { tx.new.conn.ghost_name ≡ tx.old.conn.ghost_name }
-    ensures puts { Puts S.Store tx.old.conn.now tx.new.conn.now result (AreClaimsThere claims.now)
-        (λ _. Unit {0}) (AllByRecursion IsClaimRow claims.now)
-        (λ t. record t { claims = put_rows claim_key t.claims claims.now }) }
-{
-    for claim in claims {
-        replace_claim(tx, claim)?;
-    }
-    Ok(())
+    put_each(tx, &Claims, claims)
 }

@@ -7,13 +7,14 @@ ghost use Rattle.clear_store.specs.Changes.{AreFree, AreGross, AreLinesFree, IsF
 ghost use Rattle.clear_store.specs.Changes.{IsMonthFree, IsMonthInRange, IsReportThere, IsThere};
 ghost use Rattle.clear_store.specs.Changes.{Puts};
 
+use crate::each::{MonthLines, put_each};
 use clear_firms::charges::{correct_charge, insert_charge};
 use clear_firms::reports::{insert_report, replace_report};
-use clear_firms::wages::{delete_wages, insert_ten_wages, insert_wage};
+use clear_firms::wages::{delete_wages, insert_ten_wages};
 use clear_money::months::Month;
 use clear_money::numbers::EmployerNo;
 use clear_schema::fault::Fault;
-use clear_values::rows::{Change, KeptCharge, ReportRow, WageRow};
+use clear_values::rows::{Change, KeptCharge, ReportRow};
 use clear_values::texts::WageLine;
 use sqlite::{Alter, Transaction};
 
@@ -109,31 +110,11 @@ fn insert_wages<S: Alter>(
         insert_ten_wages(tx, no, month, ten)?;
         rest = more;
     }
-    insert_each(tx, no, month, rest)
-}
-
-// Adds a row for each line by a statement of its own.
-fn insert_each<S: Alter>(
-    tx: &mut Transaction<'_, S>,
-    no: EmployerNo,
-    month: Month,
-    lines: &[WageLine],
-) -> Result<(), Fault>
-    ensures same_reference { tx.new.conn.ghost_name ≡ tx.old.conn.ghost_name }
-    ensures puts { Puts S.Store tx.old.conn.now tx.new.conn.now result (λ _. Unit {0})
-        (λ t. AreFree wage_key t.wages (wage_rows no month lines.now)) (AreGross lines.now)
-        (λ t. record t { wages = with_rows wage_key t.wages (wage_rows no month lines.now) }) }
-{
-    for line in lines {
-        let row = WageRow {
-            employer: no,
-            month,
-            worker: line.worker,
-            gross: line.gross,
-        };
-        insert_wage(tx, row)?;
-    }
-    Ok(())
+    let each = MonthLines {
+        employer: no,
+        month,
+    };
+    put_each(tx, &each, rest)
 }
 
 // Puts the rows of the lines of a month's report in the place of what stood for the month.

@@ -6,8 +6,9 @@ ghost use Rattle.clear_values.specs.RowRanges.{IsPieceRow, IsSerial};
 ghost use Rattle.clear_values.specs.Tables.{is_piece_key_from, piece_key, with_pieces};
 ghost use Rattle.clear_store.specs.Changes.{AreFree, Puts};
 
+use crate::each::put_each;
 pub use clear_ledger::pieces::PieceFrom;
-use clear_ledger::pieces::{delete_pieces, insert_piece};
+use clear_ledger::pieces::{Pieces, delete_pieces};
 use clear_schema::fault::Fault;
 use clear_values::causes::StoreCause;
 use clear_values::rows::PieceRow;
@@ -53,8 +54,5 @@ pub fn insert_pieces<S: Alter>(tx: &mut Transaction<'_, S>, rows: &[PieceRow]) -
         (λ t. AreFree piece_key t.pieces rows.now) (AllByRecursion IsPieceRow rows.now)
         (λ t. record t { pieces = with_rows piece_key t.pieces rows.now }) }
 {
-    for row in rows {
-        insert_piece(tx, row)?;
-    }
-    Ok(())
+    put_each(tx, &Pieces, rows)
 }

@@ -1,12 +1,11 @@
 //! Reminder runs, and their reminders.
 ghost use Rattle.std.specs.Prelude.{◌≡◌};
-ghost use Rattle.std.specs.List.{AllByRecursion};
 ghost use Rattle.clear_values.specs.Keyed.{with_row, with_rows};
-ghost use Rattle.clear_values.specs.RowRanges.{IsReminderRow};
 ghost use Rattle.clear_values.specs.Tables.{reminder_key, run_key};
-ghost use Rattle.clear_store.specs.Changes.{AreFree, IsFree, IsInRange, Puts};
+ghost use Rattle.clear_store.specs.Changes.{IsFree, IsInRange, Puts};
 
-use clear_ledger::reminders::insert_reminder;
+use crate::each::put_each;
+use clear_ledger::reminders::Reminders;
 use clear_ledger::runs::insert_run;
 use clear_schema::fault::Fault;
 use clear_values::rows::{Change, ReminderRow, RunRow};
@@ -28,22 +27,5 @@ pub(crate) fn add_run<S: Alter>(
         }) }
 {
     insert_run(tx, row)?;
-    insert_reminders(tx, reminders)
-}
-
-// Adds reminders, one after another.
-fn insert_reminders<S: Alter>(
-    tx: &mut Transaction<'_, S>,
-    reminders: &[ReminderRow],
-) -> Result<(), Fault>
-    ensures same_reference { tx.new.conn.ghost_name ≡ tx.old.conn.ghost_name }
-    ensures puts { Puts S.Store tx.old.conn.now tx.new.conn.now result (λ _. Unit {0})
-        (λ t. AreFree reminder_key t.reminders reminders.now)
-        (AllByRecursion IsReminderRow reminders.now)
-        (λ t. record t { reminders = with_rows reminder_key t.reminders reminders.now }) }
-{
-    for reminder in reminders {
-        insert_reminder(tx, reminder)?;
-    }
-    Ok(())
+    put_each(tx, &Reminders, reminders)
 }

@@ -5,7 +5,7 @@ use Rattle.clear_store.proofs.claims.put_release.Goals as goal
 
 pub returns-clause-puts : goal.returns-clause-puts
 returns-clause-puts g c =
-    put_then (rw (c.as_slice.ensures.value, c.in_ok-credits.ensures.value) at c.in_ok-insert_credits.ensures.puts) c.put_claim.ensures.puts
+    put_then (rw (c.as_slice.ensures.value, c.in_ok-credits.ensures.value) at c.in_ok-put_each.ensures.puts) c.put_claim.ensures.puts
     (λ t there. there) (λ t there. refl) (λ t. first_alone) turned
 
 pub returns-in_err-credits-clause-puts : goal.returns-in_err-credits-clause-puts
@@ -13,7 +13,7 @@ returns-in_err-credits-clause-puts g c =
     let p = err_from_is_err_and c.from_residual.result c.from_residual.ensures.1 in
     rw (p.1, p.2) (not_put c.in_err-credits.ensures.cause (λ told good. c.in_err-credits.ensures.range told good.0))
 
-pub returns-in_err-insert_credits-clause-puts : goal.returns-in_err-insert_credits-clause-puts
-returns-in_err-insert_credits-clause-puts g c =
-    let p = err_from_is_err_and c.from_residual-in_err-insert_credits.result c.from_residual-in_err-insert_credits.ensures.1 in
-    rw (p.1, p.2) (first_failed (rw (c.as_slice.ensures.value, c.in_ok-credits.ensures.value) at c.in_err-insert_credits.ensures.puts) (λ t free. free) (λ good. good.1))
+pub returns-in_err-put_each-clause-puts : goal.returns-in_err-put_each-clause-puts
+returns-in_err-put_each-clause-puts g c =
+    let p = err_from_is_err_and c.from_residual-in_err-put_each.result c.from_residual-in_err-put_each.ensures.1 in
+    rw (p.1, p.2) (first_failed (rw (c.as_slice.ensures.value, c.in_ok-credits.ensures.value) at c.in_err-put_each.ensures.puts) (λ t free. free) (λ good. good.1))

@@ -8,7 +8,7 @@ use Rattle.clear_store.proofs.runs.add_run.Goals as goal
 
 pub returns-clause-puts : goal.returns-clause-puts
 returns-clause-puts g c =
-    put_then (put_by c.in_ok-insert_run.ensures.writes (λ t. not_held (find_row run_key t.runs (run_key c.args.row.now)))) c.insert_reminders.ensures.puts
+    put_then (put_by c.in_ok-insert_run.ensures.writes (λ t. not_held (find_row run_key t.runs (run_key c.args.row.now)))) c.put_each.ensures.puts
     (λ t is. tt) (λ t is. refl) (λ t. each) each
 
 pub returns-in_err-insert_run-clause-puts : goal.returns-in_err-insert_run-clause-puts
